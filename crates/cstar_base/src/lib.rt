@@ -1,0 +1,13 @@
+//! What all crates share: element types, words of bytes, places in a text, operators, and the
+//! arithmetic of the language as functions in `numbers`.
+#![tactic(auto)]
+
+mod elem;
+mod lists;
+mod memory;
+mod operators;
+
+pub use elem::Elem;
+pub use lists::{Numbers, Word};
+pub use memory::Memory;
+pub use operators::{Combiner, Op, Place, Winner};
