@@ -10,4 +10,4 @@ mod operators;
 pub use elem::Elem;
 pub use lists::{Numbers, Word};
 pub use memory::Memory;
-pub use operators::{Combiner, Op, Place, Winner};
+pub use operators::{Combiner, Direction, Inclusion, Op, Place, SegmentMode, Winner};

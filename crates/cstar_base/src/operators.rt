@@ -49,3 +49,26 @@ pub enum Op {
     Gt,
     Ge,
 }
+
+/// The direction of a scan: towards greater coordinates, or towards lesser ones.
+#[derive(Clone, Copy, Debug, PartialEq, Eq)]
+pub enum Direction {
+    Upward,
+    Downward,
+}
+
+/// Where the segments of a scan begin: nowhere but at the end of the line, at active positions
+/// whose bit is 1 in the scan's direction, or at every position whose bit is 1, upward.
+#[derive(Clone, Copy, Debug, PartialEq, Eq)]
+pub enum SegmentMode {
+    NoSegments,
+    StartBit,
+    SegmentBit,
+}
+
+/// Whether a scan's fold takes a position's own value in.
+#[derive(Clone, Copy, Debug, PartialEq, Eq)]
+pub enum Inclusion {
+    Inclusive,
+    Exclusive,
+}
