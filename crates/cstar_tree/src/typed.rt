@@ -1,5 +1,8 @@
 //! The typed tree: every name is a number, and every conversion and every promotion is a node.
 
+ghost use Rattle.std.specs.Prelude.{◌≡◌};
+ghost use Rattle.cstar_tree.specs.Typed.{type_of};
+
 use crate::syntax::{AssignOp, ReduceOp, StepOp};
 use cstar_base::{Combiner, Direction, Elem, Inclusion, Op, Place, SegmentMode, Word};
 
@@ -298,4 +301,41 @@ pub enum Format {
     Hexadecimal,
     Octal,
     Character,
+}
+
+impl TExpr {
+    /// The type of the expression's value.
+    pub fn ty(&self) -> ValueType
+        ensures { result ≡ type_of self.now }
+    {
+        match self {
+            TExpr::Assign { ty, .. }
+            | TExpr::Choice { ty, .. }
+            | TExpr::LogicalOr { ty, .. }
+            | TExpr::LogicalAnd { ty, .. }
+            | TExpr::Binary { ty, .. }
+            | TExpr::Unary { ty, .. }
+            | TExpr::Step { ty, .. }
+            | TExpr::Reduce { ty, .. }
+            | TExpr::Casts { ty, .. }
+            | TExpr::ParallelCast { ty, .. }
+            | TExpr::Convert { ty, .. }
+            | TExpr::Promote { ty, .. }
+            | TExpr::Variable { ty, .. }
+            | TExpr::Element { ty, .. }
+            | TExpr::Number { ty, .. }
+            | TExpr::Dot { ty, .. }
+            | TExpr::Brackets { ty, .. }
+            | TExpr::Call { ty, .. }
+            | TExpr::LeftIndex { ty, .. }
+            | TExpr::Pcoord { ty, .. }
+            | TExpr::PositionsOf { ty, .. }
+            | TExpr::RankOf { ty, .. }
+            | TExpr::DimOf { ty, .. }
+            | TExpr::Scan { ty, .. }
+            | TExpr::Enumerate { ty, .. }
+            | TExpr::Printf { ty, .. }
+            | TExpr::GetChar { ty, .. } => *ty,
+        }
+    }
 }
