@@ -1,0 +1,13 @@
+//! Paris code: the instruction set of the machine, programs over virtual fields, and linked images.
+#![tactic(auto)]
+
+mod instr;
+mod operands;
+mod program;
+
+pub use instr::Instr;
+pub use operands::{
+    Compare, Coordinate, Field, GridStep, Konst, NumberFormat, Operation, Reduction,
+    RegisterCoordinate, SignedCoordinate,
+};
+pub use program::{Entry, Final, Image, Owner, Program, Reply, ShapeBits, Unit, Virtual};
