@@ -1,0 +1,10 @@
+//! The outside: a shelf of files, a source and a sink of bytes, and a gate that workers pass.
+#![tactic(auto)]
+
+mod call;
+mod errors;
+mod traits;
+
+pub use call::Call;
+pub use errors::{Failed, ShelfErr};
+pub use traits::{Gate, Shelf, Sink, Source};
