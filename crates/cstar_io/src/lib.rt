@@ -3,8 +3,10 @@
 
 mod call;
 mod errors;
+mod lines;
 mod traits;
 
 pub use call::Call;
 pub use errors::{Failed, ShelfErr};
+pub use lines::put_line;
 pub use traits::{Gate, Shelf, Sink, Source};
