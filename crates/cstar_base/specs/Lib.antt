@@ -1,1 +1,5 @@
+pub mod Errors
+pub mod Folds
 pub mod Kinds
+pub mod Numbers
+pub mod Operators

@@ -5,6 +5,7 @@
 mod elem;
 mod lists;
 mod memory;
+pub mod numbers;
 mod operators;
 
 pub use elem::Elem;

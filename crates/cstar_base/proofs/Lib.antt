@@ -1,0 +1,4 @@
+pub mod ConversionLaws
+pub mod FoldLaws
+pub mod NumberLaws
+pub mod OperatorLaws
