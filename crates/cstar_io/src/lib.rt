@@ -2,11 +2,16 @@
 #![tactic(auto)]
 
 mod call;
+mod calls;
 mod errors;
 mod lines;
+mod sink;
+mod source;
 mod traits;
 
 pub use call::Call;
 pub use errors::{Failed, ShelfErr};
 pub use lines::put_line;
+pub use sink::{MemSink, SureSink};
+pub use source::{MemSource, SureSource};
 pub use traits::{Gate, Shelf, Sink, Source};
