@@ -1,0 +1,55 @@
+-- The statuses of the command, and the line that each answer puts.
+use Rattle.std.specs.Prelude.{◌≡◌, ℕ, List, [], ◌++◌, Option, Some, None, codes, decimal, ◌⊎◌}
+use Rattle.cstar_io.specs.Output.{Takes, TakesPrefix}
+use Rattle.cstar_base.specs.declared.operators.Place.{Place}
+use Rattle.cstar_top.specs.declared.answer.Answer.{Answer}
+use Rattle.cstar_top.specs.declared.answer.Answer.TheVariants as A
+use Rattle.cstar_top.specs.Faults.{refusal_text, fault_text}
+
+-- the status that an answer ends the command with
+abbrev pub status_of : Answer → ℕ
+status_of A.Done = 0
+status_of (A.Fault kind place position) = 1
+status_of A.Usage = 2
+status_of (A.Refused number place) = 3
+status_of (A.Stopped turns) = 4
+status_of A.CannotRead = 5
+status_of A.WriteFault = 6
+status_of A.InputFault = 7
+status_of A.Memory = 8
+
+-- `FILE:LINE:COL: `
+abbrev pub at_place : List ℕ → Place → List ℕ
+at_place file place = file ++ codes ":" ++ decimal place.line ++ codes ":" ++ decimal place.col ++ codes ": "
+
+-- ` at position N`, where a parallel operation failed
+abbrev pub at_position : Option ℕ → List ℕ
+at_position None = []
+at_position (Some position) = codes " at position " ++ decimal position
+
+abbrev pub usage_line : List ℕ
+usage_line =
+    codes "usage: cstar [--mode run|list|check|drill|asm|resume] [--workers N] [--turns N] [--finals] [--listing] [--seed N] [--winner high|low] [--save NAME] FILE\n"
+
+-- the line that an answer puts for the file of this name; nothing for a command that went well, or whose output failed
+unfoldable pub line_of : List ℕ → Answer → List ℕ
+line_of file A.Done = []
+line_of file (A.Fault kind place position) = at_place file place ++ fault_text kind ++ at_position position ++ codes "\n"
+line_of file A.Usage = usage_line
+line_of file (A.Refused number place) = at_place file place ++ refusal_text number ++ codes "\n"
+line_of file (A.Stopped turns) = codes "stopped after " ++ decimal turns ++ codes " turns\n"
+line_of file A.CannotRead = codes "cannot read " ++ file ++ codes "\n"
+line_of file A.WriteFault = []
+line_of file A.InputFault = codes "input fault\n"
+line_of file A.Memory = codes "out of memory\n"
+
+-- a sink takes the line of a status: that of the answer, or of want of memory in its place
+abbrev pub PutsLine : {E : Type 0} → (E → List ℕ → Type 0) → E → E → List ℕ → ℕ → Answer → Type 0
+PutsLine agrees old new file status answer =
+    ((status ≡ status_of answer) × Takes agrees old new (line_of file answer))
+    ⊎ ((status ≡ 8) × Takes agrees old new (codes "out of memory\n"))
+
+-- a sink takes the first bytes of such a line
+abbrev pub PutsPartOfLine : {E : Type 0} → (E → List ℕ → Type 0) → E → E → List ℕ → Answer → Type 0
+PutsPartOfLine agrees old new file answer =
+    TakesPrefix agrees old new (line_of file answer) ⊎ TakesPrefix agrees old new (codes "out of memory\n")
