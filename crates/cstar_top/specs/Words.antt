@@ -1,0 +1,14 @@
+-- The words of the command.
+use Rattle.std.specs.Prelude.{ℕ, Bool, false, ◌==◌, List, [], ◌∷◌, Option, Some, None, if◌then◌else◌}
+
+-- a word that is an option: it begins with `-`, and has more than that
+abbrev pub is_option : List ℕ → Bool
+is_option [] = false
+is_option (first ∷ []) = false
+is_option (first ∷ second ∷ rest) = first == 45
+
+-- the file that the words name: they are one word, and it is no option
+abbrev pub file_of : List (List ℕ) → Option (List ℕ)
+file_of [] = None
+file_of (word ∷ []) = if is_option word then None else Some word
+file_of (word ∷ other ∷ rest) = None

@@ -1,0 +1,108 @@
+ghost use Rattle.std.specs.Prelude.{◌≡◌, ◌≤◌, IfErr, length};
+
+use cstar_base::{Memory, Place};
+use cstar_lexer::{LexFault, lex};
+use cstar_parser::{ParseFault, parse};
+use cstar_tree::syntax::Tree;
+use cstar_tree::token::Tokens;
+use cstar_tree::typed::Typed;
+use image_check::{CheckErr, Sound, verify};
+use paris_code::Image;
+use shape_types::{TypeFault, check};
+use std::alloc::Global;
+
+/// The greatest length of a file, in bytes.
+pub const FILE_LIMIT: u32 = 1_048_576;
+
+const NOT_BUILT: u8 = 0;
+const SYNTAX: u8 = 5;
+const DEPTH: u8 = 27;
+const TOO_LONG: u8 = 30;
+
+const FILE_START: Place = Place { line: 1, col: 1 };
+
+/// Why there is no image of a file: it is refused for the fault of this number at this place, or
+/// there is no memory.
+#[derive(Clone, Copy)]
+pub enum NoImage {
+    Refused { number: u8, place: Place },
+    Memory,
+}
+
+impl From<Memory> for NoImage {
+    fn from(_error: Memory) -> NoImage {
+        NoImage::Memory
+    }
+}
+
+/// The checked image of a file's text. The first fault is that of the length, then of the words of
+/// the text, of the grammar, of the types, each over the whole file; a form of the language that
+/// is not built yet is refused behind all of them.
+pub fn compile(alloc: Global, text: &[u8]) -> Result<Sound, NoImage> {
+    if text.len() > FILE_LIMIT as usize {
+        return Err(refused(TOO_LONG, FILE_START));
+    }
+    let tokens = tokens_of(alloc, text)?;
+    let tree = tree_of(alloc, &tokens)?;
+    let typed = typed_of(alloc, &tree)?;
+    if !lower_stmt::is_built(&typed) {
+        return Err(refused(NOT_BUILT, FILE_START));
+    }
+    sound_of(alloc, image_of(alloc, &typed)?)
+}
+
+fn refused(number: u8, place: Place) -> NoImage {
+    NoImage::Refused { number, place }
+}
+
+fn tokens_of(alloc: Global, text: &[u8]) -> Result<Tokens, NoImage>
+    requires { length text.now ≤ FILE_LIMIT }
+{
+    match lex(alloc, text) {
+        Ok(tokens) => Ok(tokens),
+        Err(LexFault::Fault { number, place }) => Err(refused(number, place)),
+        Err(LexFault::Memory) => Err(NoImage::Memory),
+    }
+}
+
+fn tree_of(alloc: Global, tokens: &Tokens) -> Result<Tree, NoImage> {
+    match parse(alloc, tokens) {
+        Ok(tree) => Ok(tree),
+        Err(ParseFault::Syntax { token }) => Err(refused(SYNTAX, place_of(tokens, token))),
+        Err(ParseFault::Depth { token }) => Err(refused(DEPTH, place_of(tokens, token))),
+        Err(ParseFault::Memory) => Err(NoImage::Memory),
+    }
+}
+
+/// The place of the token of this number; the end of the text counts as a token.
+fn place_of(tokens: &Tokens, number: u32) -> Place {
+    match tokens.list.get(number as usize) {
+        Some(token) => token.place,
+        None => tokens.end,
+    }
+}
+
+fn typed_of(alloc: Global, tree: &Tree) -> Result<Typed, NoImage> {
+    match check(alloc, tree) {
+        Ok(typed) => Ok(typed),
+        Err(TypeFault::Fault { number, place }) => Err(refused(number, place)),
+        Err(TypeFault::NotBuilt) => Err(refused(NOT_BUILT, FILE_START)),
+        Err(TypeFault::Memory) => Err(NoImage::Memory),
+    }
+}
+
+fn image_of(alloc: Global, typed: &Typed) -> Result<Image, NoImage> {
+    let program = lower_stmt::lower(alloc, typed)?;
+    let placed = field_alloc::place(alloc, program)?;
+    Ok(cstar_link::link(alloc, placed)?)
+}
+
+/// The image with the proof that it meets the image rules. That every image of the compiler meets
+/// them is not proved yet; one that did not would be refused as a form that is not built.
+fn sound_of(alloc: Global, image: Image) -> Result<Sound, NoImage> {
+    match verify(alloc, image) {
+        Ok(sound) => Ok(sound),
+        Err(CheckErr::Bad { .. }) => Err(refused(NOT_BUILT, FILE_START)),
+        Err(CheckErr::Memory { .. }) => Err(NoImage::Memory),
+    }
+}
