@@ -3,6 +3,9 @@
 //! The place of a node is that of its first token, but a binary operator, an assignment and a
 //! postfix operator stand at the operator, and `?:` at its `?`.
 
+ghost use Rattle.std.specs.Prelude.{◌≡◌};
+ghost use Rattle.cstar_tree.specs.Syntax.{place_of};
+
 use cstar_base::{Combiner, Direction, Elem, Inclusion, Op, Place, SegmentMode, Word};
 
 /// A file: its items in order, and the place of its end.
@@ -63,7 +66,14 @@ pub struct Declaration {
 pub struct Declarator {
     pub name: Name,
     pub length: Option<Expr>,
-    pub initial: Option<Expr>,
+    pub initial: Option<Initializer>,
+}
+
+/// The initialiser of a variable; `place` is that of its `=`.
+#[derive(Drop)]
+pub struct Initializer {
+    pub place: Place,
+    pub value: Expr,
 }
 
 #[derive(Drop)]
@@ -324,4 +334,37 @@ pub enum ReduceOp {
     Or,
     Min,
     Max,
+}
+
+impl Expr {
+    /// The place of the expression's node.
+    pub fn place(&self) -> Place
+        ensures { result ≡ place_of self.now }
+    {
+        match self {
+            Expr::Assign { place, .. }
+            | Expr::Choice { place, .. }
+            | Expr::Binary { place, .. }
+            | Expr::Prefix { place, .. }
+            | Expr::ParallelCast { place, .. }
+            | Expr::Postfix { place, .. }
+            | Expr::Number { place, .. }
+            | Expr::Dot(place)
+            | Expr::Brackets { place, .. }
+            | Expr::LeftIndex { place, .. }
+            | Expr::Pcoord { place, .. }
+            | Expr::PositionsOf { place, .. }
+            | Expr::RankOf { place, .. }
+            | Expr::DimOf { place, .. }
+            | Expr::Scan { place, .. }
+            | Expr::Enumerate { place, .. }
+            | Expr::Printf { place, .. }
+            | Expr::GetChar(place) => *place,
+            Expr::Name(name) | Expr::Element { name, .. } | Expr::Call { name, .. } => name.place,
+            Expr::Casts { casts, operand } => match casts.first() {
+                Some(cast) => cast.place,
+                None => operand.place(),
+            },
+        }
+    }
 }

@@ -117,8 +117,9 @@ pub struct ValueType {
 #[derive(Drop)]
 pub enum TExpr {
     /// The value is stored in the target, which is a variable, an element of an array or a left
-    /// index, maybe in brackets. With `Set` the value has the target's type; with another
-    /// operator it has the common type of target and value.
+    /// index, maybe in brackets. With `Set` the value has the target's type; with `Shl` and `Shr`
+    /// its own promoted type; with another operator the common type of target and value. It has
+    /// the target's shape, but where a parallel value is folded into a scalar target.
     Assign {
         ty: ValueType,
         place: Place,
@@ -126,17 +127,22 @@ pub enum TExpr {
         target: Box<TExpr>,
         value: Box<TExpr>,
     },
+    /// The second and third operand have the type of the whole. The test may be scalar where they
+    /// are parallel.
     Choice {
         ty: ValueType,
         test: Box<TExpr>,
         then: Box<TExpr>,
         otherwise: Box<TExpr>,
     },
+    /// The operands keep their own element types. Where the left one is parallel the right one is
+    /// too; with a scalar left one and a parallel right one the whole is parallel.
     LogicalOr {
         ty: ValueType,
         left: Box<TExpr>,
         right: Box<TExpr>,
     },
+    /// As `LogicalOr`.
     LogicalAnd {
         ty: ValueType,
         left: Box<TExpr>,
@@ -150,6 +156,7 @@ pub enum TExpr {
         left: Box<TExpr>,
         right: Box<TExpr>,
     },
+    /// The operand has its promoted type, but under `Not` its own.
     Unary {
         ty: ValueType,
         op: UnaryOp,
@@ -174,6 +181,7 @@ pub enum TExpr {
         elems: Vec<Elem>,
         operand: Box<TExpr>,
     },
+    /// The operand, which is parallel and maybe promoted, converted to the element type of `ty`.
     ParallelCast {
         ty: ValueType,
         operand: Box<TExpr>,
@@ -229,18 +237,24 @@ pub enum TExpr {
         ty: ValueType,
         axis: u32,
     },
+    /// How many positions the shape has: `value`.
     PositionsOf {
         ty: ValueType,
         shape: u16,
+        value: u32,
     },
+    /// How many axes the shape has: `value`.
     RankOf {
         ty: ValueType,
         shape: u16,
+        value: u32,
     },
+    /// The extent of the shape along the axis: `value`.
     DimOf {
         ty: ValueType,
         shape: u16,
         axis: u32,
+        value: u32,
     },
     Scan {
         ty: ValueType,

@@ -1,0 +1,8 @@
+use Rattle.std.proofs.Common.{◌<◌, ◌^◌}
+use Rattle.source_meaning.proofs.cast.Given as goal
+
+abbrev pub invariant-loop-elem : goal.invariant-loop-elem
+invariant-loop-elem l =
+    (goal.iterator-loop-elem).can_next l.elem-iterator ×
+    (goal.iterator-loop-elem).is_finite l.elem-iterator ×
+    (l.word < 2 ^ l.from.bits)
