@@ -1,0 +1,87 @@
+//! The classes of bytes, and the parts of a text from a position on.
+
+ghost use Rattle.std.specs.Prelude.{◌≡◌, ◌≤◌, ◌<◌, ◌+◌, length, drop, false, IfSome, IsSome};
+ghost use Rattle.cstar_lexer.specs.Pieces.{IsDigit};
+
+/// A blank that does not end its line.
+pub fn is_blank(byte: u8) -> bool {
+    matches!(byte, b' ' | b'\t' | 0x0b | 0x0c | b'\r')
+}
+
+pub fn begins_name(byte: u8) -> bool {
+    byte.is_ascii_alphabetic() || byte == b'_'
+}
+
+pub fn continues_name(byte: u8) -> bool {
+    begins_name(byte) || byte.is_ascii_digit()
+}
+
+/// The value of a digit in a radix of at most 16, or None for any other byte.
+pub fn digit_value(byte: u8, radix: u64) -> Option<u64>
+    ensures below { IfSome result (λ digit. digit < 16) }
+    ensures decimal { IsDigit byte → byte < 48 + radix → IsSome result }
+{
+    let digit = match byte {
+        b'0'..=b'9' => byte - b'0',
+        b'a'..=b'f' => byte - b'a' + 10,
+        b'A'..=b'F' => byte - b'A' + 10,
+        _ => return None,
+    };
+    let digit = u64::from(digit);
+    if digit < radix { Some(digit) } else { None }
+}
+
+/// The bytes from a position on.
+pub fn tail(bytes: &[u8], at: usize) -> &[u8]
+    requires { at ≤ length bytes.now }
+    ensures { result.now ≡ drop at bytes.now }
+{
+    &bytes[at..]
+}
+
+/// The byte at a position, or 0 behind the end.
+pub fn byte_or_zero(bytes: &[u8], at: usize) -> u8 {
+    bytes.get(at).copied().unwrap_or(0)
+}
+
+/// Whether the line or the text ends at a position.
+pub fn ends_line(bytes: &[u8], at: usize) -> bool
+    ensures { result ≡ false → at < length bytes.now }
+{
+    match bytes.get(at) {
+        Some(byte) => *byte == b'\n',
+        None => true,
+    }
+}
+
+/// The length of the run of letters, digits and `_` at the beginning.
+pub fn name_length(rest: &[u8]) -> usize
+    ensures { result ≤ length rest.now }
+{
+    rest.iter()
+        .position(|byte| !continues_name(*byte))
+        .unwrap_or(rest.len())
+}
+
+/// The length of the line that begins here, without the newline that ends it.
+pub fn line_length(rest: &[u8]) -> usize
+    ensures { result ≤ length rest.now }
+{
+    rest.iter()
+        .position(|byte| *byte == b'\n')
+        .unwrap_or(rest.len())
+}
+
+/// The length of a comment that begins with the two bytes here, or None where it is not closed.
+pub fn comment_length(rest: &[u8]) -> Option<usize>
+    ensures { IfSome result (λ n. (1 < n) × (n ≤ length rest.now)) }
+{
+    if rest.len() < 4 {
+        return None;
+    }
+    let body = tail(rest, 2);
+    let inner = body
+        .windows(2)
+        .position(|pair| pair[0] == b'*' && pair[1] == b'/')?;
+    Some(inner + 4)
+}
