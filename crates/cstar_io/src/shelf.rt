@@ -50,7 +50,7 @@ impl MemShelf {
 }
 
 /// A word of this name in memory of its own.
-fn word_of(alloc: Global, name: &str) -> Result<Word, Memory>
+pub fn word_of(alloc: Global, name: &str) -> Result<Word, Memory>
     ensures { IfOk result (λ word. word ≡ name.now) }
 {
     Ok(Word::of(Vec::from_slice(alloc, name.as_bytes())?))
