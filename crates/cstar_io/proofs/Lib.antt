@@ -1,2 +1,4 @@
 pub mod Taking
 pub mod Residues
+pub mod Entries
+pub mod Writing

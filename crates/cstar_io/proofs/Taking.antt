@@ -1,5 +1,6 @@
 -- How what a sink takes in a row of calls adds up.
 use Rattle.std.proofs.Common.{◌≡◌, ℕ, ◌+◌, ◌-◌, ◌≤◌, List, [], ◌++◌, length, take, min, sym, ◌∙◌, ap, subst, refl, append_assoc, arith, Result, Ok, Err, OnErr}
+use Rattle.std.specs.Prelude.{⊤}
 use Rattle.std.proofs.Math.Seq.{take-append_seam, take-append-add}
 use Rattle.std.proofs.lemmas.List.{append-nil, take_min, take-append-le}
 use Rattle.cstar_io.specs.Output.{Takes, TakesPrefix, TakesNothing}
@@ -37,3 +38,8 @@ prefix_of_first agrees s t xs ys (count, first) = (
       (sym (take-append-le (min count (length xs)) xs ys (omega (arith)) ∙ take_min count xs))
       (first before is),
 )
+
+-- a sink that agrees with every list takes a prefix of any bytes
+pub prefix_of_any : {S A E : Type 0} → (r : Result A E) (s t : S) (xs : List ℕ) → OnErr r (TakesPrefix (λ _ _. ⊤) s t xs)
+prefix_of_any (Ok x) s t xs = tt
+prefix_of_any (Err e) s t xs = (0, λ before is. tt)

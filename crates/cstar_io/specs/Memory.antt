@@ -11,8 +11,8 @@ next_is_listed made failing = list_any (λ number. number == made + 1) failing
 abbrev pub one_more : ℕ → ℕ
 one_more count = min (count + 1) (2 ^ 64 - 1)
 
--- the bytes under a name: those of its first entry
-abbrev pub under : {X : Type 0} → (X → List ℕ) → (X → List ℕ) → List ℕ → List X → Option (List ℕ)
-under name_of bytes_of name [] = None
-under name_of bytes_of name (x ∷ xs) =
-    if pointwise ◌==◌ (name_of x) name then Some (bytes_of x) else under name_of bytes_of name xs
+-- the bytes under a name in a list of named entries: those of the first entry of this name
+abbrev pub under : {X : Type 0} → List X → (X → List ℕ) → (X → List ℕ) → List ℕ → Option (List ℕ)
+under [] name_of bytes_of name = None
+under (x ∷ xs) name_of bytes_of name =
+    if pointwise ◌==◌ (name_of x) name then Some (bytes_of x) else under xs name_of bytes_of name

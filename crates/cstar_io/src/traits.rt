@@ -55,6 +55,12 @@ pub trait Source {
         ensures gives { Gives result (left self.old) (left self.new) }
         ensures failed { OnErr result (RisesBy (faults self.old) (faults self.new)) }
         ensures other { OnOk result (faults self.new ≡ faults self.old) };
+
+    /// Whether the next call may wait for bytes to come, as from a terminal. What a program has
+    /// printed is to be flushed before it.
+    fn may_wait(&self) -> bool {
+        false
+    }
 }
 
 /// Takes bytes.

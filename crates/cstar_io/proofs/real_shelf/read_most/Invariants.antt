@@ -1,0 +1,8 @@
+use Rattle.std.proofs.Common.{◌-◌, ◌≤◌, vec_len}
+use Rattle.cstar_io.proofs.real_shelf.read_most.Given as goal
+
+abbrev pub decreases-more : goal.decreases-more
+decreases-more g l = l.most - vec_len l.bytes
+
+abbrev pub invariant-more : goal.invariant-more
+invariant-more g l = vec_len l.bytes ≤ l.most

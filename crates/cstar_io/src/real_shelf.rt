@@ -1,0 +1,118 @@
+ghost use Rattle.std.specs.Prelude.{◌≡◌, ◌≢◌, ℕ, ◌+◌, ◌≤◌, List, Bool, true, false, Option, Some, None, IsTrue, IfOk, OnOk, vec_len, if◌then◌else◌};
+ghost use Rattle.cstar_io.specs.Faults.{RisesBy};
+ghost use Rattle.cstar_io.specs.Files.{has_failed};
+ghost use Rattle.cstar_io.specs.declared.call.Call.{Call};
+
+use crate::call::Call;
+use crate::errors::ShelfErr;
+use crate::pieces::{PIECE, write_out};
+use crate::shelf::word_of;
+use crate::traits::Shelf;
+use std::alloc::Global;
+use std::fs::File;
+use std::io::Read;
+use std::rt::Files;
+
+/// A shelf over the files of a system. It tells no file.
+#[derive(Drop)]
+pub struct RealShelf<'a, R: Files> {
+    rt: &'a R,
+    alloc: Global,
+    faults: u64,
+    last_failed: Option<Call>,
+}
+
+impl<'a, R: Files> RealShelf<'a, R> {
+    /// A shelf over these files, by paths. Takes no memory.
+    pub fn new(rt: &'a R, alloc: Global) -> RealShelf<'a, R>
+        ensures faults { result.faults ≡ 0 }
+        ensures last { result.last_failed ≡ None }
+    {
+        RealShelf {
+            rt,
+            alloc,
+            faults: 0,
+            last_failed: None,
+        }
+    }
+
+    /// Counts a fault of this call.
+    fn fail(&mut self, call: Call)
+        ensures rises { RisesBy self.old.faults self.new.faults }
+        ensures last { self.new.last_failed ≡ Some call }
+    {
+        self.faults = self.faults.saturating_add(1);
+        self.last_failed = Some(call);
+    }
+}
+
+/// The first bytes that this reader gives, as many as this or all if there are fewer.
+fn read_most<R: Read>(alloc: Global, reader: &mut R, most: usize) -> Result<Vec<u8>, ShelfErr>
+    ensures { IfOk result (λ bytes. vec_len bytes ≤ most) }
+{
+    let mut piece = match vec![in alloc; 0; PIECE] {
+        Ok(piece) => piece,
+        Err(_) => return Err(ShelfErr::Memory),
+    };
+    let mut bytes = Vec::new(alloc);
+    'more: while bytes.len() < most {
+        let want = piece.len().min(most - bytes.len());
+        match reader.read(&mut piece[..want]) {
+            Ok(0) => break,
+            Ok(count) => {
+                if bytes.extend_from_slice(&piece[..count]).is_err() {
+                    return Err(ShelfErr::Memory);
+                }
+            }
+            Err(_) => return Err(ShelfErr::Failed),
+        }
+    }
+    Ok(bytes)
+}
+
+/// The first bytes of the file of this name. `Failed` where it cannot be opened or read, as a
+/// directory.
+fn read_file<R: Files>(rt: &R, alloc: Global, name: &str, most: usize) -> Result<Vec<u8>, ShelfErr>
+    ensures { IfOk result (λ bytes. vec_len bytes ≤ most) }
+{
+    match File::open(rt, name) {
+        Ok(mut file) => read_most(alloc, &mut file, most),
+        Err(_) => Err(ShelfErr::Failed),
+    }
+}
+
+/// Whether these bytes could be written to the file of this name.
+fn write_file<R: Files>(rt: &R, name: &str, bytes: &[u8]) -> bool {
+    match File::create(rt, name) {
+        Ok(mut file) => write_out(&mut file, bytes).is_ok(),
+        Err(_) => false,
+    }
+}
+
+impl<'a, R: Files> Shelf for RealShelf<'a, R> {
+    ghost faults = { λ shelf. shelf.faults };
+
+    ghost tells = { λ _. false };
+
+    ghost file = { λ _ _. None };
+
+    ghost last_failed = { λ shelf. shelf.last_failed };
+
+    fn fetch(&mut self, name: &str, limit: u32) -> Result<Vec<u8>, ShelfErr> {
+        let asked = word_of(self.alloc, name)?;
+        let read = read_file(self.rt, self.alloc, name, limit as usize + 1);
+        if let Err(ShelfErr::Failed) = &read {
+            self.fail(Call::Fetch(asked));
+        }
+        read
+    }
+
+    fn keep(&mut self, name: &str, bytes: &[u8]) -> Result<(), ShelfErr> {
+        let asked = word_of(self.alloc, name)?;
+        if write_file(self.rt, name, bytes) {
+            return Ok(());
+        }
+        self.fail(Call::Keep(asked));
+        Err(ShelfErr::Failed)
+    }
+}
