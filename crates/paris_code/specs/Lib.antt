@@ -1,1 +1,11 @@
 pub mod Kinds
+pub mod Operands
+pub mod RuleBackEdge
+pub mod RuleField
+pub mod RuleOperands
+pub mod RuleSet
+pub mod RuleStack
+pub mod RuleTarget
+pub mod Shapes
+pub mod Sound
+pub mod Units
