@@ -1,0 +1,51 @@
+//! The command `cstar`: the top call over the system's files and streams.
+#![tactic(auto)]
+
+use cstar_io::{Open, RealShelf, RealSink, RealSource};
+use std::env;
+use std::io;
+use std::io::{ErrorKind, Read, Write};
+use std::process::ExitCode;
+use std::rt::{Env, Files};
+use std::thread::Threads;
+
+/// The status where the words of the process cannot be had.
+const NO_WORDS: u8 = 11;
+
+/// The status where there is no memory.
+const NO_MEMORY: u8 = 8;
+
+/// The words of the command, without the program's name.
+fn words<R: Env + AllocGlobal>(rt: &R) -> io::Result<Vec<String>> {
+    let mut args = env::args(rt)?;
+    let _name = args.next();
+    Ok(args.collect(rt.alloc())?)
+}
+
+/// The status of the command on these words.
+fn status<R, I, O, E>(rt: &R, words: &[String], input: I, out: O, err: E) -> u8
+where
+    R: Files + AllocGlobal + Threads + Sync,
+    I: Read + Drop,
+    O: Write + Drop,
+    E: Write + Drop,
+{
+    let alloc = rt.alloc();
+    let (Ok(mut input), Ok(mut out), Ok(mut err)) = (
+        RealSource::new(alloc, input),
+        RealSink::new(alloc, out),
+        RealSink::new(alloc, err),
+    ) else {
+        return NO_MEMORY;
+    };
+    let mut shelf = RealShelf::new(rt, alloc);
+    cstar_top::cstar(rt, alloc, words, &mut shelf, &mut input, &mut out, &mut err, &Open)
+}
+
+fn main(rt: HostRuntime) -> ExitCode {
+    ExitCode::from(match words(&rt) {
+        Ok(words) => status(&rt, words.as_slice(), rt.stdin(), rt.stdout(), rt.stderr()),
+        Err(error) if error.kind() == ErrorKind::OutOfMemory => NO_MEMORY,
+        Err(_) => NO_WORDS,
+    })
+}

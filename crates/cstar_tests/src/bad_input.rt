@@ -1,0 +1,69 @@
+//! Words and files that are no program: the listed status and line, and nothing else.
+
+use crate::bench::{SOUND, command, program};
+
+struct Refusal {
+    text: &'static str,
+    err: &'static str,
+}
+
+static REFUSALS: [Refusal; 12] = [
+    Refusal { text: "", err: "a.cs:1:1: E24 NoMain\n" },
+    Refusal { text: "main() { @ }", err: "a.cs:1:10: E01 BadByte\n" },
+    Refusal { text: "main() { /* }", err: "a.cs:1:10: E02 Open\n" },
+    Refusal { text: "main() { 4294967296; }", err: "a.cs:1:10: E03 Wide\n" },
+    Refusal { text: "#pragma\nmain() { }", err: "a.cs:1:1: E04 Directive\n" },
+    Refusal { text: "main( { }", err: "a.cs:1:7: E05 Syntax\n" },
+    Refusal { text: "main() { x = 1", err: "a.cs:1:15: E05 Syntax\n" },
+    Refusal { text: "main() { y = 1; }", err: "a.cs:1:10: E07 Unknown\n" },
+    Refusal { text: "shape [0]S; main() { }", err: "a.cs:1:10: E09 Extent\n" },
+    Refusal {
+        text: "shape [8]S; int:S p; main() { p = 1; }",
+        err: "a.cs:1:31: E10 NoShape\n",
+    },
+    Refusal {
+        text: "shape [8]S; shape [8]T; int:S p; int:T q;\nmain() { with (S) p = q; }",
+        err: "a.cs:2:23: E11 OtherShape\n",
+    },
+    Refusal { text: "main() { break; }", err: "a.cs:1:10: E22 LoopWord\n" },
+];
+
+#[test]
+fn files_are_refused_with_their_first_fault(rt: HostRuntime) {
+    for row in &REFUSALS {
+        let Ok(done) = program(&rt, rt.alloc(), row.text) else {
+            panic!(rt; "no memory");
+        };
+        assert_eq!(rt; done.err.taken(), row.err.as_bytes(), "{}", row.text);
+        assert_eq!(rt; done.out.taken(), b"".as_slice(), "{}", row.text);
+        assert_eq!(rt; done.status, 3, "{}", row.text);
+    }
+}
+
+#[test]
+fn words_that_are_no_command_are_refused(rt: HostRuntime) {
+    let usage = "usage: cstar [--mode run|list|check|drill|asm|resume] [--workers N] [--turns N] [--finals] [--listing] [--seed N] [--winner high|low] [--save NAME] FILE\n";
+    let no_words: [&str; 0] = [];
+    let two_words = ["a.cs", "a.cs"];
+    let option = ["--help"];
+    for words in [no_words.as_slice(), two_words.as_slice(), option.as_slice()] {
+        let Ok(done) = command(&rt, rt.alloc(), words, b"main() { }", SOUND) else {
+            panic!(rt; "no memory");
+        };
+        assert_eq!(rt; done.status, 2);
+        assert_eq!(rt; done.err.taken(), usage.as_bytes());
+        assert_eq!(rt; done.out.taken(), b"".as_slice());
+    }
+}
+
+#[test]
+fn any_bytes_are_refused_or_run(rt: HostRuntime) {
+    for byte in 0..=255u8 {
+        let text = [b'm', b'a', b'i', b'n', b'(', b')', b'{', byte, b'}'];
+        let Ok(done) = command(&rt, rt.alloc(), &["a.cs"], text.as_slice(), SOUND) else {
+            panic!(rt; "no memory");
+        };
+        assert!(rt; done.status == 0 || done.status == 3, "at {byte}");
+        assert_eq!(rt; done.out.taken(), b"".as_slice(), "at {byte}");
+    }
+}

@@ -1,0 +1,78 @@
+//! What the tests run: the top call over an outside in memory.
+
+use cstar_base::{Memory, Word};
+use cstar_io::{MemShelf, MemSink, MemSource, Open};
+use std::alloc::Global;
+use std::thread::Threads;
+
+/// The greatest number of bytes that a test's output takes.
+const ROOM: u32 = 4096;
+
+/// What the outside does besides holding `a.cs`: which of its calls fail, counted from 1.
+#[derive(Clone, Copy)]
+pub struct Outside<'a> {
+    pub shelf: &'a [u64],
+    pub out: &'a [u64],
+    pub err: &'a [u64],
+}
+
+/// An outside of which no call fails.
+pub const SOUND: Outside<'static> = Outside {
+    shelf: &[],
+    out: &[],
+    err: &[],
+};
+
+/// What the command did: its status and what its sinks took.
+#[derive(Drop)]
+pub struct Done {
+    pub status: u8,
+    pub out: MemSink,
+    pub err: MemSink,
+}
+
+fn strings(alloc: Global, words: &[&str]) -> Result<Vec<String>, Memory> {
+    let mut all = Vec::new(alloc);
+    for word in words {
+        all.push(String::from_str(alloc, word)?)?;
+    }
+    Ok(all)
+}
+
+fn shelf_with(alloc: Global, text: &[u8], failing: &[u64]) -> Result<MemShelf, Memory> {
+    let name = Word::of(Vec::from_slice(alloc, b"a.cs")?);
+    let mut files = Vec::new(alloc);
+    files.push((name, Vec::from_slice(alloc, text)?))?;
+    Ok(MemShelf::new(files, Vec::from_slice(alloc, failing)?))
+}
+
+/// The command on these words, where `a.cs` has this text.
+pub fn command<R: Threads + Sync>(
+    rt: &R,
+    alloc: Global,
+    words: &[&str],
+    text: &[u8],
+    outside: Outside,
+) -> Result<Done, Memory> {
+    let words = strings(alloc, words)?;
+    let mut shelf = shelf_with(alloc, text, outside.shelf)?;
+    let mut input = MemSource::new(Vec::new(alloc), Vec::new(alloc));
+    let mut out = MemSink::new(alloc, ROOM, Vec::from_slice(alloc, outside.out)?)?;
+    let mut err = MemSink::new(alloc, ROOM, Vec::from_slice(alloc, outside.err)?)?;
+    let status = cstar_top::cstar(
+        rt,
+        alloc,
+        words.as_slice(),
+        &mut shelf,
+        &mut input,
+        &mut out,
+        &mut err,
+        &Open,
+    );
+    Ok(Done { status, out, err })
+}
+
+/// The command on `a.cs` with this text.
+pub fn program<R: Threads + Sync>(rt: &R, alloc: Global, text: &str) -> Result<Done, Memory> {
+    command(rt, alloc, &["a.cs"], text.as_bytes(), SOUND)
+}

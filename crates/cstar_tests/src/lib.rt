@@ -1,0 +1,11 @@
+//! Tests over all layers: the top call on programs in memory, with an outside that may fail.
+#![tactic(auto)]
+
+#[cfg(test)]
+mod bad_input;
+#[cfg(test)]
+mod bench;
+#[cfg(test)]
+mod failures;
+#[cfg(test)]
+mod programs;
