@@ -1,0 +1,13 @@
+use Rattle.std.proofs.Common.{arith, sym, length, ◌≤◌, ◌≢◌, ◌≡◌}
+use Rattle.std.proofs.lemmas.Bool.Decides.{nat_tests}
+use Rattle.vp_sets.proofs.PositionLaws.{geometry_by_positions, no_axes, too_many_axes}
+use Rattle.vp_sets.proofs.geometry.is_geometry.Goals as goal
+
+pub returns-then-is_empty : goal.returns-then-is_empty
+returns-then-is_empty c = no_axes c.args.extents.now (grind (arith, nat_tests, c.if-is_empty.ensures))
+
+pub returns-then-extents : goal.returns-then-extents
+returns-then-extents c = too_many_axes c.args.extents.now (omega arith)
+
+pub returns : goal.returns
+returns c = ?
