@@ -1,6 +1,6 @@
 -- Laws of positions: numbers and coordinates determine each other.
-use Rattle.std.proofs.Common.{ℕ, zero, suc, ◌≡◌, ◌≢◌, ◌<◌, ◌≤◌, ◌+◌, ◌-◌, ◌*◌, ◌/◌, ◌^◌, ◌%◌, Bool, true, false, List, [], ◌∷◌, ◌++◌, length, take, drop, refl, sym, ap, ◌∙◌, arith}
-use Rattle.std.specs.Prelude.{◌&&◌, nat_lt, nat_le, slice_index, slice_set}
+use Rattle.std.proofs.Common.{ℕ, zero, suc, ◌≡◌, ◌≢◌, ◌<◌, ◌≤◌, ◌+◌, ◌-◌, ◌*◌, ◌/◌, ◌^◌, ◌%◌, Bool, true, false, List, [], ◌∷◌, length, take, drop, refl, sym, ap, ◌∙◌, arith}
+use Rattle.std.specs.Prelude.{slice_index, slice_set, Option, Some, None, MatchOption, is_some}
 use Rattle.std.proofs.lemmas.Bool.{false≢true}
 use Rattle.std.proofs.lemmas.Bool.Decides.{nat_tests}
 use Rattle.std.proofs.lemmas.Nat.{div-mul-add, mul-add-lt, mod_below, div-add-mod'}
@@ -346,3 +346,8 @@ step_of xs n axis own there apart h r a o s t =
       value = omega arith;
       bound = number_below xs (slice_set (coordinates xs n) axis there) (inside_after_set xs (coordinates xs n) axis there (coordinates_inside xs n h) a t);
     }
+
+-- an answer that is there exactly where a test is true
+pub answered : (P : ℕ → Type 0) (o : Option ℕ) (b : Bool) → MatchOption o (b ≡ false) (λ n. (b ≡ true) × P n) → is_some o ≡ b
+answered P None b h = sym h
+answered P (Some n) b h = sym h.0

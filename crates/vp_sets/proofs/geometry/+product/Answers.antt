@@ -1,4 +1,4 @@
-use Rattle.std.proofs.Common.{rules, arith, sym, ap, ◌∙◌, ◌≡◌, ◌*◌}
+use Rattle.std.proofs.Common.{arith, sym, ap, ◌∙◌, ◌≡◌, ◌*◌}
 use Rattle.vp_sets.specs.Positions.{position_count}
 use Rattle.vp_sets.proofs.PositionLaws.{FirstOf, first_of, count_of_none}
 use Rattle.vp_sets.proofs.geometry.+product.Goals as goal

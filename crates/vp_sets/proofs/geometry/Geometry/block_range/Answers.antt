@@ -1,4 +1,4 @@
-use Rattle.std.proofs.Common.{arith, ◌≡◌, refl, ap, min, ◌+◌, ◌*◌, ◌∙◌}
+use Rattle.std.proofs.Common.{arith, refl, ap, min, ◌+◌, ◌*◌, ◌∙◌}
 use Rattle.vp_sets.specs.Blocks.{block_start, block_end}
 use Rattle.vp_sets.proofs.PositionLaws.{block_start_below}
 use Rattle.vp_sets.proofs.geometry.Geometry.block_range.Goals as goal

@@ -1,4 +1,4 @@
-use Rattle.std.proofs.Common.{arith, ap, length, sym}
+use Rattle.std.proofs.Common.{arith, ap, length}
 use Rattle.vp_sets.proofs.PositionLaws.{extent_positive, extent_bound}
 use Rattle.vp_sets.proofs.geometry.Geometry.extent.Goals as goal
 

@@ -1,4 +1,4 @@
-use Rattle.std.proofs.Common.{arith, sym, length, ◌≤◌, length-take-le}
+use Rattle.std.proofs.Common.{sym, length, length-take-le}
 use Rattle.vp_sets.proofs.PositionLaws.{geometry_parts}
 use Rattle.vp_sets.proofs.geometry.Geometry.new.Goals as goal
 
