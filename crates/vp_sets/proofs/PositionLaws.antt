@@ -1,6 +1,6 @@
 -- Laws of positions: numbers and coordinates determine each other.
 use Rattle.std.proofs.Common.{ℕ, zero, suc, ◌≡◌, ◌≢◌, ◌<◌, ◌≤◌, ◌+◌, ◌-◌, ◌*◌, ◌/◌, ◌^◌, ◌%◌, Bool, true, false, List, [], ◌∷◌, length, take, drop, refl, sym, ap, ◌∙◌, arith}
-use Rattle.std.specs.Prelude.{slice_index, slice_set, Option, Some, None, MatchOption, is_some}
+use Rattle.std.specs.Prelude.{slice_index, slice_set, Option, Some, None, MatchOption, IfSome, is_some}
 use Rattle.std.proofs.lemmas.Bool.{false≢true}
 use Rattle.std.proofs.lemmas.Bool.Decides.{nat_tests}
 use Rattle.std.proofs.lemmas.Nat.{div-mul-add, mul-add-lt, mod_below, div-add-mod'}
@@ -322,6 +322,7 @@ pub record Step (xs : List ℕ) (n axis own there apart : ℕ) : Type 0 where
   pub room : there * apart ≤ position_count xs
   pub value : n - own * apart + there * apart ≡ number_at xs (slice_set (coordinates xs n) axis there)
   pub bound : number_at xs (slice_set (coordinates xs n) axis there) < position_count xs
+  pub coords : coordinates xs (number_at xs (slice_set (coordinates xs n) axis there)) ≡ slice_set (coordinates xs n) axis there
 
 own_part : (n s x : ℕ) → 0 < x → n / s % x * s ≤ n
 own_part n s x p =
@@ -340,14 +341,23 @@ step_of xs n axis own there apart h r a o s t =
     let whole : slice_index xs axis * apart ≡ slice_index xs axis * position_count (drop (suc axis) xs) = ap (λ z. slice_index xs axis * z) s in
     let after : number_at xs (slice_set (coordinates xs n) axis there) + own * apart ≡ n + there * apart =
     rw (o, s) (number_after_set xs (coordinates xs n) axis there a long ∙ ap (λ z. z + there * position_count (drop (suc axis) xs)) (number_of_coordinates xs n h r)) in
+    let inside : are_inside xs (slice_set (coordinates xs n) axis there) ≡ true =
+    inside_after_set xs (coordinates xs n) axis there (coordinates_inside xs n h) a t in
     record {
       part = part;
       room = omega (arith, axis_count xs axis h a);
       value = omega arith;
-      bound = number_below xs (slice_set (coordinates xs n) axis there) (inside_after_set xs (coordinates xs n) axis there (coordinates_inside xs n h) a t);
+      bound = number_below xs (slice_set (coordinates xs n) axis there) inside;
+      coords = coordinates_of_number xs (slice_set (coordinates xs n) axis there) h inside;
     }
 
 -- an answer that is there exactly where a test is true
 pub answered : (P : ℕ → Type 0) (o : Option ℕ) (b : Bool) → MatchOption o (b ≡ false) (λ n. (b ≡ true) × P n) → is_some o ≡ b
 answered P None b h = sym h
 answered P (Some n) b h = sym h.0
+
+-- a number that is found is that of a position with these coordinates
+pub found : (xs cs : List ℕ) (o : Option ℕ) → are_positive xs ≡ true → MatchOption o (are_inside xs cs ≡ false) (λ n. (are_inside xs cs ≡ true) × (n ≡ number_at xs cs)) →
+    IfSome o (λ n. n < position_count xs) × IfSome o (λ n. coordinates xs n ≡ cs)
+found xs cs None h m = (tt, tt)
+found xs cs (Some n) h m = (omega (arith, m.1, number_below xs cs m.0), ap (coordinates xs) m.1 ∙ coordinates_of_number xs cs h m.0)

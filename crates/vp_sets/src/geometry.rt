@@ -1,5 +1,5 @@
-ghost use Rattle.std.specs.Prelude.{ℕ, suc, ◌≡◌, ◌<◌, ◌≤◌, ◌+◌, ◌*◌, ◌^◌, true, false, length, slice_index, drop, MatchResult, MatchOption, Some, None, Option, if◌then◌else◌};
-ghost use Rattle.vp_sets.specs.Positions.{position_count, are_positive, positions_fit, is_geometry, coordinate, are_inside, number_at, moved, shifted};
+ghost use Rattle.std.specs.Prelude.{ℕ, suc, ◌≡◌, ◌<◌, ◌≤◌, ◌+◌, ◌*◌, ◌^◌, true, false, length, slice_index, drop, MatchResult, MatchOption, IfSome, slice_set};
+ghost use Rattle.vp_sets.specs.Positions.{position_count, are_positive, positions_fit, is_geometry, coordinates, coordinate, are_inside, number_at, moved, shifted};
 ghost use Rattle.vp_sets.specs.Blocks.{block_count, block_start, block_end};
 
 use std::marker::Model;
@@ -189,6 +189,8 @@ impl Geometry {
         requires axis { axis < length self.now }
         ensures value { result ≡ coordinate self.now n axis }
         ensures inside { result < slice_index self.now axis }
+        // the number and the coordinates determine each other
+        ensures number { number_at self.now (coordinates self.now n) ≡ n }
     {
         n / self.stride(axis) % self.extent(axis)
     }
@@ -200,6 +202,7 @@ impl Geometry {
         requires axis { axis < length self.now }
         ensures value { result ≡ shifted self.now n axis k }
         ensures bound { result < position_count self.now }
+        ensures coords { coordinates self.now result ≡ slice_set (coordinates self.now n) axis (moved (slice_index self.now axis) (coordinate self.now n axis) k) }
     {
         let own = self.coord(n, axis);
         let there = moved(self.extent(axis), own, k);
@@ -210,7 +213,9 @@ impl Geometry {
     /// The number of the position with these coordinates. None exactly where they are not as many
     /// as the axes, or one is not below its extent.
     pub fn number(&self, coords: &[u32]) -> Option<u32>
-        ensures { MatchOption result (are_inside self.now coords.now ≡ false) (λ n. (are_inside self.now coords.now ≡ true) × (n ≡ number_at self.now coords.now)) }
+        ensures value { MatchOption result (are_inside self.now coords.now ≡ false) (λ n. (are_inside self.now coords.now ≡ true) × (n ≡ number_at self.now coords.now)) }
+        ensures bound { IfSome result (λ n. n < position_count self.now) }
+        ensures coords { IfSome result (λ n. coordinates self.now n ≡ coords.now) }
     {
         position(self.extents(), coords)
     }

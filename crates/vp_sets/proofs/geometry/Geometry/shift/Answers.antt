@@ -58,3 +58,17 @@ returns-clause-bound c =
     (geometry_parts c.args.self.now c.extent.ensures.valid).2 c.requires.position c.requires.axis c.coord-own.ensures.value c.stride-stride.ensures.value
     (omega (arith, c.moved-there.ensures.inside, c.extent.ensures.value)) in
     omega (arith, step.value, step.bound)
+
+pub returns-clause-coords : goal.returns-clause-coords
+returns-clause-coords c =
+    let step : Step c.args.self.now c.args.n c.args.axis c.coord-own.result c.moved-there.result c.stride-stride.result =
+    step_of c.args.self.now c.args.n c.args.axis c.coord-own.result c.moved-there.result c.stride-stride.result
+    (geometry_parts c.args.self.now c.extent.ensures.valid).2 c.requires.position c.requires.axis c.coord-own.ensures.value c.stride-stride.ensures.value
+    (omega (arith, c.moved-there.ensures.inside, c.extent.ensures.value)) in
+    ap (coordinates c.args.self.now) step.value
+    ∙ step.coords
+    ∙ ap (slice_set (coordinates c.args.self.now c.args.n) c.args.axis)
+    (c.moved-there.ensures.value
+    ∙ ap (moved c.extent.result c.coord-own.result) (to_z-of_z w32 c.args.k c.ranges.k)
+    ∙ ap (λ extent. moved extent c.coord-own.result c.args.k) c.extent.ensures.value
+    ∙ ap (λ own. moved (slice_index c.args.self.now c.args.axis) own c.args.k) c.coord-own.ensures.value)
