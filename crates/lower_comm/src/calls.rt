@@ -1,0 +1,51 @@
+//! The calls on a unit as `lower` has it when it comes to a communication.
+
+use crate::emit::Out;
+use crate::messages::{check_grid, comm_in, goes_by_news, locate_in};
+use crate::names::{Names, named};
+use cstar_base::Memory;
+use cstar_tree::typed::{TExpr, Typed};
+use paris_code::Unit;
+use std::alloc::Global;
+
+/// Whether the get goes by NEWS. Every other get, and every send, goes by the router.
+pub fn by_news(t: &Typed, e: &TExpr) -> bool {
+    goes_by_news(t, e)
+}
+
+/// Appends the range check of the left-indexed reference `e` and the making of its address, and
+/// answers the field or the register of the address. The indexes have one value for each axis, but
+/// for a get that goes by NEWS: there they are empty, and the answer is `Nothing`.
+pub fn locate(
+    alloc: Global,
+    t: &Typed,
+    e: &TExpr,
+    indexes: &[Out],
+    u: &mut Unit,
+) -> Result<Out, Memory> {
+    if indexes.is_empty() {
+        check_grid(alloc, t, e, u)
+    } else {
+        locate_in(alloc, e, indexes, u)
+    }
+}
+
+/// Appends the code of one communication, whose parts are in `parts`: a read or a store through the
+/// left index that was located at `at`, a reduction, a scan or an enumeration. `into` takes its
+/// result.
+pub fn comm(
+    alloc: Global,
+    t: &Typed,
+    e: &TExpr,
+    at: Out,
+    parts: &[Out],
+    into: Out,
+    u: &mut Unit,
+) -> Result<Out, Memory> {
+    let mut names = Names::of(alloc, t)?;
+    let Some(instance) = named(t, u.name.bytes()) else {
+        return Err(Memory);
+    };
+    names.enter(t, instance)?;
+    comm_in(t, &names, e, at, parts, into, u)
+}

@@ -1,0 +1,14 @@
+//! The lowering of communication: gets, sends, reductions, scans and enumerations; and what all of
+//! the lowering stands on, as where the variables have their registers and fields, and how a unit
+//! grows.
+#![tactic(auto)]
+
+mod calls;
+pub mod emit;
+pub mod messages;
+pub mod names;
+pub mod news;
+pub mod operators;
+
+pub use calls::{by_news, comm, locate};
+pub use emit::Out;

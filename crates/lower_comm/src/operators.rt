@@ -1,0 +1,152 @@
+//! Which instruction does what an operator of the language means.
+
+use cstar_base::{Combiner, Elem, Op};
+use cstar_tree::syntax::{AssignOp, ReduceOp};
+use paris_code::{Compare, Operation, Reduction};
+
+/// What a binary operator compiles to: an operation or a relation.
+#[derive(Clone, Copy, PartialEq, Eq)]
+pub enum Machine {
+    Operate(Operation),
+    Compare(Compare),
+}
+
+/// The instruction's operator, for operands that are read signed or unsigned.
+pub fn machine_op(op: Op, signed: bool) -> Machine {
+    match op {
+        Op::Eq => Machine::Compare(Compare::UEq),
+        Op::Ne => Machine::Compare(Compare::UNe),
+        Op::Lt => Machine::Compare(if signed { Compare::SLt } else { Compare::ULt }),
+        Op::Le => Machine::Compare(if signed { Compare::SLe } else { Compare::ULe }),
+        Op::Gt => Machine::Compare(if signed { Compare::SGt } else { Compare::UGt }),
+        Op::Ge => Machine::Compare(if signed { Compare::SGe } else { Compare::UGe }),
+        _ => Machine::Operate(operation(op, signed)),
+    }
+}
+
+/// The operation of an operator on numbers that is no relation. Modulo by an unsigned divisor is
+/// the remainder.
+pub fn operation(op: Op, signed: bool) -> Operation {
+    match op {
+        Op::Sub => Operation::SSubtract,
+        Op::Mul => Operation::SMultiply,
+        Op::Div => if signed {
+            Operation::STruncate
+        } else {
+            Operation::UTruncate
+        },
+        Op::Rem => if signed {
+            Operation::SRem
+        } else {
+            Operation::URem
+        },
+        Op::Mod => if signed {
+            Operation::SMod
+        } else {
+            Operation::URem
+        },
+        Op::And => Operation::Logand,
+        Op::Or => Operation::Logior,
+        Op::Xor => Operation::Logxor,
+        Op::Min => if signed {
+            Operation::SMin
+        } else {
+            Operation::UMin
+        },
+        Op::Max => if signed {
+            Operation::SMax
+        } else {
+            Operation::UMax
+        },
+        Op::Shl => Operation::UShiftLeft,
+        Op::Shr => if signed {
+            Operation::SShiftRight
+        } else {
+            Operation::UShiftRight
+        },
+        _ => Operation::SAdd,
+    }
+}
+
+/// Whether the operator has a divisor, which is to be checked.
+pub fn divides(op: Op) -> bool {
+    matches!(op, Op::Div | Op::Rem | Op::Mod)
+}
+
+/// The operator of a compound assignment.
+pub fn assign_op(op: AssignOp) -> Option<Op> {
+    match op {
+        AssignOp::Set => None,
+        AssignOp::Add => Some(Op::Add),
+        AssignOp::Sub => Some(Op::Sub),
+        AssignOp::Mul => Some(Op::Mul),
+        AssignOp::Div => Some(Op::Div),
+        AssignOp::Rem => Some(Op::Rem),
+        AssignOp::Mod => Some(Op::Mod),
+        AssignOp::And => Some(Op::And),
+        AssignOp::Or => Some(Op::Or),
+        AssignOp::Xor => Some(Op::Xor),
+        AssignOp::Shl => Some(Op::Shl),
+        AssignOp::Shr => Some(Op::Shr),
+        AssignOp::Min => Some(Op::Min),
+        AssignOp::Max => Some(Op::Max),
+    }
+}
+
+/// What folds the elements that an operator combines. A difference is folded as a sum.
+pub fn fold_of(op: Op, signed: bool) -> Reduction {
+    match op {
+        Op::And => Reduction::Logand,
+        Op::Or => Reduction::Logior,
+        Op::Xor => Reduction::Logxor,
+        Op::Min => if signed {
+            Reduction::SMin
+        } else {
+            Reduction::UMin
+        },
+        Op::Max => if signed {
+            Reduction::SMax
+        } else {
+            Reduction::UMax
+        },
+        _ => Reduction::SAdd,
+    }
+}
+
+/// The operator of a unary reduction.
+pub fn reduce_op(op: ReduceOp) -> Op {
+    match op {
+        ReduceOp::Add => Op::Add,
+        ReduceOp::Sub => Op::Sub,
+        ReduceOp::And => Op::And,
+        ReduceOp::Xor => Op::Xor,
+        ReduceOp::Or => Op::Or,
+        ReduceOp::Min => Op::Min,
+        ReduceOp::Max => Op::Max,
+    }
+}
+
+/// What folds the steps of a scan.
+pub fn scan_fold(combiner: Combiner, signed: bool) -> Reduction {
+    match combiner {
+        Combiner::And => Reduction::Logand,
+        Combiner::Or => Reduction::Logior,
+        Combiner::Xor => Reduction::Logxor,
+        Combiner::Min => if signed {
+            Reduction::SMin
+        } else {
+            Reduction::UMin
+        },
+        Combiner::Max => if signed {
+            Reduction::SMax
+        } else {
+            Reduction::UMax
+        },
+        Combiner::Add | Combiner::Last => Reduction::SAdd,
+    }
+}
+
+/// Whether a value of the type, promoted to 32 bits, is read in two's complement.
+pub fn promoted_signed(elem: Elem) -> bool {
+    elem.signed || elem.bits < 32
+}
