@@ -2,12 +2,11 @@
 #![tactic(auto)]
 
 use cstar_io::{Open, RealShelf, RealSink, RealSource};
-use std::env;
-use std::io;
 use std::io::{ErrorKind, Read, Write};
 use std::process::ExitCode;
 use std::rt::{Env, Files};
 use std::thread::Threads;
+use std::{env, io};
 
 /// The status where the words of the process cannot be had.
 const NO_WORDS: u8 = 11;
@@ -39,7 +38,9 @@ where
         return NO_MEMORY;
     };
     let mut shelf = RealShelf::new(rt, alloc);
-    cstar_top::cstar(rt, alloc, words, &mut shelf, &mut input, &mut out, &mut err, &Open)
+    cstar_top::cstar(
+        rt, alloc, words, &mut shelf, &mut input, &mut out, &mut err, &Open,
+    )
 }
 
 fn main(rt: HostRuntime) -> ExitCode {

@@ -1,6 +1,5 @@
 -- The statuses of the command, and the line that each answer puts.
-use Rattle.std.specs.Prelude.{◌≡◌, ℕ, List, [], ◌++◌, Option, Some, None, codes, decimal, ◌⊎◌}
-use Rattle.cstar_io.specs.Output.{Takes, TakesPrefix}
+use Rattle.std.specs.Prelude.{ℕ, List, [], ◌++◌, Option, Some, None, codes, decimal}
 use Rattle.cstar_base.specs.declared.operators.Place.{Place}
 use Rattle.cstar_top.specs.declared.answer.Answer.{Answer}
 use Rattle.cstar_top.specs.declared.answer.Answer.TheVariants as A
@@ -42,14 +41,3 @@ line_of file A.CannotRead = codes "cannot read " ++ file ++ codes "\n"
 line_of file A.WriteFault = []
 line_of file A.InputFault = codes "input fault\n"
 line_of file A.Memory = codes "out of memory\n"
-
--- a sink takes the line of a status: that of the answer, or of want of memory in its place
-abbrev pub PutsLine : {E : Type 0} → (E → List ℕ → Type 0) → E → E → List ℕ → ℕ → Answer → Type 0
-PutsLine agrees old new file status answer =
-    ((status ≡ status_of answer) × Takes agrees old new (line_of file answer))
-    ⊎ ((status ≡ 8) × Takes agrees old new (codes "out of memory\n"))
-
--- a sink takes the first bytes of such a line
-abbrev pub PutsPartOfLine : {E : Type 0} → (E → List ℕ → Type 0) → E → E → List ℕ → Answer → Type 0
-PutsPartOfLine agrees old new file answer =
-    TakesPrefix agrees old new (line_of file answer) ⊎ TakesPrefix agrees old new (codes "out of memory\n")

@@ -1,3 +1,5 @@
 pub mod Answers
 pub mod Faults
+pub mod Reports
+pub mod Runs
 pub mod Words

@@ -1,5 +1,5 @@
 -- The words of the command.
-use Rattle.std.specs.Prelude.{ℕ, Bool, false, ◌==◌, List, [], ◌∷◌, Option, Some, None, if◌then◌else◌}
+use Rattle.std.specs.Prelude.{ℕ, Bool, false, ◌==◌, List, [], ◌∷◌, Option, Some, None, if◌then◌else◌, unwrap_or}
 
 -- a word that is an option: it begins with `-`, and has more than that
 abbrev pub is_option : List ℕ → Bool
@@ -12,3 +12,7 @@ abbrev pub file_of : List (List ℕ) → Option (List ℕ)
 file_of [] = None
 file_of (word ∷ []) = if is_option word then None else Some word
 file_of (word ∷ other ∷ rest) = None
+
+-- the name of that file; nothing where the words name none
+abbrev pub named : List (List ℕ) → List ℕ
+named words = unwrap_or (file_of words) []

@@ -15,8 +15,11 @@ use std::alloc::Global;
 pub const FILE_LIMIT: u32 = 1_048_576;
 
 const NOT_BUILT: u8 = 0;
+
 const SYNTAX: u8 = 5;
+
 const DEPTH: u8 = 27;
+
 const TOO_LONG: u8 = 30;
 
 const FILE_START: Place = Place { line: 1, col: 1 };

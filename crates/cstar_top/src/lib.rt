@@ -2,8 +2,12 @@
 #![tactic(auto)]
 
 mod answer;
+mod compile;
 mod line;
 mod report;
+mod run;
+mod top;
 mod words;
 
 pub use answer::Answer;
+pub use top::cstar;

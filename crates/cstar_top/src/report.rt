@@ -1,7 +1,9 @@
 ghost use Rattle.std.specs.Prelude.{◌≡◌, ◌≢◌, ◌≤◌, ℕ, ◌⊎◌, [], codes};
 ghost use Rattle.cstar_io.specs.Faults.{RisesBy};
 ghost use Rattle.cstar_io.specs.Output.{Takes, TakesNothing, TakesPrefix};
-ghost use Rattle.cstar_top.specs.Answers.{line_of, status_of, PutsLine, PutsPartOfLine};
+ghost use Rattle.cstar_top.specs.Answers.{line_of, status_of};
+ghost use Rattle.cstar_top.specs.Reports.{PutsAnswer, PutsPartOfAnswer};
+ghost use Rattle.cstar_top.specs.declared.answer.Answer.TheVariants as A;
 
 use crate::answer::Answer;
 use crate::line::line;
@@ -12,15 +14,44 @@ use std::alloc::Global;
 /// where there is no memory for the line, 6 where it cannot be put.
 pub fn report<E: Sink>(alloc: Global, file: &[u8], answer: Answer, err: &mut E) -> u8
     ensures status { (result ≡ status_of answer) ⊎ (result ≡ 6) ⊎ (result ≡ 8) }
-    ensures line { result ≢ 6 → PutsLine E.agrees err.old err.new file.now result answer }
-    ensures part { result ≡ 6 → PutsPartOfLine E.agrees err.old err.new file.now answer }
+    ensures own { result ≡ status_of answer → result ≢ 6 → result ≢ 8 → Takes E.agrees err.old err.new (line_of file.now answer) }
+    ensures memory { result ≡ 8 → Takes E.agrees err.old err.new (codes "out of memory\n") }
+    ensures line { result ≢ 6 → PutsAnswer E.agrees err.old err.new file.now result }
+    ensures part { result ≡ 6 → PutsPartOfAnswer E.agrees err.old err.new file.now }
     ensures failed { result ≡ 6 → (status_of answer ≡ 6) ⊎ RisesBy (E.faults err.old) (E.faults err.new) }
     ensures other { result ≢ 6 → E.faults err.new ≡ E.faults err.old }
 {
     match line(alloc, file, &answer) {
-        Ok(text) => put_line(err, text.as_slice(), answer.status()),
-        Err(_) => put_line(err, b"out of memory\n", 8),
+        Ok(text) => put_answer(err, file, answer, text.as_slice()),
+        Err(_) => put_memory(err, file),
     }
+}
+
+/// Puts the text of an answer.
+fn put_answer<E: Sink>(err: &mut E, file: &[u8], answer: Answer, text: &[u8]) -> u8
+    requires { text.now ≡ line_of file.now answer }
+    ensures status { (result ≡ status_of answer) ⊎ (result ≡ 6) }
+    ensures own { result ≢ 6 → Takes E.agrees err.old err.new (line_of file.now answer) }
+    ensures memory { result ≡ 8 → Takes E.agrees err.old err.new (codes "out of memory\n") }
+    ensures line { result ≢ 6 → PutsAnswer E.agrees err.old err.new file.now result }
+    ensures part { result ≡ 6 → PutsPartOfAnswer E.agrees err.old err.new file.now }
+    ensures failed { result ≡ 6 → (status_of answer ≡ 6) ⊎ RisesBy (E.faults err.old) (E.faults err.new) }
+    ensures other { result ≢ 6 → E.faults err.new ≡ E.faults err.old }
+{
+    put_line(err, text, answer.status())
+}
+
+/// Puts the line of want of memory in the place of an answer's.
+#[tactic(auto, unfolding(crate::specs::Answers::line_of))]
+fn put_memory<E: Sink>(err: &mut E, file: &[u8]) -> u8
+    ensures status { (result ≡ 8) ⊎ (result ≡ 6) }
+    ensures memory { result ≡ 8 → Takes E.agrees err.old err.new (codes "out of memory\n") }
+    ensures line { result ≢ 6 → PutsAnswer E.agrees err.old err.new file.now result }
+    ensures part { result ≡ 6 → PutsPartOfAnswer E.agrees err.old err.new file.now }
+    ensures failed { result ≡ 6 → RisesBy (E.faults err.old) (E.faults err.new) }
+    ensures other { result ≢ 6 → E.faults err.new ≡ E.faults err.old }
+{
+    put_line(err, b"out of memory\n", 8)
 }
 
 /// Puts a text that is not empty. The status, or 6 where it cannot be put.

@@ -1,7 +1,7 @@
 ghost use Rattle.std.specs.Prelude.{◌≡◌, ◌≤◌};
 ghost use Rattle.cstar_io.specs.Faults.{RisesBy};
 ghost use Rattle.cstar_top.specs.Runs.{IsEndOfRun};
-ghost use Rattle.cstar_top.specs.declared.answer.Answer.TheVariants as A;
+ghost use Rattle.cstar_top.specs.Answers.{status_of};
 
 use crate::answer::Answer;
 use cstar_io::{Sink, Source};
@@ -21,8 +21,8 @@ pub fn run_image<I: Source, O: Sink>(
     out: &mut O,
 ) -> Answer
     ensures end { IsEndOfRun result }
-    ensures write_fault { result ≡ A.WriteFault → RisesBy (O.faults out.old) (O.faults out.new) }
-    ensures input_fault { result ≡ A.InputFault → RisesBy (I.faults input.old) (I.faults input.new) }
+    ensures write_fault { status_of result ≡ 6 → RisesBy (O.faults out.old) (O.faults out.new) }
+    ensures input_fault { status_of result ≡ 7 → RisesBy (I.faults input.old) (I.faults input.new) }
 {
     let mut phases = match RowPhases::new(alloc, sound) {
         Ok(phases) => phases,
@@ -31,7 +31,15 @@ pub fn run_image<I: Source, O: Sink>(
     let outcome = run(alloc, sound, TURNS, &mut phases, input, out);
     let answer = match outcome.end {
         End::Done => Answer::Done,
-        End::Fault { kind, place, position } => Answer::Fault { kind, place, position },
+        End::Fault {
+            kind,
+            place,
+            position,
+        } => Answer::Fault {
+            kind,
+            place,
+            position,
+        },
         End::Stopped => Answer::Stopped { turns: TURNS },
         End::InputBroken => Answer::InputFault,
         End::OutputBroken => return Answer::WriteFault,
