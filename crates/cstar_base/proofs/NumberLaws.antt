@@ -90,3 +90,12 @@ number_if_not_below_zero bits signed w h = ap (λ t. if t then pos w -ℤ pos (2
 -- only the residue 0 stands for 0
 pub zero_number : (bits : ℕ) (signed : Bool) (w : ℕ) → w < 2 ^ bits → number_of bits signed w ≡ pos 0 → w ≡ 0
 zero_number bits signed w r e = sym (residue_of_number bits signed w r) ∙ ap (residue bits) e ∙ residue_of_pos bits 0 ∙ mod-eq_of_lt (pow_pos bits)
+
+-- a number is its residue less some times the modulus
+pub number_borrow : (bits : ℕ) (signed : Bool) (w : ℕ) → (i : ℕ) × (number_of bits signed w +ℤ pos (i * 2 ^ bits) ≡ pos w)
+number_borrow bits false w = (0, rw (number_unsigned bits w) (omega (arith, ints)))
+number_borrow bits true w =
+    elim (cases_lt w (2 ^ (bits - 1))) [
+      | inl below ↦ (0, rw (number_in_lower bits w below) (omega (arith, ints)))
+      | inr above ↦ (1, rw (number_in_upper bits w above) (omega (arith, ints)))
+    ]

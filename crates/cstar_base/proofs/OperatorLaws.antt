@@ -1,13 +1,14 @@
 -- Laws of the operators.
-use Rattle.std.proofs.Common.{ℕ, ◌≡◌, ◌<◌, ◌≤◌, ◌*◌, ◌^◌, ◌%◌, Bool, true, false, ℤ, pos, negsuc, neg_ℤ, ◌-ℤ◌, ◌*ℤ◌, ◌<ℤ◌, refl, sym, ap, inl, inr, ◌∙◌, lit<, arith}
+use Rattle.std.proofs.Common.{ℕ, ◌≡◌, ◌<◌, ◌≤◌, ◌+◌, ◌-◌, ◌*◌, ◌^◌, ◌%◌, Bool, true, false, not, ℤ, pos, negsuc, neg_ℤ, ◌+ℤ◌, ◌-ℤ◌, ◌*ℤ◌, ◌<ℤ◌, refl, sym, ap, inl, inr, ◌∙◌, lit<, arith}
 use Rattle.std.specs.Int.{int_rem_euclid, int_wrap, w32, cast_signed, cast_unsigned}
 use Rattle.std.proofs.lemmas.Int.{ints, of_z-to_z, wrapping_mul-bits}
 use Rattle.std.proofs.lemmas.Nat.{mod_below}
+use Rattle.std.proofs.Math.Nat.{add-mul-mod_self_right}
 use Rattle.std.proofs.lemmas.Bool.{cases_lt}
 use Rattle.std.proofs.lemmas.Bool.Decides.{nat_tests}
 use Rattle.cstar_base.specs.Numbers.{residue, number_of}
-use Rattle.cstar_base.specs.Operators.{operand, product_of, floor_rem}
-use Rattle.cstar_base.proofs.NumberLaws.{residue_below, number_in_lower, number_in_upper, number_unsigned, residue_of_pos}
+use Rattle.cstar_base.specs.Operators.{operand, sum_of, difference_of, product_of, floor_rem}
+use Rattle.cstar_base.proofs.NumberLaws.{residue_below, number_in_lower, number_in_upper, number_unsigned, residue_of_pos, residue_is, number_borrow}
 
 upper_word : (w : ℕ) → 2 ^ 31 ≤ w → w < 2 ^ 32 → pos w -ℤ pos (2 ^ 32) ≡ cast_signed w32 w
 upper_word w h r = grind (arith, ints, nat_tests)
@@ -46,3 +47,19 @@ pub floor_rem_negative : (x y : ℤ) → y <ℤ pos 0 → floor_rem x y ≡ neg_
 unfolding floor_rem
 floor_rem_negative x (pos d) h = absurd (omega (arith, ints))
 floor_rem_negative x (negsuc d) h = refl
+
+-- sums and differences do not depend on the sign, at any width
+pub sum_by_residues : (bits : ℕ) (unsigned : Bool) (a b : ℕ) → sum_of bits unsigned a b ≡ (a + b) % 2 ^ bits
+unfolding sum_of operand
+sum_by_residues bits unsigned a b =
+    let x : (i : ℕ) × (number_of bits (not unsigned) a +ℤ pos (i * 2 ^ bits) ≡ pos a) = number_borrow bits (not unsigned) a in
+    let y : (i : ℕ) × (number_of bits (not unsigned) b +ℤ pos (i * 2 ^ bits) ≡ pos b) = number_borrow bits (not unsigned) b in
+    residue_is bits (number_of bits (not unsigned) a +ℤ number_of bits (not unsigned) b) (x.0 + y.0) (a + b) (omega (arith, ints, x.1, y.1))
+
+pub difference_by_residues : (bits : ℕ) (unsigned : Bool) (a b : ℕ) → b ≤ 2 ^ bits → difference_of bits unsigned a b ≡ (a + (2 ^ bits - b)) % 2 ^ bits
+unfolding difference_of operand
+difference_by_residues bits unsigned a b r =
+    let x : (i : ℕ) × (number_of bits (not unsigned) a +ℤ pos (i * 2 ^ bits) ≡ pos a) = number_borrow bits (not unsigned) a in
+    let y : (i : ℕ) × (number_of bits (not unsigned) b +ℤ pos (i * 2 ^ bits) ≡ pos b) = number_borrow bits (not unsigned) b in
+    residue_is bits (number_of bits (not unsigned) a -ℤ number_of bits (not unsigned) b) (x.0 + 1) (a + (2 ^ bits - b) + y.0 * 2 ^ bits) (omega (arith, ints, x.1, y.1))
+    ∙ add-mul-mod_self_right (a + (2 ^ bits - b)) y.0 (2 ^ bits)
