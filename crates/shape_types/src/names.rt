@@ -65,7 +65,12 @@ impl FileNames {
 
     /// The name with its number among all names of the file.
     pub fn find(&self, word: &Word) -> Option<(usize, FileName)> {
-        let (number, _, name) = self.names.get_full(word.bytes())?;
+        self.find_bytes(word.bytes())
+    }
+
+    /// As `find`, of a name as bytes.
+    pub fn find_bytes(&self, bytes: &[u8]) -> Option<(usize, FileName)> {
+        let (number, _, name) = self.names.get_full(bytes)?;
         Some((number, *name))
     }
 
