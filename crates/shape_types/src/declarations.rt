@@ -23,6 +23,7 @@ enum Length {
 }
 
 /// An initialiser with the place of its `=`.
+#[derive(Drop)]
 struct Initial {
     place: Place,
     value: Option<TExpr>,

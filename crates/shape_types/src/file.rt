@@ -21,8 +21,8 @@ struct Counts {
 }
 
 /// Is the result of `main` an `int`, or nothing?
-fn is_main_result(result: &ResultType) -> bool {
-    match result {
+fn is_main_result(written: &ResultType) -> bool {
+    match written {
         ResultType::Unwritten | ResultType::Void => true,
         ResultType::Written(written) => {
             written.shape.is_none() && written.elem == cstar_base::Elem::INT

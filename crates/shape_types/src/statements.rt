@@ -346,9 +346,9 @@ impl<'a> Checker<'a> {
 
 /// Can a value of the one shape be returned for a result of the other? A scalar result takes a
 /// scalar value, and a parallel one is returned under its own shape.
-fn fits_result(site: Site, result: Option<u16>, value: Option<u16>) -> bool {
-    match result {
+fn fits_result(site: Site, wanted: Option<u16>, value: Option<u16>) -> bool {
+    match wanted {
         None => value.is_none(),
-        Some(_) => site.current == result,
+        Some(_) => site.current == wanted,
     }
 }
