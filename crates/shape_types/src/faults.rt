@@ -1,0 +1,125 @@
+//! The faults of typing. Typing goes on after a fault; the least of all that stand is kept.
+
+ghost use Rattle.std.specs.Prelude.{◌≡◌, true, Some, IsSome, IsNone};
+ghost use Rattle.shape_types.specs.Faults.{is_listed};
+
+use cstar_base::Place;
+
+/// The rules whose breach typing finds.
+#[derive(Clone, Copy, PartialEq, Eq)]
+pub enum Rule {
+    Redeclared,
+    Unknown,
+    WrongKind,
+    Extent,
+    NoShape,
+    OtherShape,
+    ScalarWanted,
+    ParallelWanted,
+    IndexCount,
+    Dot,
+    NotAPlace,
+    SendValue,
+    SendOperator,
+    Arguments,
+    Return,
+    Axis,
+    LoopWord,
+    Recursion,
+    NoMain,
+    Format,
+    Constant,
+    Space,
+    Size,
+    ArrayDeclaration,
+    ArrayUse,
+}
+
+impl Rule {
+    /// The number that the command prints for the rule.
+    pub fn number(self) -> u8
+        ensures { is_listed result ≡ true }
+    {
+        match self {
+            Rule::Redeclared => 6,
+            Rule::Unknown => 7,
+            Rule::WrongKind => 8,
+            Rule::Extent => 9,
+            Rule::NoShape => 10,
+            Rule::OtherShape => 11,
+            Rule::ScalarWanted => 12,
+            Rule::ParallelWanted => 13,
+            Rule::IndexCount => 14,
+            Rule::Dot => 15,
+            Rule::NotAPlace => 16,
+            Rule::SendValue => 17,
+            Rule::SendOperator => 18,
+            Rule::Arguments => 19,
+            Rule::Return => 20,
+            Rule::Axis => 21,
+            Rule::LoopWord => 22,
+            Rule::Recursion => 23,
+            Rule::NoMain => 24,
+            Rule::Format => 25,
+            Rule::Constant => 26,
+            Rule::Space => 28,
+            Rule::Size => 29,
+            Rule::ArrayDeclaration => 31,
+            Rule::ArrayUse => 32,
+        }
+    }
+}
+
+/// A fault at a place.
+#[derive(Clone, Copy)]
+pub struct Standing {
+    pub rule: Rule,
+    pub place: Place,
+}
+
+impl Standing {
+    /// Does it come before the other, by place and then number?
+    fn is_before(self, other: Standing) -> bool {
+        let place = self.place;
+        let than = other.place;
+        if place.line != than.line {
+            place.line < than.line
+        } else if place.col != than.col {
+            place.col < than.col
+        } else {
+            self.rule.number() < other.rule.number()
+        }
+    }
+}
+
+/// The least fault so far, or none.
+#[derive(Clone, Copy)]
+pub struct Faults {
+    pub least: Option<Standing>,
+}
+
+impl Faults {
+    pub fn none() -> Faults
+        ensures { IsNone result.least }
+    {
+        Faults { least: None }
+    }
+
+    /// Records that the rule is broken at the place.
+    pub fn stands(&mut self, rule: Rule, place: Place)
+        ensures { IsSome self.new.least }
+    {
+        let fault = Standing { rule, place };
+        self.least = match self.least {
+            Some(least) if !fault.is_before(least) => Some(least),
+            _ => Some(fault),
+        };
+    }
+
+    /// Records the least of the other faults.
+    pub fn include(&mut self, other: Faults) {
+        if let Some(fault) = other.least {
+            self.stands(fault.rule, fault.place);
+        }
+    }
+}
