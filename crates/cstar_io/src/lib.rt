@@ -13,6 +13,8 @@ mod real_source;
 mod shelf;
 mod sink;
 mod source;
+#[cfg(test)]
+mod tests;
 mod traits;
 
 pub use call::Call;
