@@ -10,6 +10,8 @@ mod pieces;
 mod real_shelf;
 mod real_sink;
 mod real_source;
+#[cfg(test)]
+mod real_tests;
 mod shelf;
 mod sink;
 mod source;

@@ -6,10 +6,7 @@ ghost use Rattle.cstar_io.specs.declared.call.Call.{Call};
 use super::*;
 use cstar_base::Word;
 use std::alloc::{AllocError, Global};
-use std::fs::File;
-use std::io::{Error, ErrorKind, Read, Write};
 use std::test::Fail;
-use std::{fs, io};
 
 /// Copies the beginning of a file and a newline. 0 where all was put, 5 where the file cannot be
 /// read, 6 where a put failed, 8 for want of memory.
