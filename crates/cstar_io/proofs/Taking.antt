@@ -1,8 +1,9 @@
 -- How what a sink takes in a row of calls adds up.
-use Rattle.std.proofs.Common.{◌≡◌, ℕ, ◌+◌, ◌-◌, ◌≤◌, List, [], ◌++◌, length, take, min, sym, ◌∙◌, ap, subst, refl, append_assoc, arith, Result, Ok, Err, OnErr}
+use Rattle.std.proofs.Common.{◌≡◌, ℕ, ◌+◌, ◌-◌, ◌≤◌, List, [], ◌++◌, length, take, min, sym, ◌∙◌, ap, subst, refl, append_assoc, arith, Result, Ok, Err, OnErr, Option, Some, None, option_map}
 use Rattle.std.specs.Prelude.{⊤}
 use Rattle.std.proofs.Math.Seq.{take-append_seam, take-append-add}
 use Rattle.std.proofs.lemmas.List.{append-nil, take_min, take-append-le}
+use Rattle.cstar_io.specs.Input.{Took}
 use Rattle.cstar_io.specs.Output.{Takes, TakesPrefix, TakesNothing}
 
 -- these bytes, and then those
@@ -43,3 +44,14 @@ prefix_of_first agrees s t xs ys (count, first) = (
 pub prefix_of_any : {S A E : Type 0} → (r : Result A E) (s t : S) (xs : List ℕ) → OnErr r (TakesPrefix (λ _ _. ⊤) s t xs)
 prefix_of_any (Ok x) s t xs = tt
 prefix_of_any (Err e) s t xs = (0, λ before is. tt)
+
+-- what a source gave: these bytes, and then those
+pub took_then : (a b c : Option (List ℕ)) (xs ys : List ℕ) → Took a xs b → Took b ys c → Took a (xs ++ ys) c
+took_then a b None xs ys first second = first ∙ ap (option_map (λ rest. xs ++ rest)) second
+took_then a b (Some rest) xs ys first second =
+    first ∙ ap (option_map (λ more. xs ++ more)) second ∙ ap Some (sym (append_assoc xs ys rest))
+
+-- or none
+pub took_none : (a : Option (List ℕ)) → Took a [] a
+took_none None = refl
+took_none (Some rest) = refl

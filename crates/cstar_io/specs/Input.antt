@@ -1,5 +1,6 @@
 -- What a source gives of the bytes that it has left, where it tells them.
-use Rattle.std.specs.Prelude.{◌≡◌, ℕ, List, [], ◌∷◌, ◌++◌, Option, Some, None, IfSome, option_map, Result, Ok, Err}
+use Rattle.std.specs.Prelude.{◌≡◌, ℕ, List, [], ◌∷◌, ◌++◌, Option, Some, None, IfSome, option_map, Result, Ok, Err, drop, take}
+use Rattle.std.specs.Io.KnownBytes.{prepend_known}
 
 -- these bytes were taken from the front of what was left, and nothing else
 abbrev pub Took : Option (List ℕ) → List ℕ → Option (List ℕ) → Type 0
@@ -10,3 +11,7 @@ abbrev pub Gives : {E : Type 0} → Result (Option ℕ) E → Option (List ℕ) 
 Gives (Ok (Some byte)) old new = Took old (byte ∷ []) new
 Gives (Ok None) old new = (new ≡ old) × IfSome old (λ rest. rest ≡ [])
 Gives (Err e) old new = new ≡ old
+
+-- the bytes of a piece that was read ahead, from `at` to `end`, and then those that the reader has left
+abbrev pub ahead : List ℕ → ℕ → ℕ → Option (List ℕ) → Option (List ℕ)
+ahead piece at end rest = prepend_known (drop at (take end piece)) rest

@@ -1,7 +1,7 @@
 use cstar_base::Word;
 
 /// A call on a shelf, with the name that it was given.
-#[derive(Drop, Debug, PartialEq)]
+#[derive(Drop)]
 pub enum Call {
     Fetch(Word),
     Keep(Word),

@@ -5,12 +5,12 @@ use std::alloc::{AllocError, AllocFailed};
 use thiserror::Error;
 
 /// A call on the outside failed.
-#[derive(Clone, Copy, Debug, PartialEq, Eq, Error)]
+#[derive(Clone, Copy, Debug, PartialEq, Error)]
 #[error("a call on the outside failed")]
 pub struct Failed;
 
 /// Why a call on a shelf gave nothing: it failed, or there was no memory for its answer.
-#[derive(Clone, Copy, Debug, PartialEq, Eq, Error)]
+#[derive(Clone, Copy, Debug, PartialEq, Error)]
 pub enum ShelfErr {
     #[error("a call on the shelf failed")]
     Failed,

@@ -1,4 +1,5 @@
-ghost use Rattle.std.specs.Prelude.{◌≡◌, ◌≢◌, ℕ, ◌+◌, ◌≤◌, List, Bool, true, false, Option, Some, None, IsTrue, IfOk, OnOk, vec_len, if◌then◌else◌};
+ghost use Rattle.std.specs.Prelude.{◌≡◌, ◌≢◌, ℕ, ◌+◌, ◌≤◌, ◌<◌, length, List, Bool, true, false, Option, Some, None, IfSome, IsTrue, IfOk, OnOk, take, vec_len, if◌then◌else◌};
+ghost use Rattle.std.specs.Io.KnownBytes.{Consumes, IsAtEnd};
 ghost use Rattle.cstar_io.specs.Faults.{RisesBy};
 ghost use Rattle.cstar_io.specs.Files.{has_failed};
 ghost use Rattle.cstar_io.specs.declared.call.Call.{Call};
@@ -46,25 +47,49 @@ impl<'a, R: Files> RealShelf<'a, R> {
     }
 }
 
-/// The first bytes that this reader gives, as many as this or all if there are fewer.
-fn read_most<R: Read>(alloc: Global, reader: &mut R, most: usize) -> Result<Vec<u8>, ShelfErr>
-    ensures { IfOk result (λ bytes. vec_len bytes ≤ most) }
+/// Reads once, and adds what was read, up to this many bytes in all. How many it was.
+fn read_more<R: Read>(
+    reader: &mut R,
+    piece: &mut [u8],
+    bytes: &mut Vec<u8>,
+    most: usize,
+) -> Result<usize, ShelfErr>
+    requires more { vec_len bytes.old < most }
+    requires piece { 0 < length piece.old }
+    ensures within { vec_len bytes.new ≤ most }
+    ensures count { IfOk result (λ count. vec_len bytes.new ≡ vec_len bytes.old + count) }
+    ensures end { IfOk result (λ count. count ≡ 0 → IsAtEnd (R.remaining reader.new)) }
+    ensures consumed { (all : Option (List ℕ)) → Consumes all (R.remaining reader.old) bytes.old.items →
+        OnOk result (Consumes all (R.remaining reader.new) bytes.new.items) }
 {
-    let mut piece = match vec![in alloc; 0; PIECE] {
-        Ok(piece) => piece,
-        Err(_) => return Err(ShelfErr::Memory),
-    };
+    let want = piece.len().min(most - bytes.len());
+    match reader.read(&mut piece[..want]) {
+        Ok(count) => match bytes.extend_from_slice(&piece[..count]) {
+            Ok(()) => Ok(count),
+            Err(_) => Err(ShelfErr::Memory),
+        },
+        Err(_) => Err(ShelfErr::Failed),
+    }
+}
+
+/// The first bytes that this reader gives, as many as this or all if there are fewer.
+fn read_most<R: Read>(
+    alloc: Global,
+    reader: &mut R,
+    piece: &mut [u8],
+    most: usize,
+) -> Result<Vec<u8>, ShelfErr>
+    requires { 0 < length piece.old }
+    ensures within { IfOk result (λ bytes. vec_len bytes ≤ most) }
+    ensures bytes { IfOk result (λ bytes.
+        IfSome (R.remaining reader.old) (λ all. bytes.items ≡ take most all)) }
+{
     let mut bytes = Vec::new(alloc);
     'more: while bytes.len() < most {
-        let want = piece.len().min(most - bytes.len());
-        match reader.read(&mut piece[..want]) {
-            Ok(0) => break,
-            Ok(count) => {
-                if bytes.extend_from_slice(&piece[..count]).is_err() {
-                    return Err(ShelfErr::Memory);
-                }
-            }
-            Err(_) => return Err(ShelfErr::Failed),
+        match read_more(reader, piece, &mut bytes, most) {
+            Ok(0) => return Ok(bytes),
+            Ok(_) => {}
+            Err(error) => return Err(error),
         }
     }
     Ok(bytes)
@@ -75,8 +100,11 @@ fn read_most<R: Read>(alloc: Global, reader: &mut R, most: usize) -> Result<Vec<
 fn read_file<R: Files>(rt: &R, alloc: Global, name: &str, most: usize) -> Result<Vec<u8>, ShelfErr>
     ensures { IfOk result (λ bytes. vec_len bytes ≤ most) }
 {
+    let Ok(mut piece) = vec![in alloc; 0; PIECE] else {
+        return Err(ShelfErr::Memory);
+    };
     match File::open(rt, name) {
-        Ok(mut file) => read_most(alloc, &mut file, most),
+        Ok(mut file) => read_most(alloc, &mut file, piece.as_mut_slice(), most),
         Err(_) => Err(ShelfErr::Failed),
     }
 }

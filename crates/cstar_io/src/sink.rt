@@ -10,7 +10,7 @@ use cstar_base::Memory;
 use std::alloc::Global;
 
 /// A sink into memory that never fails. It keeps the number of its bytes and their sum alone.
-#[derive(Clone, Copy, Debug)]
+#[derive(Clone, Copy)]
 pub struct SureSink {
     count: u64,
     sum: u32,
