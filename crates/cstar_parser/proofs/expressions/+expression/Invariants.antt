@@ -1,0 +1,55 @@
+use Rattle.std.proofs.Common.{◌≤◌, ◌<◌, ◌+◌, ◌-◌, ◌*◌, length}
+use Rattle.cstar_parser.proofs.expressions.+expression.Given as goal
+
+-- Each function takes 32 times the tokens that are left, and at one token the callers of a
+-- function more than the function.
+abbrev pub decreases-read_assignment : goal.decreases-read_assignment
+decreases-read_assignment l = (length l.tokens.now - l.spot.now.at) * 32 + 30
+
+abbrev pub decreases-read_choice : goal.decreases-read_choice
+decreases-read_choice l = (length l.tokens.now - l.spot.now.at) * 32 + 29
+
+abbrev pub decreases-read_binary : goal.decreases-read_binary
+decreases-read_binary l = (length l.tokens.now - l.spot.now.at) * 32 + 20
+
+abbrev pub decreases-read_unary : goal.decreases-read_unary
+decreases-read_unary l = (length l.tokens.now - l.spot.now.at) * 32 + 10
+
+abbrev pub decreases-read_primary : goal.decreases-read_primary
+decreases-read_primary l = (length l.tokens.now - l.spot.now.at) * 32 + 8
+
+abbrev pub decreases-read_named : goal.decreases-read_named
+decreases-read_named l = (length l.tokens.now - l.spot.now.at) * 32 + 4
+
+abbrev pub decreases-read_more : goal.decreases-read_more
+decreases-read_more l = (length l.tokens.now - l.spot.now.at) * 32 + 4
+
+abbrev pub decreases-read_left_index : goal.decreases-read_left_index
+decreases-read_left_index l = (length l.tokens.now - l.spot.now.at) * 32 + 4
+
+abbrev pub decreases-read_axis_intrinsic : goal.decreases-read_axis_intrinsic
+decreases-read_axis_intrinsic l = (length l.tokens.now - l.spot.now.at) * 32 + 4
+
+abbrev pub decreases-read_scan_intrinsic : goal.decreases-read_scan_intrinsic
+decreases-read_scan_intrinsic l = (length l.tokens.now - l.spot.now.at) * 32 + 4
+
+abbrev pub decreases-read_printf : goal.decreases-read_printf
+decreases-read_printf l = (length l.tokens.now - l.spot.now.at) * 32 + 4
+
+abbrev pub invariant-operators : goal.invariant-operators
+invariant-operators l = (l.fn.spot.at < l.spot.at) × (l.spot.at ≤ length l.tokens)
+
+abbrev pub decreases-operators : goal.decreases-operators
+decreases-operators l = length l.tokens - l.spot.at
+
+abbrev pub invariant-commas : goal.invariant-commas
+invariant-commas l = (l.fn.spot.at ≤ l.spot.at) × (l.spot.at ≤ length l.tokens)
+
+abbrev pub decreases-commas : goal.decreases-commas
+decreases-commas l = length l.tokens - l.spot.at
+
+abbrev pub invariant-indexes : goal.invariant-indexes
+invariant-indexes l = (l.fn.spot.at < l.spot.at) × (l.spot.at ≤ length l.tokens)
+
+abbrev pub decreases-indexes : goal.decreases-indexes
+decreases-indexes l = length l.tokens - l.spot.at
