@@ -1,5 +1,5 @@
 -- How what a sink takes in a row of calls adds up.
-use Rattle.std.proofs.Common.{◌≡◌, ℕ, ◌+◌, ◌-◌, ◌≤◌, List, [], ◌++◌, length, take, min, sym, ◌∙◌, ap, subst, refl, append_assoc, arith, Result, Ok, Err, OnErr, Option, Some, None, option_map}
+use Rattle.std.proofs.Common.{ℕ, ◌+◌, List, [], ◌++◌, length, take, min, sym, ◌∙◌, ap, subst, refl, append_assoc, arith, Result, Ok, Err, OnErr, Option, Some, None, option_map}
 use Rattle.std.specs.Prelude.{⊤}
 use Rattle.std.proofs.Math.Seq.{take-append_seam, take-append-add}
 use Rattle.std.proofs.lemmas.List.{append-nil, take_min, take-append-le}

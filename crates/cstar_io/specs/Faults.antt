@@ -1,5 +1,5 @@
 -- What a call on the outside does to the count of faults, a number of 64 bits that stops at its last value.
-use Rattle.std.specs.Prelude.{◌≡◌, ℕ, ◌+◌, ◌^◌, ◌<◌, ◌≤◌, Bool, true, false}
+use Rattle.std.specs.Prelude.{ℕ, ◌+◌, ◌^◌, ◌<◌, ◌≤◌}
 
 -- the count stood below its last value, so that a fault shows
 abbrev pub CanRise : ℕ → Type 0

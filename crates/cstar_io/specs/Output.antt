@@ -1,5 +1,5 @@
 -- What a sink takes, told by the lists of bytes that it agrees with before and after.
-use Rattle.std.specs.Prelude.{◌≡◌, ℕ, List, ◌++◌, take, Result, Ok, Err}
+use Rattle.std.specs.Prelude.{ℕ, List, ◌++◌, take}
 
 -- the sink took these bytes: where it agreed with a list, it agrees with that list followed by them
 abbrev pub Takes : {S : Type 0} → (S → List ℕ → Type 0) → S → S → List ℕ → Type 0

@@ -1,7 +1,6 @@
-use Rattle.std.proofs.Common.{rules, ◌≡◌, sym, ◌∙◌, refl, Some, None, nat_eq, ◌++◌, ◌∷◌, [], List, ℕ, ◌≢◌}
+use Rattle.std.proofs.Common.{rules, ◌≡◌, refl, Some, None, nat_eq, ◌++◌, ◌∷◌, []}
 use Rattle.std.specs.List.{position}
 use Rattle.std.specs.Cmp.Lexicographic.{pointwise}
-use Rattle.cstar_io.specs.Memory.{under}
 use Rattle.cstar_io.proofs.Entries.{changed_there, changed_elsewhere, added_there, added_elsewhere, name_there}
 use Rattle.cstar_io.proofs.shelf.store.Goals as goal
 
