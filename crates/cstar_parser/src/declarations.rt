@@ -7,7 +7,7 @@ use crate::expressions::read_whole;
 use crate::fault::ParseFault;
 use crate::spot::{Spot, expect, is_mark, read_name};
 use crate::types::read_type;
-use cstar_tree::syntax::{Declaration, Declarator, Name, TypeName};
+use cstar_tree::syntax::{Declaration, Declarator, Initializer, Name, TypeName};
 use cstar_tree::token::{Mark, Token};
 use std::alloc::Global;
 
@@ -85,8 +85,13 @@ fn read_declarator(
         None
     };
     let initial = if is_mark(tokens, spot.at, Mark::Equal) {
+        let place = match tokens.get(spot.at) {
+            Some(token) => token.place,
+            None => name.place,
+        };
         spot.at += 1;
-        Some(read_whole(alloc, tokens, spot, levels)?)
+        let value = read_whole(alloc, tokens, spot, levels)?;
+        Some(Initializer { place, value })
     } else {
         None
     };

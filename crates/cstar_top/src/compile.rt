@@ -89,7 +89,6 @@ fn typed_of(alloc: Global, tree: &Tree) -> Result<Typed, NoImage> {
     match check(alloc, tree) {
         Ok(typed) => Ok(typed),
         Err(TypeFault::Fault { number, place }) => Err(refused(number, place)),
-        Err(TypeFault::NotBuilt) => Err(refused(NOT_BUILT, FILE_START)),
         Err(TypeFault::Memory) => Err(NoImage::Memory),
     }
 }
