@@ -1,7 +1,7 @@
 //! The calls on a unit as `lower` has it when it comes to a communication.
 
 use crate::emit::Out;
-use crate::messages::{check_grid, comm_in, goes_by_news, locate_in};
+use crate::messages::{address_of, check_grid, comm_in, goes_by_news, locate_in};
 use crate::names::{Names, named};
 use cstar_base::Memory;
 use cstar_tree::typed::{TExpr, Typed};
@@ -26,7 +26,8 @@ pub fn locate(
     if indexes.is_empty() {
         check_grid(alloc, t, e, u)
     } else {
-        locate_in(alloc, e, indexes, u)
+        let at = address_of(e, u)?;
+        locate_in(alloc, e, indexes, at, u)
     }
 }
 

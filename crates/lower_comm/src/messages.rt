@@ -37,11 +37,23 @@ pub fn goes_by_news(t: &Typed, e: &TExpr) -> bool {
     true
 }
 
-/// The range check of a left index, and its address in a field or a register. A get that goes by
-/// NEWS has no address.
-pub fn locate_in(alloc: Global, e: &TExpr, indexes: &[Out], u: &mut Unit) -> Result<Out, Memory> {
+/// Where the address of a left index goes: a fresh field or a fresh register.
+pub fn address_of(e: &TExpr, u: &mut Unit) -> Result<Out, Memory> {
+    match e.ty().shape {
+        Some(set) => Ok(Out::Field(field(u, set)?)),
+        None => Ok(Out::Scalar(register(u)?)),
+    }
+}
+
+/// The range check of a left index, and the making of its address at `at`.
+pub fn locate_in(
+    alloc: Global,
+    e: &TExpr,
+    indexes: &[Out],
+    at: Out,
+    u: &mut Unit,
+) -> Result<Out, Memory> {
     let TExpr::LeftIndex {
-        ty,
         place,
         indexes: parts,
         of,
@@ -50,10 +62,9 @@ pub fn locate_in(alloc: Global, e: &TExpr, indexes: &[Out], u: &mut Unit) -> Res
     else {
         return Err(Memory);
     };
-    match ty.shape {
-        None => {
+    match at {
+        Out::Scalar(dest) => {
             let (checked, plain) = registers(alloc, parts.as_slice(), indexes)?;
-            let dest = register(u)?;
             put(
                 u,
                 Instr::FrontCheckTarget {
@@ -70,11 +81,9 @@ pub fn locate_in(alloc: Global, e: &TExpr, indexes: &[Out], u: &mut Unit) -> Res
                     coordinates: plain,
                 },
             )?;
-            Ok(Out::Scalar(dest))
         }
-        Some(set) => {
+        Out::Field(dest) => {
             let (checked, plain) = coordinates(alloc, parts.as_slice(), indexes)?;
-            let dest = field(u, set)?;
             put(
                 u,
                 Instr::CheckTarget {
@@ -91,9 +100,10 @@ pub fn locate_in(alloc: Global, e: &TExpr, indexes: &[Out], u: &mut Unit) -> Res
                     coordinates: plain,
                 },
             )?;
-            Ok(Out::Field(dest))
         }
+        Out::Nothing => return Err(Memory),
     }
+    Ok(at)
 }
 
 /// The range check of a get that goes by NEWS: its steps along the axes that do not wrap.
