@@ -3,8 +3,8 @@
 use crate::value::{spread, value};
 use cstar_base::Memory;
 use cstar_tree::typed::{TExpr, Typed};
-use lower_comm::names::{named, Names};
 use lower_comm::Out;
+use lower_comm::names::{Names, named};
 use paris_code::Unit;
 use std::alloc::Global;
 

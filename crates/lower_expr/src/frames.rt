@@ -4,9 +4,9 @@
 use crate::steps::set;
 use cstar_base::Memory;
 use cstar_tree::typed::{Instance, Typed};
+use lower_comm::Out;
 use lower_comm::emit::{entry, plus, put};
 use lower_comm::names::Names;
-use lower_comm::Out;
 use paris_code::{Field, Instr, Owner, Unit};
 
 /// Calls an instance with these arguments, and answers where its result is.
@@ -18,8 +18,10 @@ pub fn enter(
     dest: Out,
     u: &mut Unit,
 ) -> Result<Out, Memory> {
-    let (Some(callee), Some(base)) = (t.instances.get(number as usize), names.bases.get(number as usize))
-    else {
+    let (Some(callee), Some(base)) = (
+        t.instances.get(number as usize),
+        names.bases.get(number as usize),
+    ) else {
         return Err(Memory);
     };
     let mut register = *base;
@@ -28,7 +30,10 @@ pub fn enter(
         match param.shape {
             None => set(Out::Scalar(register), *argument, u)?,
             Some(shape) => {
-                let owner = Owner::Of { unit: number, index };
+                let owner = Owner::Of {
+                    unit: number,
+                    index,
+                };
                 let place = entry(u, shape, param.elem.bits, owner)?;
                 put(u, Instr::MoveZeroAlways { dest: place })?;
                 set(Out::Field(place), *argument, u)?;
@@ -56,18 +61,40 @@ fn finish(
         }
         Some(info) => match info.shape {
             None => {
-                put(u, Instr::FrontConst { dest: register, value: 0 })?;
+                put(
+                    u,
+                    Instr::FrontConst {
+                        dest: register,
+                        value: 0,
+                    },
+                )?;
                 spend_and_call(number, u)?;
-                put(u, Instr::FrontMove { dest: dest.register()?, source: register })?;
+                put(
+                    u,
+                    Instr::FrontMove {
+                        dest: dest.register()?,
+                        source: register,
+                    },
+                )?;
                 Ok(dest)
             }
             Some(shape) => {
-                let owner = Owner::Of { unit: number, index };
+                let owner = Owner::Of {
+                    unit: number,
+                    index,
+                };
                 let source: Field = entry(u, shape, info.elem.bits, owner)?;
                 put(u, Instr::MoveZeroAlways { dest: source })?;
                 spend_and_call(number, u)?;
                 let signed = info.elem.signed;
-                put(u, Instr::Move { signed, dest: dest.field()?, source })?;
+                put(
+                    u,
+                    Instr::Move {
+                        signed,
+                        dest: dest.field()?,
+                        source,
+                    },
+                )?;
                 Ok(dest)
             }
         },

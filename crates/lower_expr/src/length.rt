@@ -9,7 +9,7 @@ use cstar_tree::syntax::{AssignOp, ReduceOp};
 use cstar_tree::typed::{TExpr, Typed, UnaryOp};
 use lower_comm::emit::plus;
 use lower_comm::messages::goes_by_news;
-use lower_comm::names::{count, Names};
+use lower_comm::names::{Names, count};
 use lower_comm::news::step_of;
 use lower_comm::operators::{assign_op, divides};
 
@@ -34,7 +34,10 @@ pub fn length(t: &Typed, names: &Names, e: &TExpr) -> Result<u32, Memory> {
             plus(length(t, names, operand)?, count(elems.len())?)
         }
         TExpr::ParallelCast { ty, operand } => {
-            plus(spread_length(t, names, operand)?, conversion(false, ty.elem))
+            plus(
+                spread_length(t, names, operand)?,
+                conversion(false, ty.elem),
+            )
         }
         TExpr::LeftIndex { indexes, of, .. } if goes_by_news(t, e) => {
             Ok(news_length(t, *of, indexes.as_slice()))
@@ -43,7 +46,10 @@ pub fn length(t: &Typed, names: &Names, e: &TExpr) -> Result<u32, Memory> {
             plus(spot_length(t, names, e)?, load_length(t, names, e)?)
         }
         TExpr::Unary { op, operand, .. } => {
-            plus(length(t, names, operand)?, unary_length(*op, stays_scalar(operand)))
+            plus(
+                length(t, names, operand)?,
+                unary_length(*op, stays_scalar(operand)),
+            )
         }
         TExpr::Binary {
             ty,
@@ -81,14 +87,20 @@ pub fn length(t: &Typed, names: &Names, e: &TExpr) -> Result<u32, Memory> {
             plus(plus(c, plus(a, b)?)?, own)
         }
         TExpr::Assign {
-            op, target, value, ..
+            op,
+            target,
+            value,
+            ..
         } => assign_length(t, names, *op, target, value),
         TExpr::Step { target, .. } => {
             let scalar = target.ty().shape.is_none();
             let located = spot_length(t, names, target)?;
             let loaded = load_length(t, names, target)?;
             let stored = store_length(t, names, target)?;
-            let own = plus(if scalar { 2 } else { 1 }, conversion(scalar, target.ty().elem))?;
+            let own = plus(
+                if scalar { 2 } else { 1 },
+                conversion(scalar, target.ty().elem),
+            )?;
             plus(plus(located, own)?, plus(loaded, stored)?)
         }
         TExpr::Reduce { op, operand, .. } => {
@@ -110,7 +122,9 @@ pub fn length(t: &Typed, names: &Names, e: &TExpr) -> Result<u32, Memory> {
             Ok(sum)
         }
         TExpr::Printf {
-            pieces, arguments, ..
+            pieces,
+            arguments,
+            ..
         } => {
             let mut sum = count(pieces.len())?;
             for argument in arguments {
@@ -195,7 +209,11 @@ fn news_length(t: &Typed, of: u16, indexes: &[TExpr]) -> u32 {
         }
         axis = axis.saturating_add(1);
     }
-    if is_checked { moves.saturating_add(1) } else { moves }
+    if is_checked {
+        moves.saturating_add(1)
+    } else {
+        moves
+    }
 }
 
 /// What locates a target or a reference.
@@ -240,23 +258,34 @@ fn times_four(n: u32) -> Result<u32, Memory> {
 
 /// An assignment.
 #[cycle(length)]
-fn assign_length(
-    t: &Typed,
-    names: &Names,
-    op: AssignOp,
-    target: &TExpr,
-    value: &TExpr,
-) -> Result<u32, Memory> {
+fn assign_length(t: &Typed, names: &Names, e: &TExpr) -> Result<u32, Memory> {
+    let TExpr::Assign {
+        op,
+        target,
+        value,
+        ..
+    } = e
+    else {
+        return Err(Memory);
+    };
     let located = spot_length(t, names, target)?;
     let scalar = target.ty().shape.is_none();
     if is_send(target) {
         let v = spread_length(t, names, value)?;
-        let own = if op == AssignOp::Set || op == AssignOp::Sub { 2 } else { 1 };
+        let own = if *op == AssignOp::Set || *op == AssignOp::Sub {
+            2
+        } else {
+            1
+        };
         return plus(plus(located, v)?, own);
     }
     let stored = plus(located, store_length(t, names, target)?)?;
-    let Some(op) = assign_op(op) else {
-        let v = if scalar { length(t, names, value)? } else { spread_length(t, names, value)? };
+    let Some(op) = assign_op(*op) else {
+        let v = if scalar {
+            length(t, names, value)?
+        } else {
+            spread_length(t, names, value)?
+        };
         return plus(stored, v);
     };
     let loaded = load_length(t, names, target)?;
@@ -265,8 +294,15 @@ fn assign_length(
         let v = length(t, names, value)?;
         return plus(plus(both, v)?, 3);
     }
-    let v = if scalar { length(t, names, value)? } else { spread_length(t, names, value)? };
-    let own = plus(operate_length(op, scalar), conversion(scalar, target.ty().elem))?;
+    let v = if scalar {
+        length(t, names, value)?
+    } else {
+        spread_length(t, names, value)?
+    };
+    let own = plus(
+        operate_length(op, scalar),
+        conversion(scalar, target.ty().elem),
+    )?;
     plus(plus(both, v)?, own)
 }
 

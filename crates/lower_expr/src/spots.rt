@@ -3,10 +3,10 @@
 use crate::steps::set;
 use cstar_base::{Memory, Place};
 use cstar_tree::typed::{TExpr, Typed, Variable};
+use lower_comm::Out;
 use lower_comm::emit::{here, plus, put, register};
 use lower_comm::messages::comm_in;
 use lower_comm::names::Names;
-use lower_comm::Out;
 use paris_code::{Field, Instr, RegisterCoordinate, Unit};
 use std::alloc::Global;
 
@@ -41,7 +41,13 @@ pub fn load(
     u: &mut Unit,
 ) -> Result<(), Memory> {
     match spot {
-        Spot::Register(source) => put(u, Instr::FrontMove { dest: dest.register()?, source }),
+        Spot::Register(source) => put(
+            u,
+            Instr::FrontMove {
+                dest: dest.register()?,
+                source,
+            },
+        ),
         Spot::Whole(variable) => load_field(t, names, target, variable, 0, dest.field()?, u),
         Spot::Element(array, index) => {
             for element in 0..names.elements(t, array) {
@@ -98,14 +104,27 @@ fn load_field(
     u: &mut Unit,
 ) -> Result<(), Memory> {
     let source = names.field(t, variable, element, u)?;
-    put(u, Instr::Move { signed: e.ty().elem.signed, dest, source })
+    put(
+        u,
+        Instr::Move {
+            signed: e.ty().elem.signed,
+            dest,
+            source,
+        },
+    )
 }
 
 /// Jumps over the next instruction unless the index is this number.
 fn skip_unless(index: u32, number: u32, u: &mut Unit) -> Result<(), Memory> {
     let test = register(u)?;
     let target = plus(here(u)?, 4)?;
-    put(u, Instr::FrontConst { dest: test, value: number })?;
+    put(
+        u,
+        Instr::FrontConst {
+            dest: test,
+            value: number,
+        },
+    )?;
     put(
         u,
         Instr::FrontCompare {
@@ -131,7 +150,13 @@ pub fn check_index(
 ) -> Result<(), Memory> {
     let test = register(u)?;
     let target = plus(here(u)?, 5)?;
-    put(u, Instr::FrontConst { dest: test, value: names.elements(t, array) })?;
+    put(
+        u,
+        Instr::FrontConst {
+            dest: test,
+            value: names.elements(t, array),
+        },
+    )?;
     put(
         u,
         Instr::FrontCompare {
@@ -142,9 +167,22 @@ pub fn check_index(
         },
     )?;
     put(u, Instr::FrontJumpNonzero { test, target })?;
-    put(u, Instr::FrontConst { dest: test, value: u32::MAX })?;
+    put(
+        u,
+        Instr::FrontConst {
+            dest: test,
+            value: u32::MAX,
+        },
+    )?;
     let coordinates = outside(alloc, t, set, test)?;
-    put(u, Instr::FrontCheckTarget { set, place, coordinates })
+    put(
+        u,
+        Instr::FrontCheckTarget {
+            set,
+            place,
+            coordinates,
+        },
+    )
 }
 
 /// One coordinate for each axis of the shape, all in this register.
@@ -159,7 +197,10 @@ fn outside(
         return Err(Memory);
     };
     for _ in &info.extents {
-        coordinates.push(RegisterCoordinate { register, signed: true })?;
+        coordinates.push(RegisterCoordinate {
+            register,
+            signed: true,
+        })?;
     }
     Ok(coordinates)
 }

@@ -2,9 +2,9 @@
 
 use cstar_base::{Elem, Memory, Op, Place};
 use cstar_tree::typed::{Format, Piece, TExpr, UnaryOp};
-use lower_comm::emit::{flag, put};
-use lower_comm::operators::{divides, machine_op, promoted_signed, Machine};
 use lower_comm::Out;
+use lower_comm::emit::{flag, put};
+use lower_comm::operators::{Machine, divides, machine_op, promoted_signed};
 use paris_code::{Field, Instr, Konst, NumberFormat, Operation, Unit};
 use std::alloc::Global;
 
@@ -31,7 +31,14 @@ pub fn convert(v: Out, elem: Elem, u: &mut Unit) -> Result<Out, Memory> {
     match v {
         Out::Scalar(r) => {
             if elem.bits < 32 {
-                put(u, Instr::FrontConvert { dest: r, source: r, kind: elem })?;
+                put(
+                    u,
+                    Instr::FrontConvert {
+                        dest: r,
+                        source: r,
+                        kind: elem,
+                    },
+                )?;
             }
         }
         Out::Field(f) => convert_field(f, elem, u)?,
@@ -48,9 +55,29 @@ pub fn convert_field(f: Field, elem: Elem, u: &mut Unit) -> Result<(), Memory> {
         test_value(f, u)
     } else if elem.bits < 32 {
         let by = Konst::Imm(32 - u32::from(elem.bits));
-        let back = if elem.signed { Operation::SShiftRight } else { Operation::UShiftRight };
-        put(u, Instr::OperateConstant { op: Operation::UShiftLeft, dest: f, left: f, right: by })?;
-        put(u, Instr::OperateConstant { op: back, dest: f, left: f, right: by })
+        let back = if elem.signed {
+            Operation::SShiftRight
+        } else {
+            Operation::UShiftRight
+        };
+        put(
+            u,
+            Instr::OperateConstant {
+                op: Operation::UShiftLeft,
+                dest: f,
+                left: f,
+                right: by,
+            },
+        )?;
+        put(
+            u,
+            Instr::OperateConstant {
+                op: back,
+                dest: f,
+                left: f,
+                right: by,
+            },
+        )
     } else {
         Ok(())
     }
@@ -60,14 +87,34 @@ pub fn convert_field(f: Field, elem: Elem, u: &mut Unit) -> Result<(), Memory> {
 pub fn test_value(dest: Field, u: &mut Unit) -> Result<(), Memory> {
     let source = flag(u, dest.set)?;
     put(u, Instr::StoreTest { dest: source })?;
-    put(u, Instr::Move { signed: false, dest, source })
+    put(
+        u,
+        Instr::Move {
+            signed: false,
+            dest,
+            source,
+        },
+    )
 }
 
 /// A value becomes that of a field: copied, or spread from a register.
 pub fn set_field(dest: Field, v: Out, u: &mut Unit) -> Result<(), Memory> {
     match v {
-        Out::Scalar(r) => put(u, Instr::MoveConstant { dest, value: Konst::Reg(r) }),
-        Out::Field(source) => put(u, Instr::Move { signed: true, dest, source }),
+        Out::Scalar(r) => put(
+            u,
+            Instr::MoveConstant {
+                dest,
+                value: Konst::Reg(r),
+            },
+        ),
+        Out::Field(source) => put(
+            u,
+            Instr::Move {
+                signed: true,
+                dest,
+                source,
+            },
+        ),
         Out::Nothing => Err(Memory),
     }
 }
@@ -77,7 +124,13 @@ pub fn set(dest: Out, v: Out, u: &mut Unit) -> Result<(), Memory> {
     match dest {
         Out::Scalar(register) => {
             let source = v.register()?;
-            put(u, Instr::FrontMove { dest: register, source })
+            put(
+                u,
+                Instr::FrontMove {
+                    dest: register,
+                    source,
+                },
+            )
         }
         Out::Field(field) => set_field(field, v, u),
         Out::Nothing => Err(Memory),
@@ -95,11 +148,33 @@ pub fn operate(
     u: &mut Unit,
 ) -> Result<(), Memory> {
     if divides(op) {
-        put(u, Instr::FrontCheckDivisor { place, source: right })?;
+        put(
+            u,
+            Instr::FrontCheckDivisor {
+                place,
+                source: right,
+            },
+        )?;
     }
     match machine_op(op, signed) {
-        Machine::Operate(op) => put(u, Instr::FrontOperate { op, dest, left, right }),
-        Machine::Compare(relation) => put(u, Instr::FrontCompare { relation, dest, left, right }),
+        Machine::Operate(op) => put(
+            u,
+            Instr::FrontOperate {
+                op,
+                dest,
+                left,
+                right,
+            },
+        ),
+        Machine::Compare(relation) => put(
+            u,
+            Instr::FrontCompare {
+                relation,
+                dest,
+                left,
+                right,
+            },
+        ),
     }
 }
 
@@ -114,12 +189,33 @@ pub fn operate_fields(
     u: &mut Unit,
 ) -> Result<(), Memory> {
     if divides(op) {
-        put(u, Instr::CheckDivisor { place, source: right })?;
+        put(
+            u,
+            Instr::CheckDivisor {
+                place,
+                source: right,
+            },
+        )?;
     }
     match machine_op(op, signed) {
-        Machine::Operate(op) => put(u, Instr::Operate { op, dest, left, right }),
+        Machine::Operate(op) => put(
+            u,
+            Instr::Operate {
+                op,
+                dest,
+                left,
+                right,
+            },
+        ),
         Machine::Compare(relation) => {
-            put(u, Instr::Compare { relation, left, right })?;
+            put(
+                u,
+                Instr::Compare {
+                    relation,
+                    left,
+                    right,
+                },
+            )?;
             test_value(dest, u)
         }
     }
@@ -130,7 +226,13 @@ pub fn as_field(v: Out, spare: Field, u: &mut Unit) -> Result<Field, Memory> {
     match v {
         Out::Field(field) => Ok(field),
         Out::Scalar(r) => {
-            put(u, Instr::MoveConstant { dest: spare, value: Konst::Reg(r) })?;
+            put(
+                u,
+                Instr::MoveConstant {
+                    dest: spare,
+                    value: Konst::Reg(r),
+                },
+            )?;
             Ok(spare)
         }
         Out::Nothing => Err(Memory),
@@ -174,7 +276,14 @@ fn unary_register(op: UnaryOp, dest: u32, source: u32, u: &mut Unit) -> Result<(
 
 fn unary_field(op: UnaryOp, dest: Field, source: Field, u: &mut Unit) -> Result<(), Memory> {
     match op {
-        UnaryOp::Plus => put(u, Instr::Move { signed: true, dest, source }),
+        UnaryOp::Plus => put(
+            u,
+            Instr::Move {
+                signed: true,
+                dest,
+                source,
+            },
+        ),
         UnaryOp::Minus => put(u, Instr::Negate { dest, source }),
         UnaryOp::Complement => put(u, Instr::Lognot { dest, source }),
         UnaryOp::Not => {
@@ -185,7 +294,12 @@ fn unary_field(op: UnaryOp, dest: Field, source: Field, u: &mut Unit) -> Result<
 }
 
 /// Prints the pieces of a text; each conversion takes the next value.
-pub fn print_pieces(alloc: Global, pieces: &[Piece], values: &[Out], u: &mut Unit) -> Result<(), Memory> {
+pub fn print_pieces(
+    alloc: Global,
+    pieces: &[Piece],
+    values: &[Out],
+    u: &mut Unit,
+) -> Result<(), Memory> {
     let mut next = 0usize;
     for piece in pieces {
         match piece {
@@ -198,7 +312,13 @@ pub fn print_pieces(alloc: Global, pieces: &[Piece], values: &[Out], u: &mut Uni
                     return Err(Memory);
                 };
                 let source = value.register()?;
-                put(u, Instr::FrontPut { format: number_format(*format), source })?;
+                put(
+                    u,
+                    Instr::FrontPut {
+                        format: number_format(*format),
+                        source,
+                    },
+                )?;
                 next = next.saturating_add(1);
             }
         }

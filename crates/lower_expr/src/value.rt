@@ -3,7 +3,7 @@
 //! may change it.
 
 use crate::length::length;
-use crate::spots::{bare, check_index, load, store, Spot};
+use crate::spots::{Spot, bare, check_index, load, store};
 use crate::steps::{
     as_field, assign_signed, constant, convert, operate, operate_fields, print_pieces, set,
     set_field, stays_scalar, test_value, unary,
@@ -11,11 +11,11 @@ use crate::steps::{
 use cstar_base::{Memory, Op};
 use cstar_tree::syntax::StepOp;
 use cstar_tree::typed::{StepOrder, TExpr, Typed, UnaryOp, ValueType};
+use lower_comm::Out;
 use lower_comm::emit::{field, flag, here, plus, put, register};
 use lower_comm::messages::{address_of, check_grid, comm_in, goes_by_news, locate_in};
 use lower_comm::names::Names;
 use lower_comm::operators::{assign_op, promoted_signed};
-use lower_comm::Out;
 use paris_code::{Field, Instr, Konst, Unit};
 use std::alloc::Global;
 
@@ -68,7 +68,14 @@ pub fn value(
             let v = value(alloc, t, names, operand, u)?;
             let r = v.register()?;
             for kind in elems.iter().rev() {
-                put(u, Instr::FrontConvert { dest: r, source: r, kind: *kind })?;
+                put(
+                    u,
+                    Instr::FrontConvert {
+                        dest: r,
+                        source: r,
+                        kind: *kind,
+                    },
+                )?;
             }
             Ok(v)
         }
@@ -162,33 +169,18 @@ fn operator(
 
 /// An operator that chooses which of its operands are evaluated, and where.
 #[cycle(value)]
-fn chosen(
-    alloc: Global,
-    t: &Typed,
-    names: &Names,
-    e: &TExpr,
-    u: &mut Unit,
-) -> Result<Out, Memory> {
+fn chosen(alloc: Global, t: &Typed, names: &Names, e: &TExpr, u: &mut Unit) -> Result<Out, Memory> {
     match e {
-        TExpr::LogicalOr { ty, left, right } => match ty.shape {
-            None => scalar_logical(alloc, t, names, true, left, right, u),
-            Some(set) => parallel_logical(alloc, t, names, true, left, right, set, u),
+        TExpr::LogicalOr { ty, .. } | TExpr::LogicalAnd { ty, .. } => match ty.shape {
+            None => scalar_logical(alloc, t, names, e, u),
+            Some(set) => parallel_logical(alloc, t, names, e, set, u),
         },
-        TExpr::LogicalAnd { ty, left, right } => match ty.shape {
-            None => scalar_logical(alloc, t, names, false, left, right, u),
-            Some(set) => parallel_logical(alloc, t, names, false, left, right, set, u),
-        },
-        TExpr::Choice {
-            ty,
-            test,
-            then,
-            otherwise,
-        } => {
+        TExpr::Choice { ty, test, .. } => {
             let dest = fresh(*ty, u)?;
             if stays_scalar(test) {
-                scalar_choice(alloc, t, names, test, then, otherwise, dest, u)?;
+                scalar_choice(alloc, t, names, e, dest, u)?;
             } else {
-                parallel_choice(alloc, t, names, test, then, otherwise, dest, u)?;
+                parallel_choice(alloc, t, names, e, dest, u)?;
             }
             Ok(dest)
         }
@@ -221,19 +213,33 @@ fn scalar_logical(
     alloc: Global,
     t: &Typed,
     names: &Names,
-    is_or: bool,
-    left: &TExpr,
-    right: &TExpr,
+    e: &TExpr,
     u: &mut Unit,
 ) -> Result<Out, Memory> {
+    let (TExpr::LogicalOr { left, right, .. } | TExpr::LogicalAnd { left, right, .. }) = e else {
+        return Err(Memory);
+    };
+    let is_or = matches!(e, TExpr::LogicalOr { .. });
     let dest = register(u)?;
-    put(u, Instr::FrontConst { dest, value: u32::from(is_or) })?;
+    put(
+        u,
+        Instr::FrontConst {
+            dest,
+            value: u32::from(is_or),
+        },
+    )?;
     let a = value(alloc, t, names, left, u)?.register()?;
     let end = plus(plus(here(u)?, length(t, names, right)?)?, 3)?;
     jump_if_decided(is_or, a, end, u)?;
     let b = value(alloc, t, names, right, u)?.register()?;
     jump_if_decided(is_or, b, end, u)?;
-    put(u, Instr::FrontConst { dest, value: u32::from(!is_or) })?;
+    put(
+        u,
+        Instr::FrontConst {
+            dest,
+            value: u32::from(!is_or),
+        },
+    )?;
     Ok(Out::Scalar(dest))
 }
 
@@ -243,15 +249,23 @@ fn parallel_logical(
     alloc: Global,
     t: &Typed,
     names: &Names,
-    is_or: bool,
-    left: &TExpr,
-    right: &TExpr,
+    e: &TExpr,
     set: u16,
     u: &mut Unit,
 ) -> Result<Out, Memory> {
+    let (TExpr::LogicalOr { left, right, .. } | TExpr::LogicalAnd { left, right, .. }) = e else {
+        return Err(Memory);
+    };
+    let is_or = matches!(e, TExpr::LogicalOr { .. });
     let dest = field(u, set)?;
     let saved = flag(u, set)?;
-    put(u, Instr::MoveConstant { dest, value: Konst::Imm(u32::from(is_or)) })?;
+    put(
+        u,
+        Instr::MoveConstant {
+            dest,
+            value: Konst::Imm(u32::from(is_or)),
+        },
+    )?;
     let a = value(alloc, t, names, left, u)?;
     if stays_scalar(left) {
         let end = plus(plus(here(u)?, length(t, names, right)?)?, 4)?;
@@ -270,7 +284,13 @@ fn parallel_logical(
     } else {
         narrow(is_or, b.field()?, u)?;
     }
-    put(u, Instr::MoveConstant { dest, value: Konst::Imm(u32::from(!is_or)) })?;
+    put(
+        u,
+        Instr::MoveConstant {
+            dest,
+            value: Konst::Imm(u32::from(!is_or)),
+        },
+    )?;
     put(u, Instr::LoadContext { source: saved })?;
     Ok(Out::Field(dest))
 }
@@ -281,15 +301,28 @@ fn scalar_choice(
     alloc: Global,
     t: &Typed,
     names: &Names,
-    test: &TExpr,
-    then: &TExpr,
-    otherwise: &TExpr,
+    e: &TExpr,
     dest: Out,
     u: &mut Unit,
 ) -> Result<(), Memory> {
+    let TExpr::Choice {
+        test,
+        then,
+        otherwise,
+        ..
+    } = e
+    else {
+        return Err(Memory);
+    };
     let test = value(alloc, t, names, test, u)?.register()?;
     let other = plus(plus(here(u)?, length(t, names, then)?)?, 3)?;
-    put(u, Instr::FrontJumpZero { test, target: other })?;
+    put(
+        u,
+        Instr::FrontJumpZero {
+            test,
+            target: other,
+        },
+    )?;
     let a = value(alloc, t, names, then, u)?;
     set(dest, a, u)?;
     let end = plus(plus(other, length(t, names, otherwise)?)?, 1)?;
@@ -304,12 +337,19 @@ fn parallel_choice(
     alloc: Global,
     t: &Typed,
     names: &Names,
-    test: &TExpr,
-    then: &TExpr,
-    otherwise: &TExpr,
+    e: &TExpr,
     dest: Out,
     u: &mut Unit,
 ) -> Result<(), Memory> {
+    let TExpr::Choice {
+        test,
+        then,
+        otherwise,
+        ..
+    } = e
+    else {
+        return Err(Memory);
+    };
     let saved = flag(u, dest.field()?.set)?;
     let condition = value(alloc, t, names, test, u)?.field()?;
     put(u, Instr::StoreContext { dest: saved })?;
@@ -325,13 +365,7 @@ fn parallel_choice(
 
 /// Locates a target or a reference: its indexes, their range check, and the address.
 #[cycle(value)]
-fn spot(
-    alloc: Global,
-    t: &Typed,
-    names: &Names,
-    e: &TExpr,
-    u: &mut Unit,
-) -> Result<Spot, Memory> {
+fn spot(alloc: Global, t: &Typed, names: &Names, e: &TExpr, u: &mut Unit) -> Result<Spot, Memory> {
     match e {
         TExpr::Brackets { inner, .. } => spot(alloc, t, names, inner, u),
         TExpr::Variable { ty, variable } => match ty.shape {
@@ -433,7 +467,10 @@ fn assignment(
             }
         }
         TExpr::Step {
-            op, order, target, ..
+            op,
+            order,
+            target,
+            ..
         } => step(alloc, t, names, e, *op, *order, target, u),
         _ => Err(Memory),
     }
@@ -449,26 +486,26 @@ pub fn is_send(target: &TExpr) -> bool {
 
 /// `++` and `--`: the value before it, and the value behind it in a second register or field.
 #[cycle(value)]
-fn step(
-    alloc: Global,
-    t: &Typed,
-    names: &Names,
-    e: &TExpr,
-    op: StepOp,
-    order: StepOrder,
-    target: &TExpr,
-    u: &mut Unit,
-) -> Result<Out, Memory> {
+fn step(alloc: Global, t: &Typed, names: &Names, e: &TExpr, u: &mut Unit) -> Result<Out, Memory> {
+    let TExpr::Step {
+        op,
+        order,
+        target,
+        ..
+    } = e
+    else {
+        return Err(Memory);
+    };
     let ty = target.ty();
     let result = fresh(ty, u)?;
     let second = fresh(ty, u)?;
     let spot = spot(alloc, t, names, target, u)?;
-    let (old, new) = match order {
+    let (old, new) = match *order {
         StepOrder::Prefix => (second, result),
         StepOrder::Postfix => (result, second),
     };
     load(t, names, target, spot, old, u)?;
-    step_once(op, old, new, u)?;
+    step_once(*op, old, new, u)?;
     convert(new, ty.elem, u)?;
     store(t, names, e, spot, new, u)?;
     Ok(result)
@@ -483,11 +520,27 @@ fn step_once(op: StepOp, old: Out, new: Out, u: &mut Unit) -> Result<(), Memory>
     match new {
         Out::Scalar(dest) => {
             put(u, Instr::FrontConst { dest, value: 1 })?;
-            put(u, Instr::FrontOperate { op, dest, left: old.register()?, right: dest })
+            put(
+                u,
+                Instr::FrontOperate {
+                    op,
+                    dest,
+                    left: old.register()?,
+                    right: dest,
+                },
+            )
         }
         Out::Field(dest) => {
             let right = Konst::Imm(1);
-            put(u, Instr::OperateConstant { op, dest, left: old.field()?, right })
+            put(
+                u,
+                Instr::OperateConstant {
+                    op,
+                    dest,
+                    left: old.field()?,
+                    right,
+                },
+            )
         }
         Out::Nothing => Err(Memory),
     }
@@ -495,15 +548,14 @@ fn step_once(op: StepOp, old: Out, new: Out, u: &mut Unit) -> Result<(), Memory>
 
 /// A reduction, a scan, an enumeration, a call or `printf`.
 #[cycle(value)]
-fn called(
-    alloc: Global,
-    t: &Typed,
-    names: &Names,
-    e: &TExpr,
-    u: &mut Unit,
-) -> Result<Out, Memory> {
+fn called(alloc: Global, t: &Typed, names: &Names, e: &TExpr, u: &mut Unit) -> Result<Out, Memory> {
     match e {
-        TExpr::Reduce { ty, operand, .. } | TExpr::Scan { ty, source: operand, .. } => {
+        TExpr::Reduce { ty, operand, .. }
+        | TExpr::Scan {
+            ty,
+            source: operand,
+            ..
+        } => {
             let dest = fresh(*ty, u)?;
             let v = value(alloc, t, names, operand, u)?;
             comm_in(t, names, e, Out::Nothing, &[v], dest, u)
@@ -526,7 +578,9 @@ fn called(
             crate::frames::enter(t, names, *instance, outs.as_slice(), dest, u)
         }
         TExpr::Printf {
-            pieces, arguments, ..
+            pieces,
+            arguments,
+            ..
         } => {
             let mut outs = Vec::new(alloc);
             for argument in arguments {
