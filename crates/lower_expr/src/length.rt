@@ -86,12 +86,7 @@ pub fn length(t: &Typed, names: &Names, e: &TExpr) -> Result<u32, Memory> {
             let own = if stays_scalar(test) { 4 } else { 9 };
             plus(plus(c, plus(a, b)?)?, own)
         }
-        TExpr::Assign {
-            op,
-            target,
-            value,
-            ..
-        } => assign_length(t, names, *op, target, value),
+        TExpr::Assign { .. } => assign_length(t, names, e),
         TExpr::Step { target, .. } => {
             let scalar = target.ty().shape.is_none();
             let located = spot_length(t, names, target)?;

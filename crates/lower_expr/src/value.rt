@@ -466,12 +466,7 @@ fn assignment(
                 }
             }
         }
-        TExpr::Step {
-            op,
-            order,
-            target,
-            ..
-        } => step(alloc, t, names, e, *op, *order, target, u),
+        TExpr::Step { .. } => step(alloc, t, names, e, u),
         _ => Err(Memory),
     }
 }
