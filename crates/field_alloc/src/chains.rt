@@ -1,8 +1,8 @@
 //! Where the bits of each unit begin: behind those of the file, and behind those of every chain of
 //! units that leads to it by calls.
 
-use cstar_base::Memory;
 use crate::offsets::Offsets;
+use cstar_base::Memory;
 use paris_code::{Instr, Unit};
 use std::alloc::Global;
 
@@ -16,7 +16,10 @@ pub struct Bases {
 impl Bases {
     /// Where the unit's bits in the set begin.
     pub fn at(&self, unit: usize, set: usize) -> u32 {
-        match self.list.get(unit.saturating_mul(self.sets).saturating_add(set)) {
+        match self
+            .list
+            .get(unit.saturating_mul(self.sets).saturating_add(set))
+        {
             Some(base) => *base,
             None => 0,
         }

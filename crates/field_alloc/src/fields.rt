@@ -29,7 +29,10 @@ pub fn named(i: &Instr, all: &mut Vec<Field>) -> Result<(), Memory> {
         Instr::OperateConstant { dest, left, .. } => two(*dest, *left, all),
         Instr::Compare { left, right, .. } => two(*left, *right, all),
         Instr::Operate {
-            dest, left, right, ..
+            dest,
+            left,
+            right,
+            ..
         } => three(*dest, *left, *right, all),
         Instr::Get {
             dest,
@@ -49,7 +52,10 @@ pub fn named(i: &Instr, all: &mut Vec<Field>) -> Result<(), Memory> {
             ..
         } => three(*dest, *address, *source, all),
         Instr::Scan {
-            dest, source, bit, ..
+            dest,
+            source,
+            bit,
+            ..
         } => {
             two(*dest, *source, all)?;
             match bit {
@@ -58,7 +64,9 @@ pub fn named(i: &Instr, all: &mut Vec<Field>) -> Result<(), Memory> {
             }
         }
         Instr::MakeAddress {
-            dest, coordinates, ..
+            dest,
+            coordinates,
+            ..
         } => {
             one(*dest, all)?;
             for coordinate in coordinates {
@@ -129,7 +137,11 @@ pub fn placed(alloc: Global, i: Instr, places: &[u32]) -> Result<Instr, Memory> 
             for coordinate in &coordinates {
                 over.push(moved_coordinate(*coordinate, places))?;
             }
-            Ok(Instr::MakeAddress { dest: moved(dest, places), set, coordinates: over })
+            Ok(Instr::MakeAddress {
+                dest: moved(dest, places),
+                set,
+                coordinates: over,
+            })
         }
         Instr::CheckTarget {
             set,
@@ -139,9 +151,16 @@ pub fn placed(alloc: Global, i: Instr, places: &[u32]) -> Result<Instr, Memory> 
             let mut over = Vec::new(alloc);
             for checked in &coordinates {
                 let coordinate = moved_coordinate(checked.coordinate, places);
-                over.push(SignedCoordinate { coordinate, signed: checked.signed })?;
+                over.push(SignedCoordinate {
+                    coordinate,
+                    signed: checked.signed,
+                })?;
             }
-            Ok(Instr::CheckTarget { set, place, coordinates: over })
+            Ok(Instr::CheckTarget {
+                set,
+                place,
+                coordinates: over,
+            })
         }
         other => Ok(placed_elementwise(other, places)),
     }
@@ -150,25 +169,59 @@ pub fn placed(alloc: Global, i: Instr, places: &[u32]) -> Result<Instr, Memory> 
 /// The same for moves, flags and checks.
 fn placed_elementwise(i: Instr, p: &[u32]) -> Instr {
     match i {
-        Instr::Move { signed, dest, source } => {
-            Instr::Move { signed, dest: moved(dest, p), source: moved(source, p) }
+        Instr::Move {
+            signed,
+            dest,
+            source,
+        } => {
+            Instr::Move {
+                signed,
+                dest: moved(dest, p),
+                source: moved(source, p),
+            }
         }
-        Instr::MoveConstant { dest, value } => Instr::MoveConstant { dest: moved(dest, p), value },
-        Instr::MoveZeroAlways { dest } => Instr::MoveZeroAlways { dest: moved(dest, p) },
+        Instr::MoveConstant { dest, value } => Instr::MoveConstant {
+            dest: moved(dest, p),
+            value,
+        },
+        Instr::MoveZeroAlways { dest } => Instr::MoveZeroAlways {
+            dest: moved(dest, p),
+        },
         Instr::MoveAlways { dest, source } => {
-            Instr::MoveAlways { dest: moved(dest, p), source: moved(source, p) }
+            Instr::MoveAlways {
+                dest: moved(dest, p),
+                source: moved(source, p),
+            }
         }
         Instr::MyNewsCoordinate { dest, axis } => {
-            Instr::MyNewsCoordinate { dest: moved(dest, p), axis }
+            Instr::MyNewsCoordinate {
+                dest: moved(dest, p),
+                axis,
+            }
         }
-        Instr::EqZero { source } => Instr::EqZero { source: moved(source, p) },
-        Instr::NeZero { source } => Instr::NeZero { source: moved(source, p) },
-        Instr::LoadTest { source } => Instr::LoadTest { source: moved(source, p) },
-        Instr::StoreTest { dest } => Instr::StoreTest { dest: moved(dest, p) },
-        Instr::LoadContext { source } => Instr::LoadContext { source: moved(source, p) },
-        Instr::StoreContext { dest } => Instr::StoreContext { dest: moved(dest, p) },
+        Instr::EqZero { source } => Instr::EqZero {
+            source: moved(source, p),
+        },
+        Instr::NeZero { source } => Instr::NeZero {
+            source: moved(source, p),
+        },
+        Instr::LoadTest { source } => Instr::LoadTest {
+            source: moved(source, p),
+        },
+        Instr::StoreTest { dest } => Instr::StoreTest {
+            dest: moved(dest, p),
+        },
+        Instr::LoadContext { source } => Instr::LoadContext {
+            source: moved(source, p),
+        },
+        Instr::StoreContext { dest } => Instr::StoreContext {
+            dest: moved(dest, p),
+        },
         Instr::CheckDivisor { place, source } => {
-            Instr::CheckDivisor { place, source: moved(source, p) }
+            Instr::CheckDivisor {
+                place,
+                source: moved(source, p),
+            }
         }
         other => placed_arithmetic(other, p),
     }
@@ -177,20 +230,54 @@ fn placed_elementwise(i: Instr, p: &[u32]) -> Instr {
 /// The same for arithmetic and comparisons.
 fn placed_arithmetic(i: Instr, p: &[u32]) -> Instr {
     match i {
-        Instr::Operate { op, dest, left, right } => {
-            Instr::Operate { op, dest: moved(dest, p), left: moved(left, p), right: moved(right, p) }
+        Instr::Operate {
+            op,
+            dest,
+            left,
+            right,
+        } => {
+            Instr::Operate {
+                op,
+                dest: moved(dest, p),
+                left: moved(left, p),
+                right: moved(right, p),
+            }
         }
-        Instr::OperateConstant { op, dest, left, right } => {
-            Instr::OperateConstant { op, dest: moved(dest, p), left: moved(left, p), right }
+        Instr::OperateConstant {
+            op,
+            dest,
+            left,
+            right,
+        } => {
+            Instr::OperateConstant {
+                op,
+                dest: moved(dest, p),
+                left: moved(left, p),
+                right,
+            }
         }
         Instr::Negate { dest, source } => {
-            Instr::Negate { dest: moved(dest, p), source: moved(source, p) }
+            Instr::Negate {
+                dest: moved(dest, p),
+                source: moved(source, p),
+            }
         }
         Instr::Lognot { dest, source } => {
-            Instr::Lognot { dest: moved(dest, p), source: moved(source, p) }
+            Instr::Lognot {
+                dest: moved(dest, p),
+                source: moved(source, p),
+            }
         }
-        Instr::Compare { relation, left, right } => {
-            Instr::Compare { relation, left: moved(left, p), right: moved(right, p) }
+        Instr::Compare {
+            relation,
+            left,
+            right,
+        } => {
+            Instr::Compare {
+                relation,
+                left: moved(left, p),
+                right: moved(right, p),
+            }
         }
         other => placed_messages(other, p),
     }
@@ -199,22 +286,61 @@ fn placed_arithmetic(i: Instr, p: &[u32]) -> Instr {
 /// The same for communication. The front end's instructions name no field.
 fn placed_messages(i: Instr, p: &[u32]) -> Instr {
     match i {
-        Instr::GetFromNews { dest, source, axis, by } => {
-            Instr::GetFromNews { dest: moved(dest, p), source: moved(source, p), axis, by }
+        Instr::GetFromNews {
+            dest,
+            source,
+            axis,
+            by,
+        } => {
+            Instr::GetFromNews {
+                dest: moved(dest, p),
+                source: moved(source, p),
+                axis,
+                by,
+            }
         }
-        Instr::GetFromNewsAlways { dest, source, axis, by } => {
-            Instr::GetFromNewsAlways { dest: moved(dest, p), source: moved(source, p), axis, by }
+        Instr::GetFromNewsAlways {
+            dest,
+            source,
+            axis,
+            by,
+        } => {
+            Instr::GetFromNewsAlways {
+                dest: moved(dest, p),
+                source: moved(source, p),
+                axis,
+                by,
+            }
         }
-        Instr::Get { dest, address, source } => {
-            Instr::Get { dest: moved(dest, p), address: moved(address, p), source: moved(source, p) }
+        Instr::Get {
+            dest,
+            address,
+            source,
+        } => {
+            Instr::Get {
+                dest: moved(dest, p),
+                address: moved(address, p),
+                source: moved(source, p),
+            }
         }
-        Instr::SendWithOverwrite { dest, kind, address, source } => Instr::SendWithOverwrite {
+        Instr::SendWithOverwrite {
+            dest,
+            kind,
+            address,
+            source,
+        } => Instr::SendWithOverwrite {
             dest: moved(dest, p),
             kind,
             address: moved(address, p),
             source: moved(source, p),
         },
-        Instr::SendWithCombiner { combiner, dest, kind, address, source } => {
+        Instr::SendWithCombiner {
+            combiner,
+            dest,
+            kind,
+            address,
+            source,
+        } => {
             Instr::SendWithCombiner {
                 combiner,
                 dest: moved(dest, p),
@@ -223,10 +349,27 @@ fn placed_messages(i: Instr, p: &[u32]) -> Instr {
                 source: moved(source, p),
             }
         }
-        Instr::Global { combiner, dest, source } => {
-            Instr::Global { combiner, dest, source: moved(source, p) }
+        Instr::Global {
+            combiner,
+            dest,
+            source,
+        } => {
+            Instr::Global {
+                combiner,
+                dest,
+                source: moved(source, p),
+            }
         }
-        Instr::Scan { combiner, dest, source, axis, direction, mode, bit, inclusion } => {
+        Instr::Scan {
+            combiner,
+            dest,
+            source,
+            axis,
+            direction,
+            mode,
+            bit,
+            inclusion,
+        } => {
             Instr::Scan {
                 combiner,
                 dest: moved(dest, p),
@@ -238,11 +381,29 @@ fn placed_messages(i: Instr, p: &[u32]) -> Instr {
                 inclusion,
             }
         }
-        Instr::ReadFromProcessor { signed, dest, processor, source } => {
-            Instr::ReadFromProcessor { signed, dest, processor, source: moved(source, p) }
+        Instr::ReadFromProcessor {
+            signed,
+            dest,
+            processor,
+            source,
+        } => {
+            Instr::ReadFromProcessor {
+                signed,
+                dest,
+                processor,
+                source: moved(source, p),
+            }
         }
-        Instr::WriteToProcessor { dest, processor, value } => {
-            Instr::WriteToProcessor { dest: moved(dest, p), processor, value }
+        Instr::WriteToProcessor {
+            dest,
+            processor,
+            value,
+        } => {
+            Instr::WriteToProcessor {
+                dest: moved(dest, p),
+                processor,
+                value,
+            }
         }
         other => other,
     }

@@ -1,7 +1,7 @@
 //! Where the entries of one unit stand, counted from where the unit's own bits begin: each behind
 //! the earlier ones of its set whose spans meet its own.
 
-use crate::spans::{spans_of, Span};
+use crate::spans::{Span, spans_of};
 use cstar_base::Memory;
 use paris_code::{Owner, Unit};
 use std::alloc::Global;
@@ -43,7 +43,13 @@ pub fn offsets_of(
     }
     let mut heights = Vec::new(alloc);
     for set in 0..sets {
-        let end = place_set(unit, spans.as_slice(), set, &mut heights, &mut offsets.starts)?;
+        let end = place_set(
+            unit,
+            spans.as_slice(),
+            set,
+            &mut heights,
+            &mut offsets.starts,
+        )?;
         offsets.ends.push(end)?;
     }
     Ok(offsets)

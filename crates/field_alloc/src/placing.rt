@@ -1,8 +1,8 @@
 //! The placing of a whole program.
 
-use crate::chains::{bases_of, Bases};
+use crate::chains::{Bases, bases_of};
 use crate::fields::placed;
-use crate::offsets::{offsets_of, Offsets};
+use crate::offsets::{Offsets, offsets_of};
 use cstar_base::Memory;
 use paris_code::{Field, Final, Owner, Program, Unit, Virtual};
 use std::alloc::Global;
@@ -38,7 +38,14 @@ pub fn place(alloc: Global, p: Program) -> Result<Program, Memory> {
     let mut over = Vec::new(alloc);
     let mut number = 0usize;
     for unit in units {
-        let places = places_of(alloc, &unit, number, offsets.as_slice(), &bases, files.as_slice())?;
+        let places = places_of(
+            alloc,
+            &unit,
+            number,
+            offsets.as_slice(),
+            &bases,
+            files.as_slice(),
+        )?;
         over.push(placed_unit(alloc, unit, places.as_slice())?)?;
         number = number.saturating_add(1);
     }

@@ -49,7 +49,10 @@ fn name_all(
         }
         if let Some(target) = target_of(instr) {
             if target <= at {
-                loops.push(Span { first: target, last: at })?;
+                loops.push(Span {
+                    first: target,
+                    last: at,
+                })?;
             }
         }
         fields.clear();

@@ -14,7 +14,7 @@ use paris_code::{
 use std::alloc::Global;
 
 /// Whether the get goes by NEWS: each index is a step along its own axis.
-pub fn goes_by_news(t: &Typed, e: &TExpr) -> bool {
+pub fn goes_by_news(e: &TExpr) -> bool {
     let TExpr::LeftIndex {
         ty,
         indexes,
@@ -29,7 +29,7 @@ pub fn goes_by_news(t: &Typed, e: &TExpr) -> bool {
     }
     let mut axis = 0u32;
     for index in indexes {
-        if step_of(t, *of, axis, index).is_none() {
+        if step_of(*of, axis, index).is_none() {
             return false;
         }
         axis = axis.saturating_add(1);
@@ -107,7 +107,7 @@ pub fn locate_in(
 }
 
 /// The range check of a get that goes by NEWS: its steps along the axes that do not wrap.
-pub fn check_grid(alloc: Global, t: &Typed, e: &TExpr, u: &mut Unit) -> Result<Out, Memory> {
+pub fn check_grid(alloc: Global, e: &TExpr, u: &mut Unit) -> Result<Out, Memory> {
     let TExpr::LeftIndex {
         ty,
         place,
@@ -121,7 +121,7 @@ pub fn check_grid(alloc: Global, t: &Typed, e: &TExpr, u: &mut Unit) -> Result<O
     let mut steps = Vec::new(alloc);
     let mut axis = 0u32;
     for index in indexes {
-        if let Some(step) = step_of(t, *of, axis, index) {
+        if let Some(step) = step_of(*of, axis, index) {
             if step.checked {
                 steps.push(GridStep {
                     axis,
@@ -194,7 +194,7 @@ pub fn comm_in(
     match e {
         TExpr::LeftIndex { ty, variable, .. } => {
             let source = names.field(t, *variable, 0, u)?;
-            read(t, e, *ty, source, at, into, u)
+            read(e, *ty, source, at, into, u)
         }
         TExpr::Assign {
             op,
@@ -275,7 +275,6 @@ fn part(parts: &[Out], number: usize) -> Result<Out, Memory> {
 
 /// A read through a left index: of one element, by the router, or by NEWS.
 fn read(
-    t: &Typed,
     e: &TExpr,
     ty: ValueType,
     source: Field,
@@ -316,20 +315,13 @@ fn read(
                 },
             )?;
         }
-        Out::Nothing => by_steps(t, e, ty.elem, source, into.field()?, u)?,
+        Out::Nothing => by_steps(e, ty.elem, source, into.field()?, u)?,
     }
     Ok(into)
 }
 
 /// A get by NEWS: one step along each axis, the values in between at every processor.
-fn by_steps(
-    t: &Typed,
-    e: &TExpr,
-    elem: Elem,
-    source: Field,
-    dest: Field,
-    u: &mut Unit,
-) -> Result<(), Memory> {
+fn by_steps(e: &TExpr, elem: Elem, source: Field, dest: Field, u: &mut Unit) -> Result<(), Memory> {
     let TExpr::LeftIndex { indexes, of, .. } = e else {
         return Err(Memory);
     };
@@ -339,7 +331,7 @@ fn by_steps(
     let mut to = one;
     let mut axis = 0u32;
     for index in indexes {
-        let by = match step_of(t, *of, axis, index) {
+        let by = match step_of(*of, axis, index) {
             Some(step) => step.by,
             None => 0,
         };

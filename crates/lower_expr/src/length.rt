@@ -39,8 +39,8 @@ pub fn length(t: &Typed, names: &Names, e: &TExpr) -> Result<u32, Memory> {
                 conversion(false, ty.elem),
             )
         }
-        TExpr::LeftIndex { indexes, of, .. } if goes_by_news(t, e) => {
-            Ok(news_length(t, *of, indexes.as_slice()))
+        TExpr::LeftIndex { indexes, of, .. } if goes_by_news(e) => {
+            Ok(news_length(*of, indexes.as_slice()))
         }
         TExpr::Variable { .. } | TExpr::Element { .. } | TExpr::LeftIndex { .. } => {
             plus(spot_length(t, names, e)?, load_length(t, names, e)?)
@@ -191,12 +191,12 @@ fn logical_length(scalar: bool, left: &TExpr, right: &TExpr) -> u32 {
 }
 
 /// A get by NEWS.
-fn news_length(t: &Typed, of: u16, indexes: &[TExpr]) -> u32 {
+fn news_length(of: u16, indexes: &[TExpr]) -> u32 {
     let mut moves = 1u32;
     let mut is_checked = false;
     let mut axis = 0u32;
     for index in indexes {
-        if let Some(step) = step_of(t, of, axis, index) {
+        if let Some(step) = step_of(of, axis, index) {
             if step.by != 0 {
                 moves = moves.saturating_add(1);
             }

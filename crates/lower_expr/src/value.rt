@@ -57,7 +57,10 @@ pub fn value(
     u: &mut Unit,
 ) -> Result<Out, Memory> {
     match e {
-        TExpr::Number { value, .. } => constant(*value, u),
+        TExpr::Number { value, .. }
+        | TExpr::PositionsOf { value, .. }
+        | TExpr::RankOf { value, .. }
+        | TExpr::DimOf { value, .. } => constant(*value, u),
         TExpr::Brackets { inner, .. } => value(alloc, t, names, inner, u),
         TExpr::Promote { operand, .. } => value(alloc, t, names, operand, u),
         TExpr::Convert { ty, operand } => {
@@ -88,17 +91,14 @@ pub fn value(
             put(u, Instr::MyNewsCoordinate { dest, axis: *axis })?;
             Ok(Out::Field(dest))
         }
-        TExpr::PositionsOf { shape, .. } => constant(positions(t, *shape), u),
-        TExpr::RankOf { shape, .. } => constant(rank(t, *shape), u),
-        TExpr::DimOf { shape, axis, .. } => constant(extent(t, *shape, *axis), u),
         TExpr::GetChar { .. } => {
             let dest = register(u)?;
             put(u, Instr::FrontGetByte { dest })?;
             Ok(Out::Scalar(dest))
         }
-        TExpr::LeftIndex { ty, .. } if goes_by_news(t, e) => {
+        TExpr::LeftIndex { ty, .. } if goes_by_news(e) => {
             let dest = fresh(*ty, u)?;
-            check_grid(alloc, t, e, u)?;
+            check_grid(alloc, e, u)?;
             comm_in(t, names, e, Out::Nothing, &[], dest, u)
         }
         TExpr::Variable { .. } | TExpr::Element { .. } | TExpr::LeftIndex { .. } => {
@@ -587,35 +587,4 @@ fn called(alloc: Global, t: &Typed, names: &Names, e: &TExpr, u: &mut Unit) -> R
         }
         _ => Err(Memory),
     }
-}
-
-fn rank(t: &Typed, shape: u16) -> u32 {
-    match t.shapes.get(shape as usize) {
-        Some(info) => match u32::try_from(info.extents.len()) {
-            Ok(rank) => rank,
-            Err(_) => 0,
-        },
-        None => 0,
-    }
-}
-
-fn extent(t: &Typed, shape: u16, axis: u32) -> u32 {
-    match t.shapes.get(shape as usize) {
-        Some(info) => match info.extents.get(axis as usize) {
-            Some(extent) => *extent,
-            None => 0,
-        },
-        None => 0,
-    }
-}
-
-/// The product of the extents, which is at most 2^20.
-fn positions(t: &Typed, shape: u16) -> u32 {
-    let mut product = 1u32;
-    if let Some(info) = t.shapes.get(shape as usize) {
-        for extent in &info.extents {
-            product = product.wrapping_mul(*extent);
-        }
-    }
-    product
 }
