@@ -131,6 +131,9 @@ pub fn check_grid(alloc: Global, e: &TExpr, u: &mut Unit) -> Result<Out, Memory>
         }
         axis = axis.saturating_add(1);
     }
+    if steps.is_empty() {
+        return Ok(Out::Nothing);
+    }
     let set = ty.shape.unwrap_or(*of);
     put(
         u,
@@ -335,17 +338,20 @@ fn by_steps(e: &TExpr, elem: Elem, source: Field, dest: Field, u: &mut Unit) -> 
             Some(step) => step.by,
             None => 0,
         };
-        put(
-            u,
-            Instr::GetFromNewsAlways {
-                dest: to,
-                source: from,
-                axis,
-                by: Konst::Imm(by),
-            },
-        )?;
-        from = to;
-        to = if to == one { other } else { one };
+        if by != 0 {
+            let by = Konst::Imm(by);
+            put(
+                u,
+                Instr::GetFromNewsAlways {
+                    dest: to,
+                    source: from,
+                    axis,
+                    by,
+                },
+            )?;
+            from = to;
+            to = if to == one { other } else { one };
+        }
         axis = axis.saturating_add(1);
     }
     put(
