@@ -3,7 +3,7 @@
 use cstar_base::Memory;
 use cstar_tree::typed::{LocalVar, TExpr, TStmt, Typed};
 use lower_comm::emit::plus;
-use lower_comm::names::{entries_of, Names};
+use lower_comm::names::{Names, entries_of};
 use lower_expr::length::length;
 
 /// How many saved contexts a jump has to load: those that were saved in the innermost loop, and
@@ -131,7 +131,11 @@ pub fn part_length(t: &Typed, names: &Names, part: &Option<TExpr>) -> Result<u32
 fn locals_length(t: &Typed, names: &Names, locals: &[LocalVar]) -> Result<u32, Memory> {
     let mut sum = 0;
     for local in locals {
-        let zeroed = if local.info.shape.is_some() { entries_of(&local.info) } else { 1 };
+        let zeroed = if local.info.shape.is_some() {
+            entries_of(&local.info)
+        } else {
+            1
+        };
         sum = plus(sum, zeroed)?;
         if let Some(e) = &local.initial {
             sum = plus(plus(sum, length(t, names, e)?)?, 1)?;

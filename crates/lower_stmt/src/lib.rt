@@ -2,8 +2,7 @@
 #![tactic(auto)]
 
 pub mod length;
-pub mod statement;
-
 mod program;
+pub mod statement;
 
 pub use program::lower;

@@ -1,11 +1,11 @@
 //! A program from a typed program: one unit for each instance.
 
 use crate::length::Saved;
-use crate::statement::{leave, statement, Frame, Outcome, Progress};
+use crate::statement::{Frame, Outcome, Progress, leave, statement};
 use cstar_base::{Memory, Word};
 use cstar_tree::typed::{Instance, Typed, VarInfo, Variable};
 use lower_comm::emit::{entry, plus, put};
-use lower_comm::names::{entries_of, Names};
+use lower_comm::names::{Names, entries_of};
 use paris_code::{Field, Final, Instr, Konst, Owner, Program, ShapeBits, Unit};
 use std::alloc::Global;
 
@@ -57,7 +57,11 @@ fn lower_unit(
     let mut outcome = Outcome::Nothing;
     if let Some(result) = &instance.result {
         own_field(result, &mut unit)?;
-        outcome = if result.shape.is_some() { Outcome::Parallel } else { Outcome::Scalar };
+        outcome = if result.shape.is_some() {
+            Outcome::Parallel
+        } else {
+            Outcome::Scalar
+        };
     }
     if is_main {
         start_values(t, names, &mut unit)?;
@@ -76,7 +80,15 @@ fn lower_unit(
             in_all: 0,
         },
     };
-    statement(alloc, t, names, &instance.body, frame, &mut progress, &mut unit)?;
+    statement(
+        alloc,
+        t,
+        names,
+        &instance.body,
+        frame,
+        &mut progress,
+        &mut unit,
+    )?;
     leave(is_main, &mut unit)?;
     Ok(unit)
 }
@@ -111,12 +123,31 @@ fn start_value(
     let variable = Variable::File(number);
     if info.shape.is_none() {
         let dest = names.register(variable)?;
-        put(u, Instr::FrontConst { dest, value: info.start })?;
-        return put(u, Instr::FrontConvert { dest, source: dest, kind: info.elem });
+        put(
+            u,
+            Instr::FrontConst {
+                dest,
+                value: info.start,
+            },
+        )?;
+        return put(
+            u,
+            Instr::FrontConvert {
+                dest,
+                source: dest,
+                kind: info.elem,
+            },
+        );
     }
     for element in 0..entries_of(info) {
         let dest = names.field(t, variable, element, u)?;
-        put(u, Instr::MoveConstant { dest, value: Konst::Imm(info.start) })?;
+        put(
+            u,
+            Instr::MoveConstant {
+                dest,
+                value: Konst::Imm(info.start),
+            },
+        )?;
     }
     Ok(())
 }
@@ -126,7 +157,10 @@ fn shapes(alloc: Global, t: &Typed) -> Result<Vec<ShapeBits>, Memory> {
     let mut shapes = Vec::new(alloc);
     for (shape, need) in t.shapes.iter().zip(t.need.iter()) {
         let extents = Vec::from_slice(alloc, shape.extents.as_slice())?;
-        shapes.push(ShapeBits { extents, bits: *need })?;
+        shapes.push(ShapeBits {
+            extents,
+            bits: *need,
+        })?;
     }
     Ok(shapes)
 }
@@ -139,8 +173,16 @@ fn finals(alloc: Global, t: &Typed) -> Result<Vec<Final>, Memory> {
         if let Some(set) = info.shape {
             for element in 0..entries_of(info) {
                 let name = final_name(alloc, info, element)?;
-                let field = Field { set, offset: number, len: info.elem.bits };
-                finals.push(Final { name, elem: info.elem, field })?;
+                let field = Field {
+                    set,
+                    offset: number,
+                    len: info.elem.bits,
+                };
+                finals.push(Final {
+                    name,
+                    elem: info.elem,
+                    field,
+                })?;
                 number = plus(number, 1)?;
             }
         }

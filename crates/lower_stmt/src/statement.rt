@@ -2,12 +2,12 @@
 //! to the turn that the loop's body begins with. A jump out of `where` and `everywhere` first loads
 //! the contexts that they saved, the innermost first, so that the outermost one stays.
 
-use crate::length::{part_length, statement_length, Saved};
+use crate::length::{Saved, part_length, statement_length};
 use cstar_base::Memory;
-use cstar_tree::typed::{LocalVar, TExpr, TStmt, Typed, Variable, VarInfo};
-use lower_comm::emit::{entry, flag, here, plus, put};
-use lower_comm::names::{entries_of, own_entry, Names};
+use cstar_tree::typed::{LocalVar, TExpr, TStmt, Typed, VarInfo, Variable};
 use lower_comm::Out;
+use lower_comm::emit::{entry, flag, here, plus, put};
+use lower_comm::names::{Names, entries_of, own_entry};
 use lower_expr::length::length;
 use lower_expr::steps::set;
 use lower_expr::value::value;
@@ -118,19 +118,35 @@ pub fn statement(
 }
 
 /// An expression whose value is not used.
-fn evaluate(alloc: Global, t: &Typed, names: &Names, e: &TExpr, u: &mut Unit) -> Result<(), Memory> {
+fn evaluate(
+    alloc: Global,
+    t: &Typed,
+    names: &Names,
+    e: &TExpr,
+    u: &mut Unit,
+) -> Result<(), Memory> {
     value(alloc, t, names, e, u)?;
     Ok(())
 }
 
 /// The value of a condition, in a register.
-fn condition(alloc: Global, t: &Typed, names: &Names, e: &TExpr, u: &mut Unit) -> Result<u32, Memory> {
+fn condition(
+    alloc: Global,
+    t: &Typed,
+    names: &Names,
+    e: &TExpr,
+    u: &mut Unit,
+) -> Result<u32, Memory> {
     value(alloc, t, names, e, u)?.register()
 }
 
 /// The end of a function, and that of `main`.
 pub fn leave(is_main: bool, u: &mut Unit) -> Result<(), Memory> {
-    if is_main { put(u, Instr::FrontHalt) } else { put(u, Instr::FrontReturn) }
+    if is_main {
+        put(u, Instr::FrontHalt)
+    } else {
+        put(u, Instr::FrontReturn)
+    }
 }
 
 /// Loads the newest saved contexts, so many of them, the newest first.
@@ -255,7 +271,12 @@ fn branch(
             put(u, Instr::FrontJumpZero { test, target })?;
             statement(alloc, t, names, then, f, p, u)?;
             let length = statement_length(t, names, other, f.has_result(), f.saved)?;
-            put(u, Instr::FrontJump { target: plus(target, length)? })?;
+            put(
+                u,
+                Instr::FrontJump {
+                    target: plus(target, length)?,
+                },
+            )?;
             statement(alloc, t, names, other, f, p, u)
         }
     }
@@ -275,8 +296,13 @@ fn repeat(
     match s {
         TStmt::While { test, body } => {
             let turn = plus(here(u)?, 1)?;
-            let length_of_body =
-                statement_length(t, names, body, f.has_result(), f.saved.at_loop())?;
+            let length_of_body = statement_length(
+                t,
+                names,
+                body,
+                f.has_result(),
+                f.saved.at_loop(),
+            )?;
             let next = plus(plus(turn, length_of_body)?, 1)?;
             let after = plus(plus(next, length(t, names, test)?)?, 1)?;
             put(u, Instr::FrontJump { target: next })?;
@@ -287,8 +313,13 @@ fn repeat(
         }
         TStmt::Do { body, test } => {
             let turn = here(u)?;
-            let length_of_body =
-                statement_length(t, names, body, f.has_result(), f.saved.at_loop())?;
+            let length_of_body = statement_length(
+                t,
+                names,
+                body,
+                f.has_result(),
+                f.saved.at_loop(),
+            )?;
             let next = plus(plus(turn, length_of_body)?, 1)?;
             let after = plus(plus(next, length(t, names, test)?)?, 1)?;
             put(u, Instr::FrontTurn)?;
@@ -306,8 +337,13 @@ fn repeat(
                 evaluate(alloc, t, names, first, u)?;
             }
             let turn = plus(here(u)?, 1)?;
-            let length_of_body =
-                statement_length(t, names, body, f.has_result(), f.saved.at_loop())?;
+            let length_of_body = statement_length(
+                t,
+                names,
+                body,
+                f.has_result(),
+                f.saved.at_loop(),
+            )?;
             let next = plus(plus(turn, length_of_body)?, 1)?;
             let tested = plus(next, part_length(t, names, step)?)?;
             let after = plus(plus(tested, part_length(t, names, test)?)?, 1)?;
