@@ -34,7 +34,7 @@ entries_from-snoc start [] u = ap (λ n. entry_at n u ∷ []) (let e : start ≡
 entries_from-snoc start (v ∷ us) u =
     let next = start + length v.code.items in
     ap (λ rest. entry_at start v ∷ rest)
-      (entries_from-snoc next us u ∙ ap (λ n. entries_from next us ++ entry_at n u ∷ []) (next_start start v (code_from next us)))
+    (entries_from-snoc next us u ∙ ap (λ n. entries_from next us ++ entry_at n u ∷ []) (next_start start v (code_from next us)))
 
 -- the code of all units so far, and one more
 pub joined : (us : List Unit) (u : Unit) (code : List Instr) → code ≡ code_from 0 us → code ++ map (moved_by (length code)) u.code.items ≡ code_from 0 (us ++ u ∷ [])

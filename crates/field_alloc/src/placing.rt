@@ -1,5 +1,8 @@
 //! The placing of a whole program.
 
+ghost use Rattle.std.specs.Prelude.{◌≡◌, IfOk, length, map};
+ghost use Rattle.field_alloc.specs.Placed.{length_of, KeepsLengths};
+
 use crate::chains::{Bases, bases_of};
 use crate::fields::placed;
 use crate::offsets::{Offsets, offsets_of};
@@ -9,7 +12,12 @@ use std::alloc::Global;
 
 /// The program over bits. Fields that live at one time are apart, and an entry of another unit has
 /// that unit's bits.
-pub fn place(alloc: Global, p: Program) -> Result<Program, Memory> {
+pub fn place(alloc: Global, p: Program) -> Result<Program, Memory>
+    ensures units { IfOk result (λ q. KeepsLengths p.units.items q.units.items) }
+    ensures shapes { IfOk result (λ q. q.shapes ≡ p.shapes) }
+    ensures slots { IfOk result (λ q. q.slots ≡ p.slots) }
+    ensures depth { IfOk result (λ q. q.depth ≡ p.depth) }
+{
     let Program {
         shapes,
         slots,
@@ -37,7 +45,7 @@ pub fn place(alloc: Global, p: Program) -> Result<Program, Memory> {
     let bases = bases_of(alloc, units.as_slice(), offsets.as_slice(), ends.as_slice())?;
     let mut over = Vec::new(alloc);
     let mut number = 0usize;
-    for unit in units {
+    'each: for unit in units {
         let places = places_of(
             alloc,
             &unit,
@@ -46,7 +54,8 @@ pub fn place(alloc: Global, p: Program) -> Result<Program, Memory> {
             &bases,
             files.as_slice(),
         )?;
-        over.push(placed_unit(alloc, unit, places.as_slice())?)?;
+        let unit = placed_unit(alloc, unit, places.as_slice())?;
+        over.push(unit)?;
         number = number.saturating_add(1);
     }
     Ok(Program {
@@ -163,7 +172,10 @@ fn own_place(
 }
 
 /// The unit over bits.
-fn placed_unit(alloc: Global, unit: Unit, places: &[u32]) -> Result<Unit, Memory> {
+fn placed_unit(alloc: Global, unit: Unit, places: &[u32]) -> Result<Unit, Memory>
+    ensures length { IfOk result (λ v. length_of v ≡ length_of unit) }
+    ensures name { IfOk result (λ v. v.name ≡ unit.name) }
+{
     let Unit {
         name,
         regs,
@@ -183,4 +195,89 @@ fn placed_unit(alloc: Global, unit: Unit, places: &[u32]) -> Result<Unit, Memory
         fields,
         code: over,
     })
+}
+
+#[cfg(test)]
+mod tests {
+    use super::*;
+    use cstar_base::Word;
+    use paris_code::{Instr, Konst, Reduction, ShapeBits};
+
+    fn of_entry(number: u32) -> Field {
+        Field {
+            set: 0,
+            offset: number,
+            len: 32,
+        }
+    }
+
+    // a value that is folded into a register
+    fn use_entry(code: &mut Vec<Instr>, number: u32) -> Result<(), Memory> {
+        let value = Konst::Imm(1);
+        let dest = of_entry(number);
+        code.push(Instr::MoveConstant { dest, value })?;
+        code.push(Instr::Global {
+            combiner: Reduction::SAdd,
+            dest: number,
+            source: of_entry(number),
+        })?;
+        Ok(())
+    }
+
+    // one unit and one set, with two fields of which each is used once, one behind the other
+    fn two_fields(alloc: Global) -> Result<Program, Memory> {
+        let entry = Virtual {
+            set: 0,
+            len: 32,
+            owner: Owner::Own,
+        };
+        let fields = Vec::from_array(alloc, [entry, entry])?;
+        let mut code = Vec::new(alloc);
+        use_entry(&mut code, 0)?;
+        use_entry(&mut code, 1)?;
+        code.push(Instr::FrontHalt)?;
+        let mut units = Vec::new(alloc);
+        units.push(Unit {
+            name: Word::of(Vec::from_array(alloc, *b"main")?),
+            regs: 2,
+            homes: Vec::new(alloc),
+            fields,
+            code,
+        })?;
+        let mut shapes = Vec::new(alloc);
+        shapes.push(ShapeBits {
+            extents: Vec::from_array(alloc, [8])?,
+            bits: 32,
+        })?;
+        Ok(Program {
+            shapes,
+            slots: 2,
+            depth: 0,
+            units,
+            finals: Vec::new(alloc),
+        })
+    }
+
+    fn are_all_at_zero(alloc: Global, p: &Program) -> bool {
+        let mut named = Vec::new(alloc);
+        for unit in &p.units {
+            for instr in &unit.code {
+                if crate::fields::named(instr, &mut named).is_err() {
+                    return false;
+                }
+            }
+        }
+        named.len() == 4 && named.iter().all(|field| field.offset == 0)
+    }
+
+    #[test]
+    fn fields_that_do_not_live_together_share_their_bits(rt: HostRuntime) {
+        let Ok(program) = two_fields(rt.alloc()) else {
+            panic!(rt; "memory");
+        };
+        let Ok(placed) = place(rt.alloc(), program) else {
+            panic!(rt; "memory");
+        };
+        assert!(rt; are_all_at_zero(rt.alloc(), &placed));
+    }
 }

@@ -21,12 +21,48 @@ pub fn spans_of(alloc: Global, unit: &Unit) -> Result<Vec<Option<Span>>, Memory>
         spans.push(None)?;
     }
     let loops = name_all(alloc, unit, &mut spans)?;
+    let ends = ends_before(alloc, unit.code.len(), loops.as_slice())?;
     for span in spans.iter_mut() {
         if let Some(s) = *span {
-            *span = Some(lasting(s, loops.as_slice()));
+            if !is_straight(s, ends.as_slice()) {
+                *span = Some(lasting(s, loops.as_slice()));
+            }
         }
     }
     Ok(spans)
+}
+
+/// For each instruction, how many ends of stretches are at the instructions before it.
+fn ends_before(alloc: Global, length: usize, loops: &[Span]) -> Result<Vec<u32>, Memory> {
+    let mut ends = Vec::new(alloc);
+    for _ in 0..length.saturating_add(1) {
+        ends.push(0u32)?;
+    }
+    for stretch in loops {
+        one_more(&mut ends, stretch.first);
+        one_more(&mut ends, stretch.last);
+    }
+    let mut sum = 0u32;
+    for number in ends.iter_mut() {
+        let here = *number;
+        *number = sum;
+        sum = sum.saturating_add(here);
+    }
+    Ok(ends)
+}
+
+fn one_more(ends: &mut Vec<u32>, at: u32) {
+    let at = at as usize;
+    if at < ends.len() {
+        ends[at] = ends[at].saturating_add(1);
+    }
+}
+
+/// Whether no stretch begins or ends in the span, so that each one that meets it contains it.
+fn is_straight(span: Span, ends: &[u32]) -> bool {
+    let first = ends.get(span.first as usize).copied();
+    let behind = ends.get(span.last.saturating_add(1) as usize).copied();
+    first.is_some() && first == behind
 }
 
 /// Goes through the code from its end, and answers the stretches of the jumps back.
