@@ -1,7 +1,6 @@
 -- What placing keeps of a program.
 use Rattle.std.specs.Prelude.{ℕ, ◌≡◌, List, length, map}
 use Rattle.paris_code.specs.declared.program.Unit.{Unit}
-use Rattle.paris_code.specs.declared.program.Program.{Program}
 
 -- how many instructions a unit has
 abbrev pub length_of : Unit → ℕ
