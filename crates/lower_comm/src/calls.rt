@@ -1,7 +1,7 @@
 //! The calls on a unit as `lower` has it when it comes to a communication.
 
 use crate::emit::Out;
-use crate::messages::{check_grid, comm_in, goes_by_news, locate_in};
+use crate::messages::{address_of, check_grid, comm_in, goes_by_news, locate_in};
 use crate::names::{Names, named};
 use cstar_base::Memory;
 use cstar_tree::typed::{TExpr, Typed};
@@ -9,8 +9,8 @@ use paris_code::Unit;
 use std::alloc::Global;
 
 /// Whether the get goes by NEWS. Every other get, and every send, goes by the router.
-pub fn by_news(t: &Typed, e: &TExpr) -> bool {
-    goes_by_news(t, e)
+pub fn by_news(_t: &Typed, e: &TExpr) -> bool {
+    goes_by_news(e)
 }
 
 /// Appends the range check of the left-indexed reference `e` and the making of its address, and
@@ -24,9 +24,10 @@ pub fn locate(
     u: &mut Unit,
 ) -> Result<Out, Memory> {
     if indexes.is_empty() {
-        check_grid(alloc, t, e, u)
+        check_grid(alloc, e, u)
     } else {
-        locate_in(alloc, e, indexes, u)
+        let at = address_of(e, u)?;
+        locate_in(alloc, e, indexes, at, u)
     }
 }
 

@@ -14,7 +14,7 @@ use paris_code::{
 use std::alloc::Global;
 
 /// Whether the get goes by NEWS: each index is a step along its own axis.
-pub fn goes_by_news(t: &Typed, e: &TExpr) -> bool {
+pub fn goes_by_news(e: &TExpr) -> bool {
     let TExpr::LeftIndex {
         ty,
         indexes,
@@ -29,7 +29,7 @@ pub fn goes_by_news(t: &Typed, e: &TExpr) -> bool {
     }
     let mut axis = 0u32;
     for index in indexes {
-        if step_of(t, *of, axis, index).is_none() {
+        if step_of(*of, axis, index).is_none() {
             return false;
         }
         axis = axis.saturating_add(1);
@@ -37,11 +37,23 @@ pub fn goes_by_news(t: &Typed, e: &TExpr) -> bool {
     true
 }
 
-/// The range check of a left index, and its address in a field or a register. A get that goes by
-/// NEWS has no address.
-pub fn locate_in(alloc: Global, e: &TExpr, indexes: &[Out], u: &mut Unit) -> Result<Out, Memory> {
+/// Where the address of a left index goes: a fresh field or a fresh register.
+pub fn address_of(e: &TExpr, u: &mut Unit) -> Result<Out, Memory> {
+    match e.ty().shape {
+        Some(set) => Ok(Out::Field(field(u, set)?)),
+        None => Ok(Out::Scalar(register(u)?)),
+    }
+}
+
+/// The range check of a left index, and the making of its address at `at`.
+pub fn locate_in(
+    alloc: Global,
+    e: &TExpr,
+    indexes: &[Out],
+    at: Out,
+    u: &mut Unit,
+) -> Result<Out, Memory> {
     let TExpr::LeftIndex {
-        ty,
         place,
         indexes: parts,
         of,
@@ -50,10 +62,9 @@ pub fn locate_in(alloc: Global, e: &TExpr, indexes: &[Out], u: &mut Unit) -> Res
     else {
         return Err(Memory);
     };
-    match ty.shape {
-        None => {
+    match at {
+        Out::Scalar(dest) => {
             let (checked, plain) = registers(alloc, parts.as_slice(), indexes)?;
-            let dest = register(u)?;
             put(
                 u,
                 Instr::FrontCheckTarget {
@@ -70,11 +81,9 @@ pub fn locate_in(alloc: Global, e: &TExpr, indexes: &[Out], u: &mut Unit) -> Res
                     coordinates: plain,
                 },
             )?;
-            Ok(Out::Scalar(dest))
         }
-        Some(set) => {
+        Out::Field(dest) => {
             let (checked, plain) = coordinates(alloc, parts.as_slice(), indexes)?;
-            let dest = field(u, set)?;
             put(
                 u,
                 Instr::CheckTarget {
@@ -91,13 +100,14 @@ pub fn locate_in(alloc: Global, e: &TExpr, indexes: &[Out], u: &mut Unit) -> Res
                     coordinates: plain,
                 },
             )?;
-            Ok(Out::Field(dest))
         }
+        Out::Nothing => return Err(Memory),
     }
+    Ok(at)
 }
 
 /// The range check of a get that goes by NEWS: its steps along the axes that do not wrap.
-pub fn check_grid(alloc: Global, t: &Typed, e: &TExpr, u: &mut Unit) -> Result<Out, Memory> {
+pub fn check_grid(alloc: Global, e: &TExpr, u: &mut Unit) -> Result<Out, Memory> {
     let TExpr::LeftIndex {
         ty,
         place,
@@ -111,7 +121,7 @@ pub fn check_grid(alloc: Global, t: &Typed, e: &TExpr, u: &mut Unit) -> Result<O
     let mut steps = Vec::new(alloc);
     let mut axis = 0u32;
     for index in indexes {
-        if let Some(step) = step_of(t, *of, axis, index) {
+        if let Some(step) = step_of(*of, axis, index) {
             if step.checked {
                 steps.push(GridStep {
                     axis,
@@ -120,6 +130,9 @@ pub fn check_grid(alloc: Global, t: &Typed, e: &TExpr, u: &mut Unit) -> Result<O
             }
         }
         axis = axis.saturating_add(1);
+    }
+    if steps.is_empty() {
+        return Ok(Out::Nothing);
     }
     let set = ty.shape.unwrap_or(*of);
     put(
@@ -184,7 +197,7 @@ pub fn comm_in(
     match e {
         TExpr::LeftIndex { ty, variable, .. } => {
             let source = names.field(t, *variable, 0, u)?;
-            read(t, e, *ty, source, at, into, u)
+            read(e, *ty, source, at, into, u)
         }
         TExpr::Assign {
             op,
@@ -265,7 +278,6 @@ fn part(parts: &[Out], number: usize) -> Result<Out, Memory> {
 
 /// A read through a left index: of one element, by the router, or by NEWS.
 fn read(
-    t: &Typed,
     e: &TExpr,
     ty: ValueType,
     source: Field,
@@ -306,20 +318,13 @@ fn read(
                 },
             )?;
         }
-        Out::Nothing => by_steps(t, e, ty.elem, source, into.field()?, u)?,
+        Out::Nothing => by_steps(e, ty.elem, source, into.field()?, u)?,
     }
     Ok(into)
 }
 
 /// A get by NEWS: one step along each axis, the values in between at every processor.
-fn by_steps(
-    t: &Typed,
-    e: &TExpr,
-    elem: Elem,
-    source: Field,
-    dest: Field,
-    u: &mut Unit,
-) -> Result<(), Memory> {
+fn by_steps(e: &TExpr, elem: Elem, source: Field, dest: Field, u: &mut Unit) -> Result<(), Memory> {
     let TExpr::LeftIndex { indexes, of, .. } = e else {
         return Err(Memory);
     };
@@ -329,21 +334,24 @@ fn by_steps(
     let mut to = one;
     let mut axis = 0u32;
     for index in indexes {
-        let by = match step_of(t, *of, axis, index) {
+        let by = match step_of(*of, axis, index) {
             Some(step) => step.by,
             None => 0,
         };
-        put(
-            u,
-            Instr::GetFromNewsAlways {
-                dest: to,
-                source: from,
-                axis,
-                by: Konst::Imm(by),
-            },
-        )?;
-        from = to;
-        to = if to == one { other } else { one };
+        if by != 0 {
+            let by = Konst::Imm(by);
+            put(
+                u,
+                Instr::GetFromNewsAlways {
+                    dest: to,
+                    source: from,
+                    axis,
+                    by,
+                },
+            )?;
+            from = to;
+            to = if to == one { other } else { one };
+        }
         axis = axis.saturating_add(1);
     }
     put(

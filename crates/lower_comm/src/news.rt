@@ -2,7 +2,8 @@
 //! without, maybe modulo the extent.
 
 use cstar_base::{Elem, Op};
-use cstar_tree::typed::{TExpr, Typed, UnaryOp};
+use cstar_tree::typed::TExpr;
+use source_meaning::constant;
 
 /// How a get moves along one axis. A checked step may lead out of the grid; an unchecked one wraps.
 #[derive(Clone, Copy, PartialEq, Eq)]
@@ -15,16 +16,16 @@ pub struct NewsStep {
 const MOST: u32 = 1_048_576;
 
 /// The step of one index of a left-indexed reference of this shape, if it goes by NEWS.
-pub fn step_of(t: &Typed, of: u16, axis: u32, index: &TExpr) -> Option<NewsStep> {
+pub fn step_of(of: u16, axis: u32, index: &TExpr) -> Option<NewsStep> {
     match index {
-        TExpr::Brackets { inner, .. } => step_of(t, of, axis, inner),
+        TExpr::Brackets { inner, .. } => step_of(of, axis, inner),
         TExpr::Binary {
             op: Op::Mod,
             left,
             right,
             ..
         } => {
-            let by = offset(t, axis, left)?;
+            let by = offset(axis, left)?;
             if is_extent(of, axis, right) {
                 Some(NewsStep { by, checked: false })
             } else {
@@ -36,16 +37,16 @@ pub fn step_of(t: &Typed, of: u16, axis: u32, index: &TExpr) -> Option<NewsStep>
             checked: false,
         }),
         _ => {
-            let by = offset(t, axis, index)?;
+            let by = offset(axis, index)?;
             Some(NewsStep { by, checked: true })
         }
     }
 }
 
 /// The step of `. + k` or `. - k`.
-fn offset(t: &Typed, axis: u32, e: &TExpr) -> Option<u32> {
+fn offset(axis: u32, e: &TExpr) -> Option<u32> {
     match e {
-        TExpr::Brackets { inner, .. } => offset(t, axis, inner),
+        TExpr::Brackets { inner, .. } => offset(axis, inner),
         TExpr::Binary {
             op,
             left,
@@ -55,7 +56,7 @@ fn offset(t: &Typed, axis: u32, e: &TExpr) -> Option<u32> {
             if !is_dot(left) {
                 return None;
             }
-            let k = constant_step(t, right)?;
+            let k = constant_step(right)?;
             match op {
                 Op::Add => Some(k),
                 Op::Sub => Some(k.wrapping_neg()),
@@ -75,36 +76,19 @@ fn is_dot(e: &TExpr) -> bool {
 }
 
 /// A constant expression of type `int` from -2^20 to 2^20, as its 32 bits.
-fn constant_step(t: &Typed, e: &TExpr) -> Option<u32> {
-    let k = match e {
-        TExpr::Promote { operand, .. } => constant(t, operand)?,
-        _ => return None,
+fn constant_step(e: &TExpr) -> Option<u32> {
+    let TExpr::Promote { operand, .. } = e else {
+        return None;
     };
+    let is_converted = matches!(&**operand, TExpr::Convert { .. });
+    if is_converted || operand.ty().elem != Elem::INT {
+        return None;
+    }
+    let k = constant(operand)?;
     if k <= MOST || k.wrapping_neg() <= MOST {
         Some(k)
     } else {
         None
-    }
-}
-
-/// The value of a constant expression of type `int`.
-fn constant(t: &Typed, e: &TExpr) -> Option<u32> {
-    match e {
-        TExpr::Number { ty, value } => if ty.elem == Elem::INT {
-            Some(*value)
-        } else {
-            None
-        },
-        TExpr::Brackets { inner, .. } => constant(t, inner),
-        TExpr::Unary { op, operand, .. } => {
-            let v = constant(t, operand)?;
-            match op {
-                UnaryOp::Plus => Some(v),
-                UnaryOp::Minus => Some(v.wrapping_neg()),
-                _ => None,
-            }
-        }
-        _ => None,
     }
 }
 

@@ -1,0 +1,7 @@
+//! Linking: the units of a placed program become one list of code.
+#![tactic(auto)]
+
+mod image;
+mod target;
+
+pub use image::link;

@@ -1,0 +1,417 @@
+//! The fields that an instruction names.
+
+use cstar_base::Memory;
+use paris_code::{Coordinate, Field, Instr, SignedCoordinate};
+use std::alloc::Global;
+
+/// Appends the fields that an instruction names.
+pub fn named(i: &Instr, all: &mut Vec<Field>) -> Result<(), Memory> {
+    match i {
+        Instr::MoveConstant { dest, .. }
+        | Instr::MoveZeroAlways { dest }
+        | Instr::MyNewsCoordinate { dest, .. }
+        | Instr::StoreTest { dest }
+        | Instr::StoreContext { dest }
+        | Instr::WriteToProcessor { dest, .. } => one(*dest, all),
+        Instr::EqZero { source }
+        | Instr::NeZero { source }
+        | Instr::LoadTest { source }
+        | Instr::LoadContext { source }
+        | Instr::CheckDivisor { source, .. }
+        | Instr::Global { source, .. }
+        | Instr::ReadFromProcessor { source, .. } => one(*source, all),
+        Instr::Move { dest, source, .. }
+        | Instr::MoveAlways { dest, source }
+        | Instr::Negate { dest, source }
+        | Instr::Lognot { dest, source }
+        | Instr::GetFromNews { dest, source, .. }
+        | Instr::GetFromNewsAlways { dest, source, .. } => two(*dest, *source, all),
+        Instr::OperateConstant { dest, left, .. } => two(*dest, *left, all),
+        Instr::Compare { left, right, .. } => two(*left, *right, all),
+        Instr::Operate {
+            dest,
+            left,
+            right,
+            ..
+        } => three(*dest, *left, *right, all),
+        Instr::Get {
+            dest,
+            address,
+            source,
+        }
+        | Instr::SendWithOverwrite {
+            dest,
+            address,
+            source,
+            ..
+        }
+        | Instr::SendWithCombiner {
+            dest,
+            address,
+            source,
+            ..
+        } => three(*dest, *address, *source, all),
+        Instr::Scan {
+            dest,
+            source,
+            bit,
+            ..
+        } => {
+            two(*dest, *source, all)?;
+            match bit {
+                Some(bit) => one(*bit, all),
+                None => Ok(()),
+            }
+        }
+        Instr::MakeAddress {
+            dest,
+            coordinates,
+            ..
+        } => {
+            one(*dest, all)?;
+            for coordinate in coordinates {
+                coordinate_field(*coordinate, all)?;
+            }
+            Ok(())
+        }
+        Instr::CheckTarget { coordinates, .. } => {
+            for coordinate in coordinates {
+                coordinate_field(coordinate.coordinate, all)?;
+            }
+            Ok(())
+        }
+        _ => Ok(()),
+    }
+}
+
+fn one(a: Field, all: &mut Vec<Field>) -> Result<(), Memory> {
+    all.push(a)?;
+    Ok(())
+}
+
+fn two(a: Field, b: Field, all: &mut Vec<Field>) -> Result<(), Memory> {
+    one(a, all)?;
+    one(b, all)
+}
+
+fn three(a: Field, b: Field, c: Field, all: &mut Vec<Field>) -> Result<(), Memory> {
+    two(a, b, all)?;
+    one(c, all)
+}
+
+fn coordinate_field(coordinate: Coordinate, all: &mut Vec<Field>) -> Result<(), Memory> {
+    match coordinate {
+        Coordinate::Field(field) => one(field, all),
+        Coordinate::Reg(_) => Ok(()),
+    }
+}
+
+/// The field at the bits that its entry has.
+fn moved(f: Field, places: &[u32]) -> Field {
+    Field {
+        set: f.set,
+        offset: match places.get(f.offset as usize) {
+            Some(place) => *place,
+            None => 0,
+        },
+        len: f.len,
+    }
+}
+
+fn moved_coordinate(coordinate: Coordinate, places: &[u32]) -> Coordinate {
+    match coordinate {
+        Coordinate::Field(field) => Coordinate::Field(moved(field, places)),
+        Coordinate::Reg(register) => Coordinate::Reg(register),
+    }
+}
+
+/// The instruction over bits: each field at the place of its entry.
+pub fn placed(alloc: Global, i: Instr, places: &[u32]) -> Result<Instr, Memory> {
+    match i {
+        Instr::MakeAddress {
+            dest,
+            set,
+            coordinates,
+        } => {
+            let mut over = Vec::new(alloc);
+            for coordinate in &coordinates {
+                over.push(moved_coordinate(*coordinate, places))?;
+            }
+            Ok(Instr::MakeAddress {
+                dest: moved(dest, places),
+                set,
+                coordinates: over,
+            })
+        }
+        Instr::CheckTarget {
+            set,
+            place,
+            coordinates,
+        } => {
+            let mut over = Vec::new(alloc);
+            for checked in &coordinates {
+                let coordinate = moved_coordinate(checked.coordinate, places);
+                over.push(SignedCoordinate {
+                    coordinate,
+                    signed: checked.signed,
+                })?;
+            }
+            Ok(Instr::CheckTarget {
+                set,
+                place,
+                coordinates: over,
+            })
+        }
+        other => Ok(placed_elementwise(other, places)),
+    }
+}
+
+/// The same for moves, flags and checks.
+fn placed_elementwise(i: Instr, p: &[u32]) -> Instr {
+    match i {
+        Instr::Move {
+            signed,
+            dest,
+            source,
+        } => {
+            Instr::Move {
+                signed,
+                dest: moved(dest, p),
+                source: moved(source, p),
+            }
+        }
+        Instr::MoveConstant { dest, value } => Instr::MoveConstant {
+            dest: moved(dest, p),
+            value,
+        },
+        Instr::MoveZeroAlways { dest } => Instr::MoveZeroAlways {
+            dest: moved(dest, p),
+        },
+        Instr::MoveAlways { dest, source } => {
+            Instr::MoveAlways {
+                dest: moved(dest, p),
+                source: moved(source, p),
+            }
+        }
+        Instr::MyNewsCoordinate { dest, axis } => {
+            Instr::MyNewsCoordinate {
+                dest: moved(dest, p),
+                axis,
+            }
+        }
+        Instr::EqZero { source } => Instr::EqZero {
+            source: moved(source, p),
+        },
+        Instr::NeZero { source } => Instr::NeZero {
+            source: moved(source, p),
+        },
+        Instr::LoadTest { source } => Instr::LoadTest {
+            source: moved(source, p),
+        },
+        Instr::StoreTest { dest } => Instr::StoreTest {
+            dest: moved(dest, p),
+        },
+        Instr::LoadContext { source } => Instr::LoadContext {
+            source: moved(source, p),
+        },
+        Instr::StoreContext { dest } => Instr::StoreContext {
+            dest: moved(dest, p),
+        },
+        Instr::CheckDivisor { place, source } => {
+            Instr::CheckDivisor {
+                place,
+                source: moved(source, p),
+            }
+        }
+        other => placed_arithmetic(other, p),
+    }
+}
+
+/// The same for arithmetic and comparisons.
+fn placed_arithmetic(i: Instr, p: &[u32]) -> Instr {
+    match i {
+        Instr::Operate {
+            op,
+            dest,
+            left,
+            right,
+        } => {
+            Instr::Operate {
+                op,
+                dest: moved(dest, p),
+                left: moved(left, p),
+                right: moved(right, p),
+            }
+        }
+        Instr::OperateConstant {
+            op,
+            dest,
+            left,
+            right,
+        } => {
+            Instr::OperateConstant {
+                op,
+                dest: moved(dest, p),
+                left: moved(left, p),
+                right,
+            }
+        }
+        Instr::Negate { dest, source } => {
+            Instr::Negate {
+                dest: moved(dest, p),
+                source: moved(source, p),
+            }
+        }
+        Instr::Lognot { dest, source } => {
+            Instr::Lognot {
+                dest: moved(dest, p),
+                source: moved(source, p),
+            }
+        }
+        Instr::Compare {
+            relation,
+            left,
+            right,
+        } => {
+            Instr::Compare {
+                relation,
+                left: moved(left, p),
+                right: moved(right, p),
+            }
+        }
+        other => placed_messages(other, p),
+    }
+}
+
+/// The same for communication. The front end's instructions name no field.
+fn placed_messages(i: Instr, p: &[u32]) -> Instr {
+    match i {
+        Instr::GetFromNews {
+            dest,
+            source,
+            axis,
+            by,
+        } => {
+            Instr::GetFromNews {
+                dest: moved(dest, p),
+                source: moved(source, p),
+                axis,
+                by,
+            }
+        }
+        Instr::GetFromNewsAlways {
+            dest,
+            source,
+            axis,
+            by,
+        } => {
+            Instr::GetFromNewsAlways {
+                dest: moved(dest, p),
+                source: moved(source, p),
+                axis,
+                by,
+            }
+        }
+        Instr::Get {
+            dest,
+            address,
+            source,
+        } => {
+            Instr::Get {
+                dest: moved(dest, p),
+                address: moved(address, p),
+                source: moved(source, p),
+            }
+        }
+        Instr::SendWithOverwrite {
+            dest,
+            kind,
+            address,
+            source,
+        } => Instr::SendWithOverwrite {
+            dest: moved(dest, p),
+            kind,
+            address: moved(address, p),
+            source: moved(source, p),
+        },
+        Instr::SendWithCombiner {
+            combiner,
+            dest,
+            kind,
+            address,
+            source,
+        } => {
+            Instr::SendWithCombiner {
+                combiner,
+                dest: moved(dest, p),
+                kind,
+                address: moved(address, p),
+                source: moved(source, p),
+            }
+        }
+        Instr::Global {
+            combiner,
+            dest,
+            source,
+        } => {
+            Instr::Global {
+                combiner,
+                dest,
+                source: moved(source, p),
+            }
+        }
+        Instr::Scan {
+            combiner,
+            dest,
+            source,
+            axis,
+            direction,
+            mode,
+            bit,
+            inclusion,
+        } => {
+            Instr::Scan {
+                combiner,
+                dest: moved(dest, p),
+                source: moved(source, p),
+                axis,
+                direction,
+                mode,
+                bit: moved_bit(bit, p),
+                inclusion,
+            }
+        }
+        Instr::ReadFromProcessor {
+            signed,
+            dest,
+            processor,
+            source,
+        } => {
+            Instr::ReadFromProcessor {
+                signed,
+                dest,
+                processor,
+                source: moved(source, p),
+            }
+        }
+        Instr::WriteToProcessor {
+            dest,
+            processor,
+            value,
+        } => {
+            Instr::WriteToProcessor {
+                dest: moved(dest, p),
+                processor,
+                value,
+            }
+        }
+        other => other,
+    }
+}
+
+fn moved_bit(bit: Option<Field>, p: &[u32]) -> Option<Field> {
+    match bit {
+        Some(bit) => Some(moved(bit, p)),
+        None => None,
+    }
+}

@@ -1,0 +1,10 @@
+//! Placing: each virtual field of a program gets its bits.
+#![tactic(auto)]
+
+mod chains;
+mod fields;
+mod offsets;
+mod placing;
+mod spans;
+
+pub use placing::place;

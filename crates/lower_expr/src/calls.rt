@@ -1,0 +1,22 @@
+//! The call on a unit as `lower` has it when it comes to an expression.
+
+use crate::value::{spread, value};
+use cstar_base::Memory;
+use cstar_tree::typed::{TExpr, Typed};
+use lower_comm::Out;
+use lower_comm::names::{Names, named};
+use paris_code::Unit;
+use std::alloc::Global;
+
+/// Appends the code of one expression, and answers where its value is.
+pub fn expr(alloc: Global, t: &Typed, e: &TExpr, u: &mut Unit) -> Result<Out, Memory> {
+    let mut names = Names::of(alloc, t)?;
+    let Some(instance) = named(t, u.name.bytes()) else {
+        return Err(Memory);
+    };
+    names.enter(t, instance)?;
+    match e.ty().shape {
+        Some(set) => spread(alloc, t, &names, e, set, u),
+        None => value(alloc, t, &names, e, u),
+    }
+}

@@ -1,0 +1,145 @@
+//! How many instructions a statement compiles to.
+
+use cstar_base::Memory;
+use cstar_tree::typed::{LocalVar, TExpr, TStmt, Typed};
+use lower_comm::emit::plus;
+use lower_comm::names::{Names, entries_of};
+use lower_expr::length::length;
+
+/// How many saved contexts a jump has to load: those that were saved in the innermost loop, and
+/// those that were saved in the whole function.
+#[derive(Clone, Copy)]
+pub struct Saved {
+    pub in_loop: u32,
+    pub in_all: u32,
+}
+
+impl Saved {
+    /// One more context is saved.
+    pub fn one_more(self) -> Result<Saved, Memory> {
+        Ok(Saved {
+            in_loop: plus(self.in_loop, 1)?,
+            in_all: plus(self.in_all, 1)?,
+        })
+    }
+
+    /// At the start of a loop.
+    pub fn at_loop(self) -> Saved {
+        Saved {
+            in_loop: 0,
+            in_all: self.in_all,
+        }
+    }
+}
+
+/// The instructions of a statement of a function that has a result or none.
+pub fn statement_length(
+    t: &Typed,
+    names: &Names,
+    s: &TStmt,
+    has_result: bool,
+    saved: Saved,
+) -> Result<u32, Memory> {
+    match s {
+        TStmt::Block { locals, statements } => {
+            let mut sum = locals_length(t, names, locals.as_slice())?;
+            for inner in statements {
+                let next = statement_length(t, names, inner, has_result, saved)?;
+                sum = plus(sum, next)?;
+            }
+            Ok(sum)
+        }
+        TStmt::Expression(e) => length(t, names, e),
+        TStmt::Empty => Ok(0),
+        TStmt::If {
+            test,
+            then,
+            otherwise,
+        } => {
+            let test = length(t, names, test)?;
+            let then = statement_length(t, names, then, has_result, saved)?;
+            let sum = plus(plus(test, then)?, 1)?;
+            match otherwise {
+                Some(other) => {
+                    let other = statement_length(t, names, other, has_result, saved)?;
+                    plus(plus(sum, other)?, 1)
+                }
+                None => Ok(sum),
+            }
+        }
+        TStmt::While { test, body } => {
+            let body = statement_length(t, names, body, has_result, saved.at_loop())?;
+            plus(plus(length(t, names, test)?, body)?, 3)
+        }
+        TStmt::Do { body, test } => {
+            let body = statement_length(t, names, body, has_result, saved.at_loop())?;
+            plus(plus(length(t, names, test)?, body)?, 2)
+        }
+        TStmt::For {
+            first,
+            test,
+            step,
+            body,
+        } => {
+            let body = statement_length(t, names, body, has_result, saved.at_loop())?;
+            let first = part_length(t, names, first)?;
+            let test = part_length(t, names, test)?;
+            let step = part_length(t, names, step)?;
+            plus(plus(plus(first, test)?, plus(step, body)?)?, 3)
+        }
+        TStmt::Break | TStmt::Continue => plus(saved.in_loop, 1),
+        TStmt::Return(None) => plus(saved.in_all, 1),
+        TStmt::Return(Some(e)) => {
+            let stored = if has_result { 2 } else { 1 };
+            plus(plus(length(t, names, e)?, saved.in_all)?, stored)
+        }
+        TStmt::With { body, .. } => statement_length(t, names, body, has_result, saved),
+        TStmt::Everywhere { body, .. } => {
+            let body = statement_length(t, names, body, has_result, saved.one_more()?)?;
+            plus(body, 3)
+        }
+        TStmt::Where {
+            test,
+            then,
+            otherwise,
+            ..
+        } => {
+            let test = length(t, names, test)?;
+            let then = statement_length(t, names, then, has_result, saved.one_more()?)?;
+            let sum = plus(plus(test, then)?, 5)?;
+            match otherwise {
+                Some(other) => {
+                    let more = saved.one_more()?;
+                    let other = statement_length(t, names, other, has_result, more)?;
+                    plus(plus(sum, other)?, 3)
+                }
+                None => Ok(sum),
+            }
+        }
+    }
+}
+
+/// An optional part of a `for`.
+pub fn part_length(t: &Typed, names: &Names, part: &Option<TExpr>) -> Result<u32, Memory> {
+    match part {
+        Some(e) => length(t, names, e),
+        None => Ok(0),
+    }
+}
+
+/// The variables of a block: each becomes zero, and then takes its initialiser.
+fn locals_length(t: &Typed, names: &Names, locals: &[LocalVar]) -> Result<u32, Memory> {
+    let mut sum = 0;
+    for local in locals {
+        let zeroed = if local.info.shape.is_some() {
+            entries_of(&local.info)
+        } else {
+            1
+        };
+        sum = plus(sum, zeroed)?;
+        if let Some(e) = &local.initial {
+            sum = plus(plus(sum, length(t, names, e)?)?, 1)?;
+        }
+    }
+    Ok(sum)
+}
