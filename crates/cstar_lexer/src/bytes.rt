@@ -1,10 +1,13 @@
 //! The classes of bytes, and the parts of a text from a position on.
 
-ghost use Rattle.std.specs.Prelude.{◌≡◌, ◌≤◌, ◌<◌, ◌+◌, length, drop, false, IfSome, IsSome};
+ghost use Rattle.std.specs.Prelude.{ℕ, true, slice_index, ◌≡◌, ◌≤◌, ◌<◌, ◌+◌, length, drop, false, IfSome, IsSome};
 ghost use Rattle.cstar_lexer.specs.Pieces.{IsDigit};
+ghost use Rattle.cstar_lexer.specs.Reading.{IsBlank, IsComment};
 
 /// A blank that does not end its line.
-pub fn is_blank(byte: u8) -> bool {
+pub fn is_blank(byte: u8) -> bool
+    ensures { result ≡ true → IsBlank byte }
+{
     matches!(byte, b' ' | b'\t' | 0x0b | 0x0c | b'\r')
 }
 
@@ -65,23 +68,38 @@ pub fn name_length(rest: &[u8]) -> usize
 
 /// The length of the line that begins here, without the newline that ends it.
 pub fn line_length(rest: &[u8]) -> usize
-    ensures { result ≤ length rest.now }
+    ensures within { result ≤ length rest.now }
+    ensures one_line { (at : ℕ) → at < result → slice_index rest.now at ≡ 10 → ⊥ }
+    ensures whole { result < length rest.now → slice_index rest.now result ≡ 10 }
 {
-    rest.iter()
-        .position(|byte| *byte == b'\n')
-        .unwrap_or(rest.len())
+    for (at, byte) in rest.iter().enumerate() {
+        if *byte == b'\n' {
+            return at;
+        }
+    }
+    rest.len()
 }
 
-/// The length of a comment that begins with the two bytes here, or None where it is not closed.
-pub fn comment_length(rest: &[u8]) -> Option<usize>
-    ensures { IfSome result (λ n. (1 < n) × (n ≤ length rest.now)) }
+/// Whether a comment opens here.
+pub fn opens_comment(rest: &[u8]) -> bool
+    ensures slash { result ≡ true → slice_index rest.now 0 ≡ 47 }
+    ensures star { result ≡ true → slice_index rest.now 1 ≡ 42 }
 {
-    if rest.len() < 4 {
-        return None;
+    rest.len() > 1 && rest[0] == b'/' && rest[1] == b'*'
+}
+
+/// The length of the comment that opens here, or None where it is not closed.
+pub fn comment_length(rest: &[u8]) -> Option<usize>
+    requires slash { slice_index rest.now 0 ≡ 47 }
+    requires star { slice_index rest.now 1 ≡ 42 }
+    ensures { IfSome result (IsComment rest.now) }
+{
+    let mut last: usize = 3;
+    'bytes: while last < rest.len() {
+        if rest[last - 1] == b'*' && rest[last] == b'/' {
+            return Some(last + 1);
+        }
+        last += 1;
     }
-    let body = tail(rest, 2);
-    let inner = body
-        .windows(2)
-        .position(|pair| pair[0] == b'*' && pair[1] == b'/')?;
-    Some(inner + 4)
+    None
 }
