@@ -1,0 +1,4 @@
+pub mod Fit
+pub mod Front
+pub mod Numerals
+pub mod Scalar
