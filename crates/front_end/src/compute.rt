@@ -166,17 +166,17 @@ impl Front {
                 self.add_konst(*value);
             }
             Instr::MakeAddress { coordinates, .. } => {
-                for coordinate in coordinates {
+                'addresses: for coordinate in coordinates {
                     self.add_coordinate(*coordinate);
                 }
             }
             Instr::CheckTarget { coordinates, .. } => {
-                for checked in coordinates {
+                'targets: for checked in coordinates {
                     self.add_coordinate(checked.coordinate);
                 }
             }
             Instr::CheckGrid { steps, .. } => {
-                for step in steps {
+                'steps: for step in steps {
                     self.add_konst(step.step);
                 }
             }

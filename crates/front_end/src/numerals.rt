@@ -44,9 +44,9 @@ fn in_bits(width: u32, n: u32) -> Numeral
 {
     let mut room = [0; 11];
     let mut len = 0u8;
-    for place in (0..11).rev() {
-        let rest = u64::from(n) >> (width * place);
-        if rest != 0 || place == 0 {
+    'places: for k in 0..11u32 {
+        let rest = u64::from(n) >> (width * (10 - k));
+        if rest != 0 || k == 10 {
             let low = if width == 4 { rest % 16 } else { rest % 8 };
             room[usize::from(len)] = digit(low as u32);
             len += 1;

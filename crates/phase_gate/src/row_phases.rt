@@ -1,0 +1,6 @@
+use crate::rows::Rows;
+
+#[derive(Drop)]
+pub struct RowPhases {
+    sets: Vec<Rows>,
+}
