@@ -96,3 +96,19 @@ room_for_call image at unit returns h keeps =
 
 pub place_called : (image : Image) (at unit to : ℕ) (returns : List ℕ) → IsPlace image at returns → IsAt image at (I.FrontCall unit) → IsInUnitOf image (at + 1) at → (unit_of image to ≡ unit) × (to < length image.code.items) → IsPlace image to (returns ++ (at + 1) ∷ [])
 place_called image at unit to returns h is goes start = (start.1, chain_called image 0 returns at unit to h.1 is goes start.0)
+
+first_unit : (starts : List ℕ) (end : ℕ) → AreStarts starts end → (started starts 0 - 1 ≡ 0) × (0 < end)
+first_unit [] end h = absurd h
+first_unit (first ∷ starts) end h =
+    let at = started_at first starts end 0 h.1 (omega arith) in
+    let family : ℕ → Type 0 = λ place. started (first ∷ starts) place - 1 ≡ 0 in
+    (subst family h.0 (omega (arith, at.0)), omega (arith, at.1))
+
+-- the opening state stands in the first unit
+pub place_opening : (image : Image) → HasUnits image → IsPlace image 0 []
+place_opening image h = let first = first_unit (starts_of image) (length image.code.items) h in (first.1, first.0)
+
+pub place_open : (image : Image) (returns : List ℕ) → HasUnits image → returns ≡ [] → IsPlace image 0 returns
+place_open image returns h e =
+    let family : List ℕ → Type 0 = λ places. IsPlace image 0 places in
+    subst family (sym e) (place_opening image h)

@@ -1,14 +1,14 @@
 //! What the scalar instructions and the arguments of the parallel ones come to.
 
-ghost use Rattle.std.specs.Prelude.{◌≡◌, ◌+◌, ◌<◌, ◌≤◌, ◌++◌, ◌∷◌, [], length, slice_index, vec_len, All, IfSome, true, false};
+ghost use Rattle.std.specs.Prelude.{◌≡◌, ◌+◌, ◌<◌, ◌≤◌, ◌++◌, ◌∷◌, [], length, slice_index, vec_len, All, IfSome, true};
 ghost use Rattle.paris_code.specs.Shapes.{shapes_of, rank_at};
-ghost use Rattle.paris_code.specs.Operands.{register_of, coordinate_of, konst_of};
+ghost use Rattle.paris_code.specs.Operands.{arguments_of, register_of, registers_of_coordinate, registers_of_konst};
 ghost use Rattle.paris_code.specs.RuleField.{KeepsField, KonstFits, IsSlot, IsRegisterAt};
 ghost use Rattle.paris_code.specs.RuleSet.{KeepsSet};
 ghost use Rattle.paris_code.specs.Kinds.{is_parallel};
 ghost use Rattle.paris_code.specs.RuleTarget.{GoesOn};
 ghost use Rattle.paris_code.specs.Sound.{KeepsRules};
-ghost use Rattle.front_end.specs.Front.{state_of, Fits};
+ghost use Rattle.front_end.specs.Front.{state_of, Fits, argument_limit, result_of};
 
 use crate::front::Front;
 use crate::scalar;
@@ -18,7 +18,8 @@ use paris_code::{Coordinate, Instr, Konst, RegisterCoordinate};
 /// The register that takes the value of a parallel instruction.
 pub(crate) fn result_register(sound: &Sound, at: u32, instr: &Instr) -> Option<u32>
     requires { KeepsRules sound.now at instr.now }
-    ensures { IfSome result (λ r. r < sound.now.slots) }
+    ensures slot { IfSome result (λ r. r < sound.now.slots) }
+    ensures value { result ≡ result_of instr.now }
 {
     match instr {
         Instr::Global { dest, .. } | Instr::ReadFromProcessor { dest, .. } => Some(*dest),
@@ -121,7 +122,9 @@ impl Front {
     /// Adds a register to the arguments.
     fn add_argument(&mut self, register: u32)
         requires slot { register < length self.old.registers.items }
-        ensures { state_of self.new ≡ record (state_of self.old) { args = self.new.args.items } }
+        requires room { length self.old.args.items < self.old.argument_room }
+        ensures state { state_of self.new ≡ record (state_of self.old) { args = self.new.args.items } }
+        ensures count { length self.new.args.items ≡ length self.old.args.items + 1 }
     {
         let value = self.register(register);
         let _room = self.args.push(value);
@@ -129,7 +132,9 @@ impl Front {
 
     fn add_konst(&mut self, konst: Konst)
         requires slot { KonstFits (length self.old.registers.items) konst }
-        ensures { state_of self.new ≡ record (state_of self.old) { args = self.new.args.items } }
+        requires room { length self.old.args.items < self.old.argument_room }
+        ensures count { length self.new.args.items ≡ length self.old.args.items + length (registers_of_konst konst) }
+        ensures state { state_of self.new ≡ record (state_of self.old) { args = self.new.args.items } }
     {
         if let Konst::Reg(register) = konst {
             self.add_argument(register);
@@ -138,7 +143,9 @@ impl Front {
 
     fn add_coordinate(&mut self, coordinate: Coordinate)
         requires slot { IsRegisterAt (length self.old.registers.items) coordinate }
-        ensures { state_of self.new ≡ record (state_of self.old) { args = self.new.args.items } }
+        requires room { length self.old.args.items < self.old.argument_room }
+        ensures count { length self.new.args.items ≡ length self.old.args.items + length (registers_of_coordinate coordinate) }
+        ensures state { state_of self.new ≡ record (state_of self.old) { args = self.new.args.items } }
     {
         if let Coordinate::Reg(register) = coordinate {
             self.add_argument(register);
@@ -149,7 +156,10 @@ impl Front {
     pub(crate) fn gather(&mut self, sound: &Sound, instr: &Instr)
         requires fits { Fits sound.now (state_of self.old) }
         requires keeps { KeepsRules sound.now self.old.at instr.now }
-        ensures { state_of self.new ≡ record (state_of self.old) { args = self.new.args.items } }
+        requires room { argument_limit instr.now ≤ self.old.argument_room }
+        requires some { 2 ≤ self.old.argument_room }
+        ensures state { state_of self.new ≡ record (state_of self.old) { args = self.new.args.items } }
+        ensures count { length self.new.args.items ≡ length (arguments_of instr.now) }
     {
         self.args.clear();
         match instr {
@@ -160,7 +170,9 @@ impl Front {
             }
             Instr::ReadFromProcessor { processor, .. } => self.add_argument(*processor),
             Instr::WriteToProcessor {
-                processor, value, ..
+                processor,
+                value,
+                ..
             } => {
                 self.add_argument(*processor);
                 self.add_konst(*value);

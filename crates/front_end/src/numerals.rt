@@ -35,7 +35,11 @@ fn digit(n: u32) -> u8
     requires { n < 16 }
     ensures { result ≡ digit_of n }
 {
-    if n < 10 { b'0' + n as u8 } else { b'a' - 10 + n as u8 }
+    if n < 10 {
+        b'0' + n as u8
+    } else {
+        b'a' - 10 + n as u8
+    }
 }
 
 /// The number in octal or hexadecimal, by digits of 3 or 4 bits.
@@ -64,8 +68,7 @@ pub fn signed(w: u32) -> i32
 }
 
 /// The text of a register.
-pub fn print(format: NumberFormat, w: u32) -> Numeral
-{
+pub fn print(format: NumberFormat, w: u32) -> Numeral {
     let mut buffer = Buffer::new();
     match format {
         NumberFormat::Signed => held(buffer.format(signed(w)).as_bytes()),

@@ -26,8 +26,7 @@ pub fn compare(relation: Compare, x: u32, y: u32) -> u32
 }
 
 /// The word converted to a type and promoted again.
-pub fn round(kind: Elem, x: u32) -> u32
-{
+pub fn round(kind: Elem, x: u32) -> u32 {
     wrap(Elem::INT, value(kind, convert(kind, Elem::INT, x)))
 }
 

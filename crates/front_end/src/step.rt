@@ -3,7 +3,7 @@ ghost use Rattle.paris_code.specs.Sound.{KeepsRules};
 ghost use Rattle.paris_code.specs.RuleTarget.{GoesOn};
 ghost use Rattle.paris_code.specs.Units.{IsAt, IsInUnitOf, unit_of, start_at};
 ghost use Rattle.paris_code.specs.Kinds.{is_parallel};
-ghost use Rattle.front_end.specs.Front.{state_of, Fits};
+ghost use Rattle.front_end.specs.Front.{state_of, Fits, AsksFor};
 
 use crate::ask::Ask;
 use crate::compute::result_register;
@@ -59,10 +59,11 @@ impl Front {
         requires goes { GoesOn sound.now self.old.at }
         requires slot { dest < sound.now.slots }
         ensures state { state_of self.new ≡ record (state_of self.old) {
-            at = self.old.at + 1;
-            registers = slice_set self.old.registers.items dest value;
+          at = self.old.at + 1;
+          registers = slice_set self.old.registers.items dest value;
         } }
         ensures fits { Fits sound.now (state_of self.new) }
+        ensures asks { result ≡ Ask.Ran }
     {
         self.registers[dest as usize] = value;
         self.go_on(sound);
@@ -75,10 +76,11 @@ impl Front {
         requires here { IsAt sound.now self.old.at (Instr.FrontCall unit) }
         requires keeps { KeepsRules sound.now self.old.at (Instr.FrontCall unit) }
         ensures state { state_of self.new ≡ record (state_of self.old) {
-            at = start_at sound.now unit;
-            returns = self.old.returns.items ++ (self.old.at + 1) ∷ [];
+          at = start_at sound.now unit;
+          returns = self.old.returns.items ++ (self.old.at + 1) ∷ [];
         } }
         ensures fits { Fits sound.now (state_of self.new) }
+        ensures asks { result ≡ Ask.Ran }
     {
         let _image = sound.image();
         let start = start_of(sound, unit);
@@ -93,10 +95,11 @@ impl Front {
         requires inner { unit_of sound.now self.old.at ≢ 0 }
         ensures state { self.old.returns.items ≡ self.new.returns.items ++ self.new.at ∷ [] }
         ensures same { state_of self.new ≡ record (state_of self.old) {
-            at = self.new.at;
-            returns = self.new.returns.items;
+          at = self.new.at;
+          returns = self.new.returns.items;
         } }
         ensures fits { Fits sound.now (state_of self.new) }
+        ensures asks { result ≡ Ask.Ran }
     {
         self.at = self.returns.pop().unwrap();
         Ask::Ran
@@ -109,8 +112,9 @@ impl Front {
         requires goes { taken ≡ false → GoesOn sound.now self.old.at }
         ensures fits { Fits sound.now (state_of self.new) }
         ensures state { state_of self.new ≡ record (state_of self.old) {
-            at = (if taken then target else self.old.at + 1);
+          at = (if taken then target else self.old.at + 1);
         } }
+        ensures asks { result ≡ Ask.Ran }
     {
         if taken {
             self.go_to(sound, target);
@@ -127,6 +131,7 @@ impl Front {
         ensures state { state_of self.new ≡ (if self.old.turns == 0 then state_of self.old
             else record (state_of self.old) { at = self.old.at + 1; turns = self.old.turns - 1 }) }
         ensures fits { Fits sound.now (state_of self.new) }
+        ensures asks { result ≡ (if self.old.turns == 0 then Ask.Stopped else Ask.Ran) }
     {
         if self.turns == 0 {
             return Ask::Stopped;
@@ -142,7 +147,10 @@ impl Front {
         requires keeps { KeepsRules sound.now self.old.at instr.now }
         requires here { IsAt sound.now self.old.at instr.now }
         requires parallel { is_parallel instr.now ≡ true }
+        requires ready { self.old.wanted ≡ None }
         ensures fits { Fits sound.now (state_of self.new) }
+        ensures asks { AsksFor sound.now (state_of self.old) result (state_of self.new) }
+        ensures turns { self.new.turns ≡ self.old.turns }
     {
         let at = self.at;
         self.gather(sound, instr);
@@ -157,6 +165,7 @@ impl Front {
         requires goes { GoesOn sound.now self.old.at }
         requires slot { dest < sound.now.slots }
         ensures fits { Fits sound.now (state_of self.new) }
+        ensures asks { AsksFor sound.now (state_of self.old) result (state_of self.new) }
     {
         self.wanted = Some(dest);
         self.go_on(sound);
@@ -168,7 +177,9 @@ impl Front {
         requires fits { Fits sound.now (state_of self.old) }
         requires goes { GoesOn sound.now self.old.at }
         requires slot { source < sound.now.slots }
+        requires ready { self.old.wanted ≡ None }
         ensures fits { Fits sound.now (state_of self.new) }
+        ensures asks { AsksFor sound.now (state_of self.old) result (state_of self.new) }
     {
         let Numeral { text, len } = numerals::print(format, self.register(source));
         self.go_on(sound);
@@ -179,7 +190,9 @@ impl Front {
     fn check(&mut self, sound: &Sound, holds: bool, kind: u8, place: Place) -> Ask
         requires fits { Fits sound.now (state_of self.old) }
         requires goes { GoesOn sound.now self.old.at }
+        requires ready { self.old.wanted ≡ None }
         ensures fits { Fits sound.now (state_of self.new) }
+        ensures asks { AsksFor sound.now (state_of self.old) result (state_of self.new) }
     {
         if !holds {
             return Ask::Fault { kind, place };
@@ -195,6 +208,7 @@ impl Front {
         requires fits { Fits sound.now (state_of self.old) }
         requires ready { self.old.wanted ≡ None }
         ensures fits { Fits sound.now (state_of self.new) }
+        ensures asks { AsksFor sound.now (state_of self.old) result (state_of self.new) }
     {
         let at = self.at;
         let instr = instr_at(sound, at);

@@ -2,9 +2,15 @@
 //! on one thread.
 #![tactic(auto)]
 
+mod apply;
+mod arith;
+mod checks;
+mod communication;
+mod elements;
 mod phases;
 mod row_phases;
 mod rows;
+mod sends;
 
 pub use phases::Phases;
 pub use row_phases::RowPhases;

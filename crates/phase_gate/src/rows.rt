@@ -3,8 +3,8 @@
 
 ghost use Rattle.std.specs.Prelude.{◌≡◌, ◌+◌, ◌*◌, ◌<◌, ◌≤◌, ◌^◌, vec_len, IfOk};
 ghost use Rattle.vp_sets.specs.Positions.{position_count};
-ghost use Rattle.phase_gate.specs.Rows.{shape_of_rows};
 
+use crate::arith::mask;
 use cstar_base::Memory;
 use std::alloc::Global;
 use vp_sets::Geometry;
@@ -27,14 +27,9 @@ pub(crate) struct Rows {
     ghost all: { vec_len cells ≡ positions * words },
 }
 
-/// The lowest `len` bits, all 1.
-fn mask(len: u8) -> u32
-    requires { (1 ≤ len) × (len ≤ 32) }
-{
-    u32::MAX >> (32 - u32::from(len))
-}
-
 impl Rows {
+    ghost use Rattle.phase_gate.specs.Rows.{shape_of_rows};
+
     /// Rows of zeros, but for the context flags, which are 1.
     pub(crate) fn new(alloc: Global, geometry: Geometry, bits: u32) -> Result<Rows, Memory>
         requires { bits ≤ 2 ^ 30 }
@@ -51,7 +46,7 @@ impl Rows {
             words,
             cells,
         };
-        for position in 0..positions {
+        'contexts: for position in 0..positions {
             rows.set_number(position, bits, 1, 1);
         }
         Ok(rows)
@@ -113,5 +108,12 @@ impl Rows {
         requires { position < position_count self.now.geometry }
     {
         self.number(position, self.bits, 1) == 1
+    }
+
+    /// The test flag of a processor.
+    pub(crate) fn test(&self, position: u32) -> bool
+        requires { position < position_count self.now.geometry }
+    {
+        self.number(position, self.bits + 1, 1) == 1
     }
 }

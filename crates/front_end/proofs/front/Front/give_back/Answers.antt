@@ -8,9 +8,10 @@ pub returns-clause-fits : goal.returns-clause-fits
 returns-clause-fits c =
     let popped : c.args.self.now.returns.items ≡ c.pop.new.self.items ++ c.unwrap-self.result ∷ [] = rw c.unwrap-self.ensures at c.pop.ensures.items in
     record {
-        place = place_returned c.args.sound.now c.args.self.now.at c.unwrap-self.result c.args.self.now.returns.items c.pop.new.self.items c.requires.fits.place popped;
-        registers = c.requires.fits.registers;
-        calls = c.requires.fits.calls;
-        arguments = c.requires.fits.arguments;
-        wanted = c.requires.fits.wanted;
+      place = place_returned c.args.sound.now c.args.self.now.at c.unwrap-self.result c.args.self.now.returns.items c.pop.new.self.items c.requires.fits.place popped;
+      registers = c.requires.fits.registers;
+      calls = c.requires.fits.calls;
+      some = c.requires.fits.some;
+      arguments = c.requires.fits.arguments;
+      wanted = c.requires.fits.wanted;
     }
