@@ -1,5 +1,6 @@
 pub mod Kinds
 pub mod Operands
+pub mod Operators
 pub mod RuleBackEdge
 pub mod RuleField
 pub mod RuleOperands

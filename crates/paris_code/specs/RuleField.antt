@@ -45,6 +45,11 @@ abbrev pub CoordinateFits : List SetShape → ℕ → Coordinate → Type 0
 CoordinateFits shapes slots (C.Field f) = Fits shapes f
 CoordinateFits shapes slots (C.Reg r) = r < slots
 
+-- a coordinate that is a register is one of so many
+abbrev pub IsRegisterAt : ℕ → Coordinate → Type 0
+IsRegisterAt slots (C.Field f) = Unit {0}
+IsRegisterAt slots (C.Reg r) = r < slots
+
 -- the fields and registers of an instruction are as its row in the table of instructions asks
 abbrev pub KeepsField : List SetShape → ℕ → Instr → Type 0
 KeepsField shapes slots (I.Move signed d a) = Fits shapes d × Fits shapes a

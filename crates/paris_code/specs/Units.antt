@@ -1,6 +1,6 @@
 -- Where the units of an image lie in its code, and which chains of calls there are.
 use Rattle.std.specs.Prelude.{◌≡◌, ℕ, zero, suc, ◌-◌, ◌<◌, List, [], ◌∷◌, map, length, nat_le, if◌then◌else◌, Some}
-use Rattle.std.specs.List.{slice_get}
+use Rattle.std.specs.List.{slice_get, slice_index}
 use Rattle.paris_code.specs.declared.instr.Instr.{Instr}
 use Rattle.paris_code.specs.declared.instr.Instr.TheVariants as I
 use Rattle.paris_code.specs.declared.program.Entry.{Entry}
@@ -11,6 +11,10 @@ start_of entry = entry.start
 
 abbrev pub starts_of : Image → List ℕ
 starts_of image = map start_of image.units.items
+
+-- where a unit begins
+abbrev pub start_at : Image → ℕ → ℕ
+start_at image unit = slice_index (starts_of image) unit
 
 -- how many of the units, whose starts are in order, begin at or before a place
 unfoldable pub started : List ℕ → ℕ → ℕ

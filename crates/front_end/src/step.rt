@@ -1,0 +1,256 @@
+ghost use Rattle.std.specs.Prelude.{◌≡◌, ◌≢◌, ◌+◌, ◌-◌, ◌<◌, ◌≤◌, ◌==◌, if◌then◌else◌, length, slice_set, slice_index, true, false, None, Some, ◌++◌, ◌∷◌, []};
+ghost use Rattle.paris_code.specs.Sound.{KeepsRules};
+ghost use Rattle.paris_code.specs.RuleTarget.{GoesOn};
+ghost use Rattle.paris_code.specs.Units.{IsAt, IsInUnitOf, unit_of, start_at};
+ghost use Rattle.paris_code.specs.Kinds.{is_parallel};
+ghost use Rattle.front_end.specs.Front.{state_of, Fits, AsksFor};
+
+use crate::ask::Ask;
+use crate::compute::result_register;
+use crate::front::Front;
+use crate::numerals;
+use crate::numerals::Numeral;
+use cstar_base::Place;
+use image_check::Sound;
+use paris_code::{Instr, NumberFormat};
+
+/// The instruction at an index of the code.
+fn instr_at(sound: &Sound, at: u32) -> &Instr
+    requires { at < length sound.now.code.items }
+    ensures is { IsAt sound.now at result.now }
+    ensures keeps { KeepsRules sound.now at result.now }
+{
+    &sound.image().code[at as usize]
+}
+
+/// Where a unit begins.
+fn start_of(sound: &Sound, unit: u32) -> u32
+    requires { unit < length sound.now.units.items }
+    ensures { result ≡ start_at sound.now unit }
+{
+    sound.image().units[unit as usize].start
+}
+
+impl Front {
+    /// Goes to another instruction of the unit.
+    fn go_to(&mut self, sound: &Sound, target: u32)
+        requires fits { Fits sound.now (state_of self.old) }
+        requires inside { IsInUnitOf sound.now target self.old.at }
+        ensures state { state_of self.new ≡ record (state_of self.old) { at = target } }
+        ensures fits { Fits sound.now (state_of self.new) }
+    {
+        self.at = target;
+    }
+
+    /// Goes on to the next instruction.
+    fn go_on(&mut self, sound: &Sound)
+        requires fits { Fits sound.now (state_of self.old) }
+        requires goes { GoesOn sound.now self.old.at }
+        ensures state { state_of self.new ≡ record (state_of self.old) { at = self.old.at + 1 } }
+        ensures fits { Fits sound.now (state_of self.new) }
+    {
+        let _image = sound.image();
+        self.go_to(sound, self.at + 1);
+    }
+
+    /// Sets a register and goes on to the next instruction.
+    fn set(&mut self, sound: &Sound, dest: u32, value: u32) -> Ask
+        requires fits { Fits sound.now (state_of self.old) }
+        requires goes { GoesOn sound.now self.old.at }
+        requires slot { dest < sound.now.slots }
+        ensures state { state_of self.new ≡ record (state_of self.old) {
+          at = self.old.at + 1;
+          registers = slice_set self.old.registers.items dest value;
+        } }
+        ensures fits { Fits sound.now (state_of self.new) }
+        ensures asks { result ≡ Ask.Ran }
+    {
+        self.registers[dest as usize] = value;
+        self.go_on(sound);
+        Ask::Ran
+    }
+
+    /// Goes to the start of a unit, and keeps the place behind the call.
+    fn call(&mut self, sound: &Sound, unit: u32) -> Ask
+        requires fits { Fits sound.now (state_of self.old) }
+        requires here { IsAt sound.now self.old.at (Instr.FrontCall unit) }
+        requires keeps { KeepsRules sound.now self.old.at (Instr.FrontCall unit) }
+        ensures state { state_of self.new ≡ record (state_of self.old) {
+          at = start_at sound.now unit;
+          returns = self.old.returns.items ++ (self.old.at + 1) ∷ [];
+        } }
+        ensures fits { Fits sound.now (state_of self.new) }
+        ensures asks { result ≡ Ask.Ran }
+    {
+        let _image = sound.image();
+        let start = start_of(sound, unit);
+        let _room = self.returns.push(self.at + 1);
+        self.at = start;
+        Ask::Ran
+    }
+
+    /// Goes to the place behind the last open call.
+    fn give_back(&mut self, sound: &Sound) -> Ask
+        requires fits { Fits sound.now (state_of self.old) }
+        requires inner { unit_of sound.now self.old.at ≢ 0 }
+        ensures state { self.old.returns.items ≡ self.new.returns.items ++ self.new.at ∷ [] }
+        ensures same { state_of self.new ≡ record (state_of self.old) {
+          at = self.new.at;
+          returns = self.new.returns.items;
+        } }
+        ensures fits { Fits sound.now (state_of self.new) }
+        ensures asks { result ≡ Ask.Ran }
+    {
+        self.at = self.returns.pop().unwrap();
+        Ask::Ran
+    }
+
+    /// Goes to the target where the jump is taken, else on.
+    fn jump(&mut self, sound: &Sound, taken: bool, target: u32) -> Ask
+        requires fits { Fits sound.now (state_of self.old) }
+        requires inside { IsInUnitOf sound.now target self.old.at }
+        requires goes { taken ≡ false → GoesOn sound.now self.old.at }
+        ensures fits { Fits sound.now (state_of self.new) }
+        ensures state { state_of self.new ≡ record (state_of self.old) {
+          at = (if taken then target else self.old.at + 1);
+        } }
+        ensures asks { result ≡ Ask.Ran }
+    {
+        if taken {
+            self.go_to(sound, target);
+        } else {
+            self.go_on(sound);
+        }
+        Ask::Ran
+    }
+
+    /// Spends a turn and goes on, where one is left.
+    fn turn(&mut self, sound: &Sound) -> Ask
+        requires fits { Fits sound.now (state_of self.old) }
+        requires goes { GoesOn sound.now self.old.at }
+        ensures state { state_of self.new ≡ (if self.old.turns == 0 then state_of self.old
+            else record (state_of self.old) { at = self.old.at + 1; turns = self.old.turns - 1 }) }
+        ensures fits { Fits sound.now (state_of self.new) }
+        ensures asks { result ≡ (if self.old.turns == 0 then Ask.Stopped else Ask.Ran) }
+    {
+        if self.turns == 0 {
+            return Ask::Stopped;
+        }
+        self.turns -= 1;
+        self.go_on(sound);
+        Ask::Ran
+    }
+
+    /// Asks for the phases' work, and for an answer where it gives a register its value.
+    fn apply(&mut self, sound: &Sound, instr: &Instr) -> Ask
+        requires fits { Fits sound.now (state_of self.old) }
+        requires keeps { KeepsRules sound.now self.old.at instr.now }
+        requires here { IsAt sound.now self.old.at instr.now }
+        requires parallel { is_parallel instr.now ≡ true }
+        requires ready { self.old.wanted ≡ None }
+        ensures fits { Fits sound.now (state_of self.new) }
+        ensures asks { AsksFor sound.now (state_of self.old) result (state_of self.new) }
+        ensures turns { self.new.turns ≡ self.old.turns }
+    {
+        let at = self.at;
+        self.gather(sound, instr);
+        self.wanted = result_register(sound, at, instr);
+        self.go_on(sound);
+        Ask::Apply { at }
+    }
+
+    /// Asks for the next byte of the input.
+    fn read(&mut self, sound: &Sound, dest: u32) -> Ask
+        requires fits { Fits sound.now (state_of self.old) }
+        requires goes { GoesOn sound.now self.old.at }
+        requires slot { dest < sound.now.slots }
+        ensures fits { Fits sound.now (state_of self.new) }
+        ensures asks { AsksFor sound.now (state_of self.old) result (state_of self.new) }
+    {
+        self.wanted = Some(dest);
+        self.go_on(sound);
+        Ask::Byte
+    }
+
+    /// Asks for the text of a register to be printed.
+    fn print(&mut self, sound: &Sound, format: NumberFormat, source: u32) -> Ask
+        requires fits { Fits sound.now (state_of self.old) }
+        requires goes { GoesOn sound.now self.old.at }
+        requires slot { source < sound.now.slots }
+        requires ready { self.old.wanted ≡ None }
+        ensures fits { Fits sound.now (state_of self.new) }
+        ensures asks { AsksFor sound.now (state_of self.old) result (state_of self.new) }
+    {
+        let Numeral { text, len } = numerals::print(format, self.register(source));
+        self.go_on(sound);
+        Ask::Digits { text, len }
+    }
+
+    /// Goes on where a check held; else the fault at its place.
+    fn check(&mut self, sound: &Sound, holds: bool, kind: u8, place: Place) -> Ask
+        requires fits { Fits sound.now (state_of self.old) }
+        requires goes { GoesOn sound.now self.old.at }
+        requires ready { self.old.wanted ≡ None }
+        ensures fits { Fits sound.now (state_of self.new) }
+        ensures asks { AsksFor sound.now (state_of self.old) result (state_of self.new) }
+    {
+        if !holds {
+            return Ask::Fault { kind, place };
+        }
+        self.go_on(sound);
+        Ask::Ran
+    }
+
+    /// Begins the instruction at which the code stands. Ran where it is thereby done, Apply at a
+    /// parallel instruction, Literal and Digits where it prints, Byte where it reads, Fault where
+    /// its check fails, Stopped where it is a turn and none is left, Halted at the end.
+    pub fn step(&mut self, sound: &Sound) -> Ask
+        requires fits { Fits sound.now (state_of self.old) }
+        requires ready { self.old.wanted ≡ None }
+        ensures fits { Fits sound.now (state_of self.new) }
+        ensures asks { AsksFor sound.now (state_of self.old) result (state_of self.new) }
+    {
+        let at = self.at;
+        let instr = instr_at(sound, at);
+        if instr.parallel() {
+            return self.apply(sound, instr);
+        }
+        match instr {
+            Instr::FrontJump { target } => self.jump(sound, true, *target),
+            Instr::FrontJumpZero { test, target } => {
+                let value = self.register(*test);
+                self.jump(sound, value == 0, *target)
+            }
+            Instr::FrontJumpNonzero { test, target } => {
+                let value = self.register(*test);
+                self.jump(sound, value != 0, *target)
+            }
+            Instr::FrontCall { unit } => self.call(sound, *unit),
+            Instr::FrontReturn => self.give_back(sound),
+            Instr::FrontTurn => self.turn(sound),
+            Instr::FrontHalt => Ask::Halted,
+            Instr::FrontPutBytes { .. } => {
+                self.go_on(sound);
+                Ask::Literal { at }
+            }
+            Instr::FrontPut { format, source } => self.print(sound, *format, *source),
+            Instr::FrontGetByte { dest } => self.read(sound, *dest),
+            Instr::FrontCheckTarget {
+                set,
+                place,
+                coordinates,
+            } => {
+                let holds = self.are_inside(sound, *set, coordinates.as_slice());
+                self.check(sound, holds, 1, *place)
+            }
+            Instr::FrontCheckDivisor { place, source } => {
+                let value = self.register(*source);
+                self.check(sound, value != 0, 2, *place)
+            }
+            _ => match self.computed(sound, instr) {
+                Some((dest, value)) => self.set(sound, dest, value),
+                None => Ask::Halted,
+            },
+        }
+    }
+}

@@ -1,0 +1,61 @@
+-- When an instruction can be applied by the phases of a machine with these sets.
+use Rattle.std.specs.Prelude.{◌≡◌, ℕ, ◌+◌, ◌<◌, ◌≤◌, true, List, length}
+use Rattle.vp_sets.specs.Positions.{position_count}
+use Rattle.paris_code.specs.declared.instr.Instr.{Instr}
+use Rattle.paris_code.specs.declared.instr.Instr.TheVariants as I
+use Rattle.paris_code.specs.declared.operands.Coordinate.{Coordinate}
+use Rattle.paris_code.specs.declared.operands.Coordinate.TheVariants as C
+use Rattle.paris_code.specs.declared.operands.Field.{Field}
+use Rattle.paris_code.specs.Kinds.{is_parallel}
+use Rattle.paris_code.specs.Operands.{arguments_of}
+use Rattle.paris_code.specs.RuleField.{KeepsField}
+use Rattle.paris_code.specs.RuleOperands.{KeepsOperands}
+use Rattle.paris_code.specs.RuleSet.{KeepsSet}
+use Rattle.paris_code.specs.Shapes.{SetShape, bits_at, extents_at}
+
+-- the instruction is one of the phases, it keeps the image rules on fields, sets and operands, and
+-- there is an argument for each register that it reads
+pub record CanApply (shapes : List SetShape) (instr : Instr) (args : List ℕ) : Type 0 where
+  pub parallel : is_parallel instr ≡ true
+  pub slots : ℕ
+  pub field : KeepsField shapes slots instr
+  pub set : KeepsSet shapes instr
+  pub operands : KeepsOperands shapes instr
+  pub arguments : length args ≡ length (arguments_of instr)
+
+-- a position of a set
+abbrev pub IsPosition : List SetShape → ℕ → ℕ → Type 0
+IsPosition shapes set position = (set < length shapes) × (position < position_count (extents_at shapes set))
+
+-- a field that lies in the bits of its set
+abbrev pub LiesIn : List SetShape → Field → Type 0
+LiesIn shapes f = (f.set < length shapes) × (1 ≤ f.len) × (f.len ≤ 32) × (f.offset + f.len ≤ bits_at shapes f.set)
+
+-- a coordinate that is a register, or a field of the processor at a position
+abbrev pub IsCoordinateAt : List SetShape → ℕ → Coordinate → Type 0
+IsCoordinateAt shapes position (C.Reg r) = Unit {0}
+IsCoordinateAt shapes position (C.Field f) = LiesIn shapes f × IsPosition shapes f.set position
+
+-- the set whose active processors do an elementwise instruction
+abbrev pub active_set : Instr → ℕ
+active_set (I.Move signed d a) = d.set
+active_set (I.MoveConstant d k) = d.set
+active_set (I.MoveZeroAlways d) = d.set
+active_set (I.MoveAlways d a) = d.set
+active_set (I.MyNewsCoordinate d axis) = d.set
+active_set (I.MakeAddress d set coordinates) = d.set
+active_set (I.Operate op d a b) = d.set
+active_set (I.OperateConstant op d a k) = d.set
+active_set (I.Negate d a) = d.set
+active_set (I.Lognot d a) = d.set
+active_set (I.Compare relation a b) = a.set
+active_set (I.EqZero a) = a.set
+active_set (I.NeZero a) = a.set
+active_set (I.LoadTest a) = a.set
+active_set (I.StoreTest d) = d.set
+active_set (I.LoadContext a) = a.set
+active_set (I.StoreContext d) = d.set
+active_set (I.SetContext set) = set
+active_set (I.LogandContextWithTest set) = set
+active_set (I.LogandcContextWithTest set) = set
+active_set _ = 0

@@ -1,0 +1,133 @@
+//! What the elementwise instructions compute at one processor.
+
+ghost use Rattle.std.specs.Prelude.{◌≡◌, ◌<◌, length, All};
+ghost use Rattle.std.specs.List.{flat_map};
+ghost use Rattle.paris_code.specs.Operands.{registers_of_konst, registers_of_coordinate};
+ghost use Rattle.paris_code.specs.Shapes.{bits_at, extents_at};
+ghost use Rattle.phase_gate.specs.Apply.{CanApply, IsPosition, LiesIn, IsCoordinateAt, active_set};
+
+use crate::arith::{extended, holds, operate};
+use crate::row_phases::RowPhases;
+use crate::rows::Rows;
+use paris_code::{Coordinate, Field, Instr, Konst};
+
+/// The number of an operand, of which the argument is the register's value.
+pub(crate) fn konst(k: Konst, args: &[u32]) -> u32
+    requires { length args.now ≡ length (registers_of_konst k) }
+{
+    match k {
+        Konst::Imm(n) => n,
+        Konst::Reg(_) => args[0],
+    }
+}
+
+impl RowPhases {
+    ghost use Rattle.phase_gate.specs.Rows.{shape_of_rows, sets_of};
+
+    /// The rows of a set.
+    pub(crate) fn rows(&self, set: u16) -> &Rows
+        requires { set < length (sets_of self.now) }
+        ensures extents { result.now.geometry ≡ extents_at (sets_of self.now) set }
+        ensures bits { result.now.bits ≡ bits_at (sets_of self.now) set }
+    {
+        &self.sets[usize::from(set)]
+    }
+
+    /// The number in a field of a processor, unsigned.
+    pub(crate) fn field(&self, f: Field, position: u32) -> u32
+        requires field { LiesIn (sets_of self.now) f }
+        requires position { IsPosition (sets_of self.now) f.set position }
+    {
+        self.rows(f.set).number(position, f.offset, f.len)
+    }
+
+    /// The number in a field of a processor as a word.
+    pub(crate) fn word(&self, signed: bool, f: Field, position: u32) -> u32
+        requires field { LiesIn (sets_of self.now) f }
+        requires position { IsPosition (sets_of self.now) f.set position }
+    {
+        extended(signed, f.len, self.field(f, position))
+    }
+
+    /// The row-major number of coordinates in a set, modulo 2 to the 32.
+    fn address(&self, set: u16, coordinates: &[Coordinate], args: &[u32], position: u32) -> u32
+        requires set { set < length (sets_of self.now) }
+        requires fields { All (IsCoordinateAt (sets_of self.now) position) coordinates.now }
+        requires arguments { length args.now ≡ length (flat_map registers_of_coordinate coordinates.now) }
+    {
+        let geometry = self.rows(set).geometry;
+        let mut number = 0u32;
+        let mut next = 0;
+        'coordinates: for (coordinate, extent) in coordinates.iter().zip(geometry.extents()) {
+            let x = match *coordinate {
+                Coordinate::Field(f) => self.field(f, position),
+                Coordinate::Reg(_) => {
+                    next += 1;
+                    args[next - 1]
+                }
+            };
+            number = number.wrapping_mul(*extent).wrapping_add(x);
+        }
+        number
+    }
+
+    /// What an elementwise instruction gives its destination at a processor.
+    #[tactic(auto, using(crate::proofs::FieldLemmas::lies, crate::proofs::FieldLemmas::same_positions))]
+    pub(crate) fn element(&self, instr: &Instr, args: &[u32], position: u32) -> u32
+        requires can { CanApply (sets_of self.now) instr.now args.now }
+        requires position { IsPosition (sets_of self.now) (active_set instr.now) position }
+    {
+        match instr {
+            Instr::Move { signed, source, .. } => self.word(*signed, *source, position),
+            Instr::MoveConstant { value, .. } => konst(*value, args),
+            Instr::MoveAlways { source, .. } => self.field(*source, position),
+            Instr::MyNewsCoordinate { dest, axis } => {
+                self.rows(dest.set).geometry.coord(position, *axis)
+            }
+            Instr::MakeAddress {
+                set,
+                coordinates,
+                ..
+            } => self.address(*set, coordinates.as_slice(), args, position),
+            Instr::Operate {
+                op,
+                dest,
+                left,
+                right,
+            } => {
+                let a = self.field(*left, position);
+                operate(*op, dest.len, a, self.field(*right, position))
+            }
+            Instr::OperateConstant {
+                op,
+                dest,
+                left,
+                right,
+            } => {
+                let a = self.field(*left, position);
+                operate(*op, dest.len, a, konst(*right, args))
+            }
+            Instr::Negate { source, .. } => self.field(*source, position).wrapping_neg(),
+            Instr::Lognot { source, .. } => !self.field(*source, position),
+            Instr::LoadContext { source } | Instr::LoadTest { source } => {
+                self.field(*source, position)
+            }
+            Instr::Compare {
+                relation,
+                left,
+                right,
+            } => {
+                let a = self.field(*left, position);
+                u32::from(holds(*relation, left.len, a, self.field(*right, position)))
+            }
+            Instr::EqZero { source } => u32::from(self.field(*source, position) == 0),
+            Instr::NeZero { source } => u32::from(self.field(*source, position) != 0),
+            Instr::StoreTest { dest } => u32::from(self.rows(dest.set).test(position)),
+            Instr::StoreContext { dest } => u32::from(self.rows(dest.set).is_active(position)),
+            Instr::SetContext { .. } => 1,
+            Instr::LogandContextWithTest { set } => u32::from(self.rows(*set).test(position)),
+            Instr::LogandcContextWithTest { set } => u32::from(!self.rows(*set).test(position)),
+            _ => 0,
+        }
+    }
+}

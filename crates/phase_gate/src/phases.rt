@@ -1,0 +1,41 @@
+ghost use Rattle.std.specs.Prelude.{◌≡◌, ◌≢◌, ◌+◌, ◌<◌, ◌≤◌, ℕ, List, true};
+ghost use Rattle.paris_code.specs.Shapes.{SetShape, bits_at};
+ghost use Rattle.phase_gate.specs.Apply.{CanApply, IsPosition, LiesIn};
+
+use cstar_base::Winner;
+use paris_code::{Field, Instr, Reply};
+
+/// What the machine does on all processors at once.
+pub trait Phases {
+    /// The sets, as in the image for which the phases were made.
+    ghost shapes: { Self → List SetShape };
+
+    /// Does a parallel instruction; `args` are the values of the registers that it reads, in the
+    /// order of its operands. `Value` where it has a result register, `Bad` with the least active
+    /// processor whose check fails, `Memory` at a send alone, and then nothing has changed; else
+    /// `Nothing`.
+    fn apply(&mut self, instr: &Instr, args: &[u32]) -> Reply
+        requires { CanApply (shapes self.old) instr.now args.now }
+        ensures shapes { shapes self.new ≡ shapes self.old };
+
+    /// The number in a field of a processor, unsigned.
+    fn read(&self, field: Field, position: u32) -> u32
+        requires field { LiesIn (shapes self.now) field }
+        requires position { IsPosition (shapes self.now) field.set position };
+
+    /// A bit of a processor: below the set's bits one of its fields, then the context flag, then
+    /// the test flag.
+    fn bit(&self, set: u16, index: u32, position: u32) -> bool
+        requires position { IsPosition (shapes self.now) set position }
+        requires index { index < bits_at (shapes self.now) set + 2 };
+
+    /// Changes this bit alone.
+    fn set_bit(&mut self, set: u16, index: u32, position: u32, b: bool)
+        requires position { IsPosition (shapes self.old) set position }
+        requires index { index < bits_at (shapes self.old) set + 2 }
+        ensures shapes { shapes self.new ≡ shapes self.old };
+
+    /// Changes which sender of a colliding send without a combiner wins, and nothing else.
+    fn choose(&mut self, w: Winner)
+        ensures shapes { shapes self.new ≡ shapes self.old };
+}
