@@ -48,9 +48,6 @@ pub fn compile(alloc: Global, text: &[u8]) -> Result<Sound, NoImage> {
     let tokens = tokens_of(alloc, text)?;
     let tree = tree_of(alloc, &tokens)?;
     let typed = typed_of(alloc, &tree)?;
-    if !lower_stmt::is_built(&typed) {
-        return Err(refused(NOT_BUILT, FILE_START));
-    }
     sound_of(alloc, image_of(alloc, &typed)?)
 }
 
