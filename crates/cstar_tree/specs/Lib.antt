@@ -1,2 +1,3 @@
+pub mod IsTyped
 pub mod Syntax
 pub mod Typed

@@ -12,16 +12,6 @@ use cstar_tree::syntax::Name;
 use cstar_tree::typed::{TExpr, ValueType};
 use std::alloc::Global;
 
-/// Does a parameter or the result have a shape that is not the current one?
-fn has_other_shape(header: &Header, current: Option<u16>) -> bool {
-    let other = |ty: ValueType| ty.shape.is_some() && ty.shape != current;
-    let result = match header.returns {
-        Returns::Value(ty) => other(ty),
-        Returns::Nothing | Returns::Unknown => false,
-    };
-    result || header.parameters.iter().any(|ty| ty.is_some_and(other))
-}
-
 /// Does a scalar parameter get a parallel argument?
 fn has_parallel_argument(header: &Header, arguments: &[TExpr]) -> bool {
     for (ty, argument) in header.parameters.iter().zip(arguments) {
@@ -76,7 +66,7 @@ impl<'a> Checker<'a> {
         };
         let count = header.parameters.len() == arguments.len();
         let parallel = has_parallel_argument(header, arguments.as_slice());
-        let other = has_other_shape(header, site.current);
+        let other = header.other_shape;
         let returns = header.returns;
         let fit = fit_arguments(self.alloc, header.parameters.as_slice(), arguments)?;
         let recursive = self.is_recursive(site, function);

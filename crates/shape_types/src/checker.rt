@@ -111,6 +111,8 @@ pub struct Checker<'a> {
     pub names: FileNames,
     pub functions: Vec<FunctionInfo>,
     pub shapes: Vec<ShapeInfo>,
+    /// The place of the name of the first shape that is one too many.
+    pub extra_shape: Option<Place>,
     pub vars: Vec<VarInfo>,
     /// The types of the variables of the file.
     pub var_types: Vec<Option<VariableType>>,
@@ -137,6 +139,7 @@ impl<'a> Checker<'a> {
             names: FileNames::new(alloc),
             functions: Vec::new(alloc),
             shapes: Vec::new(alloc),
+            extra_shape: None,
             vars: Vec::new(alloc),
             var_types: Vec::new(alloc),
             headers: IndexMap::new(alloc),

@@ -11,7 +11,7 @@ use cstar_tree::typed::{LocalVar, ShapeInfo, TExpr, ValueType, VarInfo, Variable
 use source_meaning::constant;
 
 /// The most shapes that a file can have.
-const SHAPES: usize = 64;
+pub const SHAPES: usize = 64;
 
 /// The length of an array as it is declared.
 #[derive(Clone, Copy)]
@@ -308,7 +308,7 @@ impl<'a> Checker<'a> {
         }
         if new {
             if self.shapes.len() == SHAPES {
-                self.fault(Rule::Size, place);
+                self.extra_shape = Some(place);
             }
             self.shapes.push(info)?;
         }

@@ -1,15 +1,18 @@
 //! The file as a whole: its names, its declarations, and the instances that `main` reaches.
 
+ghost use Rattle.std.specs.Prelude.{◌<◌, ◌≤◌, IsNone, length};
+
 use crate::checker::{Checker, FunctionInfo, Returns, Site};
+use crate::declarations::SHAPES;
 use crate::faults::Rule;
 use crate::headers::Reached;
 use crate::names::{FileName, Locals, VariableType};
-use cstar_base::{Memory, Place};
+use cstar_base::Memory;
 use cstar_tree::syntax::{Declaration, Function, Item, Name, Parameter, ResultType};
 use cstar_tree::typed::{Instance, ValueType, VarInfo, Variable};
 
 /// The most nodes that the trees of a program can have.
-pub const NODES: u64 = 1 << 20;
+const NODES: u64 = 1 << 20;
 
 /// How many names of each kind the file has so far.
 #[derive(Clone, Copy)]
@@ -143,9 +146,7 @@ impl<'a> Checker<'a> {
 
     /// The number of the function `main`, which takes nothing and answers an `int` or nothing.
     pub fn main(&mut self) -> Option<u32> {
-        let end = self.tree.end;
         let Some((_, FileName::Function(main))) = self.names.find_bytes(b"main") else {
-            self.fault(Rule::NoMain, end);
             return None;
         };
         if let Some((_, function)) = self.function(main)
@@ -154,6 +155,32 @@ impl<'a> Checker<'a> {
             self.fault(Rule::NoMain, function.name.place);
         }
         Some(main)
+    }
+
+    /// Records the faults of the file as a whole. A `main` that is there and is not typed has a
+    /// fault of its own, which stands before the end.
+    pub fn bounds(&mut self, instances: &[Instance])
+        ensures few_shapes { IsNone self.new.faults.least → length self.new.shapes.items ≤ 64 }
+        ensures main { IsNone self.new.faults.least → 0 < length instances.now }
+    {
+        let end = self.tree.end;
+        if self.nodes > NODES {
+            self.faults.stands(Rule::Size, end);
+        } else if instances.is_empty() {
+            self.faults.stands(Rule::NoMain, end);
+        }
+        self.shape_bound();
+    }
+
+    /// More than 64 shapes are a fault at the name of the 65th.
+    fn shape_bound(&mut self)
+        ensures few_shapes { IsNone self.new.faults.least → length self.new.shapes.items ≤ 64 }
+        ensures kept { IsNone self.new.faults.least → IsNone self.old.faults.least }
+    {
+        if SHAPES < self.shapes.len() {
+            let place = self.extra_shape.unwrap_or(self.tree.end);
+            self.faults.stands(Rule::Size, place);
+        }
     }
 
     /// Types the instances that `main` reaches, in the order in which they are met.
@@ -261,10 +288,5 @@ impl<'a> Checker<'a> {
     fn parameter_type(&self, reached: Reached, number: usize) -> Option<ValueType> {
         let header = self.headers.get(&reached)?;
         *header.parameters.get(number)?
-    }
-
-    /// The place of the file's end.
-    pub fn end(&self) -> Place {
-        self.tree.end
     }
 }

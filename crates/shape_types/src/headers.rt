@@ -16,12 +16,13 @@ pub struct Reached {
     pub current: Option<u16>,
 }
 
-/// The types of an instance's parameters and of its result, and the least fault among them. A type
-/// that has a fault is absent.
+/// The types of an instance's parameters and of its result, whether one of them has a shape that is
+/// not the current one, and the least fault among them. A type that has a fault is absent.
 #[derive(Drop)]
 pub struct Header {
     pub parameters: Vec<Option<ValueType>>,
     pub returns: Returns,
+    pub other_shape: bool,
     pub faults: Faults,
 }
 
@@ -42,6 +43,7 @@ impl<'a> Checker<'a> {
             None => Ok(Header {
                 parameters: Vec::new(self.alloc),
                 returns: Returns::Unknown,
+                other_shape: false,
                 faults: Faults::none(),
             }),
         }
@@ -67,13 +69,20 @@ impl<'a> Checker<'a> {
                 None => Returns::Unknown,
             },
         };
+        let mut other_shape = match returns {
+            Returns::Value(ty) => has_other_shape(ty, current),
+            Returns::Nothing | Returns::Unknown => false,
+        };
         let mut parameters = Vec::new(self.alloc);
         for parameter in &function.parameters {
-            parameters.push(self.parameter(&mut scope, parameter)?)?;
+            let ty = self.parameter(&mut scope, parameter)?;
+            other_shape = other_shape || ty.is_some_and(|ty| has_other_shape(ty, current));
+            parameters.push(ty)?;
         }
         Ok(Header {
             parameters,
             returns,
+            other_shape,
             faults: scope.faults,
         })
     }
@@ -126,6 +135,11 @@ impl<'a> Checker<'a> {
             None => Err(Rule::Unknown),
         }
     }
+}
+
+/// Is the type parallel, and of a shape that is not the current one?
+fn has_other_shape(ty: ValueType, current: Option<u16>) -> bool {
+    ty.shape.is_some() && ty.shape != current
 }
 
 fn fault(scope: &mut HeaderScope, rule: Rule, place: Place) -> Option<u16> {

@@ -1,7 +1,7 @@
 //! What is asked of shapes, and the scans.
 
 use crate::checker::{Checker, Site, TypedExpr, Typing};
-use crate::conversions::{INT, converted, promoted};
+use crate::conversions::{INT, converted, promoted, spread};
 use crate::faults::Rule;
 use cstar_base::{Combiner, Direction, Elem, Inclusion, Place, SegmentMode, numbers};
 use cstar_tree::syntax::{Name, TypeName};
@@ -131,7 +131,7 @@ impl<'a> Checker<'a> {
         {
             return Ok(None);
         }
-        let operand = crate::conversions::spread(self.alloc, operand, ty.shape)?;
+        let operand = spread(self.alloc, operand, ty.shape)?;
         Ok(Some(TypedExpr::of(TExpr::ParallelCast {
             ty,
             operand: self.boxed(operand)?,

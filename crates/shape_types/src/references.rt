@@ -3,7 +3,7 @@
 use crate::checker::{Checker, Site, TypedExpr, Typing};
 use crate::conversions::spread;
 use crate::faults::Rule;
-use crate::names::VariableType;
+use crate::names::{Meaning, VariableType};
 use cstar_base::{Elem, Memory, Place};
 use cstar_tree::syntax::Name;
 use cstar_tree::typed::{TExpr, ValueType, Variable};
@@ -98,7 +98,6 @@ impl<'a> Checker<'a> {
     /// Does the name stand for a variable of the current shape, so that a `.` in its left index
     /// has a meaning? This looks without recording faults.
     pub fn is_of_current(&self, site: Site, name: &Name) -> bool {
-        use crate::names::Meaning;
         match self.meaning(site, name) {
             Some(Meaning::Variable(_, Some(ty))) => {
                 ty.shape.is_some() && ty.shape == site.current
