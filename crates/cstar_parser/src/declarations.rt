@@ -82,11 +82,7 @@ fn read_declarator(
         None
     };
     let initial = if is_mark(tokens, spot.at, Mark::Equal) {
-        let place = match tokens.get(spot.at) {
-            Some(token) => token.place,
-            None => name.place,
-        };
-        spot.at += 1;
+        let place = expect(tokens, spot, Mark::Equal)?;
         let value = read_whole(alloc, tokens, spot, levels)?;
         Some(Initializer { place, value })
     } else {
