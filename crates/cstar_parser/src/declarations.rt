@@ -21,8 +21,7 @@ pub fn read_declaration(
     requires few { length tokens.now ≤ 1048576 }
     requires within { spot.old.at ≤ length tokens.now }
     requires depth { levels ≤ 100 }
-    ensures forward { OnOk result (spot.old.at < spot.new.at) }
-    ensures inside { spot.new.at ≤ length tokens.now }
+    ensures forward { OnOk result ((spot.old.at < spot.new.at) × (spot.new.at ≤ length tokens.now)) }
     ensures fault { IfErr result (IsAmong (length tokens.now)) }
 {
     spot.operators = 0;
@@ -43,8 +42,7 @@ pub fn read_variables(
     requires few { length tokens.now ≤ 1048576 }
     requires within { spot.old.at ≤ length tokens.now }
     requires depth { levels ≤ 100 }
-    ensures forward { OnOk result (spot.old.at < spot.new.at) }
-    ensures inside { spot.new.at ≤ length tokens.now }
+    ensures forward { OnOk result ((spot.old.at < spot.new.at) × (spot.new.at ≤ length tokens.now)) }
     ensures fault { IfErr result (IsAmong (length tokens.now)) }
 {
     let mut variables = Vec::new(alloc);
@@ -72,8 +70,7 @@ fn read_declarator(
     requires few { length tokens.now ≤ 1048576 }
     requires within { spot.old.at ≤ length tokens.now }
     requires depth { levels ≤ 100 }
-    ensures forward { OnOk result (spot.old.at ≤ spot.new.at) }
-    ensures inside { spot.new.at ≤ length tokens.now }
+    ensures forward { OnOk result ((spot.old.at ≤ spot.new.at) × (spot.new.at ≤ length tokens.now)) }
     ensures fault { IfErr result (IsAmong (length tokens.now)) }
 {
     let length = if is_mark(tokens, spot.at, Mark::LeftBracket) {
@@ -85,11 +82,7 @@ fn read_declarator(
         None
     };
     let initial = if is_mark(tokens, spot.at, Mark::Equal) {
-        let place = match tokens.get(spot.at) {
-            Some(token) => token.place,
-            None => name.place,
-        };
-        spot.at += 1;
+        let place = expect(tokens, spot, Mark::Equal)?;
         let value = read_whole(alloc, tokens, spot, levels)?;
         Some(Initializer { place, value })
     } else {

@@ -7,19 +7,21 @@ ghost use Rattle.cstar_parser.specs.Faults.{IsAmong};
 
 use crate::fault::ParseFault;
 use crate::intrinsics::{
-    EnumerateOptions, ScanOptions, read_bracketed_shape, read_enumerate_options, read_scan_options,
-    read_text,
+    read_bracketed_shape, read_enumerate_options, read_scan_options, read_text,
+};
+use crate::nodes::{
+    CastChain, assignment, binary, brackets, choice, dim_of, element, enumerate, pcoord, postfix,
+    prefix, scan,
 };
 use crate::operators::{
     WEAKEST, assignment_at, binary_at, is_unary, prefix_at, step_at, strength_of,
 };
 use crate::spot::{
-    Spot, expect, expect_operator, hopeless, is_mark, kind_at, mark_at, open, place_at, read_name,
+    Spot, expect, expect_operator, hopeless, is_mark, kind_at, open, place_at, read_name,
     take_operator,
 };
 use crate::types::{begins_type, read_shape, read_type};
-use cstar_base::Place;
-use cstar_tree::syntax::{Cast, Expr, Name, TypeName};
+use cstar_tree::syntax::{Cast, Expr};
 use cstar_tree::token::{Kind, Mark, Token};
 use std::alloc::Global;
 
@@ -33,8 +35,7 @@ pub fn read_whole(
     requires few { length tokens.now ≤ 1048576 }
     requires within { spot.old.at ≤ length tokens.now }
     requires depth { levels ≤ 100 }
-    ensures forward { OnOk result (spot.old.at < spot.new.at) }
-    ensures inside { spot.new.at ≤ length tokens.now }
+    ensures forward { OnOk result ((spot.old.at < spot.new.at) × (spot.new.at ≤ length tokens.now)) }
     ensures fault { IfErr result (IsAmong (length tokens.now)) }
 {
     spot.operators = 0;
@@ -52,26 +53,19 @@ fn read_assignment(
     requires few { length tokens.now ≤ 1048576 }
     requires within { spot.old.at ≤ length tokens.now }
     requires depth { levels ≤ 100 }
-    ensures forward { OnOk result (spot.old.at < spot.new.at) }
-    ensures inside { spot.new.at ≤ length tokens.now }
+    ensures forward { OnOk result ((spot.old.at < spot.new.at) × (spot.new.at ≤ length tokens.now)) }
     ensures fault { IfErr result (IsAmong (length tokens.now)) }
 {
     let target = read_choice(alloc, tokens, spot, levels)?;
-    if is_unary(&target)
-        && let Some(op) = assignment_at(tokens, spot.at)
-    {
-        let place = take_operator(tokens, spot)?;
-        let value = read_assignment(alloc, tokens, spot, levels)?;
-        let target = Box::new(alloc, target)?;
-        let value = Box::new(alloc, value)?;
-        return Ok(Expr::Assign {
-            place,
-            op,
-            target,
-            value,
-        });
+    if !is_unary(&target) {
+        return Ok(target);
     }
-    Ok(target)
+    let Some(op) = assignment_at(tokens, spot.at) else {
+        return Ok(target);
+    };
+    let place = take_operator(tokens, spot)?;
+    let value = read_assignment(alloc, tokens, spot, levels)?;
+    Ok(assignment(alloc, place, op, target, value)?)
 }
 
 /// Reads a `?:`, or an expression without one.
@@ -85,8 +79,7 @@ fn read_choice(
     requires few { length tokens.now ≤ 1048576 }
     requires within { spot.old.at ≤ length tokens.now }
     requires depth { levels ≤ 100 }
-    ensures forward { OnOk result (spot.old.at < spot.new.at) }
-    ensures inside { spot.new.at ≤ length tokens.now }
+    ensures forward { OnOk result ((spot.old.at < spot.new.at) × (spot.new.at ≤ length tokens.now)) }
     ensures fault { IfErr result (IsAmong (length tokens.now)) }
 {
     let test = read_binary(alloc, tokens, spot, levels, WEAKEST)?;
@@ -97,15 +90,7 @@ fn read_choice(
     let then = read_assignment(alloc, tokens, spot, levels)?;
     expect_operator(tokens, spot, Mark::Colon)?;
     let otherwise = read_choice(alloc, tokens, spot, levels)?;
-    let test = Box::new(alloc, test)?;
-    let then = Box::new(alloc, then)?;
-    let otherwise = Box::new(alloc, otherwise)?;
-    Ok(Expr::Choice {
-        place,
-        test,
-        then,
-        otherwise,
-    })
+    Ok(choice(alloc, place, test, then, otherwise)?)
 }
 
 /// Reads operands and the binary operators between them that bind at least so strongly. Equally
@@ -121,20 +106,14 @@ fn read_binary(
     requires few { length tokens.now ≤ 1048576 }
     requires within { spot.old.at ≤ length tokens.now }
     requires depth { levels ≤ 100 }
-    ensures forward { OnOk result (spot.old.at < spot.new.at) }
-    ensures inside { spot.new.at ≤ length tokens.now }
+    ensures forward { OnOk result ((spot.old.at < spot.new.at) × (spot.new.at ≤ length tokens.now)) }
     ensures fault { IfErr result (IsAmong (length tokens.now)) }
 {
     let mut left = read_unary(alloc, tokens, spot, levels)?;
     'operators: while let Some(op) = binary_at(tokens, spot.at, strength) {
         let place = take_operator(tokens, spot)?;
         let right = read_binary(alloc, tokens, spot, levels, strength_of(op) + 1)?;
-        left = Expr::Binary {
-            place,
-            op,
-            left: Box::new(alloc, left)?,
-            right: Box::new(alloc, right)?,
-        };
+        left = binary(alloc, place, op, left, right)?;
     }
     Ok(left)
 }
@@ -150,19 +129,18 @@ fn read_unary(
     requires few { length tokens.now ≤ 1048576 }
     requires within { spot.old.at ≤ length tokens.now }
     requires depth { levels ≤ 100 }
-    ensures forward { OnOk result (spot.old.at < spot.new.at) }
-    ensures inside { spot.new.at ≤ length tokens.now }
+    ensures forward { OnOk result ((spot.old.at < spot.new.at) × (spot.new.at ≤ length tokens.now)) }
     ensures fault { IfErr result (IsAmong (length tokens.now)) }
 {
     if let Some(op) = prefix_at(tokens, spot.at) {
         let place = take_operator(tokens, spot)?;
-        let operand = Box::new(alloc, read_unary(alloc, tokens, spot, levels)?)?;
-        return Ok(Expr::Prefix { place, op, operand });
+        let operand = read_unary(alloc, tokens, spot, levels)?;
+        return Ok(prefix(alloc, place, op, operand)?);
     }
     if begins_cast(tokens, spot.at) {
         let chain = read_casts(alloc, tokens, spot, levels)?;
         let operand = read_unary(alloc, tokens, spot, levels)?;
-        return chain.over(alloc, operand);
+        return Ok(chain.over(alloc, operand)?);
     }
     let operand = read_primary(alloc, tokens, spot, levels)?;
     read_steps(alloc, tokens, spot, operand)
@@ -175,37 +153,6 @@ fn begins_cast(tokens: &[Token], at: usize) -> bool
     is_mark(tokens, at, Mark::LeftParen) && at < tokens.len() && begins_type(tokens, at + 1)
 }
 
-/// Casts that stand one before the other: scalar ones, and maybe a parallel one behind them.
-#[derive(Drop)]
-struct CastChain {
-    casts: Vec<Cast>,
-    parallel: Option<(Place, TypeName)>,
-}
-
-impl CastChain {
-    /// The expression of the casts before an operand.
-    fn over(self, alloc: Global, operand: Expr) -> Result<Expr, ParseFault>
-        ensures { IfErr result (λ fault. (n : ℕ) → IsAmong n fault) }
-    {
-        let CastChain { casts, parallel } = self;
-        let operand = match parallel {
-            Some((place, type_name)) => Expr::ParallelCast {
-                place,
-                type_name,
-                operand: Box::new(alloc, operand)?,
-            },
-            None => operand,
-        };
-        if casts.is_empty() {
-            return Ok(operand);
-        }
-        Ok(Expr::Casts {
-            casts,
-            operand: Box::new(alloc, operand)?,
-        })
-    }
-}
-
 /// Reads casts up to the first parallel one, or all that stand one before the other.
 fn read_casts(
     alloc: Global,
@@ -216,8 +163,7 @@ fn read_casts(
     requires few { length tokens.now ≤ 1048576 }
     requires within { spot.old.at ≤ length tokens.now }
     requires depth { levels ≤ 100 }
-    ensures forward { OnOk result (spot.old.at ≤ spot.new.at) }
-    ensures inside { spot.new.at ≤ length tokens.now }
+    ensures forward { OnOk result ((spot.old.at ≤ spot.new.at) × (spot.new.at ≤ length tokens.now)) }
     ensures fault { IfErr result (IsAmong (length tokens.now)) }
 {
     let mut casts = Vec::new(alloc);
@@ -251,18 +197,13 @@ fn read_steps(
 ) -> Result<Expr, ParseFault>
     requires few { length tokens.now ≤ 1048576 }
     requires within { spot.old.at ≤ length tokens.now }
-    ensures forward { OnOk result (spot.old.at ≤ spot.new.at) }
-    ensures inside { spot.new.at ≤ length tokens.now }
+    ensures forward { OnOk result ((spot.old.at ≤ spot.new.at) × (spot.new.at ≤ length tokens.now)) }
     ensures fault { IfErr result (IsAmong (length tokens.now)) }
 {
     let mut operand = operand;
     'steps: while let Some(op) = step_at(tokens, spot.at) {
         let place = take_operator(tokens, spot)?;
-        operand = Expr::Postfix {
-            place,
-            op,
-            operand: Box::new(alloc, operand)?,
-        };
+        operand = postfix(alloc, place, op, operand)?;
     }
     Ok(operand)
 }
@@ -278,37 +219,26 @@ fn read_primary(
     requires few { length tokens.now ≤ 1048576 }
     requires within { spot.old.at ≤ length tokens.now }
     requires depth { levels ≤ 100 }
-    ensures forward { OnOk result (spot.old.at < spot.new.at) }
-    ensures inside { spot.new.at ≤ length tokens.now }
+    ensures forward { OnOk result ((spot.old.at < spot.new.at) × (spot.new.at ≤ length tokens.now)) }
     ensures fault { IfErr result (IsAmong (length tokens.now)) }
 {
-    let mark = match kind_at(tokens, spot.at) {
-        Some(Kind::Name(_)) => return read_named(alloc, tokens, spot, levels),
-        Some(Kind::Num { value, unsigned }) => {
-            let number = Expr::Number {
-                place: place_at(tokens, spot.at),
-                value: *value,
-                unsigned: *unsigned,
-            };
-            spot.at += 1;
-            return Ok(number);
-        }
-        Some(Kind::Mark(mark)) => *mark,
-        _ => return Err(hopeless(tokens, spot.at)),
-    };
-    match mark {
-        Mark::Dot => Ok(Expr::Dot(take_operator(tokens, spot)?)),
-        Mark::LeftParen => {
+    match kind_at(tokens, spot.at) {
+        Some(Kind::Name(_)) => read_named(alloc, tokens, spot, levels),
+        Some(Kind::Mark(Mark::LeftParen)) => {
             let place = open(tokens, spot, Mark::LeftParen, levels)?;
-            let inner = Box::new(alloc, read_assignment(alloc, tokens, spot, levels + 1)?)?;
+            let inner = read_assignment(alloc, tokens, spot, levels + 1)?;
             expect(tokens, spot, Mark::RightParen)?;
-            Ok(Expr::Brackets { place, inner })
+            Ok(brackets(alloc, place, inner)?)
         }
-        Mark::LeftBracket => read_left_index(alloc, tokens, spot, levels),
-        Mark::Pcoord | Mark::DimOf => read_axis_intrinsic(alloc, tokens, spot, levels),
-        Mark::Scan | Mark::Enumerate => read_scan_intrinsic(alloc, tokens, spot, levels),
-        Mark::Printf => read_printf(alloc, tokens, spot, levels),
-        _ => read_plain_intrinsic(alloc, tokens, spot, levels),
+        Some(Kind::Mark(Mark::LeftBracket)) => read_left_index(alloc, tokens, spot, levels),
+        Some(Kind::Mark(Mark::Pcoord | Mark::DimOf)) => {
+            read_axis_intrinsic(alloc, tokens, spot, levels)
+        }
+        Some(Kind::Mark(Mark::Scan | Mark::Enumerate)) => {
+            read_scan_intrinsic(alloc, tokens, spot, levels)
+        }
+        Some(Kind::Mark(Mark::Printf)) => read_printf(alloc, tokens, spot, levels),
+        _ => read_plain(alloc, tokens, spot, levels),
     }
 }
 
@@ -323,55 +253,88 @@ fn read_named(
     requires few { length tokens.now ≤ 1048576 }
     requires within { spot.old.at ≤ length tokens.now }
     requires depth { levels ≤ 100 }
-    ensures forward { OnOk result (spot.old.at < spot.new.at) }
-    ensures inside { spot.new.at ≤ length tokens.now }
+    ensures forward { OnOk result ((spot.old.at < spot.new.at) × (spot.new.at ≤ length tokens.now)) }
     ensures fault { IfErr result (IsAmong (length tokens.now)) }
 {
     let name = read_name(alloc, tokens, spot)?;
-    if is_mark(tokens, spot.at, Mark::LeftBracket) {
-        let bracket = open(tokens, spot, Mark::LeftBracket, levels)?;
-        let index = Box::new(alloc, read_assignment(alloc, tokens, spot, levels + 1)?)?;
-        expect(tokens, spot, Mark::RightBracket)?;
-        return Ok(Expr::Element {
-            name,
-            bracket,
-            index,
-        });
-    }
     if is_mark(tokens, spot.at, Mark::LeftParen) {
-        open(tokens, spot, Mark::LeftParen, levels)?;
-        let mut arguments = Vec::new(alloc);
-        if !is_mark(tokens, spot.at, Mark::RightParen) {
-            arguments.push(read_assignment(alloc, tokens, spot, levels + 1)?)?;
-            read_more(alloc, tokens, spot, levels + 1, &mut arguments)?;
-        }
-        expect(tokens, spot, Mark::RightParen)?;
+        let arguments = read_arguments(alloc, tokens, spot, levels)?;
         return Ok(Expr::Call { name, arguments });
     }
-    Ok(Expr::Name(name))
+    if !is_mark(tokens, spot.at, Mark::LeftBracket) {
+        return Ok(Expr::Name(name));
+    }
+    let bracket = place_at(tokens, spot.at);
+    let index = read_index(alloc, tokens, spot, levels)?;
+    Ok(element(alloc, name, bracket, index)?)
 }
 
-/// Reads the expressions that stand here, each behind a comma.
+/// Reads an index in its square brackets.
+#[cycle(expression)]
+fn read_index(
+    alloc: Global,
+    tokens: &[Token],
+    spot: &mut Spot,
+    levels: u32,
+) -> Result<Expr, ParseFault>
+    requires few { length tokens.now ≤ 1048576 }
+    requires within { spot.old.at ≤ length tokens.now }
+    requires depth { levels ≤ 100 }
+    ensures forward { OnOk result ((spot.old.at < spot.new.at) × (spot.new.at ≤ length tokens.now)) }
+    ensures fault { IfErr result (IsAmong (length tokens.now)) }
+{
+    open(tokens, spot, Mark::LeftBracket, levels)?;
+    let index = read_assignment(alloc, tokens, spot, levels + 1)?;
+    expect(tokens, spot, Mark::RightBracket)?;
+    Ok(index)
+}
+
+/// Reads the arguments of a call in their brackets.
+#[cycle(expression)]
+fn read_arguments(
+    alloc: Global,
+    tokens: &[Token],
+    spot: &mut Spot,
+    levels: u32,
+) -> Result<Vec<Expr>, ParseFault>
+    requires few { length tokens.now ≤ 1048576 }
+    requires within { spot.old.at ≤ length tokens.now }
+    requires depth { levels ≤ 100 }
+    ensures forward { OnOk result ((spot.old.at < spot.new.at) × (spot.new.at ≤ length tokens.now)) }
+    ensures fault { IfErr result (IsAmong (length tokens.now)) }
+{
+    open(tokens, spot, Mark::LeftParen, levels)?;
+    if is_mark(tokens, spot.at, Mark::RightParen) {
+        spot.at += 1;
+        return Ok(Vec::new(alloc));
+    }
+    let mut arguments = Vec::new(alloc);
+    arguments.push(read_assignment(alloc, tokens, spot, levels + 1)?)?;
+    read_more(alloc, tokens, spot, levels + 1, arguments)
+}
+
+/// Reads the expressions that stand here, each behind a comma, and the closing bracket.
 #[cycle(expression)]
 fn read_more(
     alloc: Global,
     tokens: &[Token],
     spot: &mut Spot,
     levels: u32,
-    list: &mut Vec<Expr>,
-) -> Result<(), ParseFault>
+    list: Vec<Expr>,
+) -> Result<Vec<Expr>, ParseFault>
     requires few { length tokens.now ≤ 1048576 }
     requires within { spot.old.at ≤ length tokens.now }
     requires depth { levels ≤ 100 }
-    ensures forward { OnOk result (spot.old.at ≤ spot.new.at) }
-    ensures inside { spot.new.at ≤ length tokens.now }
+    ensures forward { OnOk result ((spot.old.at < spot.new.at) × (spot.new.at ≤ length tokens.now)) }
     ensures fault { IfErr result (IsAmong (length tokens.now)) }
 {
+    let mut list = list;
     'commas: while is_mark(tokens, spot.at, Mark::Comma) {
         spot.at += 1;
         list.push(read_assignment(alloc, tokens, spot, levels)?)?;
     }
-    Ok(())
+    expect(tokens, spot, Mark::RightParen)?;
+    Ok(list)
 }
 
 /// Reads the indexes that stand before a name, and the name.
@@ -385,18 +348,17 @@ fn read_left_index(
     requires few { length tokens.now ≤ 1048576 }
     requires within { spot.old.at ≤ length tokens.now }
     requires depth { levels ≤ 100 }
-    ensures forward { OnOk result (spot.old.at < spot.new.at) }
-    ensures inside { spot.new.at ≤ length tokens.now }
+    ensures forward { OnOk result ((spot.old.at < spot.new.at) × (spot.new.at ≤ length tokens.now)) }
     ensures fault { IfErr result (IsAmong (length tokens.now)) }
 {
+    if !is_mark(tokens, spot.at, Mark::LeftBracket) {
+        return Err(hopeless(tokens, spot.at));
+    }
+    let place = place_at(tokens, spot.at);
     let mut indexes = Vec::new(alloc);
-    let place = open(tokens, spot, Mark::LeftBracket, levels)?;
-    indexes.push(read_assignment(alloc, tokens, spot, levels + 1)?)?;
-    expect(tokens, spot, Mark::RightBracket)?;
+    indexes.push(read_index(alloc, tokens, spot, levels)?)?;
     'indexes: while is_mark(tokens, spot.at, Mark::LeftBracket) {
-        open(tokens, spot, Mark::LeftBracket, levels)?;
-        indexes.push(read_assignment(alloc, tokens, spot, levels + 1)?)?;
-        expect(tokens, spot, Mark::RightBracket)?;
+        indexes.push(read_index(alloc, tokens, spot, levels)?)?;
     }
     let name = read_name(alloc, tokens, spot)?;
     Ok(Expr::LeftIndex {
@@ -417,24 +379,23 @@ fn read_axis_intrinsic(
     requires few { length tokens.now ≤ 1048576 }
     requires within { spot.old.at ≤ length tokens.now }
     requires depth { levels ≤ 100 }
-    ensures forward { OnOk result (spot.old.at < spot.new.at) }
-    ensures inside { spot.new.at ≤ length tokens.now }
+    ensures forward { OnOk result ((spot.old.at < spot.new.at) × (spot.new.at ≤ length tokens.now)) }
     ensures fault { IfErr result (IsAmong (length tokens.now)) }
 {
     if is_mark(tokens, spot.at, Mark::Pcoord) {
         let place = expect(tokens, spot, Mark::Pcoord)?;
         open(tokens, spot, Mark::LeftParen, levels)?;
-        let axis = Box::new(alloc, read_assignment(alloc, tokens, spot, levels + 1)?)?;
+        let axis = read_assignment(alloc, tokens, spot, levels + 1)?;
         expect(tokens, spot, Mark::RightParen)?;
-        return Ok(Expr::Pcoord { place, axis });
+        return Ok(pcoord(alloc, place, axis)?);
     }
     let place = expect(tokens, spot, Mark::DimOf)?;
     open(tokens, spot, Mark::LeftParen, levels)?;
     let shape = read_shape(alloc, tokens, spot)?;
     expect(tokens, spot, Mark::Comma)?;
-    let axis = Box::new(alloc, read_assignment(alloc, tokens, spot, levels + 1)?)?;
+    let axis = read_assignment(alloc, tokens, spot, levels + 1)?;
     expect(tokens, spot, Mark::RightParen)?;
-    Ok(Expr::DimOf { place, shape, axis })
+    Ok(dim_of(alloc, place, shape, axis)?)
 }
 
 /// Reads a `scan` or an `enumerate`.
@@ -448,51 +409,23 @@ fn read_scan_intrinsic(
     requires few { length tokens.now ≤ 1048576 }
     requires within { spot.old.at ≤ length tokens.now }
     requires depth { levels ≤ 100 }
-    ensures forward { OnOk result (spot.old.at < spot.new.at) }
-    ensures inside { spot.new.at ≤ length tokens.now }
+    ensures forward { OnOk result ((spot.old.at < spot.new.at) × (spot.new.at ≤ length tokens.now)) }
     ensures fault { IfErr result (IsAmong (length tokens.now)) }
 {
     if is_mark(tokens, spot.at, Mark::Enumerate) {
         let place = expect(tokens, spot, Mark::Enumerate)?;
         open(tokens, spot, Mark::LeftParen, levels)?;
-        let axis = Box::new(alloc, read_assignment(alloc, tokens, spot, levels + 1)?)?;
-        let EnumerateOptions {
-            direction,
-            inclusion,
-            mode,
-            bit,
-        } = read_enumerate_options(alloc, tokens, spot)?;
-        return Ok(Expr::Enumerate {
-            place,
-            axis,
-            direction,
-            inclusion,
-            mode,
-            bit,
-        });
+        let axis = read_assignment(alloc, tokens, spot, levels + 1)?;
+        let options = read_enumerate_options(alloc, tokens, spot)?;
+        return Ok(enumerate(alloc, place, axis, options)?);
     }
     let place = expect(tokens, spot, Mark::Scan)?;
     open(tokens, spot, Mark::LeftParen, levels)?;
-    let source = Box::new(alloc, read_assignment(alloc, tokens, spot, levels + 1)?)?;
+    let source = read_assignment(alloc, tokens, spot, levels + 1)?;
     expect(tokens, spot, Mark::Comma)?;
-    let axis = Box::new(alloc, read_assignment(alloc, tokens, spot, levels + 1)?)?;
-    let ScanOptions {
-        combiner,
-        direction,
-        mode,
-        bit,
-        inclusion,
-    } = read_scan_options(alloc, tokens, spot)?;
-    Ok(Expr::Scan {
-        place,
-        source,
-        axis,
-        combiner,
-        direction,
-        mode,
-        bit,
-        inclusion,
-    })
+    let axis = read_assignment(alloc, tokens, spot, levels + 1)?;
+    let options = read_scan_options(alloc, tokens, spot)?;
+    Ok(scan(alloc, place, source, axis, options)?)
 }
 
 /// Reads a `printf`.
@@ -506,16 +439,13 @@ fn read_printf(
     requires few { length tokens.now ≤ 1048576 }
     requires within { spot.old.at ≤ length tokens.now }
     requires depth { levels ≤ 100 }
-    ensures forward { OnOk result (spot.old.at < spot.new.at) }
-    ensures inside { spot.new.at ≤ length tokens.now }
+    ensures forward { OnOk result ((spot.old.at < spot.new.at) × (spot.new.at ≤ length tokens.now)) }
     ensures fault { IfErr result (IsAmong (length tokens.now)) }
 {
     let place = expect(tokens, spot, Mark::Printf)?;
     open(tokens, spot, Mark::LeftParen, levels)?;
     let text = read_text(alloc, tokens, spot)?;
-    let mut arguments = Vec::new(alloc);
-    read_more(alloc, tokens, spot, levels + 1, &mut arguments)?;
-    expect(tokens, spot, Mark::RightParen)?;
+    let arguments = read_more(alloc, tokens, spot, levels + 1, Vec::new(alloc))?;
     Ok(Expr::Printf {
         place,
         text,
@@ -523,8 +453,8 @@ fn read_printf(
     })
 }
 
-/// Reads an intrinsic without expressions: `positionsof`, `rankof` or `getchar`.
-fn read_plain_intrinsic(
+/// Reads a number, a `.`, or an intrinsic without expressions.
+fn read_plain(
     alloc: Global,
     tokens: &[Token],
     spot: &mut Spot,
@@ -533,17 +463,26 @@ fn read_plain_intrinsic(
     requires few { length tokens.now ≤ 1048576 }
     requires within { spot.old.at ≤ length tokens.now }
     requires depth { levels ≤ 100 }
-    ensures forward { OnOk result (spot.old.at < spot.new.at) }
-    ensures inside { spot.new.at ≤ length tokens.now }
+    ensures forward { OnOk result ((spot.old.at < spot.new.at) × (spot.new.at ≤ length tokens.now)) }
     ensures fault { IfErr result (IsAmong (length tokens.now)) }
 {
-    match mark_at(tokens, spot.at) {
-        Some(Mark::PositionsOf) => {
+    match kind_at(tokens, spot.at) {
+        Some(Kind::Num { value, unsigned }) => {
+            let number = Expr::Number {
+                place: place_at(tokens, spot.at),
+                value: *value,
+                unsigned: *unsigned,
+            };
+            spot.at += 1;
+            Ok(number)
+        }
+        Some(Kind::Mark(Mark::Dot)) => Ok(Expr::Dot(take_operator(tokens, spot)?)),
+        Some(Kind::Mark(Mark::PositionsOf)) => {
             let place = expect(tokens, spot, Mark::PositionsOf)?;
             let shape = read_bracketed_shape(alloc, tokens, spot, levels)?;
             Ok(Expr::PositionsOf { place, shape })
         }
-        Some(Mark::RankOf) => {
+        Some(Kind::Mark(Mark::RankOf)) => {
             let place = expect(tokens, spot, Mark::RankOf)?;
             let shape = read_bracketed_shape(alloc, tokens, spot, levels)?;
             Ok(Expr::RankOf { place, shape })

@@ -54,8 +54,7 @@ fn inclusion_of(mark: Mark) -> Option<Inclusion> {
 pub fn read_combiner(tokens: &[Token], spot: &mut Spot) -> Result<Combiner, ParseFault>
     requires few { length tokens.now ≤ 1048576 }
     requires within { spot.old.at ≤ length tokens.now }
-    ensures forward { OnOk result (spot.old.at < spot.new.at) }
-    ensures inside { spot.new.at ≤ length tokens.now }
+    ensures forward { OnOk result ((spot.old.at < spot.new.at) × (spot.new.at ≤ length tokens.now)) }
     ensures fault { IfErr result (IsAmong (length tokens.now)) }
 {
     expect(tokens, spot, Mark::Comma)?;
@@ -70,8 +69,7 @@ pub fn read_combiner(tokens: &[Token], spot: &mut Spot) -> Result<Combiner, Pars
 pub fn read_direction(tokens: &[Token], spot: &mut Spot) -> Result<Direction, ParseFault>
     requires few { length tokens.now ≤ 1048576 }
     requires within { spot.old.at ≤ length tokens.now }
-    ensures forward { OnOk result (spot.old.at < spot.new.at) }
-    ensures inside { spot.new.at ≤ length tokens.now }
+    ensures forward { OnOk result ((spot.old.at < spot.new.at) × (spot.new.at ≤ length tokens.now)) }
     ensures fault { IfErr result (IsAmong (length tokens.now)) }
 {
     expect(tokens, spot, Mark::Comma)?;
@@ -86,8 +84,7 @@ pub fn read_direction(tokens: &[Token], spot: &mut Spot) -> Result<Direction, Pa
 pub fn read_mode(tokens: &[Token], spot: &mut Spot) -> Result<SegmentMode, ParseFault>
     requires few { length tokens.now ≤ 1048576 }
     requires within { spot.old.at ≤ length tokens.now }
-    ensures forward { OnOk result (spot.old.at < spot.new.at) }
-    ensures inside { spot.new.at ≤ length tokens.now }
+    ensures forward { OnOk result ((spot.old.at < spot.new.at) × (spot.new.at ≤ length tokens.now)) }
     ensures fault { IfErr result (IsAmong (length tokens.now)) }
 {
     expect(tokens, spot, Mark::Comma)?;
@@ -102,8 +99,7 @@ pub fn read_mode(tokens: &[Token], spot: &mut Spot) -> Result<SegmentMode, Parse
 pub fn read_inclusion(tokens: &[Token], spot: &mut Spot) -> Result<Inclusion, ParseFault>
     requires few { length tokens.now ≤ 1048576 }
     requires within { spot.old.at ≤ length tokens.now }
-    ensures forward { OnOk result (spot.old.at < spot.new.at) }
-    ensures inside { spot.new.at ≤ length tokens.now }
+    ensures forward { OnOk result ((spot.old.at < spot.new.at) × (spot.new.at ≤ length tokens.now)) }
     ensures fault { IfErr result (IsAmong (length tokens.now)) }
 {
     expect(tokens, spot, Mark::Comma)?;
@@ -122,8 +118,7 @@ pub fn read_bit(
 ) -> Result<Option<Name>, ParseFault>
     requires few { length tokens.now ≤ 1048576 }
     requires within { spot.old.at ≤ length tokens.now }
-    ensures forward { OnOk result (spot.old.at < spot.new.at) }
-    ensures inside { spot.new.at ≤ length tokens.now }
+    ensures forward { OnOk result ((spot.old.at < spot.new.at) × (spot.new.at ≤ length tokens.now)) }
     ensures fault { IfErr result (IsAmong (length tokens.now)) }
 {
     expect(tokens, spot, Mark::Comma)?;
@@ -136,6 +131,7 @@ pub fn read_bit(
 }
 
 /// What stands behind the expressions of a `scan`.
+#[derive(Drop)]
 pub struct ScanOptions {
     pub combiner: Combiner,
     pub direction: Direction,
@@ -152,8 +148,7 @@ pub fn read_scan_options(
 ) -> Result<ScanOptions, ParseFault>
     requires few { length tokens.now ≤ 1048576 }
     requires within { spot.old.at ≤ length tokens.now }
-    ensures forward { OnOk result (spot.old.at < spot.new.at) }
-    ensures inside { spot.new.at ≤ length tokens.now }
+    ensures forward { OnOk result ((spot.old.at < spot.new.at) × (spot.new.at ≤ length tokens.now)) }
     ensures fault { IfErr result (IsAmong (length tokens.now)) }
 {
     let combiner = read_combiner(tokens, spot)?;
@@ -172,6 +167,7 @@ pub fn read_scan_options(
 }
 
 /// What stands behind the axis of an `enumerate`.
+#[derive(Drop)]
 pub struct EnumerateOptions {
     pub direction: Direction,
     pub inclusion: Inclusion,
@@ -187,8 +183,7 @@ pub fn read_enumerate_options(
 ) -> Result<EnumerateOptions, ParseFault>
     requires few { length tokens.now ≤ 1048576 }
     requires within { spot.old.at ≤ length tokens.now }
-    ensures forward { OnOk result (spot.old.at < spot.new.at) }
-    ensures inside { spot.new.at ≤ length tokens.now }
+    ensures forward { OnOk result ((spot.old.at < spot.new.at) × (spot.new.at ≤ length tokens.now)) }
     ensures fault { IfErr result (IsAmong (length tokens.now)) }
 {
     let direction = read_direction(tokens, spot)?;
@@ -213,8 +208,7 @@ pub fn read_bracketed_shape(
 ) -> Result<ShapeRef, ParseFault>
     requires few { length tokens.now ≤ 1048576 }
     requires within { spot.old.at ≤ length tokens.now }
-    ensures forward { OnOk result (spot.old.at < spot.new.at) }
-    ensures inside { spot.new.at ≤ length tokens.now }
+    ensures forward { OnOk result ((spot.old.at < spot.new.at) × (spot.new.at ≤ length tokens.now)) }
     ensures fault { IfErr result (IsAmong (length tokens.now)) }
 {
     open(tokens, spot, Mark::LeftParen, levels)?;
@@ -227,8 +221,7 @@ pub fn read_bracketed_shape(
 pub fn read_text(alloc: Global, tokens: &[Token], spot: &mut Spot) -> Result<Word, ParseFault>
     requires few { length tokens.now ≤ 1048576 }
     requires within { spot.old.at ≤ length tokens.now }
-    ensures forward { OnOk result (spot.new.at ≡ spot.old.at + 1) }
-    ensures inside { spot.new.at ≤ length tokens.now }
+    ensures forward { OnOk result ((spot.new.at ≡ spot.old.at + 1) × (spot.new.at ≤ length tokens.now)) }
     ensures fault { IfErr result (IsAmong (length tokens.now)) }
 {
     let text = match kind_at(tokens, spot.at) {

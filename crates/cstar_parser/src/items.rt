@@ -43,8 +43,7 @@ pub fn parse(alloc: Global, tokens: &Tokens) -> Result<Tree, ParseFault>
 fn read_item(alloc: Global, tokens: &[Token], spot: &mut Spot) -> Result<Item, ParseFault>
     requires few { length tokens.now ≤ 1048576 }
     requires within { spot.old.at < length tokens.now }
-    ensures forward { OnOk result (spot.old.at < spot.new.at) }
-    ensures inside { spot.new.at ≤ length tokens.now }
+    ensures forward { OnOk result ((spot.old.at < spot.new.at) × (spot.new.at ≤ length tokens.now)) }
     ensures fault { IfErr result (IsAmong (length tokens.now)) }
 {
     let place = place_at(tokens, spot.at);
@@ -81,8 +80,7 @@ fn read_shapes(
 ) -> Result<Vec<ShapeDefinition>, ParseFault>
     requires few { length tokens.now ≤ 1048576 }
     requires within { spot.old.at ≤ length tokens.now }
-    ensures forward { OnOk result (spot.old.at < spot.new.at) }
-    ensures inside { spot.new.at ≤ length tokens.now }
+    ensures forward { OnOk result ((spot.old.at < spot.new.at) × (spot.new.at ≤ length tokens.now)) }
     ensures fault { IfErr result (IsAmong (length tokens.now)) }
 {
     expect(tokens, spot, Mark::Shape)?;
@@ -104,8 +102,7 @@ fn read_shape_definition(
 ) -> Result<ShapeDefinition, ParseFault>
     requires few { length tokens.now ≤ 1048576 }
     requires within { spot.old.at ≤ length tokens.now }
-    ensures forward { OnOk result (spot.old.at < spot.new.at) }
-    ensures inside { spot.new.at ≤ length tokens.now }
+    ensures forward { OnOk result ((spot.old.at < spot.new.at) × (spot.new.at ≤ length tokens.now)) }
     ensures fault { IfErr result (IsAmong (length tokens.now)) }
 {
     let mut extents = Vec::new(alloc);
@@ -121,8 +118,7 @@ fn read_shape_definition(
 fn read_extent(alloc: Global, tokens: &[Token], spot: &mut Spot) -> Result<Expr, ParseFault>
     requires few { length tokens.now ≤ 1048576 }
     requires within { spot.old.at ≤ length tokens.now }
-    ensures forward { OnOk result (spot.old.at < spot.new.at) }
-    ensures inside { spot.new.at ≤ length tokens.now }
+    ensures forward { OnOk result ((spot.old.at < spot.new.at) × (spot.new.at ≤ length tokens.now)) }
     ensures fault { IfErr result (IsAmong (length tokens.now)) }
 {
     expect(tokens, spot, Mark::LeftBracket)?;
@@ -142,8 +138,7 @@ fn read_function(
 ) -> Result<Function, ParseFault>
     requires few { length tokens.now ≤ 1048576 }
     requires within { spot.old.at ≤ length tokens.now }
-    ensures forward { OnOk result (spot.old.at < spot.new.at) }
-    ensures inside { spot.new.at ≤ length tokens.now }
+    ensures forward { OnOk result ((spot.old.at < spot.new.at) × (spot.new.at ≤ length tokens.now)) }
     ensures fault { IfErr result (IsAmong (length tokens.now)) }
 {
     expect(tokens, spot, Mark::LeftParen)?;
@@ -167,8 +162,7 @@ fn read_parameters(
 ) -> Result<Vec<Parameter>, ParseFault>
     requires few { length tokens.now ≤ 1048576 }
     requires within { spot.old.at ≤ length tokens.now }
-    ensures forward { OnOk result (spot.old.at ≤ spot.new.at) }
-    ensures inside { spot.new.at ≤ length tokens.now }
+    ensures forward { OnOk result ((spot.old.at ≤ spot.new.at) × (spot.new.at ≤ length tokens.now)) }
     ensures fault { IfErr result (IsAmong (length tokens.now)) }
 {
     let mut parameters = Vec::new(alloc);
@@ -191,8 +185,7 @@ fn read_parameters(
 fn read_parameter(alloc: Global, tokens: &[Token], spot: &mut Spot) -> Result<Parameter, ParseFault>
     requires few { length tokens.now ≤ 1048576 }
     requires within { spot.old.at ≤ length tokens.now }
-    ensures forward { OnOk result (spot.old.at < spot.new.at) }
-    ensures inside { spot.new.at ≤ length tokens.now }
+    ensures forward { OnOk result ((spot.old.at < spot.new.at) × (spot.new.at ≤ length tokens.now)) }
     ensures fault { IfErr result (IsAmong (length tokens.now)) }
 {
     spot.operators = 0;

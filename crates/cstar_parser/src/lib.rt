@@ -6,6 +6,7 @@ mod expressions;
 mod fault;
 mod intrinsics;
 mod items;
+mod nodes;
 mod operators;
 mod spot;
 mod statements;

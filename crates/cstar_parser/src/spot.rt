@@ -71,7 +71,7 @@ pub fn hopeless(tokens: &[Token], at: usize) -> ParseFault
 /// A level or an operator too many begins with this token.
 pub fn too_deep(tokens: &[Token], at: usize) -> ParseFault
     requires few { length tokens.now ≤ 1048576 }
-    requires within { at ≤ length tokens.now }
+    requires within { at < length tokens.now }
     ensures { IsAmong (length tokens.now) result }
 {
     let _count = tokens.len();
@@ -82,8 +82,7 @@ pub fn too_deep(tokens: &[Token], at: usize) -> ParseFault
 pub fn expect(tokens: &[Token], spot: &mut Spot, mark: Mark) -> Result<Place, ParseFault>
     requires few { length tokens.now ≤ 1048576 }
     requires within { spot.old.at ≤ length tokens.now }
-    ensures forward { OnOk result (spot.new.at ≡ spot.old.at + 1) }
-    ensures inside { spot.new.at ≤ length tokens.now }
+    ensures forward { OnOk result ((spot.new.at ≡ spot.old.at + 1) × (spot.new.at ≤ length tokens.now)) }
     ensures fault { IfErr result (IsAmong (length tokens.now)) }
 {
     if !is_mark(tokens, spot.at, mark) {
@@ -99,8 +98,7 @@ pub fn expect(tokens: &[Token], spot: &mut Spot, mark: Mark) -> Result<Place, Pa
 pub fn open(tokens: &[Token], spot: &mut Spot, mark: Mark, levels: u32) -> Result<Place, ParseFault>
     requires few { length tokens.now ≤ 1048576 }
     requires within { spot.old.at ≤ length tokens.now }
-    ensures forward { OnOk result ((spot.new.at ≡ spot.old.at + 1) × (levels < 100)) }
-    ensures inside { spot.new.at ≤ length tokens.now }
+    ensures forward { OnOk result (((spot.new.at ≡ spot.old.at + 1) × (levels < 100)) × (spot.new.at ≤ length tokens.now)) }
     ensures fault { IfErr result (IsAmong (length tokens.now)) }
 {
     if !is_mark(tokens, spot.at, mark) {
@@ -118,8 +116,8 @@ pub fn open(tokens: &[Token], spot: &mut Spot, mark: Mark, levels: u32) -> Resul
 pub fn take_operator(tokens: &[Token], spot: &mut Spot) -> Result<Place, ParseFault>
     requires few { length tokens.now ≤ 1048576 }
     requires there { spot.old.at < length tokens.now }
-    ensures forward { OnOk result (spot.new.at ≡ spot.old.at + 1) }
-    ensures inside { spot.new.at ≤ length tokens.now }
+    ensures forward { OnOk result ((spot.new.at ≡ spot.old.at + 1) × (spot.new.at ≤ length tokens.now)) }
+    ensures counted { OnOk result ((spot.old.operators < 1000) × (spot.new.operators ≡ spot.old.operators + 1)) }
     ensures fault { IfErr result (IsAmong (length tokens.now)) }
 {
     if spot.operators >= OPERATORS {
@@ -135,8 +133,7 @@ pub fn take_operator(tokens: &[Token], spot: &mut Spot) -> Result<Place, ParseFa
 pub fn expect_operator(tokens: &[Token], spot: &mut Spot, mark: Mark) -> Result<Place, ParseFault>
     requires few { length tokens.now ≤ 1048576 }
     requires within { spot.old.at ≤ length tokens.now }
-    ensures forward { OnOk result (spot.new.at ≡ spot.old.at + 1) }
-    ensures inside { spot.new.at ≤ length tokens.now }
+    ensures forward { OnOk result ((spot.new.at ≡ spot.old.at + 1) × (spot.new.at ≤ length tokens.now)) }
     ensures fault { IfErr result (IsAmong (length tokens.now)) }
 {
     if !is_mark(tokens, spot.at, mark) {
@@ -149,8 +146,7 @@ pub fn expect_operator(tokens: &[Token], spot: &mut Spot, mark: Mark) -> Result<
 pub fn read_name(alloc: Global, tokens: &[Token], spot: &mut Spot) -> Result<Name, ParseFault>
     requires few { length tokens.now ≤ 1048576 }
     requires within { spot.old.at ≤ length tokens.now }
-    ensures forward { OnOk result (spot.new.at ≡ spot.old.at + 1) }
-    ensures inside { spot.new.at ≤ length tokens.now }
+    ensures forward { OnOk result ((spot.new.at ≡ spot.old.at + 1) × (spot.new.at ≤ length tokens.now)) }
     ensures fault { IfErr result (IsAmong (length tokens.now)) }
 {
     let word = match kind_at(tokens, spot.at) {

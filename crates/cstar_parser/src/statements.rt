@@ -8,10 +8,12 @@ ghost use Rattle.cstar_parser.specs.Faults.{IsAmong};
 use crate::declarations::read_declaration;
 use crate::expressions::read_whole;
 use crate::fault::ParseFault;
+use crate::nodes::BranchHead;
 use crate::operators::prefix_at;
 use crate::spot::{LEVELS, Spot, expect, hopeless, is_mark, kind_at, mark_at, place_at, too_deep};
 use crate::types::{begins_type, read_shape};
-use cstar_tree::syntax::{Block, Expr, Stmt};
+use cstar_base::Place;
+use cstar_tree::syntax::{Block, Expr, ShapeRef, Stmt};
 use cstar_tree::token::{Kind, Mark, Token};
 use std::alloc::Global;
 
@@ -67,8 +69,7 @@ pub fn read_block(
     requires few { length tokens.now ≤ 1048576 }
     requires within { spot.old.at ≤ length tokens.now }
     requires depth { levels ≤ 100 }
-    ensures forward { OnOk result (spot.old.at < spot.new.at) }
-    ensures inside { spot.new.at ≤ length tokens.now }
+    ensures forward { OnOk result ((spot.old.at < spot.new.at) × (spot.new.at ≤ length tokens.now)) }
     ensures fault { IfErr result (IsAmong (length tokens.now)) }
 {
     let place = expect(tokens, spot, Mark::LeftBrace)?;
@@ -99,8 +100,7 @@ fn read_statement(
     requires few { length tokens.now ≤ 1048576 }
     requires within { spot.old.at ≤ length tokens.now }
     requires depth { levels ≤ 100 }
-    ensures forward { OnOk result (spot.old.at < spot.new.at) }
-    ensures inside { spot.new.at ≤ length tokens.now }
+    ensures forward { OnOk result ((spot.old.at < spot.new.at) × (spot.new.at ≤ length tokens.now)) }
     ensures fault { IfErr result (IsAmong (length tokens.now)) }
 {
     if !begins_statement(tokens, spot.at) {
@@ -121,6 +121,24 @@ fn read_statement(
     }
 }
 
+/// Reads a statement within another one.
+#[cycle(statement)]
+fn read_body(
+    alloc: Global,
+    tokens: &[Token],
+    spot: &mut Spot,
+    levels: u32,
+) -> Result<Box<Stmt>, ParseFault>
+    requires few { length tokens.now ≤ 1048576 }
+    requires within { spot.old.at ≤ length tokens.now }
+    requires depth { levels ≤ 100 }
+    ensures forward { OnOk result ((spot.old.at < spot.new.at) × (spot.new.at ≤ length tokens.now)) }
+    ensures fault { IfErr result (IsAmong (length tokens.now)) }
+{
+    let body = read_statement(alloc, tokens, spot, levels)?;
+    Ok(Box::new(alloc, body)?)
+}
+
 /// Reads a bracketed condition.
 fn read_test(
     alloc: Global,
@@ -131,8 +149,7 @@ fn read_test(
     requires few { length tokens.now ≤ 1048576 }
     requires within { spot.old.at ≤ length tokens.now }
     requires depth { levels ≤ 100 }
-    ensures forward { OnOk result (spot.old.at < spot.new.at) }
-    ensures inside { spot.new.at ≤ length tokens.now }
+    ensures forward { OnOk result ((spot.old.at < spot.new.at) × (spot.new.at ≤ length tokens.now)) }
     ensures fault { IfErr result (IsAmong (length tokens.now)) }
 {
     expect(tokens, spot, Mark::LeftParen)?;
@@ -152,35 +169,40 @@ fn read_branches(
     requires few { length tokens.now ≤ 1048576 }
     requires within { spot.old.at ≤ length tokens.now }
     requires depth { levels ≤ 100 }
-    ensures forward { OnOk result (spot.old.at < spot.new.at) }
-    ensures inside { spot.new.at ≤ length tokens.now }
+    ensures forward { OnOk result ((spot.old.at < spot.new.at) × (spot.new.at ≤ length tokens.now)) }
+    ensures fault { IfErr result (IsAmong (length tokens.now)) }
+{
+    let head = read_branch_head(alloc, tokens, spot, levels)?;
+    let then = read_body(alloc, tokens, spot, levels)?;
+    if !is_mark(tokens, spot.at, Mark::Else) {
+        return Ok(head.statement(then, None));
+    }
+    spot.at += 1;
+    let otherwise = read_body(alloc, tokens, spot, levels)?;
+    Ok(head.statement(then, Some(otherwise)))
+}
+
+/// Reads `if` or `where` and the condition.
+fn read_branch_head(
+    alloc: Global,
+    tokens: &[Token],
+    spot: &mut Spot,
+    levels: u32,
+) -> Result<BranchHead, ParseFault>
+    requires few { length tokens.now ≤ 1048576 }
+    requires within { spot.old.at ≤ length tokens.now }
+    requires depth { levels ≤ 100 }
+    ensures forward { OnOk result ((spot.old.at < spot.new.at) × (spot.new.at ≤ length tokens.now)) }
     ensures fault { IfErr result (IsAmong (length tokens.now)) }
 {
     let is_where = is_mark(tokens, spot.at, Mark::Where);
     let place = expect(tokens, spot, if is_where { Mark::Where } else { Mark::If })?;
     let test = read_test(alloc, tokens, spot, levels)?;
-    let then = Box::new(alloc, read_statement(alloc, tokens, spot, levels)?)?;
-    let otherwise = if is_mark(tokens, spot.at, Mark::Else) {
-        spot.at += 1;
-        Some(Box::new(alloc, read_statement(alloc, tokens, spot, levels)?)?)
-    } else {
-        None
-    };
-    if is_where {
-        Ok(Stmt::Where {
-            place,
-            test,
-            then,
-            otherwise,
-        })
-    } else {
-        Ok(Stmt::If {
-            place,
-            test,
-            then,
-            otherwise,
-        })
-    }
+    Ok(BranchHead {
+        place,
+        is_where,
+        test,
+    })
 }
 
 /// Reads a `while`.
@@ -194,13 +216,12 @@ fn read_while(
     requires few { length tokens.now ≤ 1048576 }
     requires within { spot.old.at ≤ length tokens.now }
     requires depth { levels ≤ 100 }
-    ensures forward { OnOk result (spot.old.at < spot.new.at) }
-    ensures inside { spot.new.at ≤ length tokens.now }
+    ensures forward { OnOk result ((spot.old.at < spot.new.at) × (spot.new.at ≤ length tokens.now)) }
     ensures fault { IfErr result (IsAmong (length tokens.now)) }
 {
     let place = expect(tokens, spot, Mark::While)?;
     let test = read_test(alloc, tokens, spot, levels)?;
-    let body = Box::new(alloc, read_statement(alloc, tokens, spot, levels)?)?;
+    let body = read_body(alloc, tokens, spot, levels)?;
     Ok(Stmt::While { place, test, body })
 }
 
@@ -215,19 +236,35 @@ fn read_do(
     requires few { length tokens.now ≤ 1048576 }
     requires within { spot.old.at ≤ length tokens.now }
     requires depth { levels ≤ 100 }
-    ensures forward { OnOk result (spot.old.at < spot.new.at) }
-    ensures inside { spot.new.at ≤ length tokens.now }
+    ensures forward { OnOk result ((spot.old.at < spot.new.at) × (spot.new.at ≤ length tokens.now)) }
     ensures fault { IfErr result (IsAmong (length tokens.now)) }
 {
     let place = expect(tokens, spot, Mark::Do)?;
-    let body = Box::new(alloc, read_statement(alloc, tokens, spot, levels)?)?;
-    expect(tokens, spot, Mark::While)?;
-    let test = read_test(alloc, tokens, spot, levels)?;
-    expect(tokens, spot, Mark::Semicolon)?;
+    let body = read_body(alloc, tokens, spot, levels)?;
+    let test = read_do_test(alloc, tokens, spot, levels)?;
     Ok(Stmt::Do { place, body, test })
 }
 
-/// Reads a `for`, whose three parts are whole expressions or absent.
+/// Reads the condition behind the body of a `do`.
+fn read_do_test(
+    alloc: Global,
+    tokens: &[Token],
+    spot: &mut Spot,
+    levels: u32,
+) -> Result<Expr, ParseFault>
+    requires few { length tokens.now ≤ 1048576 }
+    requires within { spot.old.at ≤ length tokens.now }
+    requires depth { levels ≤ 100 }
+    ensures forward { OnOk result ((spot.old.at < spot.new.at) × (spot.new.at ≤ length tokens.now)) }
+    ensures fault { IfErr result (IsAmong (length tokens.now)) }
+{
+    expect(tokens, spot, Mark::While)?;
+    let test = read_test(alloc, tokens, spot, levels)?;
+    expect(tokens, spot, Mark::Semicolon)?;
+    Ok(test)
+}
+
+/// Reads a `for`.
 #[cycle(statement)]
 fn read_for(
     alloc: Global,
@@ -238,8 +275,45 @@ fn read_for(
     requires few { length tokens.now ≤ 1048576 }
     requires within { spot.old.at ≤ length tokens.now }
     requires depth { levels ≤ 100 }
-    ensures forward { OnOk result (spot.old.at < spot.new.at) }
-    ensures inside { spot.new.at ≤ length tokens.now }
+    ensures forward { OnOk result ((spot.old.at < spot.new.at) × (spot.new.at ≤ length tokens.now)) }
+    ensures fault { IfErr result (IsAmong (length tokens.now)) }
+{
+    let ForHead {
+        place,
+        first,
+        test,
+        step,
+    } = read_for_head(alloc, tokens, spot, levels)?;
+    let body = read_body(alloc, tokens, spot, levels)?;
+    Ok(Stmt::For {
+        place,
+        first,
+        test,
+        step,
+        body,
+    })
+}
+
+/// A `for` up to its closing bracket.
+#[derive(Drop)]
+struct ForHead {
+    place: Place,
+    first: Option<Expr>,
+    test: Option<Expr>,
+    step: Option<Expr>,
+}
+
+/// Reads `for` and its three parts, each a whole expression or absent.
+fn read_for_head(
+    alloc: Global,
+    tokens: &[Token],
+    spot: &mut Spot,
+    levels: u32,
+) -> Result<ForHead, ParseFault>
+    requires few { length tokens.now ≤ 1048576 }
+    requires within { spot.old.at ≤ length tokens.now }
+    requires depth { levels ≤ 100 }
+    ensures forward { OnOk result ((spot.old.at < spot.new.at) × (spot.new.at ≤ length tokens.now)) }
     ensures fault { IfErr result (IsAmong (length tokens.now)) }
 {
     let place = expect(tokens, spot, Mark::For)?;
@@ -247,13 +321,11 @@ fn read_for(
     let first = read_part(alloc, tokens, spot, levels, Mark::Semicolon)?;
     let test = read_part(alloc, tokens, spot, levels, Mark::Semicolon)?;
     let step = read_part(alloc, tokens, spot, levels, Mark::RightParen)?;
-    let body = Box::new(alloc, read_statement(alloc, tokens, spot, levels)?)?;
-    Ok(Stmt::For {
+    Ok(ForHead {
         place,
         first,
         test,
         step,
-        body,
     })
 }
 
@@ -268,8 +340,7 @@ fn read_part(
     requires few { length tokens.now ≤ 1048576 }
     requires within { spot.old.at ≤ length tokens.now }
     requires depth { levels ≤ 100 }
-    ensures forward { OnOk result (spot.old.at < spot.new.at) }
-    ensures inside { spot.new.at ≤ length tokens.now }
+    ensures forward { OnOk result ((spot.old.at < spot.new.at) × (spot.new.at ≤ length tokens.now)) }
     ensures fault { IfErr result (IsAmong (length tokens.now)) }
 {
     let part = if is_mark(tokens, spot.at, end) {
@@ -292,21 +363,31 @@ fn read_context(
     requires few { length tokens.now ≤ 1048576 }
     requires within { spot.old.at ≤ length tokens.now }
     requires depth { levels ≤ 100 }
-    ensures forward { OnOk result (spot.old.at < spot.new.at) }
-    ensures inside { spot.new.at ≤ length tokens.now }
+    ensures forward { OnOk result ((spot.old.at < spot.new.at) × (spot.new.at ≤ length tokens.now)) }
     ensures fault { IfErr result (IsAmong (length tokens.now)) }
 {
     if is_mark(tokens, spot.at, Mark::Everywhere) {
         let place = expect(tokens, spot, Mark::Everywhere)?;
-        let body = Box::new(alloc, read_statement(alloc, tokens, spot, levels)?)?;
+        let body = read_body(alloc, tokens, spot, levels)?;
         return Ok(Stmt::Everywhere { place, body });
     }
     let place = expect(tokens, spot, Mark::With)?;
+    let shape = read_with_shape(alloc, tokens, spot)?;
+    let body = read_body(alloc, tokens, spot, levels)?;
+    Ok(Stmt::With { place, shape, body })
+}
+
+/// Reads the bracketed shape behind `with`.
+fn read_with_shape(alloc: Global, tokens: &[Token], spot: &mut Spot) -> Result<ShapeRef, ParseFault>
+    requires few { length tokens.now ≤ 1048576 }
+    requires within { spot.old.at ≤ length tokens.now }
+    ensures forward { OnOk result ((spot.old.at < spot.new.at) × (spot.new.at ≤ length tokens.now)) }
+    ensures fault { IfErr result (IsAmong (length tokens.now)) }
+{
     expect(tokens, spot, Mark::LeftParen)?;
     let shape = read_shape(alloc, tokens, spot)?;
     expect(tokens, spot, Mark::RightParen)?;
-    let body = Box::new(alloc, read_statement(alloc, tokens, spot, levels)?)?;
-    Ok(Stmt::With { place, shape, body })
+    Ok(shape)
 }
 
 /// Reads a statement that has no statement in it.
@@ -319,8 +400,7 @@ fn read_simple(
     requires few { length tokens.now ≤ 1048576 }
     requires within { spot.old.at ≤ length tokens.now }
     requires depth { levels ≤ 100 }
-    ensures forward { OnOk result (spot.old.at < spot.new.at) }
-    ensures inside { spot.new.at ≤ length tokens.now }
+    ensures forward { OnOk result ((spot.old.at < spot.new.at) × (spot.new.at ≤ length tokens.now)) }
     ensures fault { IfErr result (IsAmong (length tokens.now)) }
 {
     if spot.at >= tokens.len() {

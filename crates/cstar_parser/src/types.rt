@@ -37,8 +37,7 @@ fn is_type_word(mark: Mark) -> bool {
 fn read_element(tokens: &[Token], spot: &mut Spot) -> Result<Elem, ParseFault>
     requires few { length tokens.now ≤ 1048576 }
     requires within { spot.old.at ≤ length tokens.now }
-    ensures forward { OnOk result (spot.old.at < spot.new.at) }
-    ensures inside { spot.new.at ≤ length tokens.now }
+    ensures forward { OnOk result ((spot.old.at < spot.new.at) × (spot.new.at ≤ length tokens.now)) }
     ensures fault { IfErr result (IsAmong (length tokens.now)) }
 {
     match mark_at(tokens, spot.at) {
@@ -95,15 +94,15 @@ fn read_size(tokens: &[Token], spot: &mut Spot) -> Option<Size>
     ensures inside { spot.new.at ≤ length tokens.now }
     ensures back { spot.old.at ≤ spot.new.at }
 {
-    let size = match mark_at(tokens, spot.at)? {
+    let mark = mark_at(tokens, spot.at)?;
+    let size = match mark {
         Mark::Char => Size::Byte,
         Mark::Short => Size::Half,
         Mark::Int | Mark::Long => Size::Word,
         _ => return None,
     };
-    let may_have_int = matches!(mark_at(tokens, spot.at)?, Mark::Short | Mark::Long);
     spot.at += 1;
-    if may_have_int && is_mark(tokens, spot.at, Mark::Int) {
+    if matches!(mark, Mark::Short | Mark::Long) && is_mark(tokens, spot.at, Mark::Int) {
         spot.at += 1;
     }
     Some(size)
@@ -113,8 +112,7 @@ fn read_size(tokens: &[Token], spot: &mut Spot) -> Option<Size>
 pub fn read_shape(alloc: Global, tokens: &[Token], spot: &mut Spot) -> Result<ShapeRef, ParseFault>
     requires few { length tokens.now ≤ 1048576 }
     requires within { spot.old.at ≤ length tokens.now }
-    ensures forward { OnOk result (spot.new.at ≡ spot.old.at + 1) }
-    ensures inside { spot.new.at ≤ length tokens.now }
+    ensures forward { OnOk result ((spot.new.at ≡ spot.old.at + 1) × (spot.new.at ≤ length tokens.now)) }
     ensures fault { IfErr result (IsAmong (length tokens.now)) }
 {
     if is_mark(tokens, spot.at, Mark::Current) {
@@ -129,8 +127,7 @@ pub fn read_shape(alloc: Global, tokens: &[Token], spot: &mut Spot) -> Result<Sh
 pub fn read_type(alloc: Global, tokens: &[Token], spot: &mut Spot) -> Result<TypeName, ParseFault>
     requires few { length tokens.now ≤ 1048576 }
     requires within { spot.old.at ≤ length tokens.now }
-    ensures forward { OnOk result (spot.old.at < spot.new.at) }
-    ensures inside { spot.new.at ≤ length tokens.now }
+    ensures forward { OnOk result ((spot.old.at < spot.new.at) × (spot.new.at ≤ length tokens.now)) }
     ensures fault { IfErr result (IsAmong (length tokens.now)) }
 {
     if spot.at >= tokens.len() {

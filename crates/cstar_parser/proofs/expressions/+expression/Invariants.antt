@@ -36,20 +36,26 @@ decreases-read_scan_intrinsic l = (length l.tokens.now - l.spot.now.at) * 32 + 4
 abbrev pub decreases-read_printf : goal.decreases-read_printf
 decreases-read_printf l = (length l.tokens.now - l.spot.now.at) * 32 + 4
 
-abbrev pub invariant-operators : goal.invariant-operators
-invariant-operators l = (l.fn.spot.at < l.spot.at) × (l.spot.at ≤ length l.tokens)
+abbrev pub invariant-read_binary-operators : goal.invariant-read_binary-operators
+invariant-read_binary-operators l = (l.fn.spot.at < l.spot.at) × (l.spot.at ≤ length l.tokens)
 
-abbrev pub decreases-operators : goal.decreases-operators
-decreases-operators l = length l.tokens - l.spot.at
+abbrev pub decreases-read_binary-operators : goal.decreases-read_binary-operators
+decreases-read_binary-operators l = length l.tokens - l.spot.at
 
-abbrev pub invariant-commas : goal.invariant-commas
-invariant-commas l = (l.fn.spot.at ≤ l.spot.at) × (l.spot.at ≤ length l.tokens)
+abbrev pub invariant-read_more-commas : goal.invariant-read_more-commas
+invariant-read_more-commas l = (l.fn.spot.at ≤ l.spot.at) × (l.spot.at ≤ length l.tokens)
 
-abbrev pub decreases-commas : goal.decreases-commas
-decreases-commas l = length l.tokens - l.spot.at
+abbrev pub decreases-read_more-commas : goal.decreases-read_more-commas
+decreases-read_more-commas l = length l.tokens - l.spot.at
 
-abbrev pub invariant-indexes : goal.invariant-indexes
-invariant-indexes l = (l.fn.spot.at < l.spot.at) × (l.spot.at ≤ length l.tokens)
+abbrev pub invariant-read_left_index-indexes : goal.invariant-read_left_index-indexes
+invariant-read_left_index-indexes l = (l.fn.spot.at < l.spot.at) × (l.spot.at ≤ length l.tokens)
 
-abbrev pub decreases-indexes : goal.decreases-indexes
-decreases-indexes l = length l.tokens - l.spot.at
+abbrev pub decreases-read_left_index-indexes : goal.decreases-read_left_index-indexes
+decreases-read_left_index-indexes l = length l.tokens - l.spot.at
+
+abbrev pub decreases-read_arguments : goal.decreases-read_arguments
+decreases-read_arguments l = (length l.tokens.now - l.spot.now.at) * 32 + 2
+
+abbrev pub decreases-read_index : goal.decreases-read_index
+decreases-read_index l = (length l.tokens.now - l.spot.now.at) * 32 + 2

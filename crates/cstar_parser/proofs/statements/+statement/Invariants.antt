@@ -22,14 +22,17 @@ decreases-read_for l = (length l.tokens.now - l.spot.now.at) * 32 + 4
 abbrev pub decreases-read_context : goal.decreases-read_context
 decreases-read_context l = (length l.tokens.now - l.spot.now.at) * 32 + 4
 
-abbrev pub invariant-declarations : goal.invariant-declarations
-invariant-declarations l = (l.fn.spot.at < l.spot.at) × (l.spot.at ≤ length l.tokens)
+abbrev pub invariant-read_block-declarations : goal.invariant-read_block-declarations
+invariant-read_block-declarations l = (l.fn.spot.at < l.spot.at) × (l.spot.at ≤ length l.tokens)
 
-abbrev pub decreases-declarations : goal.decreases-declarations
-decreases-declarations l = length l.tokens - l.spot.at
+abbrev pub decreases-read_block-declarations : goal.decreases-read_block-declarations
+decreases-read_block-declarations l = length l.tokens - l.spot.at
 
-abbrev pub invariant-statements : goal.invariant-statements
-invariant-statements l = (l.fn.spot.at < l.spot.at) × (l.spot.at ≤ length l.tokens)
+abbrev pub invariant-read_block-statements : goal.invariant-read_block-statements
+invariant-read_block-statements l = (l.fn.spot.at < l.spot.at) × (l.spot.at ≤ length l.tokens)
 
-abbrev pub decreases-statements : goal.decreases-statements
-decreases-statements l = length l.tokens - l.spot.at
+abbrev pub decreases-read_block-statements : goal.decreases-read_block-statements
+decreases-read_block-statements l = length l.tokens - l.spot.at
+
+abbrev pub decreases-read_body : goal.decreases-read_body
+decreases-read_body l = (length l.tokens.now - l.spot.now.at) * 32 + 16
