@@ -4,7 +4,7 @@ use Rattle.paris_code.specs.declared.instr.Instr.{Instr}
 use Rattle.paris_code.specs.declared.instr.Instr.TheVariants as I
 use Rattle.paris_code.specs.declared.program.Image.{Image}
 use Rattle.paris_code.specs.Kinds.{is_parallel}
-use Rattle.paris_code.specs.Operands.{arguments_of}
+use Rattle.paris_code.specs.Operands.{arguments_of, result_of}
 use Rattle.paris_code.specs.Units.{IsAt}
 use Rattle.front_end.specs.declared.ask.Ask.{Ask}
 use Rattle.front_end.specs.declared.ask.Ask.TheVariants as A
@@ -52,12 +52,6 @@ pub record Fits (image : Image) (s : State) : Type 0 where
   pub some : 2 ≤ s.argument_room
   pub arguments : All (λ i. argument_limit i ≤ s.argument_room) image.code.items
   pub wanted : IfSome s.wanted (λ r. r < image.slots)
-
--- the register that takes the value of an instruction of the phases
-abbrev pub result_of : Instr → Option ℕ
-result_of (I.Global combiner r a) = Some r
-result_of (I.ReadFromProcessor signed r processor a) = Some r
-result_of _ = None
 
 -- what the front end asks for: at a parallel instruction for its effect, with an argument for each
 -- register that it reads, and an answer for its result; at bytes to be printed for that; at a read

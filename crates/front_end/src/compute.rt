@@ -2,13 +2,13 @@
 
 ghost use Rattle.std.specs.Prelude.{◌≡◌, ◌+◌, ◌<◌, ◌≤◌, ◌++◌, ◌∷◌, [], length, slice_index, vec_len, All, IfSome, true};
 ghost use Rattle.paris_code.specs.Shapes.{shapes_of, rank_at};
-ghost use Rattle.paris_code.specs.Operands.{arguments_of, register_of, registers_of_coordinate, registers_of_konst};
+ghost use Rattle.paris_code.specs.Operands.{arguments_of, result_of, register_of, registers_of_coordinate, registers_of_konst};
 ghost use Rattle.paris_code.specs.RuleField.{KeepsField, KonstFits, IsSlot, IsRegisterAt};
 ghost use Rattle.paris_code.specs.RuleSet.{KeepsSet};
 ghost use Rattle.paris_code.specs.Kinds.{is_parallel};
 ghost use Rattle.paris_code.specs.RuleTarget.{GoesOn};
 ghost use Rattle.paris_code.specs.Sound.{KeepsRules};
-ghost use Rattle.front_end.specs.Front.{state_of, Fits, argument_limit, result_of};
+ghost use Rattle.front_end.specs.Front.{state_of, Fits, argument_limit};
 
 use crate::front::Front;
 use crate::scalar;
@@ -134,6 +134,7 @@ impl Front {
         requires slot { KonstFits (length self.old.registers.items) konst }
         requires room { length self.old.args.items < self.old.argument_room }
         ensures count { length self.new.args.items ≡ length self.old.args.items + length (registers_of_konst konst) }
+        ensures few { length self.new.args.items ≤ length self.old.args.items + 1 }
         ensures state { state_of self.new ≡ record (state_of self.old) { args = self.new.args.items } }
     {
         if let Konst::Reg(register) = konst {
@@ -145,6 +146,7 @@ impl Front {
         requires slot { IsRegisterAt (length self.old.registers.items) coordinate }
         requires room { length self.old.args.items < self.old.argument_room }
         ensures count { length self.new.args.items ≡ length self.old.args.items + length (registers_of_coordinate coordinate) }
+        ensures few { length self.new.args.items ≤ length self.old.args.items + 1 }
         ensures state { state_of self.new ≡ record (state_of self.old) { args = self.new.args.items } }
     {
         if let Coordinate::Reg(register) = coordinate {

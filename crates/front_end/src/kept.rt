@@ -1,6 +1,7 @@
 //! Runs that begin or go on from a state that was kept.
 
 ghost use Rattle.std.specs.Prelude.{◌≡◌, ◌<◌, ◌≤◌, IfOk, IfErr, IfSome, IsSomeAnd, All, None, false, vec_len, slice_set};
+ghost use Rattle.paris_code.specs.declared.program.Image.{Image};
 ghost use Rattle.front_end.specs.Front.{state_of, Fits, argument_limit};
 ghost use Rattle.front_end.specs.Kept.{KeptFits, IsOpening, GoesOnFrom};
 
@@ -135,6 +136,7 @@ impl Front {
     pub fn answer(&mut self, v: u32)
         requires { IsSomeAnd self.old.wanted (λ r. r < vec_len self.old.registers) }
         ensures wanted { self.new.wanted ≡ None }
+        ensures fits { (image : Image) → Fits image (state_of self.old) → Fits image (state_of self.new) }
         ensures same { state_of self.new ≡ record (state_of self.old) {
           registers = self.new.registers.items;
           wanted = None;

@@ -1,5 +1,5 @@
 -- The fields, registers and sets that an instruction names.
-use Rattle.std.specs.Prelude.{ℕ, List, [], ◌∷◌}
+use Rattle.std.specs.Prelude.{ℕ, Option, Some, None, List, [], ◌∷◌}
 use Rattle.std.specs.List.{flat_map}
 use Rattle.paris_code.specs.declared.operands.Konst.{Konst}
 use Rattle.paris_code.specs.declared.operands.Konst.TheVariants as K
@@ -43,3 +43,9 @@ arguments_of (I.GetFromNewsAlways d a axis k) = registers_of_konst k
 arguments_of (I.ReadFromProcessor signed r processor a) = processor ∷ []
 arguments_of (I.WriteToProcessor d processor k) = processor ∷ registers_of_konst k
 arguments_of _ = []
+
+-- the register that takes the value of an instruction of the phases
+abbrev pub result_of : Instr → Option ℕ
+result_of (I.Global combiner r a) = Some r
+result_of (I.ReadFromProcessor signed r processor a) = Some r
+result_of _ = None

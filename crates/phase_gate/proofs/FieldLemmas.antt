@@ -1,5 +1,8 @@
 -- What the image rules on fields give the phases.
-use Rattle.std.proofs.Common.{◌≡◌, ℕ, ◌+◌, ◌<◌, ◌≤◌, List, length, subst}
+use Rattle.std.proofs.Common.{◌≡◌, ℕ, ◌+◌, ◌<◌, ◌≤◌, List, length, subst, map, slice_set, get_or}
+use Rattle.std.proofs.Math.Seq.{map-set_same}
+use Rattle.phase_gate.specs.declared.rows.Rows.{Rows}
+use Rattle.phase_gate.specs.Rows.{shape_of_rows}
 use Rattle.paris_code.specs.declared.operands.Field.{Field}
 use Rattle.paris_code.specs.Shapes.{SetShape, bits_at}
 use Rattle.paris_code.specs.RuleField.{Fits}
@@ -16,3 +19,7 @@ pub same_positions : (shapes : List SetShape) (f other : Field) (position : ℕ)
 same_positions shapes f other position exists other_exists with at =
     let family : ℕ → Type 0 = λ set. IsPosition shapes set position in
     subst family (with exists other_exists) at
+
+-- a set whose rows keep their shape
+pub same_sets : (sets : List Rows) (set : ℕ) (rows old : Rows) → shape_of_rows rows ≡ shape_of_rows (get_or sets set old) → map shape_of_rows (slice_set sets set rows) ≡ map shape_of_rows sets
+same_sets sets set rows old same = map-set_same shape_of_rows sets set rows old same

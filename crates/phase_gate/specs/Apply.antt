@@ -1,13 +1,15 @@
 -- When an instruction can be applied by the phases of a machine with these sets.
-use Rattle.std.specs.Prelude.{◌≡◌, ℕ, ◌+◌, ◌<◌, ◌≤◌, true, List, length}
+use Rattle.std.specs.Prelude.{◌≡◌, ℕ, ◌+◌, ◌<◌, ◌≤◌, ◌^◌, Bool, true, false, None, IsSome, List, length}
 use Rattle.vp_sets.specs.Positions.{position_count}
 use Rattle.paris_code.specs.declared.instr.Instr.{Instr}
 use Rattle.paris_code.specs.declared.instr.Instr.TheVariants as I
 use Rattle.paris_code.specs.declared.operands.Coordinate.{Coordinate}
 use Rattle.paris_code.specs.declared.operands.Coordinate.TheVariants as C
 use Rattle.paris_code.specs.declared.operands.Field.{Field}
+use Rattle.paris_code.specs.declared.program.Reply.{Reply}
+use Rattle.paris_code.specs.declared.program.Reply.TheVariants as R
 use Rattle.paris_code.specs.Kinds.{is_parallel}
-use Rattle.paris_code.specs.Operands.{arguments_of}
+use Rattle.paris_code.specs.Operands.{arguments_of, result_of}
 use Rattle.paris_code.specs.RuleField.{KeepsField}
 use Rattle.paris_code.specs.RuleOperands.{KeepsOperands}
 use Rattle.paris_code.specs.RuleSet.{KeepsSet}
@@ -59,3 +61,23 @@ active_set (I.SetContext set) = set
 active_set (I.LogandContextWithTest set) = set
 active_set (I.LogandcContextWithTest set) = set
 active_set _ = 0
+
+-- the checks, which alone find a processor bad
+abbrev pub is_check : Instr → Bool
+is_check (I.CheckTarget set place coordinates) = true
+is_check (I.CheckGrid set place steps) = true
+is_check (I.CheckDivisor place a) = true
+is_check _ = false
+
+-- the sends, which alone may want memory
+abbrev pub is_send : Instr → Bool
+is_send (I.SendWithOverwrite d kind address a) = true
+is_send (I.SendWithCombiner combiner d kind address a) = true
+is_send _ = false
+
+-- which replies an instruction can have: a value exactly where it has a result register
+abbrev pub ReplyFits : Instr → Reply → Type 0
+ReplyFits instr R.Nothing = result_of instr ≡ None
+ReplyFits instr (R.Value v) = IsSome (result_of instr) × (v < 2 ^ 32)
+ReplyFits instr (R.Bad position) = is_check instr ≡ true
+ReplyFits instr R.Memory = is_send instr ≡ true

@@ -1,2 +1,4 @@
 pub mod Apply
 pub mod Rows
+pub mod Scans
+pub mod Sends

@@ -1,15 +1,16 @@
 //! The instructions, each done by one loop over the processors.
 
+use crate::arith::{extended, signed};
 use crate::communication::Scan;
 use crate::elements::konst;
 use crate::phases::Phases;
 use crate::row_phases::RowPhases;
 use crate::sends::Send;
-use cstar_base::numbers::value;
-use cstar_base::{Elem, Winner};
+use cstar_base::{SegmentMode, Winner};
 use paris_code::{Field, Instr, Reply};
 
-/// Where an elementwise instruction writes: a field, or the context or the test flag of a set.
+/// Where an elementwise instruction writes.
+#[derive(Clone, Copy)]
 enum Destination {
     Field(Field),
     Context(u16),
@@ -17,7 +18,7 @@ enum Destination {
 }
 
 /// Where an elementwise instruction writes, and whether it does so at all processors.
-fn destination(instr: &Instr) -> Option<(Destination, bool)> {
+fn written_by(instr: &Instr) -> Option<(Destination, bool)> {
     let found = match instr {
         Instr::MoveZeroAlways { dest }
         | Instr::MoveAlways { dest, .. }
@@ -46,43 +47,55 @@ fn destination(instr: &Instr) -> Option<(Destination, bool)> {
 }
 
 impl RowPhases {
+    ghost use Rattle.phase_gate.specs.Rows.{sets_of};
+
+    /// The bits that an elementwise instruction writes, as a run of a row.
+    fn run_of(&self, dest: Destination) -> Field {
+        match dest {
+            Destination::Field(f) => f,
+            Destination::Context(set) => Field {
+                set,
+                offset: self.rows(set).bits,
+                len: 1,
+            },
+            Destination::Test(set) => Field {
+                set,
+                offset: self.rows(set).bits + 1,
+                len: 1,
+            },
+        }
+    }
+
     /// Does an elementwise instruction.
-    fn do_elementwise(&mut self, instr: &Instr, args: &[u32], dest: Destination, always: bool) {
-        let (set, offset, len) = match dest {
-            Destination::Field(f) => (f.set, f.offset, f.len),
-            Destination::Context(set) => (set, self.sets[usize::from(set)].bits, 1),
-            Destination::Test(set) => (set, self.sets[usize::from(set)].bits + 1, 1),
-        };
-        for position in 0..self.sets[usize::from(set)].positions() {
-            if always || self.sets[usize::from(set)].is_active(position) {
-                let value = self.element(instr, args, position);
-                self.sets[usize::from(set)].set_number(position, offset, len, value);
+    fn do_elementwise(&mut self, instr: &Instr, args: &[u32], run: Field, always: bool) {
+        'positions: for position in 0..self.positions(run.set) {
+            if always || self.is_active(run.set, position) {
+                let word = self.element(instr, args, position);
+                self.write(run, position, word);
             }
         }
     }
 
     /// A NEWS shift, gathered and then written.
-    fn do_shift(&mut self, dest: Field, source: Field, axis: u32, by: u32, always: bool) -> Reply {
-        self.shift(source, axis, value(Elem::INT, by) as i32);
-        self.write_room(dest, always);
-        Reply::Nothing
+    fn do_shift(&mut self, dest: Field, source: Field, axis: u32, by: u32, always: bool) {
+        self.gather_shift(source, axis, signed(by));
+        self.write_gathered(dest, always);
     }
 
     /// The source of one processor, or 0 if there is none.
-    fn read_one(&self, signed: bool, processor: u32, source: Field) -> u32 {
-        if processor < self.sets[usize::from(source.set)].positions() {
-            self.word(signed, source, processor)
-        } else {
-            0
-        }
+    fn read_one(&self, read_signed: bool, processor: u32, source: Field) -> u32 {
+        extended(
+            read_signed,
+            source.len,
+            self.field_or_zero(source, processor),
+        )
     }
 
-    fn write_one(&mut self, dest: Field, processor: u32, value: u32) -> Reply {
-        let rows = &mut self.sets[usize::from(dest.set)];
-        if processor < rows.positions() {
-            rows.set_number(processor, dest.offset, dest.len, value);
+    /// Writes to one processor, if there is such a one.
+    fn write_one(&mut self, dest: Field, processor: u32, word: u32) {
+        if processor < self.positions(dest.set) {
+            self.write(dest, processor, word);
         }
-        Reply::Nothing
     }
 
     /// Does an instruction that moves values between processors or between them and the front end.
@@ -93,20 +106,26 @@ impl RowPhases {
                 source,
                 axis,
                 by,
-            } => self.do_shift(*dest, *source, *axis, konst(*by, args), false),
+            } => {
+                self.do_shift(*dest, *source, *axis, konst(*by, args), false);
+                Reply::Nothing
+            }
             Instr::GetFromNewsAlways {
                 dest,
                 source,
                 axis,
                 by,
-            } => self.do_shift(*dest, *source, *axis, konst(*by, args), true),
+            } => {
+                self.do_shift(*dest, *source, *axis, konst(*by, args), true);
+                Reply::Nothing
+            }
             Instr::Get {
                 dest,
                 address,
                 source,
             } => {
-                self.get(*address, *source);
-                self.write_room(*dest, false);
+                self.gather_named(*address, *source);
+                self.write_gathered(*dest, false);
                 Reply::Nothing
             }
             Instr::Global {
@@ -118,7 +137,8 @@ impl RowPhases {
                 Reply::Value(self.read_one(*signed, args[0], *source))
             }
             Instr::WriteToProcessor { dest, value, .. } => {
-                self.write_one(*dest, args[0], konst(*value, &args[1..]))
+                self.write_one(*dest, args[0], konst(*value, &args[1..]));
+                Reply::Nothing
             }
             _ => self.scan_or_send(instr),
         }
@@ -142,25 +162,41 @@ impl RowPhases {
                     axis: *axis,
                     direction: *direction,
                     mode: *mode,
-                    bit: *bit,
+                    bit: match mode {
+                        SegmentMode::NoSegments => None,
+                        SegmentMode::StartBit | SegmentMode::SegmentBit => *bit,
+                    },
                     inclusion: *inclusion,
                 };
-                self.scan(&scan);
-                self.write_room(*dest, false);
+                self.gather_scan(&scan);
+                self.write_gathered(*dest, false);
             }
             Instr::SendWithOverwrite {
                 dest,
                 kind,
                 address,
                 source,
-            } => self.overwrite(&Send::new(*dest, *kind, *address, *source)),
+            } => self.overwrite(&Send {
+                dest: *dest,
+                kind: *kind,
+                address: *address,
+                source: *source,
+            }),
             Instr::SendWithCombiner {
                 combiner,
                 dest,
                 kind,
                 address,
                 source,
-            } => self.send(&Send::new(*dest, *kind, *address, *source), *combiner),
+            } => self.send(
+                &Send {
+                    dest: *dest,
+                    kind: *kind,
+                    address: *address,
+                    source: *source,
+                },
+                *combiner,
+            ),
             _ => {}
         }
         Reply::Nothing
@@ -173,8 +209,9 @@ impl Phases for RowPhases {
     ghost shapes = { sets_of };
 
     fn apply(&mut self, instr: &Instr, args: &[u32]) -> Reply {
-        if let Some((dest, always)) = destination(instr) {
-            self.do_elementwise(instr, args, dest, always);
+        if let Some((dest, always)) = written_by(instr) {
+            let run = self.run_of(dest);
+            self.do_elementwise(instr, args, run, always);
             return Reply::Nothing;
         }
         match instr {
@@ -198,7 +235,12 @@ impl Phases for RowPhases {
     }
 
     fn set_bit(&mut self, set: u16, index: u32, position: u32, b: bool) {
-        self.sets[usize::from(set)].set_number(position, index, 1, u32::from(b));
+        let run = Field {
+            set,
+            offset: index,
+            len: 1,
+        };
+        self.write(run, position, u32::from(b));
     }
 
     fn choose(&mut self, w: Winner) {

@@ -61,3 +61,9 @@ pub(crate) fn whole(signed: bool, w: u32) -> i64 {
         i64::from(w)
     }
 }
+
+/// The number that a word stands for in two's complement.
+#[tactic(auto, unfolding(cstar_base::specs::Numbers::least_of, cstar_base::specs::Numbers::greatest_of))]
+pub(crate) fn signed(w: u32) -> i32 {
+    value(Elem::INT, w) as i32
+}

@@ -1,5 +1,7 @@
 //! Checks: the least active processor that fails.
 
+ghost use Rattle.phase_gate.specs.Apply.{LiesIn};
+
 use crate::arith::whole;
 use crate::row_phases::RowPhases;
 use paris_code::{Coordinate, Field, GridStep, Konst, Reply, SignedCoordinate};
@@ -15,9 +17,11 @@ fn checking_set(set: u16, coordinates: &[SignedCoordinate]) -> u16 {
 }
 
 impl RowPhases {
+    ghost use Rattle.phase_gate.specs.Rows.{sets_of};
+
     /// Whether the coordinates of a processor are those of a position of the set.
     fn are_inside(&self, set: u16, list: &[SignedCoordinate], args: &[u32], position: u32) -> bool {
-        let geometry = self.sets[usize::from(set)].geometry;
+        let geometry = self.rows(set).geometry;
         let mut next = 0;
         for (checked, extent) in list.iter().zip(geometry.extents()) {
             let x = match checked.coordinate {
@@ -41,9 +45,9 @@ impl RowPhases {
         coordinates: &[SignedCoordinate],
         args: &[u32],
     ) -> Reply {
-        let rows = &self.sets[usize::from(checking_set(set, coordinates))];
-        for position in 0..rows.positions() {
-            if rows.is_active(position) && !self.are_inside(set, coordinates, args, position) {
+        let own = checking_set(set, coordinates);
+        for position in 0..self.positions(own) {
+            if self.is_active(own, position) && !self.are_inside(set, coordinates, args, position) {
                 return Reply::Bad { position };
             }
         }
@@ -52,7 +56,7 @@ impl RowPhases {
 
     /// Whether all steps from a processor stay in the grid.
     fn stays(&self, set: u16, steps: &[GridStep], args: &[u32], position: u32) -> bool {
-        let geometry = self.sets[usize::from(set)].geometry;
+        let geometry = self.rows(set).geometry;
         let mut next = 0;
         for step in steps {
             let by = match step.step {
@@ -71,20 +75,20 @@ impl RowPhases {
     }
 
     pub(crate) fn check_grid(&self, set: u16, steps: &[GridStep], args: &[u32]) -> Reply {
-        let rows = &self.sets[usize::from(set)];
-        for position in 0..rows.positions() {
-            if rows.is_active(position) && !self.stays(set, steps, args, position) {
+        for position in 0..self.positions(set) {
+            if self.is_active(set, position) && !self.stays(set, steps, args, position) {
                 return Reply::Bad { position };
             }
         }
         Reply::Nothing
     }
 
-    pub(crate) fn check_divisor(&self, source: Field) -> Reply {
-        let rows = &self.sets[usize::from(source.set)];
-        for position in 0..rows.positions() {
-            let divisor = rows.number(position, source.offset, source.len);
-            if rows.is_active(position) && divisor == 0 {
+    /// The least active processor at which the field is 0.
+    pub(crate) fn check_divisor(&self, source: Field) -> Reply
+        requires { LiesIn (sets_of self.now) source }
+    {
+        for position in 0..self.positions(source.set) {
+            if self.is_active(source.set, position) && self.field(source, position) == 0 {
                 return Reply::Bad { position };
             }
         }

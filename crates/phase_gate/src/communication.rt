@@ -1,87 +1,177 @@
-//! Instructions whose values come from other processors: they are gathered into the room before
-//! anything is written.
+//! Instructions whose values come from other processors: they are gathered, one word for each
+//! processor, before anything is written.
+
+ghost use Rattle.std.specs.Prelude.{◌≡◌, ◌+◌, ◌<◌, ◌≤◌, ◌≢◌, length};
+ghost use Rattle.vp_sets.specs.Positions.{position_count};
+ghost use Rattle.paris_code.specs.Shapes.{bits_at, extents_at, rank_at};
+ghost use Rattle.phase_gate.specs.Apply.{IsPosition, LiesIn};
 
 use crate::row_phases::RowPhases;
-use crate::rows::Rows;
 use cstar_base::numbers::{fold_step, identity};
 use cstar_base::{Direction, Inclusion, SegmentMode};
 use paris_code::{Field, Reduction};
 
 impl RowPhases {
-    /// Writes the room to a field of the active processors, or of all.
-    pub(crate) fn write_room(&mut self, dest: Field, always: bool) {
-        let rows = &mut self.sets[usize::from(dest.set)];
-        for position in 0..rows.positions() {
-            if always || rows.is_active(position) {
-                rows.set_number(
-                    position,
-                    dest.offset,
-                    dest.len,
-                    self.room[position as usize],
-                );
+    ghost use Rattle.phase_gate.specs.Rows.{sets_of};
+    ghost use Rattle.phase_gate.specs.Scans.{ScanFits};
+
+    /// Writes the gathered words to a field of the active processors, or of all.
+    pub(crate) fn write_gathered(&mut self, dest: Field, always: bool)
+        requires { LiesIn (sets_of self.old) dest }
+        ensures { sets_of self.new ≡ sets_of self.old }
+    {
+        'positions: for position in 0..self.positions(dest.set) {
+            if always || self.is_active(dest.set, position) {
+                let word = self.gathered(dest.set, position);
+                self.write(dest, position, word);
             }
         }
     }
 
     /// Gathers the source of the neighbour `by` steps along an axis, round its ends.
-    pub(crate) fn shift(&mut self, source: Field, axis: u32, by: i32) {
-        let rows = &self.sets[usize::from(source.set)];
-        for position in 0..rows.positions() {
-            let from = rows.geometry.shift(position, axis, by);
-            self.room[position as usize] = rows.number(from, source.offset, source.len);
+    pub(crate) fn gather_shift(&mut self, source: Field, axis: u32, by: i32)
+        requires field { LiesIn (sets_of self.old) source }
+        requires axis { axis < rank_at (sets_of self.old) source.set }
+        ensures { sets_of self.new ≡ sets_of self.old }
+    {
+        'positions: for position in 0..self.positions(source.set) {
+            let from = self.rows(source.set).geometry.shift(position, axis, by);
+            let word = self.field(source, from);
+            self.gather(source.set, position, word);
         }
     }
 
     /// Gathers the source of the processors that the addresses name, and 0 where there is none.
-    pub(crate) fn get(&mut self, address: Field, source: Field) {
-        let there = &self.sets[usize::from(source.set)];
-        let here = &self.sets[usize::from(address.set)];
-        for position in 0..here.positions() {
-            let from = here.number(position, address.offset, address.len);
-            let value = if from < there.positions() {
-                there.number(from, source.offset, source.len)
-            } else {
-                0
-            };
-            self.room[position as usize] = value;
+    pub(crate) fn gather_named(&mut self, address: Field, source: Field)
+        requires address { LiesIn (sets_of self.old) address }
+        requires source { LiesIn (sets_of self.old) source }
+        ensures { sets_of self.new ≡ sets_of self.old }
+    {
+        'positions: for position in 0..self.positions(address.set) {
+            let from = self.field(address, position);
+            let word = self.field_or_zero(source, from);
+            self.gather(address.set, position, word);
+        }
+    }
+
+    /// The number in a field of a processor, and 0 if there is no such processor.
+    pub(crate) fn field_or_zero(&self, source: Field, processor: u32) -> u32
+        requires { LiesIn (sets_of self.now) source }
+    {
+        if processor < self.positions(source.set) {
+            self.field(source, processor)
+        } else {
+            0
         }
     }
 
     /// The fold of a field over the active processors in order.
-    pub(crate) fn reduce(&self, combiner: Reduction, source: Field) -> u32 {
+    pub(crate) fn reduce(&self, combiner: Reduction, source: Field) -> u32
+        requires { LiesIn (sets_of self.now) source }
+    {
         let (combine, unsigned) = combiner.combiner();
-        let rows = &self.sets[usize::from(source.set)];
         let mut total = identity(combine, unsigned);
-        for position in 0..rows.positions() {
-            if rows.is_active(position) {
-                let value = rows.number(position, source.offset, source.len);
-                total = fold_step(combine, unsigned, total, value);
+        for position in 0..self.positions(source.set) {
+            if self.is_active(source.set, position) {
+                total = fold_step(combine, unsigned, total, self.field(source, position));
             }
         }
         total
     }
 
     /// Gathers the scan of a field along the axis, line by line.
-    pub(crate) fn scan(&mut self, scan: &Scan) {
-        let rows = &self.sets[usize::from(scan.source.set)];
-        let geometry = rows.geometry;
-        let step = match scan.direction {
-            Direction::Upward => 1,
-            Direction::Downward => -1,
-        };
-        for position in 0..rows.positions() {
+    pub(crate) fn gather_scan(&mut self, scan: &Scan)
+        requires { ScanFits (sets_of self.old) scan.now }
+        ensures { sets_of self.new ≡ sets_of self.old }
+    {
+        let set = scan.source.set;
+        'positions: for position in 0..self.positions(set) {
+            let geometry = self.rows(set).geometry;
             if geometry.coord(position, scan.axis) == 0 {
                 let first = match scan.direction {
                     Direction::Upward => position,
                     Direction::Downward => geometry.shift(position, scan.axis, -1),
                 };
-                scan_line(rows, scan, first, step, &mut self.room);
+                self.gather_line(scan, first);
             }
+        }
+    }
+
+    /// Whether the bit that parts the segments is 1 at a position.
+    fn is_marked(&self, scan: &Scan, position: u32) -> bool
+        requires scan { ScanFits (sets_of self.now) scan.now }
+        requires position { IsPosition (sets_of self.now) scan.now.source.set position }
+    {
+        match scan.bit {
+            None => false,
+            Some(bit) => self.field(bit, position) == 1,
+        }
+    }
+
+    /// Whether a segment begins at a position before its own value is taken.
+    fn begins(&self, scan: &Scan, position: u32) -> bool
+        requires scan { ScanFits (sets_of self.now) scan.now }
+        requires position { IsPosition (sets_of self.now) scan.now.source.set position }
+    {
+        match scan.mode {
+            SegmentMode::NoSegments => false,
+            SegmentMode::StartBit => {
+                self.is_active(scan.source.set, position) && self.is_marked(scan, position)
+            }
+            SegmentMode::SegmentBit => {
+                scan.direction == Direction::Upward && self.is_marked(scan, position)
+            }
+        }
+    }
+
+    /// Whether a segment ends with a position: downward, it ends where upward it begins.
+    fn ends(&self, scan: &Scan, position: u32) -> bool
+        requires scan { ScanFits (sets_of self.now) scan.now }
+        requires position { IsPosition (sets_of self.now) scan.now.source.set position }
+    {
+        scan.mode == SegmentMode::SegmentBit
+            && scan.direction == Direction::Downward
+            && self.is_marked(scan, position)
+    }
+
+    /// Gathers the scan of one line, from its first position in the scan's direction on.
+    fn gather_line(&mut self, scan: &Scan, first: u32)
+        requires scan { ScanFits (sets_of self.old) scan.now }
+        requires position { IsPosition (sets_of self.old) scan.now.source.set first }
+        ensures { sets_of self.new ≡ sets_of self.old }
+    {
+        let set = scan.source.set;
+        let (combine, unsigned) = scan.combiner.combiner();
+        let start = identity(combine, unsigned);
+        let step = match scan.direction {
+            Direction::Upward => 1,
+            Direction::Downward => -1,
+        };
+        let mut total = start;
+        let mut position = first;
+        'line: for _ in 0..self.rows(set).geometry.extent(scan.axis) {
+            if self.begins(scan, position) {
+                total = start;
+            }
+            if self.is_active(set, position) {
+                let next = fold_step(combine, unsigned, total, self.field(scan.source, position));
+                let word = match scan.inclusion {
+                    Inclusion::Inclusive => next,
+                    Inclusion::Exclusive => total,
+                };
+                self.gather(set, position, word);
+                total = next;
+            }
+            if self.ends(scan, position) {
+                total = start;
+            }
+            position = self.rows(set).geometry.shift(position, scan.axis, step);
         }
     }
 }
 
-/// A scan along an axis.
+/// A scan along an axis; the bit is None where the scan has no segments.
+#[derive(Clone, Copy)]
 pub(crate) struct Scan {
     pub(crate) combiner: Reduction,
     pub(crate) source: Field,
@@ -90,57 +180,4 @@ pub(crate) struct Scan {
     pub(crate) mode: SegmentMode,
     pub(crate) bit: Option<Field>,
     pub(crate) inclusion: Inclusion,
-}
-
-impl Scan {
-    /// Whether the bit that parts the segments is 1 at a position.
-    fn is_marked(&self, rows: &Rows, position: u32) -> bool {
-        match (self.mode, self.bit) {
-            (SegmentMode::NoSegments, _) | (_, None) => false,
-            (_, Some(bit)) => rows.number(position, bit.offset, bit.len) == 1,
-        }
-    }
-
-    /// Whether a segment begins at a position before its own value is taken.
-    fn begins(&self, rows: &Rows, position: u32) -> bool {
-        let upward = self.direction == Direction::Upward;
-        match self.mode {
-            SegmentMode::NoSegments => false,
-            SegmentMode::StartBit => rows.is_active(position) && self.is_marked(rows, position),
-            SegmentMode::SegmentBit => upward && self.is_marked(rows, position),
-        }
-    }
-
-    /// Whether a segment ends with a position: downward, it ends where upward it begins.
-    fn ends(&self, rows: &Rows, position: u32) -> bool {
-        self.mode == SegmentMode::SegmentBit
-            && self.direction == Direction::Downward
-            && self.is_marked(rows, position)
-    }
-}
-
-/// Gathers the scan of one line, from its first position in the scan's direction on.
-fn scan_line(rows: &Rows, scan: &Scan, first: u32, step: i32, room: &mut [u32]) {
-    let (combine, unsigned) = scan.combiner.combiner();
-    let start = identity(combine, unsigned);
-    let mut total = start;
-    let mut position = first;
-    for _ in 0..rows.geometry.extent(scan.axis) {
-        if scan.begins(rows, position) {
-            total = start;
-        }
-        if rows.is_active(position) {
-            let value = rows.number(position, scan.source.offset, scan.source.len);
-            let next = fold_step(combine, unsigned, total, value);
-            room[position as usize] = match scan.inclusion {
-                Inclusion::Inclusive => next,
-                Inclusion::Exclusive => total,
-            };
-            total = next;
-        }
-        if scan.ends(rows, position) {
-            total = start;
-        }
-        position = rows.geometry.shift(position, scan.axis, step);
-    }
 }

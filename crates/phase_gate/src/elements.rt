@@ -3,13 +3,11 @@
 ghost use Rattle.std.specs.Prelude.{◌≡◌, ◌<◌, length, All};
 ghost use Rattle.std.specs.List.{flat_map};
 ghost use Rattle.paris_code.specs.Operands.{registers_of_konst, registers_of_coordinate};
-ghost use Rattle.paris_code.specs.Shapes.{bits_at, extents_at};
-ghost use Rattle.phase_gate.specs.Apply.{CanApply, IsPosition, LiesIn, IsCoordinateAt, active_set};
+ghost use Rattle.phase_gate.specs.Apply.{CanApply, IsPosition, IsCoordinateAt, active_set};
 
-use crate::arith::{extended, holds, operate};
+use crate::arith::{holds, operate};
 use crate::row_phases::RowPhases;
-use crate::rows::Rows;
-use paris_code::{Coordinate, Field, Instr, Konst};
+use paris_code::{Coordinate, Instr, Konst};
 
 /// The number of an operand, of which the argument is the register's value.
 pub(crate) fn konst(k: Konst, args: &[u32]) -> u32
@@ -23,31 +21,6 @@ pub(crate) fn konst(k: Konst, args: &[u32]) -> u32
 
 impl RowPhases {
     ghost use Rattle.phase_gate.specs.Rows.{shape_of_rows, sets_of};
-
-    /// The rows of a set.
-    pub(crate) fn rows(&self, set: u16) -> &Rows
-        requires { set < length (sets_of self.now) }
-        ensures extents { result.now.geometry ≡ extents_at (sets_of self.now) set }
-        ensures bits { result.now.bits ≡ bits_at (sets_of self.now) set }
-    {
-        &self.sets[usize::from(set)]
-    }
-
-    /// The number in a field of a processor, unsigned.
-    pub(crate) fn field(&self, f: Field, position: u32) -> u32
-        requires field { LiesIn (sets_of self.now) f }
-        requires position { IsPosition (sets_of self.now) f.set position }
-    {
-        self.rows(f.set).number(position, f.offset, f.len)
-    }
-
-    /// The number in a field of a processor as a word.
-    pub(crate) fn word(&self, signed: bool, f: Field, position: u32) -> u32
-        requires field { LiesIn (sets_of self.now) f }
-        requires position { IsPosition (sets_of self.now) f.set position }
-    {
-        extended(signed, f.len, self.field(f, position))
-    }
 
     /// The row-major number of coordinates in a set, modulo 2 to the 32.
     fn address(&self, set: u16, coordinates: &[Coordinate], args: &[u32], position: u32) -> u32

@@ -1,6 +1,6 @@
 ghost use Rattle.std.specs.Prelude.{◌≡◌, ◌≢◌, ◌+◌, ◌<◌, ◌≤◌, ℕ, List, true};
 ghost use Rattle.paris_code.specs.Shapes.{SetShape, bits_at};
-ghost use Rattle.phase_gate.specs.Apply.{CanApply, IsPosition, LiesIn};
+ghost use Rattle.phase_gate.specs.Apply.{CanApply, IsPosition, LiesIn, ReplyFits};
 
 use cstar_base::Winner;
 use paris_code::{Field, Instr, Reply};
@@ -16,6 +16,7 @@ pub trait Phases {
     /// `Nothing`.
     fn apply(&mut self, instr: &Instr, args: &[u32]) -> Reply
         requires { CanApply (shapes self.old) instr.now args.now }
+        ensures reply { ReplyFits instr.now result }
         ensures shapes { shapes self.new ≡ shapes self.old };
 
     /// The number in a field of a processor, unsigned.

@@ -1,12 +1,15 @@
-ghost use Rattle.std.specs.Prelude.{◌≡◌, ◌+◌, ◌<◌, ◌≤◌, ◌^◌, map, length, vec_len, All, IfOk};
+ghost use Rattle.std.specs.Prelude.{◌≡◌, ◌+◌, ◌<◌, ◌≤◌, length, IfOk};
 ghost use Rattle.vp_sets.specs.Positions.{position_count};
+ghost use Rattle.paris_code.specs.Shapes.{bits_at, extents_at};
+ghost use Rattle.phase_gate.specs.Apply.{IsPosition, LiesIn};
 ghost use Rattle.paris_code.specs.Sound.{IsShape};
 ghost use Rattle.paris_code.specs.Shapes.{shape_of, shapes_of};
 
+use crate::arith::extended;
 use crate::rows::Rows;
 use cstar_base::{Memory, Winner};
 use image_check::Sound;
-use paris_code::ShapeBits;
+use paris_code::{Field, ShapeBits};
 use std::alloc::Global;
 use vp_sets::Geometry;
 
@@ -14,10 +17,7 @@ use vp_sets::Geometry;
 #[derive(Drop)]
 pub struct RowPhases {
     pub(crate) sets: Vec<Rows>,
-    /// A word for each processor of the largest set.
-    pub(crate) room: Vec<u32>,
     pub(crate) winner: Winner,
-    ghost enough: { All (λ rows. position_count rows.geometry ≤ vec_len room) sets.items },
 }
 
 /// The rows of a shape.
@@ -41,16 +41,78 @@ impl RowPhases {
         ensures { IfOk result (λ p. sets_of p ≡ shapes_of sound.now) }
     {
         let mut sets = Vec::new(alloc);
-        let mut most = 0;
         'shapes: for shape in sound.image().shapes.iter() {
-            let rows = rows_of(alloc, shape)?;
-            most = most.max(rows.positions());
-            sets.push(rows)?;
+            sets.push(rows_of(alloc, shape)?)?;
         }
         Ok(RowPhases {
             sets,
-            room: vec![in alloc; 0; most as usize]?,
             winner: Winner::High,
         })
+    }
+
+    /// The rows of a set.
+    pub(crate) fn rows(&self, set: u16) -> &Rows
+        requires { set < length (sets_of self.now) }
+        ensures extents { result.now.geometry ≡ extents_at (sets_of self.now) set }
+        ensures bits { result.now.bits ≡ bits_at (sets_of self.now) set }
+    {
+        &self.sets[usize::from(set)]
+    }
+
+    /// The number in a field of a processor, unsigned.
+    pub(crate) fn field(&self, f: Field, position: u32) -> u32
+        requires field { LiesIn (sets_of self.now) f }
+        requires position { IsPosition (sets_of self.now) f.set position }
+    {
+        self.rows(f.set).number(position, f.offset, f.len)
+    }
+
+    /// The number in a field of a processor as a word.
+    pub(crate) fn word(&self, signed: bool, f: Field, position: u32) -> u32
+        requires field { LiesIn (sets_of self.now) f }
+        requires position { IsPosition (sets_of self.now) f.set position }
+    {
+        extended(signed, f.len, self.field(f, position))
+    }
+
+    /// How many positions a set has.
+    pub(crate) fn positions(&self, set: u16) -> u32
+        requires { set < length (sets_of self.now) }
+        ensures { result ≡ position_count (extents_at (sets_of self.now) set) }
+    {
+        self.rows(set).positions()
+    }
+
+    pub(crate) fn is_active(&self, set: u16, position: u32) -> bool
+        requires { IsPosition (sets_of self.now) set position }
+    {
+        self.rows(set).is_active(position)
+    }
+
+    /// Writes a number, modulo 2 to the length, to a run of bits of a processor.
+    #[tactic(auto, using(crate::proofs::FieldLemmas::same_sets))]
+    pub(crate) fn write(&mut self, run: Field, position: u32, n: u32)
+        requires position { IsPosition (sets_of self.old) run.set position }
+        requires len { (1 ≤ run.len) × (run.len ≤ 32) }
+        requires inside { run.offset + run.len ≤ bits_at (sets_of self.old) run.set + 2 }
+        ensures { sets_of self.new ≡ sets_of self.old }
+    {
+        self.sets[usize::from(run.set)].set_number(position, run.offset, run.len, n);
+    }
+
+    /// The word that is held for a processor.
+    pub(crate) fn gathered(&self, set: u16, position: u32) -> u32
+        requires { IsPosition (sets_of self.now) set position }
+    {
+        self.rows(set).gathered(position)
+    }
+
+    /// Holds a word for a processor.
+    #[tactic(auto, using(crate::proofs::FieldLemmas::same_sets))]
+    pub(crate) fn gather(&mut self, set: u16, position: u32, word: u32)
+        requires { IsPosition (sets_of self.old) set position }
+        ensures { sets_of self.new ≡ sets_of self.old }
+    {
+        self.sets[usize::from(set)].gather(position, word);
     }
 }

@@ -19,12 +19,15 @@ pub(crate) struct Rows {
     /// The machine words of one row.
     words: u32,
     cells: Vec<u64>,
+    /// A word for each processor, for values that are gathered before they are written.
+    room: Vec<u32>,
     ghost few: { bits ≤ 2 ^ 30 },
-    ghost room: { bits + 2 ≤ 64 * words },
+    ghost wide: { bits + 2 ≤ 64 * words },
     ghost narrow: { words ≤ 2 ^ 25 },
     ghost counted: { positions ≡ position_count geometry },
     ghost short: { positions ≤ 2 ^ 20 },
     ghost all: { vec_len cells ≡ positions * words },
+    ghost one_each: { vec_len room ≡ positions },
 }
 
 impl Rows {
@@ -39,12 +42,14 @@ impl Rows {
         let words = bits / WORD + 2;
         let count = positions as usize * words as usize;
         let cells = vec![in alloc; 0; count]?;
+        let room = vec![in alloc; 0; positions as usize]?;
         let mut rows = Rows {
             geometry,
             bits,
             positions,
             words,
             cells,
+            room,
         };
         'contexts: for position in 0..positions {
             rows.set_number(position, bits, 1, 1);
@@ -115,5 +120,20 @@ impl Rows {
         requires { position < position_count self.now.geometry }
     {
         self.number(position, self.bits + 1, 1) == 1
+    }
+
+    /// The word that is held for a processor.
+    pub(crate) fn gathered(&self, position: u32) -> u32
+        requires { position < position_count self.now.geometry }
+    {
+        self.room[position as usize]
+    }
+
+    /// Holds a word for a processor.
+    pub(crate) fn gather(&mut self, position: u32, word: u32)
+        requires { position < position_count self.old.geometry }
+        ensures { shape_of_rows self.new ≡ shape_of_rows self.old }
+    {
+        self.room[position as usize] = word;
     }
 }

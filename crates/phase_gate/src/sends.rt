@@ -1,4 +1,8 @@
-//! Sends: the room holds a word for each target, which takes the messages of the senders in order.
+//! Sends: a word for each target takes the messages of the senders in order.
+
+ghost use Rattle.std.specs.Prelude.{◌≡◌, ◌<◌, length};
+ghost use Rattle.paris_code.specs.Shapes.{bits_at, extents_at};
+ghost use Rattle.phase_gate.specs.Apply.{IsPosition, LiesIn};
 
 use crate::arith::extended;
 use crate::row_phases::RowPhases;
@@ -7,6 +11,7 @@ use cstar_base::{Combiner, Elem, Winner};
 use paris_code::{Field, Reduction};
 
 /// A send: the field that the messages go to, its type, and the fields of the senders.
+#[derive(Clone, Copy)]
 pub(crate) struct Send {
     pub(crate) dest: Field,
     pub(crate) kind: Elem,
@@ -14,66 +19,73 @@ pub(crate) struct Send {
     pub(crate) source: Field,
 }
 
-impl Send {
-    pub(crate) fn new(dest: Field, kind: Elem, address: Field, source: Field) -> Send {
-        Send {
-            dest,
-            kind,
-            address,
-            source,
-        }
-    }
-}
-
 impl RowPhases {
-    /// The words of the targets, read by the type of the send.
-    fn read_targets(&mut self, send: &Send) {
-        let rows = &self.sets[usize::from(send.dest.set)];
-        for position in 0..rows.positions() {
-            let old = rows.number(position, send.dest.offset, send.dest.len);
-            self.room[position as usize] = extended(send.kind.signed, send.dest.len, old);
+    ghost use Rattle.phase_gate.specs.Rows.{sets_of};
+    ghost use Rattle.phase_gate.specs.Sends.{SendFits};
+
+    /// Gathers the words of the targets, read by the type of the send.
+    fn read_targets(&mut self, send: &Send)
+        requires { SendFits (sets_of self.old) send.now }
+        ensures { sets_of self.new ≡ sets_of self.old }
+    {
+        'positions: for position in 0..self.positions(send.dest.set) {
+            let old = self.word(send.kind.signed, send.dest, position);
+            self.gather(send.dest.set, position, old);
         }
     }
 
-    /// The words of the targets, written at all of them.
-    fn write_targets(&mut self, send: &Send) {
-        for word in self.room.iter_mut() {
-            *word = convert(send.kind, Elem::INT, *word);
+    /// Writes the words of the targets, converted to the type of the send, at all of them.
+    fn write_targets(&mut self, send: &Send)
+        requires { SendFits (sets_of self.old) send.now }
+        ensures { sets_of self.new ≡ sets_of self.old }
+    {
+        'positions: for position in 0..self.positions(send.dest.set) {
+            let word = self.gathered(send.dest.set, position);
+            self.write(send.dest, position, convert(send.kind, Elem::INT, word));
         }
-        self.write_room(send.dest, true);
     }
 
     /// Combines the message of one sender into its target.
-    fn deliver(&mut self, send: &Send, combine: Combiner, unsigned: bool, sender: u32) {
-        let rows = &self.sets[usize::from(send.address.set)];
-        let target = rows.number(sender, send.address.offset, send.address.len);
-        let targets = self.sets[usize::from(send.dest.set)].positions();
-        if rows.is_active(sender) && target < targets {
-            let value = rows.number(sender, send.source.offset, send.source.len);
-            let old = self.room[target as usize];
-            self.room[target as usize] = fold_step(combine, unsigned, old, value);
+    fn deliver(&mut self, send: &Send, combine: Combiner, unsigned: bool, sender: u32)
+        requires send { SendFits (sets_of self.old) send.now }
+        requires sender { IsPosition (sets_of self.old) send.now.address.set sender }
+        ensures { sets_of self.new ≡ sets_of self.old }
+    {
+        let target = self.field(send.address, sender);
+        if self.is_active(send.address.set, sender) && target < self.positions(send.dest.set) {
+            let value = self.field(send.source, sender);
+            let old = self.gathered(send.dest.set, target);
+            self.gather(
+                send.dest.set,
+                target,
+                fold_step(combine, unsigned, old, value),
+            );
         }
     }
 
     /// The send with a combiner.
-    pub(crate) fn send(&mut self, send: &Send, combiner: Reduction) {
+    pub(crate) fn send(&mut self, send: &Send, combiner: Reduction)
+        requires { SendFits (sets_of self.old) send.now }
+        ensures { sets_of self.new ≡ sets_of self.old }
+    {
         let (combine, unsigned) = combiner.combiner();
         self.read_targets(send);
-        for sender in 0..self.sets[usize::from(send.address.set)].positions() {
+        'senders: for sender in 0..self.positions(send.address.set) {
             self.deliver(send, combine, unsigned, sender);
         }
         self.write_targets(send);
     }
 
     /// The send without a combiner: the last message that comes to a target stays.
-    pub(crate) fn overwrite(&mut self, send: &Send) {
+    pub(crate) fn overwrite(&mut self, send: &Send)
+        requires { SendFits (sets_of self.old) send.now }
+        ensures { sets_of self.new ≡ sets_of self.old }
+    {
+        let high = self.winner == Winner::High;
         self.read_targets(send);
-        let senders = self.sets[usize::from(send.address.set)].positions();
-        for n in 0..senders {
-            let sender = match self.winner {
-                Winner::High => n,
-                Winner::Low => senders - 1 - n,
-            };
+        let senders = self.positions(send.address.set);
+        'senders: for n in 0..senders {
+            let sender = if high { n } else { senders - 1 - n };
             self.deliver(send, Combiner::Last, true, sender);
         }
         self.write_targets(send);

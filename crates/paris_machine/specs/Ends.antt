@@ -1,0 +1,28 @@
+-- How runs end, and what that says of the outside.
+use Rattle.std.specs.Prelude.{◌≡◌, ℕ, Bool, true, false, Option, Some, None}
+use Rattle.cstar_io.specs.Faults.{RisesBy}
+use Rattle.paris_machine.specs.declared.outcome.End.{End}
+use Rattle.paris_machine.specs.declared.outcome.End.TheVariants as E
+
+-- the end says that a call on the input failed, that one on the output did
+abbrev pub input_broke : End → Bool
+input_broke E.InputBroken = true
+input_broke _ = false
+
+abbrev pub output_broke : End → Bool
+output_broke E.OutputBroken = true
+output_broke _ = false
+
+-- the same of an end that may not have come
+abbrev pub input_broke_in : Option End → Bool
+input_broke_in None = false
+input_broke_in (Some end) = input_broke end
+
+abbrev pub output_broke_in : Option End → Bool
+output_broke_in None = false
+output_broke_in (Some end) = output_broke end
+
+-- the count of faults rose exactly where one is told
+abbrev pub Tells : Bool → ℕ → ℕ → Type 0
+Tells true old new = RisesBy old new
+Tells false old new = new ≡ old
