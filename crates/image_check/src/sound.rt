@@ -1,7 +1,11 @@
-ghost use Rattle.std.specs.Prelude.{◌≡◌};
+ghost use Rattle.std.specs.Prelude.{◌≡◌, MatchResult};
 ghost use Rattle.paris_code.specs.Sound.{IsNumbered, IsSound};
+ghost use Rattle.image_check.specs.Errors.{IsRefusalOf};
 
+use crate::check::find_fault;
+use crate::fault::CheckErr;
 use paris_code::Image;
+use std::alloc::Global;
 use std::marker::Model;
 
 /// An image that keeps all image rules. Contracts see it as the image.
@@ -28,5 +32,23 @@ impl Sound {
         ensures numbered { IsNumbered self.now }
     {
         &self.image
+    }
+}
+
+/// Checks an image. Bad where an image rule is broken, Memory at want of memory.
+pub fn verify(alloc: Global, image: Image) -> Result<Sound, CheckErr>
+    requires { IsNumbered image }
+    ensures { MatchResult result (λ sound. sound ≡ image) (IsRefusalOf image) }
+{
+    let Ok(found) = find_fault(alloc, &image) else {
+        return Err(CheckErr::Memory { image });
+    };
+    match found {
+        None => Ok(Sound { image }),
+        Some(fault) => Err(CheckErr::Bad {
+            rule: fault.rule.number(),
+            at: fault.at,
+            image,
+        }),
     }
 }

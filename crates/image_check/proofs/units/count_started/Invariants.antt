@@ -1,0 +1,11 @@
+use Rattle.std.proofs.Common.{ℕ, ◌<◌, ◌≤◌, ◌-◌, map, length}
+use Rattle.std.specs.List.{slice_index}
+use Rattle.paris_code.specs.Units.{start_of}
+use Rattle.image_check.specs.Tables.{AreBegun}
+use Rattle.image_check.proofs.units.count_started.Given as goal
+
+abbrev pub invariant-loop-count : goal.invariant-loop-count
+invariant-loop-count l = AreBegun (map start_of l.units) l.count l.place
+
+abbrev pub decreases-loop-count : goal.decreases-loop-count
+decreases-loop-count l = length l.units - l.count

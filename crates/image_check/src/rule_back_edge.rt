@@ -1,0 +1,113 @@
+//! Image rule 4: each way back, and each call, costs a turn.
+
+ghost use Rattle.std.specs.Prelude.{ℕ, ◌≡◌, ◌≢◌, ◌↔◌, ◌<◌, ◌≤◌, ◌+◌, IsTrue, length, false, true, MatchOption, IfOk};
+ghost use Rattle.std.specs.List.{slice_index_or};
+ghost use Rattle.paris_code.specs.Units.{unit_of, IsAt};
+ghost use Rattle.paris_code.specs.RuleBackEdge.{IsNoJumpTo, IsNoTarget, IsBehindTurn, GoesBackToTurn, KeepsBackEdge};
+ghost use Rattle.image_check.specs.Tables.{AreUnitNumbers, MarksTargets};
+
+use crate::units::instruction;
+use paris_code::{Image, Instr};
+use std::alloc::{AllocError, Global};
+
+/// Where a jump leads.
+fn jump_target(instr: &Instr) -> Option<u32>
+    ensures { MatchOption result ((place : ℕ) → IsNoJumpTo place instr.now) (λ target. (place : ℕ) → IsNoJumpTo place instr.now ↔ (target ≢ place)) }
+{
+    match instr {
+        Instr::FrontJump { target } => Some(*target),
+        Instr::FrontJumpZero { target, .. } => Some(*target),
+        Instr::FrontJumpNonzero { target, .. } => Some(*target),
+        _ => None,
+    }
+}
+
+/// Marks the target of the instruction, if it is a jump.
+fn mark(marks: &mut Vec<bool>, instr: &Instr)
+    ensures same { length marks.new.items ≡ length marks.old.items }
+    ensures kept { (place : ℕ) → slice_index_or marks.new.items place true ≡ false → slice_index_or marks.old.items place true ≡ false }
+    ensures marked { (place : ℕ) → slice_index_or marks.new.items place true ≡ false → IsNoJumpTo place instr.now }
+{
+    let Some(target) = jump_target(instr) else {
+        return;
+    };
+    let target = target as usize;
+    if target < marks.len() {
+        marks[target] = true;
+    }
+}
+
+/// Which places are the target of a jump.
+pub fn jump_targets(alloc: Global, image: &Image) -> Result<Vec<bool>, AllocError>
+    ensures { IfOk result (λ v. (length v.items ≡ length image.now.code.items) × MarksTargets image.now.code.items (length image.now.code.items) v.items) }
+{
+    let mut marks = vec![in alloc; false; image.code.len()]?;
+    for place in 0..image.code.len() {
+        mark(&mut marks, instruction(image, place));
+    }
+    Ok(marks)
+}
+
+fn is_front_turn(instr: &Instr) -> bool
+    ensures { IsTrue result ↔ (instr.now ≡ Instr.FrontTurn) }
+{
+    matches!(instr, Instr::FrontTurn)
+}
+
+fn is_turn(image: &Image, place: usize) -> bool
+    ensures { IsTrue result ↔ IsAt image.now place Instr.FrontTurn }
+{
+    place < image.code.len() && is_front_turn(instruction(image, place))
+}
+
+fn goes_back_to_turn(image: &Image, place: usize, target: usize) -> bool
+    ensures { IsTrue result ↔ GoesBackToTurn image.now place target }
+{
+    target > place || is_turn(image, target)
+}
+
+/// Whether the place `before` the other is a turn of the same unit.
+fn is_turn_before(image: &Image, numbers: &[u32], before: usize, place: usize) -> bool
+    requires numbered { AreUnitNumbers image.now numbers.now }
+    requires inside { place < length numbers.now }
+    requires before { before < length numbers.now }
+    ensures { IsTrue result ↔ (IsAt image.now before Instr.FrontTurn × (unit_of image.now before ≡ unit_of image.now place)) }
+{
+    is_turn(image, before) && numbers[before] == numbers[place]
+}
+
+fn is_behind_turn(image: &Image, numbers: &[u32], place: usize) -> bool
+    requires numbered { AreUnitNumbers image.now numbers.now }
+    requires inside { place < length numbers.now }
+    ensures { IsTrue result ↔ IsBehindTurn image.now place }
+{
+    if place == 0 {
+        return false;
+    }
+    is_turn_before(image, numbers, place - 1, place)
+}
+
+/// Whether an instruction keeps image rule 4.
+pub fn keeps_back_edge(
+    image: &Image,
+    numbers: &[u32],
+    marks: &[bool],
+    place: usize,
+    instr: &Instr,
+) -> bool
+    requires numbered { AreUnitNumbers image.now numbers.now }
+    requires marked { MarksTargets image.now.code.items (length image.now.code.items) marks.now }
+    requires inside { place < length numbers.now }
+    requires marks { place < length marks.now }
+    ensures { IsTrue result → KeepsBackEdge image.now place instr.now }
+{
+    match instr {
+        Instr::FrontJump { target } => goes_back_to_turn(image, place, *target as usize),
+        Instr::FrontJumpZero { target, .. } => goes_back_to_turn(image, place, *target as usize),
+        Instr::FrontJumpNonzero { target, .. } => {
+            goes_back_to_turn(image, place, *target as usize)
+        }
+        Instr::FrontCall { .. } => is_behind_turn(image, numbers, place) && !marks[place],
+        _ => true,
+    }
+}
