@@ -82,7 +82,7 @@ KeepsField shapes slots (I.SendWithOverwrite d kind address a) =
 KeepsField shapes slots (I.SendWithCombiner combiner d kind address a) =
     FitsAt shapes kind.bits d × Fits shapes address × FitsAt shapes 32 a
 KeepsField shapes slots (I.Global combiner r a) = (r < slots) × FitsAt shapes 32 a
-KeepsField shapes slots (I.Scan combiner d a axis direction mode bit inclusion) =
+KeepsField shapes slots (I.Scan combiner d a axis direction mode bit within) =
     FitsAt shapes 32 d × FitsAt shapes 32 a × ScanBitFits shapes mode bit
 KeepsField shapes slots (I.ReadFromProcessor signed r processor a) =
     (r < slots) × (processor < slots) × Fits shapes a

@@ -46,6 +46,6 @@ KeepsOperands shapes (I.GetFromNewsAlways d a axis k) = IsWith shapes d a
 KeepsOperands shapes (I.Get d address a) = IsWith shapes d address
 KeepsOperands shapes (I.SendWithOverwrite d kind address a) = IsWith shapes address a
 KeepsOperands shapes (I.SendWithCombiner combiner d kind address a) = IsWith shapes address a
-KeepsOperands shapes (I.Scan combiner d a axis direction mode bit inclusion) =
+KeepsOperands shapes (I.Scan combiner d a axis direction mode bit within) =
     IsWith shapes d a × BitIsWith shapes d mode bit
 KeepsOperands shapes _ = Unit {0}

@@ -80,7 +80,7 @@ KeepsSet shapes (I.SendWithOverwrite d kind address a) =
 KeepsSet shapes (I.SendWithCombiner combiner d kind address a) =
     FieldExists shapes d × FieldExists shapes address × FieldExists shapes a
 KeepsSet shapes (I.Global combiner r a) = FieldExists shapes a
-KeepsSet shapes (I.Scan combiner d a axis direction mode bit inclusion) =
+KeepsSet shapes (I.Scan combiner d a axis direction mode bit within) =
     FieldExists shapes d × FieldExists shapes a × IsAxis shapes d.set axis × BitExists shapes mode bit
 KeepsSet shapes (I.ReadFromProcessor signed r processor a) = FieldExists shapes a
 KeepsSet shapes (I.WriteToProcessor d processor k) = FieldExists shapes d
