@@ -2,7 +2,10 @@
 #![tactic(auto)]
 
 mod outcome;
-mod run;
+mod steps;
 
 pub use outcome::{End, Outcome};
-pub use run::{resume, run};
+pub use steps::{resume, run};
+
+#[cfg(test)]
+mod tests;

@@ -1,6 +1,8 @@
 -- When an instruction can be applied by the phases of a machine with these sets.
-use Rattle.std.specs.Prelude.{◌≡◌, ℕ, ◌+◌, ◌<◌, ◌≤◌, ◌^◌, Bool, true, false, None, IsSome, List, length}
+use Rattle.std.specs.Prelude.{◌≡◌, ℕ, ◌+◌, ◌<◌, ◌≤◌, ◌^◌, Bool, true, false, Option, None, IsSome, List, length}
 use Rattle.vp_sets.specs.Positions.{position_count}
+use Rattle.cstar_base.specs.declared.operators.SegmentMode.{SegmentMode}
+use Rattle.cstar_base.specs.declared.operators.SegmentMode.TheVariants as M
 use Rattle.paris_code.specs.declared.instr.Instr.{Instr}
 use Rattle.paris_code.specs.declared.instr.Instr.TheVariants as I
 use Rattle.paris_code.specs.declared.operands.Coordinate.{Coordinate}
@@ -33,10 +35,10 @@ IsPosition shapes set position = (set < length shapes) × (position < position_c
 abbrev pub LiesIn : List SetShape → Field → Type 0
 LiesIn shapes f = (f.set < length shapes) × (1 ≤ f.len) × (f.len ≤ 32) × (f.offset + f.len ≤ bits_at shapes f.set)
 
--- a coordinate that is a register, or a field of the processor at a position
-abbrev pub IsCoordinateAt : List SetShape → ℕ → Coordinate → Type 0
-IsCoordinateAt shapes position (C.Reg r) = Unit {0}
-IsCoordinateAt shapes position (C.Field f) = LiesIn shapes f × IsPosition shapes f.set position
+-- a coordinate that is a register, or a field that lies in its set
+abbrev pub IsCoordinateIn : List SetShape → Coordinate → Type 0
+IsCoordinateIn shapes (C.Reg r) = Unit {0}
+IsCoordinateIn shapes (C.Field f) = LiesIn shapes f
 
 -- the set whose active processors do an elementwise instruction
 abbrev pub active_set : Instr → ℕ
@@ -81,3 +83,13 @@ ReplyFits instr R.Nothing = result_of instr ≡ None
 ReplyFits instr (R.Value v) = IsSome (result_of instr) × (v < 2 ^ 32)
 ReplyFits instr (R.Bad position) = is_check instr ≡ true
 ReplyFits instr R.Memory = is_send instr ≡ true
+
+-- a run of bits of a row, the flags among them
+abbrev pub IsRun : List SetShape → Field → Type 0
+IsRun shapes run =
+    (run.set < length shapes) × (1 ≤ run.len) × (run.len ≤ 32) × (run.offset + run.len ≤ bits_at shapes run.set + 2)
+
+-- the bit of a scan, in the modes that look at it
+abbrev pub looked_at : SegmentMode → Option Field → Option Field
+looked_at M.NoSegments bit = None
+looked_at mode bit = bit

@@ -1,4 +1,5 @@
 pub mod Apply
+pub mod Destinations
 pub mod Rows
 pub mod Scans
 pub mod Sends

@@ -1,35 +1,45 @@
 //! Checks: the least active processor that fails.
 
-ghost use Rattle.phase_gate.specs.Apply.{LiesIn};
+ghost use Rattle.std.specs.Prelude.{◌≡◌, ◌<◌, length, All, IfSome, true};
+ghost use Rattle.paris_code.specs.Operands.{coordinate_of};
+ghost use Rattle.paris_code.specs.RuleSet.{IsAxis, axis_of};
+ghost use Rattle.phase_gate.specs.Apply.{CanApply, IsCoordinateIn, IsPosition, LiesIn, is_check};
 
-use crate::arith::whole;
+use crate::arith::{extended, whole};
 use crate::row_phases::RowPhases;
-use paris_code::{Coordinate, Field, GridStep, Konst, Reply, SignedCoordinate};
-
-/// The set whose processors check these coordinates: that of their fields, or else of the target.
-fn checking_set(set: u16, coordinates: &[SignedCoordinate]) -> u16 {
-    for checked in coordinates {
-        if let Coordinate::Field(f) = checked.coordinate {
-            return f.set;
-        }
-    }
-    set
-}
+use paris_code::{Coordinate, Field, GridStep, Instr, Konst, SignedCoordinate};
 
 impl RowPhases {
     ghost use Rattle.phase_gate.specs.Rows.{sets_of};
 
+    /// The set whose processors check these coordinates: that of their fields, or else of the
+    /// target.
+    fn checking_set(&self, set: u16, coordinates: &[SignedCoordinate]) -> u16
+        requires set { set < length (sets_of self.now) }
+        requires fields { All (λ c. IsCoordinateIn (sets_of self.now) (coordinate_of c)) coordinates.now }
+        ensures { result < length (sets_of self.now) }
+    {
+        for checked in coordinates {
+            if let Coordinate::Field(f) = checked.coordinate {
+                return f.set;
+            }
+        }
+        set
+    }
+
     /// Whether the coordinates of a processor are those of a position of the set.
-    fn are_inside(&self, set: u16, list: &[SignedCoordinate], args: &[u32], position: u32) -> bool {
+    fn are_inside(&self, set: u16, list: &[SignedCoordinate], args: &[u32], position: u32) -> bool
+        requires set { set < length (sets_of self.now) }
+        requires fields { All (λ c. IsCoordinateIn (sets_of self.now) (coordinate_of c)) list.now }
+    {
         let geometry = self.rows(set).geometry;
-        let mut next = 0;
+        let mut registers = args.iter();
         for (checked, extent) in list.iter().zip(geometry.extents()) {
             let x = match checked.coordinate {
-                Coordinate::Field(f) => self.word(checked.signed, f, position),
-                Coordinate::Reg(_) => {
-                    next += 1;
-                    args[next - 1]
+                Coordinate::Field(f) => {
+                    extended(checked.signed, f.len, self.field_or_zero(f, position))
                 }
+                Coordinate::Reg(_) => registers.next().copied().unwrap_or(0),
             };
             let number = whole(checked.signed, x);
             if number < 0 || i64::from(*extent) <= number {
@@ -39,32 +49,31 @@ impl RowPhases {
         true
     }
 
-    pub(crate) fn check_target(
-        &self,
-        set: u16,
-        coordinates: &[SignedCoordinate],
-        args: &[u32],
-    ) -> Reply {
-        let own = checking_set(set, coordinates);
+    /// The least active processor that has a coordinate outside.
+    fn check_target(&self, set: u16, list: &[SignedCoordinate], args: &[u32]) -> Option<u32>
+        requires set { set < length (sets_of self.now) }
+        requires fields { All (λ c. IsCoordinateIn (sets_of self.now) (coordinate_of c)) list.now }
+    {
+        let own = self.checking_set(set, list);
         for position in 0..self.positions(own) {
-            if self.is_active(own, position) && !self.are_inside(set, coordinates, args, position) {
-                return Reply::Bad { position };
+            if self.is_active(own, position) && !self.are_inside(set, list, args, position) {
+                return Some(position);
             }
         }
-        Reply::Nothing
+        None
     }
 
     /// Whether all steps from a processor stay in the grid.
-    fn stays(&self, set: u16, steps: &[GridStep], args: &[u32], position: u32) -> bool {
+    fn stays(&self, set: u16, steps: &[GridStep], args: &[u32], position: u32) -> bool
+        requires position { IsPosition (sets_of self.now) set position }
+        requires axes { All (λ s. IsAxis (sets_of self.now) set (axis_of s)) steps.now }
+    {
         let geometry = self.rows(set).geometry;
-        let mut next = 0;
+        let mut registers = args.iter();
         for step in steps {
             let by = match step.step {
                 Konst::Imm(n) => n,
-                Konst::Reg(_) => {
-                    next += 1;
-                    args[next - 1]
-                }
+                Konst::Reg(_) => registers.next().copied().unwrap_or(0),
             };
             let there = i64::from(geometry.coord(position, step.axis)) + whole(true, by);
             if there < 0 || i64::from(geometry.extent(step.axis)) <= there {
@@ -74,24 +83,46 @@ impl RowPhases {
         true
     }
 
-    pub(crate) fn check_grid(&self, set: u16, steps: &[GridStep], args: &[u32]) -> Reply {
+    /// The least active processor that a step leads out of the grid.
+    fn check_grid(&self, set: u16, steps: &[GridStep], args: &[u32]) -> Option<u32>
+        requires set { set < length (sets_of self.now) }
+        requires axes { All (λ s. IsAxis (sets_of self.now) set (axis_of s)) steps.now }
+    {
         for position in 0..self.positions(set) {
             if self.is_active(set, position) && !self.stays(set, steps, args, position) {
-                return Reply::Bad { position };
+                return Some(position);
             }
         }
-        Reply::Nothing
+        None
     }
 
     /// The least active processor at which the field is 0.
-    pub(crate) fn check_divisor(&self, source: Field) -> Reply
+    fn check_divisor(&self, source: Field) -> Option<u32>
         requires { LiesIn (sets_of self.now) source }
     {
         for position in 0..self.positions(source.set) {
             if self.is_active(source.set, position) && self.field(source, position) == 0 {
-                return Reply::Bad { position };
+                return Some(position);
             }
         }
-        Reply::Nothing
+        None
+    }
+
+    /// The least active processor at which an instruction's check fails, if it is a check.
+    #[tactic(auto, using(crate::proofs::FieldLemmas::lies, crate::proofs::FieldLemmas::checked_lie))]
+    pub(crate) fn check(&self, instr: &Instr, args: &[u32]) -> Option<u32>
+        requires { CanApply (sets_of self.now) instr.now args.now }
+        ensures { IfSome result (λ position. is_check instr.now ≡ true) }
+    {
+        match instr {
+            Instr::CheckTarget {
+                set,
+                coordinates,
+                ..
+            } => self.check_target(*set, coordinates.as_slice(), args),
+            Instr::CheckGrid { set, steps, .. } => self.check_grid(*set, steps.as_slice(), args),
+            Instr::CheckDivisor { source, .. } => self.check_divisor(*source),
+            _ => None,
+        }
     }
 }

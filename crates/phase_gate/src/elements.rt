@@ -1,9 +1,8 @@
 //! What the elementwise instructions compute at one processor.
 
 ghost use Rattle.std.specs.Prelude.{◌≡◌, ◌<◌, length, All};
-ghost use Rattle.std.specs.List.{flat_map};
-ghost use Rattle.paris_code.specs.Operands.{registers_of_konst, registers_of_coordinate};
-ghost use Rattle.phase_gate.specs.Apply.{CanApply, IsPosition, IsCoordinateAt, active_set};
+ghost use Rattle.paris_code.specs.Operands.{registers_of_konst};
+ghost use Rattle.phase_gate.specs.Apply.{CanApply, IsPosition, IsCoordinateIn, active_set};
 
 use crate::arith::{holds, operate};
 use crate::row_phases::RowPhases;
@@ -25,19 +24,15 @@ impl RowPhases {
     /// The row-major number of coordinates in a set, modulo 2 to the 32.
     fn address(&self, set: u16, coordinates: &[Coordinate], args: &[u32], position: u32) -> u32
         requires set { set < length (sets_of self.now) }
-        requires fields { All (IsCoordinateAt (sets_of self.now) position) coordinates.now }
-        requires arguments { length args.now ≡ length (flat_map registers_of_coordinate coordinates.now) }
+        requires fields { All (IsCoordinateIn (sets_of self.now)) coordinates.now }
     {
         let geometry = self.rows(set).geometry;
+        let mut registers = args.iter();
         let mut number = 0u32;
-        let mut next = 0;
         'coordinates: for (coordinate, extent) in coordinates.iter().zip(geometry.extents()) {
             let x = match *coordinate {
-                Coordinate::Field(f) => self.field(f, position),
-                Coordinate::Reg(_) => {
-                    next += 1;
-                    args[next - 1]
-                }
+                Coordinate::Field(f) => self.field_or_zero(f, position),
+                Coordinate::Reg(_) => registers.next().copied().unwrap_or(0),
             };
             number = number.wrapping_mul(*extent).wrapping_add(x);
         }
@@ -45,7 +40,7 @@ impl RowPhases {
     }
 
     /// What an elementwise instruction gives its destination at a processor.
-    #[tactic(auto, using(crate::proofs::FieldLemmas::lies, crate::proofs::FieldLemmas::same_positions))]
+    #[tactic(auto, using(crate::proofs::FieldLemmas::lies, crate::proofs::FieldLemmas::same_positions, crate::proofs::FieldLemmas::coordinates_lie))]
     pub(crate) fn element(&self, instr: &Instr, args: &[u32], position: u32) -> u32
         requires can { CanApply (sets_of self.now) instr.now args.now }
         requires position { IsPosition (sets_of self.now) (active_set instr.now) position }

@@ -35,6 +35,7 @@ fn rows_of(alloc: Global, shape: &ShapeBits) -> Result<Rows, Memory>
 impl RowPhases {
     ghost use Rattle.phase_gate.specs.Rows.{shape_of_rows, sets_of};
 
+    #[tactic(auto, using(crate::proofs::FieldLemmas::shape_kept))]
     /// New phases for an image: all fields and test flags 0, all context flags 1, and of colliding
     /// senders the one with the greatest number wins.
     pub fn new(alloc: Global, sound: &Sound) -> Result<RowPhases, Memory>
