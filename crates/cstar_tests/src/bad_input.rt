@@ -7,16 +7,67 @@ struct Refusal {
     err: &'static str,
 }
 
-static REFUSALS: [Refusal; 12] = [
-    Refusal { text: "", err: "a.cs:1:1: E24 NoMain\n" },
-    Refusal { text: "main() { @ }", err: "a.cs:1:10: E01 BadByte\n" },
-    Refusal { text: "main() { /* }", err: "a.cs:1:10: E02 Open\n" },
-    Refusal { text: "main() { 4294967296; }", err: "a.cs:1:10: E03 Wide\n" },
-    Refusal { text: "#pragma\nmain() { }", err: "a.cs:1:1: E04 Directive\n" },
-    Refusal { text: "main( { }", err: "a.cs:1:7: E05 Syntax\n" },
-    Refusal { text: "main() { x = 1", err: "a.cs:1:15: E05 Syntax\n" },
-    Refusal { text: "main() { y = 1; }", err: "a.cs:1:10: E07 Unknown\n" },
-    Refusal { text: "shape [0]S; main() { }", err: "a.cs:1:10: E09 Extent\n" },
+static REFUSALS: [Refusal; 34] = [
+    Refusal {
+        text: "",
+        err: "a.cs:1:1: E24 NoMain\n",
+    },
+    Refusal {
+        text: "main() { @ }",
+        err: "a.cs:1:10: E01 BadByte\n",
+    },
+    Refusal {
+        text: "main() { /* }",
+        err: "a.cs:1:10: E02 Open\n",
+    },
+    Refusal {
+        text: "main() { 4294967296; }",
+        err: "a.cs:1:10: E03 Wide\n",
+    },
+    Refusal {
+        text: "#pragma\nmain() { }",
+        err: "a.cs:1:1: E04 Directive\n",
+    },
+    Refusal {
+        text: "main( { }",
+        err: "a.cs:1:7: E05 Syntax\n",
+    },
+    Refusal {
+        text: "main() { x = 1",
+        err: "a.cs:1:15: E05 Syntax\n",
+    },
+    Refusal {
+        text: "int x y;",
+        err: "a.cs:1:7: E05 Syntax\n",
+    },
+    Refusal {
+        text: "shape [8 S;",
+        err: "a.cs:1:10: E05 Syntax\n",
+    },
+    Refusal {
+        text: "static int x;",
+        err: "a.cs:1:1: E05 Syntax\n",
+    },
+    Refusal {
+        text: "main() { int x; x = (1; }",
+        err: "a.cs:1:23: E05 Syntax\n",
+    },
+    Refusal {
+        text: "int x; int x; main() { }",
+        err: "a.cs:1:12: E06 Redeclared\n",
+    },
+    Refusal {
+        text: "main() { y = 1; }",
+        err: "a.cs:1:10: E07 Unknown\n",
+    },
+    Refusal {
+        text: "int x; main() { x(); }",
+        err: "a.cs:1:17: E08 WrongKind\n",
+    },
+    Refusal {
+        text: "shape [0]S; main() { }",
+        err: "a.cs:1:10: E09 Extent\n",
+    },
     Refusal {
         text: "shape [8]S; int:S p; main() { p = 1; }",
         err: "a.cs:1:31: E10 NoShape\n",
@@ -25,7 +76,74 @@ static REFUSALS: [Refusal; 12] = [
         text: "shape [8]S; shape [8]T; int:S p; int:T q;\nmain() { with (S) p = q; }",
         err: "a.cs:2:23: E11 OtherShape\n",
     },
-    Refusal { text: "main() { break; }", err: "a.cs:1:10: E22 LoopWord\n" },
+    Refusal {
+        text: "shape [8]S; int:S p, q, d; int s;\nmain() { with (S) { p = pcoord(0);\ns = p;\n} }\n",
+        err: "a.cs:3:3: E12 ScalarWanted\n",
+    },
+    Refusal {
+        text: "shape [8]S; int:S p, q, d; int s;\nmain() { with (S) { p = pcoord(0);\ns = p; d = zz;\n} }\n",
+        err: "a.cs:3:3: E12 ScalarWanted\n",
+    },
+    Refusal {
+        text: "main() { int x; x = += x; }",
+        err: "a.cs:1:21: E13 ParallelWanted\n",
+    },
+    Refusal {
+        text: "shape [8]S; int:S p; main() { [0][1]p = 2; }",
+        err: "a.cs:1:31: E14 IndexCount\n",
+    },
+    Refusal {
+        text: "main() { int x; x = .; }",
+        err: "a.cs:1:21: E15 Dot\n",
+    },
+    Refusal {
+        text: "main() { 3 = 4; }",
+        err: "a.cs:1:12: E16 NotAPlace\n",
+    },
+    Refusal {
+        text: "shape [8]S; int:S p; main() { with (S) p = ([p]p = 1); }",
+        err: "a.cs:1:50: E17 SendValue\n",
+    },
+    Refusal {
+        text: "int f(int a) { return a; } main() { f(); }",
+        err: "a.cs:1:37: E19 Arguments\n",
+    },
+    Refusal {
+        text: "void f() { return 1; } main() { f(); }",
+        err: "a.cs:1:12: E20 Return\n",
+    },
+    Refusal {
+        text: "shape [8]S; int x; main() { x = dimof(S, 1); }",
+        err: "a.cs:1:42: E21 Axis\n",
+    },
+    Refusal {
+        text: "main() { break; }",
+        err: "a.cs:1:10: E22 LoopWord\n",
+    },
+    Refusal {
+        text: "int f() { return f(); }\nmain() { f(); }",
+        err: "a.cs:1:18: E23 Recursion\n",
+    },
+    Refusal {
+        text: "main() { printf(\"%d\"); }",
+        err: "a.cs:1:10: E25 Format\n",
+    },
+    Refusal {
+        text: "int x = getchar(); main() { }",
+        err: "a.cs:1:9: E26 Constant\n",
+    },
+    Refusal {
+        text: "main() { int x; x = ((((((((((((((((((((((((((((((((((((((((((((((((((((((((((((((((((((((((((((((((((((((((((((((((((((1)))))))))))))))))))))))))))))))))))))))))))))))))))))))))))))))))))))))))))))))))))))))))))))))))))); }",
+        err: "a.cs:1:120: E27 Depth\n",
+    },
+    Refusal {
+        text: "int a[3]; main() { }",
+        err: "a.cs:1:5: E31 ArrayDecl\n",
+    },
+    Refusal {
+        text: "shape [8]S; int:S a[3]; main() { with (S) a = 1; }",
+        err: "a.cs:1:43: E32 ArrayUse\n",
+    },
 ];
 
 #[test]
@@ -42,7 +160,8 @@ fn files_are_refused_with_their_first_fault(rt: HostRuntime) {
 
 #[test]
 fn words_that_are_no_command_are_refused(rt: HostRuntime) {
-    let usage = "usage: cstar [--mode run|list|check|drill|asm|resume] [--workers N] [--turns N] [--finals] [--listing] [--seed N] [--winner high|low] [--save NAME] FILE\n";
+    let usage =
+        "usage: cstar [--mode run|list|check|drill|asm|resume] [--workers N] [--turns N] [--finals] [--listing] [--seed N] [--winner high|low] [--save NAME] FILE\n";
     let no_words: [&str; 0] = [];
     let two_words = ["a.cs", "a.cs"];
     let option = ["--help"];

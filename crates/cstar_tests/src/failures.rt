@@ -2,7 +2,8 @@
 
 use crate::bench::{Outside, SOUND, command};
 
-static FIRST: &str = "shape [8]S;\nint:S v;\nmain() { with (S) { v = 3; v = v + v; printf(\"%d\\n\", += v); } }\n";
+static FIRST: &str =
+    "shape [8]S;\nint:S v;\nmain() { with (S) { v = 3; v = v + v; printf(\"%d\\n\", += v); } }\n";
 
 #[test]
 fn a_failed_put_is_a_write_fault(rt: HostRuntime) {
@@ -38,7 +39,10 @@ fn a_failed_put_on_the_error_output_is_a_write_fault(rt: HostRuntime) {
 
 #[test]
 fn a_failed_fetch_cannot_read(rt: HostRuntime) {
-    let outside = Outside { shelf: &[1], ..SOUND };
+    let outside = Outside {
+        shelf: &[1],
+        ..SOUND
+    };
     let Ok(done) = command(&rt, rt.alloc(), &["a.cs"], FIRST.as_bytes(), outside) else {
         panic!(rt; "no memory");
     };

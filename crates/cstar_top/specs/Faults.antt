@@ -1,5 +1,5 @@
 -- The faults by number, as they are printed.
-use Rattle.std.specs.Prelude.{ℕ, List, [], ◌∷◌, codes, slice_index_or}
+use Rattle.std.specs.Prelude.{ℕ, List, [], ◌∷◌, ◌==◌, codes, slice_index_or, if◌then◌else◌}
 
 -- the refusals of a file, from 0 for a form of the language that is not built yet
 abbrev pub refusals : List (List ℕ)
@@ -15,6 +15,6 @@ refusals =
 abbrev pub refusal_text : ℕ → List ℕ
 refusal_text number = slice_index_or refusals number (codes "E00 NotBuilt")
 
--- the faults of a run
+-- the faults of a run: 1 for an index out of its extent, 2 for a zero divisor
 abbrev pub fault_text : ℕ → List ℕ
-fault_text kind = slice_index_or (codes "F1 Index" ∷ codes "F2 DivZero" ∷ []) kind (codes "F2 DivZero")
+fault_text kind = if kind == 1 then codes "F1 Index" else codes "F2 DivZero"

@@ -111,9 +111,10 @@ fn push_number(text: &mut Vec<u8>, number: u32) -> Result<(), Memory>
 fn fault_name(kind: u8) -> &'static [u8]
     ensures { result.now ≡ fault_text kind }
 {
-    match kind {
-        0 => b"F1 Index",
-        _ => b"F2 DivZero",
+    if kind == 1 {
+        b"F1 Index"
+    } else {
+        b"F2 DivZero"
     }
 }
 
