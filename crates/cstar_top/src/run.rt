@@ -1,7 +1,7 @@
-ghost use Rattle.std.specs.Prelude.{◌≡◌, ◌≤◌};
+ghost use Rattle.std.specs.Prelude.{◌≡◌, ◌≢◌};
 ghost use Rattle.cstar_io.specs.Faults.{RisesBy};
-ghost use Rattle.cstar_top.specs.Runs.{IsEndOfRun};
 ghost use Rattle.cstar_top.specs.Answers.{status_of};
+ghost use Rattle.cstar_top.specs.Runs.{IsEndOfRun};
 
 use crate::answer::Answer;
 use cstar_io::{Sink, Source};
@@ -28,23 +28,33 @@ pub fn run_image<I: Source, O: Sink>(
         Ok(phases) => phases,
         Err(_) => return Answer::Memory,
     };
-    let outcome = run(alloc, sound, TURNS, &mut phases, input, out);
-    let answer = match outcome.end {
-        End::Done => Answer::Done,
+    match run(alloc, sound, TURNS, &mut phases, input, out).end {
+        End::Done => sent(out, Answer::Done),
         End::Fault {
             kind,
             place,
             position,
-        } => Answer::Fault {
-            kind,
-            place,
-            position,
-        },
-        End::Stopped => Answer::Stopped { turns: TURNS },
-        End::InputBroken => Answer::InputFault,
-        End::OutputBroken => return Answer::WriteFault,
-        End::Memory => Answer::Memory,
-    };
+        } => sent(
+            out,
+            Answer::Fault {
+                kind,
+                place,
+                position,
+            },
+        ),
+        End::Stopped => sent(out, Answer::Stopped { turns: TURNS }),
+        End::InputBroken => sent(out, Answer::InputFault),
+        End::OutputBroken => Answer::WriteFault,
+        End::Memory => sent(out, Answer::Memory),
+    }
+}
+
+/// The answer, once the output is sent on, or a write fault where that fails.
+fn sent<O: Sink>(out: &mut O, answer: Answer) -> Answer
+    ensures end { IsEndOfRun answer → IsEndOfRun result }
+    ensures write_fault { status_of answer ≢ 6 → status_of result ≡ 6 → RisesBy (O.faults out.old) (O.faults out.new) }
+    ensures input_fault { status_of result ≡ 7 → status_of answer ≡ 7 }
+{
     match out.flush() {
         Ok(()) => answer,
         Err(_) => Answer::WriteFault,
