@@ -39,16 +39,16 @@ started-is (start ∷ starts) place (suc count) begun after =
     (λ inside. after (omega (arith, inside))))
 
 -- where the unit of a number begins
-read_start : (units : List Entry) (unit : ℕ) (entry : Entry) → unit < length units → entry ≡ get_or units unit entry →
-    slice_index (map start_of units) unit ≡ entry.start
-read_start units unit entry inside is =
-    get_or-map start_of units unit entry 0 inside ∙ ap start_of (sym is)
+read_start : (units : List Entry) (unit : ℕ) (entry : Entry) → unit < length units →
+    slice_index (map start_of units) unit ≡ start_of (get_or units unit entry)
+read_start units unit entry inside = get_or-map start_of units unit entry 0 inside
 
 -- a unit that begins behind the place stops the count
-pub counted : (units : List Entry) (place count : ℕ) (entry : Entry) → count < length units → entry ≡ get_or units count entry →
-    place < entry.start → AreBegun (map start_of units) count place → count ≡ started (map start_of units) place
-counted units place count entry inside is behind begun =
-    let start : slice_index (map start_of units) count ≡ entry.start = read_start units count entry inside is in
+pub counted : (units : List Entry) (place count : ℕ) (entry : Entry) → count < length units →
+    place < start_of (get_or units count entry) → AreBegun (map start_of units) count place →
+    count ≡ started (map start_of units) place
+counted units place count entry inside behind begun =
+    let start : slice_index (map start_of units) count ≡ start_of (get_or units count entry) = read_start units count entry inside in
     sym (started-is (map start_of units) place count begun (λ there. omega (arith, start, behind)))
 
 -- the end of the units stops it
@@ -59,10 +59,11 @@ all_counted units place count past begun =
     sym (started-is (map start_of units) place count begun (λ there. absurd (omega (arith, same, there, past))))
 
 -- one more unit begins at or before the place
-pub begun_more : (units : List Entry) (place count : ℕ) (entry : Entry) → count < length units → entry ≡ get_or units count entry →
-    entry.start ≤ place → AreBegun (map start_of units) count place → AreBegun (map start_of units) (count + 1) place
-begun_more units place count entry inside is before begun =
+pub begun_more : (units : List Entry) (place count : ℕ) (entry : Entry) → count < length units →
+    start_of (get_or units count entry) ≤ place → AreBegun (map start_of units) count place →
+    AreBegun (map start_of units) (count + 1) place
+begun_more units place count entry inside before begun =
     let same : length (map start_of units) ≡ length units = length-map units start_of in
-    let start : slice_index (map start_of units) count ≡ entry.start = read_start units count entry inside is in
+    let start : slice_index (map start_of units) count ≡ start_of (get_or units count entry) = read_start units count entry inside in
     let P : ℕ → Type 0 = λ unit. slice_index (map start_of units) unit ≤ place in
     (omega (arith, same, inside), below_more P count begun.1 (omega (arith, start, before)))

@@ -1,4 +1,4 @@
-use Rattle.std.proofs.Common.{◌<◌, length, arith}
+use Rattle.std.proofs.Common.{◌<◌, length, refl, arith}
 use Rattle.std.proofs.lemmas.Option.{slice_get_within}
 use Rattle.paris_code.specs.declared.instr.Instr.TheVariants as I
 use Rattle.image_check.proofs.Chains.{levels_more}
@@ -6,7 +6,7 @@ use Rattle.image_check.proofs.rule_stack.first_unlevelled.Goals as goal
 
 pub loop-place-preserved : goal.loop-place-preserved
 loop-place-preserved c =
-    levels_more c.args.image.now c.args.ranks.now c.args.heights.now c.loop-place.place c.loop-place.invariant (c.if-not-keeps_levels.ensures tt)
+    levels_more c.args.image.now c.args.ranks.now c.args.heights.now c.loop-place.place c.loop-place.invariant (c.if-not-keeps_levels.ensures refl)
 
 pub returns : goal.returns
 returns c =
