@@ -1,5 +1,5 @@
 -- An image whose instructions are all clean keeps the rules.
-use Rattle.std.proofs.Common.{◌≡◌, ◌≢◌, ℕ, ◌<◌, length, refl, arith, get_or}
+use Rattle.std.proofs.Common.{◌≡◌, ◌≢◌, ℕ, ◌+◌, ◌<◌, length, refl, get_or, below_more, subst}
 use Rattle.std.specs.Prelude.{MatchOption, Option, Some, None}
 use Rattle.std.proofs.lemmas.Option.{slice_get-get_or, slice_get_within}
 use Rattle.paris_code.specs.declared.instr.Instr.{Instr}
@@ -31,3 +31,13 @@ all_keep_rules image tables known clean place instr at =
       set = here.set;
       operands = here.operands;
     }
+
+-- one more clean instruction
+pub clean_more : (image : Image) (tables : Tables) (place : ℕ) (instr : Instr) → IsAt image place instr →
+    ((k : ℕ) (other : Instr) → k < place → IsAt image k other → IsClean image tables k other) → IsClean image tables place instr →
+    (k : ℕ) (other : Instr) → k < place + 1 → IsAt image k other → IsClean image tables k other
+clean_more image tables place instr at before here k other below atk =
+    let P : ℕ → Type 0 = λ m. (o : Instr) → IsAt image m o → IsClean image tables m o in
+    below_more P place (λ m lower o atm. before m o lower atm)
+    (λ o ato. let same : instr ≡ o = cc in let Q : Instr → Type 0 = λ i. IsClean image tables place i in subst Q same here)
+    k below other atk

@@ -1,7 +1,6 @@
 pub mod Chains
 pub mod Cleanness
-pub mod Levels
 pub mod Marks
+pub mod Shapes
 pub mod Starts
 pub mod StepLaws
-pub mod Turns

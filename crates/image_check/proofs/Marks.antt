@@ -1,23 +1,9 @@
 -- Marks at the targets of jumps.
-use Rattle.std.proofs.Common.{◌≡◌, ◌≢◌, ℕ, ◌+◌, ◌<◌, ◌≤◌, List, length, get_or, set, refl, sym, ap, ◌∙◌, arith, below_more, subst, get_or-set_same, get_or-set_other, inl, inr}
-use Rattle.std.specs.Prelude.{Bool, true, false, Some}
-use Rattle.std.specs.List.{slice_get}
+use Rattle.std.proofs.Common.{◌≡◌, ◌≢◌, ℕ, ◌<◌, List, length, get_or, set, sym, ◌∙◌, subst, get_or-set_same, inl, inr}
+use Rattle.std.specs.Prelude.{Bool, true, false}
 use Rattle.std.proofs.lemmas.Bool.{true≢false}
-use Rattle.std.proofs.lemmas.Bool.Decides.{eqb_tells}
-use Rattle.paris_code.specs.declared.instr.Instr.{Instr}
-use Rattle.paris_code.specs.RuleBackEdge.{IsNoJumpTo}
-use Rattle.image_check.specs.Tables.{MarksTargets}
-
--- one more instruction, that jumps to no place without a mark
-pub marks_more : (code : List Instr) (i : ℕ) (old new : List Bool) (instr : Instr) → slice_get code i ≡ Some instr →
-    MarksTargets code i old →
-    ((place : ℕ) → get_or new place true ≡ false → get_or old place true ≡ false) →
-    ((place : ℕ) → get_or new place true ≡ false → IsNoJumpTo place instr) →
-    MarksTargets code (i + 1) new
-marks_more code i old new instr at before kept here place from jump clear below atj =
-    let P : ℕ → Type 0 = λ m. (jump : Instr) → slice_get code m ≡ Some jump → IsNoJumpTo place jump in
-    below_more P i (λ m lower jump atm. before place m jump (kept place clear) lower atm)
-    (λ jump ati. let same : instr ≡ jump = cc in let Q : Instr → Type 0 = λ j. IsNoJumpTo place j in subst Q same (here place clear)) from below jump atj
+use Rattle.std.proofs.lemmas.Bool.Decides.{leb_tells}
+use Rattle.std.proofs.lemmas.List.{get_or_past}
 
 -- a place without a mark after one is set is another place
 pub unmarked_other : (marks : List Bool) (target place : ℕ) → target < length marks →
@@ -28,8 +14,7 @@ unmarked_other marks target place inside clear =
     let there : get_or (set marks target true) target true ≡ false = subst P same clear in
     true≢false (sym (get_or-set_same marks target true true inside) ∙ there)
 
--- and had none before
-pub unmarked_before : (marks : List Bool) (target place : ℕ) → target < length marks →
-    get_or (set marks target true) place true ≡ false → get_or marks place true ≡ false
-unmarked_before marks target place inside clear =
-    sym (get_or-set_other marks target place true true (unmarked_other marks target place inside clear)) ∙ clear
+-- a place without a mark is one of the list
+pub unmarked_inside : (marks : List Bool) (place : ℕ) → get_or marks place true ≡ false → place < length marks
+unmarked_inside marks place clear =
+    elim (leb_tells (length marks) place) [ inl h ↦ absurd (true≢false (sym (get_or_past marks place true h.1) ∙ clear)) | inr h ↦ h.1 ]

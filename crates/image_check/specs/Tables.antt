@@ -38,9 +38,14 @@ IsLevelledCall ranks heights depth from to =
     × (0 < slice_index heights from → slice_index heights from < slice_index heights to)
     × (slice_index heights from ≤ depth)
 
+-- what the call at a place, if there is one, keeps
+abbrev pub KeepsLevels : Image → List ℕ → List ℕ → ℕ → Type 0
+KeepsLevels image ranks heights place =
+    (to : ℕ) → IsAt image place (I.FrontCall to) → IsLevelledCall ranks heights image.depth (unit_of image place) to
+
 pub record AreLevels (image : Image) (ranks heights : List ℕ) : Type 0 where
   pub first : 1 ≤ slice_index heights 0
-  pub calls : (place to : ℕ) → IsAt image place (I.FrontCall to) → IsLevelledCall ranks heights image.depth (unit_of image place) to
+  pub calls : (place : ℕ) → KeepsLevels image ranks heights place
 
 -- no call of the image breaks image rule 3
 abbrev pub AllKeepStack : Image → Type 0

@@ -28,7 +28,7 @@ pub struct Tables {
 
 fn tables_of(alloc: Global, image: &Image) -> Result<Tables, AllocError>
     requires numbered { IsNumbered image.now }
-    requires units { HasUnits image.now }
+    requires units { 0 < length image.now.units.items }
     ensures { IfOk result (λ tables. AreTables image.now tables) }
 {
     let numbers = unit_numbers(alloc, image)?;
@@ -86,34 +86,50 @@ fn first_fault(image: &Image, tables: &Tables) -> Option<Fault>
     ensures { MatchOption result (AllKeepRules image.now) (λ fault. fault.at < length image.now.code.items) }
 {
     for place in 0..image.code.len() {
-        if let Some(rule) = broken_rule(image, tables, place, instruction(image, place)) {
-            return Some(Fault {
-                rule,
-                at: place as u32,
-            });
+        match broken_rule(image, tables, place, instruction(image, place)) {
+            Some(rule) => {
+                return Some(Fault {
+                    rule,
+                    at: place as u32,
+                });
+            }
+            None => {}
         }
     }
     None
 }
 
 /// The least place at which an image rule is broken, and the least rule that is broken there.
+fn least_fault(image: &Image, tables: &Tables) -> Option<Fault>
+    requires tables { AreTables image.now tables.now }
+    requires numbered { IsNumbered image.now }
+    requires units { HasUnits image.now }
+    ensures { MatchOption result (IsSound image.now) (λ fault. fault.at ≤ length image.now.code.items) }
+{
+    match first_fault(image, tables) {
+        Some(fault) => Some(fault),
+        None => match broken_part(image) {
+            Some(rule) => Some(Fault {
+                rule,
+                at: image.code.len() as u32,
+            }),
+            None => None,
+        },
+    }
+}
+
+/// The least place at which an image rule is broken, and the least rule that is broken there; where
+/// the units are broken, that alone.
 pub fn find_fault(alloc: Global, image: &Image) -> Result<Option<Fault>, AllocError>
     requires { IsNumbered image.now }
     ensures { IfOk result (λ found. MatchOption found (IsSound image.now) (λ fault. fault.at ≤ length image.now.code.items)) }
 {
-    let end = image.code.len() as u32;
     if !are_starts(image.units.as_slice(), image.code.len()) {
         return Ok(Some(Fault {
             rule: Rule::Target,
-            at: end,
+            at: image.code.len() as u32,
         }));
     }
     let tables = tables_of(alloc, image)?;
-    if let Some(fault) = first_fault(image, &tables) {
-        return Ok(Some(fault));
-    }
-    match broken_part(image) {
-        Some(rule) => Ok(Some(Fault { rule, at: end })),
-        None => Ok(None),
-    }
+    Ok(least_fault(image, &tables))
 }

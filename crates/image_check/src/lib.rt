@@ -16,3 +16,6 @@ mod units;
 
 pub use fault::CheckErr;
 pub use sound::{Sound, verify};
+
+#[cfg(test)]
+mod tests;

@@ -24,7 +24,7 @@ pub fn set_exists(shapes: &[ShapeBits], set: u16) -> bool
 }
 
 pub fn is_axis(shapes: &[ShapeBits], set: u16, axis: u32) -> bool
-    ensures { IsTrue result ↔ (SetExists (map shape_of shapes.now) set × IsAxis (map shape_of shapes.now) set axis) }
+    ensures { IsTrue result ↔ IsAxis (map shape_of shapes.now) set axis }
 {
     match shape_at(shapes, set) {
         Some(shape) => (axis as usize) < shape.extents.len(),

@@ -1,6 +1,7 @@
 //! Image rule 5: the sets and axes that are named exist.
 
-ghost use Rattle.std.specs.Prelude.{◌≡◌, ◌≢◌, ◌↔◌, ◌<◌, IsTrue, length, map, All};
+ghost use Rattle.std.specs.Prelude.{◌≡◌, ◌≢◌, ◌↔◌, ◌<◌, ◌≤◌, IsTrue, length, map, take, All, Some};
+ghost use Rattle.std.specs.List.{slice_get};
 ghost use Rattle.paris_code.specs.Shapes.{shape_of, rank_at};
 ghost use Rattle.paris_code.specs.Operands.{coordinate_of};
 ghost use Rattle.paris_code.specs.RuleSet.{SetExists, FieldExists, IsAxis, CoordinateExists, AreSteps, BitExists, axis_of, KeepsSet};
@@ -36,10 +37,16 @@ fn three_exist(shapes: &[ShapeBits], dest: Field, left: Field, right: Field) -> 
     set_exists(shapes, dest.set) && both_exist(shapes, left, right)
 }
 
+fn axis_exists(shapes: &[ShapeBits], dest: Field, axis: u32) -> bool
+    ensures { IsTrue result ↔ (FieldExists (map shape_of shapes.now) dest × IsAxis (map shape_of shapes.now) dest.set axis) }
+{
+    set_exists(shapes, dest.set) && is_axis(shapes, dest.set, axis)
+}
+
 fn news_exists(shapes: &[ShapeBits], dest: Field, source: Field, axis: u32) -> bool
     ensures { IsTrue result ↔ (FieldExists (map shape_of shapes.now) dest × FieldExists (map shape_of shapes.now) source × IsAxis (map shape_of shapes.now) dest.set axis) }
 {
-    set_exists(shapes, source.set) && is_axis(shapes, dest.set, axis)
+    both_exist(shapes, dest, source) && is_axis(shapes, dest.set, axis)
 }
 
 fn scan_exists(
@@ -76,12 +83,27 @@ fn is_new_axis(steps: &[GridStep], axis: u32) -> bool
     steps.iter().all(|s| s.axis != axis)
 }
 
+/// Whether none of the first so many steps names the axis.
+fn is_new_axis_before(steps: &[GridStep], count: usize, axis: u32) -> bool
+    requires { count ≤ length steps.now }
+    ensures { IsTrue result ↔ All (λ s. axis_of s ≢ axis) (take count steps.now) }
+{
+    is_new_axis(&steps[..count], axis)
+}
+
+fn step_at(steps: &[GridStep], k: usize) -> GridStep
+    requires { k < length steps.now }
+    ensures { slice_get steps.now k ≡ Some result }
+{
+    steps[k]
+}
+
 /// Whether no two steps name one axis.
 fn are_distinct(steps: &[GridStep]) -> bool
     ensures { IsTrue result ↔ AreDistinct steps.now (length steps.now) }
 {
     for k in 0..steps.len() {
-        if !is_new_axis(&steps[..k], steps[k].axis) {
+        if !is_new_axis_before(steps, k, step_at(steps, k).axis) {
             return false;
         }
     }
@@ -89,7 +111,7 @@ fn are_distinct(steps: &[GridStep]) -> bool
 }
 
 fn steps_name_axes(shapes: &[ShapeBits], set: u16, steps: &[GridStep]) -> bool
-    ensures { IsTrue result ↔ All (λ s. SetExists (map shape_of shapes.now) set × IsAxis (map shape_of shapes.now) set (axis_of s)) steps.now }
+    ensures { IsTrue result ↔ All (λ s. IsAxis (map shape_of shapes.now) set (axis_of s)) steps.now }
 {
     steps.iter().all(|s| is_axis(shapes, set, s.axis))
 }
@@ -109,7 +131,7 @@ pub fn keeps_set(shapes: &[ShapeBits], instr: &Instr) -> bool
         Instr::MoveConstant { dest, .. } => set_exists(shapes, dest.set),
         Instr::MoveZeroAlways { dest } => set_exists(shapes, dest.set),
         Instr::MoveAlways { dest, source } => both_exist(shapes, *dest, *source),
-        Instr::MyNewsCoordinate { dest, axis } => is_axis(shapes, dest.set, *axis),
+        Instr::MyNewsCoordinate { dest, axis } => axis_exists(shapes, *dest, *axis),
         Instr::MakeAddress {
             dest,
             set,
@@ -191,6 +213,23 @@ pub fn keeps_set(shapes: &[ShapeBits], instr: &Instr) -> bool
             coordinates,
             ..
         } => has_rank(shapes, *set, coordinates.len()),
-        _ => true,
+        Instr::FrontConst { .. }
+        | Instr::FrontMove { .. }
+        | Instr::FrontOperate { .. }
+        | Instr::FrontCompare { .. }
+        | Instr::FrontNegate { .. }
+        | Instr::FrontLognot { .. }
+        | Instr::FrontConvert { .. }
+        | Instr::FrontCheckDivisor { .. }
+        | Instr::FrontJump { .. }
+        | Instr::FrontJumpZero { .. }
+        | Instr::FrontJumpNonzero { .. }
+        | Instr::FrontTurn
+        | Instr::FrontCall { .. }
+        | Instr::FrontReturn
+        | Instr::FrontPutBytes { .. }
+        | Instr::FrontPut { .. }
+        | Instr::FrontGetByte { .. }
+        | Instr::FrontHalt => true,
     }
 }

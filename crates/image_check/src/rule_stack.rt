@@ -1,7 +1,8 @@
 //! Image rule 3: how calls may be nested.
 
 ghost use Rattle.std.specs.Prelude.{ℕ, ◌≡◌, ◌≢◌, ◌↔◌, ◌<◌, ◌≤◌, IsTrue, IfOk, length, slice_index, MatchOption};
-ghost use Rattle.image_check.specs.Tables.{AreUnitNumbers, AllKeepStack, AreLevels, IsLevelledCall};
+ghost use Rattle.paris_code.specs.Units.{unit_of};
+ghost use Rattle.image_check.specs.Tables.{AreUnitNumbers, AllKeepStack, AreLevels, KeepsLevels, IsLevelledCall};
 
 use crate::units::instruction;
 use paris_code::{Image, Instr};
@@ -97,6 +98,36 @@ fn is_levelled(ranks: &[u32], heights: &[u32], depth: u32, from: u32, to: u32) -
         && height <= depth
 }
 
+/// The unit of an instruction.
+fn unit_at(image: &Image, numbers: &[u32], place: usize) -> u32
+    requires numbered { AreUnitNumbers image.now numbers.now }
+    requires inside { place < length numbers.now }
+    ensures { result ≡ unit_of image.now place }
+{
+    numbers[place]
+}
+
+/// Whether the instruction is no call, or one that is levelled.
+fn keeps_levels(
+    image: &Image,
+    numbers: &[u32],
+    ranks: &[u32],
+    heights: &[u32],
+    place: usize,
+) -> bool
+    requires numbered { AreUnitNumbers image.now numbers.now }
+    requires inside { place < length numbers.now }
+    ensures { IsTrue result → KeepsLevels image.now ranks.now heights.now place }
+{
+    match called(instruction(image, place)) {
+        Some(unit) => {
+            let from = unit_at(image, numbers, place);
+            is_levelled(ranks, heights, image.depth, from, unit)
+        }
+        None => true,
+    }
+}
+
 /// The first call that is not levelled.
 fn first_unlevelled(image: &Image, numbers: &[u32], ranks: &[u32], heights: &[u32]) -> Option<usize>
     requires numbered { AreUnitNumbers image.now numbers.now }
@@ -104,10 +135,8 @@ fn first_unlevelled(image: &Image, numbers: &[u32], ranks: &[u32], heights: &[u3
     ensures { MatchOption result (AreLevels image.now ranks.now heights.now) (λ place. place < length image.now.code.items) }
 {
     for place in 0..image.code.len() {
-        if let Some(unit) = called(instruction(image, place)) {
-            if !is_levelled(ranks, heights, image.depth, numbers[place], unit) {
-                return Some(place);
-            }
+        if !keeps_levels(image, numbers, ranks, heights, place) {
+            return Some(place);
         }
     }
     None

@@ -12,7 +12,8 @@ use std::alloc::{AllocError, Global};
 /// Whether there is a unit, the units start in increasing order, the first at 0, and each has an
 /// instruction.
 pub fn are_starts(units: &[Entry], end: usize) -> bool
-    ensures { IsTrue result ↔ AreStarts (map start_of units.now) end }
+    ensures some { IsTrue result → 0 < length units.now }
+    ensures ordered { IsTrue result ↔ AreStarts (map start_of units.now) end }
 {
     let Some((first, later)) = units.split_first() else {
         return false;
