@@ -23,6 +23,7 @@ pub fn run_image<I: Source, O: Sink>(
     ensures end { IsEndOfRun result }
     ensures write_fault { status_of result ≡ 6 → RisesBy (O.faults out.old) (O.faults out.new) }
     ensures input_fault { status_of result ≡ 7 → RisesBy (I.faults input.old) (I.faults input.new) }
+    ensures count { status_of result ≢ 6 → O.faults out.new ≡ O.faults out.old }
 {
     let mut phases = match RowPhases::new(alloc, sound) {
         Ok(phases) => phases,
@@ -54,6 +55,7 @@ fn sent<O: Sink>(out: &mut O, answer: Answer) -> Answer
     ensures end { IsEndOfRun answer → IsEndOfRun result }
     ensures write_fault { status_of answer ≢ 6 → status_of result ≡ 6 → RisesBy (O.faults out.old) (O.faults out.new) }
     ensures input_fault { status_of result ≡ 7 → status_of answer ≡ 7 }
+    ensures count { status_of result ≢ 6 → O.faults out.new ≡ O.faults out.old }
 {
     match out.flush() {
         Ok(()) => answer,

@@ -31,6 +31,7 @@ fn answer<S: Shelf, I: Source, O: Sink>(
         × CannotFetch S.faults S.last_failed shelf.old shelf.new file.now }
     ensures write_fault { status_of result ≡ 6 → RisesBy (O.faults out.old) (O.faults out.new) }
     ensures input_fault { status_of result ≡ 7 → RisesBy (I.faults input.old) (I.faults input.new) }
+    ensures count { status_of result ≢ 6 → O.faults out.new ≡ O.faults out.old }
     ensures files { (name : List ℕ) → S.file shelf.new name ≡ S.file shelf.old name }
 {
     let text = match shelf.fetch(file, FILE_LIMIT) {
@@ -66,6 +67,7 @@ pub fn cstar<R: Threads + Sync, S: Shelf, I: Source, O: Sink, E: Sink, G: Gate +
     gate: &G,
 ) -> u8
     ensures listed { result ≤ 8 }
+    ensures words { file_of (map string_bytes words.now) ≡ None → (result ≡ 2) ⊎ (result ≡ 6) ⊎ (result ≡ 8) }
     ensures usage { result ≡ 2 → (file_of (map string_bytes words.now) ≡ None)
         × (out.new ≡ out.old) × (input.new ≡ input.old) × Takes E.agrees err.old err.new usage_line }
     ensures refused { result ≡ 3 → (out.new ≡ out.old) × (input.new ≡ input.old) }
@@ -74,6 +76,7 @@ pub fn cstar<R: Threads + Sync, S: Shelf, I: Source, O: Sink, E: Sink, G: Gate +
         × Takes E.agrees err.old err.new (line_of (named (map string_bytes words.now)) A.CannotRead) }
     ensures write_fault { result ≡ 6 → RisesBy (O.faults out.old) (O.faults out.new) ⊎ RisesBy (E.faults err.old) (E.faults err.new) }
     ensures input_fault { result ≡ 7 → RisesBy (I.faults input.old) (I.faults input.new) }
+    ensures counts { result ≢ 6 → (O.faults out.new ≡ O.faults out.old) × (E.faults err.new ≡ E.faults err.old) }
     ensures memory { result ≡ 8 → Takes E.agrees err.old err.new (codes "out of memory\n") }
     ensures line { result ≢ 6 → PutsAnswer E.agrees err.old err.new (named (map string_bytes words.now)) result }
     ensures part { result ≡ 6 → PutsPartOfAnswer E.agrees err.old err.new (named (map string_bytes words.now)) }
