@@ -1,5 +1,5 @@
 -- What the image rules on fields give the phases.
-use Rattle.std.proofs.Common.{◌≡◌, ℕ, ◌+◌, ◌<◌, ◌≤◌, List, length, subst, map, slice_set, get_or, All, sym}
+use Rattle.std.proofs.Common.{◌≡◌, ℕ, ◌<◌, List, length, subst, map, slice_set, get_or, All, sym}
 use Rattle.std.proofs.Math.Seq.{map-set_same}
 use Rattle.phase_gate.specs.declared.rows.Rows.{Rows}
 use Rattle.phase_gate.specs.Rows.{shape_of_rows}

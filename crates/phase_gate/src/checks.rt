@@ -5,7 +5,7 @@ ghost use Rattle.paris_code.specs.Operands.{coordinate_of};
 ghost use Rattle.paris_code.specs.RuleSet.{IsAxis, axis_of};
 ghost use Rattle.phase_gate.specs.Apply.{CanApply, IsCoordinateIn, IsPosition, LiesIn, is_check};
 
-use crate::arith::{extended, whole};
+use crate::arith::{extended, signed, whole};
 use crate::row_phases::RowPhases;
 use paris_code::{Coordinate, Field, GridStep, Instr, Konst, SignedCoordinate};
 
@@ -75,7 +75,7 @@ impl RowPhases {
                 Konst::Imm(n) => n,
                 Konst::Reg(_) => registers.next().copied().unwrap_or(0),
             };
-            let there = i64::from(geometry.coord(position, step.axis)) + whole(true, by);
+            let there = i64::from(geometry.coord(position, step.axis)) + i64::from(signed(by));
             if there < 0 || i64::from(geometry.extent(step.axis)) <= there {
                 return false;
             }

@@ -1,4 +1,4 @@
-use Rattle.std.proofs.Common.{◌≡◌, List, sym, subst}
+use Rattle.std.proofs.Common.{List, sym, subst}
 use Rattle.paris_code.specs.Shapes.{SetShape}
 use Rattle.phase_gate.specs.Apply.{CanApply}
 use Rattle.phase_gate.proofs.row_phases.RowPhases.do_elementwise.Goals as goal
