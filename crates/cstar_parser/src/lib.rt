@@ -14,6 +14,3 @@ mod types;
 
 pub use fault::ParseFault;
 pub use items::parse;
-
-#[cfg(test)]
-mod tests;

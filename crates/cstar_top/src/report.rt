@@ -11,16 +11,21 @@ use cstar_io::Sink;
 use std::alloc::Global;
 
 /// Puts the line of an answer for the file of this name, and answers its status: 8 and its line
-/// where there is no memory for the line, 6 where it cannot be put.
+/// where there is no memory for the line, 6 where it cannot be put. After a write fault nothing is
+/// put.
 pub fn report<E: Sink>(alloc: Global, file: &[u8], answer: Answer, err: &mut E) -> u8
     ensures status { (result ≡ status_of answer) ⊎ (result ≡ 6) ⊎ (result ≡ 8) }
     ensures own { result ≡ status_of answer → result ≢ 6 → result ≢ 8 → Takes E.agrees err.old err.new (line_of file.now answer) }
     ensures memory { result ≡ 8 → Takes E.agrees err.old err.new (codes "out of memory\n") }
     ensures line { result ≢ 6 → PutsAnswer E.agrees err.old err.new file.now result }
     ensures part { result ≡ 6 → PutsPartOfAnswer E.agrees err.old err.new file.now }
+    ensures kept { status_of answer ≡ 6 → result ≡ 6 }
     ensures failed { result ≡ 6 → (status_of answer ≡ 6) ⊎ RisesBy (E.faults err.old) (E.faults err.new) }
     ensures other { result ≢ 6 → E.faults err.new ≡ E.faults err.old }
 {
+    if answer.status() == 6 {
+        return 6;
+    }
     match line(alloc, file, &answer) {
         Ok(text) => put_answer(err, file, answer, text.as_slice()),
         Err(_) => put_memory(err, file),

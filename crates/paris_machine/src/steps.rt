@@ -4,6 +4,7 @@ ghost use Rattle.paris_code.specs.declared.instr.Instr.{Instr};
 ghost use Rattle.paris_code.specs.Kinds.{is_parallel};
 ghost use Rattle.paris_code.specs.Operands.{arguments_of, result_of};
 ghost use Rattle.paris_code.specs.Shapes.{shapes_of};
+ghost use Rattle.paris_code.specs.Sound.{KeepsRules};
 ghost use Rattle.paris_code.specs.Units.{IsAt};
 ghost use Rattle.phase_gate.specs.Apply.{is_check};
 ghost use Rattle.front_end.specs.Front.{state_of, Fits, AsksFor};
@@ -26,7 +27,8 @@ const END_OF_INPUT: u32 = u32::MAX;
 /// The instruction at an index of the code.
 fn instr_at(sound: &Sound, at: u32) -> &Instr
     requires { at < length sound.now.code.items }
-    ensures { IsAt sound.now at result.now }
+    ensures is { IsAt sound.now at result.now }
+    ensures keeps { KeepsRules sound.now at result.now }
 {
     &sound.image().code[at as usize]
 }
