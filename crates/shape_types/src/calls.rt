@@ -42,9 +42,28 @@ fn fit_arguments(
     Ok(Some(fit))
 }
 
+/// A call of the instance with its arguments at the types of the header.
+fn reaching_call(alloc: Global, header: &Header, instance: u32, arguments: Vec<TExpr>) -> Typing {
+    let (ty, has_value) = match header.returns {
+        Returns::Nothing => (INT, false),
+        Returns::Value(ty) => (ty, true),
+        Returns::Unknown => return Ok(None),
+    };
+    let parameters = header.parameters.as_slice();
+    let Some(arguments) = fit_arguments(alloc, parameters, arguments)? else {
+        return Ok(None);
+    };
+    let expr = TExpr::Call {
+        ty,
+        instance,
+        arguments,
+    };
+    Ok(Some(TypedExpr { expr, has_value }))
+}
+
 impl<'a> Checker<'a> {
     /// A call with its typed arguments. It reaches its function whatever faults they have. At file
-    /// scope it reaches none, since there it is no constant.
+    /// scope it reaches none and is not taken further, since it is no constant.
     pub fn call(&mut self, site: Site, name: &Name, arguments: Vec<Option<TExpr>>) -> Typing {
         let Some(function) = self.called(site, name) else {
             return Ok(None);
@@ -55,48 +74,53 @@ impl<'a> Checker<'a> {
         };
         let header = self.header_of(reached)?;
         let instance = match site.function {
-            Some(_) => self.reach(reached)?,
-            None => 0,
+            Some(_) => Some(self.reach(reached)?),
+            None => None,
         };
         let Some(arguments) = all_typed(self, arguments)? else {
             return Ok(None);
         };
+        if !self.call_fits(site, name.place, reached, arguments.as_slice()) {
+            return Ok(None);
+        }
         let Some((_, header)) = self.headers.get_index(header) else {
             return Ok(None);
         };
-        let count = header.parameters.len() == arguments.len();
-        let parallel = has_parallel_argument(header, arguments.as_slice());
-        let other = header.other_shape;
-        let returns = header.returns;
-        let fit = fit_arguments(self.alloc, header.parameters.as_slice(), arguments)?;
-        let recursive = self.is_recursive(site, function);
-        for (rule, stands) in [
-            (Rule::OtherShape, other),
-            (Rule::ScalarWanted, parallel),
-            (Rule::Arguments, !count),
-            (Rule::Recursion, recursive),
-        ] {
-            if stands {
-                self.fault(rule, name.place);
-            }
+        match instance {
+            Some(instance) => reaching_call(self.alloc, header, instance, arguments),
+            None => Ok(Some(TypedExpr {
+                expr: TExpr::GetChar { ty: INT },
+                has_value: !matches!(header.returns, Returns::Nothing),
+            })),
         }
-        if other || parallel || !count || recursive {
-            return Ok(None);
+    }
+
+    /// Does the call at the place fit the header? What does not is a fault.
+    fn call_fits(
+        &mut self,
+        site: Site,
+        place: Place,
+        reached: Reached,
+        arguments: &[TExpr],
+    ) -> bool {
+        let Some(header) = self.headers.get(&reached) else {
+            return false;
+        };
+        let other_shape = header.other_shape;
+        let parallel = has_parallel_argument(header, arguments);
+        let other_count = header.parameters.len() != arguments.len();
+        if other_shape {
+            self.fault(Rule::OtherShape, place);
+        } else if parallel {
+            self.fault(Rule::ScalarWanted, place);
+        } else if other_count {
+            self.fault(Rule::Arguments, place);
+        } else if self.is_recursive(site, reached.function) {
+            self.fault(Rule::Recursion, place);
+        } else {
+            return true;
         }
-        let Some(arguments) = fit else {
-            return Ok(None);
-        };
-        let (ty, has_value) = match returns {
-            Returns::Nothing => (INT, false),
-            Returns::Value(ty) => (ty, true),
-            Returns::Unknown => return Ok(None),
-        };
-        let expr = TExpr::Call {
-            ty,
-            instance,
-            arguments,
-        };
-        Ok(Some(TypedExpr { expr, has_value }))
+        false
     }
 
     /// The function that a call names.

@@ -1,9 +1,10 @@
 //! The walk over an expression. It types the parts and hands them to the function of their kind.
+//! The functions of the walk are small, since each level of an expression takes stack for them.
 
 use crate::checker::{Checker, Site, TypedExpr, Typing};
 use crate::conversions::INT;
 use crate::intrinsics::Walk;
-use cstar_base::{Elem, Memory};
+use cstar_base::{Elem, Memory, Place};
 use cstar_tree::syntax::Expr;
 use cstar_tree::typed::{StepOrder, TExpr, ValueType};
 
@@ -18,38 +19,54 @@ impl<'a> Checker<'a> {
     /// Types an expression.
     #[cycle(expression)]
     pub fn expr(&mut self, site: Site, e: &Expr) -> Typing {
+        self.count_node(site, e);
         match e {
             Expr::Brackets { inner, .. } => {
-                self.count(1);
                 let inner = self.expr(site, inner)?;
                 self.brackets(inner)
             }
+            Expr::Assign { .. } | Expr::Choice { .. } | Expr::Binary { .. } => {
+                self.operands(site, e)
+            }
+            Expr::Prefix { .. }
+            | Expr::Casts { .. }
+            | Expr::ParallelCast { .. }
+            | Expr::Postfix { .. }
+            | Expr::Element { .. } => self.operand(site.part(), e),
+            Expr::Call { .. } | Expr::LeftIndex { .. } | Expr::Printf { .. } => {
+                self.list(site.part(), e)
+            }
+            Expr::Pcoord { .. } | Expr::DimOf { .. } | Expr::Scan { .. } | Expr::Enumerate { .. } =>
+                self.along_axis(site.part(), e),
+            Expr::Name(_)
+            | Expr::Number { .. }
+            | Expr::Dot(_)
+            | Expr::PositionsOf { .. }
+            | Expr::RankOf { .. }
+            | Expr::GetChar(_) => self.leaf(site, e),
+        }
+    }
+
+    /// Types an expression with two or three operands.
+    #[cycle(expression)]
+    fn operands(&mut self, site: Site, e: &Expr) -> Typing {
+        match e {
             Expr::Assign {
                 place,
                 op,
                 target,
                 value,
             } => {
-                self.count(1);
                 let target = self.value(site, target)?;
                 let value = self.value(site, value)?;
                 self.assign(site, *place, *op, target, value)
             }
-            _ => self.operator(site.part(), e),
-        }
-    }
-
-    /// Types an expression that is no assignment and no pair of brackets.
-    #[cycle(expression)]
-    fn operator(&mut self, site: Site, e: &Expr) -> Typing {
-        match e {
             Expr::Choice {
                 test,
                 then,
                 otherwise,
                 ..
             } => {
-                self.count(1);
                 let test = self.value(site, test)?;
                 let then = self.value(site, then)?;
                 let otherwise = self.value(site, otherwise)?;
@@ -61,137 +78,115 @@ impl<'a> Checker<'a> {
                 left,
                 right,
             } => {
-                self.count(1);
                 let left = self.value(site, left)?;
                 let right = self.value(site, right)?;
                 self.binary(*place, *op, left, right)
             }
-            Expr::Prefix { place, op, operand } => {
-                self.count(1);
-                let operand = self.value(site, operand)?;
-                self.prefix(*place, *op, operand)
-            }
-            Expr::Postfix { place, op, operand } => {
-                self.count(1);
-                let operand = self.value(site, operand)?;
-                self.step(*place, *op, StepOrder::Postfix, operand)
-            }
-            Expr::Casts { casts, operand } => {
-                self.count(casts.len() as u64);
-                let operand = self.value(site, operand)?;
-                self.casts(casts, operand)
-            }
+            _ => Ok(None),
+        }
+    }
+
+    /// Types an expression with one operand, or an element of an array with its index.
+    #[cycle(expression)]
+    fn operand(&mut self, site: Site, e: &Expr) -> Typing {
+        let (Expr::Prefix { operand, .. }
+        | Expr::Casts { operand, .. }
+        | Expr::ParallelCast { operand, .. }
+        | Expr::Postfix { operand, .. }
+        | Expr::Element { index: operand, .. }) = e
+        else {
+            return Ok(None);
+        };
+        let operand = self.value(site, operand)?;
+        match e {
+            Expr::Prefix { place, op, .. } => self.prefix(*place, *op, operand),
+            Expr::Casts { casts, .. } => self.casts(casts, operand),
             Expr::ParallelCast {
                 place,
                 type_name,
-                operand,
-            } => {
-                self.count(1);
-                let ty = self.value_type(site, type_name);
-                let operand = self.value(site, operand)?;
-                self.parallel_cast(site, *place, ty, operand)
-            }
-            _ => self.reference(site, e),
-        }
-    }
-
-    /// Types a reference, a number or a call.
-    #[cycle(expression)]
-    fn reference(&mut self, site: Site, e: &Expr) -> Typing {
-        match e {
-            Expr::Name(name) => {
-                self.count(1);
-                self.name(site, name)
-            }
-            Expr::Element {
-                name,
-                bracket,
-                index,
-            } => {
-                let array = self.array(site, name);
-                self.count(array.map_or(1, |(_, _, length)| u64::from(length)));
-                let index = self.value(site, index)?;
-                self.element(site, name, *bracket, array, index)
-            }
-            Expr::Number {
-                value,
-                unsigned,
                 ..
-            } => {
-                self.count(1);
-                Ok(Some(TypedExpr::of(number(*value, *unsigned))))
-            }
-            Expr::Dot(place) => {
-                self.count(1);
-                self.dot(site, *place)
-            }
-            Expr::Call { name, arguments } => {
-                self.count(1);
-                let mut typed = Vec::new(self.alloc);
-                for argument in arguments {
-                    typed.push(self.value(site, argument)?)?;
-                }
-                self.call(site, name, typed)
-            }
-            Expr::LeftIndex {
-                place,
-                indexes,
-                name,
-            } => {
-                self.count(1);
-                let current = self.is_of_current(site, name);
-                let mut typed = Vec::new(self.alloc);
-                for index in indexes {
-                    let axis = u32::try_from(typed.len()).ok();
-                    let dot = axis.filter(|_| current);
-                    typed.push(self.value(Site { dot, ..site }, index)?)?;
-                }
-                self.left_index(site, *place, typed, name)
-            }
-            _ => self.intrinsic(site, e),
+            } => self.parallel_cast(site, *place, type_name, operand),
+            Expr::Postfix { place, op, .. } => self.step(*place, *op, StepOrder::Postfix, operand),
+            Expr::Element { name, bracket, .. } => self.element(site, name, *bracket, operand),
+            _ => Ok(None),
         }
     }
 
-    /// Types an intrinsic.
+    /// Types an expression with a list of parts.
     #[cycle(expression)]
-    fn intrinsic(&mut self, site: Site, e: &Expr) -> Typing {
-        self.count(1);
+    fn list(&mut self, site: Site, e: &Expr) -> Typing {
+        let (parts, current) = match e {
+            Expr::Call { arguments, .. } | Expr::Printf { arguments, .. } => (arguments, None),
+            Expr::LeftIndex { indexes, name, .. } => {
+                (indexes, Some(self.is_of_current(site, name)))
+            }
+            _ => return Ok(None),
+        };
+        let mut typed = Vec::new(self.alloc);
+        for part in parts {
+            let axis = u32::try_from(typed.len()).ok();
+            let dot = match current {
+                Some(true) => axis,
+                Some(false) => None,
+                None => site.dot,
+            };
+            typed.push(self.value(Site { dot, ..site }, part)?)?;
+        }
         match e {
-            Expr::Pcoord { place, axis } => {
-                let typed = self.value(site, axis)?;
-                let rank = self.current_rank(site);
-                let axis = self.axis(axis.place(), typed, rank);
-                self.pcoord(site, *place, axis)
-            }
-            Expr::PositionsOf { shape, .. } => {
-                let shape = self.shape(site, shape);
-                self.positions_of(shape)
-            }
-            Expr::RankOf { shape, .. } => {
-                let shape = self.shape(site, shape);
-                self.rank_of(shape)
-            }
-            Expr::DimOf { shape, axis, .. } => {
-                let shape = self.shape(site, shape);
-                let typed = self.value(site, axis)?;
-                let rank = shape.and_then(|shape| self.rank(shape));
-                let axis = self.axis(axis.place(), typed, rank);
-                self.dim_of(shape, axis)
-            }
+            Expr::Call { name, .. } => self.call(site, name, typed),
+            Expr::LeftIndex { place, name, .. } => self.left_index(site, *place, typed, name),
+            Expr::Printf { place, text, .. } => self.printf(*place, text, typed),
+            _ => Ok(None),
+        }
+    }
+
+    /// Types an intrinsic that has an axis.
+    #[cycle(expression)]
+    fn along_axis(&mut self, site: Site, e: &Expr) -> Typing {
+        let source = match e {
+            Expr::Scan { source, .. } => self.value(site, source)?,
+            _ => None,
+        };
+        let (Expr::Pcoord { axis, .. }
+        | Expr::DimOf { axis, .. }
+        | Expr::Scan { axis, .. }
+        | Expr::Enumerate { axis, .. }) = e
+        else {
+            return Ok(None);
+        };
+        let typed = self.value(site, axis)?;
+        let place = axis.place();
+        self.with_axis(site, e, place, source, typed)
+    }
+
+    /// An intrinsic with its typed axis, which stands at the place, and the typed source of a scan.
+    fn with_axis(
+        &mut self,
+        site: Site,
+        e: &Expr,
+        axis_place: Place,
+        source: Option<TExpr>,
+        axis: Option<TExpr>,
+    ) -> Typing {
+        if let Expr::DimOf { shape, .. } = e {
+            let shape = self.shape(site, shape);
+            let rank = shape.and_then(|shape| self.rank(shape));
+            let axis = self.axis(axis_place, axis, rank);
+            return self.dim_of(shape, axis);
+        }
+        let rank = self.current_rank(site);
+        let axis = self.axis(axis_place, axis, rank);
+        match e {
+            Expr::Pcoord { place, .. } => self.pcoord(site, *place, axis),
             Expr::Scan {
                 place,
-                source,
-                axis,
                 combiner,
                 direction,
                 mode,
                 bit,
                 inclusion,
+                ..
             } => {
-                let source = self.value(site, source)?;
-                let typed = self.value(site, axis)?;
-                let rank = self.current_rank(site);
-                let axis = self.axis(axis.place(), typed, rank);
                 let bit = self.segment_bit(site, bit);
                 let walk = Walk {
                     mode: *mode,
@@ -202,15 +197,12 @@ impl<'a> Checker<'a> {
             }
             Expr::Enumerate {
                 place,
-                axis,
                 direction,
                 inclusion,
                 mode,
                 bit,
+                ..
             } => {
-                let typed = self.value(site, axis)?;
-                let rank = self.current_rank(site);
-                let axis = self.axis(axis.place(), typed, rank);
                 let bit = self.segment_bit(site, bit);
                 let walk = Walk {
                     mode: *mode,
@@ -219,20 +211,42 @@ impl<'a> Checker<'a> {
                 };
                 self.enumerate(site, *place, axis, walk, bit)
             }
-            Expr::Printf {
-                place,
-                text,
-                arguments,
-            } => {
-                let mut typed = Vec::new(self.alloc);
-                for argument in arguments {
-                    typed.push(self.value(site, argument)?)?;
-                }
-                self.printf(*place, text, typed)
+            _ => Ok(None),
+        }
+    }
+
+    /// Types an expression without parts.
+    fn leaf(&mut self, site: Site, e: &Expr) -> Typing {
+        match e {
+            Expr::Name(name) => self.name(site, name),
+            Expr::Number {
+                value,
+                unsigned,
+                ..
+            } => Ok(Some(TypedExpr::of(number(*value, *unsigned)))),
+            Expr::Dot(place) => self.dot(site, *place),
+            Expr::PositionsOf { shape, .. } => {
+                let shape = self.shape(site, shape);
+                self.positions_of(shape)
+            }
+            Expr::RankOf { shape, .. } => {
+                let shape = self.shape(site, shape);
+                self.rank_of(shape)
             }
             Expr::GetChar(_) => Ok(Some(TypedExpr::of(TExpr::GetChar { ty: INT }))),
             _ => Ok(None),
         }
+    }
+
+    /// Counts the node of an expression: each cast of a chain, and an element of an array as often
+    /// as the array has elements.
+    fn count_node(&mut self, site: Site, e: &Expr) {
+        let nodes = match e {
+            Expr::Casts { casts, .. } => casts.len() as u64,
+            Expr::Element { name, .. } => self.array_length(site, name),
+            _ => 1,
+        };
+        self.count(nodes);
     }
 }
 

@@ -120,9 +120,10 @@ impl<'a> Checker<'a> {
         &mut self,
         site: Site,
         place: Place,
-        ty: Option<ValueType>,
+        written: &TypeName,
         operand: Option<TExpr>,
     ) -> Typing {
+        let ty = self.value_type(site, written);
         let (Some(ty), Some(operand)) = (ty, operand) else {
             return Ok(None);
         };

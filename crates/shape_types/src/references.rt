@@ -35,28 +35,34 @@ impl<'a> Checker<'a> {
         Some((variable, ty))
     }
 
-    /// The array that is named, with its length.
-    pub fn array(&mut self, site: Site, name: &Name) -> Option<(Variable, VariableType, u32)> {
+    /// The array that is named.
+    fn array(&mut self, site: Site, name: &Name) -> Option<(Variable, VariableType)> {
         let (variable, ty) = self.variable(site, name)?;
-        match ty.array {
-            Some(length) => Some((variable, ty, length)),
-            None => {
-                self.fault(Rule::ArrayUse, name.place);
-                None
-            }
+        if ty.array.is_none() {
+            self.fault(Rule::ArrayUse, name.place);
+            return None;
+        }
+        Some((variable, ty))
+    }
+
+    /// How many elements the array of the name has, and 1 if it is none. This looks without
+    /// recording faults.
+    pub fn array_length(&self, site: Site, name: &Name) -> u64 {
+        match self.meaning(site, name) {
+            Some(Meaning::Variable(_, Some(ty))) => u64::from(ty.array.unwrap_or(1)),
+            _ => 1,
         }
     }
 
-    /// `name[index]`, with the array that was named. A name with a scalar index is a whole
-    /// parallel variable.
+    /// `name[index]`. A name with a scalar index is a whole parallel variable.
     pub fn element(
         &mut self,
         site: Site,
         name: &Name,
         bracket: Place,
-        array: Option<(Variable, VariableType, u32)>,
         index: Option<TExpr>,
     ) -> Typing {
+        let array = self.array(site, name);
         let Some(index) = index else {
             return Ok(None);
         };
@@ -64,7 +70,7 @@ impl<'a> Checker<'a> {
             self.fault(Rule::ScalarWanted, bracket);
             return Ok(None);
         }
-        let Some((variable, ty, _)) = array else {
+        let Some((variable, ty)) = array else {
             return Ok(None);
         };
         if let Some(shape) = ty.shape
