@@ -88,6 +88,7 @@ impl<'a> Checker<'a> {
         };
         match instance {
             Some(instance) => reaching_call(self.alloc, header, instance, arguments),
+            // No instance has a number here. What stands for the call is refused as it would be.
             None => Ok(Some(TypedExpr {
                 expr: TExpr::GetChar { ty: INT },
                 has_value: !matches!(header.returns, Returns::Nothing),
