@@ -98,12 +98,7 @@ fn put_literal<O: Sink>(sound: &Sound, at: u32, out: &mut O) -> Option<End>
 }
 
 /// Reads a byte into the register that wants it. A source that has ended is not asked.
-fn read<I: Source>(
-    sound: &Sound,
-    front: &mut Front,
-    ended: &mut bool,
-    input: &mut I,
-) -> Option<End>
+fn read<I: Source>(sound: &Sound, front: &mut Front, ended: &mut bool, input: &mut I) -> Option<End>
     requires fits { Fits sound.now (state_of front.old) }
     requires asked { IsSome front.old.wanted }
     ensures fits { Fits sound.now (state_of front.new) }
