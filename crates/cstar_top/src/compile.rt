@@ -1,4 +1,4 @@
-ghost use Rattle.std.specs.Prelude.{◌≡◌, ◌≤◌, IfErr, length};
+ghost use Rattle.std.specs.Prelude.{◌≤◌, IfOk, length, vec_len};
 
 use cstar_base::{Memory, Place};
 use cstar_lexer::{LexFault, lex};
@@ -21,6 +21,9 @@ const SYNTAX: u8 = 5;
 const DEPTH: u8 = 27;
 
 const TOO_LONG: u8 = 30;
+
+/// How many units, and how many instructions, 32 bits can number.
+const MOST_NUMBERED: usize = u32::MAX as usize;
 
 const FILE_START: Place = Place { line: 1, col: 1 };
 
@@ -57,6 +60,7 @@ fn refused(number: u8, place: Place) -> NoImage {
 
 fn tokens_of(alloc: Global, text: &[u8]) -> Result<Tokens, NoImage>
     requires { length text.now ≤ FILE_LIMIT }
+    ensures { IfOk result (λ tokens. vec_len tokens.list ≤ FILE_LIMIT) }
 {
     match lex(alloc, text) {
         Ok(tokens) => Ok(tokens),
@@ -65,7 +69,9 @@ fn tokens_of(alloc: Global, text: &[u8]) -> Result<Tokens, NoImage>
     }
 }
 
-fn tree_of(alloc: Global, tokens: &Tokens) -> Result<Tree, NoImage> {
+fn tree_of(alloc: Global, tokens: &Tokens) -> Result<Tree, NoImage>
+    requires { vec_len tokens.now.list ≤ FILE_LIMIT }
+{
     match parse(alloc, tokens) {
         Ok(tree) => Ok(tree),
         Err(ParseFault::Syntax { token }) => Err(refused(SYNTAX, place_of(tokens, token))),
@@ -97,8 +103,12 @@ fn image_of(alloc: Global, typed: &Typed) -> Result<Image, NoImage> {
 }
 
 /// The image with the proof that it meets the image rules. That every image of the compiler meets
-/// them is not proved yet; one that did not would be refused as a form that is not built.
+/// them is not proved yet; one that did not would be refused as a form that is not built. Units or
+/// instructions past the numbers of 32 bits count as want of memory.
 fn sound_of(alloc: Global, image: Image) -> Result<Sound, NoImage> {
+    if image.units.len() > MOST_NUMBERED || image.code.len() > MOST_NUMBERED {
+        return Err(NoImage::Memory);
+    }
     match verify(alloc, image) {
         Ok(sound) => Ok(sound),
         Err(CheckErr::Bad { .. }) => Err(refused(NOT_BUILT, FILE_START)),

@@ -6,6 +6,3 @@ mod steps;
 
 pub use outcome::{End, Outcome};
 pub use steps::{resume, run};
-
-#[cfg(test)]
-mod tests;
