@@ -153,7 +153,7 @@ fn begins_cast(tokens: &[Token], at: usize) -> bool
     is_mark(tokens, at, Mark::LeftParen) && at < tokens.len() && begins_type(tokens, at + 1)
 }
 
-/// Reads casts up to the first parallel one, or all that stand one before the other.
+/// Reads a cast and those behind it, up to the first parallel one.
 fn read_casts(
     alloc: Global,
     tokens: &[Token],
@@ -163,11 +163,11 @@ fn read_casts(
     requires few { length tokens.now ≤ 1048576 }
     requires within { spot.old.at ≤ length tokens.now }
     requires depth { levels ≤ 100 }
-    ensures forward { OnOk result ((spot.old.at ≤ spot.new.at) × (spot.new.at ≤ length tokens.now)) }
+    ensures forward { OnOk result ((spot.old.at < spot.new.at) × (spot.new.at ≤ length tokens.now)) }
     ensures fault { IfErr result (IsAmong (length tokens.now)) }
 {
     let mut casts = Vec::new(alloc);
-    'casts: while begins_cast(tokens, spot.at) {
+    'casts: loop {
         let place = open(tokens, spot, Mark::LeftParen, levels)?;
         let type_name = read_type(alloc, tokens, spot)?;
         expect(tokens, spot, Mark::RightParen)?;
@@ -181,11 +181,13 @@ fn read_casts(
             place,
             elem: type_name.elem,
         })?;
+        if !begins_cast(tokens, spot.at) {
+            return Ok(CastChain {
+                casts,
+                parallel: None,
+            });
+        }
     }
-    Ok(CastChain {
-        casts,
-        parallel: None,
-    })
 }
 
 /// Reads the `++` and `--` behind an operand.
