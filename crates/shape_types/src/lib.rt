@@ -48,12 +48,13 @@ impl From<Memory> for TypeFault {
     }
 }
 
-impl From<Standing> for TypeFault {
-    fn from(fault: Standing) -> TypeFault {
-        TypeFault::Fault {
-            number: fault.rule.number(),
-            place: fault.place,
-        }
+/// The answer to a fault that stands.
+fn answered(fault: Standing) -> TypeFault
+    ensures { IsListedFault result }
+{
+    TypeFault::Fault {
+        number: fault.rule.number(),
+        place: fault.place,
     }
 }
 
@@ -69,14 +70,14 @@ pub fn check(alloc: Global, tree: &Tree) -> Result<Typed, TypeFault>
     };
     checker.bounds(instances.as_slice());
     if let Some(fault) = checker.faults.least {
-        return Err(TypeFault::from(fault));
+        return Err(answered(fault));
     }
     let need = match needs(&checker, instances.as_slice()) {
         Ok(need) => need,
         Err(_memory) => return Err(TypeFault::Memory),
     };
     if !has_room(checker.shapes.as_slice(), need.as_slice()) {
-        return Err(TypeFault::from(Standing {
+        return Err(answered(Standing {
             rule: Rule::Space,
             place: tree.end,
         }));
