@@ -1,0 +1,13 @@
+//! How messages are combined in any order: the combiners, their encodings as numbers of 64 bits
+//! that join in any order, and the machine whose steps are the atomic steps of a combining board.
+#![tactic(auto)]
+
+mod combine;
+mod combiners;
+mod kind;
+mod message;
+
+pub use combine::Combine;
+pub use combiners::{Add, And, First, Last, MaxOf, MinOf, Or, Xor};
+pub use kind::Kind;
+pub use message::Message;
