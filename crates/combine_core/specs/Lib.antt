@@ -1,2 +1,3 @@
 pub mod Encodings
 pub mod Cells
+pub mod Machine

@@ -4,10 +4,14 @@
 
 mod combine;
 mod combiners;
+mod event;
 mod kind;
 mod message;
+mod worker;
 
 pub use combine::Combine;
 pub use combiners::{Add, And, First, Last, MaxOf, MinOf, Or, Xor};
+pub use event::Event;
 pub use kind::Kind;
 pub use message::Message;
+pub use worker::{Held, Worker};
