@@ -1,3 +1,5 @@
 pub mod Joins
 pub mod Gathers
 pub mod Ahead
+pub mod Sums
+pub mod Steps

@@ -1,3 +1,4 @@
 pub mod Encodings
 pub mod Cells
 pub mod Machine
+pub mod Kept
