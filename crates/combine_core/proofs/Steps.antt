@@ -1,18 +1,22 @@
 -- Each event keeps what holds of the machine.
-use Rattle.std.proofs.Common.{◌≡◌, ◌≢◌, ◌⊎◌, ℕ, zero, suc, ◌+◌, ◌-◌, ◌*◌, ◌/◌, ◌%◌, ◌^◌, ◌<◌, ◌≤◌, min, Bool, true, false, true≢false, not, ◌==◌, ◌&&◌, cond, if◌then◌else◌, nat_lt, List, [], ◌∷◌, ◌++◌, length, map, get_or, set, take, drop, slice_get, slice_index, slice_index_or, sum_by, Option, Some, None, IfSome, refl, sym, ap, ◌∙◌, inl, inr, ⊎_elim, subst, length-set, get_or-set_other, get_or-set_same, arith}
+use Rattle.std.proofs.Common.{◌≡◌, ◌≢◌, ◌⊎◌, ℕ, zero, suc, ◌+◌, ◌-◌, ◌*◌, ◌/◌, ◌%◌, ◌^◌, ◌<◌, ◌≤◌, min, Bool, true, false, true≢false, not, ◌==◌, ◌&&◌, cond, if◌then◌else◌, nat_lt, List, [], ◌∷◌, ◌++◌, length, map, get_or, set, take, drop, slice_get, slice_index, slice_index_or, sum_by, option_to_list, option_map, Option, Some, None, IfSome, refl, sym, ap, ◌∙◌, inl, inr, ⊎_elim, subst, length-set, get_or-set_other, get_or-set_same, zero-add, arith}
 use Rattle.std.proofs.lemmas.List.Sums.{sum_by-set, sum_by_push, sum_by-cons, sum_by-append, get_or-le-sum_by}
-use Rattle.std.proofs.lemmas.Bool.{cases_lt, cases_eq, cond-true, cond-false, ltb-true, lt-ltb, le-ltb, eqb-true, eq-eqb, ne_eqb, false≢true}
-use Rattle.std.proofs.lemmas.Option.{get_or_from_slice_get, slice_get_within}
+use Rattle.std.proofs.lemmas.Bool.{cases_lt, cases_eq, cond-true, cond-false, ltb-true, lt-ltb, le-ltb, eqb-true, eq-eqb, ne_eqb, false≢true, cond_both, and_parts, not-true}
+use Rattle.std.proofs.lemmas.Option.{get_or_from_slice_get, slice_get_within, option_and_then_some}
+use Rattle.std.proofs.lemmas.List.{length-map}
+use Rattle.std.proofs.Math.Nat.{zero-min}
 use Rattle.combine_core.specs.declared.kind.Kind.{Kind}
 use Rattle.combine_core.specs.declared.message.Message.{Message}
 use Rattle.combine_core.specs.declared.worker.Held.{Held}
 use Rattle.combine_core.specs.declared.worker.Worker.{Worker}
+use Rattle.combine_core.specs.declared.event.Event.{Event}
+use Rattle.combine_core.specs.declared.event.Event.TheVariants.{Split, Claim, Deliver, Join}
 use Rattle.combine_core.specs.Encodings.{encoded_home, joined}
 use Rattle.combine_core.specs.Cells.{gathered, message_word}
-use Rattle.combine_core.specs.Machine.{State, claims_of, held, held_by, idle, spent, worker_at, next_in, ahead_of, is_number, kept_part, given_part, drawn, passed_to, delivered, both_parts, split, claim, deliver, join, weigh}
+use Rattle.combine_core.specs.Machine.{State, claims_of, held, held_by, idle, spent, worker_at, next_in, ahead_of, is_number, kept_part, given_part, drawn, passed_to, delivered, both_parts, split, claim, deliver, join, weigh, opening, can_happen, happens, after, run}
 use Rattle.combine_core.specs.Kept.{Kept, IsSetting, sum_below, is_passed}
 use Rattle.combine_core.proofs.Sums.{sum_below-same, sum_below-zero, sum_below-change, each_set, each_push, get_or-past, weigh-both, unless, unless_zero}
-use Rattle.combine_core.proofs.Gathers.{gathered_more, with_message}
+use Rattle.combine_core.proofs.Gathers.{gathered_more, gathered_none, with_message}
 use Rattle.combine_core.proofs.Ahead.{IsNext, next_in_some}
 
 -- a live worker was made
@@ -237,3 +241,195 @@ delivered_cell k cells m t h =
             (get_or-set_same cells m.target _ 0 h ∙ sym (cond-true (m.target == m.target) _ _ (eq-eqb m.target m.target refl))))
     (λ (ne : m.target ≡ t → ⊥). get_or-set_other cells m.target t _ 0 (λ e. ne (sym e)) ∙ sym (cond-false (m.target == t) _ _ (ne_eqb m.target t ne)))
     (cases_eq m.target t)
+
+weigh_last : (g : ℕ → ℕ → ℕ) (last : Option Held) (others : List Held) (h : Held) → last ≡ Some h → sum_by (λ (x : Held). g x.claim x.passed) (option_to_list last ++ others) ≡ g h.claim h.passed + sum_by (λ (x : Held). g x.claim x.passed) others
+weigh_last g last others h e =
+    ap (λ (o : Option Held). sum_by (λ (x : Held). g x.claim x.passed) (option_to_list o ++ others)) e ∙ sum_by-cons (λ (x : Held). g x.claim x.passed) h others
+
+-- a slot of claim c that is passed before slot i, or stands behind it, is picked as before
+same_pick : (passed : ℕ → ℕ) (c p i n : ℕ) → passed c ≡ p → n / 512 ≡ c → 512 * c + p ≤ i → i < 512 * c + 512 → (n < 512 * c + p) ⊎ (i < n) → is_passed passed n ≡ is_passed (passed_with passed c i) n
+same_pick passed c p i n was of_c behind within place =
+    let old : passed (n / 512) ≡ p = ap passed of_c ∙ was in
+    let new : passed_with passed c i (n / 512) ≡ i + 1 - 512 * c = ap (passed_with passed c i) of_c ∙ passed_here passed c i in
+    ⊎_elim
+    (λ (b : n < 512 * c + p).
+        lt-ltb (n % 512) (passed (n / 512)) (omega arith) ∙ sym (lt-ltb (n % 512) (passed_with passed c i (n / 512)) (omega arith)))
+    (λ (b : i < n).
+        le-ltb (n % 512) (passed (n / 512)) (omega arith) ∙ sym (le-ltb (n % 512) (passed_with passed c i (n / 512)) (omega arith)))
+    place
+
+-- the picks before and after the message of slot i is delivered
+other_pick : (passed : ℕ → ℕ) (os : List (Option Message)) (c p i : ℕ) → passed c ≡ p → IsNext os c p i → (n : ℕ) (x : Message) → n ≢ i → slice_get os n ≡ Some (Some x) → is_passed passed n ≡ is_passed (passed_with passed c i) n
+other_pick passed os c p i was r n x apart there =
+    ⊎_elim
+    (λ (e : n / 512 ≡ c).
+        same_pick passed c p i n was e r.behind r.within
+            (⊎_elim
+                (λ (b : n < 512 * c + p). inl b)
+                (λ (b : 512 * c + p ≤ n). ⊎_elim (λ (a : n < i). absurd (r.none_before n x b a there)) (λ (a : i ≤ n). inr (⊎_elim (λ (z : n ≡ i). absurd (apart z)) (λ (z : n ≡ i → ⊥). omega arith) (cases_eq n i))) (cases_lt n i))
+                (cases_lt n (512 * c + p))))
+    (λ (ne : n / 512 ≡ c → ⊥). ap (nat_lt (n % 512)) (sym (passed_else passed c i (n / 512) ne)))
+    (cases_eq (n / 512) c)
+
+gathered_next : (k : Kind) (passed : ℕ → ℕ) (os : List (Option Message)) (c p i t a : ℕ) → passed c ≡ p → (r : IsNext os c p i) → gathered k (is_passed (passed_with passed c i)) t 0 a os ≡ with_message k t (gathered k (is_passed passed) t 0 a os) r.message
+gathered_next k passed os c p i t a was r =
+    let behind : 512 * c + p ≤ i = r.behind in
+    let within : i < 512 * c + 512 = r.within in
+    let of_c : i / 512 ≡ c = omega arith in
+    let old : passed (i / 512) ≡ p = ap passed of_c ∙ was in
+    let new : passed_with passed c i (i / 512) ≡ i + 1 - 512 * c = ap (passed_with passed c i) of_c ∙ passed_here passed c i in
+    gathered_more k (is_passed passed) (is_passed (passed_with passed c i)) t 0 a os i r.message r.there
+        (subst (λ (n : ℕ). is_passed passed n ≡ false) (sym (zero-add i)) (le-ltb (i % 512) (passed (i / 512)) (omega arith)))
+        (subst (λ (n : ℕ). is_passed (passed_with passed c i) n ≡ true) (sym (zero-add i)) (lt-ltb (i % 512) (passed_with passed c i (i / 512)) (omega arith)))
+        (λ n x apart there. subst (λ (q : ℕ). is_passed passed q ≡ is_passed (passed_with passed c i) q) (sym (zero-add n)) (other_pick passed os c p i was r n x apart there))
+
+-- the claim that a worker took last is one that it holds
+pub last_range : (s : State) (k : Kept s) (w : ℕ) (h : Held) → (worker_at s w).last ≡ Some h → (h.claim < min s.next (claims_of s.slots)) × (h.passed ≡ k.passed h.claim)
+last_range s k w h e =
+    let v : Worker = worker_at s w in
+    let first : get_or (held_by v) 0 h ≡ h = ap (λ (o : Option Held). get_or (option_to_list o ++ v.others) 0 h) e in
+    let some : length (held_by v) ≡ suc (length v.others) = ap (λ (o : Option Held). length (option_to_list o ++ v.others)) e in
+    let here : 0 < length (held_by v) = omega arith in (
+      subst (λ (x : Held). x.claim < min s.next (claims_of s.slots)) first (held_in_range s k w 0 h here),
+      subst (λ (x : Held). x.passed ≡ k.passed x.claim) first (held_passed s k w 0 h here),
+    )
+
+abbrev delivered_state : State → ℕ → ℕ → Option Message → State
+delivered_state s w i o = record { kind = s.kind; slots = s.slots; home = s.home; next = s.next; cells = delivered s.kind s.cells o; workers = set s.workers w (passed_to i (worker_at s w)) }
+
+-- the target of a message is the number of a cell
+pub target_within : (os : List (Option Message)) (home : List ℕ) → IsSetting os home → (i : ℕ) (m : Message) → slice_get os i ≡ Some (Some m) → m.target < length home
+target_within os home a i m there =
+    subst (λ (o : Option Message). IfSome o (λ (x : Message). x.target < length home)) (get_or_from_slice_get os i (Some m) None there) (a.targets i None (slice_get_within os i (Some m) there))
+
+deliver_message : (s : State) (w : ℕ) (h : Held) (i : ℕ) → (worker_at s w).live ≡ true → (worker_at s w).last ≡ Some h → (k : Kept s) → (r : IsNext s.slots h.claim h.passed i) → Kept (delivered_state s w i (Some r.message))
+deliver_message s w h i live is_last k r =
+    let v : Worker = worker_at s w in
+    let y : Worker = passed_to i v in
+    let c : ℕ = h.claim in
+    let p : ℕ = h.passed in
+    let new : ℕ = i + 1 - 512 * h.claim in
+    let m : Message = r.message in
+    let here : w < length s.workers = made s.workers w live in
+    let range = last_range s k w h is_last in
+    let in_range : h.claim < min s.next (claims_of s.slots) = range.0 in
+    let was : k.passed h.claim ≡ h.passed = sym range.1 in
+    let behind : 512 * h.claim + h.passed ≤ i = r.behind in
+    let before : i < 512 * h.claim + 512 = r.within in
+    let slot_in : i < length s.slots = slice_get_within s.slots i (Some m) r.there in
+    let target_in : m.target < length s.cells = (let a = target_within s.slots s.home k.setting i m r.there in let b = k.wide in omega arith) in
+    let passed : ℕ → ℕ = passed_with k.passed h.claim i in
+    let now_here : passed_with k.passed h.claim i h.claim ≡ i + 1 - 512 * h.claim = passed_here k.passed h.claim i in
+    record {
+      setting = k.setting;
+      passed = passed;
+      wide = length-set s.cells m.target _ ∙ k.wide;
+      holders = λ g.
+          let n : ℕ = min s.next (claims_of s.slots) in
+          let a = sum_by-set (weigh g) s.workers w y spent here in
+          let b = k.holders g in
+          let old : weigh g v ≡ g h.claim h.passed + sum_by (λ (x : Held). g x.claim x.passed) v.others = weigh_last g v.last v.others h is_last in
+          let now : weigh g y ≡ g h.claim (i + 1 - 512 * h.claim) + sum_by (λ (x : Held). g x.claim x.passed) v.others = weigh_last g y.last v.others (held h.claim (i + 1 - 512 * h.claim)) (ap (option_map (λ (x : Held). held x.claim (i + 1 - 512 * x.claim))) is_last) in
+          let change : sum_below (min s.next (claims_of s.slots)) (λ j. g j (passed_with k.passed h.claim i j)) + g h.claim (k.passed h.claim) ≡ sum_below (min s.next (claims_of s.slots)) (λ j. g j (k.passed j)) + g h.claim (passed_with k.passed h.claim i h.claim) = sum_below-change (min s.next (claims_of s.slots)) h.claim (λ j. g j (passed_with k.passed h.claim i j)) (λ j. g j (k.passed j)) in_range (λ j apart. ap (g j) (passed_else k.passed h.claim i j apart)) in
+          let e : g h.claim (k.passed h.claim) ≡ g h.claim h.passed = ap (g h.claim) was in
+          let f : g h.claim (passed_with k.passed h.claim i h.claim) ≡ g h.claim (i + 1 - 512 * h.claim) = ap (g h.claim) now_here in
+          omega arith;
+      unheld = λ j past. passed_else k.passed h.claim i j (λ e. omega arith) ∙ k.unheld j past;
+      within = λ j below.
+          ⊎_elim
+          (λ (e : j ≡ h.claim).
+              let q : passed_with k.passed h.claim i j ≡ i + 1 - 512 * h.claim = ap (passed_with k.passed h.claim i) e ∙ now_here in
+              (omega arith, omega arith))
+          (λ (ne : j ≡ h.claim → ⊥).
+              let q : passed_with k.passed h.claim i j ≡ k.passed j = passed_else k.passed h.claim i j ne in
+              let z = k.within j below in
+              let low : k.passed j ≤ 512 = z.0 in
+              let high : 512 * j + k.passed j ≤ length s.slots = z.1 in
+              (omega arith, omega arith))
+          (cases_eq j h.claim);
+      missed =
+          let a = sum_by-set (λ (x : Worker). x.misses) s.workers w y spent here in
+          let b = k.missed in
+          omega arith;
+      drawn =
+          let a = sum_by-set (λ (x : Worker). x.draws) s.workers w y spent here in
+          let b = k.drawn in
+          omega arith;
+      gone = each_set IsGone s.workers w y spent (lives y live) k.gone;
+      cells = λ t below.
+          delivered_cell s.kind s.cells m t target_in
+              ∙ ap (λ (x : ℕ). with_message s.kind t x m) (k.cells t below)
+              ∙ sym (gathered_next s.kind k.passed s.slots h.claim h.passed i t (encoded_home s.kind (slice_index s.home t)) was r);
+    }
+
+pub is_the_number : (i : ℕ) (o : Option ℕ) → is_number i o ≡ true → o ≡ Some i
+is_the_number i None e = absurd (false≢true e)
+is_the_number i (Some j) e = ap Some (eqb-true j i e)
+
+-- what a slot is that a worker may deliver
+pub record CanDeliver (s : State) (w i : ℕ) : Type 0 where
+  pub last : Held
+  pub is_last : (worker_at s w).last ≡ Some last
+  pub next : IsNext s.slots last.claim last.passed i
+
+pub can_deliver : (s : State) (w i : ℕ) → Kept s → ahead_of s.slots (worker_at s w) ≡ Some i → CanDeliver s w i
+can_deliver s w i k e =
+    option_and_then_some (next_in s.slots) (worker_at s w).last i e
+        (λ h is_last is_next.
+            let range = last_range s k w h is_last in
+            let small : h.passed ≤ 512 = (let q : h.passed ≡ k.passed h.claim = range.1 in let b : h.claim < min s.next (claims_of s.slots) = range.0 in let z : k.passed h.claim ≤ 512 = (k.within h.claim (omega arith)).0 in omega arith) in
+            record { last = h; is_last = is_last; next = next_in_some s.slots h.claim h.passed i small is_next })
+
+pub deliver_keeps : (s : State) (w i : ℕ) → (worker_at s w).live ≡ true → ahead_of s.slots (worker_at s w) ≡ Some i → Kept s → Kept (deliver s w i)
+deliver_keeps s w i live e k =
+    let can = can_deliver s w i k e in
+    subst (λ (o : Option Message). Kept (delivered_state s w i o)) (sym (get_or_from_slice_get s.slots i (Some can.next.message) None can.next.there))
+        (deliver_message s w can.last i live can.is_last k can.next)
+
+-- ---- every list of events
+
+get_or-map : (f : ℕ → ℕ) (xs : List ℕ) (t : ℕ) → t < length xs → get_or (map f xs) t 0 ≡ f (get_or xs t 0)
+get_or-map f [] t h = absurd (omega arith)
+get_or-map f (x ∷ xs) zero h = refl
+get_or-map f (x ∷ xs) (suc t) h = get_or-map f xs t (omega arith)
+
+pub opening_kept : (k : Kind) (os : List (Option Message)) (home : List ℕ) → IsSetting os home → Kept (opening k os home)
+opening_kept k os home a =
+    record {
+      setting = a;
+      passed = λ _. 0;
+      wide = length-map home (encoded_home k);
+      holders = λ g. sym (ap (λ n. sum_below n (λ c. g c 0)) (zero-min (claims_of os)));
+      unheld = λ c past. refl;
+      within = λ c below. (omega arith, omega arith);
+      missed = zero-add _ ∙ zero-min (claims_of os);
+      drawn = refl;
+      gone = first_gone;
+      cells = λ t below.
+          get_or-map (encoded_home k) home t below
+              ∙ sym (gathered_none k (is_passed (λ _. 0)) t 0 (encoded_home k (slice_index home t)) os (λ j. le-ltb (j % 512) 0 (omega arith)));
+    }
+  where
+    first_gone : (w : ℕ) → (get_or (idle true (2 ^ 63) ∷ []) w spent).live ≡ false → get_or (idle true (2 ^ 63) ∷ []) w spent ≡ spent
+    first_gone zero e = absurd (true≢false e)
+    first_gone (suc w) e = refl
+
+happens_keeps : (s : State) (e : Event) → can_happen s e ≡ true → Kept s → Kept (happens s e)
+happens_keeps s (Split w) can k = split_keeps s w can k
+happens_keeps s (Claim w) can k =
+    let c = and_parts (worker_at s w).live (nat_lt 0 (worker_at s w).draws) can in
+    claim_keeps s w c.0 (ltb-true 0 (worker_at s w).draws c.1) k
+happens_keeps s (Deliver w i) can k =
+    let c = and_parts (worker_at s w).live (is_number i (ahead_of s.slots (worker_at s w))) can in
+    deliver_keeps s w i c.0 (is_the_number i (ahead_of s.slots (worker_at s w)) c.1) k
+happens_keeps s (Join a b) can k =
+    let c = and_parts ((worker_at s a).live && (worker_at s b).live) (not (a == b)) can in
+    let d = and_parts (worker_at s a).live (worker_at s b).live c.0 in
+    join_keeps s a b d.0 d.1 (λ e. absurd (true≢false (sym (eq-eqb a b e) ∙ not-true (a == b) c.1))) k
+
+pub after_keeps : (s : State) (e : Event) → Kept s → Kept (after s e)
+after_keeps s e k = cond_both (can_happen s e) (happens s e) s Kept (λ can. happens_keeps s e can k) (λ _. k)
+
+pub run_keeps : (es : List Event) (s : State) → Kept s → Kept (run es s)
+run_keeps [] s k = k
+run_keeps (e ∷ es) s k = run_keeps es (after s e) (after_keeps s e k)
