@@ -3,3 +3,5 @@ pub mod Gathers
 pub mod Ahead
 pub mod Sums
 pub mod Steps
+pub mod Words
+pub mod Folds

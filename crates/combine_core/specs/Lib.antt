@@ -1,4 +1,5 @@
 pub mod Encodings
 pub mod Cells
 pub mod Machine
+pub mod Folded
 pub mod Kept
