@@ -1,5 +1,5 @@
 -- The next slot with a message in a claim.
-use Rattle.std.proofs.Common.{◌≡◌, ◌≢◌, ℕ, zero, suc, ◌+◌, ◌-◌, ◌*◌, ◌<◌, ◌≤◌, List, [], ◌∷◌, length, take, drop, slice_get, Option, Some, None, refl, sym, ap, ◌∙◌, subst, add-zero, add-suc, suc-add, arith}
+use Rattle.std.proofs.Common.{◌≡◌, ◌≢◌, ◌⊎◌, ℕ, zero, suc, ◌+◌, ◌-◌, ◌*◌, ◌<◌, ◌≤◌, true, false, is_some, List, [], ◌∷◌, length, get_or, take, drop, slice_get, Option, Some, None, refl, sym, ap, ◌∙◌, ⊎_elim, subst, add-zero, add-one, add-suc, suc-add, drop-cons, length-drop, take_all, arith}
 use Rattle.combine_core.specs.declared.message.Message.{Message}
 use Rattle.combine_core.specs.declared.worker.Held.{Held}
 use Rattle.combine_core.specs.Machine.{first_message, next_in}
@@ -85,3 +85,34 @@ next_in_some os c p i h e =
 
 pub next_in_none : (os : List (Option Message)) (c p : ℕ) → p ≤ 512 → next_in os record { claim = c; passed = p } ≡ None → (j : ℕ) (x : Message) → 512 * c + p ≤ j → j < 512 * c + 512 → slice_get os j ≡ Some (Some x) → ⊥
 next_in_none os c p h e j x low high is = first_message_none (512 * c + p) (take (512 - p) (drop (512 * c + p) os)) e (j - (512 * c + p)) x (from_offset os (512 * c + p) (512 - p) j x low (omega arith) is)
+
+-- the first message from slot i on is that of slot i, if it has one, or the first from the next slot on
+pub first_message-more : (os : List (Option Message)) (i to : ℕ) (d : Option Message) → i < to → to ≤ length os → first_message i (take (to - i) (drop i os)) ≡ first_message i (get_or os i d ∷ take (to - (i + 1)) (drop (i + 1) os))
+first_message-more os i to d below within =
+    ap (λ (n : ℕ). first_message i (take n (drop i os))) (let e : to - i ≡ suc (to - (i + 1)) = omega arith in e)
+        ∙ ap (λ (xs : List (Option Message)). first_message i (take (suc (to - (i + 1))) xs)) (drop-cons os i d (omega arith))
+        ∙ ap (λ (n : ℕ). first_message i (get_or os i d ∷ take (to - (i + 1)) (drop n os))) (sym (add-one i))
+
+pub first_message_here : (i : ℕ) (o : Option Message) (os : List (Option Message)) → is_some o ≡ true → first_message i (o ∷ os) ≡ Some i
+first_message_here i None os e = absurd (cc)
+first_message_here i (Some m) os e = refl
+
+pub first_message_not_here : (i : ℕ) (o : Option Message) (os : List (Option Message)) → is_some o ≡ false → first_message i (o ∷ os) ≡ first_message (i + 1) os
+first_message_not_here i None os e = ap (λ (n : ℕ). first_message n os) (sym (add-one i))
+first_message_not_here i (Some m) os e = absurd (cc)
+
+pub first_message-end : (os : List (Option Message)) (i to : ℕ) → to ≤ i → first_message i (take (to - i) (drop i os)) ≡ None
+first_message-end os i to h = ap (λ (n : ℕ). first_message i (take n (drop i os))) (let e : to - i ≡ 0 = omega arith in e)
+
+-- a claim ends with the slots
+pub next_in-end : (os : List (Option Message)) (c p to : ℕ) → p ≤ 512 → (to ≡ 512 * c + 512) ⊎ ((to ≡ length os) × (to < 512 * c + 512)) → 512 * c + p ≤ length os → first_message (512 * c + p) (take (to - (512 * c + p)) (drop (512 * c + p) os)) ≡ next_in os record { claim = c; passed = p }
+next_in-end os c p to small end within =
+    ⊎_elim
+    (λ (e : to ≡ 512 * c + 512). ap (λ (n : ℕ). first_message (512 * c + p) (take n (drop (512 * c + p) os))) (let q : to - (512 * c + p) ≡ 512 - p = omega arith in q))
+    (λ (e : (to ≡ length os) × (to < 512 * c + 512)).
+        let a : to ≡ length os = e.0 in
+        let b : to < 512 * c + 512 = e.1 in
+        let xs : List (Option Message) = drop (512 * c + p) os in
+        let len : length xs ≡ length os - (512 * c + p) = length-drop (512 * c + p) os in
+        ap (first_message (512 * c + p)) (take_all (to - (512 * c + p)) xs (omega arith) ∙ sym (take_all (512 - p) xs (omega arith))))
+    end

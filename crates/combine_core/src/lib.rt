@@ -14,4 +14,4 @@ pub use combiners::{Add, And, First, Last, MaxOf, MinOf, Or, Xor};
 pub use event::Event;
 pub use kind::Kind;
 pub use message::Message;
-pub use worker::{Held, Worker};
+pub use worker::{CLAIM_SLOTS, Held, Worker, claim_count};
