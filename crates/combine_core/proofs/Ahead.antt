@@ -103,16 +103,3 @@ first_message_not_here i (Some m) os e = absurd (cc)
 
 pub first_message-end : (os : List (Option Message)) (i to : ℕ) → to ≤ i → first_message i (take (to - i) (drop i os)) ≡ None
 first_message-end os i to h = ap (λ (n : ℕ). first_message i (take n (drop i os))) (let e : to - i ≡ 0 = omega arith in e)
-
--- a claim ends with the slots
-pub next_in-end : (os : List (Option Message)) (c p to : ℕ) → p ≤ 512 → (to ≡ 512 * c + 512) ⊎ ((to ≡ length os) × (to < 512 * c + 512)) → 512 * c + p ≤ length os → first_message (512 * c + p) (take (to - (512 * c + p)) (drop (512 * c + p) os)) ≡ next_in os record { claim = c; passed = p }
-next_in-end os c p to small end within =
-    ⊎_elim
-    (λ (e : to ≡ 512 * c + 512). ap (λ (n : ℕ). first_message (512 * c + p) (take n (drop (512 * c + p) os))) (let q : to - (512 * c + p) ≡ 512 - p = omega arith in q))
-    (λ (e : (to ≡ length os) × (to < 512 * c + 512)).
-        let a : to ≡ length os = e.0 in
-        let b : to < 512 * c + 512 = e.1 in
-        let xs : List (Option Message) = drop (512 * c + p) os in
-        let len : length xs ≡ length os - (512 * c + p) = length-drop (512 * c + p) os in
-        ap (first_message (512 * c + p)) (take_all (to - (512 * c + p)) xs (omega arith) ∙ sym (take_all (512 - p) xs (omega arith))))
-    end

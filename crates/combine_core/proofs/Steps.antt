@@ -1,5 +1,5 @@
 -- Each event keeps what holds of the machine.
-use Rattle.std.proofs.Common.{◌≡◌, ◌≢◌, ◌⊎◌, ℕ, zero, suc, ◌+◌, ◌-◌, ◌*◌, ◌/◌, ◌%◌, ◌^◌, ◌<◌, ◌≤◌, min, Bool, true, false, true≢false, not, ◌==◌, ◌&&◌, cond, if◌then◌else◌, nat_lt, List, [], ◌∷◌, ◌++◌, length, map, get_or, set, take, drop, slice_get, slice_index, slice_index_or, sum_by, option_to_list, option_map, Option, Some, None, IfSome, refl, sym, ap, ◌∙◌, inl, inr, ⊎_elim, subst, length-set, get_or-set_other, get_or-set_same, zero-add, arith}
+use Rattle.std.proofs.Common.{◌≡◌, ◌≢◌, ◌⊎◌, ℕ, zero, suc, ◌+◌, ◌-◌, ◌*◌, ◌/◌, ◌%◌, ◌^◌, ◌<◌, ◌≤◌, min, Bool, true, false, true≢false, not, ◌==◌, ◌&&◌, cond, if◌then◌else◌, nat_lt, List, [], ◌∷◌, ◌++◌, length, map, get_or, set, take, drop, slice_get, slice_index, slice_index_or, sum_by, option_to_list, option_map, Option, Some, None, IfSome, refl, sym, ap, ap₂, ◌∙◌, inl, inr, ⊎_elim, subst, length-set, get_or-set_other, get_or-set_same, zero-add, arith}
 use Rattle.std.proofs.lemmas.List.Sums.{sum_by-set, sum_by_push, sum_by-cons, sum_by-append, get_or-le-sum_by}
 use Rattle.std.proofs.lemmas.Bool.{cases_lt, cases_eq, cond-true, cond-false, ltb-true, lt-ltb, le-ltb, eqb-true, eq-eqb, ne_eqb, false≢true, cond_both, and_parts, not-true}
 use Rattle.std.proofs.lemmas.Option.{get_or_from_slice_get, slice_get_within, option_and_then_some}
@@ -294,6 +294,17 @@ last_range s k w h e =
       subst (λ (x : Held). x.passed ≡ k.passed x.claim) first (held_passed s k w 0 h here),
     )
 
+-- the passed slots of the last claim stand among its slots
+pub last_small : (s : State) → Kept s → (w : ℕ) (h : Held) → (worker_at s w).last ≡ Some h → (h.passed ≤ 512) × (512 * h.claim + h.passed ≤ length s.slots)
+last_small s k w h e =
+    let range = last_range s k w h e in
+    let b : h.claim < min s.next (claims_of s.slots) = range.0 in
+    let q : h.passed ≡ k.passed h.claim = range.1 in
+    let z = k.within h.claim (omega arith) in
+    let low : k.passed h.claim ≤ 512 = z.0 in
+    let high : 512 * h.claim + k.passed h.claim ≤ length s.slots = z.1 in
+    (omega arith, omega arith)
+
 abbrev delivered_state : State → ℕ → ℕ → Option Message → State
 delivered_state s w i o = record { kind = s.kind; slots = s.slots; home = s.home; next = s.next; cells = delivered s.kind s.cells o; workers = set s.workers w (passed_to i (worker_at s w)) }
 
@@ -376,9 +387,7 @@ pub can_deliver : (s : State) (w i : ℕ) → Kept s → ahead_of s.slots (worke
 can_deliver s w i k e =
     option_and_then_some (next_in s.slots) (worker_at s w).last i e
         (λ h is_last is_next.
-            let range = last_range s k w h is_last in
-            let small : h.passed ≤ 512 = (let q : h.passed ≡ k.passed h.claim = range.1 in let b : h.claim < min s.next (claims_of s.slots) = range.0 in let z : k.passed h.claim ≤ 512 = (k.within h.claim (omega arith)).0 in omega arith) in
-            record { last = h; is_last = is_last; next = next_in_some s.slots h.claim h.passed i small is_next })
+            record { last = h; is_last = is_last; next = next_in_some s.slots h.claim h.passed i (last_small s k w h is_last).0 is_next })
 
 pub deliver_keeps : (s : State) (w i : ℕ) → (worker_at s w).live ≡ true → ahead_of s.slots (worker_at s w) ≡ Some i → Kept s → Kept (deliver s w i)
 deliver_keeps s w i live e k =
@@ -433,3 +442,87 @@ after_keeps s e k = cond_both (can_happen s e) (happens s e) s Kept (λ can. hap
 pub run_keeps : (es : List Event) (s : State) → Kept s → Kept (run es s)
 run_keeps [] s k = k
 run_keeps (e ∷ es) s k = run_keeps es (after s e) (after_keeps s e k)
+
+-- ---- what the code writes in another order
+
+pub set_swap : (ws : List Worker) (a b : ℕ) (x y : Worker) → a ≢ b → set (set ws b y) a x ≡ set (set ws a x) b y
+set_swap [] a b x y apart = refl
+set_swap (v ∷ ws) zero zero x y apart = absurd (apart refl)
+set_swap (v ∷ ws) zero (suc b) x y apart = refl
+set_swap (v ∷ ws) (suc a) zero x y apart = refl
+set_swap (v ∷ ws) (suc a) (suc b) x y apart = ap (λ (us : List Worker). v ∷ us) (set_swap ws a b x y (λ e. apart (ap suc e)))
+
+pub set_back : (ws : List Worker) (b : ℕ) (y : Worker) → set (set ws b y) b (get_or ws b spent) ≡ ws
+set_back [] b y = refl
+set_back (v ∷ ws) zero y = refl
+set_back (v ∷ ws) (suc b) y = ap (λ (us : List Worker). v ∷ us) (set_back ws b y)
+
+-- a worker set to what it is
+set_same : (ws : List Worker) (a : ℕ) → set ws a (get_or ws a spent) ≡ ws
+set_same [] a = refl
+set_same (v ∷ ws) zero = refl
+set_same (v ∷ ws) (suc a) = ap (λ (us : List Worker). v ∷ us) (set_same ws a)
+
+-- one worker is changed and put back, and another set to what it is meanwhile
+pub set_both_back : (ws : List Worker) (a b : ℕ) (x y u : Worker) → x ≡ get_or (set ws b y) a spent → u ≡ get_or ws b spent → set (set (set ws b y) a x) b u ≡ ws
+set_both_back ws a b x y u is_x is_u =
+    ap (λ (us : List Worker). set us b u) (ap (set (set ws b y) a) is_x ∙ set_same (set ws b y) a) ∙ ap (set (set ws b y) b) is_u ∙ set_back ws b y
+
+-- what two workers have together fits
+pub two_fit : (s : State) → Kept s → (a b : ℕ) → (worker_at s a).live ≡ true → (worker_at s b).live ≡ true → a ≢ b → ((worker_at s a).misses + (worker_at s b).misses ≤ 2 ^ 63) × ((worker_at s a).draws + (worker_at s b).draws ≤ 2 ^ 63)
+two_fit s k a b live other_live apart =
+    let j = join_keeps s a b live other_live apart k in
+    let y : Worker = both_parts (worker_at s a) (worker_at s b) in
+    let in_a : a < length (set (set s.workers a y) b spent) = (let m : a < length s.workers = made s.workers a live in omega (arith, length-set (set s.workers a y) b spent, length-set s.workers a y)) in
+    let is : get_or (set (set s.workers a y) b spent) a spent ≡ y = get_or-set_other (set s.workers a y) b a spent spent apart ∙ get_or-set_same s.workers a y spent (made s.workers a live) in
+    let p = get_or-le-sum_by (λ (x : Worker). x.misses) (set (set s.workers a y) b spent) a spent in_a in
+    let q = get_or-le-sum_by (λ (x : Worker). x.draws) (set (set s.workers a y) b spent) a spent in_a in
+    let m : (get_or (set (set s.workers a y) b spent) a spent).misses ≡ y.misses = ap (λ (x : Worker). x.misses) is in
+    let d : (get_or (set (set s.workers a y) b spent) a spent).draws ≡ y.draws = ap (λ (x : Worker). x.draws) is in
+    let r = j.missed in
+    let t = j.drawn in
+    (omega arith, omega arith)
+
+-- an element read with itself for the default
+pub read_default : {X : Type 0} (xs : List X) (i : ℕ) (x d : X) → i < length xs → x ≡ get_or xs i x → get_or xs i d ≡ x
+read_default [] i x d h e = absurd (omega arith)
+read_default (y ∷ ys) zero x d h e = sym e
+read_default (y ∷ ys) (suc i) x d h e = read_default ys i x d (omega arith) e
+
+-- what is read where a worker delivers slot i
+pub record Reads (s : State) (i : ℕ) (o : Option Message) : Type 0 where
+  pub message : Message
+  pub is : o ≡ Some message
+  pub slot : i < length s.slots
+  pub target : message.target < length s.cells
+
+pub slot_read : (s : State) (w i : ℕ) → Kept s → ahead_of s.slots (worker_at s w) ≡ Some i → (o : Option Message) → o ≡ get_or s.slots i o → Reads s i o
+slot_read s w i k e o read =
+    let can = can_deliver s w i k e in
+    let m : Message = can.next.message in
+    let b = target_within s.slots s.home k.setting i m can.next.there in
+    let wide = k.wide in
+    record { message = m; is = read ∙ get_or_from_slice_get s.slots i (Some m) o can.next.there; slot = slice_get_within s.slots i (Some m) can.next.there; target = omega arith }
+
+pub slot_within : (s : State) (w i : ℕ) → Kept s → ahead_of s.slots (worker_at s w) ≡ Some i → i < length s.slots
+slot_within s w i k e = let can = can_deliver s w i k e in slice_get_within s.slots i (Some can.next.message) can.next.there
+
+pub target_of : (s : State) (w i : ℕ) → Kept s → ahead_of s.slots (worker_at s w) ≡ Some i → (o : Option Message) → o ≡ get_or s.slots i o → (m : Message) → o ≡ Some m → m.target < length s.cells
+target_of s w i k e o read m is =
+    let r = slot_read s w i k e o read in
+    let same : r.message ≡ m = (let p : o ≡ Some r.message = r.is in cc) in
+    subst (λ (x : Message). x.target < length s.cells) same r.target
+
+pub last_behind : (s : State) (w i : ℕ) → Kept s → ahead_of s.slots (worker_at s w) ≡ Some i → IfSome (worker_at s w).last (λ h. 512 * h.claim ≤ i)
+last_behind s w i k e =
+    let can = can_deliver s w i k e in
+    let b = can.next.behind in
+    subst (λ (o : Option Held). IfSome o (λ h. 512 * h.claim ≤ i)) (sym can.is_last) (omega arith)
+
+-- what the code writes is the event's effect
+pub deliver_is : (s : State) (w i : ℕ) (m : Message) (x word y : ℕ) (old new : Worker) → get_or s.slots i None ≡ Some m → word ≡ message_word s.kind m → y ≡ get_or s.cells m.target 0 → x ≡ joined s.kind y word → old ≡ worker_at s w → new ≡ passed_to i old
+    → record { kind = s.kind; slots = s.slots; home = s.home; next = s.next; cells = set s.cells m.target x; workers = set s.workers w new } ≡ deliver s w i
+deliver_is s w i m x word y old new slot is_word is_y is_x is_old is_new =
+    let cells : set s.cells m.target x ≡ delivered s.kind s.cells (get_or s.slots i None) = ap (set s.cells m.target) (is_x ∙ ap₂ (joined s.kind) is_y is_word) ∙ ap (delivered s.kind s.cells) (sym slot) in
+    let workers : set s.workers w new ≡ set s.workers w (passed_to i (worker_at s w)) = ap (set s.workers w) (is_new ∙ ap (passed_to i) is_old) in
+    λ j. record { kind = s.kind; slots = s.slots; home = s.home; next = s.next; cells = cells j; workers = workers j }

@@ -6,7 +6,7 @@ use cstar_base::Combiner;
 
 /// A combiner over cells of 64 bits. Each method is the function of its kind; `encodings_are_sound`
 /// says what the encodings are good for.
-pub trait Combine {
+pub trait Combine: Drop {
     ghost combines: { Self → Kind };
 
     /// The combiner that `fold_step` knows, and whether it reads its words as unsigned.

@@ -6,6 +6,7 @@ mod combine;
 mod combiners;
 mod event;
 mod kind;
+mod machine;
 mod message;
 mod worker;
 
