@@ -1,5 +1,5 @@
 -- Each event keeps what holds of the machine.
-use Rattle.std.proofs.Common.{◌≡◌, ◌≢◌, ◌⊎◌, ℕ, zero, suc, ◌+◌, ◌-◌, ◌*◌, ◌/◌, ◌%◌, ◌^◌, ◌<◌, ◌≤◌, min, Bool, true, false, true≢false, not, ◌==◌, ◌&&◌, cond, if◌then◌else◌, nat_lt, List, [], ◌∷◌, ◌++◌, length, map, get_or, set, take, drop, slice_get, slice_index, slice_index_or, sum_by, option_to_list, option_map, Option, Some, None, IfSome, refl, sym, ap, ap₂, ◌∙◌, inl, inr, ⊎_elim, subst, length-set, get_or-set_other, get_or-set_same, zero-add, arith}
+use Rattle.std.proofs.Common.{◌≡◌, ◌≢◌, ◌⊎◌, ℕ, zero, suc, ◌+◌, ◌-◌, ◌*◌, ◌/◌, ◌%◌, ◌^◌, ◌<◌, ◌≤◌, min, Bool, true, false, true≢false, not, ◌==◌, ◌&&◌, cond, if◌then◌else◌, nat_lt, List, [], ◌∷◌, ◌++◌, length, map, get_or, set, take, drop, slice_get, slice_index, slice_index_or, sum_by, option_to_list, option_map, Option, Some, None, IfSome, Result, Ok, Err, OnOk, OnErr, refl, sym, ap, ap₂, ◌∙◌, inl, inr, ⊎_elim, subst, length-set, get_or-set_other, get_or-set_same, zero-add, arith}
 use Rattle.std.proofs.lemmas.List.Sums.{sum_by-set, sum_by_push, sum_by-cons, sum_by-append, get_or-le-sum_by}
 use Rattle.std.proofs.lemmas.Bool.{cases_lt, cases_eq, cond-true, cond-false, ltb-true, lt-ltb, le-ltb, eqb-true, eq-eqb, ne_eqb, false≢true, cond_both, and_parts, not-true}
 use Rattle.std.proofs.lemmas.Option.{get_or_from_slice_get, slice_get_within, option_and_then_some}
@@ -526,3 +526,8 @@ deliver_is s w i m x word y old new slot is_word is_y is_x is_old is_new =
     let cells : set s.cells m.target x ≡ delivered s.kind s.cells (get_or s.slots i None) = ap (set s.cells m.target) (is_x ∙ ap₂ (joined s.kind) is_y is_word) ∙ ap (delivered s.kind s.cells) (sym slot) in
     let workers : set s.workers w new ≡ set s.workers w (passed_to i (worker_at s w)) = ap (set s.workers w) (is_new ∙ ap (passed_to i) is_old) in
     λ j. record { kind = s.kind; slots = s.slots; home = s.home; next = s.next; cells = cells j; workers = workers j }
+
+-- the state that an answer leaves
+pub answer_keeps : {E : Type 0} (r : Result Bool E) (old new : State) (e : Event) → Kept old → OnOk r (new ≡ after old e) → OnErr r (new ≡ old) → Kept new
+answer_keeps (Ok b) old new e k ok err = subst Kept (sym ok) (after_keeps old e k)
+answer_keeps (Err x) old new e k ok err = subst Kept (sym err) k

@@ -8,6 +8,7 @@ mod event;
 mod kind;
 mod machine;
 mod message;
+mod phase;
 mod worker;
 
 pub use combine::Combine;
@@ -15,4 +16,5 @@ pub use combiners::{Add, And, First, Last, MaxOf, MinOf, Or, Xor};
 pub use event::Event;
 pub use kind::Kind;
 pub use message::Message;
+pub use phase::Phase;
 pub use worker::{CLAIM_SLOTS, Held, Worker, claim_count};

@@ -1,6 +1,6 @@
 // The machine's data, and its four events as methods. Only what `Kept` says of a state keeps them safe,
 // so `Phase` holds a machine together with that.
-ghost use Rattle.std.specs.Prelude.{◌≡◌, ◌≢◌, ◌+◌, ◌^◌, ◌<◌, true, length, slice_index_or, slice_set, Some, IfOk, OnOk, OnErr};
+ghost use Rattle.std.specs.Prelude.{◌≡◌, ◌≢◌, ℕ, ◌+◌, ◌^◌, ◌<◌, true, length, slice_index, slice_index_or, slice_set, Some, IfOk, OnOk, OnErr};
 ghost use Rattle.combine_core.specs.Machine.{opening, spent, worker_at, both_parts, ahead_of, deliver, can_happen, after};
 ghost use Rattle.combine_core.specs.Kept.{Kept, IsSetting};
 ghost use Rattle.combine_core.specs.declared.event.Event.TheVariants as event;
@@ -39,7 +39,8 @@ impl<C: Combine> Machine<C> {
         home: Vec<u32>,
         slots: Vec<Option<Message>>,
     ) -> Result<Machine<C>, Memory>
-        ensures { IfOk result (λ m. m ≡ opening (C.combines combiner) slots.items home.items) }
+        ensures opening { IfOk result (λ m. m ≡ opening (C.combines combiner) slots.items home.items) }
+        ensures words { (t : ℕ) → slice_index home.items t < 2 ^ 32 }
     {
         let mut cells = Vec::with_capacity(alloc, home.len())?;
         for w in &home {
