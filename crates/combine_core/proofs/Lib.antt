@@ -5,3 +5,4 @@ pub mod Sums
 pub mod Steps
 pub mod Words
 pub mod Folds
+pub mod Points

@@ -3,3 +3,4 @@ pub mod Cells
 pub mod Machine
 pub mod Folded
 pub mod Kept
+pub mod Points

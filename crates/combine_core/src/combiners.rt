@@ -252,7 +252,7 @@ impl Combine for Last {
     }
 
     fn join(&self, a: u64, b: u64) -> u64 {
-        if a <= b { b } else { a }
+        if b < a { a } else { b }
     }
 
     fn decode(&self, home: u32, x: u64) -> u32 {
@@ -280,7 +280,7 @@ impl Combine for First {
     }
 
     fn join(&self, a: u64, b: u64) -> u64 {
-        if a <= b { b } else { a }
+        if a < b { b } else { a }
     }
 
     fn decode(&self, home: u32, x: u64) -> u32 {
