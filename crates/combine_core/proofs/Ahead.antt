@@ -1,7 +1,6 @@
 -- The next slot with a message in a claim.
-use Rattle.std.proofs.Common.{◌≡◌, ◌≢◌, ◌⊎◌, ℕ, zero, suc, ◌+◌, ◌-◌, ◌*◌, ◌<◌, ◌≤◌, true, false, is_some, List, [], ◌∷◌, length, get_or, take, drop, slice_get, Option, Some, None, refl, sym, ap, ◌∙◌, ⊎_elim, subst, add-zero, add-one, add-suc, suc-add, drop-cons, length-drop, take_all, arith}
+use Rattle.std.proofs.Common.{◌≡◌, ℕ, zero, suc, ◌+◌, ◌-◌, ◌*◌, ◌<◌, ◌≤◌, true, false, is_some, List, [], ◌∷◌, length, get_or, take, drop, slice_get, Option, Some, None, refl, sym, ap, ◌∙◌, add-one, suc-add, drop-cons, arith}
 use Rattle.combine_core.specs.declared.message.Message.{Message}
-use Rattle.combine_core.specs.declared.worker.Held.{Held}
 use Rattle.combine_core.specs.Machine.{first_message, next_in}
 
 pub slice_get-take : {X : Type 0} (xs : List X) (n l : ℕ) (y : X) → slice_get (take n xs) l ≡ Some y → (l < n) × (slice_get xs l ≡ Some y)
@@ -90,8 +89,8 @@ next_in_none os c p h e j x low high is = first_message_none (512 * c + p) (take
 pub first_message-more : (os : List (Option Message)) (i to : ℕ) (d : Option Message) → i < to → to ≤ length os → first_message i (take (to - i) (drop i os)) ≡ first_message i (get_or os i d ∷ take (to - (i + 1)) (drop (i + 1) os))
 first_message-more os i to d below within =
     ap (λ (n : ℕ). first_message i (take n (drop i os))) (let e : to - i ≡ suc (to - (i + 1)) = omega arith in e)
-        ∙ ap (λ (xs : List (Option Message)). first_message i (take (suc (to - (i + 1))) xs)) (drop-cons os i d (omega arith))
-        ∙ ap (λ (n : ℕ). first_message i (get_or os i d ∷ take (to - (i + 1)) (drop n os))) (sym (add-one i))
+    ∙ ap (λ (xs : List (Option Message)). first_message i (take (suc (to - (i + 1))) xs)) (drop-cons os i d (omega arith))
+    ∙ ap (λ (n : ℕ). first_message i (get_or os i d ∷ take (to - (i + 1)) (drop n os))) (sym (add-one i))
 
 pub first_message_here : (i : ℕ) (o : Option Message) (os : List (Option Message)) → is_some o ≡ true → first_message i (o ∷ os) ≡ Some i
 first_message_here i None os e = absurd (cc)

@@ -1,18 +1,16 @@
 -- A cell with all messages, decoded, is the fold of their values.
-use Rattle.std.proofs.Common.{◌≡◌, ◌⊎◌, ℕ, zero, suc, ◌+◌, ◌-◌, ◌*◌, ◌%◌, ◌^◌, ◌<◌, ◌≤◌, min, max, Bool, true, false, not, ◌==◌, ◌&&◌, cond, if◌then◌else◌, List, [], ◌∷◌, ◌++◌, reverse, fold, Option, Some, None, bit_and, bit_or, bit_xor, refl, sym, ap, ap₂, ◌∙◌, inl, inr, ⊎_elim, subst, mod-eq_of_lt, arith}
+use Rattle.std.proofs.Common.{◌≡◌, ◌⊎◌, ℕ, suc, ◌+◌, ◌-◌, ◌*◌, ◌%◌, ◌^◌, ◌<◌, ◌≤◌, min, max, Bool, true, false, ◌==◌, if◌then◌else◌, List, [], ◌∷◌, reverse, Option, Some, None, bit_and, bit_or, bit_xor, refl, sym, ap, ◌∙◌, inl, inr, ⊎_elim, subst, mod-eq_of_lt, arith}
 use Rattle.std.proofs.lemmas.Bool.{cond-true, cond-false, eq-eqb, ne_eqb, cond_both}
 use Rattle.std.proofs.lemmas.List.{reverse-append}
 use Rattle.std.proofs.lemmas.List.Sums.{fold_push}
 use Rattle.std.proofs.lemmas.Nat.{or_of_32, xor_of_32, and_le_l}
-use Rattle.std.proofs.Math.Nat.{mod-add-mod}
 use Rattle.cstar_base.specs.Folds.{fold_once}
 use Rattle.cstar_base.specs.declared.operators.Combiner.TheVariants as combiner
-use Rattle.cstar_base.specs.Operators.{lesser_of, greater_of}
 use Rattle.combine_core.specs.declared.kind.Kind.{Kind}
 use Rattle.combine_core.specs.declared.kind.Kind.TheVariants.{Add, And, Or, Xor, Min, Max, Last, First}
 use Rattle.combine_core.specs.declared.message.Message.{Message}
-use Rattle.combine_core.specs.Encodings.{moved, combiner_of, encoded, encoded_home, joined, decoded, is_descending}
-use Rattle.combine_core.specs.Cells.{message_word, taken, gathered, values_to, with_value, RisesFrom}
+use Rattle.combine_core.specs.Encodings.{moved, combiner_of, encoded_home, joined, decoded}
+use Rattle.combine_core.specs.Cells.{message_word, gathered, values_to, RisesFrom}
 use Rattle.combine_core.specs.Folded.{fold_values, folded}
 use Rattle.combine_core.proofs.Words.{sum_is, and_is, or_is, xor_is, last_is, min_is, max_is, lesser_unsigned, greater_unsigned, lesser_signed, greater_signed}
 
@@ -108,24 +106,28 @@ later home low high a x h r =
 
 overtaken : (home low a x : ℕ) (m : Message) → low ≤ m.sender → IsLatest home low a x → IsLatest home (m.sender + 1) m.value (joined Last x (message_word Last m))
 overtaken home low a x m h r =
-    inr (m.sender, omega arith, m.value_fits,
-        ⊎_elim
-        (λ (z : (x ≡ 0) × (a ≡ home)). let e : x ≡ 0 = z.0 in omega arith)
-        (λ (z : (s : ℕ) × (s < low) × (a < 2 ^ 32) × (x ≡ (s + 1) * 2 ^ 32 + a)).
-            let b : z.0 < low = z.1 in
-            let c : a < 2 ^ 32 = z.2 in
-            let e : x ≡ (z.0 + 1) * 2 ^ 32 + a = z.3 in
-            omega arith)
-        r)
+    inr (
+      m.sender,
+      omega arith,
+      m.value_fits,
+      ⊎_elim
+          (λ (z : (x ≡ 0) × (a ≡ home)). let e : x ≡ 0 = z.0 in omega arith)
+          (λ (z : (s : ℕ) × (s < low) × (a < 2 ^ 32) × (x ≡ (s + 1) * 2 ^ 32 + a)).
+          let b : z.0 < low = z.1 in
+          let c : a < 2 ^ 32 = z.2 in
+          let e : x ≡ (z.0 + 1) * 2 ^ 32 + a = z.3 in
+          omega arith)
+          r,
+    )
 
 latest_decoded : (home low a x : ℕ) → IsLatest home low a x → decoded Last home x ≡ a
 latest_decoded home low a x r =
     ⊎_elim
     (λ (z : (x ≡ 0) × (a ≡ home)). cond-true (x == 0) home (x % 2 ^ 32) (eq-eqb x 0 z.0) ∙ sym z.1)
     (λ (z : (s : ℕ) × (s < low) × (a < 2 ^ 32) × (x ≡ (s + 1) * 2 ^ 32 + a)).
-        let c : a < 2 ^ 32 = z.2 in
-        let e : x ≡ (z.0 + 1) * 2 ^ 32 + a = z.3 in
-        cond-false (x == 0) home (x % 2 ^ 32) (ne_eqb x 0 (λ q. omega arith)) ∙ omega arith)
+    let c : a < 2 ^ 32 = z.2 in
+    let e : x ≡ (z.0 + 1) * 2 ^ 32 + a = z.3 in
+    cond-false (x == 0) home (x % 2 ^ 32) (ne_eqb x 0 (λ q. omega arith)) ∙ omega arith)
     r
 
 last_choice : (b : Bool) (home t i low a x : ℕ) (m : Message) (os : List (Option Message)) → low ≤ m.sender
@@ -134,7 +136,7 @@ last_choice : (b : Bool) (home t i low a x : ℕ) (m : Message) (os : List (Opti
     → decoded Last home (gathered Last every t (suc i) (if b then joined Last x (message_word Last m) else x) os) ≡ fold_values Last a (if b then m.value ∷ values_to t os else values_to t os)
 last_choice true home t i low a x m os h more r =
     more m.value (joined Last x (message_word Last m)) (overtaken home low a x m h r)
-        ∙ ap (λ (q : ℕ). fold_values Last q (values_to t os)) (sym (last_is a m.value))
+    ∙ ap (λ (q : ℕ). fold_values Last q (values_to t os)) (sym (last_is a m.value))
 last_choice false home t i low a x m os h more r = more a x (later home low (m.sender + 1) a x (omega arith) r)
 
 last_fold : (home t i low a x : ℕ) (os : List (Option Message)) → RisesFrom low os → IsLatest home low a x → decoded Last home (gathered Last every t i x os) ≡ fold_values Last a (values_to t os)
@@ -156,7 +158,7 @@ first_kept t i low s a x (None ∷ os) rises h p e = first_kept t (suc i) low s 
 first_kept t i low s a x (Some m ∷ os) rises h p e =
     let b : low ≤ m.sender = rises.0 in
     ap (λ (q : ℕ). gathered First every t (suc i) q os) (first_choice (m.target == t) x s a m (omega arith) p e)
-        ∙ first_kept t (suc i) (m.sender + 1) s a x os rises.1 (omega arith) p e
+    ∙ first_kept t (suc i) (m.sender + 1) s a x os rises.1 (omega arith) p e
 
 first_alone : (home t i : ℕ) (m : Message) (os : List (Option Message)) → RisesFrom (m.sender + 1) os → decoded First home (gathered First every t i (joined First 0 (message_word First m)) os) ≡ m.value
 first_alone home t i m os rises =
@@ -165,16 +167,16 @@ first_alone home t i m os rises =
     let x : ℕ = (2 ^ 32 - 1 - m.sender) * 2 ^ 32 + m.value in
     let one : max 0 ((2 ^ 32 - 1 - m.sender) * 2 ^ 32 + m.value) ≡ (2 ^ 32 - 1 - m.sender) * 2 ^ 32 + m.value = omega arith in
     ap (decoded First home) (ap (λ (q : ℕ). gathered First every t i q os) one ∙ first_kept t i (m.sender + 1) m.sender m.value x os rises (omega arith) g refl)
-        ∙ cond-false (x == 0) home (x % 2 ^ 32) (ne_eqb x 0 (λ q. omega arith)) ∙ omega arith
+    ∙ cond-false (x == 0) home (x % 2 ^ 32) (ne_eqb x 0 (λ q. omega arith)) ∙ omega arith
 
 first_step : (b : Bool) (home t i : ℕ) (m : Message) (os : List (Option Message)) → RisesFrom (m.sender + 1) os
     → decoded First home (gathered First every t (suc i) 0 os) ≡ fold_values First home (reverse (values_to t os))
     → decoded First home (gathered First every t (suc i) (if b then joined First 0 (message_word First m) else 0) os) ≡ fold_values First home (reverse (if b then m.value ∷ values_to t os else values_to t os))
 first_step true home t i m os rises more =
     first_alone home t (suc i) m os rises
-        ∙ sym (ap (fold_values First home) (reverse-append (m.value ∷ []) (values_to t os))
-            ∙ fold_push (λ acc v. fold_once combiner.Last true acc v) home (reverse (values_to t os)) m.value
-            ∙ last_is (fold_values First home (reverse (values_to t os))) m.value)
+    ∙ sym (ap (fold_values First home) (reverse-append (m.value ∷ []) (values_to t os))
+    ∙ fold_push (λ acc v. fold_once combiner.Last true acc v) home (reverse (values_to t os)) m.value
+    ∙ last_is (fold_values First home (reverse (values_to t os))) m.value)
 first_step false home t i m os rises more = more
 
 first_fold : (home t i low : ℕ) (os : List (Option Message)) → RisesFrom low os → decoded First home (gathered First every t i 0 os) ≡ fold_values First home (reverse (values_to t os))

@@ -1,5 +1,5 @@
 -- A cell after some messages, and after one more.
-use Rattle.std.proofs.Common.{◌≡◌, ◌≢◌, ℕ, zero, suc, ◌+◌, ◌<◌, Bool, true, false, ◌==◌, ◌&&◌, if◌then◌else◌, List, [], ◌∷◌, length, slice_get, Option, Some, None, refl, sym, ap, ◌∙◌, subst, add-zero, add-suc, suc-add, arith}
+use Rattle.std.proofs.Common.{◌≡◌, ◌≢◌, ℕ, zero, suc, ◌+◌, Bool, true, false, ◌==◌, ◌&&◌, if◌then◌else◌, List, [], ◌∷◌, slice_get, Option, Some, None, refl, sym, ap, ◌∙◌, subst, add-zero, add-suc, suc-add, arith}
 use Rattle.combine_core.specs.declared.kind.Kind.{Kind}
 use Rattle.combine_core.specs.declared.message.Message.{Message}
 use Rattle.combine_core.specs.Encodings.{joined}
@@ -28,7 +28,7 @@ pub gathered_same : (k : Kind) (d e : ℕ → Bool) (t i a : ℕ) (os : List (Op
 gathered_same k d e t i a [] h = refl
 gathered_same k d e t i a (o ∷ os) h =
     ap (λ (x : ℕ). gathered k d t (suc i) x os) (taken_same k (d i) (e i) t a o (λ m is. subst (λ (n : ℕ). d n ≡ e n) (add-zero i) (h 0 m (ap Some is))))
-        ∙ gathered_same k d e t (suc i) (taken k (e i) t a o) os (λ j m is. subst (λ (n : ℕ). d n ≡ e n) (add-suc i j ∙ sym (suc-add i j)) (h (suc j) m is))
+    ∙ gathered_same k d e t (suc i) (taken k (e i) t a o) os (λ j m is. subst (λ (n : ℕ). d n ≡ e n) (add-suc i j ∙ sym (suc-add i j)) (h (suc j) m is))
 
 -- no message is picked
 pub gathered_none : (k : Kind) (d : ℕ → Bool) (t i a : ℕ) (os : List (Option Message)) → ((j : ℕ) → d j ≡ false) → gathered k d t i a os ≡ a
@@ -57,13 +57,13 @@ gathered_more k d e t i a (Some x ∷ os) zero m is off on same =
     let on' : e i ≡ true = subst (λ (n : ℕ). e n ≡ true) (add-zero i) on in
     let off' : d i ≡ false = subst (λ (n : ℕ). d n ≡ false) (add-zero i) off in
     sym (gathered_same k d e t (suc i) (taken k (e i) t a (Some x)) os (λ n y there. subst (λ (q : ℕ). d q ≡ e q) (add-suc i n ∙ sym (suc-add i n)) (same (suc n) y (λ z. omega arith) there)))
-        ∙ ap (λ (b : Bool). gathered k d t (suc i) (taken k b t a (Some x)) os) on'
-        ∙ ap (λ (y : Message). gathered k d t (suc i) (taken k true t a (Some y)) os) here
-        ∙ one_first k d t (suc i) a m os (m.target == t)
-        ∙ ap (λ (b : Bool). with_message k t (gathered k d t (suc i) (taken k b t a (Some x)) os) m) (sym off')
+    ∙ ap (λ (b : Bool). gathered k d t (suc i) (taken k b t a (Some x)) os) on'
+    ∙ ap (λ (y : Message). gathered k d t (suc i) (taken k true t a (Some y)) os) here
+    ∙ one_first k d t (suc i) a m os (m.target == t)
+    ∙ ap (λ (b : Bool). with_message k t (gathered k d t (suc i) (taken k b t a (Some x)) os) m) (sym off')
 gathered_more k d e t i a (o ∷ os) (suc j) m is off on same =
     ap (λ (x : ℕ). gathered k e t (suc i) x os) (taken_same k (e i) (d i) t a o (λ y at. sym (subst (λ (q : ℕ). d q ≡ e q) (add-zero i) (same 0 y (λ z. omega arith) (ap Some at)))))
-        ∙ gathered_more k d e t (suc i) (taken k (d i) t a o) os j m is
-            (subst (λ (n : ℕ). d n ≡ false) (add-suc i j ∙ sym (suc-add i j)) off)
-            (subst (λ (n : ℕ). e n ≡ true) (add-suc i j ∙ sym (suc-add i j)) on)
-            (λ n x apart at. subst (λ (q : ℕ). d q ≡ e q) (add-suc i n ∙ sym (suc-add i n)) (same (suc n) x (λ z. apart (omega arith)) at))
+    ∙ gathered_more k d e t (suc i) (taken k (d i) t a o) os j m is
+    (subst (λ (n : ℕ). d n ≡ false) (add-suc i j ∙ sym (suc-add i j)) off)
+    (subst (λ (n : ℕ). e n ≡ true) (add-suc i j ∙ sym (suc-add i j)) on)
+    (λ n x apart at. subst (λ (q : ℕ). d q ≡ e q) (add-suc i n ∙ sym (suc-add i n)) (same (suc n) x (λ z. apart (omega arith)) at))

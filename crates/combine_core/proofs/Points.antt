@@ -1,16 +1,15 @@
 -- Each point, of a state of which the invariant holds.
-use Rattle.std.proofs.Common.{◌≡◌, ◌≢◌, ◌⊎◌, ℕ, zero, suc, ◌+◌, ◌*◌, ◌/◌, ◌%◌, ◌^◌, ◌<◌, ◌≤◌, min, Bool, true, false, ◌==◌, ◌&&◌, cond, if◌then◌else◌, nat_lt, List, [], ◌∷◌, ◌++◌, length, get_or, set, slice_get, slice_index, sum_by, count_by, Any, All, Contains, option_to_list, Option, Some, None, IfSome, refl, sym, ap, ◌∙◌, inl, inr, ⊎_elim, subst, zero-add, arith}
+use Rattle.std.proofs.Common.{◌≡◌, ◌≢◌, ℕ, ◌+◌, ◌*◌, ◌/◌, ◌%◌, ◌<◌, ◌≤◌, min, Bool, true, false, ◌==◌, ◌&&◌, cond, if◌then◌else◌, nat_lt, List, [], ◌∷◌, ◌++◌, length, get_or, set, slice_get, slice_index, sum_by, Any, Contains, option_to_list, Option, Some, None, IfSome, refl, sym, ap, ◌∙◌, ⊎_elim, subst, zero-add, arith}
 use Rattle.std.proofs.lemmas.List.Sums.{sum_by-set, sum_by-cons}
-use Rattle.std.proofs.lemmas.Bool.{cases_lt, cases_eq, cases_Bool, cond-true, cond-false, lt-ltb, le-ltb, eq-eqb, ne_eqb, eqb-true}
+use Rattle.std.proofs.lemmas.Bool.{cases_lt, cases_eq, cases_Bool, cond-true, cond-false, lt-ltb, le-ltb, eq-eqb, ne_eqb}
 use Rattle.std.proofs.lemmas.Option.{slice_get_within}
 use Rattle.combine_core.specs.declared.message.Message.{Message}
 use Rattle.combine_core.specs.declared.worker.Held.{Held}
 use Rattle.combine_core.specs.declared.worker.Worker.{Worker}
 use Rattle.combine_core.specs.Encodings.{encoded_home, decoded}
 use Rattle.combine_core.specs.Cells.{gathered}
-use Rattle.combine_core.specs.Folded.{folded}
-use Rattle.combine_core.specs.Machine.{State, claims_of, held_by, spent, worker_at, next_in, weigh, covers, is_delivered, IsComplete}
-use Rattle.combine_core.specs.Kept.{Kept, sum_below, is_passed}
+use Rattle.combine_core.specs.Machine.{State, claims_of, held_by, spent, worker_at, weigh, covers, is_delivered, IsComplete}
+use Rattle.combine_core.specs.Kept.{Kept, is_passed}
 use Rattle.combine_core.specs.Points.{CellsAreJoined, HeldOnce, HeldInRange, LastIsHeld, PassedInClaim, NoneLeftOut, NumbersCount, MissesArePast, DrawsCount, WholeHoldsAll, CompleteIsFolded}
 use Rattle.combine_core.proofs.Sums.{sum_below-zero, sum_below-one, sum_below-ones, sum_by-mono, sum_by-same, some_part, get_or-past}
 use Rattle.combine_core.proofs.Gathers.{gathered_same}
@@ -36,19 +35,19 @@ delivered_is s k i within =
     let f : ℕ → ℕ = λ c. covers i c (k.passed c) in
     ⊎_elim
     (λ (b : i / 512 < n).
-        ap (nat_lt 0) (k.holders (covers i) ∙ sum_below-one n (i / 512) f b (λ j apart. covers_else i j (k.passed j) apart) ∙ covers_here i (k.passed (i / 512)))
-            ∙ positive (nat_lt (i % 512) (k.passed (i / 512))))
+    ap (nat_lt 0) (k.holders (covers i) ∙ sum_below-one n (i / 512) f b (λ j apart. covers_else i j (k.passed j) apart) ∙ covers_here i (k.passed (i / 512)))
+    ∙ positive (nat_lt (i % 512) (k.passed (i / 512))))
     (λ (b : n ≤ i / 512).
-        let past : k.passed (i / 512) ≡ 0 = k.unheld (i / 512) (omega arith) in
-        ap (nat_lt 0) (k.holders (covers i) ∙ sum_below-zero n f (λ c below. covers_else i c (k.passed c) (λ e. omega arith)))
-            ∙ sym (le-ltb (i % 512) (k.passed (i / 512)) (omega arith)))
+    let past : k.passed (i / 512) ≡ 0 = k.unheld (i / 512) (omega arith) in
+    ap (nat_lt 0) (k.holders (covers i) ∙ sum_below-zero n f (λ c below. covers_else i c (k.passed c) (λ e. omega arith)))
+    ∙ sym (le-ltb (i % 512) (k.passed (i / 512)) (omega arith)))
     (cases_lt (i / 512) n)
 
 pub cells_are_joined : (s : State) → Kept s → CellsAreJoined s
 cells_are_joined s k t below =
     k.cells t below
-        ∙ gathered_same s.kind (is_passed k.passed) (is_delivered s) t 0 (encoded_home s.kind (slice_index s.home t)) s.slots
-            (λ j m there. subst (λ (n : ℕ). is_passed k.passed n ≡ is_delivered s n) (sym (zero-add j)) (sym (delivered_is s k j (slice_get_within s.slots j (Some m) there))))
+    ∙ gathered_same s.kind (is_passed k.passed) (is_delivered s) t 0 (encoded_home s.kind (slice_index s.home t)) s.slots
+    (λ j m there. subst (λ (n : ℕ). is_passed k.passed n ≡ is_delivered s n) (sym (zero-add j)) (sym (delivered_is s k j (slice_get_within s.slots j (Some m) there))))
 
 -- ---- claims
 
@@ -78,8 +77,8 @@ held_once s k c =
     ⊎_elim
     (λ (h : c < min s.next (claims_of s.slots)). let e = drawn_once s k c h in omega arith)
     (λ (h : min s.next (claims_of s.slots) ≤ c).
-        let e : sum_by (weigh (one_at c)) s.workers ≡ 0 = k.holders (one_at c) ∙ sum_below-zero (min s.next (claims_of s.slots)) (λ j. one_at c j (k.passed j)) (λ j below. one_at_else c j (k.passed j) (λ q. omega arith)) in
-        omega arith)
+    let e : sum_by (weigh (one_at c)) s.workers ≡ 0 = k.holders (one_at c) ∙ sum_below-zero (min s.next (claims_of s.slots)) (λ j. one_at c j (k.passed j)) (λ j below. one_at_else c j (k.passed j) (λ q. omega arith)) in
+    omega arith)
     (cases_lt c (min s.next (claims_of s.slots)))
 
 pub held_range : (s : State) → Kept s → HeldInRange s
@@ -128,7 +127,7 @@ sum_ones (x ∷ xs) = let r = sum_ones xs in omega (arith, sum_by-cons (λ x. 1)
 pub claims_held : (s : State) (k : Kept s) → sum_by (λ v. length (held_by v)) s.workers ≡ min s.next (claims_of s.slots)
 claims_held s k =
     sum_by-same (λ v. length (held_by v)) (weigh (λ c p. 1)) s.workers (λ v. sym (sum_ones (held_by v)))
-        ∙ k.holders (λ c p. 1) ∙ sum_below-ones (min s.next (claims_of s.slots))
+    ∙ k.holders (λ c p. 1) ∙ sum_below-ones (min s.next (claims_of s.slots))
 
 pub numbers_count : (s : State) → Kept s → NumbersCount s
 numbers_count s k = let a = claims_held s k in let b = k.missed in omega arith
@@ -175,18 +174,18 @@ message_passed s k w complete i m there =
     let small : h.passed ≤ 512 = subst (λ (x : Held). x.passed ≤ 512) is (passed_in_claim s k w r.0 h r.2).0 in
     let at : k.passed (i / 512) ≡ h.passed = ap k.passed (sym of) ∙ sym passed in
     lt-ltb (i % 512) (k.passed (i / 512))
-        (⊎_elim
-            (λ (b : i < 512 * h.claim + h.passed). omega arith)
-            (λ (b : 512 * h.claim + h.passed ≤ i). absurd (next_in_none s.slots h.claim h.passed small r.4.1 i m b (omega arith) there))
-            (cases_lt i (512 * h.claim + h.passed)))
+    (⊎_elim
+    (λ (b : i < 512 * h.claim + h.passed). omega arith)
+    (λ (b : 512 * h.claim + h.passed ≤ i). absurd (next_in_none s.slots h.claim h.passed small r.4.1 i m b (omega arith) there))
+    (cases_lt i (512 * h.claim + h.passed)))
 
 pub complete_cell : (s : State) (k : Kept s) (w : ℕ) → IsComplete s.slots (held_by (worker_at s w)) → (t : ℕ) → t < length s.home → slice_index s.cells t ≡ gathered s.kind (λ _. true) t 0 (encoded_home s.kind (slice_index s.home t)) s.slots
 complete_cell s k w complete t below =
     k.cells t below
-        ∙ gathered_same s.kind (is_passed k.passed) (λ _. true) t 0 (encoded_home s.kind (slice_index s.home t)) s.slots
-            (λ j m there. subst (λ (n : ℕ). is_passed k.passed n ≡ true) (sym (zero-add j)) (message_passed s k w complete j m there))
+    ∙ gathered_same s.kind (is_passed k.passed) (λ _. true) t 0 (encoded_home s.kind (slice_index s.home t)) s.slots
+    (λ j m there. subst (λ (n : ℕ). is_passed k.passed n ≡ true) (sym (zero-add j)) (message_passed s k w complete j m there))
 
 pub complete_is_folded : (s : State) → Kept s → CompleteIsFolded s
 complete_is_folded s k w complete t below =
     ap (decoded s.kind (slice_index s.home t)) (complete_cell s k w complete t below)
-        ∙ decoded_folded s.kind t (slice_index s.home t) s.slots (k.setting.words t) k.setting.rises
+    ∙ decoded_folded s.kind t (slice_index s.home t) s.slots (k.setting.words t) k.setting.rises

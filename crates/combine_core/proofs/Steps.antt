@@ -1,6 +1,6 @@
 -- Each event keeps what holds of the machine.
-use Rattle.std.proofs.Common.{◌≡◌, ◌≢◌, ◌⊎◌, ℕ, zero, suc, ◌+◌, ◌-◌, ◌*◌, ◌/◌, ◌%◌, ◌^◌, ◌<◌, ◌≤◌, min, Bool, true, false, true≢false, not, ◌==◌, ◌&&◌, cond, if◌then◌else◌, nat_lt, List, [], ◌∷◌, ◌++◌, length, map, get_or, set, take, drop, slice_get, slice_index, slice_index_or, sum_by, option_to_list, option_map, Option, Some, None, IfSome, Result, Ok, Err, OnOk, OnErr, refl, sym, ap, ap₂, ◌∙◌, inl, inr, ⊎_elim, subst, length-set, get_or-set_other, get_or-set_same, zero-add, arith}
-use Rattle.std.proofs.lemmas.List.Sums.{sum_by-set, sum_by_push, sum_by-cons, sum_by-append, get_or-le-sum_by}
+use Rattle.std.proofs.Common.{◌≡◌, ◌≢◌, ◌⊎◌, ℕ, zero, suc, ◌+◌, ◌-◌, ◌*◌, ◌/◌, ◌%◌, ◌^◌, ◌<◌, ◌≤◌, min, Bool, true, false, true≢false, not, ◌==◌, ◌&&◌, if◌then◌else◌, nat_lt, List, [], ◌∷◌, ◌++◌, length, map, get_or, set, slice_get, slice_index, sum_by, option_to_list, option_map, Option, Some, None, IfSome, Result, Ok, Err, OnOk, OnErr, refl, sym, ap, ap₂, ◌∙◌, inl, inr, ⊎_elim, subst, length-set, get_or-set_other, get_or-set_same, zero-add, arith}
+use Rattle.std.proofs.lemmas.List.Sums.{sum_by-set, sum_by_push, sum_by-cons, get_or-le-sum_by}
 use Rattle.std.proofs.lemmas.Bool.{cases_lt, cases_eq, cond-true, cond-false, ltb-true, lt-ltb, le-ltb, eqb-true, eq-eqb, ne_eqb, false≢true, cond_both, and_parts, not-true}
 use Rattle.std.proofs.lemmas.Option.{get_or_from_slice_get, slice_get_within, option_and_then_some}
 use Rattle.std.proofs.lemmas.List.{length-map}
@@ -15,7 +15,7 @@ use Rattle.combine_core.specs.Encodings.{encoded_home, joined}
 use Rattle.combine_core.specs.Cells.{gathered, message_word}
 use Rattle.combine_core.specs.Machine.{State, claims_of, held, held_by, idle, spent, worker_at, next_in, ahead_of, is_number, kept_part, given_part, drawn, passed_to, delivered, both_parts, split, claim, deliver, join, weigh, opening, can_happen, happens, after, run}
 use Rattle.combine_core.specs.Kept.{Kept, IsSetting, sum_below, is_passed}
-use Rattle.combine_core.proofs.Sums.{sum_below-same, sum_below-zero, sum_below-change, each_set, each_push, get_or-past, weigh-both, unless, unless_zero}
+use Rattle.combine_core.proofs.Sums.{sum_below-zero, sum_below-change, each_set, each_push, get_or-past, weigh-both, unless, unless_zero}
 use Rattle.combine_core.proofs.Gathers.{gathered_more, gathered_none, with_message}
 use Rattle.combine_core.proofs.Ahead.{IsNext, next_in_some}
 
@@ -37,14 +37,14 @@ pub weightless : (s : State) (k : Kept s) (g : ℕ → ℕ → ℕ) → ((c : �
 weightless s k g zeros w j d h =
     ⊎_elim
     (λ (b : w < length s.workers).
-        let total = k.holders g in
-        let none = sum_below-zero (min s.next (claims_of s.slots)) (λ c. g c (k.passed c)) zeros in
-        let part = get_or-le-sum_by (weigh g) s.workers w spent b in
-        let one = get_or-le-sum_by (λ (x : Held). g x.claim x.passed) (held_by (worker_at s w)) j d h in
-        omega arith)
+    let total = k.holders g in
+    let none = sum_below-zero (min s.next (claims_of s.slots)) (λ c. g c (k.passed c)) zeros in
+    let part = get_or-le-sum_by (weigh g) s.workers w spent b in
+    let one = get_or-le-sum_by (λ (x : Held). g x.claim x.passed) (held_by (worker_at s w)) j d h in
+    omega arith)
     (λ (b : length s.workers ≤ w).
-        let past : worker_at s w ≡ spent = get_or-past s.workers w spent b in
-        absurd (let len : length (held_by (worker_at s w)) ≡ 0 = ap (λ (v : Worker). length (held_by v)) past in omega arith))
+    let past : worker_at s w ≡ spent = get_or-past s.workers w spent b in
+    absurd (let len : length (held_by (worker_at s w)) ≡ 0 = ap (λ (v : Worker). length (held_by v)) past in omega arith))
     (cases_lt w (length s.workers))
 
 -- a held claim is below the next number and below the count of claims, and its passed slots are the ones that count
@@ -52,12 +52,12 @@ pub held_in_range : (s : State) (k : Kept s) (w j : ℕ) (d : Held) → j < leng
 held_in_range s k w j d h =
     let n : ℕ = min s.next (claims_of s.slots) in
     ltb-true (get_or (held_by (worker_at s w)) j d).claim n
-        (unless_zero _ (weightless s k (λ c p. unless (nat_lt c n)) (λ c b. ap unless (lt-ltb c n b)) w j d h))
+    (unless_zero _ (weightless s k (λ c p. unless (nat_lt c n)) (λ c b. ap unless (lt-ltb c n b)) w j d h))
 
 pub held_passed : (s : State) (k : Kept s) (w j : ℕ) (d : Held) → j < length (held_by (worker_at s w)) → (get_or (held_by (worker_at s w)) j d).passed ≡ k.passed (get_or (held_by (worker_at s w)) j d).claim
 held_passed s k w j d h =
     eqb-true (get_or (held_by (worker_at s w)) j d).passed (k.passed (get_or (held_by (worker_at s w)) j d).claim)
-        (unless_zero _ (weightless s k (λ c p. unless (p == k.passed c)) (λ c b. ap unless (eq-eqb (k.passed c) (k.passed c) refl)) w j d h))
+    (unless_zero _ (weightless s k (λ c p. unless (p == k.passed c)) (λ c b. ap unless (eq-eqb (k.passed c) (k.passed c) refl)) w j d h))
 
 -- ---- split
 
@@ -172,11 +172,11 @@ pub claim_keeps : (s : State) (w : ℕ) → (worker_at s w).live ≡ true → 0 
 claim_keeps s w live some_left k =
     ⊎_elim
     (λ (b : s.next < claims_of s.slots).
-        let e : with_claim s.next (worker_at s w) ≡ drawn (claims_of s.slots) s.next (worker_at s w) = sym (cond-true (nat_lt s.next (claims_of s.slots)) _ _ (lt-ltb s.next (claims_of s.slots) b)) in
-        subst (λ (y : Worker). Kept (drawn_state s w y)) e (claim_taken s w live some_left b k))
+    let e : with_claim s.next (worker_at s w) ≡ drawn (claims_of s.slots) s.next (worker_at s w) = sym (cond-true (nat_lt s.next (claims_of s.slots)) _ _ (lt-ltb s.next (claims_of s.slots) b)) in
+    subst (λ (y : Worker). Kept (drawn_state s w y)) e (claim_taken s w live some_left b k))
     (λ (b : claims_of s.slots ≤ s.next).
-        let e : with_miss s.next (worker_at s w) ≡ drawn (claims_of s.slots) s.next (worker_at s w) = sym (cond-false (nat_lt s.next (claims_of s.slots)) _ _ (le-ltb s.next (claims_of s.slots) b)) in
-        subst (λ (y : Worker). Kept (drawn_state s w y)) e (claim_missed s w live some_left b k))
+    let e : with_miss s.next (worker_at s w) ≡ drawn (claims_of s.slots) s.next (worker_at s w) = sym (cond-false (nat_lt s.next (claims_of s.slots)) _ _ (le-ltb s.next (claims_of s.slots) b)) in
+    subst (λ (y : Worker). Kept (drawn_state s w y)) e (claim_missed s w live some_left b k))
     (cases_lt s.next (claims_of s.slots))
 
 -- ---- join
@@ -237,8 +237,8 @@ delivered_cell : (k : Kind) (cells : List ℕ) (m : Message) (t : ℕ) → m.tar
 delivered_cell k cells m t h =
     ⊎_elim
     (λ (e : m.target ≡ t).
-        subst (λ (q : ℕ). slice_index (set cells m.target (joined k (slice_index cells m.target) (message_word k m))) q ≡ with_message k q (slice_index cells q) m) e
-            (get_or-set_same cells m.target _ 0 h ∙ sym (cond-true (m.target == m.target) _ _ (eq-eqb m.target m.target refl))))
+    subst (λ (q : ℕ). slice_index (set cells m.target (joined k (slice_index cells m.target) (message_word k m))) q ≡ with_message k q (slice_index cells q) m) e
+    (get_or-set_same cells m.target _ 0 h ∙ sym (cond-true (m.target == m.target) _ _ (eq-eqb m.target m.target refl))))
     (λ (ne : m.target ≡ t → ⊥). get_or-set_other cells m.target t _ 0 (λ e. ne (sym e)) ∙ sym (cond-false (m.target == t) _ _ (ne_eqb m.target t ne)))
     (cases_eq m.target t)
 
@@ -253,9 +253,9 @@ same_pick passed c p i n was of_c behind within place =
     let new : passed_with passed c i (n / 512) ≡ i + 1 - 512 * c = ap (passed_with passed c i) of_c ∙ passed_here passed c i in
     ⊎_elim
     (λ (b : n < 512 * c + p).
-        lt-ltb (n % 512) (passed (n / 512)) (omega arith) ∙ sym (lt-ltb (n % 512) (passed_with passed c i (n / 512)) (omega arith)))
+    lt-ltb (n % 512) (passed (n / 512)) (omega arith) ∙ sym (lt-ltb (n % 512) (passed_with passed c i (n / 512)) (omega arith)))
     (λ (b : i < n).
-        le-ltb (n % 512) (passed (n / 512)) (omega arith) ∙ sym (le-ltb (n % 512) (passed_with passed c i (n / 512)) (omega arith)))
+    le-ltb (n % 512) (passed (n / 512)) (omega arith) ∙ sym (le-ltb (n % 512) (passed_with passed c i (n / 512)) (omega arith)))
     place
 
 -- the picks before and after the message of slot i is delivered
@@ -263,11 +263,11 @@ other_pick : (passed : ℕ → ℕ) (os : List (Option Message)) (c p i : ℕ) �
 other_pick passed os c p i was r n x apart there =
     ⊎_elim
     (λ (e : n / 512 ≡ c).
-        same_pick passed c p i n was e r.behind r.within
-            (⊎_elim
-                (λ (b : n < 512 * c + p). inl b)
-                (λ (b : 512 * c + p ≤ n). ⊎_elim (λ (a : n < i). absurd (r.none_before n x b a there)) (λ (a : i ≤ n). inr (⊎_elim (λ (z : n ≡ i). absurd (apart z)) (λ (z : n ≡ i → ⊥). omega arith) (cases_eq n i))) (cases_lt n i))
-                (cases_lt n (512 * c + p))))
+    same_pick passed c p i n was e r.behind r.within
+    (⊎_elim
+    (λ (b : n < 512 * c + p). inl b)
+    (λ (b : 512 * c + p ≤ n). ⊎_elim (λ (a : n < i). absurd (r.none_before n x b a there)) (λ (a : i ≤ n). inr (⊎_elim (λ (z : n ≡ i). absurd (apart z)) (λ (z : n ≡ i → ⊥). omega arith) (cases_eq n i))) (cases_lt n i))
+    (cases_lt n (512 * c + p))))
     (λ (ne : n / 512 ≡ c → ⊥). ap (nat_lt (n % 512)) (sym (passed_else passed c i (n / 512) ne)))
     (cases_eq (n / 512) c)
 
@@ -279,9 +279,9 @@ gathered_next k passed os c p i t a was r =
     let old : passed (i / 512) ≡ p = ap passed of_c ∙ was in
     let new : passed_with passed c i (i / 512) ≡ i + 1 - 512 * c = ap (passed_with passed c i) of_c ∙ passed_here passed c i in
     gathered_more k (is_passed passed) (is_passed (passed_with passed c i)) t 0 a os i r.message r.there
-        (subst (λ (n : ℕ). is_passed passed n ≡ false) (sym (zero-add i)) (le-ltb (i % 512) (passed (i / 512)) (omega arith)))
-        (subst (λ (n : ℕ). is_passed (passed_with passed c i) n ≡ true) (sym (zero-add i)) (lt-ltb (i % 512) (passed_with passed c i (i / 512)) (omega arith)))
-        (λ n x apart there. subst (λ (q : ℕ). is_passed passed q ≡ is_passed (passed_with passed c i) q) (sym (zero-add n)) (other_pick passed os c p i was r n x apart there))
+    (subst (λ (n : ℕ). is_passed passed n ≡ false) (sym (zero-add i)) (le-ltb (i % 512) (passed (i / 512)) (omega arith)))
+    (subst (λ (n : ℕ). is_passed (passed_with passed c i) n ≡ true) (sym (zero-add i)) (lt-ltb (i % 512) (passed_with passed c i (i / 512)) (omega arith)))
+    (λ n x apart there. subst (λ (q : ℕ). is_passed passed q ≡ is_passed (passed_with passed c i) q) (sym (zero-add n)) (other_pick passed os c p i was r n x apart there))
 
 -- the claim that a worker took last is one that it holds
 pub last_range : (s : State) (k : Kept s) (w : ℕ) (h : Held) → (worker_at s w).last ≡ Some h → (h.claim < min s.next (claims_of s.slots)) × (h.passed ≡ k.passed h.claim)
@@ -349,14 +349,14 @@ deliver_message s w h i live is_last k r =
       within = λ j below.
           ⊎_elim
           (λ (e : j ≡ h.claim).
-              let q : passed_with k.passed h.claim i j ≡ i + 1 - 512 * h.claim = ap (passed_with k.passed h.claim i) e ∙ now_here in
-              (omega arith, omega arith))
+          let q : passed_with k.passed h.claim i j ≡ i + 1 - 512 * h.claim = ap (passed_with k.passed h.claim i) e ∙ now_here in
+          (omega arith, omega arith))
           (λ (ne : j ≡ h.claim → ⊥).
-              let q : passed_with k.passed h.claim i j ≡ k.passed j = passed_else k.passed h.claim i j ne in
-              let z = k.within j below in
-              let low : k.passed j ≤ 512 = z.0 in
-              let high : 512 * j + k.passed j ≤ length s.slots = z.1 in
-              (omega arith, omega arith))
+          let q : passed_with k.passed h.claim i j ≡ k.passed j = passed_else k.passed h.claim i j ne in
+          let z = k.within j below in
+          let low : k.passed j ≤ 512 = z.0 in
+          let high : 512 * j + k.passed j ≤ length s.slots = z.1 in
+          (omega arith, omega arith))
           (cases_eq j h.claim);
       missed =
           let a = sum_by-set (λ (x : Worker). x.misses) s.workers w y spent here in
@@ -369,8 +369,8 @@ deliver_message s w h i live is_last k r =
       gone = each_set IsGone s.workers w y spent (lives y live) k.gone;
       cells = λ t below.
           delivered_cell s.kind s.cells m t target_in
-              ∙ ap (λ (x : ℕ). with_message s.kind t x m) (k.cells t below)
-              ∙ sym (gathered_next s.kind k.passed s.slots h.claim h.passed i t (encoded_home s.kind (slice_index s.home t)) was r);
+          ∙ ap (λ (x : ℕ). with_message s.kind t x m) (k.cells t below)
+          ∙ sym (gathered_next s.kind k.passed s.slots h.claim h.passed i t (encoded_home s.kind (slice_index s.home t)) was r);
     }
 
 pub is_the_number : (i : ℕ) (o : Option ℕ) → is_number i o ≡ true → o ≡ Some i
@@ -386,14 +386,14 @@ pub record CanDeliver (s : State) (w i : ℕ) : Type 0 where
 pub can_deliver : (s : State) (w i : ℕ) → Kept s → ahead_of s.slots (worker_at s w) ≡ Some i → CanDeliver s w i
 can_deliver s w i k e =
     option_and_then_some (next_in s.slots) (worker_at s w).last i e
-        (λ h is_last is_next.
-            record { last = h; is_last = is_last; next = next_in_some s.slots h.claim h.passed i (last_small s k w h is_last).0 is_next })
+    (λ h is_last is_next.
+    record { last = h; is_last = is_last; next = next_in_some s.slots h.claim h.passed i (last_small s k w h is_last).0 is_next })
 
 pub deliver_keeps : (s : State) (w i : ℕ) → (worker_at s w).live ≡ true → ahead_of s.slots (worker_at s w) ≡ Some i → Kept s → Kept (deliver s w i)
 deliver_keeps s w i live e k =
     let can = can_deliver s w i k e in
     subst (λ (o : Option Message). Kept (delivered_state s w i o)) (sym (get_or_from_slice_get s.slots i (Some can.next.message) None can.next.there))
-        (deliver_message s w can.last i live can.is_last k can.next)
+    (deliver_message s w can.last i live can.is_last k can.next)
 
 -- ---- every list of events
 
@@ -416,7 +416,7 @@ opening_kept k os home a =
       gone = first_gone;
       cells = λ t below.
           get_or-map (encoded_home k) home t below
-              ∙ sym (gathered_none k (is_passed (λ _. 0)) t 0 (encoded_home k (slice_index home t)) os (λ j. le-ltb (j % 512) 0 (omega arith)));
+          ∙ sym (gathered_none k (is_passed (λ _. 0)) t 0 (encoded_home k (slice_index home t)) os (λ j. le-ltb (j % 512) 0 (omega arith)));
     }
   where
     first_gone : (w : ℕ) → (get_or (idle true (2 ^ 63) ∷ []) w spent).live ≡ false → get_or (idle true (2 ^ 63) ∷ []) w spent ≡ spent

@@ -1,6 +1,6 @@
 -- Sums over workers, over the claims that they hold, and over the numbers below a bound.
-use Rattle.std.proofs.Common.{◌≡◌, ◌≢◌, ◌⊎◌, ℕ, zero, suc, ◌+◌, ◌<◌, ◌≤◌, Bool, true, false, ◌==◌, cond, List, [], ◌∷◌, ◌++◌, length, get_or, set, sum_by, Any, option_to_list, refl, sym, ap, ◌∙◌, inl, inr, ⊎_elim, subst, append_assoc, arith}
-use Rattle.std.proofs.lemmas.List.Sums.{sum_by-cons, sum_by-append, get_or-le-sum_by}
+use Rattle.std.proofs.Common.{◌≡◌, ◌≢◌, ℕ, zero, suc, ◌+◌, ◌<◌, ◌≤◌, Bool, true, false, List, [], ◌∷◌, ◌++◌, length, get_or, set, sum_by, Any, option_to_list, refl, sym, ap, ◌∙◌, ⊎_elim, append_assoc, arith}
+use Rattle.std.proofs.lemmas.List.Sums.{sum_by-cons, sum_by-append}
 use Rattle.std.proofs.lemmas.Bool.{cases_lt, cases_eq}
 use Rattle.combine_core.specs.declared.worker.Held.{Held}
 use Rattle.combine_core.specs.declared.worker.Worker.{Worker}
@@ -25,10 +25,10 @@ sum_below-change zero c f g h same = absurd (omega arith)
 sum_below-change (suc n) c f g h same =
     ⊎_elim
     (λ (e : n ≡ c).
-        let r = sum_below-same n f g (λ j b. same j (λ x. omega arith)) in
-        let p : f n ≡ f c = ap f e in
-        let q : g n ≡ g c = ap g e in
-        omega arith)
+    let r = sum_below-same n f g (λ j b. same j (λ x. omega arith)) in
+    let p : f n ≡ f c = ap f e in
+    let q : g n ≡ g c = ap g e in
+    omega arith)
     (λ (ne : n ≡ c → ⊥). let r = sum_below-change n c f g (omega arith) same in let here = same n ne in omega arith)
     (cases_eq n c)
 
@@ -51,9 +51,9 @@ module _ {X : Type 0} where
       ⊎_elim
       (λ (z : 0 < f x). (0, x, omega arith, refl, z))
       (λ (z : f x ≤ 0).
-          let r = some_part f xs (omega (arith, sum_by-cons f x xs)) in
-          let b : r.0 < length xs = r.2 in
-          (suc r.0, r.1, omega arith, r.3, r.4))
+      let r = some_part f xs (omega (arith, sum_by-cons f x xs)) in
+      let b : r.0 < length xs = r.2 in
+      (suc r.0, r.1, omega arith, r.3, r.4))
       (cases_lt 0 (f x))
 
   -- what holds of the elements, and of what stands past the end, after a change

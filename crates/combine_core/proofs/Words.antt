@@ -1,8 +1,6 @@
 -- One step of a fold, on words of 32 bits and on the cells that stand for them.
-use Rattle.std.proofs.Common.{◌≡◌, ◌⊎◌, ℕ, zero, suc, ◌+◌, ◌-◌, ◌*◌, ◌%◌, ◌^◌, ◌<◌, ◌≤◌, min, max, Bool, true, false, not, ◌&&◌, cond, if◌then◌else◌, ltb, leb, nat_lt, nat_le, ℤ, pos, negsuc, ◌-ℤ◌, int_lt, bit_and, bit_or, bit_xor, refl, sym, ap, ap₂, ◌∙◌, ⊎_elim, mod-eq_of_lt, subst, arith}
+use Rattle.std.proofs.Common.{◌≡◌, ℕ, suc, ◌+◌, ◌-◌, ◌%◌, ◌^◌, ◌<◌, ◌≤◌, min, max, Bool, true, false, cond, nat_lt, nat_le, ℤ, pos, negsuc, ◌-ℤ◌, int_lt, bit_and, bit_or, bit_xor, refl, sym, ap, ap₂, ◌∙◌, ⊎_elim, mod-eq_of_lt, subst, arith}
 use Rattle.std.proofs.lemmas.Bool.{cases_lt, cond-true, cond-false, lt-ltb, le-ltb, le-leb, lt-leb}
-use Rattle.std.proofs.lemmas.Nat.{or_of_32, xor_of_32, and_le_l}
-use Rattle.std.specs.Int.{int_min, int_max, int_rem_euclid}
 use Rattle.std.proofs.lemmas.Int.{ints}
 use Rattle.cstar_base.specs.declared.operators.Combiner.TheVariants as combiner
 use Rattle.cstar_base.specs.Numbers.{residue, number_of}
@@ -94,19 +92,20 @@ signed_below : (a v : ℕ) → a < 2 ^ 32 → v < 2 ^ 32 → int_lt (operand 32 
 signed_below a v p q =
     ⊎_elim
     (λ (h : a < 2 ^ 31).
-        ⊎_elim
-        (λ (k : v < 2 ^ 31). ap₂ int_lt (signed_low v k) (signed_low a h) ∙ same_below v a (moved v) (moved a) (2 ^ 31) (omega arith) (omega arith))
-        (λ (k : 2 ^ 31 ≤ v). ap₂ int_lt (signed_high v k q) (signed_low a h) ∙ sym (lt-ltb (moved v) (moved a) (omega arith)))
-        (cases_lt v (2 ^ 31)))
+    ⊎_elim
+    (λ (k : v < 2 ^ 31). ap₂ int_lt (signed_low v k) (signed_low a h) ∙ same_below v a (moved v) (moved a) (2 ^ 31) (omega arith) (omega arith))
+    (λ (k : 2 ^ 31 ≤ v). ap₂ int_lt (signed_high v k q) (signed_low a h) ∙ sym (lt-ltb (moved v) (moved a) (omega arith)))
+    (cases_lt v (2 ^ 31)))
     (λ (h : 2 ^ 31 ≤ a).
-        ⊎_elim
-        (λ (k : v < 2 ^ 31). ap₂ int_lt (signed_low v k) (signed_high a h p) ∙ sym (le-ltb (moved v) (moved a) (omega arith)))
-        (λ (k : 2 ^ 31 ≤ v). ap₂ int_lt (signed_high v k q) (signed_high a h p) ∙ turned_below v a (moved v) (moved a) (omega arith) (omega arith) (omega arith) (omega arith))
-        (cases_lt v (2 ^ 31)))
+    ⊎_elim
+    (λ (k : v < 2 ^ 31). ap₂ int_lt (signed_low v k) (signed_high a h p) ∙ sym (le-ltb (moved v) (moved a) (omega arith)))
+    (λ (k : 2 ^ 31 ≤ v). ap₂ int_lt (signed_high v k q) (signed_high a h p) ∙ turned_below v a (moved v) (moved a) (omega arith) (omega arith) (omega arith) (omega arith))
+    (cases_lt v (2 ^ 31)))
     (cases_lt a (2 ^ 31))
   where
     same_below : (x y m n c : ℕ) → m ≡ x + c → n ≡ y + c → nat_lt x y ≡ nat_lt m n
     same_below x y m n c e f = ⊎_elim (λ (h : x < y). lt-ltb x y h ∙ sym (lt-ltb m n (omega arith))) (λ (h : y ≤ x). le-ltb x y h ∙ sym (le-ltb m n (omega arith))) (cases_lt x y)
+
     turned_below : (x y m n : ℕ) → x < 2 ^ 32 → y < 2 ^ 32 → x ≡ m + 2 ^ 31 → y ≡ n + 2 ^ 31 → nat_lt (2 ^ 32 - 1 - y) (2 ^ 32 - 1 - x) ≡ nat_lt m n
     turned_below x y m n p q e f = ⊎_elim (λ (h : x < y). lt-ltb _ _ (omega arith) ∙ sym (lt-ltb m n (omega arith))) (λ (h : y ≤ x). le-ltb _ _ (omega arith) ∙ sym (le-ltb m n (omega arith))) (cases_lt x y)
 

@@ -1,5 +1,5 @@
 -- Slots of messages, and what a cell holds once some of them are delivered.
-use Rattle.std.specs.Prelude.{◌≡◌, ℕ, suc, Bool, true, ◌+◌, ◌<◌, ◌≤◌, ◌^◌, ◌==◌, ◌&&◌, if◌then◌else◌, List, [], ◌∷◌, length, reverse, fold, All, Option, Some, None, IfSome}
+use Rattle.std.specs.Prelude.{ℕ, suc, Bool, ◌+◌, ◌<◌, ◌≤◌, ◌==◌, ◌&&◌, if◌then◌else◌, List, [], ◌∷◌, All, Option, Some, None, IfSome}
 use Rattle.combine_core.specs.declared.kind.Kind.{Kind}
 use Rattle.combine_core.specs.declared.message.Message.{Message}
 use Rattle.combine_core.specs.Encodings.{encoded, joined}

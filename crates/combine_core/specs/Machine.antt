@@ -1,5 +1,5 @@
 -- The machine whose steps are those of a combining board: workers draw numbers, which are claims of 512 slots each, and deliver the messages of the claims that they took.
-use Rattle.std.specs.Prelude.{◌≡◌, ℕ, zero, suc, Bool, true, false, not, ◌+◌, ◌-◌, ◌*◌, ◌/◌, ◌%◌, ◌^◌, ◌<◌, ◌==◌, ◌&&◌, if◌then◌else◌, nat_lt, List, [], ◌∷◌, ◌++◌, length, map, take, drop, slice_index, slice_index_or, slice_set, sum_by, count_by, Any, Option, Some, None, option_map, option_to_list, option_and_then}
+use Rattle.std.specs.Prelude.{◌≡◌, ℕ, suc, Bool, true, false, not, ◌+◌, ◌-◌, ◌*◌, ◌/◌, ◌%◌, ◌^◌, ◌<◌, ◌==◌, ◌&&◌, if◌then◌else◌, nat_lt, List, [], ◌∷◌, ◌++◌, length, map, take, drop, slice_index, slice_index_or, slice_set, sum_by, Any, Option, Some, None, option_map, option_to_list, option_and_then}
 use Rattle.combine_core.specs.declared.kind.Kind.{Kind}
 use Rattle.combine_core.specs.declared.message.Message.{Message}
 use Rattle.combine_core.specs.declared.worker.Held.{Held}

@@ -14,8 +14,7 @@ pub fn encodings_are_sound()
     ensures commutative { (k : Kind) (a b : ℕ) → joined k a b ≡ joined k b a }
     ensures folded { (k : Kind) (t home : ℕ) (os : List (Option Message)) → home < 2 ^ 32 → RisesFrom 0 os
         → decoded k home (gathered k (λ _. true) t 0 (encoded_home k home) os) ≡ folded k t home os }
-{
-}
+{}
 
 /// What holds of the machine after every list of events.
 pub fn every_state()
@@ -30,5 +29,4 @@ pub fn every_state()
     ensures draws { Always DrawsCount }
     ensures whole { Always WholeHoldsAll }
     ensures folds { Always CompleteIsFolded }
-{
-}
+{}

@@ -159,12 +159,7 @@ impl<C: Combine> Machine<C> {
 }
 
 // One worker takes in all that another has, which is then spent.
-fn merge(
-    alloc: Global,
-    workers: &mut Vec<Worker>,
-    into: usize,
-    from: usize,
-) -> Result<(), Memory>
+fn merge(alloc: Global, workers: &mut Vec<Worker>, into: usize, from: usize) -> Result<(), Memory>
     requires within { (into < length workers.old.items) × (from < length workers.old.items) }
     requires apart { into ≢ from }
     requires misses { (slice_index_or workers.old.items into spent).misses + (slice_index_or workers.old.items from spent).misses < 2 ^ 64 }

@@ -1,4 +1,4 @@
-use Rattle.std.proofs.Common.{◌≡◌, ◌≢◌, get_or, set, sym, ap, ap₂, ◌∙◌, get_or-set_other, length-set, arith}
+use Rattle.std.proofs.Common.{set, sym, ap₂, ◌∙◌, get_or-set_other, length-set, arith}
 use Rattle.combine_core.specs.declared.worker.Worker.{Worker}
 use Rattle.combine_core.specs.Machine.{both_parts, spent}
 use Rattle.combine_core.proofs.Steps.{set_swap, set_both_back, read_default}
@@ -21,6 +21,6 @@ returns-clause-ok c =
     let still = read_default (set ws from c.replace-other.new.dest) c.args.into c.index_mut-2.result.now spent (omega (arith, length-set ws from c.replace-other.new.dest, c.requires.within.0)) c.index_mut-2.ensures.value in
     let apart = get_or-set_other ws from c.args.into c.replace-other.new.dest spent c.requires.apart in
     set_swap ws c.args.into from c.absorb.new.self c.replace-other.new.dest c.requires.apart
-        ∙ ap₂ (λ (x y : Worker). set (set ws c.args.into x) from y)
-            (c.in_default.ensures.ok ∙ ap₂ both_parts (sym still ∙ apart) (c.replace-other.ensures.value ∙ sym gone))
-            (c.replace-other.ensures.after ∙ c.idle.ensures)
+    ∙ ap₂ (λ (x y : Worker). set (set ws c.args.into x) from y)
+    (c.in_default.ensures.ok ∙ ap₂ both_parts (sym still ∙ apart) (c.replace-other.ensures.value ∙ sym gone))
+    (c.replace-other.ensures.after ∙ c.idle.ensures)

@@ -1,4 +1,4 @@
-use Rattle.std.proofs.Common.{◌≡◌, Some, get_or, is_some, sym, ap, ◌∙◌, arith}
+use Rattle.std.proofs.Common.{get_or, is_some, sym, ap, ◌∙◌, arith}
 use Rattle.combine_core.proofs.Ahead.{first_message-more, first_message_here, first_message_not_here}
 use Rattle.combine_core.proofs.worker.first_full.Goals as goal
 

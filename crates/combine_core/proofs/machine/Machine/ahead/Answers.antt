@@ -1,6 +1,6 @@
-use Rattle.std.proofs.Common.{◌≡◌, ◌*◌, ◌+◌, ◌≤◌, length, Some, sym, ap, ◌∙◌, subst, arith}
+use Rattle.std.proofs.Common.{◌*◌, ◌+◌, ◌≤◌, length, sym, ap, ◌∙◌, subst, arith}
 use Rattle.combine_core.specs.declared.worker.Worker.{Worker}
-use Rattle.combine_core.specs.Machine.{State, worker_at, spent}
+use Rattle.combine_core.specs.Machine.{spent}
 use Rattle.combine_core.specs.Kept.{Kept}
 use Rattle.combine_core.proofs.Steps.{last_small, read_default}
 use Rattle.combine_core.proofs.machine.Machine.ahead.Goals as goal

@@ -1,6 +1,5 @@
-use Rattle.std.proofs.Common.{◌≡◌, ◌+◌, ◌≤◌, sym, ap, ◌∙◌, subst, arith}
+use Rattle.std.proofs.Common.{sym, ap, ◌∙◌, arith}
 use Rattle.combine_core.specs.Machine.{State, worker_at}
-use Rattle.combine_core.specs.Kept.{Kept}
 use Rattle.combine_core.proofs.Steps.{two_fit}
 use Rattle.combine_core.proofs.machine.Machine.join.Goals as goal
 
