@@ -1,0 +1,6 @@
+pub mod Views
+pub mod Told
+pub mod Steps
+pub mod Passes
+pub mod Rises
+pub mod Tree
