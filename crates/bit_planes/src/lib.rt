@@ -1,0 +1,6 @@
+//! Bit planes.
+#![tactic(auto)]
+
+pub mod plane;
+
+pub use plane::Plane;
