@@ -1,1 +1,3 @@
 pub mod Words
+pub mod Planes
+pub mod Butterfly

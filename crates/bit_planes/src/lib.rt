@@ -2,5 +2,6 @@
 #![tactic(auto)]
 
 pub mod plane;
+mod transpose;
 
 pub use plane::Plane;

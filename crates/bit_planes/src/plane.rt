@@ -1,4 +1,5 @@
 ghost use Rattle.std.specs.Prelude.{◌≡◌, ℕ, ◌<◌, ◌+◌, ◌*◌, ◌-◌, ◌/◌, ◌%◌, min, max, if◌then◌else◌, nat_lt};
+ghost use Rattle.std.specs.Int.{bit_at};
 ghost use Rattle.bit_planes.specs.Bits.{bit};
 
 use std::alloc::AllocError;
@@ -23,6 +24,14 @@ pub fn repeated(one: bool) -> u64x8
     ensures { (i : ℕ) → i < 512 → bit result i ≡ (if one then 1 else 0) }
 {
     u64x8::splat(if one { u64::MAX } else { 0 })
+}
+
+/// The plane whose eight words are all this one.
+#[inline(always)]
+pub(crate) fn each_word(word: u64) -> u64x8
+    ensures { (i : ℕ) → i < 512 → bit result i ≡ bit_at word (i % 64) }
+{
+    u64x8::splat(word)
 }
 
 /// 1 where both are.
