@@ -38,9 +38,9 @@ bit-opposite a la fits i h =
     ap (λ n. bit_at n (i % 64)) (get_or-map (bit_not w64) a (i / 64) 0 0 (omega arith))
     ∙ bit_at_not w64 (get_or a (i / 64) 0) (i % 64) (word_fits a la fits (i / 64) (omega arith)) (omega arith)
 
--- a bit of a word that is cut to 64 bits
-bit_at-cut : (x j : ℕ) → j < 64 → bit_at (x % 2 ^ 64) j ≡ bit_at x j
-bit_at-cut x j h = sym (bit_at_cat_low (x / 2 ^ 64) 64 (x % 2 ^ 64) j h) ∙ ap (λ n. bit_at n j) (div-add-mod' x (2 ^ 64))
+-- a bit of a number that is cut to k bits
+pub bit_at-cut : (x k j : ℕ) → j < k → bit_at (x % 2 ^ k) j ≡ bit_at x j
+bit_at-cut x k j h = sym (bit_at_cat_low (x / 2 ^ k) k (x % 2 ^ k) j h) ∙ ap (λ n. bit_at n j) (div-add-mod' x (2 ^ k))
 
 bit_at-shl_low : (x k j : ℕ) → j < k → bit_at (x * 2 ^ k) j ≡ 0
 bit_at-shl_low x k j h = ap (λ n. bit_at n j) (let e : x * 2 ^ k ≡ x * 2 ^ k + 0 = omega arith in e) ∙ bit_at_cat_low x k 0 j h ∙ bit_at-zero j
@@ -48,7 +48,7 @@ bit_at-shl_low x k j h = ap (λ n. bit_at n j) (let e : x * 2 ^ k ≡ x * 2 ^ k 
 bit_at-shl_high : (x k j : ℕ) → 0 < 2 ^ k → k ≤ j → bit_at (x * 2 ^ k) j ≡ bit_at x (j - k)
 bit_at-shl_high x k j p h = ap (λ n. bit_at n j) (let e : x * 2 ^ k ≡ x * 2 ^ k + 0 = omega arith in e) ∙ bit_at_cat_high x k 0 j p h
 
-bit_at-shr : (x k j : ℕ) → bit_at (x / 2 ^ k) j ≡ bit_at x (k + j)
+pub bit_at-shr : (x k j : ℕ) → bit_at (x / 2 ^ k) j ≡ bit_at x (k + j)
 bit_at-shr x k j = ap (λ n. n % 2) (shr-shr x k j)
 
 pub bit-moved_up : (a : List ℕ) (k : ℕ) → length a ≡ 8 → k < 64 → (i : ℕ) → i < 512
@@ -57,7 +57,7 @@ unfolding bit
 bit-moved_up a k la kb i h =
     let x : ℕ = get_or a (i / 64) 0 in
     ap (λ n. bit_at n (i % 64)) (get_or-zip2 (λ x s. x * 2 ^ s % 2 ^ 64) a (replicate 8 k) (i / 64) 0 0 0 (omega arith) (omega arith))
-    ∙ bit_at-cut (x * 2 ^ get_or (replicate 8 k) (i / 64) 0) (i % 64) (omega arith)
+    ∙ bit_at-cut (x * 2 ^ get_or (replicate 8 k) (i / 64) 0) 64 (i % 64) (omega arith)
     ∙ ap (λ s. bit_at (x * 2 ^ s) (i % 64)) (get_or-replicate 8 (i / 64) k 0 (omega arith))
     ∙ elim (cases_lt (i % 64) k) [
         inl low ↦ bit_at-shl_low x k (i % 64) low ∙ sym (ap (λ t. cond t 0 (bit_at (get_or a ((i - k) / 64) 0) ((i - k) % 64))) (lt-ltb (i % 64) k low))

@@ -18,6 +18,18 @@ impl Clone for Plane {
 
 impl Copy for Plane {}
 
+impl Plane {
+    /// The plane with 0 in every lane.
+    #[inline(always)]
+    pub fn zero() -> Plane
+        ensures { (i : ℕ) → i < 512 → bit result.bits i ≡ 0 }
+    {
+        Plane {
+            bits: u64x8::splat(0),
+        }
+    }
+}
+
 /// The plane that holds one bit in every lane.
 #[inline(always)]
 pub fn repeated(one: bool) -> u64x8
