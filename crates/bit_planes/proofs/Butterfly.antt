@@ -6,6 +6,7 @@ use Rattle.std.proofs.lemmas.Bool.Decides.{nat_tests}
 use Rattle.std.proofs.Math.Bool.{◌&&◌}
 use Rattle.std.proofs.Math.ListN.{set, length-set}
 use Rattle.bit_planes.proofs.Planes.{plane-set_same, plane-set_other}
+use Rattle.bit_planes.proofs.Words.{bit-lt}
 use Rattle.bit_planes.specs.Bits.{bit}
 use Rattle.bit_planes.specs.Planes.{plane_at}
 use Rattle.bit_planes.specs.Steps.{IsStep, PairExchanged, Exchanged, Transposed}
@@ -14,12 +15,15 @@ use Rattle.bit_planes.specs.declared.plane.Plane.{Plane}
 -- what holds of the five steps holds of each step
 pub by_step : (P : ℕ → Type 0) → P 16 → P 8 → P 4 → P 2 → P 1 → (s : ℕ) → IsStep s → P s
 by_step P p16 p8 p4 p2 p1 s h = elim h [
-    inl e ↦ subst P (sym e) p16
+  | inl e ↦ subst P (sym e) p16
   | inr h8 ↦ elim h8 [
-      inl e ↦ subst P (sym e) p8
+    | inl e ↦ subst P (sym e) p8
     | inr h4 ↦ elim h4 [
-        inl e ↦ subst P (sym e) p4
-      | inr h2 ↦ elim h2 [ inl e ↦ subst P (sym e) p2 | inr e ↦ subst P (sym e) p1 ] ] ] ]
+      | inl e ↦ subst P (sym e) p4
+      | inr h2 ↦ elim h2 [ inl e ↦ subst P (sym e) p2 | inr e ↦ subst P (sym e) p1 ]
+    ]
+  ]
+]
 
 pub step_pos : (s : ℕ) → IsStep s → 0 < s
 step_pos = by_step (λ s. 0 < s) (omega arith) (omega arith) (omega arith) (omega arith) (omega arith)
@@ -45,10 +49,6 @@ at_odd = by_step (λ s. (i : ℕ) → i < 512 → i / s % 2 ≡ 1
     (λ i b e. (omega arith, omega arith, omega arith, omega arith))
     (λ i b e. (omega arith, omega arith, omega arith, omega arith))
 
-pub bit-lt : (plane : List ℕ) (i : ℕ) → bit plane i < 2
-unfolding bit
-bit-lt plane i = omega arith
-
 parity : (n : ℕ) → (n % 2 ≡ 0) ⊎ (n % 2 ≡ 1)
 parity n = elim (cases_lt (n % 2) 1) [ inl l ↦ inl (omega arith) | inr g ↦ inr (omega arith) ]
 
@@ -69,28 +69,31 @@ module _ (first second even down diff change up : List ℕ) (s : ℕ) (step : Is
 
   pub swapped_first : (i : ℕ) → i < 512 → (bit first i + bit up i) % 2 ≡ cond (nat_eq (i / s % 2) 0) (bit first i) (bit second (i - s))
   swapped_first i b = elim (parity (i / s)) [
-      inl e ↦
+    | inl e ↦
         let u : bit up i ≡ 0 = elim (at_even s step i b e).2 [
-            inl low ↦ up_is i b ∙ ap (λ t. cond t 0 (bit change (i - s))) (lt-ltb (i % 64) s low)
-          | inr high ↦ up_is i b ∙ ap (λ t. cond t 0 (bit change (i - s))) (le-ltb (i % 64) s high.0) ∙ change-odd (i - s) (omega arith) high.1 ] in
+          | inl low ↦ up_is i b ∙ ap (λ t. cond t 0 (bit change (i - s))) (lt-ltb (i % 64) s low)
+          | inr high ↦ up_is i b ∙ ap (λ t. cond t 0 (bit change (i - s))) (le-ltb (i % 64) s high.0) ∙ change-odd (i - s) (omega arith) high.1
+        ] in
         let k : (bit first i + bit up i) % 2 ≡ bit first i = omega (arith, u, bit-lt first i) in
         k ∙ sym (ap (λ n. cond (nat_eq n 0) (bit first i) (bit second (i - s))) e)
     | inr e ↦
         let o : (s ≤ i % 64) × ((i - s) / s % 2 ≡ 0) × ((i - s) % 64 + s < 64) × (i - s + s ≡ i) = at_odd s step i b e in
         let u : bit up i ≡ (bit first (i - s + s) + bit second (i - s)) % 2 =
-            up_is i b ∙ ap (λ t. cond t 0 (bit change (i - s))) (le-ltb (i % 64) s o.0) ∙ change-even (i - s) (omega arith) o.1 in
+        up_is i b ∙ ap (λ t. cond t 0 (bit change (i - s))) (le-ltb (i % 64) s o.0) ∙ change-even (i - s) (omega arith) o.1 in
         let v : bit first (i - s + s) ≡ bit first i = ap (λ n. bit first n) o.3 in
         let k : (bit first i + bit up i) % 2 ≡ bit second (i - s) = omega (arith, u, v, bit-lt first i, bit-lt second (i - s)) in
-        k ∙ sym (ap (λ n. cond (nat_eq n 0) (bit first i) (bit second (i - s))) e) ]
+        k ∙ sym (ap (λ n. cond (nat_eq n 0) (bit first i) (bit second (i - s))) e)
+  ]
 
   pub swapped_second : (i : ℕ) → i < 512 → (bit second i + bit change i) % 2 ≡ cond (nat_eq (i / s % 2) 0) (bit first (i + s)) (bit second i)
   swapped_second i b = elim (parity (i / s)) [
-      inl e ↦
+    | inl e ↦
         let k : (bit second i + bit change i) % 2 ≡ bit first (i + s) = omega (arith, change-even i b e, bit-lt first (i + s), bit-lt second i) in
         k ∙ sym (ap (λ n. cond (nat_eq n 0) (bit first (i + s)) (bit second i)) e)
     | inr e ↦
         let k : (bit second i + bit change i) % 2 ≡ bit second i = omega (arith, change-odd i b e, bit-lt second i) in
-        k ∙ sym (ap (λ n. cond (nat_eq n 0) (bit first (i + s)) (bit second i)) e) ]
+        k ∙ sym (ap (λ n. cond (nat_eq n 0) (bit first (i + s)) (bit second i)) e)
+  ]
 
 -- the pair of planes to which a plane belongs
 abbrev pub pair_of : ℕ → ℕ → ℕ
@@ -131,22 +134,26 @@ pairs_more s step pair pb old mid new before now =
     let high_is : plane_at mid (f + s) ≡ plane_at old (f + s) = before.rest (f + s) at.4 (omega (arith, at.1)) in
     record {
       done = λ r i rb ib h. elim (cases_lt (pair_of s r) pair) [
-          inl l ↦ ap (λ p. bit p i) (now.rest r (λ e. absurd (omega (arith, ap (pair_of s) e, at.0))) (λ e. absurd (omega (arith, ap (pair_of s) e, at.1)))) ∙ before.done r i rb ib l
+        | inl l ↦ ap (λ p. bit p i) (now.rest r (λ e. absurd (omega (arith, ap (pair_of s) e, at.0))) (λ e. absurd (omega (arith, ap (pair_of s) e, at.1)))) ∙ before.done r i rb ib l
         | inr g ↦ elim (at.5 r rb (omega arith)) [
-            inl e ↦
+          | inl e ↦
               let ra : r / s % 2 ≡ 0 = ap (λ n. n / s % 2) e ∙ at.2 in
               ap (λ n. bit (plane_at new n) i) e ∙ now.low i ib ∙ elim (parity (i / s)) [
-                inl z ↦ ap (λ n. cond (nat_eq n 0) (bit (plane_at mid f) i) (bit (plane_at mid (f + s)) (i - s))) z
-                  ∙ ap (λ p. bit p i) low_is ∙ from old s r i 0 0 f i ra z (omega arith) (omega arith)
-              | inr o ↦ ap (λ n. cond (nat_eq n 0) (bit (plane_at mid f) i) (bit (plane_at mid (f + s)) (i - s))) o
-                  ∙ ap (λ p. bit p (i - s)) high_is ∙ from old s r i 0 1 (f + s) (i - s) ra o (omega arith) (omega arith) ]
+                | inl z ↦ ap (λ n. cond (nat_eq n 0) (bit (plane_at mid f) i) (bit (plane_at mid (f + s)) (i - s))) z
+                    ∙ ap (λ p. bit p i) low_is ∙ from old s r i 0 0 f i ra z (omega arith) (omega arith)
+                | inr o ↦ ap (λ n. cond (nat_eq n 0) (bit (plane_at mid f) i) (bit (plane_at mid (f + s)) (i - s))) o
+                    ∙ ap (λ p. bit p (i - s)) high_is ∙ from old s r i 0 1 (f + s) (i - s) ra o (omega arith) (omega arith)
+              ]
           | inr e ↦
               let ra : r / s % 2 ≡ 1 = ap (λ n. n / s % 2) e ∙ at.3 in
               ap (λ n. bit (plane_at new n) i) e ∙ now.high i ib ∙ elim (parity (i / s)) [
-                inl z ↦ ap (λ n. cond (nat_eq n 0) (bit (plane_at mid f) (i + s)) (bit (plane_at mid (f + s)) i)) z
-                  ∙ ap (λ p. bit p (i + s)) low_is ∙ from old s r i 1 0 f (i + s) ra z (omega arith) (omega arith)
-              | inr o ↦ ap (λ n. cond (nat_eq n 0) (bit (plane_at mid f) (i + s)) (bit (plane_at mid (f + s)) i)) o
-                  ∙ ap (λ p. bit p i) high_is ∙ from old s r i 1 1 (f + s) i ra o (omega arith) (omega (arith, (at_odd s step i ib o).3)) ] ] ];
+                | inl z ↦ ap (λ n. cond (nat_eq n 0) (bit (plane_at mid f) (i + s)) (bit (plane_at mid (f + s)) i)) z
+                    ∙ ap (λ p. bit p (i + s)) low_is ∙ from old s r i 1 0 f (i + s) ra z (omega arith) (omega arith)
+                | inr o ↦ ap (λ n. cond (nat_eq n 0) (bit (plane_at mid f) (i + s)) (bit (plane_at mid (f + s)) i)) o
+                    ∙ ap (λ p. bit p i) high_is ∙ from old s r i 1 1 (f + s) i ra o (omega arith) (omega (arith, (at_odd s step i ib o).3))
+              ]
+        ]
+      ];
       rest = λ r rb h. now.rest r (λ e. absurd (omega (arith, ap (pair_of s) e, at.0))) (λ e. absurd (omega (arith, ap (pair_of s) e, at.1))) ∙ before.rest r rb (omega arith);
     }
 
@@ -165,8 +172,9 @@ mask_from_test m s zero e j h = absurd (omega arith)
 mask_from_test m s (suc n) e j h =
     let both : (nat_eq (bit_at m n) (1 - n / s % 2) ≡ true) × (mask_agrees m s n ≡ true) = and_both (nat_eq (bit_at m n) (1 - n / s % 2)) (mask_agrees m s n) e in
     elim (cases_lt j n) [
-      inl l ↦ mask_from_test m s n both.1 j l
-    | inr g ↦ let k : j ≡ n = omega arith in subst (λ t. bit_at m t ≡ 1 - t / s % 2) (sym k) (eqb-true (bit_at m n) (1 - n / s % 2) both.0) ]
+      | inl l ↦ mask_from_test m s n both.1 j l
+      | inr g ↦ let k : j ≡ n = omega arith in subst (λ t. bit_at m t ≡ 1 - t / s % 2) (sym k) (eqb-true (bit_at m n) (1 - n / s % 2) both.0)
+    ]
 
 pub mask_16 : (j : ℕ) → j < 64 → bit_at 0x0000_FFFF_0000_FFFF j ≡ 1 - j / 16 % 2
 unfolding mask_agrees
@@ -194,7 +202,7 @@ pub pair_written : (s first : ℕ) → 0 < s → (old : List Plane) (low high : 
     → ((i : ℕ) → i < 512 → bit high i ≡ cond (nat_eq (i / s % 2) 0) (bit (plane_at old first) (i + s)) (bit (plane_at old (first + s)) i))
     → PairExchanged s first old (set (set old first (record { bits = low })) (first + s) (record { bits = high }))
 pair_written s first p old low high within l h = record {
-    low = λ i b. ap (λ q. bit q i) (plane-set_other (set old first (record { bits = low })) (first + s) first (record { bits = high }) (λ e. absurd (omega arith)) ∙ plane-set_same old first low (omega arith)) ∙ l i b;
-    high = λ i b. ap (λ q. bit q i) (plane-set_same (set old first (record { bits = low })) (first + s) high (omega (arith, length-set old first (record { bits = low })))) ∙ h i b;
-    rest = λ r n m. plane-set_other (set old first (record { bits = low })) (first + s) r (record { bits = high }) m ∙ plane-set_other old first r (record { bits = low }) n;
-  }
+  low = λ i b. ap (λ q. bit q i) (plane-set_other (set old first (record { bits = low })) (first + s) first (record { bits = high }) (λ e. absurd (omega arith)) ∙ plane-set_same old first low (omega arith)) ∙ l i b;
+  high = λ i b. ap (λ q. bit q i) (plane-set_same (set old first (record { bits = low })) (first + s) high (omega (arith, length-set old first (record { bits = low })))) ∙ h i b;
+  rest = λ r n m. plane-set_other (set old first (record { bits = low })) (first + s) r (record { bits = high }) m ∙ plane-set_other old first r (record { bits = low }) n;
+}

@@ -36,12 +36,13 @@ unfolding bit
 row_bits v fits row rb a b c d e g h k p0 p1 p2 p3 p4 p5 p6 p7 i ib =
     ap (λ n. bit_at n (i % 64)) (eight (λ w. pair_at v (row + 64 * w)) a b c d e g h k (p0 ∙ ap (pair_at v) (omega arith)) p1 p2 p3 p4 p5 p6 p7 (i / 64) (omega arith))
     ∙ elim (cases_lt (i % 64) 32) [
-        inl l ↦ bit_at_cat_low (get_or v (row + 64 * (i / 64) + 32) 0) 32 (get_or v (row + 64 * (i / 64)) 0) (i % 64) l
+      | inl l ↦ bit_at_cat_low (get_or v (row + 64 * (i / 64) + 32) 0) 32 (get_or v (row + 64 * (i / 64)) 0) (i % 64) l
           ∙ ap (λ n. bit_at (get_or v n 0) (i % 64)) (let e : row + 64 * (i / 64) ≡ i - i % 32 + row = omega arith in e)
           ∙ ap (λ j. bit_at (get_or v (i - i % 32 + row) 0) j) (let e : i % 64 ≡ i % 32 = omega arith in e)
       | inr g ↦ bit_at_cat_high (get_or v (row + 64 * (i / 64) + 32) 0) 32 (get_or v (row + 64 * (i / 64)) 0) (i % 64) (fits (row + 64 * (i / 64)) (omega arith)) g
           ∙ ap (λ n. bit_at (get_or v n 0) (i % 64 - 32)) (let e : row + 64 * (i / 64) + 32 ≡ i - i % 32 + row = omega arith in e)
-          ∙ ap (λ j. bit_at (get_or v (i - i % 32 + row) 0) j) (let e : i % 64 - 32 ≡ i % 32 = omega arith in e) ]
+          ∙ ap (λ j. bit_at (get_or v (i - i % 32 + row) 0) j) (let e : i % 64 - 32 ≡ i % 32 = omega arith in e)
+    ]
 
 -- the half of a word of the plane that holds number k
 abbrev pub half : List ℕ → ℕ → ℕ
@@ -72,26 +73,28 @@ words_more row word rb wb planes v low high read l h =
     let next : ℕ = 64 * word + 32 + row in
     let w : List ℕ = set v place low in
     let other : (k : ℕ) → k ≢ place → k ≢ next → get_or (set w next high) k 0 ≡ get_or v k 0 =
-        λ k n m. get_or-set_other w next k high 0 m ∙ get_or-set_other v place k low 0 n in
+    λ k n m. get_or-set_other w next k high 0 m ∙ get_or-set_other v place k low 0 n in
     record {
       long = length-set w next high ∙ length-set v place low ∙ read.long;
       rows = λ k kb r. other k (λ e. absurd (omega arith)) (λ e. absurd (omega arith)) ∙ read.rows k kb r;
       words = λ k kb r b. elim (cases_eq k place) [
-          inl e ↦
+        | inl e ↦
             ap (λ n. get_or (set w next high) n 0) e ∙ get_or-set_other w next place high 0 (λ n. absurd (omega arith)) ∙ get_or-set_same v place low 0 (omega (arith, read.long))
             ∙ l ∙ ap (λ n. n % 2 ^ 32) (let z : get_or (plane_at planes row) word 0 ≡ get_or (plane_at planes row) word 0 / 2 ^ 0 = omega arith in z) ∙ ap (λ q. get_or (plane_at planes row) word 0 / 2 ^ q % 2 ^ 32) (let z : 0 ≡ 32 * (k / 32 % 2) = omega arith in z) ∙ half_is planes k row word r (omega arith)
         | inr n ↦ elim (cases_eq k next) [
-            inl e ↦
+          | inl e ↦
               ap (λ m. get_or (set w next high) m 0) e ∙ get_or-set_same w next high 0 (omega (arith, read.long, length-set v place low))
               ∙ h ∙ ap (λ q. get_or (plane_at planes row) word 0 / 2 ^ q % 2 ^ 32) (let z : 32 ≡ 32 * (k / 32 % 2) = omega arith in z) ∙ half_is planes k row word r (omega arith)
-          | inr m ↦ other k n m ∙ read.words k kb r (omega arith) ] ];
+          | inr m ↦ other k n m ∙ read.words k kb r (omega arith)
+        ]
+      ];
     }
 
 pub rows_more : (row word : ℕ) → 8 ≤ word → (planes : List Plane) (v : List ℕ) → WordsRead row word planes v → RowsRead (row + 1) planes v
 rows_more row word b planes v read = record {
-    long = read.long;
-    rows = λ k kb r. elim (cases_lt (k % 32) row) [ inl l ↦ read.rows k kb l | inr g ↦ read.words k kb (omega arith) (omega arith) ];
-  }
+  long = read.long;
+  rows = λ k kb r. elim (cases_lt (k % 32) row) [ inl l ↦ read.rows k kb l | inr g ↦ read.words k kb (omega arith) (omega arith) ];
+}
 
 -- the bits of the number that is read
 pub half_bits : (plane : List ℕ) (i j : ℕ) → i < 512 → j < 32 → bit_at (half plane i) j ≡ bit plane (i - i % 32 + j)
@@ -110,12 +113,13 @@ pub record RowsPacked (row : ℕ) (v : List ℕ) (planes : List Plane) : Type 0 
 pub packed_more : (row : ℕ) → row < 32 → (v : List ℕ) (planes : List Plane) (new : List ℕ) → RowsPacked row v planes
     → ((i : ℕ) → i < 512 → bit new i ≡ bit_at (get_or v (i - i % 32 + row) 0) (i % 32)) → RowsPacked (row + 1) v (set planes row (record { bits = new }))
 packed_more row rb v planes new before is = record {
-    long = length-set planes row (record { bits = new }) ∙ before.long;
-    rows = λ r i h ib. elim (cases_eq r row) [
-        inl e ↦ ap (λ n. bit (plane_at (set planes row (record { bits = new })) n) i) e ∙ ap (λ q. bit q i) (plane-set_same planes row new (omega (arith, before.long)))
-          ∙ is i ib ∙ ap (λ n. bit_at (get_or v (i - i % 32 + n) 0) (i % 32)) (sym e)
-      | inr n ↦ ap (λ q. bit q i) (plane-set_other planes row r (record { bits = new }) n) ∙ before.rows r i (omega arith) ib ];
-  }
+  long = length-set planes row (record { bits = new }) ∙ before.long;
+  rows = λ r i h ib. elim (cases_eq r row) [
+    | inl e ↦ ap (λ n. bit (plane_at (set planes row (record { bits = new })) n) i) e ∙ ap (λ q. bit q i) (plane-set_same planes row new (omega (arith, before.long)))
+        ∙ is i ib ∙ ap (λ n. bit_at (get_or v (i - i % 32 + n) 0) (i % 32)) (sym e)
+    | inr n ↦ ap (λ q. bit q i) (plane-set_other planes row r (record { bits = new }) n) ∙ before.rows r i (omega arith) ib
+  ];
+}
 
 -- the planes from len on are zero, as far as this one
 pub record CutBefore (len j : ℕ) (old new : List Plane) : Type 0 where
@@ -126,12 +130,13 @@ pub record CutBefore (len j : ℕ) (old new : List Plane) : Type 0 where
 pub cut_more : (len j : ℕ) → len ≤ j → j < 32 → (old new : List Plane) (zeros : List ℕ) → CutBefore len j old new → ((i : ℕ) → i < 512 → bit zeros i ≡ 0)
     → CutBefore len (j + 1) old (set new j (record { bits = zeros }))
 cut_more len j lb jb old new zeros before z = record {
-    long = length-set new j (record { bits = zeros }) ∙ before.long;
-    below = λ k kb. plane-set_other new j k (record { bits = zeros }) (λ e. absurd (omega arith)) ∙ before.below k kb;
-    above = λ k i l h ib. elim (cases_eq k j) [
-        inl e ↦ ap (λ n. bit (plane_at (set new j (record { bits = zeros })) n) i) e ∙ ap (λ q. bit q i) (plane-set_same new j zeros (omega (arith, before.long))) ∙ z i ib
-      | inr n ↦ ap (λ q. bit q i) (plane-set_other new j k (record { bits = zeros }) n) ∙ before.above k i l (omega arith) ib ];
-  }
+  long = length-set new j (record { bits = zeros }) ∙ before.long;
+  below = λ k kb. plane-set_other new j k (record { bits = zeros }) (λ e. absurd (omega arith)) ∙ before.below k kb;
+  above = λ k i l h ib. elim (cases_eq k j) [
+    | inl e ↦ ap (λ n. bit (plane_at (set new j (record { bits = zeros })) n) i) e ∙ ap (λ q. bit q i) (plane-set_same new j zeros (omega (arith, before.long))) ∙ z i ib
+    | inr n ↦ ap (λ q. bit q i) (plane-set_other new j k (record { bits = zeros }) n) ∙ before.above k i l (omega arith) ib
+  ];
+}
 
 -- the numbers of planes that are the transposed rows of these numbers
 pub numbers_from_rows : (v : List ℕ) (rows planes : List Plane) (len : ℕ) → len ≤ 32
@@ -149,8 +154,8 @@ pub numbers_read : (planes cut rows : List Plane) (v : List ℕ) (len : ℕ) →
     → (i : ℕ) → i < 512 → get_or v i 0 ≡ number planes 0 len i
 numbers_read planes cut rows v len lb below above turned fits bits i ib =
     let is : (j : ℕ) → j < 32 → bit_at (get_or v i 0) j ≡ bit (plane_at cut j) i = λ j jb.
-        bits i j ib jb ∙ turned (i % 32) (i - i % 32 + j) (omega arith) (omega arith)
-        ∙ ap (λ n. bit (plane_at cut ((i - i % 32 + j) % 32)) n) (let e : i - i % 32 + j - (i - i % 32 + j) % 32 + i % 32 ≡ i = omega arith in e)
-        ∙ ap (λ n. bit (plane_at cut n) i) (let e : (i - i % 32 + j) % 32 ≡ j = omega arith in e) in
+    bits i j ib jb ∙ turned (i % 32) (i - i % 32 + j) (omega arith) (omega arith)
+    ∙ ap (λ n. bit (plane_at cut ((i - i % 32 + j) % 32)) n) (let e : i - i % 32 + j - (i - i % 32 + j) % 32 + i % 32 ≡ i = omega arith in e)
+    ∙ ap (λ n. bit (plane_at cut n) i) (let e : (i - i % 32 + j) % 32 ≡ j = omega arith in e) in
     sym (number_is planes 0 len i (get_or v i 0) (λ j jb. ap (λ n. bit (plane_at planes n) i) (zero-add j) ∙ sym (ap (λ q. bit q i) (below j jb)) ∙ sym (is j (omega arith)))
-        ∙ low_bits (get_or v i 0) len 32 (fits i ib) (λ j l h. is j h ∙ above j i l h ib))
+    ∙ low_bits (get_or v i 0) len 32 (fits i ib) (λ j l h. is j h ∙ above j i l h ib))

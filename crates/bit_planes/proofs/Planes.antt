@@ -1,16 +1,16 @@
 -- Planes in a list, and the numbers that stand across them.
-use Rattle.std.proofs.Common.{◌≡◌, ◌≢◌, ℕ, suc, zero, ◌+◌, ◌-◌, ◌*◌, ◌/◌, ◌%◌, ◌^◌, ◌<◌, ◌≤◌, List, length, [], get_or, refl, sym, ◌∙◌, ap, inl, inr, add_comm, arith}
-use Rattle.std.proofs.Math.Nat.{mul_comm, mod-le}
-use Rattle.std.proofs.Math.Numerals.{one-add}
-use Rattle.std.proofs.lemmas.Nat.{mod-pow-add, pow_pos, mod_below}
+use Rattle.std.proofs.Common.{◌≡◌, ◌≢◌, ℕ, suc, zero, ◌+◌, ◌-◌, ◌*◌, ◌/◌, ◌%◌, ◌^◌, ◌<◌, ◌≤◌, List, length, [], get_or, refl, sym, ◌∙◌, ap, inl, inr, ◌⊎◌, ◌∷◌, add_comm, arith}
+use Rattle.std.proofs.Math.Nat.{mul_comm, mod-le, pow-suc, pow-le-pow_right}
+use Rattle.std.proofs.Math.Numerals.{one-add, add-one}
+use Rattle.std.proofs.lemmas.Nat.{mod-pow-add, pow_pos, mod_below, shl_whole, mul-le}
 use Rattle.std.proofs.lemmas.Nat.Bits.{same_from_bits_below, bit_at_above}
-use Rattle.std.proofs.lemmas.Bool.{cases_lt}
-use Rattle.bit_planes.proofs.Words.{bit_at-cut}
+use Rattle.std.proofs.lemmas.Bool.{cases_lt, cases_eq}
+use Rattle.bit_planes.proofs.Words.{bit_at-cut, bit-lt}
 use Rattle.std.specs.Int.{bit_at}
-use Rattle.std.proofs.Math.ListN.{set}
-use Rattle.std.proofs.lemmas.List.{get_or-set_same, get_or-set_other}
+use Rattle.std.proofs.Math.ListN.{set, length-set}
+use Rattle.std.proofs.lemmas.List.{get_or-set_same, get_or-set_other, get_or_read}
 use Rattle.bit_planes.specs.Bits.{bit}
-use Rattle.bit_planes.specs.Planes.{plane_at, number}
+use Rattle.bit_planes.specs.Planes.{plane_at, number, SetsField, SetsNumber}
 use Rattle.bit_planes.specs.declared.plane.Plane.{Plane}
 
 pub plane-set_same : (planes : List Plane) (i : ℕ) (w : List ℕ) → i < length planes → plane_at (set planes i (record { bits = w })) i ≡ w
@@ -18,6 +18,10 @@ plane-set_same planes i w h = ap (λ p. p.bits) (get_or-set_same planes i (recor
 
 pub plane-set_other : (planes : List Plane) (i j : ℕ) (p : Plane) → j ≢ i → plane_at (set planes i p) j ≡ plane_at planes j
 plane-set_other planes i j p n = ap (λ q. q.bits) (get_or-set_other planes i j p (record { bits = [] }) n)
+
+-- a plane that was read from the list
+pub plane_read : (planes : List Plane) (i : ℕ) (p : Plane) → i < length planes → p ≡ get_or planes i p → p.bits ≡ plane_at planes i
+plane_read planes i p h e = ap (λ q. q.bits) (get_or_read planes i p h e (record { bits = [] }))
 
 -- a number by the bits of its planes
 pub number_is : (planes : List Plane) (offset n i x : ℕ) → ((j : ℕ) → j < n → bit (plane_at planes (offset + j)) i ≡ bit_at x j) → number planes offset n i ≡ x % 2 ^ n
@@ -34,5 +38,61 @@ number_is planes offset (suc n) i x h =
 -- a number without bits from n on is its lowest n bits
 pub low_bits : (x n m : ℕ) → x < 2 ^ m → ((j : ℕ) → n ≤ j → j < m → bit_at x j ≡ 0) → x % 2 ^ n ≡ x
 low_bits x n m b h = same_from_bits_below m (x % 2 ^ n) x (omega (arith, mod-le x (2 ^ n))) b (λ j jb. elim (cases_lt j n) [
-    inl l ↦ bit_at-cut x n j l
-  | inr g ↦ bit_at_above (x % 2 ^ n) n j (mod_below x (2 ^ n) (pow_pos n)) g ∙ sym (h j g jb) ])
+  | inl l ↦ bit_at-cut x n j l
+  | inr g ↦ bit_at_above (x % 2 ^ n) n j (mod_below x (2 ^ n) (pow_pos n)) g ∙ sym (h j g jb)
+])
+
+-- two fields with the same bits in a lane have the same number there
+pub number-same : (xs ys : List Plane) (at to n i : ℕ) → ((j : ℕ) → j < n → bit (plane_at xs (at + j)) i ≡ bit (plane_at ys (to + j)) i) → number xs at n i ≡ number ys to n i
+unfolding number
+number-same xs ys at to zero i h = refl
+number-same xs ys at to (suc n) i h =
+    ap (λ m. m + 2 ^ n * bit (plane_at xs (at + n)) i) (number-same xs ys at to n i (λ j b. h j (omega arith)))
+    ∙ ap (λ b. number ys to n i + 2 ^ n * b) (h n (omega arith))
+
+pub number-lt : (planes : List Plane) (offset n i : ℕ) → number planes offset n i < 2 ^ n
+unfolding number
+number-lt planes offset zero i = omega arith
+number-lt planes offset (suc n) i =
+    let top : 2 ^ n * bit (plane_at planes (offset + n)) i ≤ 2 ^ n * 1 = mul-le (2 ^ n) (bit (plane_at planes (offset + n)) i) (2 ^ n) 1 (omega arith) (omega (arith, bit-lt (plane_at planes (offset + n)) i)) in
+    omega (arith, number-lt planes offset n i, pow-suc 2 n)
+
+pub number-suc : (planes : List Plane) (offset n i : ℕ) → number planes offset (n + 1) i ≡ number planes offset n i + 2 ^ n * bit (plane_at planes (offset + n)) i
+unfolding number
+number-suc planes offset n i = ap (λ m. number planes offset m i) (add-one n)
+
+pow_top : (j : ℕ) → j < 32 → 2 ^ (j + 1) ≤ 2 ^ 32
+pow_top j h = pow-le-pow_right {n = 2} (omega arith) {i = j + 1} {j = 32} (omega arith)
+
+pub number-none : (planes : List Plane) (offset i : ℕ) → number planes offset 0 i ≡ 0
+unfolding number
+number-none planes offset i = refl
+
+-- one more bit of a number that is read bit by bit
+pub number_step : (planes : List Plane) (offset j row : ℕ) → j < 32 → (n b : ℕ) → n ≡ number planes offset j row → b ≡ bit (plane_at planes (offset + j)) row
+    → (n + b * 2 ^ j % 2 ^ 32 ≡ number planes offset (j + 1) row) × (n + b * 2 ^ j % 2 ^ 32 < 2 ^ 32)
+number_step planes offset j row jb n b ne be =
+    let whole : b * 2 ^ j % 2 ^ 32 ≡ b * 2 ^ j = shl_whole b 1 j 32 (omega (arith, bit-lt (plane_at planes (offset + j)) row)) (omega arith) in
+    let same : n + b * 2 ^ j % 2 ^ 32 ≡ number planes offset (j + 1) row =
+    ap (λ m. n + m) (whole ∙ mul_comm b (2 ^ j)) ∙ ap (λ m. m + 2 ^ j * b) ne ∙ ap (λ m. number planes offset j row + 2 ^ j * m) be ∙ sym (number-suc planes offset j row) in
+    (same, omega (arith, same, number-lt planes offset (j + 1) row, pow_top j jb))
+
+-- the planes of a field before j are copied
+pub record FieldCopied (offset j : ℕ) (planes copy : List Plane) : Type 0 where
+  pub long : length copy ≡ 32
+  pub copied : (k : ℕ) → k < j → plane_at copy k ≡ plane_at planes (offset + k)
+
+-- the bits of a row's number before j are written
+pub record BitsWritten (offset j row v : ℕ) (old new : List Plane) : Type 0 where
+  pub long : length new ≡ length old
+  pub bits : (k : ℕ) → k < j → bit (plane_at new (offset + k)) row ≡ bit_at v k
+  pub other_planes : (k : ℕ) → (k < offset) ⊎ (offset + j ≤ k) → plane_at new k ≡ plane_at old k
+  pub other_rows : (k i : ℕ) → i < 512 → i ≢ row → bit (plane_at new k) i ≡ bit (plane_at old k) i
+
+pub number_written : (offset n row v : ℕ) (old new : List Plane) → BitsWritten offset n row v old new → SetsNumber offset n row v old new
+number_written offset n row v old new done = record {
+  long = done.long;
+  number = number_is new offset n row v done.bits;
+  other_planes = done.other_planes;
+  other_rows = done.other_rows;
+}

@@ -1,14 +1,18 @@
 -- A lane of a plane, by the words of the plane.
-use Rattle.std.proofs.Common.{◌≡◌, ℕ, suc, zero, ◌+◌, ◌-◌, ◌*◌, ◌/◌, ◌%◌, ◌^◌, ◌<◌, ◌≤◌, min, max, cond, nat_lt, Bool, true, false, List, [], ◌∷◌, map, length, get_or, Fits, w64, refl, sym, ◌∙◌, ap, inl, inr, arith}
+use Rattle.std.proofs.Common.{◌≡◌, ◌≢◌, ℕ, suc, zero, ◌+◌, ◌-◌, ◌*◌, ◌/◌, ◌%◌, ◌^◌, ◌<◌, ◌≤◌, min, max, cond, nat_lt, Bool, true, false, List, [], ◌∷◌, map, length, get_or, Fits, w64, refl, sym, ◌∙◌, ap, inl, inr, arith}
 use Rattle.std.specs.Simd.Lanes.{zip2, Each1}
 use Rattle.std.specs.Int.{bit_at, bit_not}
-use Rattle.std.proofs.Math.ListN.{replicate}
-use Rattle.std.proofs.lemmas.List.{get_or-map}
+use Rattle.std.proofs.Math.ListN.{replicate, set}
+use Rattle.std.proofs.lemmas.List.{get_or-map, get_or-set_same, get_or-set_other}
 use Rattle.std.proofs.lemmas.Simd.{get_or-zip2, Each1-get_or, get_or-replicate}
 use Rattle.std.proofs.lemmas.Nat.Bits.{bit_at_not, bit_at_above, bit_at_ones, bit_at-zero, bit_at_cat_low, bit_at_cat_high}
 use Rattle.std.proofs.lemmas.Nat.{shr-shr, div-add-mod', pow_pos}
-use Rattle.std.proofs.lemmas.Bool.{cases_lt, lt-ltb, le-ltb}
+use Rattle.std.proofs.lemmas.Bool.{cases_lt, cases_eq, lt-ltb, le-ltb}
 use Rattle.bit_planes.specs.Bits.{bit}
+
+pub bit-lt : (plane : List ℕ) (i : ℕ) → bit plane i < 2
+unfolding bit
+bit-lt plane i = omega arith
 
 -- an operator on two planes, lane by lane
 pub bit-zip2 : (f g : ℕ → ℕ → ℕ) → ((x y j : ℕ) → bit_at (f x y) j ≡ g (bit_at x j) (bit_at y j))
@@ -60,12 +64,13 @@ bit-moved_up a k la kb i h =
     ∙ bit_at-cut (x * 2 ^ get_or (replicate 8 k) (i / 64) 0) 64 (i % 64) (omega arith)
     ∙ ap (λ s. bit_at (x * 2 ^ s) (i % 64)) (get_or-replicate 8 (i / 64) k 0 (omega arith))
     ∙ elim (cases_lt (i % 64) k) [
-        inl low ↦ bit_at-shl_low x k (i % 64) low ∙ sym (ap (λ t. cond t 0 (bit_at (get_or a ((i - k) / 64) 0) ((i - k) % 64))) (lt-ltb (i % 64) k low))
+      | inl low ↦ bit_at-shl_low x k (i % 64) low ∙ sym (ap (λ t. cond t 0 (bit_at (get_or a ((i - k) / 64) 0) ((i - k) % 64))) (lt-ltb (i % 64) k low))
       | inr high ↦
-        bit_at-shl_high x k (i % 64) (pow_pos k) high
-        ∙ ap (λ w. bit_at (get_or a w 0) (i % 64 - k)) (let e : i / 64 ≡ (i - k) / 64 = omega arith in e)
-        ∙ ap (λ j. bit_at (get_or a ((i - k) / 64) 0) j) (let e : i % 64 - k ≡ (i - k) % 64 = omega arith in e)
-        ∙ sym (ap (λ t. cond t 0 (bit_at (get_or a ((i - k) / 64) 0) ((i - k) % 64))) (le-ltb (i % 64) k high)) ]
+          bit_at-shl_high x k (i % 64) (pow_pos k) high
+          ∙ ap (λ w. bit_at (get_or a w 0) (i % 64 - k)) (let e : i / 64 ≡ (i - k) / 64 = omega arith in e)
+          ∙ ap (λ j. bit_at (get_or a ((i - k) / 64) 0) j) (let e : i % 64 - k ≡ (i - k) % 64 = omega arith in e)
+          ∙ sym (ap (λ t. cond t 0 (bit_at (get_or a ((i - k) / 64) 0) ((i - k) % 64))) (le-ltb (i % 64) k high))
+    ]
 
 pub bit-moved_down : (a : List ℕ) (k : ℕ) → length a ≡ 8 → Each1 (Fits w64) a → k < 64 → (i : ℕ) → i < 512
     → bit (zip2 (λ x s. x / 2 ^ s) a (replicate 8 k)) i ≡ cond (nat_lt (i % 64 + k) 64) (bit a (i + k)) 0
@@ -76,10 +81,26 @@ bit-moved_down a k la fits kb i h =
     ∙ ap (λ s. bit_at (x / 2 ^ s) (i % 64)) (get_or-replicate 8 (i / 64) k 0 (omega arith))
     ∙ bit_at-shr x k (i % 64)
     ∙ elim (cases_lt (i % 64 + k) 64) [
-        inl low ↦
-        ap (λ w. bit_at (get_or a w 0) (k + i % 64)) (let e : i / 64 ≡ (i + k) / 64 = omega arith in e)
-        ∙ ap (λ j. bit_at (get_or a ((i + k) / 64) 0) j) (let e : k + i % 64 ≡ (i + k) % 64 = omega arith in e)
-        ∙ sym (ap (λ t. cond t (bit_at (get_or a ((i + k) / 64) 0) ((i + k) % 64)) 0) (lt-ltb (i % 64 + k) 64 low))
+      | inl low ↦
+          ap (λ w. bit_at (get_or a w 0) (k + i % 64)) (let e : i / 64 ≡ (i + k) / 64 = omega arith in e)
+          ∙ ap (λ j. bit_at (get_or a ((i + k) / 64) 0) j) (let e : k + i % 64 ≡ (i + k) % 64 = omega arith in e)
+          ∙ sym (ap (λ t. cond t (bit_at (get_or a ((i + k) / 64) 0) ((i + k) % 64)) 0) (lt-ltb (i % 64 + k) 64 low))
       | inr high ↦
-        bit_at_above x 64 (k + i % 64) (word_fits a la fits (i / 64) (omega arith)) (omega arith)
-        ∙ sym (ap (λ t. cond t (bit_at (get_or a ((i + k) / 64) 0) ((i + k) % 64)) 0) (le-ltb (i % 64 + k) 64 high)) ]
+          bit_at_above x 64 (k + i % 64) (word_fits a la fits (i / 64) (omega arith)) (omega arith)
+          ∙ sym (ap (λ t. cond t (bit_at (get_or a ((i + k) / 64) 0) ((i + k) % 64)) 0) (le-ltb (i % 64 + k) 64 high))
+    ]
+
+-- a word of the plane is replaced
+pub bit-set_same : (a : List ℕ) → length a ≡ 8 → (i : ℕ) → i < 512 → (w b : ℕ) → bit_at w (i % 64) ≡ b → bit (set a (i / 64) w) i ≡ b
+unfolding bit
+bit-set_same a la i h w b e = ap (λ n. bit_at n (i % 64)) (get_or-set_same a (i / 64) w 0 (omega arith)) ∙ e
+
+pub bit-set_other : (a : List ℕ) → length a ≡ 8 → (i : ℕ) → i < 512 → (w : ℕ) → ((j : ℕ) → j < 64 → j ≢ i % 64 → bit_at w j ≡ bit_at (get_or a (i / 64) 0) j)
+    → (k : ℕ) → k < 512 → k ≢ i → bit (set a (i / 64) w) k ≡ bit a k
+unfolding bit
+bit-set_other a la i h w same k kb n = elim (cases_eq (k / 64) (i / 64)) [
+  | inl e ↦
+      ap (λ p. bit_at (get_or (set a (i / 64) w) p 0) (k % 64)) e ∙ ap (λ p. bit_at p (k % 64)) (get_or-set_same a (i / 64) w 0 (omega arith))
+      ∙ same (k % 64) (omega arith) (λ q. absurd (omega arith)) ∙ ap (λ p. bit_at (get_or a p 0) (k % 64)) (sym e)
+  | inr m ↦ ap (λ p. bit_at p (k % 64)) (get_or-set_other a (i / 64) (k / 64) w 0 m)
+]

@@ -1,4 +1,4 @@
-ghost use Rattle.std.specs.Prelude.{◌≡◌, ℕ, ◌<◌, ◌+◌, ◌*◌, ◌-◌, ◌/◌, ◌%◌, min, max, if◌then◌else◌, nat_lt};
+ghost use Rattle.std.specs.Prelude.{◌≡◌, ◌≢◌, ℕ, ◌<◌, ◌+◌, ◌*◌, ◌-◌, ◌/◌, ◌%◌, min, max, if◌then◌else◌, nat_lt};
 ghost use Rattle.std.specs.Int.{bit_at};
 ghost use Rattle.bit_planes.specs.Bits.{bit};
 
@@ -11,6 +11,8 @@ pub struct Plane {
 }
 
 impl Clone for Plane {
+    ghost is_clone = { λ x y. y ≡ x };
+
     fn clone(&self) -> Result<Plane, AllocError> {
         Ok(*self)
     }
@@ -28,6 +30,43 @@ impl Plane {
             bits: u64x8::splat(0),
         }
     }
+}
+
+/// The word with this bit made 1 or 0.
+#[inline(always)]
+fn with_bit(word: u64, at: u32, one: bool) -> u64
+    requires { at < 64 }
+    ensures bit { bit_at result at ≡ (if one then 1 else 0) }
+    ensures others { (j : ℕ) → j < 64 → j ≢ at → bit_at result j ≡ bit_at word j }
+{
+    if one {
+        word | (1 << at)
+    } else {
+        word & !(1 << at)
+    }
+}
+
+/// The bit of a lane, 0 or 1.
+#[inline(always)]
+pub fn lane(a: u64x8, i: u32) -> u32
+    requires { i < 512 }
+    ensures { result ≡ bit a i }
+{
+    let words = a.to_array();
+    ((words[i as usize / 64] >> (i % 64)) % 2) as u32
+}
+
+/// The plane with the bit of a lane made 1 or 0.
+#[inline(always)]
+pub fn with_lane(a: u64x8, i: u32, one: bool) -> u64x8
+    requires { i < 512 }
+    ensures lane { bit result i ≡ (if one then 1 else 0) }
+    ensures others { (k : ℕ) → k < 512 → k ≢ i → bit result k ≡ bit a k }
+{
+    let mut words = a.to_array();
+    let word = i as usize / 64;
+    words[word] = with_bit(words[word], i % 64, one);
+    u64x8::from_array(words)
 }
 
 /// The plane that holds one bit in every lane.

@@ -1,5 +1,4 @@
 use Rattle.bit_planes.proofs.Words.{bit-opposite}
-
 use Rattle.bit_planes.proofs.plane.opposite.Goals as goal
 
 pub returns : goal.returns

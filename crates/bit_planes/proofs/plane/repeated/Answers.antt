@@ -7,5 +7,6 @@ use Rattle.bit_planes.proofs.plane.repeated.Goals.{then-one, else-one}
 
 pub returns : goal.returns
 returns c = λ i h. elim c.if-one.branch [
-    then-one w ↦ ap (λ n. bit (replicate 8 n) i) w.result-is ∙ bit-ones i h ∙ sym (ap (λ (b : Bool). cond b 1 0) w.if-one.true)
-  | else-one w ↦ ap (λ n. bit (replicate 8 n) i) w.result-is ∙ bit-zeros i h ∙ sym (ap (λ (b : Bool). cond b 1 0) w.if-one.false) ]
+  | then-one w ↦ ap (λ n. bit (replicate 8 n) i) w.result-is ∙ bit-ones i h ∙ sym (ap (λ (b : Bool). cond b 1 0) w.if-one.true)
+  | else-one w ↦ ap (λ n. bit (replicate 8 n) i) w.result-is ∙ bit-zeros i h ∙ sym (ap (λ (b : Bool). cond b 1 0) w.if-one.false)
+]
