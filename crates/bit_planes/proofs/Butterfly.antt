@@ -1,15 +1,14 @@
 -- The exchange of bits between two planes, lane by lane.
-use Rattle.std.proofs.Common.{◌≡◌, ℕ, suc, zero, ◌+◌, ◌-◌, ◌*◌, ◌/◌, ◌%◌, ◌^◌, ◌<◌, ◌≤◌, ◌⊎◌, min, cond, nat_lt, nat_eq, Bool, true, false, List, length, refl, sym, ◌∙◌, ap, subst, inl, inr, arith}
+use Rattle.std.proofs.Common.{◌≡◌, ℕ, suc, zero, ◌+◌, ◌-◌, ◌*◌, ◌/◌, ◌%◌, ◌<◌, ◌≤◌, ◌⊎◌, min, cond, nat_lt, nat_eq, Bool, true, false, List, length, refl, sym, ◌∙◌, ap, subst, inl, inr, arith}
 use Rattle.std.specs.Int.{bit_at}
 use Rattle.std.proofs.lemmas.Bool.{cases_lt, lt-ltb, le-ltb, eqb-true}
-use Rattle.std.proofs.lemmas.Bool.Decides.{nat_tests}
 use Rattle.std.proofs.Math.Bool.{◌&&◌}
 use Rattle.std.proofs.Math.ListN.{set, length-set}
 use Rattle.bit_planes.proofs.Planes.{plane-set_same, plane-set_other}
 use Rattle.bit_planes.proofs.Words.{bit-lt}
 use Rattle.bit_planes.specs.Bits.{bit}
 use Rattle.bit_planes.specs.Planes.{plane_at}
-use Rattle.bit_planes.specs.Steps.{IsStep, PairExchanged, Exchanged, Transposed}
+use Rattle.bit_planes.specs.Steps.{IsStep, PairExchanged}
 use Rattle.bit_planes.specs.declared.plane.Plane.{Plane}
 
 -- what holds of the five steps holds of each step

@@ -1,16 +1,16 @@
 -- Planes in a list, and the numbers that stand across them.
-use Rattle.std.proofs.Common.{◌≡◌, ◌≢◌, ℕ, suc, zero, ◌+◌, ◌-◌, ◌*◌, ◌/◌, ◌%◌, ◌^◌, ◌<◌, ◌≤◌, List, length, [], get_or, refl, sym, ◌∙◌, ap, inl, inr, ◌⊎◌, ◌∷◌, add_comm, arith}
+use Rattle.std.proofs.Common.{◌≡◌, ◌≢◌, ℕ, suc, zero, ◌+◌, ◌*◌, ◌/◌, ◌%◌, ◌^◌, ◌<◌, ◌≤◌, List, length, [], get_or, refl, sym, ◌∙◌, ap, inl, inr, ◌⊎◌, add_comm, arith}
 use Rattle.std.proofs.Math.Nat.{mul_comm, mod-le, pow-suc, pow-le-pow_right}
 use Rattle.std.proofs.Math.Numerals.{one-add, add-one}
 use Rattle.std.proofs.lemmas.Nat.{mod-pow-add, pow_pos, mod_below, shl_whole, mul-le}
 use Rattle.std.proofs.lemmas.Nat.Bits.{same_from_bits_below, bit_at_above}
-use Rattle.std.proofs.lemmas.Bool.{cases_lt, cases_eq}
+use Rattle.std.proofs.lemmas.Bool.{cases_lt}
 use Rattle.bit_planes.proofs.Words.{bit_at-cut, bit-lt}
 use Rattle.std.specs.Int.{bit_at}
-use Rattle.std.proofs.Math.ListN.{set, length-set}
+use Rattle.std.proofs.Math.ListN.{set}
 use Rattle.std.proofs.lemmas.List.{get_or-set_same, get_or-set_other, get_or_read}
 use Rattle.bit_planes.specs.Bits.{bit}
-use Rattle.bit_planes.specs.Planes.{plane_at, number, SetsField, SetsNumber}
+use Rattle.bit_planes.specs.Planes.{plane_at, number, SetsNumber}
 use Rattle.bit_planes.specs.declared.plane.Plane.{Plane}
 
 pub plane-set_same : (planes : List Plane) (i : ℕ) (w : List ℕ) → i < length planes → plane_at (set planes i (record { bits = w })) i ≡ w

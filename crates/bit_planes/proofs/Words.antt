@@ -1,5 +1,5 @@
 -- A lane of a plane, by the words of the plane.
-use Rattle.std.proofs.Common.{◌≡◌, ◌≢◌, ℕ, suc, zero, ◌+◌, ◌-◌, ◌*◌, ◌/◌, ◌%◌, ◌^◌, ◌<◌, ◌≤◌, min, max, cond, nat_lt, Bool, true, false, List, [], ◌∷◌, map, length, get_or, Fits, w64, refl, sym, ◌∙◌, ap, inl, inr, arith}
+use Rattle.std.proofs.Common.{◌≡◌, ◌≢◌, ℕ, ◌+◌, ◌-◌, ◌*◌, ◌/◌, ◌%◌, ◌^◌, ◌<◌, ◌≤◌, cond, nat_lt, List, map, length, get_or, Fits, w64, sym, ◌∙◌, ap, inl, inr, arith}
 use Rattle.std.specs.Simd.Lanes.{zip2, Each1}
 use Rattle.std.specs.Int.{bit_at, bit_not}
 use Rattle.std.proofs.Math.ListN.{replicate, set}

@@ -1,4 +1,4 @@
-use Rattle.std.proofs.Common.{◌≡◌, ℕ, cond, Bool, ◌∙◌, sym, ap}
+use Rattle.std.proofs.Common.{cond, Bool, ◌∙◌, sym, ap}
 use Rattle.std.proofs.Math.ListN.{replicate}
 use Rattle.bit_planes.specs.Bits.{bit}
 use Rattle.bit_planes.proofs.Words.{bit-ones, bit-zeros}

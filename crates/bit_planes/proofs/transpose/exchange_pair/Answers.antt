@@ -1,4 +1,3 @@
-use Rattle.std.proofs.Common.{arith}
 use Rattle.bit_planes.proofs.Butterfly.{pair_written, step_pos}
 use Rattle.bit_planes.proofs.transpose.exchange_pair.Goals as goal
 

@@ -1,4 +1,4 @@
-use Rattle.std.proofs.Common.{ap, ◌∙◌, ◌+◌, zero-add, arith}
+use Rattle.std.proofs.Common.{ap, ◌∙◌, zero-add, arith}
 use Rattle.bit_planes.specs.Bits.{bit}
 use Rattle.bit_planes.specs.Planes.{plane_at}
 use Rattle.bit_planes.proofs.Planes.{number-same}
