@@ -1,0 +1,166 @@
+-- One bit of each kernel, on plain numbers.
+use Rattle.std.proofs.Common.{◌≡◌, ◌≢◌, ℕ, suc, zero, ◌+◌, ◌-◌, ◌*◌, ◌/◌, ◌%◌, ◌^◌, ◌<◌, ◌≤◌, ◌⊎◌, min, max, cond, nat_lt, nat_eq, Bool, true, false, refl, sym, ◌∙◌, ap, inl, inr, arith}
+use Rattle.std.specs.Int.{bit_at}
+use Rattle.std.proofs.Math.Nat.{mul-add-div, div-add-mod, mul_comm, mul-add, mod-eq_of_lt, add-mod_right, pow-suc}
+use Rattle.std.proofs.Math.Numerals.{one-add, add-one}
+use Rattle.std.proofs.lemmas.Nat.{mod-pow-add, shr-shr, pow_pos, mod_below}
+use Rattle.std.proofs.lemmas.Bool.Decides.{nat_tests}
+use Rattle.std.proofs.lemmas.Nat.{and_mask, and_le_l, or_lt, xor_lt}
+use Rattle.std.proofs.lemmas.Nat.Bits.{bit_at_and, bit_at_or, bit_at_xor, bit_at_ones}
+use Rattle.std.specs.Int.Bits.{bit_and, bit_or, bit_xor, xor_add_and}
+use Rattle.lane_kernels.specs.declared.gates.Gate.{Gate}
+use Rattle.lane_kernels.specs.declared.gates.Gate.TheVariants.{And, Or, Xor}
+use Rattle.lane_kernels.specs.Gates.{gate_bit, gate_of}
+use Rattle.lane_kernels.specs.Numbers.{addend, is_less}
+
+pub mod_small : (n m : ℕ) → n < m → n % m ≡ n
+mod_small n m h = mod-eq_of_lt h
+
+-- the next bit of a number, before those below it
+pub mod-next : (x j : ℕ) → x % 2 ^ (j + 1) ≡ bit_at x j * 2 ^ j + x % 2 ^ j
+mod-next x j = ap (λ n. x % 2 ^ n) (let e : j + 1 ≡ 1 + j = omega arith in e) ∙ mod-pow-add x 1 j
+
+pub bit_at-lt : (x j : ℕ) → bit_at x j < 2
+bit_at-lt x j = omega arith
+
+-- a sum by its upper and lower parts
+sum_div : (p x y c : ℕ) → 0 < p → (x + y + c) / p ≡ x / p + y / p + (x % p + y % p + c) / p
+sum_div p x y c pos =
+    let e : x + y + c ≡ p * (x / p + y / p) + (x % p + y % p + c) = omega (arith, div-add-mod x p, div-add-mod y p, mul-add p (x / p) (y / p)) in
+    ap (λ n. n / p) e ∙ mul-add-div pos (x / p + y / p) (x % p + y % p + c)
+
+-- the bit of a sum
+pub sum_bit_is : (x y c j : ℕ) → bit_at (x + y + c) j ≡ (bit_at x j + bit_at y j + (x % 2 ^ j + y % 2 ^ j + c) / 2 ^ j) % 2
+sum_bit_is x y c j = ap (λ n. n % 2) (sum_div (2 ^ j) x y c (pow_pos j)) ∙ omega arith
+
+-- the carry out of a bit
+pub carry_is : (x y c j : ℕ) → (x % 2 ^ (j + 1) + y % 2 ^ (j + 1) + c) / 2 ^ (j + 1) ≡ (bit_at x j + bit_at y j + (x % 2 ^ j + y % 2 ^ j + c) / 2 ^ j) / 2
+carry_is x y c j =
+    let p : ℕ = 2 ^ j in
+    let e : x % 2 ^ (j + 1) + y % 2 ^ (j + 1) + c ≡ p * (bit_at x j + bit_at y j) + (x % p + y % p + c) =
+    omega (arith, mod-next x j, mod-next y j, mul-add p (bit_at x j) (bit_at y j), mul_comm p (bit_at x j), mul_comm p (bit_at y j)) in
+    sym (shr-shr (x % 2 ^ (j + 1) + y % 2 ^ (j + 1) + c) j 1) ∙ ap (λ n. n / p / 2) e
+    ∙ ap (λ n. n / 2) (mul-add-div (pow_pos j) (bit_at x j + bit_at y j) (x % p + y % p + c))
+
+-- the order of two numbers by their next bits
+pub less_step : (p a b x y : ℕ) → a < 2 → b < 2 → x < p → y < p
+    → cond (nat_lt (a * p + x) (b * p + y)) 1 0 ≡ cond (nat_eq a b) (cond (nat_lt x y) 1 0) b
+less_step p zero zero x y ab bb xb yb = grind (arith, nat_tests)
+less_step p zero (suc zero) x y ab bb xb yb = grind (arith, nat_tests)
+less_step p (suc zero) zero x y ab bb xb yb = grind (arith, nat_tests)
+less_step p (suc zero) (suc zero) x y ab bb xb yb = grind (arith, nat_tests)
+less_step p (suc (suc a)) b x y ab bb xb yb = absurd (omega arith)
+less_step p zero (suc (suc b)) x y ab bb xb yb = absurd (omega arith)
+less_step p (suc zero) (suc (suc b)) x y ab bb xb yb = absurd (omega arith)
+
+-- whether two numbers are equal, by their next bits
+pub equal_step : (p a b x y : ℕ) → a < 2 → b < 2 → x < p → y < p
+    → cond (nat_eq (a * p + x) (b * p + y)) 1 0 ≡ min (cond (nat_eq x y) 1 0) (1 - (a + b) % 2)
+equal_step p zero zero x y ab bb xb yb = grind (arith, nat_tests)
+equal_step p zero (suc zero) x y ab bb xb yb = grind (arith, nat_tests)
+equal_step p (suc zero) zero x y ab bb xb yb = grind (arith, nat_tests)
+equal_step p (suc zero) (suc zero) x y ab bb xb yb = grind (arith, nat_tests)
+equal_step p (suc (suc a)) b x y ab bb xb yb = absurd (omega arith)
+equal_step p zero (suc (suc b)) x y ab bb xb yb = absurd (omega arith)
+equal_step p (suc zero) (suc (suc b)) x y ab bb xb yb = absurd (omega arith)
+
+-- gates of bits
+pub carry_gate : (a b c : ℕ) → a < 2 → b < 2 → c < 2 → max (min a b) (min c ((a + b) % 2)) ≡ (a + b + c) / 2
+carry_gate a b c ab bb cb = omega arith
+
+pub choice_gate : (m a b : ℕ) → m < 2 → a < 2 → b < 2 → (b + min m ((a + b) % 2)) % 2 ≡ cond (nat_eq m 1) a b
+choice_gate zero a b mb ab bb = omega arith
+choice_gate (suc zero) a b mb ab bb = omega arith
+choice_gate (suc (suc m)) a b mb ab bb = absurd (omega arith)
+
+pub decided_gate : (x y below : ℕ) → x < 2 → y < 2 → cond (nat_eq ((x + y) % 2) 1) y below ≡ cond (nat_eq x y) below y
+decided_gate zero zero below xb yb = refl
+decided_gate zero (suc zero) below xb yb = refl
+decided_gate (suc zero) zero below xb yb = refl
+decided_gate (suc zero) (suc zero) below xb yb = refl
+decided_gate (suc (suc x)) y below xb yb = absurd (omega arith)
+decided_gate zero (suc (suc y)) below xb yb = absurd (omega arith)
+decided_gate (suc zero) (suc (suc y)) below xb yb = absurd (omega arith)
+
+-- the bits of a complement
+pub complement_bits : (n x j : ℕ) → x < 2 ^ n → j < n → bit_at (2 ^ n - 1 - x) j ≡ 1 - bit_at x j
+complement_bits n x j xb jb =
+    let both : bit_and x (2 ^ n - 1) ≡ x = and_mask x n ∙ mod_small x (2 ^ n) xb in
+    let apart : bit_xor x (2 ^ n - 1) ≡ 2 ^ n - 1 - x = omega (arith, xor_add_and x (2 ^ n - 1), both) in
+    ap (λ m. bit_at m j) (sym apart) ∙ bit_at_xor x (2 ^ n - 1) j ∙ ap (λ b. (bit_at x j + b) % 2) (bit_at_ones n j jb) ∙ omega arith
+
+-- what is added bit by bit for a number, or to take it away, beside the carry into the lowest bit
+abbrev pub added : Bool → ℕ → ℕ → ℕ
+added inverted n y = cond inverted (2 ^ n - 1 - y) y
+
+pub added_bits : (inverted : Bool) (n y j : ℕ) → y < 2 ^ n → j < n → (bit_at y j + cond inverted 1 0) % 2 ≡ bit_at (added inverted n y) j
+added_bits true n y j yb jb = omega (arith, complement_bits n y j yb jb)
+added_bits false n y j yb jb = omega arith
+
+pub added_whole : (inverted : Bool) (n x y : ℕ) → y < 2 ^ n → (x + added inverted n y + cond inverted 1 0) % 2 ^ n ≡ (x + addend inverted n y) % 2 ^ n
+added_whole true n x y yb = ap (λ m. m % 2 ^ n) (omega arith)
+added_whole false n x y yb = ap (λ m. m % 2 ^ n) (omega arith)
+
+-- gates of numbers, bit by bit
+pub gate_bits : (g : Gate) (x y j : ℕ) → bit_at (gate_of g x y) j ≡ gate_bit g (bit_at x j) (bit_at y j)
+gate_bits And x y j = bit_at_and x y j
+gate_bits Or x y j = bit_at_or x y j
+gate_bits Xor x y j = bit_at_xor x y j
+
+pub gate_of-lt : (g : Gate) (n x y : ℕ) → x < 2 ^ n → y < 2 ^ n → gate_of g x y < 2 ^ n
+gate_of-lt And n x y xb yb = omega (arith, and_le_l x y)
+gate_of-lt Or n x y xb yb = or_lt n x y xb yb
+gate_of-lt Xor n x y xb yb = xor_lt n x y xb yb
+
+-- one of two numbers, bit by bit
+pub cond_bits : (t : Bool) (x y j : ℕ) → cond t (bit_at x j) (bit_at y j) ≡ bit_at (cond t x y) j
+cond_bits true x y j = refl
+cond_bits false x y j = refl
+
+pub cond-lt : (t : Bool) (x y n : ℕ) → x < n → y < n → cond t x y < n
+cond-lt true x y n a b = a
+cond-lt false x y n a b = b
+
+-- the place in order of a number with this upper bit, in two's complement
+place_is : (p a x : ℕ) → a < 2 → x < p → (a * p + x + p) % (p * 2) ≡ (1 - a) * p + x
+place_is p zero x ab xb = (let e : 0 * p + x + p ≡ x + p = omega arith in ap (λ m. m % (p * 2)) e) ∙ mod_small (x + p) (p * 2) (omega arith) ∙ omega arith
+place_is p (suc zero) x ab xb = (let e : 1 * p + x + p ≡ x + p * 2 = omega arith in ap (λ m. m % (p * 2)) e) ∙ add-mod_right x (p * 2) ∙ mod_small x (p * 2) (omega arith) ∙ omega arith
+place_is p (suc (suc a)) x ab xb = absurd (omega arith)
+
+by_top : (n x : ℕ) → 1 ≤ n → x < 2 ^ n → bit_at x (n - 1) * 2 ^ (n - 1) + x % 2 ^ (n - 1) ≡ x
+by_top n x nb xb = sym (mod-next x (n - 1)) ∙ ap (λ m. x % 2 ^ m) (let e : n - 1 + 1 ≡ n = omega arith in e) ∙ mod_small x (2 ^ n) xb
+
+double : (n : ℕ) → 1 ≤ n → 2 ^ (n - 1) * 2 ≡ 2 ^ n
+double n nb = sym (pow-suc 2 (n - 1)) ∙ ap (λ m. 2 ^ m) (let e : suc (n - 1) ≡ n = omega arith in e)
+
+place : (n x : ℕ) → 1 ≤ n → x < 2 ^ n → (1 - bit_at x (n - 1)) * 2 ^ (n - 1) + x % 2 ^ (n - 1) ≡ (x + 2 ^ (n - 1)) % 2 ^ n
+place n x nb xb =
+    sym (place_is (2 ^ (n - 1)) (bit_at x (n - 1)) (x % 2 ^ (n - 1)) (omega arith) (mod_below x (2 ^ (n - 1)) (pow_pos (n - 1))))
+    ∙ ap (λ m. (m + 2 ^ (n - 1)) % (2 ^ (n - 1) * 2)) (by_top n x nb xb) ∙ ap (λ m. (x + 2 ^ (n - 1)) % m) (double n nb)
+
+exchanged : (a b r : ℕ) → a < 2 → b < 2 → cond (nat_eq b a) r a ≡ cond (nat_eq (1 - a) (1 - b)) r (1 - b)
+exchanged zero zero r ab bb = refl
+exchanged zero (suc zero) r ab bb = refl
+exchanged (suc zero) zero r ab bb = refl
+exchanged (suc zero) (suc zero) r ab bb = refl
+exchanged (suc (suc a)) b r ab bb = absurd (omega arith)
+exchanged zero (suc (suc b)) r ab bb = absurd (omega arith)
+exchanged (suc zero) (suc (suc b)) r ab bb = absurd (omega arith)
+
+-- the order of two numbers by their upper bits and what is below these
+pub less_unsigned : (n x y : ℕ) → 1 ≤ n → x < 2 ^ n → y < 2 ^ n
+    → cond (nat_eq (bit_at x (n - 1)) (bit_at y (n - 1))) (cond (nat_lt (x % 2 ^ (n - 1)) (y % 2 ^ (n - 1))) 1 0) (bit_at y (n - 1)) ≡ cond (is_less true n x y) 1 0
+less_unsigned n x y nb xb yb =
+    let p : ℕ = 2 ^ (n - 1) in
+    sym (less_step p (bit_at x (n - 1)) (bit_at y (n - 1)) (x % p) (y % p) (omega arith) (omega arith) (mod_below x p (pow_pos (n - 1))) (mod_below y p (pow_pos (n - 1))))
+    ∙ ap (λ a. cond (nat_lt a (bit_at y (n - 1) * p + y % p)) 1 0) (by_top n x nb xb) ∙ ap (λ b. cond (nat_lt x b) 1 0) (by_top n y nb yb)
+
+pub less_signed : (n x y : ℕ) → 1 ≤ n → x < 2 ^ n → y < 2 ^ n
+    → cond (nat_eq (bit_at y (n - 1)) (bit_at x (n - 1))) (cond (nat_lt (x % 2 ^ (n - 1)) (y % 2 ^ (n - 1))) 1 0) (bit_at x (n - 1)) ≡ cond (is_less false n x y) 1 0
+less_signed n x y nb xb yb =
+    let p : ℕ = 2 ^ (n - 1) in
+    let a : ℕ = bit_at x (n - 1) in
+    let b : ℕ = bit_at y (n - 1) in
+    exchanged a b (cond (nat_lt (x % p) (y % p)) 1 0) (omega arith) (omega arith)
+    ∙ sym (less_step p (1 - a) (1 - b) (x % p) (y % p) (omega arith) (omega arith) (mod_below x p (pow_pos (n - 1))) (mod_below y p (pow_pos (n - 1))))
+    ∙ ap (λ m. cond (nat_lt m ((1 - b) * p + y % p)) 1 0) (place n x nb xb) ∙ ap (λ m. cond (nat_lt ((x + p) % 2 ^ n) m) 1 0) (place n y nb yb)

@@ -1,0 +1,4 @@
+pub mod Arithmetic
+pub mod Lifted
+pub mod Rippling
+pub mod ColumnLemmas
