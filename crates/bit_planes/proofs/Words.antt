@@ -46,10 +46,10 @@ bit-opposite a la fits i h =
 pub bit_at-cut : (x k j : ℕ) → j < k → bit_at (x % 2 ^ k) j ≡ bit_at x j
 bit_at-cut x k j h = sym (bit_at_cat_low (x / 2 ^ k) k (x % 2 ^ k) j h) ∙ ap (λ n. bit_at n j) (div-add-mod' x (2 ^ k))
 
-bit_at-shl_low : (x k j : ℕ) → j < k → bit_at (x * 2 ^ k) j ≡ 0
+pub bit_at-shl_low : (x k j : ℕ) → j < k → bit_at (x * 2 ^ k) j ≡ 0
 bit_at-shl_low x k j h = ap (λ n. bit_at n j) (let e : x * 2 ^ k ≡ x * 2 ^ k + 0 = omega arith in e) ∙ bit_at_cat_low x k 0 j h ∙ bit_at-zero j
 
-bit_at-shl_high : (x k j : ℕ) → 0 < 2 ^ k → k ≤ j → bit_at (x * 2 ^ k) j ≡ bit_at x (j - k)
+pub bit_at-shl_high : (x k j : ℕ) → 0 < 2 ^ k → k ≤ j → bit_at (x * 2 ^ k) j ≡ bit_at x (j - k)
 bit_at-shl_high x k j p h = ap (λ n. bit_at n j) (let e : x * 2 ^ k ≡ x * 2 ^ k + 0 = omega arith in e) ∙ bit_at_cat_high x k 0 j p h
 
 pub bit_at-shr : (x k j : ℕ) → bit_at (x / 2 ^ k) j ≡ bit_at x (k + j)

@@ -1,17 +1,18 @@
 -- One bit of each kernel, on plain numbers.
-use Rattle.std.proofs.Common.{◌≡◌, ◌≢◌, ℕ, suc, zero, ◌+◌, ◌-◌, ◌*◌, ◌/◌, ◌%◌, ◌^◌, ◌<◌, ◌≤◌, ◌⊎◌, min, max, cond, nat_lt, nat_eq, Bool, true, false, refl, sym, ◌∙◌, ap, inl, inr, arith}
+use Rattle.std.proofs.Common.{◌≡◌, ◌≢◌, ℕ, suc, zero, ◌+◌, ◌-◌, ◌*◌, ◌/◌, ◌%◌, ◌^◌, ◌<◌, ◌≤◌, ◌⊎◌, min, max, cond, nat_lt, nat_eq, Bool, true, false, refl, sym, ◌∙◌, ap, inl, inr, add_comm, arith}
 use Rattle.std.specs.Int.{bit_at}
 use Rattle.std.proofs.Math.Nat.{mul-add-div, div-add-mod, mul_comm, mul-add, mod-eq_of_lt, add-mod_right, pow-suc}
 use Rattle.std.proofs.Math.Numerals.{one-add, add-one}
 use Rattle.std.proofs.lemmas.Nat.{mod-pow-add, shr-shr, pow_pos, mod_below}
+use Rattle.std.proofs.lemmas.Bool.{cases_lt, lt-ltb, le-ltb, eq-eqb}
 use Rattle.std.proofs.lemmas.Bool.Decides.{nat_tests}
 use Rattle.std.proofs.lemmas.Nat.{and_mask, and_le_l, or_lt, xor_lt}
-use Rattle.std.proofs.lemmas.Nat.Bits.{bit_at_and, bit_at_or, bit_at_xor, bit_at_ones}
+use Rattle.std.proofs.lemmas.Nat.Bits.{bit_at_and, bit_at_or, bit_at_xor, bit_at_ones, bit_at_above, bit_at_cat_low, bit_at_cat_high}
 use Rattle.std.specs.Int.Bits.{bit_and, bit_or, bit_xor, xor_add_and}
 use Rattle.lane_kernels.specs.declared.gates.Gate.{Gate}
 use Rattle.lane_kernels.specs.declared.gates.Gate.TheVariants.{And, Or, Xor}
 use Rattle.lane_kernels.specs.Gates.{gate_bit, gate_of}
-use Rattle.lane_kernels.specs.Numbers.{addend, is_less}
+use Rattle.lane_kernels.specs.Numbers.{addend, is_less, extended}
 
 pub mod_small : (n m : ℕ) → n < m → n % m ≡ n
 mod_small n m h = mod-eq_of_lt h
@@ -164,3 +165,48 @@ less_signed n x y nb xb yb =
     exchanged a b (cond (nat_lt (x % p) (y % p)) 1 0) (omega arith) (omega arith)
     ∙ sym (less_step p (1 - a) (1 - b) (x % p) (y % p) (omega arith) (omega arith) (mod_below x p (pow_pos (n - 1))) (mod_below y p (pow_pos (n - 1))))
     ∙ ap (λ m. cond (nat_lt m ((1 - b) * p + y % p)) 1 0) (place n x nb xb) ∙ ap (λ m. cond (nat_lt ((x + p) % 2 ^ n) m) 1 0) (place n y nb yb)
+
+-- the sign of a number
+sign_clear : (n x : ℕ) → 1 ≤ n → x < 2 ^ (n - 1) → bit_at x (n - 1) ≡ 0
+sign_clear n x nb xb = bit_at_above x (n - 1) (n - 1) xb (omega arith)
+
+sign_set : (n x : ℕ) → 1 ≤ n → x < 2 ^ n → 2 ^ (n - 1) ≤ x → bit_at x (n - 1) ≡ 1
+sign_set n x nb xb high = elim (cases_lt (bit_at x (n - 1)) 1) [
+    inl l ↦
+      let none : bit_at x (n - 1) ≡ 0 = omega arith in
+      let e : 0 * 2 ^ (n - 1) + x % 2 ^ (n - 1) ≡ x = ap (λ b. b * 2 ^ (n - 1) + x % 2 ^ (n - 1)) (sym none) ∙ by_top n x nb xb in
+      absurd (omega (arith, e, mod_below x (2 ^ (n - 1)) (pow_pos (n - 1))))
+  | inr g ↦ omega (arith, bit_at-lt x (n - 1)) ]
+
+-- the bits of an extended number
+pub extended_bits : (unsigned : Bool) (n more x m : ℕ) → 1 ≤ n → x < 2 ^ n → m < n + more
+    → bit_at (extended unsigned n more x) m ≡ cond (nat_lt m n) (bit_at x m) (cond unsigned 0 (bit_at x (n - 1)))
+extended_bits true n more x m nb xb mb = elim (cases_lt m n) [
+    inl l ↦ sym (ap (λ t. cond t (bit_at x m) 0) (lt-ltb m n l))
+  | inr g ↦ bit_at_above x n m xb g ∙ sym (ap (λ t. cond t (bit_at x m) 0) (le-ltb m n g)) ]
+extended_bits false n more x m nb xb mb = elim (cases_lt x (2 ^ (n - 1))) [
+    inl small ↦ ap (λ t. bit_at (cond t x (x + (2 ^ more - 1) * 2 ^ n)) m) (lt-ltb x (2 ^ (n - 1)) small) ∙ elim (cases_lt m n) [
+        inl l ↦ sym (ap (λ t. cond t (bit_at x m) (bit_at x (n - 1))) (lt-ltb m n l))
+      | inr g ↦ bit_at_above x n m xb g ∙ sym (sign_clear n x nb small) ∙ sym (ap (λ t. cond t (bit_at x m) (bit_at x (n - 1))) (le-ltb m n g)) ]
+  | inr large ↦ ap (λ t. bit_at (cond t x (x + (2 ^ more - 1) * 2 ^ n)) m) (le-ltb x (2 ^ (n - 1)) large)
+      ∙ ap (λ v. bit_at v m) (add_comm x ((2 ^ more - 1) * 2 ^ n)) ∙ elim (cases_lt m n) [
+        inl l ↦ bit_at_cat_low (2 ^ more - 1) n x m l ∙ sym (ap (λ t. cond t (bit_at x m) (bit_at x (n - 1))) (lt-ltb m n l))
+      | inr g ↦ bit_at_cat_high (2 ^ more - 1) n x m xb g ∙ bit_at_ones more (m - n) (omega arith) ∙ sym (sign_set n x nb xb large)
+          ∙ sym (ap (λ t. cond t (bit_at x m) (bit_at x (n - 1))) (le-ltb m n g)) ] ]
+
+-- the order of two numbers by their lowest bits, and one bit more
+pub less_none : (x y : ℕ) → ◌≡◌ {A = ℕ} 0 (cond (nat_lt (x % 2 ^ 0) (y % 2 ^ 0)) 1 0)
+less_none x y = sym (ap (λ t. cond t 1 0) (le-ltb (x % 2 ^ 0) (y % 2 ^ 0) (omega arith)))
+
+pub less_more : (x y j : ℕ) → cond (nat_eq (bit_at x j) (bit_at y j)) (cond (nat_lt (x % 2 ^ j) (y % 2 ^ j)) 1 0) (bit_at y j) ≡ cond (nat_lt (x % 2 ^ (j + 1)) (y % 2 ^ (j + 1))) 1 0
+less_more x y j =
+    sym (less_step (2 ^ j) (bit_at x j) (bit_at y j) (x % 2 ^ j) (y % 2 ^ j) (bit_at-lt x j) (bit_at-lt y j) (mod_below x (2 ^ j) (pow_pos j)) (mod_below y (2 ^ j) (pow_pos j)))
+    ∙ ap (λ a. cond (nat_lt a (bit_at y j * 2 ^ j + y % 2 ^ j)) 1 0) (sym (mod-next x j)) ∙ ap (λ b. cond (nat_lt (x % 2 ^ (j + 1)) b) 1 0) (sym (mod-next y j))
+
+pub equal_none : (x y : ℕ) → ◌≡◌ {A = ℕ} 1 (cond (nat_eq (x % 2 ^ 0) (y % 2 ^ 0)) 1 0)
+equal_none x y = sym (ap (λ t. cond t 1 0) (eq-eqb (x % 2 ^ 0) (y % 2 ^ 0) (omega arith)))
+
+pub equal_more : (x y j : ℕ) → min (cond (nat_eq (x % 2 ^ j) (y % 2 ^ j)) 1 0) (1 - (bit_at x j + bit_at y j) % 2) ≡ cond (nat_eq (x % 2 ^ (j + 1)) (y % 2 ^ (j + 1))) 1 0
+equal_more x y j =
+    sym (equal_step (2 ^ j) (bit_at x j) (bit_at y j) (x % 2 ^ j) (y % 2 ^ j) (bit_at-lt x j) (bit_at-lt y j) (mod_below x (2 ^ j) (pow_pos j)) (mod_below y (2 ^ j) (pow_pos j)))
+    ∙ ap (λ a. cond (nat_eq a (bit_at y j * 2 ^ j + y % 2 ^ j)) 1 0) (sym (mod-next x j)) ∙ ap (λ b. cond (nat_eq (x % 2 ^ (j + 1)) b) 1 0) (sym (mod-next y j))

@@ -1,4 +1,6 @@
 pub mod Arithmetic
 pub mod Lifted
 pub mod Rippling
+pub mod Steps
 pub mod ColumnLemmas
+pub mod Ones

@@ -13,7 +13,7 @@ value_at column i = number column.planes 0 column.len i
 -- the column has n bits and these numbers, in every lane
 pub record HasNumbers (column : Lanes) (n : ℕ) (numbers : ℕ → ℕ) : Type 0 where
   pub len : column.len ≡ n
-  pub numbers : (i : ℕ) → i < 512 → value_at column i ≡ numbers i
+  pub values : (i : ℕ) → i < 512 → value_at column i ≡ numbers i
 
 -- 64 planes, of this column and of that
 pub record IsBeside (a b : Lanes) (planes : List Plane) : Type 0 where

@@ -4,7 +4,7 @@
 
 mod columns;
 pub mod compare;
-mod count;
+mod counting;
 mod gates;
 pub mod in_place;
 mod target;
@@ -13,5 +13,5 @@ pub use columns::{
     add, and, equal, less, max, min, negate, not, or, resize, select, shift_left, shift_right,
     subtract, xor,
 };
-pub use count::count;
+pub use counting::count;
 pub use target::{Operand, Target};

@@ -9,6 +9,7 @@ use bit_planes::plane::repeated;
 use std::simd::prelude::*;
 
 /// Where a kernel puts its results: a field of the planes, and the lanes in which it is written.
+#[derive(Drop)]
 pub struct Target {
     pub offset: u32,
     pub len: u8,
@@ -18,6 +19,7 @@ pub struct Target {
 
 /// What a kernel reads: a field of the planes, as long as the target, or one number for all lanes,
 /// cut to the target's length.
+#[derive(Drop)]
 pub enum Operand {
     Field(u32),
     Constant(u32),
