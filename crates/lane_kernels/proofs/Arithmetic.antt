@@ -172,27 +172,32 @@ sign_clear n x nb xb = bit_at_above x (n - 1) (n - 1) xb (omega arith)
 
 sign_set : (n x : ℕ) → 1 ≤ n → x < 2 ^ n → 2 ^ (n - 1) ≤ x → bit_at x (n - 1) ≡ 1
 sign_set n x nb xb high = elim (cases_lt (bit_at x (n - 1)) 1) [
-    inl l ↦
+  | inl l ↦
       let none : bit_at x (n - 1) ≡ 0 = omega arith in
       let e : 0 * 2 ^ (n - 1) + x % 2 ^ (n - 1) ≡ x = ap (λ b. b * 2 ^ (n - 1) + x % 2 ^ (n - 1)) (sym none) ∙ by_top n x nb xb in
       absurd (omega (arith, e, mod_below x (2 ^ (n - 1)) (pow_pos (n - 1))))
-  | inr g ↦ omega (arith, bit_at-lt x (n - 1)) ]
+  | inr g ↦ omega (arith, bit_at-lt x (n - 1))
+]
 
 -- the bits of an extended number
 pub extended_bits : (unsigned : Bool) (n more x m : ℕ) → 1 ≤ n → x < 2 ^ n → m < n + more
     → bit_at (extended unsigned n more x) m ≡ cond (nat_lt m n) (bit_at x m) (cond unsigned 0 (bit_at x (n - 1)))
 extended_bits true n more x m nb xb mb = elim (cases_lt m n) [
-    inl l ↦ sym (ap (λ t. cond t (bit_at x m) 0) (lt-ltb m n l))
-  | inr g ↦ bit_at_above x n m xb g ∙ sym (ap (λ t. cond t (bit_at x m) 0) (le-ltb m n g)) ]
+  | inl l ↦ sym (ap (λ t. cond t (bit_at x m) 0) (lt-ltb m n l))
+  | inr g ↦ bit_at_above x n m xb g ∙ sym (ap (λ t. cond t (bit_at x m) 0) (le-ltb m n g))
+]
 extended_bits false n more x m nb xb mb = elim (cases_lt x (2 ^ (n - 1))) [
-    inl small ↦ ap (λ t. bit_at (cond t x (x + (2 ^ more - 1) * 2 ^ n)) m) (lt-ltb x (2 ^ (n - 1)) small) ∙ elim (cases_lt m n) [
-        inl l ↦ sym (ap (λ t. cond t (bit_at x m) (bit_at x (n - 1))) (lt-ltb m n l))
-      | inr g ↦ bit_at_above x n m xb g ∙ sym (sign_clear n x nb small) ∙ sym (ap (λ t. cond t (bit_at x m) (bit_at x (n - 1))) (le-ltb m n g)) ]
+  | inl small ↦ ap (λ t. bit_at (cond t x (x + (2 ^ more - 1) * 2 ^ n)) m) (lt-ltb x (2 ^ (n - 1)) small) ∙ elim (cases_lt m n) [
+    | inl l ↦ sym (ap (λ t. cond t (bit_at x m) (bit_at x (n - 1))) (lt-ltb m n l))
+    | inr g ↦ bit_at_above x n m xb g ∙ sym (sign_clear n x nb small) ∙ sym (ap (λ t. cond t (bit_at x m) (bit_at x (n - 1))) (le-ltb m n g))
+  ]
   | inr large ↦ ap (λ t. bit_at (cond t x (x + (2 ^ more - 1) * 2 ^ n)) m) (le-ltb x (2 ^ (n - 1)) large)
       ∙ ap (λ v. bit_at v m) (add_comm x ((2 ^ more - 1) * 2 ^ n)) ∙ elim (cases_lt m n) [
-        inl l ↦ bit_at_cat_low (2 ^ more - 1) n x m l ∙ sym (ap (λ t. cond t (bit_at x m) (bit_at x (n - 1))) (lt-ltb m n l))
-      | inr g ↦ bit_at_cat_high (2 ^ more - 1) n x m xb g ∙ bit_at_ones more (m - n) (omega arith) ∙ sym (sign_set n x nb xb large)
-          ∙ sym (ap (λ t. cond t (bit_at x m) (bit_at x (n - 1))) (le-ltb m n g)) ] ]
+        | inl l ↦ bit_at_cat_low (2 ^ more - 1) n x m l ∙ sym (ap (λ t. cond t (bit_at x m) (bit_at x (n - 1))) (lt-ltb m n l))
+        | inr g ↦ bit_at_cat_high (2 ^ more - 1) n x m xb g ∙ bit_at_ones more (m - n) (omega arith) ∙ sym (sign_set n x nb xb large)
+            ∙ sym (ap (λ t. cond t (bit_at x m) (bit_at x (n - 1))) (le-ltb m n g))
+      ]
+]
 
 -- the order of two numbers by their lowest bits, and one bit more
 pub less_none : (x y : ℕ) → ◌≡◌ {A = ℕ} 0 (cond (nat_lt (x % 2 ^ 0) (y % 2 ^ 0)) 1 0)
@@ -210,3 +215,22 @@ pub equal_more : (x y j : ℕ) → min (cond (nat_eq (x % 2 ^ j) (y % 2 ^ j)) 1 
 equal_more x y j =
     sym (equal_step (2 ^ j) (bit_at x j) (bit_at y j) (x % 2 ^ j) (y % 2 ^ j) (bit_at-lt x j) (bit_at-lt y j) (mod_below x (2 ^ j) (pow_pos j)) (mod_below y (2 ^ j) (pow_pos j)))
     ∙ ap (λ a. cond (nat_eq a (bit_at y j * 2 ^ j + y % 2 ^ j)) 1 0) (sym (mod-next x j)) ∙ ap (λ b. cond (nat_eq (x % 2 ^ (j + 1)) b) 1 0) (sym (mod-next y j))
+
+less_top : (unsigned : Bool) (n x y : ℕ) → 1 ≤ n → x < 2 ^ n → y < 2 ^ n
+    → cond unsigned (cond (nat_eq (bit_at x (n - 1)) (bit_at y (n - 1))) (cond (nat_lt (x % 2 ^ (n - 1)) (y % 2 ^ (n - 1))) 1 0) (bit_at y (n - 1)))
+    (cond (nat_eq (bit_at y (n - 1)) (bit_at x (n - 1))) (cond (nat_lt (x % 2 ^ (n - 1)) (y % 2 ^ (n - 1))) 1 0) (bit_at x (n - 1)))
+    ≡ cond (is_less unsigned n x y) 1 0
+less_top true n x y nb xb yb = less_unsigned n x y nb xb yb
+less_top false n x y nb xb yb = less_signed n x y nb xb yb
+
+-- the order of two numbers by their highest bits a and b, and by what is known of the bits below
+pub less_result : (unsigned : Bool) (n x y top a b known : ℕ) → 1 ≤ n → x < 2 ^ n → y < 2 ^ n → top ≡ n - 1 → a ≡ bit_at x top → b ≡ bit_at y top
+    → known ≡ cond (nat_lt (x % 2 ^ top) (y % 2 ^ top)) 1 0
+    → cond unsigned (cond (nat_eq a b) known b) (cond (nat_eq b a) known a) ≡ cond (is_less unsigned n x y) 1 0
+less_result unsigned n x y top a b known nb xb yb at ea eb ek =
+    let p : ℕ = bit_at x (n - 1) in
+    let q : ℕ = bit_at y (n - 1) in
+    ap (λ m. cond unsigned (cond (nat_eq m b) known b) (cond (nat_eq b m) known m)) (ea ∙ ap (bit_at x) at)
+    ∙ ap (λ m. cond unsigned (cond (nat_eq p m) known m) (cond (nat_eq m p) known p)) (eb ∙ ap (bit_at y) at)
+    ∙ ap (λ m. cond unsigned (cond (nat_eq p q) m q) (cond (nat_eq q p) m p)) (ek ∙ ap (λ t. cond (nat_lt (x % 2 ^ t) (y % 2 ^ t)) 1 0) at)
+    ∙ less_top unsigned n x y nb xb yb

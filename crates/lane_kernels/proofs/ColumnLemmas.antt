@@ -29,12 +29,12 @@ second_numbers a b planes n i nb beside = same_planes planes b.planes 32 0 n i (
 pub column_has : (n : ℕ) (to : Target) (f g : ℕ → ℕ) (old new : List Plane) (result : Lanes) → n ≤ 32 → IsWhole n to → Becomes to f old new
     → result.len ≡ n → ((j : ℕ) → j < 32 → plane_at result.planes j ≡ plane_at new j) → ((i : ℕ) → i < 512 → f i ≡ g i) → HasNumbers result n g
 column_has n to f g old new result nb whole done len planes e = record {
-    len = len;
-    values = λ i ib.
+  len = len;
+  values = λ i ib.
       ap (λ m. number result.planes 0 m i) len
       ∙ same_planes result.planes new 0 0 n i (λ j h. ap (plane_at result.planes) (zero-add j) ∙ planes j (omega arith) ∙ ap (plane_at new) (sym (zero-add j)))
       ∙ ap (λ m. number new 0 m i) (sym whole.len) ∙ ap (λ m. number new m to.len i) (sym whole.offset) ∙ done.written i ib (whole.lanes i ib) ∙ e i ib;
-  }
+}
 
 -- the same where the numbers are those of two columns of one length, through f
 pub columns_have : (f : ℕ → ℕ → ℕ → ℕ → ℕ) (a b : Lanes) (to : Target) (planes new : List Plane) (result : Lanes) → a.len ≤ 32 → b.len ≡ a.len → IsBeside a b planes → IsWhole a.len to
@@ -42,6 +42,6 @@ pub columns_have : (f : ℕ → ℕ → ℕ → ℕ → ℕ) (a b : Lanes) (to :
     → result.len ≡ a.len → ((j : ℕ) → j < 32 → plane_at result.planes j ≡ plane_at new j) → HasNumbers result a.len (λ i. f i a.len (value_at a i) (value_at b i))
 columns_have f a b to planes new result nb same beside whole done len copied =
     column_has a.len to (λ i. f i to.len (number planes 0 to.len i) (number planes 32 to.len i)) (λ i. f i a.len (value_at a i) (value_at b i)) planes new result nb whole done len copied (λ i ib.
-      ap (λ m. f i m (number planes 0 m i) (number planes 32 m i)) whole.len
-      ∙ ap (λ x. f i a.len x (number planes 32 a.len i)) (first_numbers a b planes a.len i nb beside)
-      ∙ ap (λ y. f i a.len (value_at a i) y) (second_numbers a b planes a.len i nb beside ∙ ap (λ m. number b.planes 0 m i) (sym same)))
+    ap (λ m. f i m (number planes 0 m i) (number planes 32 m i)) whole.len
+    ∙ ap (λ x. f i a.len x (number planes 32 a.len i)) (first_numbers a b planes a.len i nb beside)
+    ∙ ap (λ y. f i a.len (value_at a i) y) (second_numbers a b planes a.len i nb beside ∙ ap (λ m. number b.planes 0 m i) (sym same)))

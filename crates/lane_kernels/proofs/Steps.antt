@@ -48,17 +48,18 @@ pub taken : (to : Target) (offset n j k : ℕ) (unsigned : Bool) (sign value : L
 taken to offset n j k unsigned sign value old mid new nb jb readable sign_is value_is before now =
     let f : ℕ → ℕ = λ i. extended unsigned n (to.len + k) (number old offset n i) / 2 ^ k in
     one_up to j f old mid new value before now (λ i ib _.
-      let x : ℕ = number old offset n i in
-      let s : bit sign i ≡ cond unsigned 0 (bit_at x (n - 1)) = sign_is i ib ∙ ap (cond unsigned 0) (sym (number-bits old offset n i (n - 1) (omega arith))) in
-      value_is i ib ∙ ap (cond (nat_lt (j + k) n) (bit (plane_at mid (offset + (j + k))) i)) s
-      ∙ (let e : cond (nat_lt (j + k) n) (bit (plane_at mid (offset + (j + k))) i) (cond unsigned 0 (bit_at x (n - 1))) ≡ cond (nat_lt (j + k) n) (bit_at x (j + k)) (cond unsigned 0 (bit_at x (n - 1))) =
-           elim (cases_lt (j + k) n) [
-             inl l ↦ ap (λ b. cond (nat_lt (j + k) n) b (cond unsigned 0 (bit_at x (n - 1)))) (field_kept offset n to j (j + k) i f old mid (omega arith) l readable before)
-           | inr g ↦ ap (λ t. cond t (bit (plane_at mid (offset + (j + k))) i) (cond unsigned 0 (bit_at x (n - 1)))) (le-ltb (j + k) n g)
-               ∙ sym (ap (λ t. cond t (bit_at x (j + k)) (cond unsigned 0 (bit_at x (n - 1)))) (le-ltb (j + k) n g)) ] in e)
-      ∙ sym (extended_bits unsigned n (to.len + k) x (j + k) nb (number-lt old offset n i) (omega arith))
-      ∙ ap (bit_at (extended unsigned n (to.len + k) x)) (let e : j + k ≡ k + j = omega arith in e)
-      ∙ sym (bit_at-shr (extended unsigned n (to.len + k) x) k j))
+    let x : ℕ = number old offset n i in
+    let s : bit sign i ≡ cond unsigned 0 (bit_at x (n - 1)) = sign_is i ib ∙ ap (cond unsigned 0) (sym (number-bits old offset n i (n - 1) (omega arith))) in
+    value_is i ib ∙ ap (cond (nat_lt (j + k) n) (bit (plane_at mid (offset + (j + k))) i)) s
+    ∙ (let e : cond (nat_lt (j + k) n) (bit (plane_at mid (offset + (j + k))) i) (cond unsigned 0 (bit_at x (n - 1))) ≡ cond (nat_lt (j + k) n) (bit_at x (j + k)) (cond unsigned 0 (bit_at x (n - 1))) =
+    elim (cases_lt (j + k) n) [
+      | inl l ↦ ap (λ b. cond (nat_lt (j + k) n) b (cond unsigned 0 (bit_at x (n - 1)))) (field_kept offset n to j (j + k) i f old mid (omega arith) l readable before)
+      | inr g ↦ ap (λ t. cond t (bit (plane_at mid (offset + (j + k))) i) (cond unsigned 0 (bit_at x (n - 1)))) (le-ltb (j + k) n g)
+          ∙ sym (ap (λ t. cond t (bit_at x (j + k)) (cond unsigned 0 (bit_at x (n - 1)))) (le-ltb (j + k) n g))
+    ] in e)
+    ∙ sym (extended_bits unsigned n (to.len + k) x (j + k) nb (number-lt old offset n i) (omega arith))
+    ∙ ap (bit_at (extended unsigned n (to.len + k) x)) (let e : j + k ≡ k + j = omega arith in e)
+    ∙ sym (bit_at-shr (extended unsigned n (to.len + k) x) k j))
 
 -- one bit of a field that is shifted left, from the highest down
 pub lifted : (to : Target) (offset m j k : ℕ) (value : List ℕ) (old mid new : List Plane) → j < to.len → IsReadableDown offset to old
@@ -68,9 +69,10 @@ pub lifted : (to : Target) (offset m j k : ℕ) (value : List ℕ) (old mid new 
 lifted to offset m j k value old mid new jb readable value_is e started now =
     let before : Becoming to (j + 1) to.len (λ i. number old offset to.len i * 2 ^ k) old mid = subst (λ t. Becoming to t to.len (λ i. number old offset to.len i * 2 ^ k) old mid) e started in
     one_down to j to.len (λ i. number old offset to.len i * 2 ^ k) old mid new value jb before now (λ i ib _.
-      let x : ℕ = number old offset to.len i in
-      value_is i ib ∙ elim (cases_lt j k) [
-        inl l ↦ ap (λ t. cond t 0 (bit (plane_at mid (offset + (j - k))) i)) (lt-ltb j k l) ∙ sym (bit_at-shl_low x k j l)
+    let x : ℕ = number old offset to.len i in
+    value_is i ib ∙ elim (cases_lt j k) [
+      | inl l ↦ ap (λ t. cond t 0 (bit (plane_at mid (offset + (j - k))) i)) (lt-ltb j k l) ∙ sym (bit_at-shl_low x k j l)
       | inr g ↦ ap (λ t. cond t 0 (bit (plane_at mid (offset + (j - k))) i)) (le-ltb j k g)
           ∙ ap (λ q. bit q i) (before.outside (offset + (j - k)) (elim readable.1 [ inl l ↦ inl (omega arith) | inr r ↦ inr (omega arith) ]))
-          ∙ sym (number-bits old offset to.len i (j - k) (omega arith)) ∙ sym (bit_at-shl_high x k j (pow_pos k) g) ])
+          ∙ sym (number-bits old offset to.len i (j - k) (omega arith)) ∙ sym (bit_at-shl_high x k j (pow_pos k) g)
+    ])

@@ -22,10 +22,20 @@ pub fn less(planes: &[Plane], a: &Operand, b: &Operand, len: u8, unsigned: bool)
     for j in 0..top {
         below = decided(a.plane(planes, j), b.plane(planes, j), below);
     }
+    let x = a.plane(planes, top);
+    let y = b.plane(planes, top);
+    decided_at_top(x, y, below, unsigned)
+}
+
+/// The same by their highest bits, which in two's complement are 1 for the numbers below 0.
+#[inline(always)]
+fn decided_at_top(x: u64x8, y: u64x8, below: u64x8, unsigned: bool) -> u64x8
+    ensures { (i : ℕ) → i < 512 → bit result i ≡ (if unsigned then (if nat_eq (bit x i) (bit y i) then bit below i else bit y i) else (if nat_eq (bit y i) (bit x i) then bit below i else bit x i)) }
+{
     if unsigned {
-        decided(a.plane(planes, top), b.plane(planes, top), below)
+        decided(x, y, below)
     } else {
-        decided(b.plane(planes, top), a.plane(planes, top), below)
+        decided(y, x, below)
     }
 }
 

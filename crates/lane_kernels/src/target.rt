@@ -42,9 +42,9 @@ impl Operand {
     }
 }
 
-/// Writes a plane in the lanes of the mask.
+/// Writes a plane, as a flag, in the lanes of the mask.
 #[inline(always)]
-pub(crate) fn write(planes: &mut [Plane], at: usize, value: u64x8, lanes: u64x8)
+pub fn write(planes: &mut [Plane], at: usize, value: u64x8, lanes: u64x8)
     requires { at < length planes.old }
     ensures { Writes at value lanes planes.old planes.new }
 {

@@ -3,7 +3,6 @@ use Rattle.bit_planes.specs.Bits.{bit}
 use Rattle.bit_planes.specs.Planes.{plane_at, number}
 use Rattle.lane_kernels.specs.Columns.{value_at}
 use Rattle.lane_kernels.proofs.ColumnLemmas.{first_numbers, second_numbers}
-
 use Rattle.lane_kernels.proofs.columns.equal.Goals as goal
 
 pub returns : goal.returns

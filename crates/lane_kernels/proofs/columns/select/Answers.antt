@@ -2,7 +2,6 @@ use Rattle.std.proofs.Common.{ℕ, ◌≡◌, ◌<◌, ◌+◌, ◌-◌, ◌*◌
 use Rattle.bit_planes.specs.Bits.{bit}
 use Rattle.bit_planes.specs.Planes.{plane_at, number}
 use Rattle.lane_kernels.proofs.ColumnLemmas.{columns_have}
-
 use Rattle.lane_kernels.proofs.columns.select.Goals as goal
 
 pub returns : goal.returns

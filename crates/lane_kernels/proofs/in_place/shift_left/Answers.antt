@@ -12,4 +12,4 @@ loop-j-preserved c = lifted c.args.to.now c.args.offset c.loop-j.j (c.loop-j.j -
 pub returns : goal.returns
 returns c = all_written c.args.to.now c.args.to.now.len (λ i. number c.args.planes.now c.args.offset c.args.to.now.len i * 2 ^ c.args.k) c.args.planes.now c.loop-j.planes refl
     (let e : c.loop-j.j ≡ 0 = omega arith in
-      subst (λ j. Becoming c.args.to.now j c.args.to.now.len (λ i. number c.args.planes.now c.args.offset c.args.to.now.len i * 2 ^ c.args.k) c.args.planes.now c.loop-j.planes) e c.loop-j.invariant)
+    subst (λ j. Becoming c.args.to.now j c.args.to.now.len (λ i. number c.args.planes.now c.args.offset c.args.to.now.len i * 2 ^ c.args.k) c.args.planes.now c.loop-j.planes) e c.loop-j.invariant)
