@@ -5,7 +5,7 @@ use Rattle.std.proofs.Math.Nat.{mul-add-div, div-add-mod, mul_comm, mul-add, mod
 use Rattle.std.proofs.Math.Numerals.{one-add, add-one}
 use Rattle.std.proofs.lemmas.Nat.{mod-pow-add, shr-shr, pow_pos, mod_below}
 use Rattle.std.proofs.lemmas.Bool.{cases_lt, lt-ltb, le-ltb, eq-eqb}
-use Rattle.std.proofs.lemmas.Bool.Decides.{nat_tests}
+use Rattle.lane_kernels.proofs.BitTables.{less_step, equal_step}
 use Rattle.std.proofs.lemmas.Nat.{and_mask, and_le_l, or_lt, xor_lt}
 use Rattle.std.proofs.lemmas.Nat.Bits.{bit_at_and, bit_at_or, bit_at_xor, bit_at_ones, bit_at_above, bit_at_cat_low, bit_at_cat_high}
 use Rattle.std.specs.Int.Bits.{bit_and, bit_or, bit_xor, xor_add_and}
@@ -42,46 +42,6 @@ carry_is x y c j =
     omega (arith, mod-next x j, mod-next y j, mul-add p (bit_at x j) (bit_at y j), mul_comm p (bit_at x j), mul_comm p (bit_at y j)) in
     sym (shr-shr (x % 2 ^ (j + 1) + y % 2 ^ (j + 1) + c) j 1) ∙ ap (λ n. n / p / 2) e
     ∙ ap (λ n. n / 2) (mul-add-div (pow_pos j) (bit_at x j + bit_at y j) (x % p + y % p + c))
-
--- the order of two numbers by their next bits
-pub less_step : (p a b x y : ℕ) → a < 2 → b < 2 → x < p → y < p
-    → cond (nat_lt (a * p + x) (b * p + y)) 1 0 ≡ cond (nat_eq a b) (cond (nat_lt x y) 1 0) b
-less_step p zero zero x y ab bb xb yb = grind (arith, nat_tests)
-less_step p zero (suc zero) x y ab bb xb yb = grind (arith, nat_tests)
-less_step p (suc zero) zero x y ab bb xb yb = grind (arith, nat_tests)
-less_step p (suc zero) (suc zero) x y ab bb xb yb = grind (arith, nat_tests)
-less_step p (suc (suc a)) b x y ab bb xb yb = absurd (omega arith)
-less_step p zero (suc (suc b)) x y ab bb xb yb = absurd (omega arith)
-less_step p (suc zero) (suc (suc b)) x y ab bb xb yb = absurd (omega arith)
-
--- whether two numbers are equal, by their next bits
-pub equal_step : (p a b x y : ℕ) → a < 2 → b < 2 → x < p → y < p
-    → cond (nat_eq (a * p + x) (b * p + y)) 1 0 ≡ min (cond (nat_eq x y) 1 0) (1 - (a + b) % 2)
-equal_step p zero zero x y ab bb xb yb = grind (arith, nat_tests)
-equal_step p zero (suc zero) x y ab bb xb yb = grind (arith, nat_tests)
-equal_step p (suc zero) zero x y ab bb xb yb = grind (arith, nat_tests)
-equal_step p (suc zero) (suc zero) x y ab bb xb yb = grind (arith, nat_tests)
-equal_step p (suc (suc a)) b x y ab bb xb yb = absurd (omega arith)
-equal_step p zero (suc (suc b)) x y ab bb xb yb = absurd (omega arith)
-equal_step p (suc zero) (suc (suc b)) x y ab bb xb yb = absurd (omega arith)
-
--- gates of bits
-pub carry_gate : (a b c : ℕ) → a < 2 → b < 2 → c < 2 → max (min a b) (min c ((a + b) % 2)) ≡ (a + b + c) / 2
-carry_gate a b c ab bb cb = omega arith
-
-pub choice_gate : (m a b : ℕ) → m < 2 → a < 2 → b < 2 → (b + min m ((a + b) % 2)) % 2 ≡ cond (nat_eq m 1) a b
-choice_gate zero a b mb ab bb = omega arith
-choice_gate (suc zero) a b mb ab bb = omega arith
-choice_gate (suc (suc m)) a b mb ab bb = absurd (omega arith)
-
-pub decided_gate : (x y below : ℕ) → x < 2 → y < 2 → cond (nat_eq ((x + y) % 2) 1) y below ≡ cond (nat_eq x y) below y
-decided_gate zero zero below xb yb = refl
-decided_gate zero (suc zero) below xb yb = refl
-decided_gate (suc zero) zero below xb yb = refl
-decided_gate (suc zero) (suc zero) below xb yb = refl
-decided_gate (suc (suc x)) y below xb yb = absurd (omega arith)
-decided_gate zero (suc (suc y)) below xb yb = absurd (omega arith)
-decided_gate (suc zero) (suc (suc y)) below xb yb = absurd (omega arith)
 
 -- the bits of a complement
 pub complement_bits : (n x j : ℕ) → x < 2 ^ n → j < n → bit_at (2 ^ n - 1 - x) j ≡ 1 - bit_at x j

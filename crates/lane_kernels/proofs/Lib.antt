@@ -1,3 +1,4 @@
+pub mod BitTables
 pub mod Arithmetic
 pub mod Lifted
 pub mod Rippling

@@ -1,7 +1,7 @@
 use Rattle.std.proofs.Common.{ℕ, ap, cond, nat_eq, ◌∙◌}
 use Rattle.bit_planes.specs.Bits.{bit}
 use Rattle.bit_planes.proofs.Words.{bit-lt}
-use Rattle.lane_kernels.proofs.Arithmetic.{decided_gate}
+use Rattle.lane_kernels.proofs.BitTables.{decided_gate}
 use Rattle.lane_kernels.proofs.compare.decided.Goals as goal
 
 pub returns : goal.returns

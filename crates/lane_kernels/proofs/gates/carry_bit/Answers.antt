@@ -1,7 +1,7 @@
 use Rattle.std.proofs.Common.{ℕ, min, max, ap, ◌∙◌, arith, ◌≡◌, ◌+◌, ◌%◌}
 use Rattle.bit_planes.specs.Bits.{bit}
 use Rattle.bit_planes.proofs.Words.{bit-lt}
-use Rattle.lane_kernels.proofs.Arithmetic.{carry_gate}
+use Rattle.lane_kernels.proofs.BitTables.{carry_gate}
 use Rattle.lane_kernels.proofs.gates.carry_bit.Goals as goal
 
 pub returns : goal.returns

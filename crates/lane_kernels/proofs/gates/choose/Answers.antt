@@ -1,7 +1,7 @@
 use Rattle.std.proofs.Common.{ℕ, min, ap, ◌∙◌, ◌+◌, ◌%◌}
 use Rattle.bit_planes.specs.Bits.{bit}
 use Rattle.bit_planes.proofs.Words.{bit-lt}
-use Rattle.lane_kernels.proofs.Arithmetic.{choice_gate}
+use Rattle.lane_kernels.proofs.BitTables.{choice_gate}
 use Rattle.lane_kernels.proofs.gates.choose.Goals as goal
 
 pub returns : goal.returns
