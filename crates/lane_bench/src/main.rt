@@ -6,11 +6,11 @@ use bit_planes::{Block, Lanes};
 use cstar_base::Memory;
 use lane_kernels::{Operand, Target, compare, in_place, write};
 use std::alloc::Global;
-use std::env;
-use std::io;
 use std::time::Instant;
+use std::{env, io};
 
 const BLOCKS: u32 = 64;
+
 const ROUNDS: u32 = 2000;
 /// Three fields of 32 bits, a flag, and the lanes that take part.
 const PLANES: u32 = 98;
@@ -52,14 +52,25 @@ fn add(block: &mut Block) {
             len: 32,
             lanes: block.plane(97),
         };
-        in_place::add(&mut block.planes, &to, &Operand::Field(0), &Operand::Field(32));
+        in_place::add(
+            &mut block.planes,
+            &to,
+            &Operand::Field(0),
+            &Operand::Field(32),
+        );
     }
 }
 
 /// Whether the first field's number is below the second's, into the flag.
 fn less(block: &mut Block) {
     if block.planes.len() == PLANES as usize {
-        let below = compare::less(&block.planes, &Operand::Field(0), &Operand::Field(32), 32, false);
+        let below = compare::less(
+            &block.planes,
+            &Operand::Field(0),
+            &Operand::Field(32),
+            32,
+            false,
+        );
         let lanes = block.plane(97);
         write(&mut block.planes, 96, below, lanes);
     }
@@ -74,7 +85,12 @@ fn multiply_planes(block: &mut Block, len: u8) {
                 len: len - j,
                 lanes: block.plane(32 + j as u32),
             };
-            in_place::add(&mut block.planes, &to, &Operand::Field(64 + j as u32), &Operand::Field(0));
+            in_place::add(
+                &mut block.planes,
+                &to,
+                &Operand::Field(64 + j as u32),
+                &Operand::Field(0),
+            );
         }
     }
 }
@@ -121,14 +137,25 @@ fn repeated(kernel: Kernel, blocks: &mut [Block], rounds: u32) {
 
 /// A row's number of the third field, or the flag.
 fn shown(blocks: &[Block], offset: u32, len: u8) -> u32 {
-    if let Some(block) = blocks.get(5) && block.planes.len() == PLANES as usize && offset <= 66 && 1 <= len && len <= 32 {
+    if let Some(block) = blocks.get(5)
+        && block.planes.len() == PLANES as usize
+        && offset <= 66
+        && 1 <= len
+        && len <= 32
+    {
         block.number(301, offset, len)
     } else {
         0
     }
 }
 
-fn report(rt: &HostRuntime, name: &str, kernel: Kernel, blocks: &mut [Block], timed: bool) -> io::Result<()> {
+fn report(
+    rt: &HostRuntime,
+    name: &str,
+    kernel: Kernel,
+    blocks: &mut [Block],
+    timed: bool,
+) -> io::Result<()> {
     if timed {
         let start = Instant::now(rt)?;
         repeated(kernel, blocks, ROUNDS);
@@ -149,8 +176,20 @@ fn main(rt: HostRuntime) -> io::Result<()> {
     report(&rt, "add", Kernel::Add, &mut blocks, timed)?;
     report(&rt, "less", Kernel::Less, &mut blocks, timed)?;
     for len in [8, 16, 32] {
-        report(&rt, "multiply_planes", Kernel::MultiplyPlanes(len), &mut blocks, timed)?;
-        report(&rt, "multiply_values", Kernel::MultiplyValues(len), &mut blocks, timed)?;
+        report(
+            &rt,
+            "multiply_planes",
+            Kernel::MultiplyPlanes(len),
+            &mut blocks,
+            timed,
+        )?;
+        report(
+            &rt,
+            "multiply_values",
+            Kernel::MultiplyValues(len),
+            &mut blocks,
+            timed,
+        )?;
     }
     Ok(())
 }

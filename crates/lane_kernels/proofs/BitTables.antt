@@ -8,8 +8,9 @@ ne-eqb a b n = elim (eqb_tells a b) [ inl t ↦ absurd (n t.1) | inr f ↦ f.0 ]
 
 same_order : (p x y : ℕ) → nat_lt (1 * p + x) (1 * p + y) ≡ nat_lt x y
 same_order p x y = elim (cases_lt x y) [
-    inl l ↦ lt-ltb (1 * p + x) (1 * p + y) (omega arith) ∙ sym (lt-ltb x y l)
-  | inr g ↦ le-ltb (1 * p + x) (1 * p + y) (omega arith) ∙ sym (le-ltb x y g) ]
+  | inl l ↦ lt-ltb (1 * p + x) (1 * p + y) (omega arith) ∙ sym (lt-ltb x y l)
+  | inr g ↦ le-ltb (1 * p + x) (1 * p + y) (omega arith) ∙ sym (le-ltb x y g)
+]
 
 none_above : (p x : ℕ) → 0 * p + x ≡ x
 none_above p x = omega arith
@@ -27,8 +28,9 @@ less_step p (suc zero) (suc (suc b)) x y ab bb xb yb = absurd (omega arith)
 
 same_equality : (p x y : ℕ) → nat_eq (1 * p + x) (1 * p + y) ≡ nat_eq x y
 same_equality p x y = elim (cases_eq x y) [
-    inl e ↦ eq-eqb (1 * p + x) (1 * p + y) (omega arith) ∙ sym (eq-eqb x y e)
-  | inr n ↦ ne-eqb (1 * p + x) (1 * p + y) (λ e. n (omega arith)) ∙ sym (ne-eqb x y n) ]
+  | inl e ↦ eq-eqb (1 * p + x) (1 * p + y) (omega arith) ∙ sym (eq-eqb x y e)
+  | inr n ↦ ne-eqb (1 * p + x) (1 * p + y) (λ e. n (omega arith)) ∙ sym (ne-eqb x y n)
+]
 
 all_or_none : (t : Bool) → cond t 1 0 ≡ min (cond t 1 0) 1
 all_or_none true = refl
@@ -67,4 +69,3 @@ decided_gate (suc zero) (suc zero) below xb yb = refl
 decided_gate (suc (suc x)) y below xb yb = absurd (omega arith)
 decided_gate zero (suc (suc y)) below xb yb = absurd (omega arith)
 decided_gate (suc zero) (suc (suc y)) below xb yb = absurd (omega arith)
-
