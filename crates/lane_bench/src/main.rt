@@ -15,23 +15,39 @@ const ROUNDS: u32 = 2000;
 /// Three fields of 32 bits, a flag, and the lanes that take part.
 const PLANES: u32 = 98;
 
-/// Blocks whose first two fields and last plane have content.
-fn filled(alloc: Global) -> Result<Vec<Block>, Memory> {
+/// Numbers without a pattern that an eye would see.
+fn scattered(n: u32, factor: u32) -> [u32; 512] {
+    let mut v = [0; 512];
+    for i in 0..512 {
+        v[i] = n.wrapping_add(i as u32).wrapping_mul(factor);
+    }
+    v
+}
+
+/// Makes every third row take part.
+fn mark(block: &mut Block, row: u32) {
+    if block.planes.len() == PLANES as usize && row < 512 {
+        block.set_number(row, 97, 1, row % 3);
+    }
+}
+
+/// A block whose first two fields and last plane have content.
+fn filled(alloc: Global, n: u32) -> Result<Block, Memory> {
+    let mut block = Block::new(alloc, PLANES)?;
+    if block.planes.len() == PLANES as usize {
+        block.set_lanes(0, &Lanes::from_values(&scattered(n, 0x9E37_79B1), 32));
+        block.set_lanes(32, &Lanes::from_values(&scattered(n, 0x85EB_CA77), 32));
+    }
+    for row in 0..512 {
+        mark(&mut block, row);
+    }
+    Ok(block)
+}
+
+fn all_filled(alloc: Global) -> Result<Vec<Block>, Memory> {
     let mut blocks = Vec::new(alloc);
     for n in 0..BLOCKS {
-        let mut block = Block::new(alloc, PLANES)?;
-        let mut a = [0; 512];
-        let mut b = [0; 512];
-        for i in 0..512 {
-            a[i] = (i as u32 + n).wrapping_mul(0x9E37_79B1);
-            b[i] = (i as u32 + n).wrapping_mul(0x85EB_CA77);
-        }
-        block.set_lanes(0, &Lanes::from_values(&a, 32));
-        block.set_lanes(32, &Lanes::from_values(&b, 32));
-        for row in 0..512 {
-            block.set_number(row, 97, 1, row % 3);
-        }
-        blocks.push(block)?;
+        blocks.push(filled(alloc, n)?)?;
     }
     Ok(blocks)
 }
@@ -76,22 +92,27 @@ fn less(block: &mut Block) {
     }
 }
 
+/// Adds the first field, j bits up, where the second field has a 1 at bit j.
+fn add_product(block: &mut Block, j: u8, len: u8) {
+    if block.planes.len() == PLANES as usize && len <= 32 && j < len {
+        let to = Target {
+            offset: 64 + j as u32,
+            len: len - j,
+            lanes: block.plane(32 + j as u32),
+        };
+        in_place::add(
+            &mut block.planes,
+            &to,
+            &Operand::Field(64 + j as u32),
+            &Operand::Field(0),
+        );
+    }
+}
+
 /// The products of the first `len` bits of the first two fields, plane by plane.
 fn multiply_planes(block: &mut Block, len: u8) {
-    if block.planes.len() == PLANES as usize && len <= 32 {
-        for j in 0..len {
-            let to = Target {
-                offset: 64 + j as u32,
-                len: len - j,
-                lanes: block.plane(32 + j as u32),
-            };
-            in_place::add(
-                &mut block.planes,
-                &to,
-                &Operand::Field(64 + j as u32),
-                &Operand::Field(0),
-            );
-        }
+    for j in 0..len {
+        add_product(block, j, len);
     }
 }
 
@@ -169,7 +190,7 @@ fn report(
 
 fn main(rt: HostRuntime) -> io::Result<()> {
     let timed = env::args(&rt)?.count() > 1;
-    let Ok(mut blocks) = filled(rt.alloc()) else {
+    let Ok(mut blocks) = all_filled(rt.alloc()) else {
         return println!(rt; "out of memory");
     };
     report(&rt, "turn", Kernel::Turn, &mut blocks, timed)?;
