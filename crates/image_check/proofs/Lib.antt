@@ -1,5 +1,6 @@
 pub mod Chains
 pub mod Cleanness
+pub mod Faults
 pub mod Marks
 pub mod Shapes
 pub mod Starts

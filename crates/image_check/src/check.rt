@@ -3,6 +3,7 @@
 ghost use Rattle.std.specs.Prelude.{ℕ, ◌≡◌, ◌≢◌, ◌↔◌, ◌<◌, ◌≤◌, IsTrue, IfOk, length, Some, MatchOption, MatchResult};
 ghost use Rattle.paris_code.specs.RuleTarget.{HasUnits};
 ghost use Rattle.paris_code.specs.Sound.{IsNumbered, IsSound};
+ghost use Rattle.image_check.specs.Faults.{IsBrokenBy, IsBrokenByPart, IsFault};
 ghost use Rattle.image_check.specs.Tables.{AllKeepRules, AreTables, IsClean};
 
 use crate::fault::{Fault, Rule};
@@ -54,7 +55,7 @@ fn is_at(found: Option<usize>, place: usize) -> bool
 fn broken_rule(image: &Image, tables: &Tables, place: usize, instr: &Instr) -> Option<Rule>
     requires tables { AreTables image.now tables.now }
     requires inside { place < length image.now.code.items }
-    ensures { MatchOption result (IsClean image.now tables.now place instr.now) (λ _. Unit {0}) }
+    ensures { MatchOption result (IsClean image.now tables.now place instr.now) (IsBrokenBy image.now place instr.now) }
 {
     let shapes = image.shapes.as_slice();
     let numbers = tables.numbers.as_slice();
@@ -83,7 +84,7 @@ fn broken_rule(image: &Image, tables: &Tables, place: usize, instr: &Instr) -> O
 fn first_fault(image: &Image, tables: &Tables) -> Option<Fault>
     requires tables { AreTables image.now tables.now }
     requires numbered { IsNumbered image.now }
-    ensures { MatchOption result (AllKeepRules image.now) (λ fault. fault.at < length image.now.code.items) }
+    ensures { MatchOption result (AllKeepRules image.now) (λ fault. IsFault image.now fault.rule fault.at) }
 {
     for place in 0..image.code.len() {
         match broken_rule(image, tables, place, instruction(image, place)) {
@@ -99,20 +100,29 @@ fn first_fault(image: &Image, tables: &Tables) -> Option<Fault>
     None
 }
 
+/// The fault of the units, a shape or a final variable.
+fn fault_at_end(image: &Image, rule: Rule) -> Fault
+    requires numbered { IsNumbered image.now }
+    requires broken { IsBrokenByPart image.now rule }
+    ensures { IsFault image.now result.rule result.at }
+{
+    Fault {
+        rule,
+        at: image.code.len() as u32,
+    }
+}
+
 /// The least place at which an image rule is broken, and the least rule that is broken there.
 fn least_fault(image: &Image, tables: &Tables) -> Option<Fault>
     requires tables { AreTables image.now tables.now }
     requires numbered { IsNumbered image.now }
     requires units { HasUnits image.now }
-    ensures { MatchOption result (IsSound image.now) (λ fault. fault.at ≤ length image.now.code.items) }
+    ensures { MatchOption result (IsSound image.now) (λ fault. IsFault image.now fault.rule fault.at) }
 {
     match first_fault(image, tables) {
         Some(fault) => Some(fault),
         None => match broken_part(image) {
-            Some(rule) => Some(Fault {
-                rule,
-                at: image.code.len() as u32,
-            }),
+            Some(rule) => Some(fault_at_end(image, rule)),
             None => None,
         },
     }
@@ -122,13 +132,10 @@ fn least_fault(image: &Image, tables: &Tables) -> Option<Fault>
 /// the units are broken, that alone.
 pub fn find_fault(alloc: Global, image: &Image) -> Result<Option<Fault>, AllocError>
     requires { IsNumbered image.now }
-    ensures { IfOk result (λ found. MatchOption found (IsSound image.now) (λ fault. fault.at ≤ length image.now.code.items)) }
+    ensures { IfOk result (λ found. MatchOption found (IsSound image.now) (λ fault. IsFault image.now fault.rule fault.at)) }
 {
     if !are_starts(image.units.as_slice(), image.code.len()) {
-        return Ok(Some(Fault {
-            rule: Rule::Target,
-            at: image.code.len() as u32,
-        }));
+        return Ok(Some(fault_at_end(image, Rule::Target)));
     }
     let tables = tables_of(alloc, image)?;
     Ok(least_fault(image, &tables))

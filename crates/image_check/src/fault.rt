@@ -1,6 +1,8 @@
 //! What breaks an image rule.
 
-ghost use Rattle.std.specs.Prelude.{◌≤◌};
+ghost use Rattle.std.specs.Prelude.{◌≡◌};
+ghost use Rattle.image_check.specs.Faults.{number_of, IsFault};
+ghost use Rattle.image_check.specs.Errors.{IsRefusalOf};
 
 use paris_code::Image;
 
@@ -18,8 +20,7 @@ pub enum Rule {
 impl Rule {
     /// The number of the rule.
     pub fn number(self) -> u8
-        ensures least { 1 ≤ result }
-        ensures greatest { result ≤ 6 }
+        ensures { result ≡ number_of self }
     {
         self as u8
     }
@@ -40,4 +41,18 @@ pub struct Fault {
 pub enum CheckErr {
     Bad { rule: u8, at: u32, image: Image },
     Memory { image: Image },
+}
+
+impl Fault {
+    /// The refusal of the image for the fault.
+    pub fn refusal(self, image: Image) -> CheckErr
+        requires { IsFault image self.rule self.at }
+        ensures { IsRefusalOf image result }
+    {
+        CheckErr::Bad {
+            rule: self.rule.number(),
+            at: self.at,
+            image,
+        }
+    }
 }

@@ -45,10 +45,6 @@ pub fn verify(alloc: Global, image: Image) -> Result<Sound, CheckErr>
     };
     match found {
         None => Ok(Sound { image }),
-        Some(fault) => Err(CheckErr::Bad {
-            rule: fault.rule.number(),
-            at: fault.at,
-            image,
-        }),
+        Some(fault) => Err(fault.refusal(image)),
     }
 }
