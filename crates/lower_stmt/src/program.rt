@@ -209,3 +209,165 @@ fn final_name(alloc: Global, info: &VarInfo, element: u32) -> Result<Word, Memor
 fn digit(n: u32) -> u8 {
     b'0' + (n % 10) as u8
 }
+
+#[cfg(test)]
+mod tests {
+    use super::*;
+    use cstar_base::{Elem, Op, Place};
+    use cstar_tree::syntax::{AssignOp, ReduceOp};
+    use cstar_tree::typed::{Format, Piece, ShapeInfo, TExpr, TStmt, ValueType};
+    use paris_code::{NumberFormat, Operation, Reduction};
+
+    const PARALLEL: ValueType = ValueType {
+        elem: Elem::INT,
+        shape: Some(0),
+    };
+
+    const SCALAR: ValueType = ValueType {
+        elem: Elem::INT,
+        shape: None,
+    };
+
+    const PLACE: Place = Place { line: 1, col: 1 };
+
+    fn v() -> TExpr {
+        TExpr::Variable {
+            ty: PARALLEL,
+            variable: Variable::File(0),
+        }
+    }
+
+    fn set_v(alloc: Global, value: TExpr) -> Result<TStmt, Memory> {
+        Ok(TStmt::Expression(TExpr::Assign {
+            ty: PARALLEL,
+            place: PLACE,
+            op: AssignOp::Set,
+            target: Box::new(alloc, v())?,
+            value: Box::new(alloc, value)?,
+        }))
+    }
+
+    // 3 at every position
+    fn three(alloc: Global) -> Result<TExpr, Memory> {
+        let number = TExpr::Number {
+            ty: SCALAR,
+            value: 3,
+        };
+        Ok(TExpr::Promote {
+            ty: PARALLEL,
+            operand: Box::new(alloc, number)?,
+        })
+    }
+
+    fn doubled(alloc: Global) -> Result<TExpr, Memory> {
+        Ok(TExpr::Binary {
+            ty: PARALLEL,
+            place: PLACE,
+            op: Op::Add,
+            left: Box::new(alloc, v())?,
+            right: Box::new(alloc, v())?,
+        })
+    }
+
+    // printf("%d", += v)
+    fn print_sum(alloc: Global) -> Result<TStmt, Memory> {
+        let mut arguments = Vec::new(alloc);
+        arguments.push(TExpr::Reduce {
+            ty: SCALAR,
+            op: ReduceOp::Add,
+            operand: Box::new(alloc, v())?,
+        })?;
+        Ok(TStmt::Expression(TExpr::Printf {
+            ty: SCALAR,
+            pieces: Vec::from_array(alloc, [Piece::Argument(Format::Signed)])?,
+            arguments,
+        }))
+    }
+
+    // shape [8]S; int:S v; main() { with (S) { v = 3; v = v + v; printf("%d", += v); } }
+    fn doubling(alloc: Global) -> Result<Typed, Memory> {
+        let mut statements = Vec::new(alloc);
+        statements.push(set_v(alloc, three(alloc)?)?)?;
+        statements.push(set_v(alloc, doubled(alloc)?)?)?;
+        statements.push(print_sum(alloc)?)?;
+        let block = TStmt::Block {
+            locals: Vec::new(alloc),
+            statements,
+        };
+        let mut shapes = Vec::new(alloc);
+        shapes.push(ShapeInfo {
+            name: Word::of(Vec::from_array(alloc, *b"S")?),
+            extents: Vec::from_array(alloc, [8])?,
+        })?;
+        let mut vars = Vec::new(alloc);
+        vars.push(VarInfo {
+            name: Word::of(Vec::from_array(alloc, *b"v")?),
+            elem: Elem::INT,
+            shape: Some(0),
+            array: None,
+            start: 0,
+        })?;
+        let mut instances = Vec::new(alloc);
+        instances.push(Instance {
+            name: Word::of(Vec::from_array(alloc, *b"main")?),
+            current: None,
+            params: Vec::new(alloc),
+            result: None,
+            body: TStmt::With {
+                shape: 0,
+                body: Box::new(alloc, block)?,
+            },
+        })?;
+        Ok(Typed {
+            shapes,
+            vars,
+            instances,
+            need: Vec::from_array(alloc, [199])?,
+        })
+    }
+
+    fn is_expected(code: &[Instr]) -> bool {
+        matches!(
+            code,
+            [
+                Instr::FrontConst { value: 3, .. },
+                Instr::MoveConstant { .. },
+                Instr::Move { .. },
+                Instr::Move { .. },
+                Instr::Move { .. },
+                Instr::Operate {
+                    op: Operation::SAdd,
+                    ..
+                },
+                Instr::Move { .. },
+                Instr::Move { .. },
+                Instr::Global {
+                    combiner: Reduction::SAdd,
+                    ..
+                },
+                Instr::FrontPut {
+                    format: NumberFormat::Signed,
+                    ..
+                },
+                Instr::FrontHalt,
+            ]
+        )
+    }
+
+    #[test]
+    fn a_variable_is_doubled_and_summed(rt: HostRuntime) {
+        let Ok(typed) = doubling(rt.alloc()) else {
+            panic!(rt; "memory");
+        };
+        let Ok(program) = lower(rt.alloc(), &typed) else {
+            panic!(rt; "memory");
+        };
+        assert_eq!(rt; program.finals.len(), 1);
+        assert_eq!(rt; program.units.len(), 1);
+        // a register for the variable, one for the result of `main`, and two for values
+        assert_eq!(rt; program.slots, 4);
+        for unit in &program.units {
+            assert!(rt; is_expected(unit.code.as_slice()));
+        }
+    }
+}
