@@ -1,10 +1,10 @@
-//! The span of each entry of a unit: from the first instruction that names it to the last one. That
-//! of another unit's entry goes on to the call of that unit. A span that a loop's stretch cuts takes
-//! in the whole stretch, since what stands in the entry then has to last from one round to the next.
+//! The span of each entry of a unit: from the first instruction that names it to the last one. A
+//! span that a loop's stretch cuts takes in the whole stretch, since what stands in the entry then
+//! has to last from one round to the next.
 
 use crate::fields::named;
 use cstar_base::Memory;
-use paris_code::{Instr, Owner, Unit};
+use paris_code::{Instr, Unit};
 use std::alloc::Global;
 
 /// The instructions from `first` to `last`.
@@ -73,16 +73,12 @@ fn name_all(
 ) -> Result<Vec<Span>, Memory> {
     let mut loops = Vec::new(alloc);
     let mut fields = Vec::new(alloc);
-    let mut call = None;
     let mut left = unit.code.len();
     for instr in unit.code.iter().rev() {
         left = left.saturating_sub(1);
         let Ok(at) = u32::try_from(left) else {
             return Err(Memory);
         };
-        if let Instr::FrontCall { .. } = instr {
-            call = Some(at);
-        }
         if let Some(target) = target_of(instr) {
             if target <= at {
                 loops.push(Span {
@@ -95,9 +91,8 @@ fn name_all(
         named(instr, &mut fields)?;
         for field in &fields {
             let number = field.offset as usize;
-            if number < spans.len() && number < unit.fields.len() {
-                let owner = unit.fields[number].owner;
-                spans[number] = Some(widened(spans[number], at, call, owner));
+            if number < spans.len() {
+                spans[number] = Some(widened(spans[number], at));
             }
         }
     }
@@ -113,15 +108,12 @@ fn target_of(i: &Instr) -> Option<u32> {
     }
 }
 
-/// The span with one more instruction before it. Another unit's entry lasts to the next call.
-fn widened(span: Option<Span>, at: u32, call: Option<u32>, owner: Owner) -> Span {
-    let mut last = match span {
+/// The span with one more instruction before it.
+fn widened(span: Option<Span>, at: u32) -> Span {
+    let last = match span {
         Some(s) => s.last,
         None => at,
     };
-    if let Owner::Of { .. } = owner {
-        last = last.max(call.unwrap_or(at));
-    }
     Span { first: at, last }
 }
 
