@@ -1,4 +1,6 @@
 pub mod Kinds
+pub mod Listing
+pub mod Mnemonics
 pub mod Operands
 pub mod Operators
 pub mod RuleBackEdge
