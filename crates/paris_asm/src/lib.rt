@@ -1,0 +1,15 @@
+//! Listings read back: the image that a listing is of.
+#![tactic(auto)]
+
+mod differences;
+mod forms;
+mod instructions;
+mod lines;
+mod listing;
+mod names;
+mod operands;
+#[cfg(test)]
+mod tests;
+mod words;
+
+pub use listing::{AsmFault, read};
