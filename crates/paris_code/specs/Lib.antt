@@ -1,6 +1,7 @@
 pub mod Arguments
 pub mod Checking
 pub mod Elementwise
+pub mod Examples
 pub mod Fetching
 pub mod Kinds
 pub mod Meaning
