@@ -1,5 +1,5 @@
 -- Small computed cases of the instructions' meaning.
-use Rattle.std.specs.Prelude.{◌≡◌, ℕ, Bool, true, false, ◌^◌, ◌-◌, ◌+◌, ◌*◌, List, [], ◌∷◌, slice_index, Option, Some, None}
+use Rattle.std.specs.Prelude.{◌≡◌, ℕ, true, false, ◌^◌, ◌-◌, ◌+◌, ◌*◌, List, [], ◌∷◌, slice_index, Some, None}
 use Rattle.std.specs.Int.{bit_at}
 use Rattle.cstar_base.specs.declared.operators.Op.TheVariants as O
 use Rattle.cstar_base.specs.declared.operators.Direction.TheVariants as D
@@ -11,7 +11,7 @@ use Rattle.cstar_base.specs.Operators.{outcome}
 use Rattle.paris_code.specs.declared.operands.Field.{Field}
 use Rattle.paris_code.specs.declared.operands.Reduction.TheVariants as F
 use Rattle.paris_code.specs.Fetching.{of_named, global_fold}
-use Rattle.paris_code.specs.Memory.{BitMemory, is_active, field_number, processors}
+use Rattle.paris_code.specs.Memory.{BitMemory, is_active}
 use Rattle.paris_code.specs.Orders.{least_below}
 use Rattle.paris_code.specs.Scanning.{ScanOf, scanned}
 use Rattle.paris_code.specs.Sending.{winning_sender}

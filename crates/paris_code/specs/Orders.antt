@@ -1,5 +1,5 @@
 -- Folds and first places over numbered processors, in rising order.
-use Rattle.std.specs.Prelude.{ℕ, zero, suc, Bool, ◌+◌, ◌||◌, true, false, if◌then◌else◌, Option, Some, None}
+use Rattle.std.specs.Prelude.{ℕ, zero, suc, Bool, ◌+◌, ◌||◌, false, if◌then◌else◌, Option, Some, None}
 
 -- the values of the numbers below n that pass, folded in rising order
 unfoldable pub fold_below : (ℕ → ℕ → ℕ) → (ℕ → Bool) → (ℕ → ℕ) → ℕ → ℕ → ℕ

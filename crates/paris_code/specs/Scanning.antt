@@ -1,6 +1,6 @@
 -- The scans: at each active position the fold of the active positions of its line and segment that
 -- stand before it in the scan's direction, its own among them or not.
-use Rattle.std.specs.Prelude.{ℕ, pos, Bool, true, false, ◌+◌, ◌-◌, ◌-ℤ◌, ◌==◌, ◌&&◌, not, List, slice_index, Option, Some, None}
+use Rattle.std.specs.Prelude.{ℕ, pos, Bool, false, ◌+◌, ◌-◌, ◌-ℤ◌, ◌==◌, ◌&&◌, not, List, slice_index, Option, Some, None}
 use Rattle.vp_sets.specs.Positions.{coordinate, shifted}
 use Rattle.cstar_base.specs.declared.operators.Direction.{Direction}
 use Rattle.cstar_base.specs.declared.operators.Direction.TheVariants as D

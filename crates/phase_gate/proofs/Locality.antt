@@ -1,5 +1,5 @@
 -- What an elementwise instruction gives a processor rests on the bits of this processor alone.
-use Rattle.std.proofs.Common.{◌≡◌, ℕ, zero, suc, ◌+◌, ◌-◌, ◌*◌, ◌^◌, ◌%◌, ◌<◌, ◌≤◌, Bool, true, false, not, ◌&&◌, eqb, pos, neg_ℤ, List, [], ◌∷◌, length, All, sym, ◌∙◌, ap, subst, refl, arith, get_or}
+use Rattle.std.proofs.Common.{◌≡◌, ℕ, zero, suc, ◌+◌, ◌-◌, ◌*◌, ◌^◌, ◌%◌, ◌<◌, not, ◌&&◌, eqb, pos, neg_ℤ, List, [], ◌∷◌, All, ◌∙◌, ap, subst, refl, arith}
 use Rattle.std.specs.Int.{from_bool}
 use Rattle.std.proofs.lemmas.List.Elements.{All-head, All-tail}
 use Rattle.vp_sets.specs.Positions.{number_at}
@@ -14,12 +14,12 @@ use Rattle.paris_code.specs.Arguments.{konst_number, coordinate_number, coordina
 use Rattle.paris_code.specs.Elementwise.{element}
 use Rattle.paris_code.specs.Memory.{BitMemory, run_number, field_number, whole_number, is_active, is_tested}
 use Rattle.paris_code.specs.Operators.{operator_of, comparison_of}
-use Rattle.paris_code.specs.RuleField.{Fits, CoordinateFits}
+use Rattle.paris_code.specs.RuleField.{CoordinateFits}
 use Rattle.paris_code.specs.RuleSet.{FieldExists, CoordinateExists}
 use Rattle.paris_code.specs.RuleOperands.{IsWith, CoordinateIsWith}
 use Rattle.paris_code.specs.Shapes.{SetShape, bits_at, extents_at}
-use Rattle.phase_gate.specs.Apply.{CanApply, LiesIn, IsCoordinateIn, active_set}
-use Rattle.phase_gate.proofs.FieldLemmas.{lies, coordinates_lie}
+use Rattle.phase_gate.specs.Apply.{CanApply, LiesIn, active_set}
+use Rattle.phase_gate.proofs.FieldLemmas.{lies}
 
 -- two memories agree at a processor
 abbrev pub AgreeAt : List SetShape → ℕ → ℕ → BitMemory → BitMemory → Type 0

@@ -7,12 +7,11 @@ use Rattle.vp_sets.specs.Positions.{position_count}
 use Rattle.std.proofs.lemmas.List.{get_or-map, get_or-set_same, get_or-set_other, length-map, map-set, map-append, length_push}
 use Rattle.std.proofs.lemmas.Bool.{cases_lt, cases_eq, lt-ltb, le-ltb, le-leb, lt-leb, eq-eqb, ne_eqb}
 use Rattle.paris_code.specs.declared.operands.Field.{Field}
-use Rattle.paris_code.specs.Fetching.{at_one}
-use Rattle.paris_code.specs.Memory.{BitMemory, SameBits, fresh_memory, run_number, field_number}
+use Rattle.paris_code.specs.Memory.{SameBits, fresh_memory}
 use Rattle.phase_gate.specs.declared.rows.Rows.{Rows}
 use Rattle.phase_gate.specs.Rows.{rows_memory, row_bit, IsFresh, shape_of_rows, no_bits}
-use Rattle.paris_code.specs.Shapes.{SetShape, bits_at, no_shape}
-use Rattle.paris_code.specs.Writes.{Write, covers, written}
+use Rattle.paris_code.specs.Shapes.{SetShape, no_shape}
+use Rattle.paris_code.specs.Writes.{covers}
 
 -- one entry of a list of entries read by f
 pub entry : {X Y : Type 0} (f : X → Y) (xs : List X) (k : ℕ) (x : X) (d : Y) → k < length xs → x ≡ get_or xs k x → f x ≡ get_or (map f xs) k d

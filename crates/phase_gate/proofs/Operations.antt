@@ -1,11 +1,11 @@
 -- The operations and relations on fields, by those on words of 32 bits.
-use Rattle.std.proofs.Common.{◌≡◌, ℕ, zero, suc, ◌+◌, ◌-◌, ◌*◌, ◌/◌, ◌%◌, ◌^◌, ◌<◌, ◌≤◌, Bool, true, false, not, ◌&&◌, cond, eqb, ltb, ℤ, pos, negsuc, ◌+ℤ◌, ◌-ℤ◌, ◌*ℤ◌, ◌≤ℤ◌, bit_and, bit_or, bit_xor, Option, Some, None, sym, ◌∙◌, ap, inl, inr, refl, lit<, arith, subst, mul_assoc, add-mul, neg_ℤ}
-use Rattle.std.specs.Prelude.{int_div, int_rem, int_lt, int_le, if◌then◌else◌, ◌==◌}
+use Rattle.std.proofs.Common.{◌≡◌, ℕ, ◌+◌, ◌-◌, ◌*◌, ◌/◌, ◌%◌, ◌^◌, ◌<◌, ◌≤◌, Bool, true, false, not, cond, eqb, ltb, ℤ, pos, negsuc, ◌+ℤ◌, ◌-ℤ◌, ◌*ℤ◌, ◌≤ℤ◌, bit_and, bit_or, bit_xor, Some, None, sym, ◌∙◌, ap, inl, inr, refl, lit<, arith, mul_assoc, add-mul, neg_ℤ}
+use Rattle.std.specs.Prelude.{int_div, int_rem, int_lt, int_le}
 use Rattle.std.specs.Int.{int_min, int_max, int_shr, is_negative, from_bool}
 use Rattle.std.specs.Option.{unwrap_or, option_eq}
 use Rattle.std.proofs.lemmas.Int.{ints}
 use Rattle.std.proofs.lemmas.Nat.{mod_low, pow_pos, and_le_l, or_lt, xor_lt, pow-add}
-use Rattle.std.proofs.lemmas.Bool.{cases_lt, cases_eq, cases_Bool, lt-ltb, le-ltb, eq-eqb, ne_eqb, eqb-true}
+use Rattle.std.proofs.lemmas.Bool.{cases_lt, cases_eq, cases_Bool, lt-ltb, le-ltb, eq-eqb, ne_eqb}
 use Rattle.std.proofs.Math.Nat.{mod-eq_of_lt, div-eq_of_lt, pow-le-pow_right}
 use Rattle.cstar_base.specs.Numbers.{residue, number_of}
 use Rattle.cstar_base.specs.Operators.{operand, sum_of, difference_of, product_of, quotient_of, remainder_of, modulus_of, floor_rem, lesser_of, greater_of, shifted_left, shifted_right, is_below, is_at_most, outcome, divides, operate}

@@ -1,11 +1,10 @@
 -- A write that has been done at the positions before one, step by step.
 use Rattle.std.proofs.Common.{◌≡◌, ◌≢◌, ℕ, ◌+◌, ◌-◌, ◌%◌, ◌^◌, ◌<◌, ◌≤◌, Bool, true, false, ◌&&◌, cond, eqb, leb, ltb, List, length, sym, ◌∙◌, ap, inl, inr, refl, arith}
 use Rattle.std.specs.Int.{bit_at}
-use Rattle.std.proofs.lemmas.Bool.{cases_lt, cases_eq, cases_Bool, lt-ltb, le-ltb, eq-eqb, ne_eqb, and_parts, ltb-true, leb-true, eqb-true}
-use Rattle.paris_code.specs.declared.operands.Field.{Field}
+use Rattle.std.proofs.lemmas.Bool.{cases_lt, cases_eq, cases_Bool, lt-ltb, le-ltb, eq-eqb, ne_eqb, and_parts, ltb-true, leb-true}
 use Rattle.paris_code.specs.Fetching.{at_one}
 use Rattle.paris_code.specs.Memory.{BitMemory, SameBits, processors}
-use Rattle.paris_code.specs.Shapes.{SetShape, bits_at}
+use Rattle.paris_code.specs.Shapes.{SetShape}
 use Rattle.paris_code.specs.Writes.{Write, covers, written}
 use Rattle.phase_gate.proofs.RowBits.{bit_at-cut}
 use Rattle.phase_gate.proofs.Locality.{AgreeAt}

@@ -1,16 +1,17 @@
 -- What the meaning of an instruction is, family by family.
-use Rattle.std.proofs.Common.{◌≡◌, ℕ, Bool, true, false, List, Option, None, Some, IsSome, refl, subst, sym, ap, ◌∙◌}
+use Rattle.std.proofs.Common.{◌≡◌, ℕ, true, false, List, None, IsSome, refl, subst, sym}
 use Rattle.paris_code.specs.declared.instr.Instr.{Instr}
 use Rattle.paris_code.specs.declared.instr.Instr.TheVariants as I
+use Rattle.paris_code.specs.declared.program.Reply.{Reply}
 use Rattle.paris_code.specs.declared.program.Reply.TheVariants as R
 use Rattle.paris_code.specs.Elementwise.{is_elementwise, elementwise}
-use Rattle.paris_code.specs.Meaning.{after, reply_of}
+use Rattle.paris_code.specs.Meaning.{after, reply_of, Means}
 use Rattle.paris_code.specs.Memory.{BitMemory, SameBits}
 use Rattle.paris_code.specs.Operands.{result_of}
 use Rattle.paris_code.specs.Shapes.{SetShape}
 use Rattle.paris_code.specs.Writes.{written}
 use Rattle.phase_gate.specs.Apply.{is_check}
-use Rattle.phase_gate.specs.Families.{is_settled, is_settled_write}
+use Rattle.phase_gate.specs.Families.{is_settled, is_settled_write, is_settled_check}
 
 -- an elementwise instruction checks nothing, answers nothing, and writes at each position
 abbrev pub Plain : List SetShape → Instr → List ℕ → BitMemory → Type 0
@@ -49,13 +50,26 @@ answered shapes (I.ReadFromProcessor signed r processor a) args m is = refl
 answered shapes _ args m is = cc
 
 -- one of the others that are settled writes, and answers nothing
-pub settled_writes : (shapes : List SetShape) (instr : Instr) (args : List ℕ) (m : BitMemory) → is_elementwise instr ≡ false → result_of instr ≡ None → is_settled instr ≡ true
+pub settled_writes : (shapes : List SetShape) (instr : Instr) (args : List ℕ) (m : BitMemory) → is_check instr ≡ false → is_elementwise instr ≡ false → result_of instr ≡ None → is_settled instr ≡ true
     → (is_settled_write instr ≡ true) × (reply_of shapes instr args m ≡ R.Nothing)
-settled_writes shapes (I.GetFromNews d a axis k) args m p q is = (refl, refl)
-settled_writes shapes (I.GetFromNewsAlways d a axis k) args m p q is = (refl, refl)
-settled_writes shapes (I.Get d address a) args m p q is = (refl, refl)
-settled_writes shapes (I.WriteToProcessor d processor k) args m p q is = (refl, refl)
-settled_writes shapes _ args m p q is = cc
+settled_writes shapes (I.GetFromNews d a axis k) args m o p q is = (refl, refl)
+settled_writes shapes (I.GetFromNewsAlways d a axis k) args m o p q is = (refl, refl)
+settled_writes shapes (I.Get d address a) args m o p q is = (refl, refl)
+settled_writes shapes (I.WriteToProcessor d processor k) args m o p q is = (refl, refl)
+settled_writes shapes _ args m o p q is = cc
 
 pub same_bits : (shapes : List SetShape) (m : BitMemory) → SameBits shapes m m
 same_bits shapes m = record { bits = λ s p i a b c. refl; winner = refl }
+
+-- a check changes nothing, and a settled instruction that is one is a settled check
+pub checked : (shapes : List SetShape) (instr : Instr) (args : List ℕ) (m : BitMemory) → is_check instr ≡ true → is_settled instr ≡ true → (is_settled_check instr ≡ true) × (after shapes instr args m ≡ m)
+unfolding after
+checked shapes (I.CheckDivisor place a) args m is at = (refl, refl)
+checked shapes _ args m is at = cc
+
+-- an instruction that leaves the memory as it was, by its reply
+pub quiet : (shapes : List SetShape) (instr : Instr) (args : List ℕ) (m : BitMemory) (reply : Reply) → reply ≡ reply_of shapes instr args m → after shapes instr args m ≡ m → Means shapes instr args m m reply
+quiet shapes instr args m R.Nothing is at = (is, subst (λ (n : BitMemory). SameBits shapes m n) (sym at) (same_bits shapes m))
+quiet shapes instr args m (R.Value v) is at = (is, subst (λ (n : BitMemory). SameBits shapes m n) (sym at) (same_bits shapes m))
+quiet shapes instr args m (R.Bad position) is at = (is, subst (λ (n : BitMemory). SameBits shapes m n) (sym at) (same_bits shapes m))
+quiet shapes instr args m R.Memory is at = same_bits shapes m

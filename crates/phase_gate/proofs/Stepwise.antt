@@ -1,5 +1,5 @@
 -- One more position of an elementwise instruction.
-use Rattle.std.proofs.Common.{◌≡◌, ℕ, ◌+◌, ◌%◌, ◌^◌, ◌<◌, ◌≤◌, ◌-◌, Bool, true, false, ◌&&◌, cond, eqb, leb, ltb, List, length, sym, ◌∙◌, ap, subst, refl, inl, inr, arith}
+use Rattle.std.proofs.Common.{◌≡◌, ℕ, ◌+◌, ◌%◌, ◌^◌, ◌<◌, ◌-◌, Bool, true, false, ◌&&◌, cond, eqb, leb, ltb, List, length, sym, ◌∙◌, ap, subst, inl, inr, arith}
 use Rattle.std.specs.Int.{bit_at}
 use Rattle.std.proofs.lemmas.Bool.{cases_eq, ne_eqb}
 use Rattle.std.specs.Prelude.{◌||◌}
@@ -9,8 +9,8 @@ use Rattle.paris_code.specs.Elementwise.{is_elementwise, destination, writes_alw
 use Rattle.paris_code.specs.Fetching.{at_one}
 use Rattle.paris_code.specs.Memory.{BitMemory, SameBits, is_active, processors}
 use Rattle.paris_code.specs.Shapes.{SetShape}
-use Rattle.paris_code.specs.Writes.{Write, written, covers}
-use Rattle.phase_gate.specs.Apply.{CanApply, active_set}
+use Rattle.paris_code.specs.Writes.{written, covers}
+use Rattle.phase_gate.specs.Apply.{CanApply}
 use Rattle.phase_gate.specs.Gathered.{gathered}
 use Rattle.phase_gate.proofs.FieldLemmas.{destination_runs}
 use Rattle.phase_gate.proofs.Locality.{AgreeAt, element_same, active_same}

@@ -4,6 +4,11 @@ use Rattle.paris_code.specs.declared.instr.Instr.{Instr}
 use Rattle.paris_code.specs.declared.instr.Instr.TheVariants as I
 use Rattle.paris_code.specs.Elementwise.{is_elementwise}
 
+-- checks
+abbrev pub is_settled_check : Instr → Bool
+is_settled_check (I.CheckDivisor place a) = true
+is_settled_check _ = false
+
 -- those that answer a value
 abbrev pub is_settled_value : Instr → Bool
 is_settled_value (I.Global combiner r a) = true
@@ -19,4 +24,4 @@ is_settled_write (I.WriteToProcessor d processor k) = true
 is_settled_write _ = false
 
 abbrev pub is_settled : Instr → Bool
-is_settled instr = is_elementwise instr || (is_settled_value instr || is_settled_write instr)
+is_settled instr = is_elementwise instr || (is_settled_check instr || (is_settled_value instr || is_settled_write instr))

@@ -279,8 +279,8 @@ impl Phases for RowPhases {
     ghost memory = { memory_of };
 
     fn apply(&mut self, instr: &Instr, args: &[u32]) -> Reply {
-        if let Some(position) = self.check(instr, args) {
-            return Reply::Bad { position };
+        if let Some(reply) = self.check(instr, args) {
+            return reply;
         }
         if let Some(v) = self.value_of(instr, args) {
             return Reply::Value(v);

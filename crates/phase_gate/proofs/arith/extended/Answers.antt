@@ -1,4 +1,4 @@
-use Rattle.std.proofs.Common.{◌≡◌, ℕ, Bool, true, ◌+◌, ◌-◌, ◌^◌, ◌/◌, ◌≤◌, ◌<◌, not, ap, sym, ◌∙◌, arith}
+use Rattle.std.proofs.Common.{◌+◌, ◌-◌, ap, sym, ◌∙◌, arith}
 use Rattle.phase_gate.proofs.Operations.{word, word_lower, word_upper, word_plain}
 use Rattle.phase_gate.proofs.arith.extended.Goals as goal
 

@@ -1,4 +1,4 @@
-use Rattle.std.proofs.Common.{◌≡◌, Some, eqb, not, ap, ◌∙◌}
+use Rattle.std.proofs.Common.{Some, eqb, not, ap, ◌∙◌}
 use Rattle.std.specs.Int.{from_bool}
 use Rattle.std.specs.Option.{option_eq}
 use Rattle.cstar_base.specs.Operators.{operate}

@@ -1,11 +1,10 @@
-use Rattle.std.proofs.Common.{◌≡◌, true, false, List, ℕ, drop, get_or, sym, subst, ap, ◌∙◌, length-drop, arith}
+use Rattle.std.proofs.Common.{true, false, List, ℕ, drop, get_or, sym, subst, ap, ◌∙◌, length-drop, arith}
 use Rattle.std.proofs.lemmas.List.{take_all}
 use Rattle.paris_code.specs.declared.instr.Instr.{Instr}
-use Rattle.paris_code.specs.declared.instr.Instr.TheVariants as I
 use Rattle.paris_code.specs.Arguments.{konst_number}
 use Rattle.paris_code.specs.Fetching.{at_one, of_neighbour}
 use Rattle.paris_code.specs.Meaning.{after}
-use Rattle.paris_code.specs.Memory.{BitMemory, SameBits}
+use Rattle.paris_code.specs.Memory.{SameBits}
 use Rattle.paris_code.specs.Writes.{written}
 use Rattle.phase_gate.specs.declared.row_phases.RowPhases.{RowPhases}
 use Rattle.phase_gate.specs.Gathered.{gathered}

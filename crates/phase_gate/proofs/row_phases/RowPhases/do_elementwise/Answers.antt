@@ -1,5 +1,5 @@
-use Rattle.std.proofs.Common.{◌≡◌, ◌<◌, ◌≤◌, ◌+◌, ◌∙◌, refl, sym, subst, ap, arith}
-use Rattle.paris_code.specs.Elementwise.{elementwise, destination}
+use Rattle.std.proofs.Common.{◌<◌, ◌+◌, ◌∙◌, refl, sym, subst, ap, arith}
+use Rattle.paris_code.specs.Elementwise.{elementwise}
 use Rattle.paris_code.specs.Memory.{processors}
 use Rattle.phase_gate.specs.declared.row_phases.RowPhases.{RowPhases}
 use Rattle.phase_gate.specs.Rows.{sets_of, memory_of}

@@ -1,4 +1,4 @@
-use Rattle.std.proofs.Common.{◌≡◌, ℕ, ◌<◌, false, ◌∙◌, sym, ap, subst, arith}
+use Rattle.std.proofs.Common.{false, ◌∙◌, ap, arith}
 use Rattle.paris_code.specs.Fetching.{of_named}
 use Rattle.paris_code.specs.Memory.{processors}
 use Rattle.phase_gate.specs.Rows.{sets_of, memory_of, room_of}

@@ -1,4 +1,4 @@
-use Rattle.std.proofs.Common.{◌≡◌, ℕ, ◌<◌, ℤ, ◌∙◌, sym, ap, subst, arith, rules}
+use Rattle.std.proofs.Common.{ℤ, ◌∙◌, ap, arith, rules}
 use Rattle.std.proofs.lemmas.Int.{to_z-of_z}
 use Rattle.vp_sets.specs.Positions.{shifted}
 use Rattle.paris_code.specs.Fetching.{of_neighbour}

@@ -1,4 +1,4 @@
-use Rattle.std.proofs.Common.{◌≡◌, ℕ, ◌+◌, ◌-◌, ◌*◌, ◌%◌, ◌^◌, ◌<◌, ◌≤◌, List, sym, subst, ap, ◌∙◌, pos, neg_ℤ, not, bit_and, arith}
+use Rattle.std.proofs.Common.{◌≡◌, ℕ, ◌+◌, ◌-◌, ◌*◌, ◌%◌, ◌^◌, List, sym, subst, ap, ◌∙◌, pos, neg_ℤ, bit_and, arith}
 use Rattle.std.proofs.lemmas.Nat.{and_mask}
 use Rattle.std.proofs.Math.Nat.{mod-mod}
 use Rattle.vp_sets.specs.Positions.{number_at, position_count}
@@ -6,13 +6,12 @@ use Rattle.cstar_base.specs.Operators.{outcome}
 use Rattle.cstar_base.specs.Numbers.{residue}
 use Rattle.paris_code.specs.declared.instr.Instr.{Instr}
 use Rattle.paris_code.specs.declared.instr.Instr.TheVariants as I
-use Rattle.paris_code.specs.declared.operands.Field.{Field}
-use Rattle.paris_code.specs.Arguments.{konst_number, coordinate_numbers}
+use Rattle.paris_code.specs.Arguments.{coordinate_numbers}
 use Rattle.paris_code.specs.Elementwise.{element, destination}
 use Rattle.paris_code.specs.Memory.{whole_number, field_number}
 use Rattle.paris_code.specs.Operators.{operator_of}
-use Rattle.paris_code.specs.Shapes.{SetShape, extents_at}
-use Rattle.phase_gate.specs.Apply.{CanApply, LiesIn}
+use Rattle.paris_code.specs.Shapes.{extents_at}
+use Rattle.phase_gate.specs.Apply.{CanApply}
 use Rattle.phase_gate.specs.Rows.{sets_of, memory_of}
 use Rattle.phase_gate.specs.declared.row_phases.RowPhases.{RowPhases}
 use Rattle.phase_gate.proofs.FieldLemmas.{lies}

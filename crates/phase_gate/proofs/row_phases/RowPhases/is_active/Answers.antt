@@ -1,6 +1,6 @@
 use Rattle.std.proofs.Common.{ℕ, ◌∙◌, eqb, ap}
 use Rattle.paris_code.specs.Memory.{is_active}
-use Rattle.phase_gate.specs.Rows.{row_bit, memory_of}
+use Rattle.phase_gate.specs.Rows.{memory_of}
 use Rattle.phase_gate.proofs.row_phases.RowPhases.is_active.Goals as goal
 
 pub returns : goal.returns

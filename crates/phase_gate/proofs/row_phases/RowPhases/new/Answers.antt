@@ -1,6 +1,6 @@
-use Rattle.std.proofs.Common.{◌≡◌, ◌∙◌, ap, sym, subst, List, map, arith}
+use Rattle.std.proofs.Common.{◌≡◌, ap, sym, subst, List, map, arith}
 use Rattle.std.proofs.lemmas.Grind.{common_steps}
-use Rattle.paris_code.specs.Memory.{BitMemory, SameBits, fresh_memory}
+use Rattle.paris_code.specs.Memory.{SameBits, fresh_memory}
 use Rattle.paris_code.specs.Shapes.{SetShape, shapes_of}
 use Rattle.phase_gate.specs.declared.rows.Rows.{Rows}
 use Rattle.phase_gate.specs.Rows.{shape_of_rows, rows_memory, memory_of}

@@ -1,4 +1,4 @@
-use Rattle.std.proofs.Common.{◌≡◌, ◌∙◌, ap, sym, subst, arith, ◌≤◌}
+use Rattle.std.proofs.Common.{◌≡◌, ◌∙◌, ap, sym, arith}
 use Rattle.cstar_base.specs.Folds.{fold_once, identity_of}
 use Rattle.paris_code.specs.Fetching.{global_fold}
 use Rattle.paris_code.specs.Memory.{is_active, field_number, processors}

@@ -1,4 +1,4 @@
-use Rattle.std.proofs.Common.{◌≡◌, ℕ, length, map, get_or, ap, sym, ◌∙◌, arith}
+use Rattle.std.proofs.Common.{map, get_or, ap, ◌∙◌, arith}
 use Rattle.std.proofs.lemmas.List.{length-map}
 use Rattle.phase_gate.specs.Rows.{row_bit, room_word, memory_of, room_of, no_bits, no_words, shape_of_rows}
 use Rattle.phase_gate.proofs.Memories.{entry}

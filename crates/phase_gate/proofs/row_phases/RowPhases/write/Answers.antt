@@ -1,9 +1,8 @@
-use Rattle.std.proofs.Common.{◌≡◌, ◌≢◌, ℕ, ◌+◌, ◌<◌, List, length, map, get_or, ap, sym, refl, subst, ◌∙◌, inl, inr, arith}
+use Rattle.std.proofs.Common.{◌≡◌, ℕ, ◌+◌, ◌<◌, List, length, map, get_or, ap, refl, subst, ◌∙◌, arith}
 use Rattle.std.proofs.Math.ListN.{set}
 use Rattle.std.proofs.Math.Seq.{map-set_same}
 use Rattle.std.proofs.lemmas.List.{length-map}
-use Rattle.paris_code.specs.Memory.{BitMemory, SameBits}
-use Rattle.paris_code.specs.Shapes.{SetShape, bits_at}
+use Rattle.paris_code.specs.Shapes.{bits_at}
 use Rattle.paris_code.specs.Writes.{written}
 use Rattle.phase_gate.specs.Rows.{row_bit, room_word, memory_of, room_of, no_bits, no_words, shape_of_rows, sets_of}
 use Rattle.phase_gate.proofs.FieldLemmas.{bits_of_rows}

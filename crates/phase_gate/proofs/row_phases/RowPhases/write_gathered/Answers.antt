@@ -1,4 +1,4 @@
-use Rattle.std.proofs.Common.{◌≡◌, ◌<◌, ◌≤◌, ◌+◌, ◌∙◌, refl, sym, subst, ap, arith}
+use Rattle.std.proofs.Common.{◌<◌, ◌+◌, ◌∙◌, refl, sym, subst, ap, arith}
 use Rattle.paris_code.specs.Memory.{processors}
 use Rattle.phase_gate.specs.declared.row_phases.RowPhases.{RowPhases}
 use Rattle.phase_gate.specs.Gathered.{gathered}

@@ -1,4 +1,4 @@
-use Rattle.std.proofs.Common.{◌≡◌, ◌+◌, ◌*◌, ◌^◌, ◌∙◌, eqb, ap, arith, add-zero, zero-add, one-mul}
+use Rattle.std.proofs.Common.{◌+◌, ◌∙◌, eqb, ap}
 use Rattle.phase_gate.specs.Rows.{row_bit}
 use Rattle.phase_gate.proofs.RowBits.{run_number_one}
 use Rattle.phase_gate.proofs.rows.Rows.test.Goals as goal

@@ -1,7 +1,6 @@
-use Rattle.std.proofs.Common.{◌≡◌, ◌+◌, ◌*◌, ◌%◌, ◌^◌, ◌<◌, ◌∙◌, ap, sym, get_or, length, add_comm, subst, lit≤, arith}
+use Rattle.std.proofs.Common.{◌≡◌, ◌+◌, ◌*◌, ◌^◌, ◌<◌, ◌∙◌, ap, get_or, lit≤, arith}
 use Rattle.std.proofs.lemmas.List.{get_or_read}
 use Rattle.std.proofs.lemmas.Nat.{mul-add-lt, shl_whole}
-use Rattle.std.proofs.Math.Nat.{mod-eq_of_lt}
 use Rattle.phase_gate.specs.Rows.{row_bit}
 use Rattle.phase_gate.proofs.RowBits.{window_bit}
 use Rattle.phase_gate.proofs.rows.Rows.window.Goals as goal
