@@ -2,6 +2,7 @@
 #![tactic(auto)]
 
 mod instr;
+pub mod laws;
 mod operands;
 mod program;
 

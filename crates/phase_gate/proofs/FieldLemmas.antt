@@ -1,5 +1,5 @@
 -- What the image rules on fields give the phases.
-use Rattle.std.proofs.Common.{◌≡◌, ℕ, ◌<◌, List, length, subst, map, slice_set, get_or, All, sym}
+use Rattle.std.proofs.Common.{◌≡◌, ℕ, ◌<◌, List, length, subst, map, slice_set, get_or, All, sym, ap, ◌∙◌, refl, true, lit≤, arith}
 use Rattle.std.proofs.Math.Seq.{map-set_same}
 use Rattle.phase_gate.specs.declared.rows.Rows.{Rows}
 use Rattle.phase_gate.specs.Rows.{shape_of_rows}
@@ -10,12 +10,16 @@ use Rattle.paris_code.specs.declared.operands.Coordinate.TheVariants as C
 use Rattle.paris_code.specs.declared.operands.SignedCoordinate.{SignedCoordinate}
 use Rattle.paris_code.specs.declared.program.ShapeBits.{ShapeBits}
 use Rattle.paris_code.specs.Operands.{coordinate_of}
-use Rattle.paris_code.specs.Shapes.{SetShape, no_shape, shape_of}
+use Rattle.paris_code.specs.Shapes.{SetShape, no_shape, shape_of, bits_at}
+use Rattle.paris_code.specs.declared.instr.Instr.{Instr}
+use Rattle.paris_code.specs.declared.instr.Instr.TheVariants as I
+use Rattle.paris_code.specs.Elementwise.{is_elementwise, destination}
+use Rattle.paris_code.specs.Memory.{context_run, test_run}
 use Rattle.paris_code.specs.Sound.{IsShape}
 use Rattle.paris_code.specs.RuleField.{Fits, CoordinateFits}
-use Rattle.paris_code.specs.RuleOperands.{IsWith}
+use Rattle.paris_code.specs.RuleOperands.{IsWith, CoordinateIsWith}
 use Rattle.paris_code.specs.RuleSet.{FieldExists, CoordinateExists}
-use Rattle.phase_gate.specs.Apply.{IsPosition, LiesIn, IsCoordinateIn}
+use Rattle.phase_gate.specs.Apply.{IsPosition, LiesIn, IsCoordinateIn, IsCoordinateAt, CanApply, IsRun, active_set}
 
 -- a field that fits and whose set exists lies in its set
 pub lies : (shapes : List SetShape) (f : Field) → Fits shapes f → FieldExists shapes f → LiesIn shapes f
@@ -39,6 +43,14 @@ coordinate_lies shapes slots (C.Reg r) fits exists = tt
 pub coordinates_lie : (shapes : List SetShape) (slots : ℕ) (cs : List Coordinate) → All (CoordinateFits shapes slots) cs → All (CoordinateExists shapes) cs → All (IsCoordinateIn shapes) cs
 coordinates_lie shapes slots cs fit exist = λ k d within. coordinate_lies shapes slots (get_or cs k d) (fit k d within) (exist k d within)
 
+coordinate_at : (shapes : List SetShape) (slots : ℕ) (d : Field) (position : ℕ) (c : Coordinate) → FieldExists shapes d → IsPosition shapes d.set position → CoordinateFits shapes slots c → CoordinateExists shapes c → CoordinateIsWith shapes d c → IsCoordinateAt shapes position c
+coordinate_at shapes slots d position (C.Field f) exists at fits there with = (lies shapes f fits there, same_positions shapes d f position exists there with at)
+coordinate_at shapes slots d position (C.Reg r) exists at fits there with = tt
+
+-- and have the positions of the set that they are of
+pub coordinates_at : (shapes : List SetShape) (slots : ℕ) (d : Field) (position : ℕ) (cs : List Coordinate) → FieldExists shapes d → IsPosition shapes d.set position → All (CoordinateFits shapes slots) cs → All (CoordinateExists shapes) cs → All (CoordinateIsWith shapes d) cs → All (IsCoordinateAt shapes position) cs
+coordinates_at shapes slots d position cs exists at fit there with = λ k e within. coordinate_at shapes slots d position (get_or cs k e) exists at (fit k e within) (there k e within) (with k e within)
+
 pub checked_lie : (shapes : List SetShape) (slots : ℕ) (cs : List SignedCoordinate) → All (λ c. CoordinateFits shapes slots (coordinate_of c)) cs → All (λ c. CoordinateExists shapes (coordinate_of c)) cs → All (λ c. IsCoordinateIn shapes (coordinate_of c)) cs
 checked_lie shapes slots cs fit exist = λ k d within. coordinate_lies shapes slots (coordinate_of (get_or cs k d)) (fit k d within) (exist k d within)
 
@@ -48,3 +60,40 @@ shape_kept shapes k shape all within is =
     let family : SetShape → Type 0 = λ s. IsShape s in
     let at : ShapeBits → Type 0 = λ s. IsShape (shape_of s) in
     subst at (sym is) (subst family (get_or-map shape_of shapes k shape no_shape within) (all k no_shape (rw length-map within)))
+
+-- the bits of a set are those of its rows
+pub bits_of_rows : (sets : List Rows) (set : ℕ) (rows : Rows) → set < length sets → rows ≡ get_or sets set rows → rows.bits ≡ bits_at (map shape_of_rows sets) set
+bits_of_rows sets set rows within is = ap (λ r. r.bits) is ∙ ap (λ s. s.bits) (sym (get_or-map shape_of_rows sets set rows no_shape within))
+
+-- the destination of an elementwise instruction is a run of the set that does it
+abbrev Runs : List SetShape → Instr → Type 0
+Runs shapes instr = IsRun shapes (destination shapes instr) × ((destination shapes instr).set ≡ active_set instr)
+
+field_runs : (shapes : List SetShape) (f : Field) → Fits shapes f → FieldExists shapes f → IsRun shapes f
+field_runs shapes f fits exists = let in_set = fits exists in (exists, in_set.0, in_set.1, omega (arith, in_set.2))
+
+flag_runs : (shapes : List SetShape) (set : ℕ) → set < length shapes → IsRun shapes (context_run shapes set) × IsRun shapes (test_run shapes set)
+flag_runs shapes set exists = ((exists, lit≤ tt, lit≤ tt, omega arith), (exists, lit≤ tt, lit≤ tt, omega arith))
+
+pub destination_runs : (shapes : List SetShape) (instr : Instr) (args : List ℕ) → CanApply shapes instr args → is_elementwise instr ≡ true → Runs shapes instr
+destination_runs shapes (I.Move signed d a) args can is = (field_runs shapes d can.field.0 can.set.0, refl)
+destination_runs shapes (I.MoveConstant d k) args can is = (field_runs shapes d can.field.0 can.set, refl)
+destination_runs shapes (I.MoveZeroAlways d) args can is = (field_runs shapes d can.field can.set, refl)
+destination_runs shapes (I.MoveAlways d a) args can is = (field_runs shapes d can.field.0 can.set.0, refl)
+destination_runs shapes (I.MyNewsCoordinate d axis) args can is = (field_runs shapes d can.field can.set.0, refl)
+destination_runs shapes (I.MakeAddress d set coordinates) args can is = (field_runs shapes d can.field.0 can.set.0, refl)
+destination_runs shapes (I.Operate op d a b) args can is = (field_runs shapes d can.field.0 can.set.0, refl)
+destination_runs shapes (I.OperateConstant op d a k) args can is = (field_runs shapes d can.field.0 can.set.0, refl)
+destination_runs shapes (I.Negate d a) args can is = (field_runs shapes d can.field.0 can.set.0, refl)
+destination_runs shapes (I.Lognot d a) args can is = (field_runs shapes d can.field.0 can.set.0, refl)
+destination_runs shapes (I.Compare relation a b) args can is = ((flag_runs shapes a.set can.set.0).1, refl)
+destination_runs shapes (I.EqZero a) args can is = ((flag_runs shapes a.set can.set).1, refl)
+destination_runs shapes (I.NeZero a) args can is = ((flag_runs shapes a.set can.set).1, refl)
+destination_runs shapes (I.LoadTest a) args can is = ((flag_runs shapes a.set can.set).1, refl)
+destination_runs shapes (I.StoreTest d) args can is = (field_runs shapes d can.field.0 can.set, refl)
+destination_runs shapes (I.LoadContext a) args can is = ((flag_runs shapes a.set can.set).0, refl)
+destination_runs shapes (I.StoreContext d) args can is = (field_runs shapes d can.field.0 can.set, refl)
+destination_runs shapes (I.SetContext set) args can is = ((flag_runs shapes set can.set).0, refl)
+destination_runs shapes (I.LogandContextWithTest set) args can is = ((flag_runs shapes set can.set).0, refl)
+destination_runs shapes (I.LogandcContextWithTest set) args can is = ((flag_runs shapes set can.set).0, refl)
+destination_runs shapes _ args can is = cc

@@ -1,1 +1,12 @@
+pub mod Addresses
 pub mod FieldLemmas
+pub mod Locality
+pub mod Memories
+pub mod Partly
+pub mod Operations
+pub mod Replies
+pub mod Rising
+pub mod RowBits
+pub mod Stepwise
+pub mod Tests
+pub mod Widths

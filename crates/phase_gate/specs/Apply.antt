@@ -40,6 +40,11 @@ abbrev pub IsCoordinateIn : List SetShape → Coordinate → Type 0
 IsCoordinateIn shapes (C.Reg r) = Unit {0}
 IsCoordinateIn shapes (C.Field f) = LiesIn shapes f
 
+-- a coordinate that is a register, or a field that lies in its set, of which there is this position
+abbrev pub IsCoordinateAt : List SetShape → ℕ → Coordinate → Type 0
+IsCoordinateAt shapes position (C.Reg r) = Unit {0}
+IsCoordinateAt shapes position (C.Field f) = LiesIn shapes f × IsPosition shapes f.set position
+
 -- the set whose active processors do an elementwise instruction
 abbrev pub active_set : Instr → ℕ
 active_set (I.Move signed d a) = d.set

@@ -1,5 +1,7 @@
 pub mod Apply
-pub mod Destinations
+pub mod Families
+pub mod Gathered
 pub mod Rows
 pub mod Scans
 pub mod Sends
+pub mod Shifts

@@ -1,11 +1,18 @@
 //! The instructions, each done by one loop over the processors.
 
-ghost use Rattle.std.specs.Prelude.{◌≡◌, ◌<◌, length, None, IsSome, IfSome, MatchOption};
+ghost use Rattle.std.specs.Prelude.{◌≡◌, ◌<◌, length, true, false, None, IsSome, IfSome, MatchOption};
+ghost use Rattle.paris_code.specs.Elementwise.{is_elementwise, destination, writes_always, elementwise};
+ghost use Rattle.paris_code.specs.Fetching.{at_one, of_named, of_neighbour, word_of_one};
+ghost use Rattle.paris_code.specs.Meaning.{after, reply_of};
+ghost use Rattle.phase_gate.specs.Families.{is_settled_write};
+ghost use Rattle.phase_gate.specs.Gathered.{gathered};
+ghost use Rattle.paris_code.specs.Memory.{SameBits, bit_run, context_run, test_run};
+ghost use Rattle.paris_code.specs.Writes.{written};
 ghost use Rattle.paris_code.specs.Operands.{result_of};
 ghost use Rattle.paris_code.specs.Shapes.{rank_at};
 ghost use Rattle.phase_gate.specs.Apply.{CanApply, IsRun, LiesIn, active_set, looked_at};
 
-use crate::arith::{extended, signed};
+use crate::arith::signed;
 use crate::communication::Scan;
 use crate::elements::konst;
 use crate::phases::Phases;
@@ -14,12 +21,15 @@ use crate::sends::Send;
 use cstar_base::{SegmentMode, Winner};
 use paris_code::{Field, Instr, Reply};
 
-/// Where an elementwise instruction writes.
-#[derive(Clone, Copy)]
-enum Destination {
-    Field(Field),
-    Context(u16),
-    Test(u16),
+/// A flag, as the run of its one bit.
+fn flag(set: u16, offset: u32) -> Field
+    ensures { result ≡ bit_run set offset }
+{
+    Field {
+        set,
+        offset,
+        len: 1,
+    }
 }
 
 /// The bit of a scan, in the modes that look at it.
@@ -33,20 +43,34 @@ fn looked_at(mode: SegmentMode, bit: Option<Field>) -> Option<Field>
 }
 
 impl RowPhases {
-    ghost use Rattle.phase_gate.specs.Rows.{sets_of};
-    ghost use Rattle.phase_gate.specs.Destinations.{DestinationFits, set_of};
+    ghost use Rattle.phase_gate.specs.Rows.{sets_of, memory_of};
+
+    /// The context flag of a set.
+    fn context_of(&self, set: u16) -> Field
+        requires { set < length (sets_of self.now) }
+        ensures { result ≡ context_run (sets_of self.now) set }
+    {
+        flag(set, self.rows(set).bits)
+    }
+
+    /// The test flag of a set.
+    fn test_of(&self, set: u16) -> Field
+        requires { set < length (sets_of self.now) }
+        ensures { result ≡ test_run (sets_of self.now) set }
+    {
+        flag(set, self.rows(set).bits + 1)
+    }
 
     #[tactic(auto, using(crate::proofs::FieldLemmas::lies))]
     /// Where an elementwise instruction writes, and whether it does so at all processors.
-    fn written_by(&self, instr: &Instr, args: &[u32]) -> Option<(Destination, bool)>
+    fn written_by(&self, instr: &Instr, args: &[u32]) -> Option<(Field, bool)>
         requires { CanApply (sets_of self.now) instr.now args.now }
-        ensures fits { IfSome result (λ written. DestinationFits (sets_of self.now) written.0) }
-        ensures set { IfSome result (λ written. set_of written.0 ≡ active_set instr.now) }
+        ensures { MatchOption result (is_elementwise instr.now ≡ false) (λ w. (is_elementwise instr.now ≡ true) × (w.0 ≡ destination (sets_of self.now) instr.now) × (w.1 ≡ writes_always instr.now)) }
     {
         let found = match instr {
             Instr::MoveZeroAlways { dest }
             | Instr::MoveAlways { dest, .. }
-            | Instr::StoreContext { dest } => (Destination::Field(*dest), true),
+            | Instr::StoreContext { dest } => (*dest, true),
             Instr::Move { dest, .. }
             | Instr::MoveConstant { dest, .. }
             | Instr::MyNewsCoordinate { dest, .. }
@@ -55,51 +79,32 @@ impl RowPhases {
             | Instr::OperateConstant { dest, .. }
             | Instr::Negate { dest, .. }
             | Instr::Lognot { dest, .. }
-            | Instr::StoreTest { dest } => (Destination::Field(*dest), false),
-            Instr::LoadContext { source } => (Destination::Context(source.set), true),
-            Instr::SetContext { set } => (Destination::Context(*set), true),
+            | Instr::StoreTest { dest } => (*dest, false),
+            Instr::LoadContext { source } => (self.context_of(source.set), true),
+            Instr::SetContext { set } => (self.context_of(*set), true),
             Instr::LogandContextWithTest { set } | Instr::LogandcContextWithTest { set } => {
-                (Destination::Context(*set), false)
+                (self.context_of(*set), false)
             }
-            Instr::Compare { left, .. } => (Destination::Test(left.set), false),
+            Instr::Compare { left, .. } => (self.test_of(left.set), false),
             Instr::EqZero { source } | Instr::NeZero { source } | Instr::LoadTest { source } => {
-                (Destination::Test(source.set), false)
+                (self.test_of(source.set), false)
             }
             _ => return None,
         };
         Some(found)
     }
 
-    /// The bits that an elementwise instruction writes, as a run of a row.
-    fn run_of(&self, dest: Destination) -> Field
-        requires { DestinationFits (sets_of self.now) dest }
-        ensures run { IsRun (sets_of self.now) result }
-        ensures set { result.set ≡ set_of dest }
-    {
-        match dest {
-            Destination::Field(f) => f,
-            Destination::Context(set) => Field {
-                set,
-                offset: self.rows(set).bits,
-                len: 1,
-            },
-            Destination::Test(set) => Field {
-                set,
-                offset: self.rows(set).bits + 1,
-                len: 1,
-            },
-        }
-    }
-
     /// Does an elementwise instruction.
     fn do_elementwise(&mut self, instr: &Instr, args: &[u32], run: Field, always: bool)
         requires can { CanApply (sets_of self.old) instr.now args.now }
-        requires run { IsRun (sets_of self.old) run }
-        requires set { run.set ≡ active_set instr.now }
-        ensures { sets_of self.new ≡ sets_of self.old }
+        requires elementwise { is_elementwise instr.now ≡ true }
+        requires run { run ≡ destination (sets_of self.old) instr.now }
+        requires always { always ≡ writes_always instr.now }
+        ensures sets { sets_of self.new ≡ sets_of self.old }
+        ensures memory { SameBits (sets_of self.old) (memory_of self.new) (written (elementwise (sets_of self.old) instr.now args.now (memory_of self.old)) (memory_of self.old)) }
     {
         'positions: for position in 0..self.positions(run.set) {
-            if always || self.is_active(run.set, position) {
+            if self.takes(run.set, always, position) {
                 let word = self.element(instr, args, position);
                 self.write(run, position, word);
             }
@@ -110,28 +115,46 @@ impl RowPhases {
     fn do_shift(&mut self, dest: Field, source: Field, axis: u32, by: u32, always: bool)
         requires dest { LiesIn (sets_of self.old) dest }
         requires source { LiesIn (sets_of self.old) source }
+        requires together { dest.set ≡ source.set }
         requires axis { axis < rank_at (sets_of self.old) source.set }
-        ensures { sets_of self.new ≡ sets_of self.old }
+        ensures sets { sets_of self.new ≡ sets_of self.old }
+        ensures memory { SameBits (sets_of self.old) (memory_of self.new) (written (gathered (sets_of self.old) (memory_of self.old) dest always (of_neighbour (sets_of self.old) (memory_of self.old) source axis by)) (memory_of self.old)) }
     {
         self.gather_shift(source, axis, signed(by));
         self.write_gathered(dest, always);
     }
 
+    /// A get, gathered and then written.
+    fn do_get(&mut self, dest: Field, address: Field, source: Field)
+        requires dest { LiesIn (sets_of self.old) dest }
+        requires address { LiesIn (sets_of self.old) address }
+        requires source { LiesIn (sets_of self.old) source }
+        requires together { dest.set ≡ address.set }
+        ensures sets { sets_of self.new ≡ sets_of self.old }
+        ensures memory { SameBits (sets_of self.old) (memory_of self.new) (written (gathered (sets_of self.old) (memory_of self.old) dest false (of_named (sets_of self.old) (memory_of self.old) address source)) (memory_of self.old)) }
+    {
+        self.gather_named(address, source);
+        self.write_gathered(dest, false);
+    }
+
     /// The source of one processor, or 0 if there is none.
+    #[tactic(auto, unfolding(paris_code::specs::Fetching::word_of_one), using(crate::proofs::Tests::less, crate::proofs::Tests::not_less))]
     fn read_one(&self, read_signed: bool, processor: u32, source: Field) -> u32
         requires { LiesIn (sets_of self.now) source }
+        ensures { result ≡ word_of_one (sets_of self.now) (memory_of self.now) read_signed source processor }
     {
-        extended(
-            read_signed,
-            source.len,
-            self.field_or_zero(source, processor),
-        )
+        if processor < self.positions(source.set) {
+            self.word(read_signed, source, processor)
+        } else {
+            0
+        }
     }
 
     /// Writes to one processor, if there is such a one.
     fn write_one(&mut self, dest: Field, processor: u32, word: u32)
         requires { LiesIn (sets_of self.old) dest }
-        ensures { sets_of self.new ≡ sets_of self.old }
+        ensures sets { sets_of self.new ≡ sets_of self.old }
+        ensures memory { SameBits (sets_of self.old) (memory_of self.new) (written (at_one dest processor word) (memory_of self.old)) }
     {
         if processor < self.positions(dest.set) {
             self.write(dest, processor, word);
@@ -142,7 +165,7 @@ impl RowPhases {
     #[tactic(auto, using(crate::proofs::FieldLemmas::lies))]
     fn value_of(&self, instr: &Instr, args: &[u32]) -> Option<u32>
         requires { CanApply (sets_of self.now) instr.now args.now }
-        ensures { MatchOption result (result_of instr.now ≡ None) (λ v. IsSome (result_of instr.now)) }
+        ensures { MatchOption result (result_of instr.now ≡ None) (λ v. IsSome (result_of instr.now) × (reply_of (sets_of self.now) instr.now args.now (memory_of self.now) ≡ Reply.Value v)) }
     {
         match instr {
             Instr::Global {
@@ -161,7 +184,8 @@ impl RowPhases {
     #[tactic(auto, using(crate::proofs::FieldLemmas::lies))]
     fn communicate(&mut self, instr: &Instr, args: &[u32])
         requires { CanApply (sets_of self.old) instr.now args.now }
-        ensures { sets_of self.new ≡ sets_of self.old }
+        ensures sets { sets_of self.new ≡ sets_of self.old }
+        ensures memory { is_settled_write instr.now ≡ true → SameBits (sets_of self.old) (memory_of self.new) (after (sets_of self.old) instr.now args.now (memory_of self.old)) }
     {
         match instr {
             Instr::GetFromNews {
@@ -180,10 +204,7 @@ impl RowPhases {
                 dest,
                 address,
                 source,
-            } => {
-                self.gather_named(*address, *source);
-                self.write_gathered(*dest, false);
-            }
+            } => self.do_get(*dest, *address, *source),
             Instr::WriteToProcessor { dest, value, .. } => {
                 self.write_one(*dest, args[0], konst(*value, &args[1..]));
             }
@@ -251,19 +272,20 @@ impl RowPhases {
 }
 
 impl Phases for RowPhases {
-    ghost use Rattle.phase_gate.specs.Rows.{sets_of};
+    ghost use Rattle.phase_gate.specs.Rows.{sets_of, memory_of};
 
     ghost shapes = { sets_of };
 
+    ghost memory = { memory_of };
+
     fn apply(&mut self, instr: &Instr, args: &[u32]) -> Reply {
-        if let Some(position) = self.check(instr, args) {
-            return Reply::Bad { position };
+        if let Some(reply) = self.check(instr, args) {
+            return reply;
         }
         if let Some(v) = self.value_of(instr, args) {
             return Reply::Value(v);
         }
-        if let Some((dest, always)) = self.written_by(instr, args) {
-            let run = self.run_of(dest);
+        if let Some((run, always)) = self.written_by(instr, args) {
             self.do_elementwise(instr, args, run, always);
         } else {
             self.communicate(instr, args);

@@ -1,6 +1,11 @@
 //! Arithmetic on fields: on numbers of 32 bits that were extended from the field's length.
 
-ghost use Rattle.std.specs.Prelude.{◌≤◌};
+ghost use Rattle.std.specs.Prelude.{◌≡◌, ◌-◌, ◌%◌, ◌^◌, ◌<◌, ◌≤◌, true, not, if◌then◌else◌};
+ghost use Rattle.std.specs.Int.{from_bool};
+ghost use Rattle.cstar_base.specs.Numbers.{residue, number_of};
+ghost use Rattle.cstar_base.specs.Operators.{outcome};
+ghost use Rattle.paris_code.specs.Operators.{operator_of, comparison_of};
+ghost use Rattle.phase_gate.specs.Shifts.{is_shift};
 
 use cstar_base::Elem;
 use cstar_base::numbers::{op, value};
@@ -9,43 +14,66 @@ use paris_code::{Compare, Operation};
 /// The lowest `len` bits, all 1.
 pub(crate) fn mask(len: u8) -> u32
     requires { (1 ≤ len) × (len ≤ 32) }
+    ensures { result ≡ 2 ^ len - 1 }
 {
     u32::MAX >> (32 - u32::from(len))
 }
 
 /// The number of a field of `len` bits as a word: in two's complement where it is signed.
 pub(crate) fn extended(signed: bool, len: u8, n: u32) -> u32
-    requires { (1 ≤ len) × (len ≤ 32) }
+    requires len { (1 ≤ len) × (len ≤ 32) }
+    requires number { n < 2 ^ len }
+    ensures { result ≡ residue 32 (number_of len signed n) }
 {
-    let ones = mask(len);
-    if signed && n & (ones >> 1) != n & ones {
-        n | !ones
-    } else {
-        n & ones
+    if !signed {
+        return n;
     }
+    let ones = mask(len);
+    if n <= ones >> 1 { n } else { n + !ones }
 }
 
 /// Whether the right operand is the amount of a shift, which is read unsigned.
-fn is_shift(operation: Operation) -> bool {
+fn is_shift(operation: Operation) -> bool
+    ensures { result ≡ is_shift operation }
+{
     matches!(
         operation,
         Operation::UShiftLeft | Operation::SShiftRight | Operation::UShiftRight
     )
 }
 
+/// The right operand as a word: the amount of a shift is unsigned.
+fn right_word(operation: Operation, len: u8, b: u32) -> u32
+    requires len { (1 ≤ len) × (len ≤ 32) }
+    requires number { b < 2 ^ len }
+    ensures { result ≡ (if is_shift operation then b else residue 32 (number_of len (not (operator_of operation).1) b)) }
+{
+    if is_shift(operation) {
+        b
+    } else {
+        let (_, unsigned) = operation.operator();
+        extended(!unsigned, len, b)
+    }
+}
+
 /// The operation on two fields of `len` bits. A division by 0 gives 0.
 pub(crate) fn operate(operation: Operation, len: u8, a: u32, b: u32) -> u32
-    requires { (1 ≤ len) × (len ≤ 32) }
+    requires len { (1 ≤ len) × (len ≤ 32) }
+    requires left { a < 2 ^ len }
+    requires right { b < 2 ^ len }
+    ensures { result % 2 ^ len ≡ outcome (operator_of operation).0 len (operator_of operation).1 a b }
 {
     let (operator, unsigned) = operation.operator();
     let left = extended(!unsigned, len, a);
-    let right = extended(!unsigned && !is_shift(operation), len, b);
-    op(operator, unsigned, left, right).unwrap_or(0)
+    op(operator, unsigned, left, right_word(operation, len, b)).unwrap_or(0)
 }
 
 /// Whether the relation holds of two fields of `len` bits.
 pub(crate) fn holds(relation: Compare, len: u8, a: u32, b: u32) -> bool
-    requires { (1 ≤ len) × (len ≤ 32) }
+    requires len { (1 ≤ len) × (len ≤ 32) }
+    requires left { a < 2 ^ len }
+    requires right { b < 2 ^ len }
+    ensures { from_bool result ≡ outcome (comparison_of relation).0 len (comparison_of relation).1 a b }
 {
     let (operator, unsigned) = relation.operator();
     let left = extended(!unsigned, len, a);
@@ -54,16 +82,20 @@ pub(crate) fn holds(relation: Compare, len: u8, a: u32, b: u32) -> bool
 }
 
 /// The whole number that a word stands for.
-pub(crate) fn whole(signed: bool, w: u32) -> i64 {
+pub(crate) fn whole(signed: bool, w: u32) -> i64
+    ensures { result ≡ number_of 32 signed w }
+{
     if signed {
         value(Elem::INT, w)
     } else {
-        i64::from(w)
+        value(Elem::UNSIGNED, w)
     }
 }
 
 /// The number that a word stands for in two's complement.
 #[tactic(auto, unfolding(cstar_base::specs::Numbers::least_of, cstar_base::specs::Numbers::greatest_of))]
-pub(crate) fn signed(w: u32) -> i32 {
+pub(crate) fn signed(w: u32) -> i32
+    ensures { result ≡ number_of 32 true w }
+{
     value(Elem::INT, w) as i32
 }

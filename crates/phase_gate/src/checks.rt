@@ -1,16 +1,30 @@
 //! Checks: the least active processor that fails.
 
-ghost use Rattle.std.specs.Prelude.{◌≡◌, ◌<◌, length, All, IfSome, true};
+ghost use Rattle.std.specs.Prelude.{◌≡◌, ◌<◌, ◌&&◌, ◌==◌, length, All, IfSome, MatchOption, true, false};
+ghost use Rattle.paris_code.specs.Meaning.{bad_or_nothing, reply_of};
+ghost use Rattle.paris_code.specs.Memory.{field_number, is_active, processors};
+ghost use Rattle.paris_code.specs.Orders.{least_below};
+ghost use Rattle.phase_gate.specs.Families.{is_settled_check};
 ghost use Rattle.paris_code.specs.Operands.{coordinate_of};
 ghost use Rattle.paris_code.specs.RuleSet.{IsAxis, axis_of};
-ghost use Rattle.phase_gate.specs.Apply.{CanApply, IsCoordinateIn, IsPosition, LiesIn, is_check};
+ghost use Rattle.phase_gate.specs.Apply.{CanApply, IsCoordinateIn, IsPosition, LiesIn, ReplyFits, is_check};
 
 use crate::arith::{extended, signed, whole};
 use crate::row_phases::RowPhases;
-use paris_code::{Coordinate, Field, GridStep, Instr, Konst, SignedCoordinate};
+use paris_code::{Coordinate, Field, GridStep, Instr, Konst, Reply, SignedCoordinate};
+
+/// The reply that tells the least processor whose check fails, if there is one.
+fn answer(failing: Option<u32>) -> Reply
+    ensures { result ≡ bad_or_nothing failing }
+{
+    match failing {
+        None => Reply::Nothing,
+        Some(position) => Reply::Bad { position },
+    }
+}
 
 impl RowPhases {
-    ghost use Rattle.phase_gate.specs.Rows.{sets_of};
+    ghost use Rattle.phase_gate.specs.Rows.{sets_of, memory_of};
 
     /// The set whose processors check these coordinates: that of their fields, or else of the
     /// target.
@@ -99,29 +113,35 @@ impl RowPhases {
     /// The least active processor at which the field is 0.
     fn check_divisor(&self, source: Field) -> Option<u32>
         requires { LiesIn (sets_of self.now) source }
+        ensures { result ≡ least_below (λ p. is_active (sets_of self.now) (memory_of self.now) source.set p && (field_number (memory_of self.now) source p == 0)) (processors (sets_of self.now) source.set) }
     {
-        for position in 0..self.positions(source.set) {
-            if self.is_active(source.set, position) && self.field(source, position) == 0 {
+        'positions: for position in 0..self.positions(source.set) {
+            let zero = self.field(source, position) == 0;
+            if self.is_active(source.set, position) & zero {
                 return Some(position);
             }
         }
         None
     }
 
-    /// The least active processor at which an instruction's check fails, if it is a check.
+    /// The reply to an instruction that checks; none to another.
     #[tactic(auto, using(crate::proofs::FieldLemmas::lies, crate::proofs::FieldLemmas::checked_lie))]
-    pub(crate) fn check(&self, instr: &Instr, args: &[u32]) -> Option<u32>
+    pub(crate) fn check(&self, instr: &Instr, args: &[u32]) -> Option<Reply>
         requires { CanApply (sets_of self.now) instr.now args.now }
-        ensures { IfSome result (λ position. is_check instr.now ≡ true) }
+        ensures checks { MatchOption result (is_check instr.now ≡ false) (λ reply. is_check instr.now ≡ true) }
+        ensures fits { IfSome result (λ reply. ReplyFits instr.now reply) }
+        ensures least { IfSome result (λ reply. is_settled_check instr.now ≡ true → reply ≡ reply_of (sets_of self.now) instr.now args.now (memory_of self.now)) }
     {
         match instr {
             Instr::CheckTarget {
                 set,
                 coordinates,
                 ..
-            } => self.check_target(*set, coordinates.as_slice(), args),
-            Instr::CheckGrid { set, steps, .. } => self.check_grid(*set, steps.as_slice(), args),
-            Instr::CheckDivisor { source, .. } => self.check_divisor(*source),
+            } => Some(answer(self.check_target(*set, coordinates.as_slice(), args))),
+            Instr::CheckGrid { set, steps, .. } => {
+                Some(answer(self.check_grid(*set, steps.as_slice(), args)))
+            }
+            Instr::CheckDivisor { source, .. } => Some(answer(self.check_divisor(*source))),
             _ => None,
         }
     }

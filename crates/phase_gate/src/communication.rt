@@ -1,8 +1,11 @@
 //! Instructions whose values come from other processors: they are gathered, one word for each
 //! processor, before anything is written.
 
-ghost use Rattle.std.specs.Prelude.{◌≡◌, ◌+◌, ◌<◌, ◌≤◌, ◌≢◌, length};
-ghost use Rattle.vp_sets.specs.Positions.{position_count};
+ghost use Rattle.std.specs.Prelude.{ℕ, ◌≡◌, ◌+◌, ◌<◌, ◌≤◌, ◌≢◌, ◌^◌, length};
+ghost use Rattle.paris_code.specs.Fetching.{number_or_zero, global_fold, of_named};
+ghost use Rattle.paris_code.specs.Memory.{SameBits, field_number, processors};
+ghost use Rattle.paris_code.specs.Writes.{written};
+ghost use Rattle.vp_sets.specs.Positions.{position_count, shifted};
 ghost use Rattle.paris_code.specs.Shapes.{bits_at, extents_at, rank_at};
 ghost use Rattle.phase_gate.specs.Apply.{IsPosition, LiesIn};
 
@@ -12,16 +15,18 @@ use cstar_base::{Direction, Inclusion, SegmentMode};
 use paris_code::{Field, Reduction};
 
 impl RowPhases {
-    ghost use Rattle.phase_gate.specs.Rows.{sets_of};
+    ghost use Rattle.phase_gate.specs.Rows.{sets_of, memory_of, room_of};
+    ghost use Rattle.phase_gate.specs.Gathered.{gathered};
     ghost use Rattle.phase_gate.specs.Scans.{ScanFits};
 
     /// Writes the gathered words to a field of the active processors, or of all.
     pub(crate) fn write_gathered(&mut self, dest: Field, always: bool)
         requires { LiesIn (sets_of self.old) dest }
-        ensures { sets_of self.new ≡ sets_of self.old }
+        ensures sets { sets_of self.new ≡ sets_of self.old }
+        ensures memory { SameBits (sets_of self.old) (memory_of self.new) (written (gathered (sets_of self.old) (memory_of self.old) dest always (room_of self.old dest.set)) (memory_of self.old)) }
     {
         'positions: for position in 0..self.positions(dest.set) {
-            if always || self.is_active(dest.set, position) {
+            if self.takes(dest.set, always, position) {
                 let word = self.gathered(dest.set, position);
                 self.write(dest, position, word);
             }
@@ -32,7 +37,9 @@ impl RowPhases {
     pub(crate) fn gather_shift(&mut self, source: Field, axis: u32, by: i32)
         requires field { LiesIn (sets_of self.old) source }
         requires axis { axis < rank_at (sets_of self.old) source.set }
-        ensures { sets_of self.new ≡ sets_of self.old }
+        ensures sets { sets_of self.new ≡ sets_of self.old }
+        ensures memory { memory_of self.new ≡ memory_of self.old }
+        ensures words { (p : ℕ) → p < processors (sets_of self.old) source.set → room_of self.new source.set p ≡ field_number (memory_of self.old) source (shifted (extents_at (sets_of self.old) source.set) p axis by) }
     {
         'positions: for position in 0..self.positions(source.set) {
             let from = self.rows(source.set).geometry.shift(position, axis, by);
@@ -45,7 +52,9 @@ impl RowPhases {
     pub(crate) fn gather_named(&mut self, address: Field, source: Field)
         requires address { LiesIn (sets_of self.old) address }
         requires source { LiesIn (sets_of self.old) source }
-        ensures { sets_of self.new ≡ sets_of self.old }
+        ensures sets { sets_of self.new ≡ sets_of self.old }
+        ensures memory { memory_of self.new ≡ memory_of self.old }
+        ensures words { (p : ℕ) → p < processors (sets_of self.old) address.set → room_of self.new address.set p ≡ of_named (sets_of self.old) (memory_of self.old) address source p }
     {
         'positions: for position in 0..self.positions(address.set) {
             let from = self.field(address, position);
@@ -55,8 +64,11 @@ impl RowPhases {
     }
 
     /// The number in a field of a processor, and 0 if there is no such processor.
+    #[tactic(auto, unfolding(paris_code::specs::Fetching::number_or_zero), using(crate::proofs::Tests::less, crate::proofs::Tests::not_less))]
     pub(crate) fn field_or_zero(&self, source: Field, processor: u32) -> u32
         requires { LiesIn (sets_of self.now) source }
+        ensures value { result ≡ number_or_zero (sets_of self.now) (memory_of self.now) source processor }
+        ensures bound { result < 2 ^ source.len }
     {
         if processor < self.positions(source.set) {
             self.field(source, processor)
@@ -68,10 +80,11 @@ impl RowPhases {
     /// The fold of a field over the active processors in order.
     pub(crate) fn reduce(&self, combiner: Reduction, source: Field) -> u32
         requires { LiesIn (sets_of self.now) source }
+        ensures { result ≡ global_fold (sets_of self.now) (memory_of self.now) combiner source }
     {
         let (combine, unsigned) = combiner.combiner();
         let mut total = identity(combine, unsigned);
-        for position in 0..self.positions(source.set) {
+        'positions: for position in 0..self.positions(source.set) {
             if self.is_active(source.set, position) {
                 total = fold_step(combine, unsigned, total, self.field(source, position));
             }

@@ -1,16 +1,20 @@
 //! What the elementwise instructions compute at one processor.
 
-ghost use Rattle.std.specs.Prelude.{◌≡◌, ◌<◌, length, All};
+ghost use Rattle.std.specs.Prelude.{◌≡◌, ◌+◌, ◌*◌, ◌<◌, ◌%◌, ◌^◌, length, All};
+ghost use Rattle.vp_sets.specs.Positions.{position_count, number_at};
+ghost use Rattle.paris_code.specs.Arguments.{konst_number, coordinate_number, coordinate_numbers, behind_coordinate};
+ghost use Rattle.paris_code.specs.Elementwise.{element, destination};
 ghost use Rattle.paris_code.specs.Operands.{registers_of_konst};
-ghost use Rattle.phase_gate.specs.Apply.{CanApply, IsPosition, IsCoordinateIn, active_set};
+ghost use Rattle.phase_gate.specs.Apply.{CanApply, IsPosition, IsCoordinateAt, active_set};
 
-use crate::arith::{holds, operate};
+use crate::arith::{holds, mask, operate};
 use crate::row_phases::RowPhases;
 use paris_code::{Coordinate, Instr, Konst};
 
 /// The number of an operand, of which the argument is the register's value.
 pub(crate) fn konst(k: Konst, args: &[u32]) -> u32
     requires { length args.now ≡ length (registers_of_konst k) }
+    ensures { result ≡ konst_number k args.now }
 {
     match k {
         Konst::Imm(n) => n,
@@ -18,32 +22,63 @@ pub(crate) fn konst(k: Konst, args: &[u32]) -> u32
     }
 }
 
-impl RowPhases {
-    ghost use Rattle.phase_gate.specs.Rows.{shape_of_rows, sets_of};
+/// The arguments behind those that a coordinate takes.
+fn behind(coordinate: Coordinate, args: &[u32]) -> &[u32]
+    ensures { result.now ≡ behind_coordinate coordinate args.now }
+{
+    match coordinate {
+        Coordinate::Field(_) => args,
+        Coordinate::Reg(_) => match args.split_first() {
+            Some((_, rest)) => rest,
+            None => args,
+        },
+    }
+}
 
-    /// The row-major number of coordinates in a set, modulo 2 to the 32.
-    fn address(&self, set: u16, coordinates: &[Coordinate], args: &[u32], position: u32) -> u32
-        requires set { set < length (sets_of self.now) }
-        requires fields { All (IsCoordinateIn (sets_of self.now)) coordinates.now }
+impl RowPhases {
+    ghost use Rattle.phase_gate.specs.Rows.{shape_of_rows, sets_of, memory_of};
+
+    /// A coordinate of an address at a processor; a register's is the next argument.
+    fn coordinate(&self, coordinate: Coordinate, args: &[u32], position: u32) -> u32
+        requires { IsCoordinateAt (sets_of self.now) position coordinate }
+        ensures { result ≡ coordinate_number (memory_of self.now) coordinate args.now position }
     {
-        let geometry = self.rows(set).geometry;
-        let mut registers = args.iter();
-        let mut number = 0u32;
-        'coordinates: for (coordinate, extent) in coordinates.iter().zip(geometry.extents()) {
-            let x = match *coordinate {
-                Coordinate::Field(f) => self.field_or_zero(f, position),
-                Coordinate::Reg(_) => registers.next().copied().unwrap_or(0),
-            };
-            number = number.wrapping_mul(*extent).wrapping_add(x);
+        match coordinate {
+            Coordinate::Field(f) => self.field(f, position),
+            Coordinate::Reg(_) => args.first().copied().unwrap_or(0),
         }
-        number
+    }
+
+    /// Goes on with the row-major number of coordinates, modulo 2 to the 32.
+    fn address(
+        &self,
+        extents: &[u32],
+        list: &[Coordinate],
+        args: &[u32],
+        position: u32,
+        number: u32,
+    ) -> u32
+        requires fields { All (IsCoordinateAt (sets_of self.now) position) list.now }
+        requires rank { length list.now ≡ length extents.now }
+        ensures { result ≡ (number * position_count extents.now + number_at extents.now (coordinate_numbers (memory_of self.now) list.now args.now position)) % 2 ^ 32 }
+    {
+        match (extents.split_first(), list.split_first()) {
+            (Some((extent, later)), Some((first, rest))) => {
+                let x = self.coordinate(*first, args, position);
+                let next = number.wrapping_mul(*extent).wrapping_add(x);
+                self.address(later, rest, behind(*first, args), position, next)
+            }
+            _ => number,
+        }
     }
 
     /// What an elementwise instruction gives its destination at a processor.
-    #[tactic(auto, using(crate::proofs::FieldLemmas::lies, crate::proofs::FieldLemmas::same_positions, crate::proofs::FieldLemmas::coordinates_lie))]
+    #[tactic(auto, using(crate::proofs::FieldLemmas::lies, crate::proofs::FieldLemmas::same_positions, crate::proofs::FieldLemmas::coordinates_at))]
     pub(crate) fn element(&self, instr: &Instr, args: &[u32], position: u32) -> u32
         requires can { CanApply (sets_of self.now) instr.now args.now }
         requires position { IsPosition (sets_of self.now) (active_set instr.now) position }
+        ensures { let len = (destination (sets_of self.now) instr.now).len in
+            result % 2 ^ len ≡ element (sets_of self.now) instr.now args.now (memory_of self.now) position % 2 ^ len }
     {
         match instr {
             Instr::Move { signed, source, .. } => self.word(*signed, *source, position),
@@ -56,7 +91,16 @@ impl RowPhases {
                 set,
                 coordinates,
                 ..
-            } => self.address(*set, coordinates.as_slice(), args, position),
+            } => {
+                let geometry = self.rows(*set).geometry;
+                self.address(
+                    geometry.extents(),
+                    coordinates.as_slice(),
+                    args,
+                    position,
+                    0,
+                )
+            }
             Instr::Operate {
                 op,
                 dest,
@@ -73,7 +117,7 @@ impl RowPhases {
                 right,
             } => {
                 let a = self.field(*left, position);
-                operate(*op, dest.len, a, konst(*right, args))
+                operate(*op, dest.len, a, konst(*right, args) & mask(dest.len))
             }
             Instr::Negate { source, .. } => self.field(*source, position).wrapping_neg(),
             Instr::Lognot { source, .. } => !self.field(*source, position),
@@ -90,11 +134,15 @@ impl RowPhases {
             }
             Instr::EqZero { source } => u32::from(self.field(*source, position) == 0),
             Instr::NeZero { source } => u32::from(self.field(*source, position) != 0),
-            Instr::StoreTest { dest } => u32::from(self.rows(dest.set).test(position)),
-            Instr::StoreContext { dest } => u32::from(self.rows(dest.set).is_active(position)),
+            Instr::StoreTest { dest } => u32::from(self.is_tested(dest.set, position)),
+            Instr::StoreContext { dest } => u32::from(self.is_active(dest.set, position)),
             Instr::SetContext { .. } => 1,
-            Instr::LogandContextWithTest { set } => u32::from(self.rows(*set).test(position)),
-            Instr::LogandcContextWithTest { set } => u32::from(!self.rows(*set).test(position)),
+            Instr::LogandContextWithTest { set } => {
+                u32::from(self.is_active(*set, position) & self.is_tested(*set, position))
+            }
+            Instr::LogandcContextWithTest { set } => {
+                u32::from(self.is_active(*set, position) & !self.is_tested(*set, position))
+            }
             _ => 0,
         }
     }

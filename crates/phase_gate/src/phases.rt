@@ -1,6 +1,12 @@
-ghost use Rattle.std.specs.Prelude.{◌≡◌, ◌≢◌, ◌+◌, ◌<◌, ◌≤◌, ℕ, List, true};
+ghost use Rattle.std.specs.Prelude.{◌≡◌, ◌≢◌, ◌+◌, ◌<◌, ◌≤◌, ◌==◌, ℕ, List, true};
+ghost use Rattle.std.specs.Int.{from_bool};
+ghost use Rattle.paris_code.specs.Fetching.{at_one};
+ghost use Rattle.paris_code.specs.Meaning.{Means};
+ghost use Rattle.paris_code.specs.Memory.{BitMemory, SameBits, bit_run, field_number};
 ghost use Rattle.paris_code.specs.Shapes.{SetShape, bits_at};
+ghost use Rattle.paris_code.specs.Writes.{written};
 ghost use Rattle.phase_gate.specs.Apply.{CanApply, IsPosition, LiesIn, ReplyFits};
+ghost use Rattle.phase_gate.specs.Families.{is_settled};
 
 use cstar_base::Winner;
 use paris_code::{Field, Instr, Reply};
@@ -10,6 +16,9 @@ pub trait Phases {
     /// The sets, as in the image for which the phases were made.
     ghost shapes: { Self → List SetShape };
 
+    /// The bits of all processors.
+    ghost memory: { Self → BitMemory };
+
     /// Does a parallel instruction; `args` are the values of the registers that it reads, in the
     /// order of its operands. `Value` where it has a result register, `Bad` with the least active
     /// processor whose check fails, `Memory` at a send alone, and then nothing has changed; else
@@ -17,26 +26,31 @@ pub trait Phases {
     fn apply(&mut self, instr: &Instr, args: &[u32]) -> Reply
         requires { CanApply (shapes self.old) instr.now args.now }
         ensures reply { ReplyFits instr.now result }
-        ensures shapes { shapes self.new ≡ shapes self.old };
+        ensures shapes { shapes self.new ≡ shapes self.old }
+        ensures meaning { is_settled instr.now ≡ true → Means (shapes self.old) instr.now args.now (memory self.old) (memory self.new) result };
 
     /// The number in a field of a processor, unsigned.
     fn read(&self, field: Field, position: u32) -> u32
         requires field { LiesIn (shapes self.now) field }
-        requires position { IsPosition (shapes self.now) field.set position };
+        requires position { IsPosition (shapes self.now) field.set position }
+        ensures { result ≡ field_number (memory self.now) field position };
 
     /// A bit of a processor: below the set's bits one of its fields, then the context flag, then
     /// the test flag.
     fn bit(&self, set: u16, index: u32, position: u32) -> bool
         requires position { IsPosition (shapes self.now) set position }
-        requires index { index < bits_at (shapes self.now) set + 2 };
+        requires index { index < bits_at (shapes self.now) set + 2 }
+        ensures { result ≡ ((memory self.now).bit set position index == 1) };
 
     /// Changes this bit alone.
     fn set_bit(&mut self, set: u16, index: u32, position: u32, b: bool)
         requires position { IsPosition (shapes self.old) set position }
         requires index { index < bits_at (shapes self.old) set + 2 }
-        ensures shapes { shapes self.new ≡ shapes self.old };
+        ensures shapes { shapes self.new ≡ shapes self.old }
+        ensures memory { SameBits (shapes self.old) (memory self.new) (written (at_one (bit_run set index) position (from_bool b)) (memory self.old)) };
 
     /// Changes which sender of a colliding send without a combiner wins, and nothing else.
     fn choose(&mut self, w: Winner)
-        ensures shapes { shapes self.new ≡ shapes self.old };
+        ensures shapes { shapes self.new ≡ shapes self.old }
+        ensures memory { SameBits (shapes self.old) (memory self.new) (record { bit = (memory self.old).bit; winner = w }) };
 }

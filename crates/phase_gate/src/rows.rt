@@ -1,15 +1,18 @@
 //! The processors of a set, row by row: the bits of a processor are a run of machine words, its
 //! fields first, then its context flag, then its test flag.
 
-ghost use Rattle.std.specs.Prelude.{◌≡◌, ◌+◌, ◌*◌, ◌<◌, ◌≤◌, ◌^◌, vec_len, IfOk};
+ghost use Rattle.std.specs.Prelude.{◌≡◌, ◌≢◌, ℕ, ◌+◌, ◌-◌, ◌*◌, ◌<◌, ◌≤◌, ◌^◌, ◌⊎◌, ◌==◌, vec_len, IfOk, if◌then◌else◌};
+ghost use Rattle.std.specs.Int.{bit_at};
 ghost use Rattle.vp_sets.specs.Positions.{position_count};
+ghost use Rattle.paris_code.specs.Memory.{run_number};
 
 use crate::arith::mask;
 use cstar_base::Memory;
 use std::alloc::Global;
 use vp_sets::Geometry;
 
-const WORD: u32 = 64;
+/// The bits of a word of a row.
+const WORD: u32 = 32;
 
 #[derive(Drop)]
 pub(crate) struct Rows {
@@ -18,12 +21,12 @@ pub(crate) struct Rows {
     positions: u32,
     /// The machine words of one row.
     words: u32,
-    cells: Vec<u64>,
+    cells: Vec<u32>,
     /// A word for each processor, for values that are gathered before they are written.
     room: Vec<u32>,
     ghost few: { bits ≤ 2 ^ 30 },
-    ghost wide: { bits + 2 ≤ 64 * words },
-    ghost narrow: { words ≤ 2 ^ 25 },
+    ghost wide: { bits + 65 ≤ 32 * words },
+    ghost narrow: { words ≤ 2 ^ 26 },
     ghost counted: { positions ≡ position_count geometry },
     ghost short: { positions ≤ 2 ^ 20 },
     ghost all: { vec_len cells ≡ positions * words },
@@ -31,15 +34,16 @@ pub(crate) struct Rows {
 }
 
 impl Rows {
-    ghost use Rattle.phase_gate.specs.Rows.{shape_of_rows};
+    ghost use Rattle.phase_gate.specs.Rows.{shape_of_rows, row_bit, room_word, IsFresh};
 
     /// Rows of zeros, but for the context flags, which are 1.
     pub(crate) fn new(alloc: Global, geometry: Geometry, bits: u32) -> Result<Rows, Memory>
         requires { bits ≤ 2 ^ 30 }
-        ensures { IfOk result (λ rows. shape_of_rows rows ≡ record { extents = geometry; bits = bits }) }
+        ensures shape { IfOk result (λ rows. shape_of_rows rows ≡ record { extents = geometry; bits = bits }) }
+        ensures fresh { IfOk result (λ rows. IsFresh rows) }
     {
         let positions = geometry.positions();
-        let words = bits / WORD + 2;
+        let words = bits / WORD + 3;
         let count = positions as usize * words as usize;
         let cells = vec![in alloc; 0; count]?;
         let room = vec![in alloc; 0; positions as usize]?;
@@ -67,9 +71,35 @@ impl Rows {
     fn cell(&self, position: u32, word: u32) -> usize
         requires position { position < self.now.positions }
         requires word { word < self.now.words }
-        ensures { result < vec_len self.now.cells }
+        ensures place { result ≡ position * self.now.words + word }
+        ensures inside { result < vec_len self.now.cells }
     {
         position as usize * self.words as usize + word as usize
+    }
+
+    /// A word of a row and the next one, as one number.
+    fn window(&self, position: u32, word: u32) -> u64
+        requires position { position < self.now.positions }
+        requires word { word + 1 < self.now.words }
+        ensures { (j : ℕ) → j < 64 → bit_at result j ≡ row_bit self.now position (32 * word + j) }
+    {
+        let at = self.cell(position, word);
+        u64::from(self.cells[at]) + (u64::from(self.cells[at + 1]) << WORD)
+    }
+
+    /// Writes a word of a row and the next one.
+    fn set_window(&mut self, position: u32, word: u32, n: u64)
+        requires position { position < self.old.positions }
+        requires word { word + 1 < self.old.words }
+        ensures shape { shape_of_rows self.new ≡ shape_of_rows self.old }
+        ensures words { self.new.words ≡ self.old.words }
+        ensures room { room_word self.new ≡ room_word self.old }
+        ensures inside { (j : ℕ) → j < 64 → row_bit self.new position (32 * word + j) ≡ bit_at n j }
+        ensures outside { (p i : ℕ) → i < 32 * self.old.words → (p ≢ position) ⊎ ((i < 32 * word) ⊎ (32 * word + 64 ≤ i)) → row_bit self.new p i ≡ row_bit self.old p i }
+    {
+        let at = self.cell(position, word);
+        self.cells[at] = (n & 0xffff_ffff) as u32;
+        self.cells[at + 1] = (n >> WORD) as u32;
     }
 
     /// The number in a run of bits of a processor, unsigned.
@@ -77,16 +107,11 @@ impl Rows {
         requires position { position < position_count self.now.geometry }
         requires len { (1 ≤ len) × (len ≤ 32) }
         requires inside { offset + len ≤ self.now.bits + 2 }
+        ensures value { result ≡ run_number (row_bit self.now position) offset len }
+        ensures bound { result < 2 ^ len }
     {
-        let shift = offset % WORD;
-        let first = self.cells[self.cell(position, offset / WORD)] >> shift;
-        let word = if shift + u32::from(len) <= WORD {
-            first
-        } else {
-            let next = self.cells[self.cell(position, offset / WORD + 1)];
-            first | next << (WORD - shift)
-        };
-        (word & 0xffff_ffff) as u32 & mask(len)
+        let window = self.window(position, offset / WORD);
+        (window >> (offset % WORD) & u64::from(mask(len))) as u32
     }
 
     /// Writes a number, modulo 2 to the length, to a run of bits of a processor.
@@ -94,23 +119,24 @@ impl Rows {
         requires position { position < position_count self.old.geometry }
         requires len { (1 ≤ len) × (len ≤ 32) }
         requires inside { offset + len ≤ self.old.bits + 2 }
-        ensures { shape_of_rows self.new ≡ shape_of_rows self.old }
+        ensures shape { shape_of_rows self.new ≡ shape_of_rows self.old }
+        ensures room { room_word self.new ≡ room_word self.old }
+        ensures inside { (i : ℕ) → offset ≤ i → i < offset + len → row_bit self.new position i ≡ bit_at n (i - offset) }
+        ensures outside { (p i : ℕ) → i < self.old.bits + 2 → (p ≢ position) ⊎ ((i < offset) ⊎ (offset + len ≤ i)) → row_bit self.new p i ≡ row_bit self.old p i }
     {
         let shift = offset % WORD;
         let ones = u64::from(mask(len));
+        let window = self.window(position, offset / WORD);
+        let held = window >> shift & ones;
         let number = u64::from(n) & ones;
-        let at = self.cell(position, offset / WORD);
-        self.cells[at] = self.cells[at] & !(ones << shift) | number << shift;
-        if shift + u32::from(len) > WORD {
-            let at = self.cell(position, offset / WORD + 1);
-            let done = WORD - shift;
-            self.cells[at] = self.cells[at] & !(ones >> done) | number >> done;
-        }
+        let changed = window - (held << shift) + (number << shift);
+        self.set_window(position, offset / WORD, changed);
     }
 
     /// The context flag of a processor: whether it is active.
     pub(crate) fn is_active(&self, position: u32) -> bool
         requires { position < position_count self.now.geometry }
+        ensures { result ≡ (row_bit self.now position self.now.bits == 1) }
     {
         self.number(position, self.bits, 1) == 1
     }
@@ -118,6 +144,7 @@ impl Rows {
     /// The test flag of a processor.
     pub(crate) fn test(&self, position: u32) -> bool
         requires { position < position_count self.now.geometry }
+        ensures { result ≡ (row_bit self.now position (self.now.bits + 1) == 1) }
     {
         self.number(position, self.bits + 1, 1) == 1
     }
@@ -125,6 +152,7 @@ impl Rows {
     /// The word that is held for a processor.
     pub(crate) fn gathered(&self, position: u32) -> u32
         requires { position < position_count self.now.geometry }
+        ensures { result ≡ room_word self.now position }
     {
         self.room[position as usize]
     }
@@ -132,7 +160,10 @@ impl Rows {
     /// Holds a word for a processor.
     pub(crate) fn gather(&mut self, position: u32, word: u32)
         requires { position < position_count self.old.geometry }
-        ensures { shape_of_rows self.new ≡ shape_of_rows self.old }
+        ensures shape { shape_of_rows self.new ≡ shape_of_rows self.old }
+        ensures bits { row_bit self.new ≡ row_bit self.old }
+        ensures held { room_word self.new position ≡ word }
+        ensures others { (p : ℕ) → p ≢ position → room_word self.new p ≡ room_word self.old p }
     {
         self.room[position as usize] = word;
     }

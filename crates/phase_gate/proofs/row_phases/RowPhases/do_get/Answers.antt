@@ -1,0 +1,17 @@
+use Rattle.std.proofs.Common.{false, ◌∙◌, ap, arith}
+use Rattle.paris_code.specs.Fetching.{of_named}
+use Rattle.paris_code.specs.Memory.{processors}
+use Rattle.phase_gate.specs.Rows.{sets_of, memory_of, room_of}
+use Rattle.phase_gate.proofs.Stepwise.{held_then}
+use Rattle.phase_gate.proofs.row_phases.RowPhases.do_get.Goals as goal
+
+pub returns-clause-memory : goal.returns-clause-memory
+returns-clause-memory c =
+    let now = sets_of c.args.self.now in
+    let old = memory_of c.args.self.now in
+    let d = c.args.dest in
+    let mid = c.gather_named.new.self in
+    held_then now (sets_of mid) old (memory_of mid) (memory_of c.write_gathered.new.self) d false (room_of mid d.set) (of_named now old c.args.address c.args.source)
+    c.gather_named.ensures.sets c.gather_named.ensures.memory
+    (λ p b. ap (λ s. room_of mid s p) c.requires.together ∙ c.gather_named.ensures.words p (omega (arith, b, ap (processors now) c.requires.together)))
+    c.write_gathered.ensures.memory
