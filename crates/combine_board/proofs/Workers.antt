@@ -1,0 +1,90 @@
+-- Workers of a tree: what a claim, a delivery and a join make of them.
+use Rattle.std.proofs.Common.{◌≡◌, ℕ, zero, suc, ◌+◌, ◌-◌, ◌*◌, ◌^◌, ◌<◌, ◌≤◌, true, nat_lt, List, ◌++◌, length, take, drop, option_map, option_to_list, option_and_then, Option, Some, None, refl, sym, ap, ◌∙◌, subst, append_assoc, length-append, arith}
+use Rattle.std.proofs.lemmas.Bool.{cond-true, cond-false, lt-ltb, le-ltb}
+use Rattle.std.proofs.Math.Nat.{pow-succ'}
+use Rattle.std.proofs.lemmas.List.Elements.{All-append, All-cons}
+use Rattle.std.proofs.lemmas.Option.{option_and_then_some}
+use Rattle.combine_core.specs.declared.message.Message.{Message}
+use Rattle.combine_core.specs.declared.worker.Held.{Held}
+use Rattle.combine_core.specs.declared.worker.Worker.{Worker}
+use Rattle.combine_core.specs.Machine.{claims_of, held, held_by, idle, next_in, ahead_of, kept_part, drawn, passed_to, both_parts, IsComplete}
+use Rattle.combine_core.proofs.Ahead.{first_message_some, slice_get-take}
+use Rattle.combine_core.proofs.Steps.{with_claim, with_miss}
+use Rattle.combine_board.specs.Values.{WholeHoldsEvery}
+use Rattle.combine_board.specs.Tree.{AllDone, IsFinished}
+use Rattle.combine_board.proofs.Passes.{complete_when_all}
+
+-- how many slots of the last claim are not passed
+abbrev pub room_in : Option Held → ℕ
+room_in None = 0
+room_in (Some h) = 512 - h.passed
+
+abbrev pub room : Worker → ℕ
+room v = room_in v.last
+
+next_room : (os : List (Option Message)) (h : Held) (i : ℕ) → next_in os h ≡ Some i → 512 - (i + 1 - 512 * h.claim) < 512 - h.passed
+next_room os h i e =
+    let at : ℕ = 512 * h.claim + h.passed in
+    let r = first_message_some at (take (512 - h.passed) (drop at os)) i e in
+    let q = slice_get-take (drop at os) (512 - h.passed) r.offset (Some r.message) r.there in
+    let b : r.offset < 512 - h.passed = q.0 in
+    let is : i ≡ (512 * h.claim + h.passed) + r.offset = r.at in
+    omega arith
+
+pub room_smaller : (os : List (Option Message)) (v : Worker) (i : ℕ) → ahead_of os v ≡ Some i → room (passed_to i v) < room v
+room_smaller os v i e =
+    option_and_then_some (next_in os) v.last i e
+    (λ h is_last is_next.
+    subst (λ (o : Option Held). room_in (option_map (λ x. held x.claim (i + 1 - 512 * x.claim)) o) < room_in o) (sym is_last) (next_room os h i is_next))
+
+map_length : (f : Held → Held) (o : Option Held) (others : List Held) → length (option_to_list (option_map f o) ++ others) ≡ length (option_to_list o ++ others)
+map_length f None others = refl
+map_length f (Some h) others = refl
+
+pub passed_length : (i : ℕ) (v : Worker) → length (held_by (passed_to i v)) ≡ length (held_by v)
+passed_length i v = map_length (λ x. held x.claim (i + 1 - 512 * x.claim)) v.last v.others
+
+all_done : (os : List (Option Message)) (o : Option Held) (others : List Held) → option_and_then (next_in os) o ≡ None → AllDone os others → AllDone os (option_to_list o ++ others)
+all_done os None others e done = done
+all_done os (Some h) others e done = All-cons (λ x. next_in os x ≡ None) h others e done
+
+pub done_when_none : (os : List (Option Message)) (v : Worker) → ahead_of os v ≡ None → AllDone os v.others → AllDone os (held_by v)
+done_when_none os v e done = all_done os v.last v.others e done
+
+pub drawn_claim : (claims n : ℕ) (v : Worker) → n < claims → drawn claims n v ≡ with_claim n v
+drawn_claim claims n v h = cond-true (nat_lt n claims) _ _ (lt-ltb n claims h)
+
+pub drawn_miss : (claims n : ℕ) (v : Worker) → claims ≤ n → drawn claims n v ≡ with_miss n v
+drawn_miss claims n v h = cond-false (nat_lt n claims) _ _ (le-ltb n claims h)
+
+pub finished_at_miss : (os : List (Option Message)) (n draws : ℕ) (v : Worker) → AllDone os (held_by v) → v.misses ≡ 0 → length (held_by v) + v.draws ≡ draws → 0 < v.draws → claims_of os ≤ n
+    → WholeHoldsEvery os (drawn (claims_of os) n v) → IsFinished os draws (drawn (claims_of os) n v)
+finished_at_miss os n draws v done none all left past whole =
+    subst (λ (w : Worker). WholeHoldsEvery os w → IsFinished os draws w) (sym (drawn_miss (claims_of os) n v past))
+    (λ whole'. record { done = done; missed = omega arith; all = omega arith; whole = whole' })
+    whole
+
+pub both_finished : (os : List (Option Message)) (d e : ℕ) (v u : Worker) → IsFinished os d v → IsFinished os e u → WholeHoldsEvery os (both_parts v u) → IsFinished os (d + e) (both_parts v u)
+both_finished os d e v u f g whole =
+    let same : held_by v ++ held_by u ≡ held_by (both_parts v u) = append_assoc (option_to_list v.last) v.others (held_by u) in
+    record {
+      done = subst (AllDone os) same (All-append (λ x. next_in os x ≡ None) (held_by v) (held_by u) f.done g.done);
+      missed = (let a = f.missed in omega arith);
+      all =
+          let a = f.all in
+          let b = g.all in
+          let l = length-append (held_by v) (held_by u) in
+          let c : length (held_by v ++ held_by u) ≡ length (held_by (both_parts v u)) = ap length same in
+          omega arith;
+      whole = whole;
+    }
+
+pub finished_complete : (os : List (Option Message)) (v : Worker) → IsFinished os (2 ^ 63) v → IsComplete os (held_by v)
+finished_complete os v f = complete_when_all os v (f.whole f.all f.missed) f.done
+
+pub kept_fresh : (v : Worker) → v ≡ idle true v.draws → kept_part v ≡ idle true (kept_part v).draws
+kept_fresh v e = ap kept_part e
+
+pub pow_half : (n : ℕ) → (n ≡ 0 → ⊥) → 2 ^ n ≡ 2 * 2 ^ (n - 1)
+pow_half zero h = absurd (h refl)
+pow_half (suc n) h = let e : suc n - 1 ≡ n = omega arith in pow-succ' 2 n ∙ ap (λ (k : ℕ). 2 * 2 ^ k) (sym e)

@@ -1,0 +1,9 @@
+use Rattle.std.proofs.Common.{ℕ, ◌≡◌, ◌<◌, ◌+◌, ◌-◌, ◌*◌, ◌/◌, ◌%◌, ◌^◌, cond, nat_eq, nat_lt, refl, sym, ◌∙◌, ap, min, arith}
+use Rattle.bit_planes.specs.Bits.{bit}
+use Rattle.bit_planes.specs.Planes.{plane_at, number}
+use Rattle.lane_kernels.proofs.ColumnLemmas.{columns_have}
+use Rattle.std.specs.Int.Bits.{bit_and}
+use Rattle.lane_kernels.proofs.columns.and.Goals as goal
+
+pub returns : goal.returns
+returns c = columns_have (λ i n. bit_and) c.args.a.now c.args.b.now c.whole.result c.beside-planes.result c.and.new.planes c.column.result c.args.a.now.in_range.1 c.requires c.beside-planes.ensures c.whole.ensures c.and.ensures c.column.ensures.len c.column.ensures.planes

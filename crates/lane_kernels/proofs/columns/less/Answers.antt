@@ -1,0 +1,12 @@
+use Rattle.std.proofs.Common.{ℕ, ◌≡◌, ◌<◌, ◌+◌, ◌-◌, ◌*◌, ◌/◌, ◌%◌, ◌^◌, cond, nat_eq, nat_lt, refl, sym, ◌∙◌, ap, min, arith}
+use Rattle.bit_planes.specs.Bits.{bit}
+use Rattle.bit_planes.specs.Planes.{plane_at, number}
+use Rattle.lane_kernels.specs.Columns.{value_at}
+use Rattle.lane_kernels.proofs.ColumnLemmas.{first_numbers, second_numbers}
+use Rattle.lane_kernels.specs.Numbers.{is_less}
+use Rattle.lane_kernels.proofs.columns.less.Goals as goal
+
+pub returns : goal.returns
+returns c = λ i ib. c.less.ensures i ib
+    ∙ ap (λ x. cond (is_less c.args.unsigned c.args.a.now.len x (number c.beside.result 32 c.args.a.now.len i)) 1 0) (first_numbers c.args.a.now c.args.b.now c.beside.result c.args.a.now.len i c.args.a.now.in_range.1 c.beside.ensures)
+    ∙ ap (λ y. cond (is_less c.args.unsigned c.args.a.now.len (value_at c.args.a.now i) y) 1 0) (second_numbers c.args.a.now c.args.b.now c.beside.result c.args.a.now.len i c.args.a.now.in_range.1 c.beside.ensures ∙ ap (λ m. number c.args.b.now.planes 0 m i) (sym c.requires))

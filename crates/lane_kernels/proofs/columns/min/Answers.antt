@@ -1,0 +1,9 @@
+use Rattle.std.proofs.Common.{ℕ, ◌≡◌, ◌<◌, ◌+◌, ◌-◌, ◌*◌, ◌/◌, ◌%◌, ◌^◌, cond, nat_eq, nat_lt, refl, sym, ◌∙◌, ap, min, arith}
+use Rattle.bit_planes.specs.Bits.{bit}
+use Rattle.bit_planes.specs.Planes.{plane_at, number}
+use Rattle.lane_kernels.proofs.ColumnLemmas.{columns_have}
+use Rattle.lane_kernels.specs.Numbers.{least_of}
+use Rattle.lane_kernels.proofs.columns.min.Goals as goal
+
+pub returns : goal.returns
+returns c = columns_have (λ i. least_of c.args.unsigned) c.args.a.now c.args.b.now c.whole.result c.beside-planes.result c.min.new.planes c.column.result c.args.a.now.in_range.1 c.requires c.beside-planes.ensures c.whole.ensures c.min.ensures c.column.ensures.len c.column.ensures.planes

@@ -1,0 +1,9 @@
+use Rattle.std.proofs.Common.{ℕ, ◌≡◌, ◌<◌, ◌+◌, ◌-◌, ◌*◌, ◌/◌, ◌%◌, ◌^◌, cond, nat_eq, nat_lt, refl, sym, ◌∙◌, ap, min, arith}
+use Rattle.bit_planes.specs.Bits.{bit}
+use Rattle.bit_planes.specs.Planes.{plane_at, number}
+use Rattle.lane_kernels.proofs.ColumnLemmas.{columns_have}
+use Rattle.lane_kernels.specs.Numbers.{shifted_right}
+use Rattle.lane_kernels.proofs.columns.shift_right.Goals as goal
+
+pub returns : goal.returns
+returns c = columns_have (λ i n x y. shifted_right c.args.unsigned n c.args.k x) c.args.a.now c.args.a.now c.whole.result c.beside-planes.result c.shift_right.new.planes c.column.result c.args.a.now.in_range.1 refl c.beside-planes.ensures c.whole.ensures c.shift_right.ensures c.column.ensures.len c.column.ensures.planes
