@@ -1,6 +1,7 @@
 //! The classes of bytes, and the parts of a text from a position on.
 
 ghost use Rattle.std.specs.Prelude.{ℕ, true, slice_index, ◌≡◌, ◌≤◌, ◌<◌, ◌+◌, length, drop, false, IfSome, IsSome};
+ghost use Rattle.cstar_lexer.specs.Marks.{BeginsName};
 ghost use Rattle.cstar_lexer.specs.Pieces.{IsDigit};
 ghost use Rattle.cstar_lexer.specs.Reading.{IsBlank, IsComment};
 
@@ -11,7 +12,10 @@ pub fn is_blank(byte: u8) -> bool
     matches!(byte, b' ' | b'\t' | 0x0b | 0x0c | b'\r')
 }
 
-pub fn begins_name(byte: u8) -> bool {
+/// Whether a name or a reserved word can begin with this byte.
+pub fn begins_name(byte: u8) -> bool
+    ensures { result ≡ true → BeginsName byte }
+{
     byte.is_ascii_alphabetic() || byte == b'_'
 }
 

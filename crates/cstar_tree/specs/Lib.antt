@@ -1,3 +1,11 @@
+pub mod Declarations
+pub mod Expressions
 pub mod IsTyped
+pub mod Items
+pub mod Operators
+pub mod Options
+pub mod Positions
+pub mod Statements
 pub mod Syntax
 pub mod Typed
+pub mod Types
