@@ -1,5 +1,5 @@
 -- What the options say of the words that they were read from.
-use Rattle.std.proofs.Common.{◌≡◌, ◌∙◌, ℕ, List, [], Option, Some, ap, sym}
+use Rattle.std.proofs.Common.{◌≡◌, ◌∙◌, ℕ, List, [], Option, ap, sym}
 use Rattle.std.specs.Prelude.{unwrap_or}
 use Rattle.cstar_words.specs.declared.options.Mode.{Mode}
 use Rattle.cstar_words.specs.declared.options.Mode.TheVariants as M
