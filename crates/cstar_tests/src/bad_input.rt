@@ -1,4 +1,4 @@
-//! Words and files that are no program: the listed status and line, and nothing else. The examples of
+//! Files that are no program: the listed status and line, and nothing else. The examples of
 //! docs/faults.md are among them, kept in step by hand.
 
 use crate::bench::{SOUND, command, program};
@@ -180,23 +180,6 @@ fn files_are_refused_with_their_first_fault(rt: HostRuntime) {
         assert_eq!(rt; done.err.taken(), row.err.as_bytes(), "{}", row.text);
         assert_eq!(rt; done.out.taken(), b"".as_slice(), "{}", row.text);
         assert_eq!(rt; done.status, 3, "{}", row.text);
-    }
-}
-
-#[test]
-fn words_that_are_no_command_are_refused(rt: HostRuntime) {
-    let usage =
-        "usage: cstar [--mode run|list|check|drill|asm|resume] [--workers N] [--turns N] [--finals] [--listing] [--seed N] [--winner high|low] [--save NAME] FILE\n";
-    let no_words: [&str; 0] = [];
-    let two_words = ["a.cs", "a.cs"];
-    let option = ["--help"];
-    for words in [no_words.as_slice(), two_words.as_slice(), option.as_slice()] {
-        let Ok(done) = command(&rt, rt.alloc(), words, b"main() { }", SOUND) else {
-            panic!(rt; "no memory");
-        };
-        assert_eq!(rt; done.status, 2);
-        assert_eq!(rt; done.err.taken(), usage.as_bytes());
-        assert_eq!(rt; done.out.taken(), b"".as_slice());
     }
 }
 
