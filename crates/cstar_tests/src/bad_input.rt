@@ -1,4 +1,5 @@
-//! Words and files that are no program: the listed status and line, and nothing else.
+//! Files that are no program: the listed status and line, and nothing else. The examples of
+//! docs/faults.md are among them, kept in step by hand.
 
 use crate::bench::{SOUND, command, program};
 
@@ -7,7 +8,7 @@ struct Refusal {
     err: &'static str,
 }
 
-static REFUSALS: [Refusal; 34] = [
+static REFUSALS: [Refusal; 40] = [
     Refusal {
         text: "",
         err: "a.cs:1:1: E24 NoMain\n",
@@ -144,6 +145,30 @@ static REFUSALS: [Refusal; 34] = [
         text: "shape [8]S; int:S a[3]; main() { with (S) a = 1; }",
         err: "a.cs:1:43: E32 ArrayUse\n",
     },
+    Refusal {
+        text: "main() { int x; x = 089; }",
+        err: "a.cs:1:22: E01 BadByte\n",
+    },
+    Refusal {
+        text: "main() { int x; x = 1.; }",
+        err: "a.cs:1:22: E01 BadByte\n",
+    },
+    Refusal {
+        text: "int f() { return 0; } int f() { return 1; } main() { }",
+        err: "a.cs:1:27: E06 Redeclared\n",
+    },
+    Refusal {
+        text: "shape [8]S; int:S d, p;\nmain() { with (S) { [p]d *= 2; } }",
+        err: "a.cs:2:21: E18 SendOperator\n",
+    },
+    Refusal {
+        text: "int x;",
+        err: "a.cs:1:7: E24 NoMain\n",
+    },
+    Refusal {
+        text: "shape [1048576]S;\nint:S a, c, d, e, f, g, h, i, j, k, l, m, n, o, p, q, r, s, t, u, v, w, x, y, z, A, B, C, D, E, F;\nbool:S G, H, I, J, K, L, M, N, O, P, Q, R, T, U, V, W, X, Y, Z, aa, ab, ac, ad, ae, af, ag, ah, ai, aj, ak, al;\nmain() { }",
+        err: "a.cs:4:11: E28 Space\n",
+    },
 ];
 
 #[test]
@@ -159,23 +184,6 @@ fn files_are_refused_with_their_first_fault(rt: HostRuntime) {
 }
 
 #[test]
-fn words_that_are_no_command_are_refused(rt: HostRuntime) {
-    let usage =
-        "usage: cstar [--mode run|list|check|drill|asm|resume] [--workers N] [--turns N] [--finals] [--listing] [--seed N] [--winner high|low] [--save NAME] FILE\n";
-    let no_words: [&str; 0] = [];
-    let two_words = ["a.cs", "a.cs"];
-    let option = ["--help"];
-    for words in [no_words.as_slice(), two_words.as_slice(), option.as_slice()] {
-        let Ok(done) = command(&rt, rt.alloc(), words, b"main() { }", SOUND) else {
-            panic!(rt; "no memory");
-        };
-        assert_eq!(rt; done.status, 2);
-        assert_eq!(rt; done.err.taken(), usage.as_bytes());
-        assert_eq!(rt; done.out.taken(), b"".as_slice());
-    }
-}
-
-#[test]
 fn any_bytes_are_refused_or_run(rt: HostRuntime) {
     for byte in 0..=255u8 {
         let text = [b'm', b'a', b'i', b'n', b'(', b')', b'{', byte, b'}'];
@@ -184,5 +192,41 @@ fn any_bytes_are_refused_or_run(rt: HostRuntime) {
         };
         assert!(rt; done.status == 0 || done.status == 3, "at {byte}");
         assert_eq!(rt; done.out.taken(), b"".as_slice(), "at {byte}");
+    }
+}
+
+static FIRST: &str =
+    "shape [8]S;\nint:S v;\nmain() { with (S) { v = 3; v = v + v; printf(\"%d\\n\", += v); } }";
+
+#[test]
+fn a_program_that_breaks_off_is_refused(rt: HostRuntime) {
+    let text = FIRST.as_bytes();
+    for end in 0..text.len() {
+        let Ok(done) = command(&rt, rt.alloc(), &["a.cs"], &text[..end], SOUND) else {
+            panic!(rt; "no memory");
+        };
+        assert_eq!(rt; done.status, 3, "at {end}");
+        assert_eq!(rt; done.out.taken(), b"".as_slice(), "at {end}");
+    }
+}
+
+#[test]
+fn a_file_has_at_most_a_mebibyte(rt: HostRuntime) {
+    for length in [1_048_576, 1_048_577usize] {
+        let Ok(mut text) = Vec::from_slice(rt.alloc(), b"main() { }") else {
+            panic!(rt; "no memory");
+        };
+        if text.resize(length, b' ').is_err() {
+            panic!(rt; "no memory");
+        }
+        let Ok(done) = command(&rt, rt.alloc(), &["a.cs"], text.as_slice(), SOUND) else {
+            panic!(rt; "no memory");
+        };
+        if length == 1_048_576 {
+            assert_eq!(rt; done.status, 0);
+        } else {
+            assert_eq!(rt; done.status, 3);
+            assert_eq!(rt; done.err.taken(), b"a.cs:1:1: E30 TooLong\n".as_slice());
+        }
     }
 }

@@ -8,9 +8,12 @@ use std::thread::Threads;
 /// The greatest number of bytes that a test's output takes.
 const ROOM: u32 = 4096;
 
-/// What the outside does besides holding `a.cs`: which of its calls fail, counted from 1.
+/// What the outside does besides holding `a.cs`: the bytes of the input, and which of its calls
+/// fail, counted from 1.
 #[derive(Clone, Copy)]
 pub struct Outside<'a> {
+    pub input: &'a [u8],
+    pub source: &'a [u64],
     pub shelf: &'a [u64],
     pub out: &'a [u64],
     pub err: &'a [u64],
@@ -18,6 +21,8 @@ pub struct Outside<'a> {
 
 /// An outside of which no call fails.
 pub const SOUND: Outside<'static> = Outside {
+    input: &[],
+    source: &[],
     shelf: &[],
     out: &[],
     err: &[],
@@ -56,7 +61,10 @@ pub fn command<R: Threads + Sync>(
 ) -> Result<Done, Memory> {
     let words = strings(alloc, words)?;
     let mut shelf = shelf_with(alloc, text, outside.shelf)?;
-    let mut input = MemSource::new(Vec::new(alloc), Vec::new(alloc));
+    let mut input = MemSource::new(
+        Vec::from_slice(alloc, outside.input)?,
+        Vec::from_slice(alloc, outside.source)?,
+    );
     let mut out = MemSink::new(alloc, ROOM, Vec::from_slice(alloc, outside.out)?)?;
     let mut err = MemSink::new(alloc, ROOM, Vec::from_slice(alloc, outside.err)?)?;
     let status = cstar_top::cstar(
@@ -70,6 +78,21 @@ pub fn command<R: Threads + Sync>(
         &Open,
     );
     Ok(Done { status, out, err })
+}
+
+/// The command on these words, divided by blanks, where `a.cs` has this text.
+pub fn line<R: Threads + Sync>(
+    rt: &R,
+    alloc: Global,
+    words: &str,
+    text: &str,
+    outside: Outside,
+) -> Result<Done, Memory> {
+    let mut divided = Vec::new(alloc);
+    for word in words.split_whitespace() {
+        divided.push(word)?;
+    }
+    command(rt, alloc, divided.as_slice(), text.as_bytes(), outside)
 }
 
 /// The command on `a.cs` with this text.

@@ -6,6 +6,10 @@ mod bad_input;
 #[cfg(test)]
 mod bench;
 #[cfg(test)]
+mod commands;
+#[cfg(test)]
 mod failures;
 #[cfg(test)]
 mod programs;
+#[cfg(test)]
+mod words;

@@ -1,5 +1,6 @@
 -- What a sink that took a whole line took of it.
-use Rattle.std.proofs.Common.{◌≡◌, ℕ, List, ◌++◌, length, take, sym, subst, codes, refl, arith}
+use Rattle.std.proofs.Common.{◌≡◌, ℕ, List, ◌++◌, ◌⊎◌, inl, inr, length, take, sym, ◌∙◌, subst, codes, refl, arith}
+use Rattle.cstar_top.specs.Reports.{PutsPartOfAnswer}
 use Rattle.std.proofs.Math.Seq.{take-length}
 use Rattle.cstar_top.specs.declared.answer.Answer.{Answer}
 use Rattle.cstar_top.specs.declared.answer.Answer.TheVariants as A
@@ -23,3 +24,16 @@ memory_line file A.CannotRead e = absurd (omega arith)
 memory_line file A.WriteFault e = absurd (omega arith)
 memory_line file A.InputFault e = absurd (omega arith)
 memory_line file A.Memory e = refl
+
+-- a status that is neither 6 nor 8 is the answer's
+pub status_is : (r s : ℕ) → (r ≡ s) ⊎ ((r ≡ 6) ⊎ (r ≡ 8)) → r ≡ 4 → s ≡ 4
+status_is r s (inl same) four = sym same ∙ four
+status_is r s (inr (inl six)) four = absurd (omega arith)
+status_is r s (inr (inr eight)) four = absurd (omega arith)
+
+-- a prefix of an answer's line, or of the line of want of memory, whatever file they name
+pub part_of_either : {S : Type 0} → (agrees : S → List ℕ → Type 0) (s t : S) (file : List ℕ) (answer : Answer) (text : List ℕ) → line_of file answer ≡ text → TakesPrefix agrees s t text ⊎ TakesPrefix agrees s t (codes "out of memory\n") → PutsPartOfAnswer agrees s t file
+part_of_either agrees s t file answer text is (inl part) =
+    (answer, subst (λ (xs : List ℕ). TakesPrefix agrees s t xs) (sym is) part)
+part_of_either agrees s t file answer text is (inr part) =
+    (A.Memory, subst (λ (xs : List ℕ). TakesPrefix agrees s t xs) (sym (memory_line file A.Memory refl)) part)

@@ -1,5 +1,5 @@
 pub mod Answers
 pub mod Faults
+pub mod Modes
 pub mod Reports
 pub mod Runs
-pub mod Words

@@ -35,23 +35,46 @@ pub enum NoImage {
     Memory,
 }
 
+/// A text that the language accepts: how many tokens it has, and its typed program.
+#[derive(Drop)]
+pub struct TypedText {
+    pub tokens: usize,
+    pub typed: Typed,
+}
+
 impl From<Memory> for NoImage {
     fn from(_error: Memory) -> NoImage {
         NoImage::Memory
     }
 }
 
-/// The checked image of a file's text. The first fault is that of the length, then of the words of
-/// the text, of the grammar, of the types, each over the whole file; a form of the language that
-/// is not built yet is refused behind all of them.
-pub fn compile(alloc: Global, text: &[u8]) -> Result<Sound, NoImage> {
+/// The typed program of a file's text. The first fault is that of the length, then of the words of
+/// the text, of the grammar, of the types, each over the whole file.
+pub fn accepted(alloc: Global, text: &[u8]) -> Result<TypedText, NoImage> {
     if text.len() > FILE_LIMIT as usize {
-        return Err(refused(TOO_LONG, FILE_START));
+        return Err(too_long());
     }
     let tokens = tokens_of(alloc, text)?;
     let tree = tree_of(alloc, &tokens)?;
-    let typed = typed_of(alloc, &tree)?;
-    sound_of(alloc, image_of(alloc, &typed)?)
+    Ok(TypedText {
+        tokens: tokens.list.len(),
+        typed: typed_of(alloc, &tree)?,
+    })
+}
+
+/// The checked image of a typed program.
+pub fn compile(alloc: Global, typed: &Typed) -> Result<Sound, NoImage> {
+    sound_of(alloc, image_of(alloc, typed)?)
+}
+
+/// The refusal of a file that is too long.
+pub fn too_long() -> NoImage {
+    refused(TOO_LONG, FILE_START)
+}
+
+/// The refusal of a form that is not built yet.
+pub fn not_built() -> NoImage {
+    refused(NOT_BUILT, FILE_START)
 }
 
 fn refused(number: u8, place: Place) -> NoImage {
@@ -111,7 +134,7 @@ fn sound_of(alloc: Global, image: Image) -> Result<Sound, NoImage> {
     }
     match verify(alloc, image) {
         Ok(sound) => Ok(sound),
-        Err(CheckErr::Bad { .. }) => Err(refused(NOT_BUILT, FILE_START)),
+        Err(CheckErr::Bad { .. }) => Err(not_built()),
         Err(CheckErr::Memory { .. }) => Err(NoImage::Memory),
     }
 }

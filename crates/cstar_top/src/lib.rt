@@ -3,11 +3,11 @@
 
 mod answer;
 mod compile;
+mod drill;
 mod line;
 mod report;
 mod run;
 mod top;
-mod words;
 
 pub use answer::Answer;
 pub use top::cstar;

@@ -19,6 +19,7 @@ pub fn report<E: Sink>(alloc: Global, file: &[u8], answer: Answer, err: &mut E) 
     ensures memory { result ≡ 8 → Takes E.agrees err.old err.new (codes "out of memory\n") }
     ensures line { result ≢ 6 → PutsAnswer E.agrees err.old err.new file.now result }
     ensures part { result ≡ 6 → PutsPartOfAnswer E.agrees err.old err.new file.now }
+    ensures own_part { result ≡ 6 → TakesPrefix E.agrees err.old err.new (line_of file.now answer) ⊎ TakesPrefix E.agrees err.old err.new (codes "out of memory\n") }
     ensures kept { status_of answer ≡ 6 → result ≡ 6 }
     ensures failed { result ≡ 6 → (status_of answer ≡ 6) ⊎ RisesBy (E.faults err.old) (E.faults err.new) }
     ensures other { result ≢ 6 → E.faults err.new ≡ E.faults err.old }
@@ -40,6 +41,7 @@ fn put_answer<E: Sink>(err: &mut E, file: &[u8], answer: Answer, text: &[u8]) ->
     ensures memory { result ≡ 8 → Takes E.agrees err.old err.new (codes "out of memory\n") }
     ensures line { result ≢ 6 → PutsAnswer E.agrees err.old err.new file.now result }
     ensures part { result ≡ 6 → PutsPartOfAnswer E.agrees err.old err.new file.now }
+    ensures own_part { result ≡ 6 → TakesPrefix E.agrees err.old err.new (line_of file.now answer) }
     ensures failed { result ≡ 6 → (status_of answer ≡ 6) ⊎ RisesBy (E.faults err.old) (E.faults err.new) }
     ensures other { result ≢ 6 → E.faults err.new ≡ E.faults err.old }
 {
@@ -53,6 +55,7 @@ fn put_memory<E: Sink>(err: &mut E, file: &[u8]) -> u8
     ensures memory { result ≡ 8 → Takes E.agrees err.old err.new (codes "out of memory\n") }
     ensures line { result ≢ 6 → PutsAnswer E.agrees err.old err.new file.now result }
     ensures part { result ≡ 6 → PutsPartOfAnswer E.agrees err.old err.new file.now }
+    ensures own_part { result ≡ 6 → TakesPrefix E.agrees err.old err.new (codes "out of memory\n") }
     ensures failed { result ≡ 6 → RisesBy (E.faults err.old) (E.faults err.new) }
     ensures other { result ≢ 6 → E.faults err.new ≡ E.faults err.old }
 {

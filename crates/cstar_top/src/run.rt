@@ -1,26 +1,30 @@
 ghost use Rattle.std.specs.Prelude.{◌≡◌, ◌≢◌};
 ghost use Rattle.cstar_io.specs.Faults.{RisesBy};
+ghost use Rattle.cstar_top.specs.declared.answer.Answer.TheVariants as A;
 ghost use Rattle.cstar_top.specs.Answers.{status_of};
 ghost use Rattle.cstar_top.specs.Runs.{IsEndOfRun};
+ghost use Rattle.paris_code.specs.Shapes.{shapes_of};
 
 use crate::answer::Answer;
 use cstar_io::{Sink, Source};
+use cstar_words::Options;
+use final_values::put_finals;
 use image_check::Sound;
 use paris_machine::{End, run};
-use phase_gate::RowPhases;
+use phase_gate::{Phases, RowPhases};
 use std::alloc::Global;
 
-/// The turns that a run may spend.
-const TURNS: u32 = 1_000_000;
-
-/// Runs an image on new phases. What the run comes to, once all that it printed is sent on.
+/// Runs an image on new phases, and puts the final values where the options ask for them. What the
+/// run comes to, once all that it printed is sent on.
 pub fn run_image<I: Source, O: Sink>(
     alloc: Global,
     sound: &Sound,
+    options: &Options,
     input: &mut I,
     out: &mut O,
 ) -> Answer
     ensures end { IsEndOfRun result }
+    ensures stopped { status_of result ≡ 4 → result ≡ A.Stopped options.now.turns }
     ensures write_fault { status_of result ≡ 6 → RisesBy (O.faults out.old) (O.faults out.new) }
     ensures input_fault { status_of result ≡ 7 → RisesBy (I.faults input.old) (I.faults input.new) }
     ensures count { status_of result ≢ 6 → O.faults out.new ≡ O.faults out.old }
@@ -29,13 +33,18 @@ pub fn run_image<I: Source, O: Sink>(
         Ok(phases) => phases,
         Err(_) => return Answer::Memory,
     };
-    match run(alloc, sound, TURNS, &mut phases, input, out).end {
-        End::Done => sent(out, Answer::Done),
+    phases.choose(options.winner);
+    let turns = options.turns;
+    match run(alloc, sound, turns, &mut phases, input, out).end {
+        End::Done => ended(sound, options, &phases, out, Answer::Done),
         End::Fault {
             kind,
             place,
             position,
-        } => sent(
+        } => ended(
+            sound,
+            options,
+            &phases,
             out,
             Answer::Fault {
                 kind,
@@ -43,18 +52,41 @@ pub fn run_image<I: Source, O: Sink>(
                 position,
             },
         ),
-        End::Stopped => sent(out, Answer::Stopped { turns: TURNS }),
+        End::Stopped => ended(sound, options, &phases, out, Answer::Stopped { turns }),
         End::InputBroken => sent(out, Answer::InputFault),
         End::OutputBroken => Answer::WriteFault,
         End::Memory => sent(out, Answer::Memory),
     }
 }
 
-/// The answer, once the output is sent on, or a write fault where that fails.
-fn sent<O: Sink>(out: &mut O, answer: Answer) -> Answer
+/// The answer of a run that came to its end, a fault or its last turn, once its final values are
+/// put, where they are asked for, and the output is sent on.
+fn ended<P: Phases, O: Sink>(
+    sound: &Sound,
+    options: &Options,
+    phases: &P,
+    out: &mut O,
+    answer: Answer,
+) -> Answer
+    requires { P.shapes phases.now ≡ shapes_of sound.now }
     ensures end { IsEndOfRun answer → IsEndOfRun result }
+    ensures own { status_of result ≢ 6 → result ≡ answer }
     ensures write_fault { status_of answer ≢ 6 → status_of result ≡ 6 → RisesBy (O.faults out.old) (O.faults out.new) }
-    ensures input_fault { status_of result ≡ 7 → status_of answer ≡ 7 }
+    ensures count { status_of result ≢ 6 → O.faults out.new ≡ O.faults out.old }
+{
+    if options.finals
+        && let Err(_) = put_finals(sound, phases, out)
+    {
+        return Answer::WriteFault;
+    }
+    sent(out, answer)
+}
+
+/// The answer, once the output is sent on, or a write fault where that fails.
+pub fn sent<O: Sink>(out: &mut O, answer: Answer) -> Answer
+    ensures end { IsEndOfRun answer → IsEndOfRun result }
+    ensures own { status_of result ≢ 6 → result ≡ answer }
+    ensures write_fault { status_of answer ≢ 6 → status_of result ≡ 6 → RisesBy (O.faults out.old) (O.faults out.new) }
     ensures count { status_of result ≢ 6 → O.faults out.new ≡ O.faults out.old }
 {
     match out.flush() {

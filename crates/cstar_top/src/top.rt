@@ -1,26 +1,33 @@
-ghost use Rattle.std.specs.Prelude.{◌≡◌, ◌≢◌, ◌≤◌, ℕ, List, Option, Some, None, IsNone, ◌⊎◌, map, codes};
+ghost use Rattle.std.specs.Prelude.{◌≡◌, ◌≢◌, ◌≤◌, ℕ, List, true, false, ◌⊎◌, map, codes};
 ghost use Rattle.std.specs.String.{string_bytes};
 ghost use Rattle.cstar_io.specs.Faults.{RisesBy};
 ghost use Rattle.cstar_io.specs.Output.{Takes, TakesPrefix};
+ghost use Rattle.cstar_words.specs.declared.options.Mode.TheVariants as M;
+ghost use Rattle.cstar_words.specs.Reading.{is_command};
 ghost use Rattle.cstar_top.specs.declared.answer.Answer.{Answer};
 ghost use Rattle.cstar_top.specs.declared.answer.Answer.TheVariants as A;
 ghost use Rattle.cstar_top.specs.Answers.{line_of, status_of, usage_line};
+ghost use Rattle.cstar_top.specs.Modes.{AsksFor, HasBudget, LeavesInput, budget, leaves_input, named};
 ghost use Rattle.cstar_top.specs.Reports.{CannotFetch, PutsAnswer, PutsPartOfAnswer};
-ghost use Rattle.cstar_top.specs.Words.{file_of, named};
 
 use crate::answer::Answer;
-use crate::compile::{FILE_LIMIT, NoImage, compile};
+use crate::compile::{FILE_LIMIT, NoImage, accepted, compile, not_built, too_long};
+use crate::drill::drill;
 use crate::report::report;
 use crate::run::run_image;
-use crate::words::file_named;
 use cstar_io::{Gate, Shelf, ShelfErr, Sink, Source};
+use cstar_words::{Mode, Options, WordsErr, read};
+use image_check::Sound;
 use std::alloc::Global;
 use std::thread::Threads;
 
-/// What the command comes to for the file of this name.
+/// The greatest length of a saved point, in bytes.
+const POINT_LIMIT: u32 = 1_073_741_824;
+
+/// What the command comes to.
 fn answer<S: Shelf, I: Source, O: Sink>(
     alloc: Global,
-    file: &str,
+    options: &Options,
     shelf: &mut S,
     input: &mut I,
     out: &mut O,
@@ -28,28 +35,97 @@ fn answer<S: Shelf, I: Source, O: Sink>(
     ensures named { status_of result ≢ 2 }
     ensures refused { status_of result ≡ 3 → (out.new ≡ out.old) × (input.new ≡ input.old) }
     ensures unreadable { status_of result ≡ 5 → (result ≡ A.CannotRead) × (out.new ≡ out.old) × (input.new ≡ input.old)
-        × CannotFetch S.faults S.last_failed shelf.old shelf.new file.now }
+        × CannotFetch S.faults S.last_failed shelf.old shelf.new options.now.file.now }
+    ensures stopped { status_of result ≡ 4 → result ≡ A.Stopped (budget options.now.mode options.now.turns) }
+    ensures silent { options.now.mode ≡ M.Check → out.new ≡ out.old }
+    ensures unread { leaves_input options.now.mode ≡ true → input.new ≡ input.old }
     ensures write_fault { status_of result ≡ 6 → RisesBy (O.faults out.old) (O.faults out.new) }
     ensures input_fault { status_of result ≡ 7 → RisesBy (I.faults input.old) (I.faults input.new) }
     ensures count { status_of result ≢ 6 → O.faults out.new ≡ O.faults out.old }
     ensures files { (name : List ℕ) → S.file shelf.new name ≡ S.file shelf.old name }
 {
-    let text = match shelf.fetch(file, FILE_LIMIT) {
+    if let Mode::Drill = options.mode {
+        return drill(alloc, options.seed, options.winner, out);
+    }
+    let text = match shelf.fetch(options.file, limit(options.mode)) {
         Ok(text) => text,
         Err(ShelfErr::Failed) => return Answer::CannotRead,
         Err(ShelfErr::Memory) => return Answer::Memory,
     };
-    match compile(alloc, text.as_slice()) {
-        Ok(sound) => run_image(alloc, &sound, input, out),
-        Err(NoImage::Refused { number, place }) => Answer::Refused { number, place },
-        Err(NoImage::Memory) => Answer::Memory,
+    answer_to(alloc, options, text.as_slice(), input, out)
+}
+
+/// The greatest length of a file.
+fn limit(mode: Mode) -> u32 {
+    match mode {
+        Mode::Resume => POINT_LIMIT,
+        Mode::Run | Mode::List | Mode::Check | Mode::Drill | Mode::Asm => FILE_LIMIT,
     }
 }
 
-/// Compiles the file that the words name, and runs it on `input` and `out`. What the command says
-/// itself goes to `err`: one line at most. The answer is the status:
+/// What the command comes to on the text of its file.
+fn answer_to<I: Source, O: Sink>(
+    alloc: Global,
+    options: &Options,
+    text: &[u8],
+    input: &mut I,
+    out: &mut O,
+) -> Answer
+    ensures named { status_of result ≢ 2 }
+    ensures readable { status_of result ≢ 5 }
+    ensures refused { status_of result ≡ 3 → (out.new ≡ out.old) × (input.new ≡ input.old) }
+    ensures stopped { status_of result ≡ 4 → (options.now.mode ≡ M.Run) × (result ≡ A.Stopped options.now.turns) }
+    ensures silent { options.now.mode ≡ M.Check → out.new ≡ out.old }
+    ensures unread { leaves_input options.now.mode ≡ true → input.new ≡ input.old }
+    ensures write_fault { status_of result ≡ 6 → RisesBy (O.faults out.old) (O.faults out.new) }
+    ensures input_fault { status_of result ≡ 7 → RisesBy (I.faults input.old) (I.faults input.new) }
+    ensures count { status_of result ≢ 6 → O.faults out.new ≡ O.faults out.old }
+{
+    match options.mode {
+        Mode::Run => match runnable(alloc, options, text) {
+            Ok(sound) => run_image(alloc, &sound, options, input, out),
+            Err(no_image) => refusal(no_image),
+        },
+        Mode::Check => match accepted(alloc, text) {
+            Ok(_) => Answer::Done,
+            Err(no_image) => refusal(no_image),
+        },
+        Mode::List => match accepted(alloc, text) {
+            Ok(_) => refusal(not_built()),
+            Err(no_image) => refusal(no_image),
+        },
+        Mode::Drill | Mode::Asm | Mode::Resume => {
+            if text.len() > limit(options.mode) as usize {
+                refusal(too_long())
+            } else {
+                refusal(not_built())
+            }
+        }
+    }
+}
+
+/// The image of a program that is to be run. A run that is to be listed or saved is not built yet.
+fn runnable(alloc: Global, options: &Options, text: &[u8]) -> Result<Sound, NoImage> {
+    let program = accepted(alloc, text)?;
+    if options.listing || options.save.is_some() {
+        return Err(not_built());
+    }
+    compile(alloc, &program.typed)
+}
+
+fn refusal(no_image: NoImage) -> Answer
+    ensures { (status_of result ≡ 3) ⊎ (status_of result ≡ 8) }
+{
+    match no_image {
+        NoImage::Refused { number, place } => Answer::Refused { number, place },
+        NoImage::Memory => Answer::Memory,
+    }
+}
+
+/// Does what the words of the command ask for, with the files of a shelf, an input and an output.
+/// What the command says itself goes to `err`: one line at most. The answer is the status:
 ///
-/// - 0 the program ran to its end; 1 it ended in a fault; 4 it spent its turns;
+/// - 0 all went well; 1 the program ended in a fault; 4 it spent its turns;
 /// - 2 the words are no command;
 /// - 3 the file is refused for its first fault;
 /// - 5 the shelf failed to fetch the file;
@@ -67,13 +143,17 @@ pub fn cstar<R: Threads + Sync, S: Shelf, I: Source, O: Sink, E: Sink, G: Gate +
     gate: &G,
 ) -> u8
     ensures listed { result ≤ 8 }
-    ensures words { file_of (map string_bytes words.now) ≡ None → (result ≡ 2) ⊎ (result ≡ 6) ⊎ (result ≡ 8) }
-    ensures usage { result ≡ 2 → (file_of (map string_bytes words.now) ≡ None)
+    ensures words { is_command (map string_bytes words.now) ≡ false → (result ≡ 2) ⊎ (result ≡ 6) ⊎ (result ≡ 8) }
+    ensures usage { result ≡ 2 → (is_command (map string_bytes words.now) ≡ false)
         × (out.new ≡ out.old) × (input.new ≡ input.old) × Takes E.agrees err.old err.new usage_line }
     ensures refused { result ≡ 3 → (out.new ≡ out.old) × (input.new ≡ input.old) }
+    ensures stopped { result ≡ 4 → (turns : ℕ) × HasBudget (map string_bytes words.now) turns
+        × Takes E.agrees err.old err.new (line_of (named (map string_bytes words.now)) (A.Stopped turns)) }
     ensures unreadable { result ≡ 5 → (out.new ≡ out.old) × (input.new ≡ input.old)
         × CannotFetch S.faults S.last_failed shelf.old shelf.new (named (map string_bytes words.now))
         × Takes E.agrees err.old err.new (line_of (named (map string_bytes words.now)) A.CannotRead) }
+    ensures silent { AsksFor M.Check (map string_bytes words.now) → out.new ≡ out.old }
+    ensures unread { LeavesInput (map string_bytes words.now) → input.new ≡ input.old }
     ensures write_fault { result ≡ 6 → RisesBy (O.faults out.old) (O.faults out.new) ⊎ RisesBy (E.faults err.old) (E.faults err.new) }
     ensures input_fault { result ≡ 7 → RisesBy (I.faults input.old) (I.faults input.new) }
     ensures counts { result ≢ 6 → (O.faults out.new ≡ O.faults out.old) × (E.faults err.new ≡ E.faults err.old) }
@@ -84,11 +164,12 @@ pub fn cstar<R: Threads + Sync, S: Shelf, I: Source, O: Sink, E: Sink, G: Gate +
 {
     let _ = rt;
     let _ = gate;
-    match file_named(words) {
-        Some(file) => {
-            let answer = answer(alloc, file, shelf, input, out);
-            report(alloc, file.as_bytes(), answer, err)
+    match read(alloc, words) {
+        Ok(options) => {
+            let answer = answer(alloc, &options, shelf, input, out);
+            report(alloc, options.file.as_bytes(), answer, err)
         }
-        None => report(alloc, b"", Answer::Usage, err),
+        Err(WordsErr::Usage) => report(alloc, b"", Answer::Usage, err),
+        Err(WordsErr::Memory) => report(alloc, b"", Answer::Memory, err),
     }
 }

@@ -1,5 +1,4 @@
-use Rattle.std.proofs.Common.{arith, append_assoc}
-use Rattle.std.proofs.lemmas.Grind.{common_steps}
+use Rattle.std.proofs.Common.{append_assoc}
 use Rattle.cstar_top.proofs.line.push_position.Goals as goal
 
 pub returns-in_ok-push_number-in-Some : goal.returns-in_ok-push_number-in-Some

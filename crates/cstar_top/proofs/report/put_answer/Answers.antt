@@ -1,6 +1,6 @@
-use Rattle.std.proofs.Common.{◌≡◌, ℕ, List, sym, ◌∙◌, subst, arith}
+use Rattle.std.proofs.Common.{◌≡◌, ℕ, List, ◌∙◌, subst, arith}
 use Rattle.cstar_io.specs.Output.{Takes, TakesPrefix}
-use Rattle.cstar_top.specs.Answers.{line_of, status_of}
+use Rattle.cstar_top.specs.Answers.{status_of}
 use Rattle.cstar_top.proofs.Lines.{memory_line}
 use Rattle.cstar_top.proofs.report.put_answer.Goals as goal
 
@@ -14,3 +14,7 @@ returns-clause-memory g c is =
     subst (λ (xs : List ℕ). Takes g.E.Sink.agrees c.args.err.now c.put_line.new.err xs)
     (c.requires ∙ memory_line c.args.file.now c.args.answer status)
     (c.put_line.ensures.taken (λ six. omega arith))
+
+pub returns-clause-own_part : goal.returns-clause-own_part
+returns-clause-own_part g c failed =
+    subst (λ (xs : List ℕ). TakesPrefix g.E.Sink.agrees c.args.err.now c.put_line.new.err xs) c.requires (c.put_line.ensures.part failed)

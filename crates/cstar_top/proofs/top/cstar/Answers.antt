@@ -1,5 +1,46 @@
+use Rattle.std.proofs.Common.{◌∙◌, List, ℕ, map, subst, sym, ap, codes, refl, arith}
+use Rattle.std.specs.String.{string_bytes}
+use Rattle.cstar_top.proofs.Asked.{budget_is, mode_is, named_is}
+use Rattle.cstar_io.specs.Output.{Takes}
+use Rattle.cstar_top.specs.declared.answer.Answer.{Answer}
+use Rattle.cstar_top.specs.declared.answer.Answer.TheVariants as A
+use Rattle.cstar_top.specs.Answers.{line_of, status_of, usage_line}
+use Rattle.cstar_top.specs.Modes.{budget, leaves_input, named}
+use Rattle.cstar_top.proofs.Lines.{part_of_either, status_is}
 use Rattle.cstar_top.proofs.top.cstar.Goals as goal
 
-pub returns-in-Some-clause-counts : goal.returns-in-Some-clause-counts
-returns-in-Some-clause-counts g c other =
+pub returns-in-Ok-clause-counts : goal.returns-in-Ok-clause-counts
+returns-in-Ok-clause-counts g c other =
     (c.answer-answer.ensures.count (λ six. other (c.report.ensures.kept six)), c.report.ensures.other other)
+
+pub returns-in-Ok-clause-silent : goal.returns-in-Ok-clause-silent
+returns-in-Ok-clause-silent g c asks =
+    c.answer-answer.ensures.silent (mode_is _ c.in-Ok.options _ c.in-Ok.ensures.reads asks)
+
+pub returns-in-Ok-clause-unread : goal.returns-in-Ok-clause-unread
+returns-in-Ok-clause-unread g c leaves =
+    c.answer-answer.ensures.unread (ap leaves_input (mode_is _ c.in-Ok.options leaves.0 c.in-Ok.ensures.reads leaves.1) ∙ leaves.2)
+
+pub returns-in-Ok-clause-stopped : goal.returns-in-Ok-clause-stopped
+returns-in-Ok-clause-stopped g c four =
+    let words = map string_bytes c.args.words.now in
+    let options = c.in-Ok.options in
+    let status = status_is c.report.result (status_of c.answer-answer.result) c.report.ensures.status four in
+    let own = c.report.ensures.own (four ∙ sym status) (λ six. omega arith) (λ eight. omega arith) in
+    let name = ap (λ (name : List ℕ). line_of name c.answer-answer.result) (c.as_bytes.ensures.value ∙ sym (named_is words options c.in-Ok.ensures.reads)) in
+    let is = ap (λ (answer : Answer). line_of (named words) answer) (c.answer-answer.ensures.stopped status) in
+    (
+      budget options.mode options.turns,
+      budget_is words options c.in-Ok.ensures.reads,
+      subst (λ (bytes : List ℕ). Takes g.E.Sink.agrees c.args.err.now c.report.new.err bytes) (name ∙ is) own,
+    )
+
+pub returns-in-Err-Usage-clause-part : goal.returns-in-Err-Usage-clause-part
+unfolding line_of
+returns-in-Err-Usage-clause-part g c six =
+    part_of_either g.E.Sink.agrees c.args.err.now c.report-in-Err-Usage.new.err (named (map string_bytes c.args.words.now)) A.Usage usage_line refl (c.report-in-Err-Usage.ensures.own_part six)
+
+pub returns-in-Err-Memory-clause-part : goal.returns-in-Err-Memory-clause-part
+unfolding line_of
+returns-in-Err-Memory-clause-part g c six =
+    part_of_either g.E.Sink.agrees c.args.err.now c.report-in-Err-Memory.new.err (named (map string_bytes c.args.words.now)) A.Memory (codes "out of memory\n") refl (c.report-in-Err-Memory.ensures.own_part six)

@@ -1,0 +1,34 @@
+-- What the words of the command say of its file and its run.
+use Rattle.std.specs.Prelude.{◌≡◌, ℕ, Bool, true, false, List, [], Some, unwrap_or}
+use Rattle.cstar_words.specs.declared.options.Mode.{Mode}
+use Rattle.cstar_words.specs.declared.options.Mode.TheVariants as M
+use Rattle.cstar_words.specs.Reading.{file_in, mode_in, rows_in, turns_in}
+
+-- the name that the command's line tells; nothing where the words name none
+abbrev pub named : List (List ℕ) → List ℕ
+named words = unwrap_or (file_in (rows_in words)) []
+
+-- the words ask for this mode
+abbrev pub AsksFor : Mode → List (List ℕ) → Type 0
+AsksFor mode words = mode_in (rows_in words) ≡ Some mode
+
+-- modes whose commands leave the input unread
+abbrev pub leaves_input : Mode → Bool
+leaves_input M.List = true
+leaves_input M.Check = true
+leaves_input M.Drill = true
+leaves_input _ = false
+
+-- the words ask for a mode that leaves the input unread
+abbrev pub LeavesInput : List (List ℕ) → Type 0
+LeavesInput words = (mode : Mode) × AsksFor mode words × (leaves_input mode ≡ true)
+
+-- the turns of a run: a drill has its own
+abbrev pub budget : Mode → ℕ → ℕ
+budget M.Drill turns = 1000000
+budget mode turns = turns
+
+-- a stopped run had these turns
+abbrev pub HasBudget : List (List ℕ) → ℕ → Type 0
+HasBudget words turns =
+    (mode : Mode) × AsksFor mode words × (turns ≡ budget mode (unwrap_or (turns_in (rows_in words)) 0))
