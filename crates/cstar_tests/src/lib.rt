@@ -10,6 +10,8 @@ mod commands;
 #[cfg(test)]
 mod failures;
 #[cfg(test)]
+mod listings;
+#[cfg(test)]
 mod programs;
 #[cfg(test)]
 mod words;

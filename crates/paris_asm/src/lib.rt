@@ -8,8 +8,6 @@ mod lines;
 mod listing;
 mod names;
 mod operands;
-#[cfg(test)]
-mod tests;
 mod words;
 
 pub use listing::{AsmFault, read};

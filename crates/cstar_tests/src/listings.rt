@@ -1,9 +1,9 @@
 //! Listings written by hand.
 
-use crate::{AsmFault, read};
-use cstar_io::{MemSink, Sink};
+use cstar_io::MemSink;
+use paris_asm::{AsmFault, read};
+use paris_code::Image;
 use std::alloc::Global;
-use std::process::Abort;
 use std::test::Fail;
 
 /// One instruction of each kind, each operand in each of its forms.
@@ -177,8 +177,17 @@ static BAD: [(&str, u32); 12] = [
     (".slots 1\n.depth 0\n0 FE_put_bytes xA0\n", 3),
 ];
 
+/// Reads a listing of a test, which is short.
+fn read_text(alloc: Global, text: &str) -> Result<Image, AsmFault> {
+    let bytes = text.as_bytes();
+    if bytes.len() > 65536 {
+        return Err(AsmFault::Memory);
+    }
+    read(alloc, bytes)
+}
+
 fn is_same(alloc: Global, text: &str) -> Result<bool, Fail> {
-    let Ok(image) = read(alloc, text.as_bytes()) else {
+    let Ok(image) = read_text(alloc, text) else {
         return Ok(false);
     };
     let mut out = MemSink::new(alloc, 65536, Vec::new(alloc))?;
@@ -196,7 +205,7 @@ fn listings_are_read_back(rt: HostRuntime) -> Result<(), Fail> {
 #[test]
 fn the_first_line_that_is_none_is_answered(rt: HostRuntime) -> Result<(), Fail> {
     for (text, wanted) in &BAD {
-        match read(rt.alloc(), text.as_bytes()) {
+        match read_text(rt.alloc(), text) {
             Err(AsmFault::Line { line }) => assert_eq!(rt; line, *wanted, "{text}"),
             _ => assert!(rt; false, "{text}"),
         }
