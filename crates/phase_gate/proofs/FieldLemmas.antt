@@ -97,3 +97,8 @@ destination_runs shapes (I.SetContext set) args can is = ((flag_runs shapes set 
 destination_runs shapes (I.LogandContextWithTest set) args can is = ((flag_runs shapes set can.set).0, refl)
 destination_runs shapes (I.LogandcContextWithTest set) args can is = ((flag_runs shapes set can.set).0, refl)
 destination_runs shapes _ args can is = cc
+
+-- the fields among coordinates that are checked have the positions of the set whose processors check
+at_set : (shapes : List SetShape) (slots set p : ℕ) (c : Coordinate) → IsPosition shapes set p → CoordinateFits shapes slots c → CoordinateExists shapes c → ((f : Field) → c ≡ C.Field f → f.set ≡ set) → IsCoordinateAt shapes p c
+at_set shapes slots set p (C.Field f) at fits there same = (lies shapes f fits there, subst (λ s. IsPosition shapes s p) (sym (same f refl)) at)
+at_set shapes slots set p (C.Reg r) at fits there same = tt

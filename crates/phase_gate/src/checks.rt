@@ -1,6 +1,9 @@
 //! Checks: the least active processor that fails.
 
 ghost use Rattle.std.specs.Prelude.{◌≡◌, ◌<◌, ◌&&◌, ◌==◌, length, All, IfSome, MatchOption, true, false};
+ghost use Rattle.paris_code.specs.Arguments.{behind_konst};
+ghost use Rattle.paris_code.specs.Checking.{any_leaves, is_outside};
+ghost use Rattle.paris_code.specs.Shapes.{extents_at};
 ghost use Rattle.paris_code.specs.Meaning.{bad_or_nothing, reply_of};
 ghost use Rattle.paris_code.specs.Memory.{field_number, is_active, processors};
 ghost use Rattle.paris_code.specs.Orders.{least_below};
@@ -12,6 +15,27 @@ ghost use Rattle.phase_gate.specs.Apply.{CanApply, IsCoordinateIn, IsPosition, L
 use crate::arith::{extended, signed, whole};
 use crate::row_phases::RowPhases;
 use paris_code::{Coordinate, Field, GridStep, Instr, Konst, Reply, SignedCoordinate};
+
+/// The arguments behind those that a step takes.
+fn behind_step(step: Konst, args: &[u32]) -> &[u32]
+    ensures { result.now ≡ behind_konst step args.now }
+{
+    match step {
+        Konst::Imm(_) => args,
+        Konst::Reg(_) => match args.split_first() {
+            Some((_, rest)) => rest,
+            None => args,
+        },
+    }
+}
+
+/// Whether a whole number is no coordinate of an axis with this extent.
+#[tactic(auto, unfolding(paris_code::specs::Checking::is_outside))]
+fn is_outside(extent: u32, number: i64) -> bool
+    ensures { result ≡ is_outside extent number }
+{
+    (number < 0) | (i64::from(extent) <= number)
+}
 
 /// The reply that tells the least processor whose check fails, if there is one.
 fn answer(failing: Option<u32>) -> Reply
@@ -77,33 +101,36 @@ impl RowPhases {
         None
     }
 
-    /// Whether all steps from a processor stay in the grid.
-    fn stays(&self, set: u16, steps: &[GridStep], args: &[u32], position: u32) -> bool
+    /// Whether a step from a processor leads out of the grid.
+    fn any_leaves(&self, set: u16, steps: &[GridStep], args: &[u32], position: u32) -> bool
         requires position { IsPosition (sets_of self.now) set position }
         requires axes { All (λ s. IsAxis (sets_of self.now) set (axis_of s)) steps.now }
+        ensures { result ≡ any_leaves (extents_at (sets_of self.now) set) steps.now args.now position }
     {
-        let geometry = self.rows(set).geometry;
-        let mut registers = args.iter();
-        for step in steps {
-            let by = match step.step {
-                Konst::Imm(n) => n,
-                Konst::Reg(_) => registers.next().copied().unwrap_or(0),
-            };
-            let there = i64::from(geometry.coord(position, step.axis)) + i64::from(signed(by));
-            if there < 0 || i64::from(geometry.extent(step.axis)) <= there {
-                return false;
+        match steps.split_first() {
+            None => false,
+            Some((step, rest)) => {
+                let geometry = self.rows(set).geometry;
+                let by = match step.step {
+                    Konst::Imm(n) => n,
+                    Konst::Reg(_) => args.first().copied().unwrap_or(0),
+                };
+                let own = i64::from(geometry.coord(position, step.axis));
+                let here = is_outside(geometry.extent(step.axis), own + i64::from(signed(by)));
+                here | self.any_leaves(set, rest, behind_step(step.step, args), position)
             }
         }
-        true
     }
 
     /// The least active processor that a step leads out of the grid.
     fn check_grid(&self, set: u16, steps: &[GridStep], args: &[u32]) -> Option<u32>
         requires set { set < length (sets_of self.now) }
         requires axes { All (λ s. IsAxis (sets_of self.now) set (axis_of s)) steps.now }
+        ensures { result ≡ least_below (λ p. is_active (sets_of self.now) (memory_of self.now) set p && any_leaves (extents_at (sets_of self.now) set) steps.now args.now p) (processors (sets_of self.now) set) }
     {
-        for position in 0..self.positions(set) {
-            if self.is_active(set, position) && !self.stays(set, steps, args, position) {
+        'positions: for position in 0..self.positions(set) {
+            let leaves = self.any_leaves(set, steps, args, position);
+            if self.is_active(set, position) & leaves {
                 return Some(position);
             }
         }

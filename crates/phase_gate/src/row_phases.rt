@@ -1,5 +1,5 @@
 ghost use Rattle.std.specs.Prelude.{◌≡◌, ◌≢◌, ℕ, ◌+◌, ◌^◌, ◌<◌, ◌≤◌, ◌==◌, ◌||◌, ◌⊎◌, length, IfOk};
-ghost use Rattle.cstar_base.specs.Numbers.{residue};
+ghost use Rattle.cstar_base.specs.Numbers.{residue, number_of};
 ghost use Rattle.paris_code.specs.Fetching.{at_one};
 ghost use Rattle.paris_code.specs.Memory.{SameBits, fresh_memory, field_number, whole_number, is_active, is_tested};
 ghost use Rattle.paris_code.specs.Writes.{written};
@@ -83,7 +83,8 @@ impl RowPhases {
     pub(crate) fn word(&self, signed: bool, f: Field, position: u32) -> u32
         requires field { LiesIn (sets_of self.now) f }
         requires position { IsPosition (sets_of self.now) f.set position }
-        ensures { result ≡ residue 32 (whole_number (memory_of self.now) signed f position) }
+        ensures value { result ≡ residue 32 (whole_number (memory_of self.now) signed f position) }
+        ensures whole { number_of 32 signed result ≡ whole_number (memory_of self.now) signed f position }
     {
         extended(signed, f.len, self.field(f, position))
     }

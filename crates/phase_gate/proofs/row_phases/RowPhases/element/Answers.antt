@@ -36,7 +36,7 @@ returns-in-Move c =
     let a = c.args in
     let d = c.in-Move.dest in
     of a.self.now a.args.now a.position c.word.result a.instr.now (I.Move c.in-Move.signed d c.in-Move.source) c.in-Move.is c.requires.can (λ can.
-    ap (λ n. n % 2 ^ d.len) c.word.ensures ∙ residue_within d.len _ (lies (sets_of a.self.now) d can.field.0 can.set.0).2)
+    ap (λ n. n % 2 ^ d.len) c.word.ensures.value ∙ residue_within d.len _ (lies (sets_of a.self.now) d can.field.0 can.set.0).2)
 
 pub returns-in-MakeAddress : goal.returns-in-MakeAddress
 returns-in-MakeAddress c =

@@ -1,8 +1,17 @@
-use Rattle.std.proofs.Common.{◌∙◌, ap}
+use Rattle.std.proofs.Common.{◌≡◌, ◌^◌, ◌<◌, ◌∙◌, ap, sym, subst, arith}
 use Rattle.cstar_base.specs.Numbers.{residue, number_of}
 use Rattle.paris_code.specs.Memory.{whole_number}
+use Rattle.phase_gate.proofs.Widths.{number_in_word}
 use Rattle.phase_gate.proofs.row_phases.RowPhases.word.Goals as goal
 
-pub returns : goal.returns
+pub returns-clause-value : goal.returns-clause-value
 unfolding whole_number
-returns c = c.extended.ensures ∙ ap (λ n. residue 32 (number_of c.args.f.len c.args.signed n)) c.field.ensures.value
+returns-clause-value c = c.extended.ensures ∙ ap (λ n. residue 32 (number_of c.args.f.len c.args.signed n)) c.field.ensures.value
+
+pub returns-clause-whole : goal.returns-clause-whole
+unfolding whole_number
+returns-clause-whole c =
+    let f = c.args.f in
+    ap (number_of 32 c.args.signed) c.extended.ensures
+    ∙ number_in_word f.len c.args.signed c.field.result c.requires.field.1 c.requires.field.2 c.field.ensures.bound
+    ∙ ap (number_of f.len c.args.signed) c.field.ensures.value
