@@ -1,0 +1,156 @@
+//! Operators on typed operands.
+
+use crate::conversions::{common, converted, fitted, promoted, spread};
+use cstar_base::{Elem, Memory, Op, Place};
+use cstar_tree::syntax::{BinaryOp, Cast, ReduceOp};
+use cstar_tree::typed::{TExpr, UnaryOp, ValueType};
+use std::alloc::Global;
+
+/// Does the operator compare its operands?
+fn compares(op: Op) -> bool {
+    matches!(op, Op::Eq | Op::Ne | Op::Lt | Op::Le | Op::Gt | Op::Ge)
+}
+
+/// Does the operator shift its left operand?
+fn shifts(op: Op) -> bool {
+    matches!(op, Op::Shl | Op::Shr)
+}
+
+/// An operator on numbers, with its operands at their common type, or those of a shift each at its
+/// own promoted type.
+fn numeric(
+    alloc: Global,
+    place: Place,
+    op: Op,
+    left: TExpr,
+    right: TExpr,
+) -> Result<TExpr, Memory> {
+    let shape = left.ty().shape.or(right.ty().shape);
+    let (left_elem, right_elem) = if shifts(op) {
+        (promoted(left.ty().elem), promoted(right.ty().elem))
+    } else {
+        let elem = common(left.ty().elem, right.ty().elem);
+        (elem, elem)
+    };
+    let elem = if compares(op) { Elem::INT } else { left_elem };
+    let left = operand(alloc, left, left_elem, shape)?;
+    let right = operand(alloc, right, right_elem, shape)?;
+    Ok(TExpr::Binary {
+        ty: ValueType { elem, shape },
+        place,
+        op,
+        left: Box::new(alloc, left)?,
+        right: Box::new(alloc, right)?,
+    })
+}
+
+fn operand(alloc: Global, e: TExpr, elem: Elem, shape: Option<u16>) -> Result<TExpr, Memory> {
+    fitted(alloc, e, ValueType { elem, shape })
+}
+
+/// `||` or `&&`. With a parallel left operand the right one is parallel too.
+fn logical(alloc: Global, op: BinaryOp, left: TExpr, right: TExpr) -> Result<TExpr, Memory> {
+    let right = spread(alloc, right, left.ty().shape)?;
+    let ty = ValueType {
+        elem: Elem::INT,
+        shape: right.ty().shape,
+    };
+    let left = Box::new(alloc, left)?;
+    let right = Box::new(alloc, right)?;
+    Ok(if op == BinaryOp::LogicalOr {
+        TExpr::LogicalOr { ty, left, right }
+    } else {
+        TExpr::LogicalAnd { ty, left, right }
+    })
+}
+
+/// A binary operator at its place.
+pub fn binary(
+    alloc: Global,
+    place: Place,
+    op: BinaryOp,
+    left: TExpr,
+    right: TExpr,
+) -> Result<TExpr, Memory> {
+    match op {
+        BinaryOp::Number(op) => numeric(alloc, place, op, left, right),
+        BinaryOp::LogicalOr | BinaryOp::LogicalAnd => logical(alloc, op, left, right),
+    }
+}
+
+/// `?:`, whose second and third operand get the type of the whole.
+pub fn choice(alloc: Global, test: TExpr, then: TExpr, otherwise: TExpr) -> Result<TExpr, Memory> {
+    let branches = then.ty().shape.or(otherwise.ty().shape);
+    let ty = ValueType {
+        elem: common(then.ty().elem, otherwise.ty().elem),
+        shape: test.ty().shape.or(branches),
+    };
+    let then = fitted(alloc, then, ty)?;
+    let otherwise = fitted(alloc, otherwise, ty)?;
+    Ok(TExpr::Choice {
+        ty,
+        test: Box::new(alloc, test)?,
+        then: Box::new(alloc, then)?,
+        otherwise: Box::new(alloc, otherwise)?,
+    })
+}
+
+/// An operator before its operand, which is promoted, but under `!`.
+pub fn unary(alloc: Global, op: UnaryOp, operand: TExpr) -> Result<TExpr, Memory> {
+    let ty = operand.ty();
+    let elem = promoted(ty.elem);
+    let operand = if op == UnaryOp::Not {
+        operand
+    } else {
+        converted(alloc, operand, elem)?
+    };
+    let elem = if op == UnaryOp::Not { Elem::INT } else { elem };
+    Ok(TExpr::Unary {
+        ty: ValueType {
+            elem,
+            shape: ty.shape,
+        },
+        op,
+        operand: Box::new(alloc, operand)?,
+    })
+}
+
+/// A reduction of a parallel operand.
+pub fn reduction(alloc: Global, op: ReduceOp, operand: TExpr) -> Result<TExpr, Memory> {
+    let elem = promoted(operand.ty().elem);
+    let operand = converted(alloc, operand, elem)?;
+    Ok(TExpr::Reduce {
+        ty: ValueType { elem, shape: None },
+        op,
+        operand: Box::new(alloc, operand)?,
+    })
+}
+
+/// A chain of casts to scalar types, of which this is the first, over a scalar operand.
+pub fn cast_chain(
+    alloc: Global,
+    first: Cast,
+    casts: &[Cast],
+    operand: TExpr,
+) -> Result<TExpr, Memory> {
+    let mut elems = Vec::new(alloc);
+    for cast in casts {
+        elems.push(cast.elem)?;
+    }
+    Ok(TExpr::Casts {
+        ty: ValueType {
+            elem: first.elem,
+            shape: None,
+        },
+        elems,
+        operand: Box::new(alloc, operand)?,
+    })
+}
+
+/// A pair of brackets, of the given type.
+pub fn brackets(alloc: Global, ty: ValueType, inner: TExpr) -> Result<TExpr, Memory> {
+    Ok(TExpr::Brackets {
+        ty,
+        inner: Box::new(alloc, inner)?,
+    })
+}
