@@ -105,7 +105,7 @@ fn typed_instance(
         current: reached.current,
         params,
         result,
-        body,
+        body: Box::into_inner(body),
     }))
 }
 

@@ -14,7 +14,7 @@ use typed_nodes::conversions::{INT, converted, fitted, promoted};
 use typed_nodes::format::cut;
 
 /// Does a scalar parameter get a parallel argument?
-fn has_parallel_argument(header: &Header, arguments: &[TExpr]) -> bool {
+fn has_parallel_argument(header: &Header, arguments: &[Box<TExpr>]) -> bool {
     for (ty, argument) in header.parameters.iter().zip(arguments) {
         if let Some(ty) = ty
             && ty.shape.is_none()
@@ -30,7 +30,7 @@ fn has_parallel_argument(header: &Header, arguments: &[TExpr]) -> bool {
 fn fit_arguments(
     alloc: Global,
     parameters: &[Option<ValueType>],
-    arguments: Vec<TExpr>,
+    arguments: Vec<Box<TExpr>>,
 ) -> Result<Vec<TExpr>, Untyped> {
     let mut fit = Vec::new(alloc);
     let mut types = parameters.iter();
@@ -38,7 +38,7 @@ fn fit_arguments(
         let Some(Some(ty)) = types.next() else {
             return Err(Untyped::Faulty);
         };
-        fit.push(fitted(alloc, argument, *ty)?)?;
+        fit.push(Box::into_inner(fitted(alloc, argument, *ty)?))?;
     }
     Ok(fit)
 }
@@ -49,7 +49,7 @@ fn call_node(
     alloc: Global,
     header: &Header,
     instance: Option<u32>,
-    arguments: Vec<TExpr>,
+    arguments: Vec<Box<TExpr>>,
 ) -> Result<TypedExpr, Untyped> {
     let (ty, has_value) = match header.returns {
         Returns::Nothing => (INT, false),
@@ -65,7 +65,10 @@ fn call_node(
         },
         None => TExpr::GetChar { ty: INT },
     };
-    Ok(TypedExpr { expr, has_value })
+    Ok(TypedExpr {
+        expr: Box::new(alloc, expr)?,
+        has_value,
+    })
 }
 
 /// Does the call at the place fit the header?
@@ -75,7 +78,7 @@ fn call_fits(
     place: Place,
     function: u32,
     header: &Header,
-    arguments: &[TExpr],
+    arguments: &[Box<TExpr>],
 ) -> Result<(), Untyped> {
     if header.other_shape {
         Err(fault(Rule::OtherShape, place))
@@ -97,7 +100,7 @@ pub fn call(
     locals: &Locals,
     site: Site,
     name: &Name,
-    arguments: Option<Vec<TExpr>>,
+    arguments: Option<Vec<Box<TExpr>>>,
 ) -> Typing {
     let Some(function) = found.faults.settle(file.called(locals, site, name))? else {
         return Ok(None);
@@ -140,7 +143,7 @@ fn fitting_call(
     function: u32,
     header: &Header,
     instance: Option<u32>,
-    arguments: Vec<TExpr>,
+    arguments: Vec<Box<TExpr>>,
 ) -> Result<TypedExpr, Untyped> {
     call_fits(file, site, place, function, header, arguments.as_slice())?;
     call_node(file.alloc, header, instance, arguments)
@@ -151,7 +154,7 @@ pub fn printf(
     alloc: Global,
     place: Place,
     text: &Word,
-    arguments: Vec<TExpr>,
+    arguments: Vec<Box<TExpr>>,
 ) -> Result<TypedExpr, Untyped> {
     if arguments.iter().any(|e| e.ty().shape.is_some()) {
         return Err(fault(Rule::ScalarWanted, place));
@@ -168,16 +171,16 @@ pub fn printf(
         arguments: promoted_arguments(alloc, arguments)?,
     };
     Ok(TypedExpr {
-        expr,
+        expr: Box::new(alloc, expr)?,
         has_value: false,
     })
 }
 
-fn promoted_arguments(alloc: Global, arguments: Vec<TExpr>) -> Result<Vec<TExpr>, Memory> {
+fn promoted_arguments(alloc: Global, arguments: Vec<Box<TExpr>>) -> Result<Vec<TExpr>, Memory> {
     let mut values = Vec::new(alloc);
     for argument in arguments {
         let elem = promoted(argument.ty().elem);
-        values.push(converted(alloc, argument, elem)?)?;
+        values.push(Box::into_inner(converted(alloc, argument, elem)?))?;
     }
     Ok(values)
 }

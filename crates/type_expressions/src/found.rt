@@ -11,7 +11,7 @@ use type_scopes::headers::{Header, Reached};
 /// A typed expression, and whether it has a value.
 #[derive(Drop)]
 pub struct TypedExpr {
-    pub expr: TExpr,
+    pub expr: Box<TExpr>,
     pub has_value: bool,
 }
 
@@ -107,10 +107,10 @@ impl Found {
 }
 
 /// What an expression with a value comes to. The fault that stands at it is recorded.
-pub fn outcome(faults: &mut Faults, typed: Result<TExpr, Untyped>) -> Typing {
+pub fn outcome(faults: &mut Faults, alloc: Global, typed: Result<TExpr, Untyped>) -> Typing {
     Ok(match faults.settle(typed)? {
         Some(expr) => Some(TypedExpr {
-            expr,
+            expr: Box::new(alloc, expr)?,
             has_value: true,
         }),
         None => None,

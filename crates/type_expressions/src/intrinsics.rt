@@ -95,14 +95,11 @@ pub fn parallel_cast(
     site: Site,
     place: Place,
     ty: ValueType,
-    operand: TExpr,
+    operand: Box<TExpr>,
 ) -> Result<TExpr, Untyped> {
     site.holds(place, ty.shape)?;
     let operand = spread(alloc, operand, ty.shape)?;
-    Ok(TExpr::ParallelCast {
-        ty,
-        operand: Box::new(alloc, operand)?,
-    })
+    Ok(TExpr::ParallelCast { ty, operand })
 }
 
 /// The variable of the segment bits, if one is named: it is parallel, of type `bool` and of the
@@ -151,7 +148,7 @@ pub fn scan(
     alloc: Global,
     site: Site,
     place: Place,
-    source: TExpr,
+    source: Box<TExpr>,
     axis: Axis,
     combiner: Combiner,
     walk: Walk,
@@ -169,7 +166,7 @@ pub fn scan(
             elem,
             shape: Some(shape),
         },
-        source: Box::new(alloc, source)?,
+        source,
         axis,
         combiner,
         direction: walk.direction,

@@ -9,11 +9,11 @@ use type_scopes::faults::{Rule, Untyped, fault};
 use type_scopes::sites::Site;
 use typed_nodes::assignments::{Target, assignment, folds, step, target_of};
 use typed_nodes::conversions::INT;
-use typed_nodes::operators::{brackets, cast_chain, reduction, unary};
+use typed_nodes::operators::{cast_chain, reduction, unary};
 
 /// The target of an assignment. A parallel left index under an operator that cannot send is a fault
 /// of its own.
-pub fn sending(op: AssignOp, target: TExpr) -> Result<TExpr, Untyped> {
+pub fn sending(op: AssignOp, target: Box<TExpr>) -> Result<Box<TExpr>, Untyped> {
     if op == AssignOp::Set || folds(op) {
         Ok(target)
     } else {
@@ -22,7 +22,7 @@ pub fn sending(op: AssignOp, target: TExpr) -> Result<TExpr, Untyped> {
 }
 
 /// The target of an operator that cannot send.
-fn no_send(target: TExpr) -> Result<TExpr, Untyped> {
+fn no_send(target: Box<TExpr>) -> Result<Box<TExpr>, Untyped> {
     match target_of(&target) {
         Some(Target::Send(place)) => Err(fault(Rule::SendOperator, place)),
         _ => Ok(target),
@@ -35,8 +35,8 @@ pub fn assign(
     site: Site,
     place: Place,
     op: AssignOp,
-    target: TExpr,
-    value: TExpr,
+    target: Box<TExpr>,
+    value: Box<TExpr>,
 ) -> Result<TExpr, Untyped> {
     is_assignable(site, place, op, &target, &value)?;
     Ok(assignment(alloc, place, op, target, value)?)
@@ -62,34 +62,43 @@ fn is_assignable(
 
 /// `++` or `--` at its operator.
 pub fn stepped(
-    alloc: Global,
     place: Place,
     op: StepOp,
     order: StepOrder,
-    target: TExpr,
+    target: Box<TExpr>,
 ) -> Result<TExpr, Untyped> {
     match target_of(&target) {
         None => Err(fault(Rule::NotAPlace, place)),
         Some(Target::Send(place)) => Err(fault(Rule::SendOperator, place)),
-        Some(Target::Variable) => Ok(step(alloc, op, order, target)?),
+        Some(Target::Variable) => Ok(step(op, order, target)),
     }
 }
 
 /// An operator before its operand.
-pub fn prefix(alloc: Global, place: Place, op: PrefixOp, operand: TExpr) -> Result<TExpr, Untyped> {
+pub fn prefix(
+    alloc: Global,
+    place: Place,
+    op: PrefixOp,
+    operand: Box<TExpr>,
+) -> Result<TExpr, Untyped> {
     let op = match op {
         PrefixOp::Plus => UnaryOp::Plus,
         PrefixOp::Minus => UnaryOp::Minus,
         PrefixOp::Complement => UnaryOp::Complement,
         PrefixOp::Not => UnaryOp::Not,
-        PrefixOp::Step(op) => return stepped(alloc, place, op, StepOrder::Prefix, operand),
+        PrefixOp::Step(op) => return stepped(place, op, StepOrder::Prefix, operand),
         PrefixOp::Reduce(op) => return reduced(alloc, place, op, operand),
     };
     Ok(unary(alloc, op, operand)?)
 }
 
 /// A reduction, whose operand has to be parallel.
-fn reduced(alloc: Global, place: Place, op: ReduceOp, operand: TExpr) -> Result<TExpr, Untyped> {
+fn reduced(
+    alloc: Global,
+    place: Place,
+    op: ReduceOp,
+    operand: Box<TExpr>,
+) -> Result<TExpr, Untyped> {
     if operand.ty().shape.is_none() {
         return Err(fault(Rule::ParallelWanted, place));
     }
@@ -97,9 +106,9 @@ fn reduced(alloc: Global, place: Place, op: ReduceOp, operand: TExpr) -> Result<
 }
 
 /// A chain of casts to scalar types. A parallel operand is a fault of the innermost one.
-pub fn casts(alloc: Global, casts: &[Cast], operand: TExpr) -> Result<TExpr, Untyped> {
+pub fn casts(alloc: Global, casts: &[Cast], operand: Box<TExpr>) -> Result<TExpr, Untyped> {
     let (Some(first), Some(last)) = (casts.first(), casts.last()) else {
-        return Ok(operand);
+        return Err(Untyped::Faulty);
     };
     if operand.ty().shape.is_some() {
         return Err(fault(Rule::ScalarWanted, last.place));
@@ -113,8 +122,9 @@ pub fn bracketed(alloc: Global, inner: Option<TypedExpr>) -> Typing {
         return Ok(None);
     };
     let ty = if has_value { expr.ty() } else { INT };
+    let expr = TExpr::Brackets { ty, inner: expr };
     Ok(Some(TypedExpr {
-        expr: brackets(alloc, ty, expr)?,
+        expr: Box::new(alloc, expr)?,
         has_value,
     }))
 }

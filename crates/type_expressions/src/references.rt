@@ -56,7 +56,7 @@ pub fn element(
     place: Place,
     bracket: Place,
     array: (Variable, VariableType),
-    index: TExpr,
+    index: Box<TExpr>,
 ) -> Result<TExpr, Untyped> {
     if index.ty().shape.is_some() {
         return Err(fault(Rule::ScalarWanted, bracket));
@@ -67,7 +67,7 @@ pub fn element(
         ty: ty.value(),
         place: bracket,
         array: variable,
-        index: Box::new(file.alloc, index)?,
+        index,
     })
 }
 
@@ -100,7 +100,7 @@ pub fn left_index(
     site: Site,
     place: Place,
     variable: (Variable, VariableType),
-    indexes: Vec<TExpr>,
+    indexes: Vec<Box<TExpr>>,
 ) -> Result<TExpr, Untyped> {
     let (variable, ty) = variable;
     let Some(of) = ty.shape else {
@@ -113,7 +113,7 @@ pub fn left_index(
     let shape = if parallel { site.current } else { None };
     let mut promoted = Vec::new(file.alloc);
     for index in indexes {
-        promoted.push(spread(file.alloc, index, shape)?)?;
+        promoted.push(Box::into_inner(spread(file.alloc, index, shape)?))?;
     }
     Ok(TExpr::LeftIndex {
         ty: ValueType {

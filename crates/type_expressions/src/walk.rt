@@ -10,12 +10,13 @@ use crate::intrinsics::{
 use crate::operators::{assign, bracketed, casts, prefix, sending, stepped};
 use crate::references::{array, dot, element, is_of_current, left_index, name, plain_variable};
 use cstar_base::{Elem, Memory, Place};
-use cstar_tree::syntax::{AssignOp, Expr, Name, TypeName};
+use cstar_tree::syntax::{AssignOp, BinaryOp, Expr, Name, TypeName};
 use cstar_tree::typed::{StepOrder, TExpr, ValueType, Variable};
 use std::alloc::Global;
 use type_scopes::faults::{Faults, Rule, Untyped, fault};
 use type_scopes::file::File;
 use type_scopes::locals::Locals;
+use type_scopes::names::VariableType;
 use type_scopes::sites::Site;
 use typed_nodes::conversions::INT;
 use typed_nodes::operators::{binary, choice};
@@ -28,13 +29,13 @@ pub fn typed_value(
     locals: &Locals,
     site: Site,
     e: &Expr,
-) -> Result<Option<TExpr>, Memory> {
+) -> Result<Option<Box<TExpr>>, Memory> {
     let typed = typed_expr(found, file, locals, site.part(), e)?;
     found.faults.settle(valued(e.place(), typed))
 }
 
 /// The expression, which needs a value. If it has none, that is a fault at the place.
-fn valued(place: Place, typed: Option<TypedExpr>) -> Result<TExpr, Untyped> {
+fn valued(place: Place, typed: Option<TypedExpr>) -> Result<Box<TExpr>, Untyped> {
     let Some(TypedExpr { expr, has_value }) = typed else {
         return Err(Untyped::Faulty);
     };
@@ -75,16 +76,22 @@ pub fn typed_expr(
             let parts = list(found, file, locals, site, e)?;
             with_list(found, file, locals, site, e, parts)
         }
-        Expr::Scan { source, axis, .. } => {
-            let source = typed_value(found, file, locals, site, source)?;
+        Expr::Pcoord { axis, .. }
+        | Expr::DimOf { axis, .. }
+        | Expr::Scan { axis, .. }
+        | Expr::Enumerate { axis, .. } => {
             let axis = typed_value(found, file, locals, site, axis)?;
-            with_axis(found, file, locals, site, e, source, axis)
+            let along = goes_along(&mut found.faults, file, locals, site, e, axis)?;
+            let source = match e {
+                Expr::Scan { source, .. } => typed_value(found, file, locals, site, source)?,
+                _ => None,
+            };
+            match along {
+                Some(along) => with_axis(&mut found.faults, file, site, e, along, source),
+                None => Ok(None),
+            }
         }
-        Expr::Pcoord { axis, .. } | Expr::DimOf { axis, .. } | Expr::Enumerate { axis, .. } => {
-            let axis = typed_value(found, file, locals, site, axis)?;
-            with_axis(found, file, locals, site, e, None, axis)
-        }
-        _ => outcome(&mut found.faults, leaf(file, locals, site, e)),
+        _ => outcome(&mut found.faults, file.alloc, leaf(file, locals, site, e)),
     }
 }
 
@@ -132,10 +139,7 @@ fn operands(found: &mut Found, file: &File<'_>, locals: &Locals, site: Site, e: 
             let test = typed_value(found, file, locals, site, test)?;
             let then = typed_value(found, file, locals, site, then)?;
             let otherwise = typed_value(found, file, locals, site, otherwise)?;
-            let (Some(test), Some(then), Some(otherwise)) = (test, then, otherwise) else {
-                return Ok(None);
-            };
-            Ok(Some(with_value(choice(file.alloc, test, then, otherwise)?)))
+            chosen(&mut found.faults, file.alloc, test, then, otherwise)
         }
         Expr::Binary {
             place,
@@ -145,20 +149,41 @@ fn operands(found: &mut Found, file: &File<'_>, locals: &Locals, site: Site, e: 
         } => {
             let left = typed_value(found, file, locals, site, left)?;
             let right = typed_value(found, file, locals, site, right)?;
-            let (Some(left), Some(right)) = (left, right) else {
-                return Ok(None);
-            };
-            Ok(Some(with_value(binary(file.alloc, *place, *op, left, right)?)))
+            combined(&mut found.faults, file.alloc, *place, *op, left, right)
         }
         _ => Ok(None),
     }
 }
 
-fn with_value(expr: TExpr) -> TypedExpr {
-    TypedExpr {
-        expr,
-        has_value: true,
-    }
+/// `?:` of its typed operands.
+fn chosen(
+    faults: &mut Faults,
+    alloc: Global,
+    test: Option<Box<TExpr>>,
+    then: Option<Box<TExpr>>,
+    otherwise: Option<Box<TExpr>>,
+) -> Typing {
+    let (Some(test), Some(then), Some(otherwise)) = (test, then, otherwise) else {
+        return Ok(None);
+    };
+    let expr = choice(alloc, test, then, otherwise)?;
+    outcome(faults, alloc, Ok(expr))
+}
+
+/// A binary operator on its typed operands.
+fn combined(
+    faults: &mut Faults,
+    alloc: Global,
+    place: Place,
+    op: BinaryOp,
+    left: Option<Box<TExpr>>,
+    right: Option<Box<TExpr>>,
+) -> Typing {
+    let (Some(left), Some(right)) = (left, right) else {
+        return Ok(None);
+    };
+    let expr = binary(alloc, place, op, left, right)?;
+    outcome(faults, alloc, Ok(expr))
 }
 
 /// An assignment of its typed sides. What the target alone breaks stands whatever the value is.
@@ -168,8 +193,8 @@ fn assigned(
     site: Site,
     place: Place,
     op: AssignOp,
-    target: Option<TExpr>,
-    value: Option<TExpr>,
+    target: Option<Box<TExpr>>,
+    value: Option<Box<TExpr>>,
 ) -> Typing {
     let Some(target) = target else {
         return Ok(None);
@@ -178,7 +203,7 @@ fn assigned(
     let (Some(target), Some(value)) = (target, value) else {
         return Ok(None);
     };
-    outcome(faults, assign(alloc, site, place, op, target, value))
+    outcome(faults, alloc, assign(alloc, site, place, op, target, value))
 }
 
 /// An expression with one typed operand, or an element of an array with its typed index. What its
@@ -189,7 +214,7 @@ fn with_operand(
     locals: &Locals,
     site: Site,
     e: &Expr,
-    operand: Option<TExpr>,
+    operand: Option<Box<TExpr>>,
 ) -> Typing {
     match e {
         Expr::ParallelCast {
@@ -220,18 +245,20 @@ fn with_operand(
             let Some(operand) = operand else {
                 return Ok(None);
             };
-            outcome(&mut found.faults, on_operand(file.alloc, e, operand))
+            outcome(
+                &mut found.faults,
+                file.alloc,
+                on_operand(file.alloc, e, operand),
+            )
         }
     }
 }
 
-fn on_operand(alloc: Global, e: &Expr, operand: TExpr) -> Result<TExpr, Untyped> {
+fn on_operand(alloc: Global, e: &Expr, operand: Box<TExpr>) -> Result<TExpr, Untyped> {
     match e {
         Expr::Prefix { place, op, .. } => prefix(alloc, *place, *op, operand),
         Expr::Casts { casts: chain, .. } => casts(alloc, chain.as_slice(), operand),
-        Expr::Postfix { place, op, .. } => {
-            stepped(alloc, *place, *op, StepOrder::Postfix, operand)
-        }
+        Expr::Postfix { place, op, .. } => { stepped(*place, *op, StepOrder::Postfix, operand) }
         _ => Err(Untyped::Faulty),
     }
 }
@@ -243,13 +270,17 @@ fn cast_to(
     site: Site,
     place: Place,
     written: &TypeName,
-    operand: Option<TExpr>,
+    operand: Option<Box<TExpr>>,
 ) -> Typing {
     let ty = faults.settle(file.value_type(locals, site, written))?;
     let (Some(ty), Some(operand)) = (ty, operand) else {
         return Ok(None);
     };
-    outcome(faults, parallel_cast(file.alloc, site, place, ty, operand))
+    outcome(
+        faults,
+        file.alloc,
+        parallel_cast(file.alloc, site, place, ty, operand),
+    )
 }
 
 fn element_of(
@@ -259,7 +290,7 @@ fn element_of(
     site: Site,
     name: &Name,
     bracket: Place,
-    index: Option<TExpr>,
+    index: Option<Box<TExpr>>,
 ) -> Typing {
     let array = faults.settle(array(file, locals, site, name))?;
     let (Some(array), Some(index)) = (array, index) else {
@@ -267,6 +298,7 @@ fn element_of(
     };
     outcome(
         faults,
+        file.alloc,
         element(file, site, name.place, bracket, array, index),
     )
 }
@@ -280,7 +312,7 @@ fn list(
     locals: &Locals,
     site: Site,
     e: &Expr,
-) -> Result<Option<Vec<TExpr>>, Memory> {
+) -> Result<Option<Vec<Box<TExpr>>>, Memory> {
     let (parts, indexed) = match e {
         Expr::Call { arguments, .. } | Expr::Printf { arguments, .. } => (arguments, None),
         Expr::LeftIndex { indexes, name, .. } => {
@@ -314,7 +346,7 @@ fn with_list(
     locals: &Locals,
     site: Site,
     e: &Expr,
-    parts: Option<Vec<TExpr>>,
+    parts: Option<Vec<Box<TExpr>>>,
 ) -> Typing {
     match e {
         Expr::Call { name, .. } => call(found, file, locals, site, name, parts),
@@ -322,13 +354,7 @@ fn with_list(
             let variable = found
                 .faults
                 .settle(plain_variable(file, locals, site, name))?;
-            let (Some(variable), Some(parts)) = (variable, parts) else {
-                return Ok(None);
-            };
-            outcome(
-                &mut found.faults,
-                left_index(file, site, *place, variable, parts),
-            )
+            indexed(&mut found.faults, file, site, *place, variable, parts)
         }
         Expr::Printf { place, text, .. } => match parts {
             Some(parts) => found.faults.settle(printf(file.alloc, *place, text, parts)),
@@ -338,18 +364,43 @@ fn with_list(
     }
 }
 
-/// An intrinsic with its typed axis, and the typed source of a scan. What its shape, its axis and
-/// its segment bit break stands, whatever the other parts are.
-fn with_axis(
-    found: &mut Found,
+/// A left index of the variable, where its name and its parts have no fault.
+fn indexed(
+    faults: &mut Faults,
+    file: &File<'_>,
+    site: Site,
+    place: Place,
+    variable: Option<(Variable, VariableType)>,
+    parts: Option<Vec<Box<TExpr>>>,
+) -> Typing {
+    let (Some(variable), Some(parts)) = (variable, parts) else {
+        return Ok(None);
+    };
+    outcome(
+        faults,
+        file.alloc,
+        left_index(file, site, place, variable, parts),
+    )
+}
+
+/// What an intrinsic goes along: its axis, the shape that it names, and its segment bit.
+#[derive(Clone, Copy)]
+struct Along {
+    axis: Axis,
+    shape: Option<u16>,
+    bit: Option<Variable>,
+}
+
+/// What an intrinsic goes along, from its typed axis. What its shape, its axis and its segment bit
+/// break stands, whatever the others are.
+fn goes_along(
+    faults: &mut Faults,
     file: &File<'_>,
     locals: &Locals,
     site: Site,
     e: &Expr,
-    source: Option<TExpr>,
-    axis: Option<TExpr>,
-) -> Typing {
-    let faults = &mut found.faults;
+    axis: Option<Box<TExpr>>,
+) -> Result<Option<Along>, Memory> {
     match e {
         Expr::DimOf {
             shape,
@@ -357,22 +408,12 @@ fn with_axis(
             ..
         } => {
             let shape = faults.settle(file.shape(locals, site, shape))?;
-            let rank = shape.and_then(|shape| file.rank(shape));
+            let rank = rank_of_shape(file, shape);
             let axis = settled_axis(faults, written.place(), axis, rank)?;
-            let (Some(shape), Some(axis)) = (shape, axis) else {
-                return Ok(None);
-            };
-            outcome(faults, dim_of(file, shape, axis))
-        }
-        Expr::Pcoord {
-            place,
-            axis: written,
-        } => {
-            let rank = current_rank(file, site);
-            match settled_axis(faults, written.place(), axis, rank)? {
-                Some(axis) => outcome(faults, pcoord(site, *place, axis)),
-                None => Ok(None),
-            }
+            Ok(match shape {
+                Some(_) => known_along(axis, Some(None), shape),
+                None => None,
+            })
         }
         Expr::Scan {
             axis: written,
@@ -384,46 +425,48 @@ fn with_axis(
             bit,
             ..
         } => {
-            let rank = current_rank(file, site);
+            let rank = rank_of_shape(file, site.current);
             let axis = settled_axis(faults, written.place(), axis, rank)?;
             let bit = faults.settle(segment_bit(file, locals, site, bit))?;
-            let (Some(axis), Some(bit)) = (axis, bit) else {
-                return Ok(None);
-            };
-            outcome(faults, along_axis(file.alloc, site, e, source, axis, bit))
+            Ok(known_along(axis, bit, None))
+        }
+        Expr::Pcoord { axis: written, .. } => {
+            let rank = rank_of_shape(file, site.current);
+            let axis = settled_axis(faults, written.place(), axis, rank)?;
+            Ok(known_along(axis, Some(None), None))
         }
         _ => Ok(None),
     }
 }
 
-/// A scan or an enumerate.
-fn along_axis(
-    alloc: Global,
+fn known_along(
+    axis: Option<Axis>,
+    bit: Option<Option<Variable>>,
+    shape: Option<u16>,
+) -> Option<Along> {
+    Some(Along {
+        axis: axis?,
+        shape,
+        bit: bit?,
+    })
+}
+
+/// An intrinsic along its axis, with the typed source of a scan.
+fn with_axis(
+    faults: &mut Faults,
+    file: &File<'_>,
     site: Site,
     e: &Expr,
-    source: Option<TExpr>,
-    axis: Axis,
-    bit: Option<Variable>,
-) -> Result<TExpr, Untyped> {
-    match e {
-        Expr::Scan {
-            place,
-            combiner,
-            direction,
-            mode,
-            inclusion,
-            ..
-        } => {
-            let Some(source) = source else {
-                return Err(Untyped::Faulty);
-            };
-            let walk = Walk {
-                mode: *mode,
-                direction: *direction,
-                inclusion: *inclusion,
-            };
-            scan(alloc, site, *place, source, axis, *combiner, walk, bit)
-        }
+    along: Along,
+    source: Option<Box<TExpr>>,
+) -> Typing {
+    let Along { axis, shape, bit } = along;
+    let typed = match e {
+        Expr::DimOf { .. } => match shape {
+            Some(shape) => dim_of(file, shape, axis),
+            None => Err(Untyped::Faulty),
+        },
+        Expr::Pcoord { place, .. } => pcoord(site, *place, axis),
         Expr::Enumerate {
             place,
             direction,
@@ -437,16 +480,35 @@ fn along_axis(
                 inclusion: *inclusion,
             };
             enumerate(site, *place, axis, walk, bit)
-        }
+        },
+        Expr::Scan {
+            place,
+            combiner,
+            direction,
+            mode,
+            inclusion,
+            ..
+        } => match source {
+            Some(source) => {
+                let walk = Walk {
+                    mode: *mode,
+                    direction: *direction,
+                    inclusion: *inclusion,
+                };
+                scan(file.alloc, site, *place, source, axis, *combiner, walk, bit)
+            }
+            None => Err(Untyped::Faulty),
+        },
         _ => Err(Untyped::Faulty),
-    }
+    };
+    outcome(faults, file.alloc, typed)
 }
 
 /// The axis at the place, where its expression has no fault.
 fn settled_axis(
     faults: &mut Faults,
     place: Place,
-    axis: Option<TExpr>,
+    axis: Option<Box<TExpr>>,
     rank: Option<u32>,
 ) -> Result<Option<Axis>, Memory> {
     match axis {
@@ -455,9 +517,9 @@ fn settled_axis(
     }
 }
 
-/// The rank of the current shape, if there is one.
-fn current_rank(file: &File<'_>, site: Site) -> Option<u32> {
-    file.rank(site.current?)
+/// The rank of the shape, if there is one.
+fn rank_of_shape(file: &File<'_>, shape: Option<u16>) -> Option<u32> {
+    file.rank(shape?)
 }
 
 /// Types an expression without parts.

@@ -27,7 +27,7 @@ pub enum Length {
 #[derive(Drop)]
 pub struct Initial {
     pub place: Place,
-    pub value: Option<TExpr>,
+    pub value: Option<Box<TExpr>>,
 }
 
 impl Length {
@@ -106,11 +106,14 @@ fn local_variable(
     declarator: &Declarator,
     initial: Option<Initial>,
 ) -> Result<LocalVar, Untyped> {
+    let info = typed_info(alloc, &declarator.name.word, ty, 0)?;
     let initial = match initial {
         None => None,
-        Some(initial) => Some(initialised(alloc, site, declarator.name.place, ty, initial)?),
+        Some(initial) => {
+            let value = initialised(alloc, site, declarator.name.place, ty, initial)?;
+            Some(Box::into_inner(value))
+        }
     };
-    let info = typed_info(alloc, &declarator.name.word, ty, 0)?;
     Ok(LocalVar { info, initial })
 }
 
@@ -121,7 +124,7 @@ fn initialised(
     place: Place,
     ty: VariableType,
     initial: Initial,
-) -> Result<TExpr, Untyped> {
+) -> Result<Box<TExpr>, Untyped> {
     let Initial {
         place: equals,
         value: Some(value),

@@ -5,19 +5,28 @@ use crate::branches::{Branches, if_statement, where_statement};
 use crate::declarations::declarations;
 use crate::forms::{
     Heading, do_statement, everywhere_statement, for_statement, loop_word, return_statement,
-    while_statement, with_statement,
+    while_statement,
 };
 use crate::scopes::Scopes;
-use cstar_base::Memory;
+use cstar_base::{Memory, Place};
 use cstar_tree::syntax::{Block, Expr, Stmt};
-use cstar_tree::typed::{TExpr, TStmt};
+use cstar_tree::typed::{LocalVar, TExpr, TStmt};
+use std::alloc::Global;
 use type_expressions::{Found, typed_expr, typed_value};
-use type_scopes::faults::Untyped;
+use type_scopes::faults::{Faults, Untyped};
 use type_scopes::file::File;
 use type_scopes::sites::Site;
 
 /// A typed statement, or nothing where it has a fault.
-pub type TypedStatement = Result<Option<TStmt>, Memory>;
+pub type TypedStatement = Result<Option<Box<TStmt>>, Memory>;
+
+/// What a statement comes to. The fault that stands at it is recorded.
+fn outcome(faults: &mut Faults, alloc: Global, typed: Result<TStmt, Untyped>) -> TypedStatement {
+    Ok(match faults.settle(typed)? {
+        Some(s) => Some(Box::new(alloc, s)?),
+        None => None,
+    })
+}
 
 /// Types a block in a scope of its own.
 #[cycle(statement)]
@@ -50,14 +59,28 @@ pub fn block_in(
     let mut complete = true;
     for s in &block.statements {
         match statement(found, file, scopes, site, s)? {
-            Some(typed) => statements.push(typed)?,
+            Some(typed) => statements.push(Box::into_inner(typed))?,
             None => complete = false,
         }
     }
-    Ok(match locals {
-        Some(locals) if complete => Some(TStmt::Block { locals, statements }),
-        _ => None,
-    })
+    if complete {
+        whole_block(file.alloc, locals, statements)
+    } else {
+        Ok(None)
+    }
+}
+
+/// A block of its declared variables and its statements.
+fn whole_block(
+    alloc: Global,
+    locals: Option<Vec<LocalVar>>,
+    statements: Vec<TStmt>,
+) -> TypedStatement {
+    let Some(locals) = locals else {
+        return Ok(None);
+    };
+    let block = TStmt::Block { locals, statements };
+    Ok(Some(Box::new(alloc, block)?))
 }
 
 /// Types a statement.
@@ -112,27 +135,36 @@ fn chosen(
     let test = typed_value(found, file, &scopes.locals, site, test)?;
     let then = statement(found, file, scopes, site, then)?;
     let otherwise = match otherwise {
-        Some(otherwise) => match statement(found, file, scopes, site, otherwise)? {
-            Some(otherwise) => Some(Some(otherwise)),
-            None => None,
-        },
-        None => Some(None),
+        Some(otherwise) => Some(statement(found, file, scopes, site, otherwise)?),
+        None => None,
     };
-    let (Some(test), Some(then), Some(otherwise)) = (test, then, otherwise) else {
-        return Ok(None);
-    };
-    let parts = Branches {
-        test,
-        then,
-        otherwise,
-    };
-    found.faults.settle(choosing(file, site, s, parts))
+    match branches(test, then, otherwise) {
+        Some(parts) => outcome(&mut found.faults, file.alloc, choosing(site, s, parts)),
+        None => Ok(None),
+    }
 }
 
-fn choosing(file: &File<'_>, site: Site, s: &Stmt, parts: Branches) -> Result<TStmt, Untyped> {
+/// The parts of an `if` or a `where`, if none has a fault.
+fn branches(
+    test: Option<Box<TExpr>>,
+    then: Option<Box<TStmt>>,
+    otherwise: Option<Option<Box<TStmt>>>,
+) -> Option<Branches> {
+    let otherwise = match otherwise {
+        Some(otherwise) => Some(otherwise?),
+        None => None,
+    };
+    Some(Branches {
+        test: test?,
+        then: then?,
+        otherwise,
+    })
+}
+
+fn choosing(site: Site, s: &Stmt, parts: Branches) -> Result<TStmt, Untyped> {
     match s {
-        Stmt::If { place, .. } => if_statement(file.alloc, *place, parts),
-        Stmt::Where { place, .. } => where_statement(file.alloc, site, *place, parts),
+        Stmt::If { place, .. } => if_statement(*place, parts),
+        Stmt::Where { place, .. } => where_statement(site, *place, parts),
         _ => Err(Untyped::Faulty),
     }
 }
@@ -157,20 +189,35 @@ fn under(
                 current: Some(shape),
                 ..site
             };
-            match statement(found, file, scopes, within, body)? {
-                Some(body) => found.faults.settle(with_statement(file.alloc, shape, body)),
-                None => Ok(None),
-            }
+            let body = statement(found, file, scopes, within, body)?;
+            under_shape(file.alloc, shape, body)
         }
-        Stmt::Everywhere { place, body } => match statement(found, file, scopes, site, body)? {
-            Some(body) => {
-                let typed = everywhere_statement(file.alloc, site, *place, body);
-                found.faults.settle(typed)
-            }
-            None => Ok(None),
-        },
+        Stmt::Everywhere { place, body } => {
+            let body = statement(found, file, scopes, site, body)?;
+            everywhere(&mut found.faults, file.alloc, site, *place, body)
+        }
         _ => Ok(None),
     }
+}
+
+fn under_shape(alloc: Global, shape: u16, body: Option<Box<TStmt>>) -> TypedStatement {
+    let Some(body) = body else {
+        return Ok(None);
+    };
+    Ok(Some(Box::new(alloc, TStmt::With { shape, body })?))
+}
+
+fn everywhere(
+    faults: &mut Faults,
+    alloc: Global,
+    site: Site,
+    place: Place,
+    body: Option<Box<TStmt>>,
+) -> TypedStatement {
+    let Some(body) = body else {
+        return Ok(None);
+    };
+    outcome(faults, alloc, everywhere_statement(site, place, body))
 }
 
 /// Types a loop.
@@ -190,9 +237,8 @@ fn repeated(
             let (Some(test), Some(body)) = (test, body) else {
                 return Ok(None);
             };
-            found
-                .faults
-                .settle(while_statement(file.alloc, *place, test, body))
+            let typed = while_statement(*place, test, body);
+            outcome(&mut found.faults, file.alloc, typed)
         }
         Stmt::Do { place, body, test } => {
             let body = statement(found, file, scopes, site.body(), body)?;
@@ -200,9 +246,11 @@ fn repeated(
             let (Some(body), Some(test)) = (body, test) else {
                 return Ok(None);
             };
-            found
-                .faults
-                .settle(do_statement(file.alloc, *place, body, test))
+            outcome(
+                &mut found.faults,
+                file.alloc,
+                do_statement(*place, body, test),
+            )
         }
         Stmt::For { place, body, .. } => {
             let heading = heading(found, file, scopes, site, s)?;
@@ -210,9 +258,8 @@ fn repeated(
             let (Some(heading), Some(body)) = (heading, body) else {
                 return Ok(None);
             };
-            found
-                .faults
-                .settle(for_statement(file.alloc, *place, heading, body))
+            let typed = for_statement(*place, heading, body);
+            outcome(&mut found.faults, file.alloc, typed)
         }
         _ => Ok(None),
     }
@@ -252,7 +299,7 @@ fn effect(
     scopes: &Scopes,
     site: Site,
     e: &Option<Expr>,
-) -> Result<Option<Option<TExpr>>, Memory> {
+) -> Result<Option<Option<Box<TExpr>>>, Memory> {
     let Some(e) = e else {
         return Ok(Some(None));
     };
@@ -272,7 +319,7 @@ fn condition(
     scopes: &Scopes,
     site: Site,
     e: &Option<Expr>,
-) -> Result<Option<Option<TExpr>>, Memory> {
+) -> Result<Option<Option<Box<TExpr>>>, Memory> {
     let Some(e) = e else {
         return Ok(Some(None));
     };
@@ -291,27 +338,27 @@ fn simple(
     s: &Stmt,
 ) -> TypedStatement {
     found.count(1);
-    match s {
+    let typed = match s {
         Stmt::Expression { expr, .. } => {
-            Ok(
-                match typed_expr(found, file, &scopes.locals, site.statement(), expr)? {
-                    Some(typed) => Some(TStmt::Expression(typed.expr)),
-                    None => None,
-                },
-            )
+            match typed_expr(found, file, &scopes.locals, site.statement(), expr)? {
+                Some(typed) => Ok(TStmt::Expression(Box::into_inner(typed.expr))),
+                None => Err(Untyped::Faulty),
+            }
         }
         Stmt::Return { place, value } => match condition(found, file, scopes, site, value)? {
-            Some(Some(value)) => {
-                let typed = return_statement(file.alloc, site, *place, value);
-                found.faults.settle(typed)
-            }
-            Some(None) => Ok(Some(TStmt::Return(None))),
-            None => Ok(None),
+            Some(Some(value)) => return_statement(file.alloc, site, *place, value),
+            Some(None) => Ok(TStmt::Return(None)),
+            None => Err(Untyped::Faulty),
         },
-        Stmt::Break(place) => found.faults.settle(loop_word(site, *place, TStmt::Break)),
-        Stmt::Continue(place) => found
-            .faults
-            .settle(loop_word(site, *place, TStmt::Continue)),
-        _ => Ok(Some(TStmt::Empty)),
-    }
+        Stmt::Break(place) => match loop_word(site, *place) {
+            Ok(()) => Ok(TStmt::Break),
+            Err(fault) => Err(fault),
+        },
+        Stmt::Continue(place) => match loop_word(site, *place) {
+            Ok(()) => Ok(TStmt::Continue),
+            Err(fault) => Err(fault),
+        },
+        _ => Ok(TStmt::Empty),
+    };
+    outcome(&mut found.faults, file.alloc, typed)
 }

@@ -56,8 +56,8 @@ pub fn assignment(
     alloc: Global,
     place: Place,
     op: AssignOp,
-    target: TExpr,
-    value: TExpr,
+    target: Box<TExpr>,
+    value: Box<TExpr>,
 ) -> Result<TExpr, Memory> {
     let ty = target.ty();
     let wanted = ValueType {
@@ -69,17 +69,17 @@ pub fn assignment(
         ty,
         place,
         op,
-        target: Box::new(alloc, target)?,
-        value: Box::new(alloc, value)?,
+        target,
+        value,
     })
 }
 
 /// `++` or `--` on its target.
-pub fn step(alloc: Global, op: StepOp, order: StepOrder, target: TExpr) -> Result<TExpr, Memory> {
-    Ok(TExpr::Step {
+pub fn step(op: StepOp, order: StepOrder, target: Box<TExpr>) -> TExpr {
+    TExpr::Step {
         ty: target.ty(),
         op,
         order,
-        target: Box::new(alloc, target)?,
-    })
+        target,
+    }
 }

@@ -25,37 +25,33 @@ pub fn common(a: Elem, b: Elem) -> Elem {
 }
 
 /// The expression, converted to the element type.
-pub fn converted(alloc: Global, e: TExpr, elem: Elem) -> Result<TExpr, Memory> {
+pub fn converted(alloc: Global, e: Box<TExpr>, elem: Elem) -> Result<Box<TExpr>, Memory> {
     let from = e.ty();
     if from.elem == elem {
         return Ok(e);
     }
-    Ok(TExpr::Convert {
-        ty: ValueType {
-            elem,
-            shape: from.shape,
-        },
-        operand: Box::new(alloc, e)?,
-    })
+    let ty = ValueType {
+        elem,
+        shape: from.shape,
+    };
+    Ok(Box::new(alloc, TExpr::Convert { ty, operand: e })?)
 }
 
 /// The expression, at every position of the shape if it is scalar and the shape is given.
-pub fn spread(alloc: Global, e: TExpr, shape: Option<u16>) -> Result<TExpr, Memory> {
+pub fn spread(alloc: Global, e: Box<TExpr>, shape: Option<u16>) -> Result<Box<TExpr>, Memory> {
     let from = e.ty();
     if shape.is_none() || from.shape.is_some() {
         return Ok(e);
     }
-    Ok(TExpr::Promote {
-        ty: ValueType {
-            elem: from.elem,
-            shape,
-        },
-        operand: Box::new(alloc, e)?,
-    })
+    let ty = ValueType {
+        elem: from.elem,
+        shape,
+    };
+    Ok(Box::new(alloc, TExpr::Promote { ty, operand: e })?)
 }
 
 /// The expression, converted to the type's elements and at every position of its shape.
-pub fn fitted(alloc: Global, e: TExpr, ty: ValueType) -> Result<TExpr, Memory> {
+pub fn fitted(alloc: Global, e: Box<TExpr>, ty: ValueType) -> Result<Box<TExpr>, Memory> {
     let converted = converted(alloc, e, ty.elem)?;
     spread(alloc, converted, ty.shape)
 }

@@ -22,8 +22,8 @@ fn numeric(
     alloc: Global,
     place: Place,
     op: Op,
-    left: TExpr,
-    right: TExpr,
+    left: Box<TExpr>,
+    right: Box<TExpr>,
 ) -> Result<TExpr, Memory> {
     let shape = left.ty().shape.or(right.ty().shape);
     let (left_elem, right_elem) = if shifts(op) {
@@ -39,24 +39,32 @@ fn numeric(
         ty: ValueType { elem, shape },
         place,
         op,
-        left: Box::new(alloc, left)?,
-        right: Box::new(alloc, right)?,
+        left,
+        right,
     })
 }
 
-fn operand(alloc: Global, e: TExpr, elem: Elem, shape: Option<u16>) -> Result<TExpr, Memory> {
+fn operand(
+    alloc: Global,
+    e: Box<TExpr>,
+    elem: Elem,
+    shape: Option<u16>,
+) -> Result<Box<TExpr>, Memory> {
     fitted(alloc, e, ValueType { elem, shape })
 }
 
 /// `||` or `&&`. With a parallel left operand the right one is parallel too.
-fn logical(alloc: Global, op: BinaryOp, left: TExpr, right: TExpr) -> Result<TExpr, Memory> {
+fn logical(
+    alloc: Global,
+    op: BinaryOp,
+    left: Box<TExpr>,
+    right: Box<TExpr>,
+) -> Result<TExpr, Memory> {
     let right = spread(alloc, right, left.ty().shape)?;
     let ty = ValueType {
         elem: Elem::INT,
         shape: right.ty().shape,
     };
-    let left = Box::new(alloc, left)?;
-    let right = Box::new(alloc, right)?;
     Ok(if op == BinaryOp::LogicalOr {
         TExpr::LogicalOr { ty, left, right }
     } else {
@@ -69,8 +77,8 @@ pub fn binary(
     alloc: Global,
     place: Place,
     op: BinaryOp,
-    left: TExpr,
-    right: TExpr,
+    left: Box<TExpr>,
+    right: Box<TExpr>,
 ) -> Result<TExpr, Memory> {
     match op {
         BinaryOp::Number(op) => numeric(alloc, place, op, left, right),
@@ -79,7 +87,12 @@ pub fn binary(
 }
 
 /// `?:`, whose second and third operand get the type of the whole.
-pub fn choice(alloc: Global, test: TExpr, then: TExpr, otherwise: TExpr) -> Result<TExpr, Memory> {
+pub fn choice(
+    alloc: Global,
+    test: Box<TExpr>,
+    then: Box<TExpr>,
+    otherwise: Box<TExpr>,
+) -> Result<TExpr, Memory> {
     let branches = then.ty().shape.or(otherwise.ty().shape);
     let ty = ValueType {
         elem: common(then.ty().elem, otherwise.ty().elem),
@@ -89,40 +102,36 @@ pub fn choice(alloc: Global, test: TExpr, then: TExpr, otherwise: TExpr) -> Resu
     let otherwise = fitted(alloc, otherwise, ty)?;
     Ok(TExpr::Choice {
         ty,
-        test: Box::new(alloc, test)?,
-        then: Box::new(alloc, then)?,
-        otherwise: Box::new(alloc, otherwise)?,
+        test,
+        then,
+        otherwise,
     })
 }
 
 /// An operator before its operand, which is promoted, but under `!`.
-pub fn unary(alloc: Global, op: UnaryOp, operand: TExpr) -> Result<TExpr, Memory> {
-    let ty = operand.ty();
-    let elem = promoted(ty.elem);
-    let operand = if op == UnaryOp::Not {
-        operand
-    } else {
-        converted(alloc, operand, elem)?
-    };
-    let elem = if op == UnaryOp::Not { Elem::INT } else { elem };
-    Ok(TExpr::Unary {
-        ty: ValueType {
-            elem,
-            shape: ty.shape,
-        },
-        op,
-        operand: Box::new(alloc, operand)?,
-    })
+pub fn unary(alloc: Global, op: UnaryOp, operand: Box<TExpr>) -> Result<TExpr, Memory> {
+    let shape = operand.ty().shape;
+    if op == UnaryOp::Not {
+        let ty = ValueType {
+            elem: Elem::INT,
+            shape,
+        };
+        return Ok(TExpr::Unary { ty, op, operand });
+    }
+    let elem = promoted(operand.ty().elem);
+    let operand = converted(alloc, operand, elem)?;
+    let ty = ValueType { elem, shape };
+    Ok(TExpr::Unary { ty, op, operand })
 }
 
 /// A reduction of a parallel operand.
-pub fn reduction(alloc: Global, op: ReduceOp, operand: TExpr) -> Result<TExpr, Memory> {
+pub fn reduction(alloc: Global, op: ReduceOp, operand: Box<TExpr>) -> Result<TExpr, Memory> {
     let elem = promoted(operand.ty().elem);
     let operand = converted(alloc, operand, elem)?;
     Ok(TExpr::Reduce {
         ty: ValueType { elem, shape: None },
         op,
-        operand: Box::new(alloc, operand)?,
+        operand,
     })
 }
 
@@ -131,7 +140,7 @@ pub fn cast_chain(
     alloc: Global,
     first: Cast,
     casts: &[Cast],
-    operand: TExpr,
+    operand: Box<TExpr>,
 ) -> Result<TExpr, Memory> {
     let mut elems = Vec::new(alloc);
     for cast in casts {
@@ -143,14 +152,6 @@ pub fn cast_chain(
             shape: None,
         },
         elems,
-        operand: Box::new(alloc, operand)?,
-    })
-}
-
-/// A pair of brackets, of the given type.
-pub fn brackets(alloc: Global, ty: ValueType, inner: TExpr) -> Result<TExpr, Memory> {
-    Ok(TExpr::Brackets {
-        ty,
-        inner: Box::new(alloc, inner)?,
+        operand,
     })
 }
