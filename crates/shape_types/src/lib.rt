@@ -1,40 +1,26 @@
 //! Typing: what every name means, the type of every expression, and the first fault of a file.
 #![tactic(auto)]
 
-ghost use Rattle.std.specs.Prelude.{◌≡◌, IfErr, IfOk, length, vec_len};
+ghost use Rattle.std.specs.Prelude.{◌≡◌, ◌<◌, ◌≤◌, IfErr, IfOk, IsNone, length};
 ghost use Rattle.cstar_tree.specs.IsTyped.{IsTyped};
-ghost use Rattle.shape_types.specs.Faults.{IsListedFault};
+ghost use Rattle.shape_types.specs.TypeFaults.{IsListedFault};
 
-mod assignments;
-mod calls;
-mod checker;
-mod conversions;
 mod declarations;
-mod expressions;
-mod faults;
-mod file;
-mod format;
-mod graph;
-mod headers;
-mod intrinsics;
+mod instances;
 mod names;
-mod operators;
-mod recursion;
-mod references;
-mod room;
-mod statements;
 
-use crate::checker::Checker;
-use crate::faults::{Rule, Standing};
-use crate::graph::finishing_order;
-use crate::room::{machine_bits, need};
+use crate::declarations::{Declared, SHAPES, file_scope};
+use crate::instances::{NODES, Program, reached_instances};
+use crate::names::{collect, main_function};
+use call_groups::function_groups;
 use cstar_base::{Memory, Place};
 use cstar_tree::syntax::Tree;
 use cstar_tree::typed::{Instance, ShapeInfo, Typed};
+use shape_room::{has_room, needs};
 use std::alloc::Global;
-
-/// How many bits the machine has for all shapes.
-const BITS: u64 = 1 << 30;
+use type_expressions::Found;
+use type_scopes::faults::{Faults, Rule, Standing};
+use type_scopes::file::File;
 
 /// Why a file has no types: the least of its faults by place and then number, or want of memory.
 pub enum TypeFault {
@@ -63,66 +49,96 @@ pub fn check(alloc: Global, tree: &Tree) -> Result<Typed, TypeFault>
     ensures fault { IfErr result IsListedFault }
     ensures typed { IfOk result IsTyped }
 {
-    let mut checker = Checker::new(alloc, tree);
-    let instances = match type_file(&mut checker) {
-        Ok(instances) => instances,
+    let mut found = Found::new(alloc);
+    let mut file = File::new(alloc, tree);
+    let typing = match type_file(&mut found, &mut file) {
+        Ok(typing) => typing,
         Err(_memory) => return Err(TypeFault::Memory),
     };
-    checker.bounds(instances.as_slice());
-    if let Some(fault) = checker.faults.least {
+    let (declared, program) = typing;
+    let File { shapes, .. } = file;
+    let mut faults = found.faults;
+    let nodes = found.nodes;
+    bounds(&mut faults, tree, nodes, program.instances.as_slice());
+    shape_bound(&mut faults, tree, declared.extra_shape, shapes.as_slice());
+    if let Some(fault) = faults.least {
         return Err(answered(fault));
     }
-    let need = match needs(&checker, instances.as_slice()) {
+    roomy(alloc, tree, shapes, declared, program)
+}
+
+/// The typed program, if the machine has room for it.
+fn roomy(
+    alloc: Global,
+    tree: &Tree,
+    shapes: Vec<ShapeInfo>,
+    declared: Declared,
+    program: Program,
+) -> Result<Typed, TypeFault>
+    requires few_shapes { length shapes.items ≤ 64 }
+    requires main { 0 < length program.instances.items }
+    ensures fault { IfErr result IsListedFault }
+    ensures typed { IfOk result IsTyped }
+{
+    let Declared { vars, .. } = declared;
+    let Program { instances, called } = program;
+    let need = match needs(
+        alloc,
+        shapes.as_slice(),
+        vars.as_slice(),
+        instances.as_slice(),
+        called.as_slice(),
+    ) {
         Ok(need) => need,
         Err(_memory) => return Err(TypeFault::Memory),
     };
-    if !has_room(checker.shapes.as_slice(), need.as_slice()) {
+    if !has_room(shapes.as_slice(), need.as_slice()) {
         return Err(answered(Standing {
             rule: Rule::Space,
             place: tree.end,
         }));
     }
     Ok(Typed {
-        shapes: checker.shapes,
-        vars: checker.vars,
+        shapes,
+        vars,
         instances,
         need,
     })
 }
 
 /// Types the declarations of the file and the instances that `main` reaches.
-fn type_file(checker: &mut Checker<'_>) -> Result<Vec<Instance>, Memory> {
-    checker.collect()?;
-    checker.group_functions()?;
-    checker.file_scope()?;
-    match checker.main() {
-        Some(main) => checker.instances(main),
-        None => Ok(Vec::new(checker.alloc)),
+fn type_file(found: &mut Found, file: &mut File<'_>) -> Result<(Declared, Program), Memory> {
+    collect(&mut found.faults, file)?;
+    let groups = function_groups(file)?;
+    for (info, group) in file.functions.iter_mut().zip(&groups) {
+        info.group = *group;
     }
+    let declared = file_scope(found, file)?;
+    let program = match main_function(&mut found.faults, file) {
+        Some(main) => reached_instances(found, file, main)?,
+        None => Program::none(file.alloc),
+    };
+    Ok((declared, program))
 }
 
-/// The room that the program needs on each shape.
-fn needs(checker: &Checker<'_>, instances: &[Instance]) -> Result<Vec<u32>, Memory>
-    ensures { IfOk result (λ need. vec_len need ≡ length checker.now.shapes.items) }
+/// Records the faults of the file as a whole. A `main` that is there and is not typed has a fault
+/// of its own, which stands before the end.
+fn bounds(faults: &mut Faults, tree: &Tree, nodes: u64, instances: &[Instance])
+    ensures { IsNone faults.new.least → 0 < length instances.now }
 {
-    let alloc = checker.alloc;
-    let called = checker.called.as_slice();
-    let order = finishing_order(alloc, called)?;
-    let mut needs = Vec::new(alloc);
-    for (number, _) in checker.shapes.as_slice().iter().enumerate() {
-        let shape = u16::try_from(number).map_err(|_error| Memory)?;
-        let vars = checker.vars.as_slice();
-        let need = need(alloc, vars, instances, called, order.as_slice(), shape)?;
-        needs.push(u32::try_from(need).unwrap_or(u32::MAX))?;
+    if nodes > NODES {
+        faults.stands(Rule::Size, tree.end);
+    } else if instances.is_empty() {
+        faults.stands(Rule::NoMain, tree.end);
     }
-    Ok(needs)
 }
 
-/// Has the machine the room that is needed on all shapes together?
-fn has_room(shapes: &[ShapeInfo], needs: &[u32]) -> bool {
-    let mut total = 0u64;
-    for (info, need) in shapes.iter().zip(needs) {
-        total = total.saturating_add(machine_bits(info, u64::from(*need)));
+/// More than 64 shapes are a fault at the name of the 65th, the extra one.
+fn shape_bound(faults: &mut Faults, tree: &Tree, extra: Option<Place>, shapes: &[ShapeInfo])
+    ensures few_shapes { IsNone faults.new.least → length shapes.now ≤ 64 }
+    ensures kept { IsNone faults.new.least → IsNone faults.old.least }
+{
+    if SHAPES < shapes.len() {
+        faults.stands(Rule::Size, extra.unwrap_or(tree.end));
     }
-    total <= BITS
 }

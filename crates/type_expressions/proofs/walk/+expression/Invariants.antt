@@ -1,0 +1,14 @@
+use Rattle.std.proofs.Common.{◌+◌, ◌*◌}
+use Rattle.type_expressions.proofs.walk.+expression.Given as goal
+
+abbrev pub decreases-typed_value : goal.decreases-typed_value
+decreases-typed_value l = goal.size-typed_value l * 8 + 2
+
+abbrev pub decreases-typed_expr : goal.decreases-typed_expr
+decreases-typed_expr l = goal.size-typed_expr l * 8 + 1
+
+abbrev pub decreases-operands : goal.decreases-operands
+decreases-operands l = goal.size-operands l * 8 + 0
+
+abbrev pub decreases-list : goal.decreases-list
+decreases-list l = goal.size-list l * 8 + 0

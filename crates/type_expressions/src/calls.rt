@@ -1,0 +1,186 @@
+//! Calls of functions, and `printf`.
+
+use crate::found::{Found, TypedExpr, Typing};
+use cstar_base::{Memory, Place, Word};
+use cstar_tree::syntax::Name;
+use cstar_tree::typed::{TExpr, ValueType};
+use std::alloc::Global;
+use type_scopes::faults::{Rule, Untyped, fault};
+use type_scopes::file::File;
+use type_scopes::headers::{Header, Reached};
+use type_scopes::locals::Locals;
+use type_scopes::sites::{Returns, Site};
+use typed_nodes::conversions::{INT, converted, fitted, promoted};
+use typed_nodes::format::cut;
+
+/// Does a scalar parameter get a parallel argument?
+fn has_parallel_argument(header: &Header, arguments: &[Box<TExpr>]) -> bool {
+    for (ty, argument) in header.parameters.iter().zip(arguments) {
+        if let Some(ty) = ty
+            && ty.shape.is_none()
+            && argument.ty().shape.is_some()
+        {
+            return true;
+        }
+    }
+    false
+}
+
+/// The arguments at the types of their parameters.
+fn fit_arguments(
+    alloc: Global,
+    parameters: &[Option<ValueType>],
+    arguments: Vec<Box<TExpr>>,
+) -> Result<Vec<TExpr>, Untyped> {
+    let mut fit = Vec::new(alloc);
+    let mut types = parameters.iter();
+    for argument in arguments {
+        let Some(Some(ty)) = types.next() else {
+            return Err(Untyped::Faulty);
+        };
+        fit.push(Box::into_inner(fitted(alloc, argument, *ty)?))?;
+    }
+    Ok(fit)
+}
+
+/// A call of the instance with its arguments at the types of the header. A call at file scope
+/// reaches no instance. It is no constant, and what stands for it is refused as it would be.
+fn call_node(
+    alloc: Global,
+    header: &Header,
+    instance: Option<u32>,
+    arguments: Vec<Box<TExpr>>,
+) -> Result<TypedExpr, Untyped> {
+    let (ty, has_value) = match header.returns {
+        Returns::Nothing => (INT, false),
+        Returns::Value(ty) => (ty, true),
+        Returns::Unknown if instance.is_none() => (INT, true),
+        Returns::Unknown => return Err(Untyped::Faulty),
+    };
+    let expr = match instance {
+        Some(instance) => TExpr::Call {
+            ty,
+            instance,
+            arguments: fit_arguments(alloc, header.parameters.as_slice(), arguments)?,
+        },
+        None => TExpr::GetChar { ty: INT },
+    };
+    Ok(TypedExpr {
+        expr: Box::new(alloc, expr)?,
+        has_value,
+    })
+}
+
+/// Does the call at the place fit the header?
+fn call_fits(
+    file: &File<'_>,
+    site: Site,
+    place: Place,
+    function: u32,
+    header: &Header,
+    arguments: &[Box<TExpr>],
+) -> Result<(), Untyped> {
+    if header.other_shape {
+        Err(fault(Rule::OtherShape, place))
+    } else if has_parallel_argument(header, arguments) {
+        Err(fault(Rule::ScalarWanted, place))
+    } else if header.parameters.len() != arguments.len() {
+        Err(fault(Rule::Arguments, place))
+    } else if file.is_recursive(site, function) {
+        Err(fault(Rule::Recursion, place))
+    } else {
+        Ok(())
+    }
+}
+
+/// A call with its typed arguments. It reaches its function whatever faults they have.
+pub fn call(
+    found: &mut Found,
+    file: &File<'_>,
+    locals: &Locals,
+    site: Site,
+    name: &Name,
+    arguments: Option<Vec<Box<TExpr>>>,
+) -> Typing {
+    let Some(function) = found.faults.settle(file.called(locals, site, name))? else {
+        return Ok(None);
+    };
+    let reached = Reached {
+        function,
+        current: site.current,
+    };
+    let instance = reach(found, file, site, reached)?;
+    let Some(arguments) = arguments else {
+        return Ok(None);
+    };
+    let typed = match found.instances.header(reached) {
+        Some(header) => fitting_call(
+            file, site, name.place, function, header, instance, arguments,
+        ),
+        None => Err(Untyped::Faulty),
+    };
+    found.faults.settle(typed)
+}
+
+/// The instance that a call reaches, if it stands in a function. Its header is known then.
+fn reach(
+    found: &mut Found,
+    file: &File<'_>,
+    site: Site,
+    reached: Reached,
+) -> Result<Option<u32>, Memory> {
+    if site.function.is_none() {
+        found.instances.prepare(file, reached)?;
+        return Ok(None);
+    }
+    Ok(Some(found.reach(file, reached)?))
+}
+
+fn fitting_call(
+    file: &File<'_>,
+    site: Site,
+    place: Place,
+    function: u32,
+    header: &Header,
+    instance: Option<u32>,
+    arguments: Vec<Box<TExpr>>,
+) -> Result<TypedExpr, Untyped> {
+    call_fits(file, site, place, function, header, arguments.as_slice())?;
+    call_node(file.alloc, header, instance, arguments)
+}
+
+/// `printf` at its place, with its typed arguments.
+pub fn printf(
+    alloc: Global,
+    place: Place,
+    text: &Word,
+    arguments: Vec<Box<TExpr>>,
+) -> Result<TypedExpr, Untyped> {
+    if arguments.iter().any(|e| e.ty().shape.is_some()) {
+        return Err(fault(Rule::ScalarWanted, place));
+    }
+    let Some(cut) = cut(alloc, text.bytes())? else {
+        return Err(fault(Rule::Format, place));
+    };
+    if cut.conversions != arguments.len() {
+        return Err(fault(Rule::Format, place));
+    }
+    let expr = TExpr::Printf {
+        ty: INT,
+        pieces: cut.pieces,
+        arguments: promoted_arguments(alloc, arguments)?,
+    };
+    Ok(TypedExpr {
+        expr: Box::new(alloc, expr)?,
+        has_value: false,
+    })
+}
+
+fn promoted_arguments(alloc: Global, arguments: Vec<Box<TExpr>>) -> Result<Vec<TExpr>, Memory> {
+    let mut values = Vec::new(alloc);
+    for argument in arguments {
+        let elem = promoted(argument.ty().elem);
+        values.push(Box::into_inner(converted(alloc, argument, elem)?))?;
+    }
+    Ok(values)
+}

@@ -1,0 +1,118 @@
+//! What typing has found so far: faults, instances, and the number of nodes.
+
+use cstar_base::Memory;
+use cstar_tree::typed::TExpr;
+use indexmap::{IndexMap, IndexSet};
+use std::alloc::Global;
+use type_scopes::faults::{Faults, Untyped};
+use type_scopes::file::File;
+use type_scopes::headers::{Header, Reached};
+
+/// A typed expression, and whether it has a value.
+#[derive(Drop)]
+pub struct TypedExpr {
+    pub expr: Box<TExpr>,
+    pub has_value: bool,
+}
+
+/// A typed expression, or nothing where it has a fault or stands on a declaration that has one.
+pub type Typing = Result<Option<TypedExpr>, Memory>;
+
+/// The headers that were typed, the instances in the order in which they were met, and those that
+/// the present one calls.
+#[derive(Drop)]
+pub struct Instances {
+    headers: IndexMap<Reached, Header>,
+    reached: IndexSet<Reached>,
+    callees: Vec<u32>,
+}
+
+impl Instances {
+    pub fn new(alloc: Global) -> Instances {
+        Instances {
+            headers: IndexMap::new(alloc),
+            reached: IndexSet::new(alloc),
+            callees: Vec::new(alloc),
+        }
+    }
+
+    /// The instance of the number.
+    pub fn instance(&self, number: usize) -> Option<Reached> {
+        self.reached.get_index(number).copied()
+    }
+
+    /// The header of an instance that was reached.
+    pub fn header(&self, reached: Reached) -> Option<&Header> {
+        self.headers.get(&reached)
+    }
+
+    /// The instances that the present one calls, each as often as it does. The next one calls none
+    /// yet.
+    pub fn callees(&mut self, alloc: Global) -> Vec<u32> {
+        std::mem::replace(&mut self.callees, Vec::new(alloc))
+    }
+
+    /// Types the header of the instance, unless that was done before.
+    pub fn prepare(&mut self, file: &File<'_>, reached: Reached) -> Result<(), Memory> {
+        if !self.headers.contains_key(&reached) {
+            let header = file.header(reached)?;
+            self.headers.insert(reached, header)?;
+        }
+        Ok(())
+    }
+
+    /// Calls the instance. Answers its number, and whether it is met for the first time.
+    fn call(&mut self, reached: Reached) -> Result<(u32, bool), Memory> {
+        let (number, new) = self.reached.insert_full(reached)?;
+        let number = u32::try_from(number).map_err(|_error| Memory)?;
+        self.callees.push(number)?;
+        Ok((number, new))
+    }
+}
+
+/// What typing has found so far.
+#[derive(Drop)]
+pub struct Found {
+    pub faults: Faults,
+    pub instances: Instances,
+    /// How many nodes of the tree were typed.
+    pub nodes: u64,
+}
+
+impl Found {
+    pub fn new(alloc: Global) -> Found {
+        Found {
+            faults: Faults::none(),
+            instances: Instances::new(alloc),
+            nodes: 0,
+        }
+    }
+
+    /// Counts nodes of the tree.
+    pub fn count(&mut self, nodes: u64) {
+        self.nodes = self.nodes.saturating_add(nodes);
+    }
+
+    /// The number of the instance, which is called here. Where it is met for the first time the
+    /// faults of its header stand.
+    pub fn reach(&mut self, file: &File<'_>, reached: Reached) -> Result<u32, Memory> {
+        self.instances.prepare(file, reached)?;
+        let (number, new) = self.instances.call(reached)?;
+        if new && let Some(header) = self.instances.header(reached) {
+            let faults = header.faults;
+            self.faults.include(faults);
+        }
+        Ok(number)
+    }
+}
+
+/// What an expression with a value comes to. The fault that stands at it is recorded.
+pub fn outcome(faults: &mut Faults, alloc: Global, typed: Result<TExpr, Untyped>) -> Typing {
+    Ok(match faults.settle(typed)? {
+        Some(expr) => Some(TypedExpr {
+            expr: Box::new(alloc, expr)?,
+            has_value: true,
+        }),
+        None => None,
+    })
+}

@@ -1,0 +1,12 @@
+//! The types of expressions: what each node is typed as, and the faults that stand at it.
+#![tactic(auto)]
+
+mod calls;
+mod found;
+mod intrinsics;
+mod operators;
+mod references;
+mod walk;
+
+pub use found::{Found, Instances, TypedExpr, Typing};
+pub use walk::{typed_expr, typed_value};

@@ -1,0 +1,551 @@
+//! The walk over an expression. It types the parts and hands them to the function of their kind.
+//! The functions of the walk are small, since each level of an expression takes stack for them.
+
+use crate::calls::{call, printf};
+use crate::found::{Found, TypedExpr, Typing, outcome};
+use crate::intrinsics::{
+    Axis, Walk, axis_of, dim_of, enumerate, parallel_cast, pcoord, positions_of, rank_of, scan,
+    segment_bit,
+};
+use crate::operators::{assign, bracketed, casts, prefix, sending, stepped};
+use crate::references::{array, dot, element, is_of_current, left_index, name, plain_variable};
+use cstar_base::{Elem, Memory, Place};
+use cstar_tree::syntax::{AssignOp, BinaryOp, Expr, Name, TypeName};
+use cstar_tree::typed::{StepOrder, TExpr, ValueType, Variable};
+use std::alloc::Global;
+use type_scopes::faults::{Faults, Rule, Untyped, fault};
+use type_scopes::file::File;
+use type_scopes::locals::Locals;
+use type_scopes::names::VariableType;
+use type_scopes::sites::Site;
+use typed_nodes::conversions::INT;
+use typed_nodes::operators::{binary, choice};
+
+/// Types an expression that needs a value.
+#[cycle(expression)]
+pub fn typed_value(
+    found: &mut Found,
+    file: &File<'_>,
+    locals: &Locals,
+    site: Site,
+    e: &Expr,
+) -> Result<Option<Box<TExpr>>, Memory> {
+    let typed = typed_expr(found, file, locals, site.part(), e)?;
+    found.faults.settle(valued(e.place(), typed))
+}
+
+/// The expression, which needs a value. If it has none, that is a fault at the place.
+fn valued(place: Place, typed: Option<TypedExpr>) -> Result<Box<TExpr>, Untyped> {
+    let Some(TypedExpr { expr, has_value }) = typed else {
+        return Err(Untyped::Faulty);
+    };
+    if has_value {
+        Ok(expr)
+    } else {
+        Err(fault(Rule::WrongKind, place))
+    }
+}
+
+/// Types an expression.
+#[cycle(expression)]
+pub fn typed_expr(
+    found: &mut Found,
+    file: &File<'_>,
+    locals: &Locals,
+    site: Site,
+    e: &Expr,
+) -> Typing {
+    found.count(nodes(file, locals, site, e));
+    match e {
+        Expr::Brackets { inner, .. } => {
+            let inner = typed_expr(found, file, locals, site, inner)?;
+            bracketed(file.alloc, inner)
+        }
+        Expr::Assign { .. } | Expr::Choice { .. } | Expr::Binary { .. } => {
+            operands(found, file, locals, site, e)
+        }
+        Expr::Prefix { operand: part, .. }
+        | Expr::Casts { operand: part, .. }
+        | Expr::ParallelCast { operand: part, .. }
+        | Expr::Postfix { operand: part, .. }
+        | Expr::Element { index: part, .. } => {
+            let part = typed_value(found, file, locals, site, part)?;
+            with_operand(found, file, locals, site, e, part)
+        }
+        Expr::Call { .. } | Expr::Printf { .. } | Expr::LeftIndex { .. } => {
+            let parts = list(found, file, locals, site, e)?;
+            with_list(found, file, locals, site, e, parts)
+        }
+        Expr::Pcoord { axis, .. }
+        | Expr::DimOf { axis, .. }
+        | Expr::Scan { axis, .. }
+        | Expr::Enumerate { axis, .. } => {
+            let axis = typed_value(found, file, locals, site, axis)?;
+            let along = goes_along(&mut found.faults, file, locals, site, e, axis)?;
+            let source = match e {
+                Expr::Scan { source, .. } => typed_value(found, file, locals, site, source)?,
+                _ => None,
+            };
+            match along {
+                Some(along) => with_axis(&mut found.faults, file, site, e, along, source),
+                None => Ok(None),
+            }
+        }
+        _ => outcome(&mut found.faults, file.alloc, leaf(file, locals, site, e)),
+    }
+}
+
+/// How many nodes the expression counts without its parts: each cast of a chain is one, and an
+/// element of an array counts as often as the array has elements.
+fn nodes(file: &File<'_>, locals: &Locals, site: Site, e: &Expr) -> u64 {
+    match e {
+        Expr::Casts { casts, .. } => casts.len() as u64,
+        Expr::Element { name, .. } => match file.type_of(locals, site, name) {
+            Some(ty) => u64::from(ty.array.unwrap_or(1)),
+            None => 1,
+        },
+        _ => 1,
+    }
+}
+
+/// Types an expression with two or three operands.
+#[cycle(expression)]
+fn operands(found: &mut Found, file: &File<'_>, locals: &Locals, site: Site, e: &Expr) -> Typing {
+    match e {
+        Expr::Assign {
+            place,
+            op,
+            target,
+            value,
+        } => {
+            let target = typed_value(found, file, locals, site, target)?;
+            let value = typed_value(found, file, locals, site, value)?;
+            assigned(
+                &mut found.faults,
+                file.alloc,
+                site,
+                *place,
+                *op,
+                target,
+                value,
+            )
+        }
+        Expr::Choice {
+            test,
+            then,
+            otherwise,
+            ..
+        } => {
+            let test = typed_value(found, file, locals, site, test)?;
+            let then = typed_value(found, file, locals, site, then)?;
+            let otherwise = typed_value(found, file, locals, site, otherwise)?;
+            chosen(&mut found.faults, file.alloc, test, then, otherwise)
+        }
+        Expr::Binary {
+            place,
+            op,
+            left,
+            right,
+        } => {
+            let left = typed_value(found, file, locals, site, left)?;
+            let right = typed_value(found, file, locals, site, right)?;
+            combined(&mut found.faults, file.alloc, *place, *op, left, right)
+        }
+        _ => Ok(None),
+    }
+}
+
+/// `?:` of its typed operands.
+fn chosen(
+    faults: &mut Faults,
+    alloc: Global,
+    test: Option<Box<TExpr>>,
+    then: Option<Box<TExpr>>,
+    otherwise: Option<Box<TExpr>>,
+) -> Typing {
+    let (Some(test), Some(then), Some(otherwise)) = (test, then, otherwise) else {
+        return Ok(None);
+    };
+    let expr = choice(alloc, test, then, otherwise)?;
+    outcome(faults, alloc, Ok(expr))
+}
+
+/// A binary operator on its typed operands.
+fn combined(
+    faults: &mut Faults,
+    alloc: Global,
+    place: Place,
+    op: BinaryOp,
+    left: Option<Box<TExpr>>,
+    right: Option<Box<TExpr>>,
+) -> Typing {
+    let (Some(left), Some(right)) = (left, right) else {
+        return Ok(None);
+    };
+    let expr = binary(alloc, place, op, left, right)?;
+    outcome(faults, alloc, Ok(expr))
+}
+
+/// An assignment of its typed sides. What the target alone breaks stands whatever the value is.
+fn assigned(
+    faults: &mut Faults,
+    alloc: Global,
+    site: Site,
+    place: Place,
+    op: AssignOp,
+    target: Option<Box<TExpr>>,
+    value: Option<Box<TExpr>>,
+) -> Typing {
+    let Some(target) = target else {
+        return Ok(None);
+    };
+    let target = faults.settle(sending(op, target))?;
+    let (Some(target), Some(value)) = (target, value) else {
+        return Ok(None);
+    };
+    outcome(faults, alloc, assign(alloc, site, place, op, target, value))
+}
+
+/// An expression with one typed operand, or an element of an array with its typed index. What its
+/// names break stands whatever the operand is.
+fn with_operand(
+    found: &mut Found,
+    file: &File<'_>,
+    locals: &Locals,
+    site: Site,
+    e: &Expr,
+    operand: Option<Box<TExpr>>,
+) -> Typing {
+    match e {
+        Expr::ParallelCast {
+            place,
+            type_name,
+            ..
+        } => cast_to(
+            &mut found.faults,
+            file,
+            locals,
+            site,
+            *place,
+            type_name,
+            operand,
+        ),
+        Expr::Element { name, bracket, .. } => {
+            element_of(
+                &mut found.faults,
+                file,
+                locals,
+                site,
+                name,
+                *bracket,
+                operand,
+            )
+        }
+        _ => {
+            let Some(operand) = operand else {
+                return Ok(None);
+            };
+            outcome(
+                &mut found.faults,
+                file.alloc,
+                on_operand(file.alloc, e, operand),
+            )
+        }
+    }
+}
+
+fn on_operand(alloc: Global, e: &Expr, operand: Box<TExpr>) -> Result<TExpr, Untyped> {
+    match e {
+        Expr::Prefix { place, op, .. } => prefix(alloc, *place, *op, operand),
+        Expr::Casts { casts: chain, .. } => casts(alloc, chain.as_slice(), operand),
+        Expr::Postfix { place, op, .. } => { stepped(*place, *op, StepOrder::Postfix, operand) }
+        _ => Err(Untyped::Faulty),
+    }
+}
+
+fn cast_to(
+    faults: &mut Faults,
+    file: &File<'_>,
+    locals: &Locals,
+    site: Site,
+    place: Place,
+    written: &TypeName,
+    operand: Option<Box<TExpr>>,
+) -> Typing {
+    let ty = faults.settle(file.value_type(locals, site, written))?;
+    let (Some(ty), Some(operand)) = (ty, operand) else {
+        return Ok(None);
+    };
+    outcome(
+        faults,
+        file.alloc,
+        parallel_cast(file.alloc, site, place, ty, operand),
+    )
+}
+
+fn element_of(
+    faults: &mut Faults,
+    file: &File<'_>,
+    locals: &Locals,
+    site: Site,
+    name: &Name,
+    bracket: Place,
+    index: Option<Box<TExpr>>,
+) -> Typing {
+    let array = faults.settle(array(file, locals, site, name))?;
+    let (Some(array), Some(index)) = (array, index) else {
+        return Ok(None);
+    };
+    outcome(
+        faults,
+        file.alloc,
+        element(file, site, name.place, bracket, array, index),
+    )
+}
+
+/// Types a list of parts: the arguments of a call, or the indexes of a left index, in which a `.`
+/// has a meaning if the variable is of the current shape.
+#[cycle(expression)]
+fn list(
+    found: &mut Found,
+    file: &File<'_>,
+    locals: &Locals,
+    site: Site,
+    e: &Expr,
+) -> Result<Option<Vec<Box<TExpr>>>, Memory> {
+    let (parts, indexed) = match e {
+        Expr::Call { arguments, .. } | Expr::Printf { arguments, .. } => (arguments, None),
+        Expr::LeftIndex { indexes, name, .. } => {
+            (indexes, Some(is_of_current(file, locals, site, name)))
+        }
+        _ => return Ok(None),
+    };
+    let mut typed = Vec::new(file.alloc);
+    let mut complete = true;
+    let mut axis = 0u32;
+    for part in parts {
+        let dot = match indexed {
+            Some(true) => Some(axis),
+            Some(false) => None,
+            None => site.dot,
+        };
+        axis = axis.saturating_add(1);
+        match typed_value(found, file, locals, Site { dot, ..site }, part)? {
+            Some(part) => typed.push(part)?,
+            None => complete = false,
+        }
+    }
+    Ok(if complete { Some(typed) } else { None })
+}
+
+/// A call, a left index or `printf` with its typed parts. What its name breaks stands whatever the
+/// parts are.
+fn with_list(
+    found: &mut Found,
+    file: &File<'_>,
+    locals: &Locals,
+    site: Site,
+    e: &Expr,
+    parts: Option<Vec<Box<TExpr>>>,
+) -> Typing {
+    match e {
+        Expr::Call { name, .. } => call(found, file, locals, site, name, parts),
+        Expr::LeftIndex { place, name, .. } => {
+            let variable = found
+                .faults
+                .settle(plain_variable(file, locals, site, name))?;
+            indexed(&mut found.faults, file, site, *place, variable, parts)
+        }
+        Expr::Printf { place, text, .. } => match parts {
+            Some(parts) => found.faults.settle(printf(file.alloc, *place, text, parts)),
+            None => Ok(None),
+        },
+        _ => Ok(None),
+    }
+}
+
+/// A left index of the variable, where its name and its parts have no fault.
+fn indexed(
+    faults: &mut Faults,
+    file: &File<'_>,
+    site: Site,
+    place: Place,
+    variable: Option<(Variable, VariableType)>,
+    parts: Option<Vec<Box<TExpr>>>,
+) -> Typing {
+    let (Some(variable), Some(parts)) = (variable, parts) else {
+        return Ok(None);
+    };
+    outcome(
+        faults,
+        file.alloc,
+        left_index(file, site, place, variable, parts),
+    )
+}
+
+/// What an intrinsic goes along: its axis, the shape that it names, and its segment bit.
+#[derive(Clone, Copy)]
+struct Along {
+    axis: Axis,
+    shape: Option<u16>,
+    bit: Option<Variable>,
+}
+
+/// What an intrinsic goes along, from its typed axis. What its shape, its axis and its segment bit
+/// break stands, whatever the others are.
+fn goes_along(
+    faults: &mut Faults,
+    file: &File<'_>,
+    locals: &Locals,
+    site: Site,
+    e: &Expr,
+    axis: Option<Box<TExpr>>,
+) -> Result<Option<Along>, Memory> {
+    match e {
+        Expr::DimOf {
+            shape,
+            axis: written,
+            ..
+        } => {
+            let shape = faults.settle(file.shape(locals, site, shape))?;
+            let rank = rank_of_shape(file, shape);
+            let axis = settled_axis(faults, written.place(), axis, rank)?;
+            Ok(match shape {
+                Some(_) => known_along(axis, Some(None), shape),
+                None => None,
+            })
+        }
+        Expr::Scan {
+            axis: written,
+            bit,
+            ..
+        }
+        | Expr::Enumerate {
+            axis: written,
+            bit,
+            ..
+        } => {
+            let rank = rank_of_shape(file, site.current);
+            let axis = settled_axis(faults, written.place(), axis, rank)?;
+            let bit = faults.settle(segment_bit(file, locals, site, bit))?;
+            Ok(known_along(axis, bit, None))
+        }
+        Expr::Pcoord { axis: written, .. } => {
+            let rank = rank_of_shape(file, site.current);
+            let axis = settled_axis(faults, written.place(), axis, rank)?;
+            Ok(known_along(axis, Some(None), None))
+        }
+        _ => Ok(None),
+    }
+}
+
+fn known_along(
+    axis: Option<Axis>,
+    bit: Option<Option<Variable>>,
+    shape: Option<u16>,
+) -> Option<Along> {
+    Some(Along {
+        axis: axis?,
+        shape,
+        bit: bit?,
+    })
+}
+
+/// An intrinsic along its axis, with the typed source of a scan.
+fn with_axis(
+    faults: &mut Faults,
+    file: &File<'_>,
+    site: Site,
+    e: &Expr,
+    along: Along,
+    source: Option<Box<TExpr>>,
+) -> Typing {
+    let Along { axis, shape, bit } = along;
+    let typed = match e {
+        Expr::DimOf { .. } => match shape {
+            Some(shape) => dim_of(file, shape, axis),
+            None => Err(Untyped::Faulty),
+        },
+        Expr::Pcoord { place, .. } => pcoord(site, *place, axis),
+        Expr::Enumerate {
+            place,
+            direction,
+            inclusion,
+            mode,
+            ..
+        } => {
+            let walk = Walk {
+                mode: *mode,
+                direction: *direction,
+                inclusion: *inclusion,
+            };
+            enumerate(site, *place, axis, walk, bit)
+        },
+        Expr::Scan {
+            place,
+            combiner,
+            direction,
+            mode,
+            inclusion,
+            ..
+        } => match source {
+            Some(source) => {
+                let walk = Walk {
+                    mode: *mode,
+                    direction: *direction,
+                    inclusion: *inclusion,
+                };
+                scan(file.alloc, site, *place, source, axis, *combiner, walk, bit)
+            }
+            None => Err(Untyped::Faulty),
+        },
+        _ => Err(Untyped::Faulty),
+    };
+    outcome(faults, file.alloc, typed)
+}
+
+/// The axis at the place, where its expression has no fault.
+fn settled_axis(
+    faults: &mut Faults,
+    place: Place,
+    axis: Option<Box<TExpr>>,
+    rank: Option<u32>,
+) -> Result<Option<Axis>, Memory> {
+    match axis {
+        Some(axis) => faults.settle(axis_of(place, &axis, rank)),
+        None => Ok(None),
+    }
+}
+
+/// The rank of the shape, if there is one.
+fn rank_of_shape(file: &File<'_>, shape: Option<u16>) -> Option<u32> {
+    file.rank(shape?)
+}
+
+/// Types an expression without parts.
+fn leaf(file: &File<'_>, locals: &Locals, site: Site, e: &Expr) -> Result<TExpr, Untyped> {
+    match e {
+        Expr::Name(written) => name(file, locals, site, written),
+        Expr::Number {
+            value,
+            unsigned,
+            ..
+        } => Ok(number(*value, *unsigned)),
+        Expr::Dot(place) => dot(site, *place),
+        Expr::PositionsOf { shape, .. } => {
+            Ok(positions_of(file, file.shape(locals, site, shape)?))
+        }
+        Expr::RankOf { shape, .. } => Ok(rank_of(file, file.shape(locals, site, shape)?)),
+        Expr::GetChar(_) => Ok(TExpr::GetChar { ty: INT }),
+        _ => Err(Untyped::Faulty),
+    }
+}
+
+/// An integer constant.
+fn number(value: u32, unsigned: bool) -> TExpr {
+    let elem = if unsigned { Elem::UNSIGNED } else { Elem::INT };
+    TExpr::Number {
+        ty: ValueType { elem, shape: None },
+        value,
+    }
+}
