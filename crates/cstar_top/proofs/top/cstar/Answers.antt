@@ -28,8 +28,7 @@ returns-in-Ok-clause-stopped g c four =
     let status = status_is c.report.result (status_of c.answer-answer.result) c.report.ensures.status four in
     let own = c.report.ensures.own (four ∙ sym status) (λ six. omega arith) (λ eight. omega arith) in
     let name = ap (λ (name : List ℕ). line_of name c.answer-answer.result) (c.as_bytes.ensures.value ∙ sym (named_is words options c.in-Ok.ensures.reads)) in
-    let is = ap (λ (answer : Answer). line_of (named words) answer) (c.answer-answer.ensures.stopped status) in
-    (
+    let is = ap (λ (answer : Answer). line_of (named words) answer) (c.answer-answer.ensures.stopped status) in (
       budget options.mode options.turns,
       budget_is words options c.in-Ok.ensures.reads,
       subst (λ (bytes : List ℕ). Takes g.E.Sink.agrees c.args.err.now c.report.new.err bytes) (name ∙ is) own,
