@@ -1,0 +1,12 @@
+//! Tests of the words and the grammar together: which texts are accepted, and where the others
+//! have their first fault.
+#![tactic(auto)]
+
+#[cfg(test)]
+mod depth;
+#[cfg(test)]
+mod outcome;
+#[cfg(test)]
+mod size;
+#[cfg(test)]
+mod syntax;
