@@ -3,25 +3,24 @@
 //! `levels` is the number of levels that are open around what is read, at most 100.
 
 ghost use Rattle.std.specs.Prelude.{ℕ, ◌≡◌, ◌≤◌, ◌<◌, ◌+◌, length, IfOk, OnOk, IfErr, true};
+ghost use Rattle.cstar_tree.specs.Positions.{token_kind};
+ghost use Rattle.cstar_tree.specs.Operators.{operator_level};
+ghost use Rattle.cstar_tree.specs.Expressions.{AreArguments, IsExpr, IsIndex, IsRest, strength_of};
 ghost use Rattle.cstar_parser.specs.Faults.{IsAmong};
 
+use crate::casts::{begins_cast, read_casts};
 use crate::fault::ParseFault;
 use crate::intrinsics::{
-    read_bracketed_shape, read_enumerate_options, read_scan_options, read_text,
+    EnumerateOptions, ScanOptions, read_bracketed_shape, read_enumerate_options, read_scan_options,
+    read_text,
 };
-use crate::nodes::{
-    CastChain, assignment, binary, brackets, choice, dim_of, element, enumerate, pcoord, postfix,
-    prefix, scan,
-};
-use crate::operators::{
-    WEAKEST, assignment_at, binary_at, is_unary, prefix_at, step_at, strength_of,
-};
+use crate::operators::{WEAKEST, assignment_at, binary_at, is_unary, level_of, prefix_at, step_at};
 use crate::spot::{
-    Spot, expect, expect_operator, hopeless, is_mark, kind_at, open, place_at, read_name,
-    take_operator,
+    Spot, expect, expect_operator, is_mark, kind_at, open, read_name, take, take_operator,
 };
-use crate::types::{begins_type, read_shape, read_type};
-use cstar_tree::syntax::{Cast, Expr};
+use crate::types::read_shape;
+use cstar_base::Place;
+use cstar_tree::syntax::Expr;
 use cstar_tree::token::{Kind, Mark, Token};
 use std::alloc::Global;
 
@@ -35,6 +34,7 @@ pub fn read_whole(
     requires few { length tokens.now ≤ 1048576 }
     requires within { spot.old.at ≤ length tokens.now }
     requires depth { levels ≤ 100 }
+    ensures spelled { IfOk result (λ e. IsExpr tokens.now spot.old.at e spot.new.at) }
     ensures forward { OnOk result ((spot.old.at < spot.new.at) × (spot.new.at ≤ length tokens.now)) }
     ensures fault { IfErr result (IsAmong (length tokens.now)) }
 {
@@ -44,6 +44,7 @@ pub fn read_whole(
 
 /// Reads an assignment, or an expression without one.
 #[cycle(expression)]
+#[tactic(auto, using(crate::proofs::Grammar::assignments))]
 fn read_assignment(
     alloc: Global,
     tokens: &[Token],
@@ -53,6 +54,7 @@ fn read_assignment(
     requires few { length tokens.now ≤ 1048576 }
     requires within { spot.old.at ≤ length tokens.now }
     requires depth { levels ≤ 100 }
+    ensures spelled { IfOk result (λ e. IsExpr tokens.now spot.old.at e spot.new.at) }
     ensures forward { OnOk result ((spot.old.at < spot.new.at) × (spot.new.at ≤ length tokens.now)) }
     ensures fault { IfErr result (IsAmong (length tokens.now)) }
 {
@@ -65,11 +67,17 @@ fn read_assignment(
     };
     let place = take_operator(tokens, spot)?;
     let value = read_assignment(alloc, tokens, spot, levels)?;
-    Ok(assignment(alloc, place, op, target, value)?)
+    Ok(Expr::Assign {
+        place,
+        op,
+        target: Box::new(alloc, target)?,
+        value: Box::new(alloc, value)?,
+    })
 }
 
 /// Reads a `?:`, or an expression without one.
 #[cycle(expression)]
+#[tactic(auto, using(crate::proofs::Grammar::choices))]
 fn read_choice(
     alloc: Global,
     tokens: &[Token],
@@ -79,6 +87,8 @@ fn read_choice(
     requires few { length tokens.now ≤ 1048576 }
     requires within { spot.old.at ≤ length tokens.now }
     requires depth { levels ≤ 100 }
+    ensures spelled { IfOk result (λ e. IsExpr tokens.now spot.old.at e spot.new.at) }
+    ensures strong { IfOk result (λ e. 1 ≤ strength_of e) }
     ensures forward { OnOk result ((spot.old.at < spot.new.at) × (spot.new.at ≤ length tokens.now)) }
     ensures fault { IfErr result (IsAmong (length tokens.now)) }
 {
@@ -86,16 +96,22 @@ fn read_choice(
     if !is_mark(tokens, spot.at, Mark::Question) {
         return Ok(test);
     }
-    let place = take_operator(tokens, spot)?;
+    let place = expect_operator(tokens, spot, Mark::Question)?;
     let then = read_assignment(alloc, tokens, spot, levels)?;
     expect_operator(tokens, spot, Mark::Colon)?;
     let otherwise = read_choice(alloc, tokens, spot, levels)?;
-    Ok(choice(alloc, place, test, then, otherwise)?)
+    Ok(Expr::Choice {
+        place,
+        test: Box::new(alloc, test)?,
+        then: Box::new(alloc, then)?,
+        otherwise: Box::new(alloc, otherwise)?,
+    })
 }
 
 /// Reads operands and the binary operators between them that bind at least so strongly. Equally
 /// strong ones take their left operand first.
 #[cycle(expression)]
+#[tactic(auto, using(crate::proofs::Grammar::binaries))]
 fn read_binary(
     alloc: Global,
     tokens: &[Token],
@@ -103,23 +119,34 @@ fn read_binary(
     levels: u32,
     strength: u32,
 ) -> Result<Expr, ParseFault>
+    requires some { 0 < strength }
+    requires most { strength ≤ 13 }
     requires few { length tokens.now ≤ 1048576 }
     requires within { spot.old.at ≤ length tokens.now }
     requires depth { levels ≤ 100 }
+    ensures spelled { IfOk result (λ e. IsExpr tokens.now spot.old.at e spot.new.at) }
+    ensures strong { IfOk result (λ e. strength ≤ strength_of e) }
+    ensures ends { OnOk result (operator_level (token_kind tokens.now spot.new.at) < strength) }
     ensures forward { OnOk result ((spot.old.at < spot.new.at) × (spot.new.at ≤ length tokens.now)) }
     ensures fault { IfErr result (IsAmong (length tokens.now)) }
 {
     let mut left = read_unary(alloc, tokens, spot, levels)?;
     'operators: while let Some(op) = binary_at(tokens, spot.at, strength) {
         let place = take_operator(tokens, spot)?;
-        let right = read_binary(alloc, tokens, spot, levels, strength_of(op) + 1)?;
-        left = binary(alloc, place, op, left, right)?;
+        let right = read_binary(alloc, tokens, spot, levels, level_of(op) + 1)?;
+        left = Expr::Binary {
+            place,
+            op,
+            left: Box::new(alloc, left)?,
+            right: Box::new(alloc, right)?,
+        };
     }
     Ok(left)
 }
 
 /// Reads prefix operators and casts with their operand.
 #[cycle(expression)]
+#[tactic(auto, using(crate::proofs::Grammar::prefixes))]
 fn read_unary(
     alloc: Global,
     tokens: &[Token],
@@ -129,13 +156,19 @@ fn read_unary(
     requires few { length tokens.now ≤ 1048576 }
     requires within { spot.old.at ≤ length tokens.now }
     requires depth { levels ≤ 100 }
+    ensures spelled { IfOk result (λ e. IsExpr tokens.now spot.old.at e spot.new.at) }
+    ensures strong { IfOk result (λ e. 13 ≤ strength_of e) }
     ensures forward { OnOk result ((spot.old.at < spot.new.at) × (spot.new.at ≤ length tokens.now)) }
     ensures fault { IfErr result (IsAmong (length tokens.now)) }
 {
     if let Some(op) = prefix_at(tokens, spot.at) {
         let place = take_operator(tokens, spot)?;
         let operand = read_unary(alloc, tokens, spot, levels)?;
-        return Ok(prefix(alloc, place, op, operand)?);
+        return Ok(Expr::Prefix {
+            place,
+            op,
+            operand: Box::new(alloc, operand)?,
+        });
     }
     if begins_cast(tokens, spot.at) {
         let chain = read_casts(alloc, tokens, spot, levels)?;
@@ -146,72 +179,37 @@ fn read_unary(
     read_steps(alloc, tokens, spot, operand)
 }
 
-/// Whether a bracket and a type stand at a position.
-fn begins_cast(tokens: &[Token], at: usize) -> bool
-    ensures { result ≡ true → at < length tokens.now }
-{
-    is_mark(tokens, at, Mark::LeftParen) && at < tokens.len() && begins_type(tokens, at + 1)
-}
-
-/// Reads a cast and those behind it, up to the first parallel one.
-fn read_casts(
-    alloc: Global,
-    tokens: &[Token],
-    spot: &mut Spot,
-    levels: u32,
-) -> Result<CastChain, ParseFault>
-    requires few { length tokens.now ≤ 1048576 }
-    requires within { spot.old.at ≤ length tokens.now }
-    requires depth { levels ≤ 100 }
-    ensures forward { OnOk result ((spot.old.at < spot.new.at) × (spot.new.at ≤ length tokens.now)) }
-    ensures fault { IfErr result (IsAmong (length tokens.now)) }
-{
-    let mut casts = Vec::new(alloc);
-    'casts: loop {
-        let place = open(tokens, spot, Mark::LeftParen, levels)?;
-        let type_name = read_type(alloc, tokens, spot)?;
-        expect(tokens, spot, Mark::RightParen)?;
-        if type_name.shape.is_some() {
-            return Ok(CastChain {
-                casts,
-                parallel: Some((place, type_name)),
-            });
-        }
-        casts.push(Cast {
-            place,
-            elem: type_name.elem,
-        })?;
-        if !begins_cast(tokens, spot.at) {
-            return Ok(CastChain {
-                casts,
-                parallel: None,
-            });
-        }
-    }
-}
-
 /// Reads the `++` and `--` behind an operand.
+#[tactic(auto, using(crate::proofs::Grammar::postfixes))]
 fn read_steps(
     alloc: Global,
     tokens: &[Token],
     spot: &mut Spot,
     operand: Expr,
 ) -> Result<Expr, ParseFault>
+    requires strong { 14 ≤ strength_of operand }
     requires few { length tokens.now ≤ 1048576 }
     requires within { spot.old.at ≤ length tokens.now }
+    ensures spelled { (from : ℕ) → IsExpr tokens.now from operand spot.old.at → IfOk result (λ e. IsExpr tokens.now from e spot.new.at) }
+    ensures strong { IfOk result (λ e. 14 ≤ strength_of e) }
     ensures forward { OnOk result ((spot.old.at ≤ spot.new.at) × (spot.new.at ≤ length tokens.now)) }
     ensures fault { IfErr result (IsAmong (length tokens.now)) }
 {
     let mut operand = operand;
     'steps: while let Some(op) = step_at(tokens, spot.at) {
         let place = take_operator(tokens, spot)?;
-        operand = postfix(alloc, place, op, operand)?;
+        operand = Expr::Postfix {
+            place,
+            op,
+            operand: Box::new(alloc, operand)?,
+        };
     }
     Ok(operand)
 }
 
 /// Reads an operand without operators before or behind it.
 #[cycle(expression)]
+#[tactic(auto, using(crate::proofs::Grammar::bracketed_expressions))]
 fn read_primary(
     alloc: Global,
     tokens: &[Token],
@@ -221,6 +219,8 @@ fn read_primary(
     requires few { length tokens.now ≤ 1048576 }
     requires within { spot.old.at ≤ length tokens.now }
     requires depth { levels ≤ 100 }
+    ensures spelled { IfOk result (λ e. IsExpr tokens.now spot.old.at e spot.new.at) }
+    ensures strong { IfOk result (λ e. 15 ≤ strength_of e) }
     ensures forward { OnOk result ((spot.old.at < spot.new.at) × (spot.new.at ≤ length tokens.now)) }
     ensures fault { IfErr result (IsAmong (length tokens.now)) }
 {
@@ -230,7 +230,10 @@ fn read_primary(
             let place = open(tokens, spot, Mark::LeftParen, levels)?;
             let inner = read_assignment(alloc, tokens, spot, levels + 1)?;
             expect(tokens, spot, Mark::RightParen)?;
-            Ok(brackets(alloc, place, inner)?)
+            Ok(Expr::Brackets {
+                place,
+                inner: Box::new(alloc, inner)?,
+            })
         }
         Some(Kind::Mark(Mark::LeftBracket)) => read_left_index(alloc, tokens, spot, levels),
         Some(Kind::Mark(Mark::Pcoord | Mark::DimOf)) => {
@@ -246,6 +249,7 @@ fn read_primary(
 
 /// Reads a name alone, an element of an array, or a call.
 #[cycle(expression)]
+#[tactic(auto, using(crate::proofs::Grammar::named))]
 fn read_named(
     alloc: Global,
     tokens: &[Token],
@@ -255,6 +259,8 @@ fn read_named(
     requires few { length tokens.now ≤ 1048576 }
     requires within { spot.old.at ≤ length tokens.now }
     requires depth { levels ≤ 100 }
+    ensures spelled { IfOk result (λ e. IsExpr tokens.now spot.old.at e spot.new.at) }
+    ensures strong { IfOk result (λ e. 15 ≤ strength_of e) }
     ensures forward { OnOk result ((spot.old.at < spot.new.at) × (spot.new.at ≤ length tokens.now)) }
     ensures fault { IfErr result (IsAmong (length tokens.now)) }
 {
@@ -266,33 +272,39 @@ fn read_named(
     if !is_mark(tokens, spot.at, Mark::LeftBracket) {
         return Ok(Expr::Name(name));
     }
-    let bracket = place_at(tokens, spot.at);
-    let index = read_index(alloc, tokens, spot, levels)?;
-    Ok(element(alloc, name, bracket, index)?)
+    let (bracket, index) = read_index(alloc, tokens, spot, levels)?;
+    Ok(Expr::Element {
+        name,
+        bracket,
+        index: Box::new(alloc, index)?,
+    })
 }
 
 /// Reads an index in its square brackets.
 #[cycle(expression)]
+#[tactic(auto, using(crate::proofs::Grammar::indexes))]
 fn read_index(
     alloc: Global,
     tokens: &[Token],
     spot: &mut Spot,
     levels: u32,
-) -> Result<Expr, ParseFault>
+) -> Result<(Place, Expr), ParseFault>
     requires few { length tokens.now ≤ 1048576 }
     requires within { spot.old.at ≤ length tokens.now }
     requires depth { levels ≤ 100 }
+    ensures spelled { IfOk result (λ found. IsIndex tokens.now spot.old.at found.0 found.1 spot.new.at) }
     ensures forward { OnOk result ((spot.old.at < spot.new.at) × (spot.new.at ≤ length tokens.now)) }
     ensures fault { IfErr result (IsAmong (length tokens.now)) }
 {
-    open(tokens, spot, Mark::LeftBracket, levels)?;
+    let place = open(tokens, spot, Mark::LeftBracket, levels)?;
     let index = read_assignment(alloc, tokens, spot, levels + 1)?;
     expect(tokens, spot, Mark::RightBracket)?;
-    Ok(index)
+    Ok((place, index))
 }
 
 /// Reads the arguments of a call in their brackets.
 #[cycle(expression)]
+#[tactic(auto, using(crate::proofs::Grammar::arguments))]
 fn read_arguments(
     alloc: Global,
     tokens: &[Token],
@@ -302,21 +314,24 @@ fn read_arguments(
     requires few { length tokens.now ≤ 1048576 }
     requires within { spot.old.at ≤ length tokens.now }
     requires depth { levels ≤ 100 }
+    ensures spelled { IfOk result (λ list. AreArguments tokens.now spot.old.at list.items spot.new.at) }
     ensures forward { OnOk result ((spot.old.at < spot.new.at) × (spot.new.at ≤ length tokens.now)) }
     ensures fault { IfErr result (IsAmong (length tokens.now)) }
 {
     open(tokens, spot, Mark::LeftParen, levels)?;
     if is_mark(tokens, spot.at, Mark::RightParen) {
-        spot.at += 1;
+        expect(tokens, spot, Mark::RightParen)?;
         return Ok(Vec::new(alloc));
     }
-    let mut arguments = Vec::new(alloc);
-    arguments.push(read_assignment(alloc, tokens, spot, levels + 1)?)?;
-    read_more(alloc, tokens, spot, levels + 1, arguments)
+    let first = read_assignment(alloc, tokens, spot, levels + 1)?;
+    let mut list = Vec::new(alloc);
+    list.push(first)?;
+    read_more(alloc, tokens, spot, levels + 1, list)
 }
 
 /// Reads the expressions that stand here, each behind a comma, and the closing bracket.
 #[cycle(expression)]
+#[tactic(auto, using(crate::proofs::Grammar::rests))]
 fn read_more(
     alloc: Global,
     tokens: &[Token],
@@ -327,13 +342,15 @@ fn read_more(
     requires few { length tokens.now ≤ 1048576 }
     requires within { spot.old.at ≤ length tokens.now }
     requires depth { levels ≤ 100 }
+    ensures spelled { IfOk result (λ all. IsRest tokens.now spot.old.at list.items all.items spot.new.at) }
     ensures forward { OnOk result ((spot.old.at < spot.new.at) × (spot.new.at ≤ length tokens.now)) }
     ensures fault { IfErr result (IsAmong (length tokens.now)) }
 {
     let mut list = list;
     'commas: while is_mark(tokens, spot.at, Mark::Comma) {
-        spot.at += 1;
-        list.push(read_assignment(alloc, tokens, spot, levels)?)?;
+        expect(tokens, spot, Mark::Comma)?;
+        let next = read_assignment(alloc, tokens, spot, levels)?;
+        list.push(next)?;
     }
     expect(tokens, spot, Mark::RightParen)?;
     Ok(list)
@@ -341,6 +358,7 @@ fn read_more(
 
 /// Reads the indexes that stand before a name, and the name.
 #[cycle(expression)]
+#[tactic(auto, using(crate::proofs::Grammar::left_indexes))]
 fn read_left_index(
     alloc: Global,
     tokens: &[Token],
@@ -350,17 +368,17 @@ fn read_left_index(
     requires few { length tokens.now ≤ 1048576 }
     requires within { spot.old.at ≤ length tokens.now }
     requires depth { levels ≤ 100 }
+    ensures spelled { IfOk result (λ e. IsExpr tokens.now spot.old.at e spot.new.at) }
+    ensures strong { IfOk result (λ e. 15 ≤ strength_of e) }
     ensures forward { OnOk result ((spot.old.at < spot.new.at) × (spot.new.at ≤ length tokens.now)) }
     ensures fault { IfErr result (IsAmong (length tokens.now)) }
 {
-    if !is_mark(tokens, spot.at, Mark::LeftBracket) {
-        return Err(hopeless(tokens, spot.at));
-    }
-    let place = place_at(tokens, spot.at);
+    let (place, first) = read_index(alloc, tokens, spot, levels)?;
     let mut indexes = Vec::new(alloc);
-    indexes.push(read_index(alloc, tokens, spot, levels)?)?;
+    indexes.push(first)?;
     'indexes: while is_mark(tokens, spot.at, Mark::LeftBracket) {
-        indexes.push(read_index(alloc, tokens, spot, levels)?)?;
+        let (_, next) = read_index(alloc, tokens, spot, levels)?;
+        indexes.push(next)?;
     }
     let name = read_name(alloc, tokens, spot)?;
     Ok(Expr::LeftIndex {
@@ -372,6 +390,7 @@ fn read_left_index(
 
 /// Reads a `pcoord` or a `dimof`.
 #[cycle(expression)]
+#[tactic(auto, using(crate::proofs::Grammar::axes))]
 fn read_axis_intrinsic(
     alloc: Global,
     tokens: &[Token],
@@ -381,6 +400,8 @@ fn read_axis_intrinsic(
     requires few { length tokens.now ≤ 1048576 }
     requires within { spot.old.at ≤ length tokens.now }
     requires depth { levels ≤ 100 }
+    ensures spelled { IfOk result (λ e. IsExpr tokens.now spot.old.at e spot.new.at) }
+    ensures strong { IfOk result (λ e. 15 ≤ strength_of e) }
     ensures forward { OnOk result ((spot.old.at < spot.new.at) × (spot.new.at ≤ length tokens.now)) }
     ensures fault { IfErr result (IsAmong (length tokens.now)) }
 {
@@ -389,7 +410,10 @@ fn read_axis_intrinsic(
         open(tokens, spot, Mark::LeftParen, levels)?;
         let axis = read_assignment(alloc, tokens, spot, levels + 1)?;
         expect(tokens, spot, Mark::RightParen)?;
-        return Ok(pcoord(alloc, place, axis)?);
+        return Ok(Expr::Pcoord {
+            place,
+            axis: Box::new(alloc, axis)?,
+        });
     }
     let place = expect(tokens, spot, Mark::DimOf)?;
     open(tokens, spot, Mark::LeftParen, levels)?;
@@ -397,11 +421,16 @@ fn read_axis_intrinsic(
     expect(tokens, spot, Mark::Comma)?;
     let axis = read_assignment(alloc, tokens, spot, levels + 1)?;
     expect(tokens, spot, Mark::RightParen)?;
-    Ok(dim_of(alloc, place, shape, axis)?)
+    Ok(Expr::DimOf {
+        place,
+        shape,
+        axis: Box::new(alloc, axis)?,
+    })
 }
 
 /// Reads a `scan` or an `enumerate`.
 #[cycle(expression)]
+#[tactic(auto, using(crate::proofs::Grammar::scans))]
 fn read_scan_intrinsic(
     alloc: Global,
     tokens: &[Token],
@@ -411,27 +440,77 @@ fn read_scan_intrinsic(
     requires few { length tokens.now ≤ 1048576 }
     requires within { spot.old.at ≤ length tokens.now }
     requires depth { levels ≤ 100 }
+    ensures spelled { IfOk result (λ e. IsExpr tokens.now spot.old.at e spot.new.at) }
+    ensures strong { IfOk result (λ e. 15 ≤ strength_of e) }
     ensures forward { OnOk result ((spot.old.at < spot.new.at) × (spot.new.at ≤ length tokens.now)) }
     ensures fault { IfErr result (IsAmong (length tokens.now)) }
 {
     if is_mark(tokens, spot.at, Mark::Enumerate) {
-        let place = expect(tokens, spot, Mark::Enumerate)?;
-        open(tokens, spot, Mark::LeftParen, levels)?;
-        let axis = read_assignment(alloc, tokens, spot, levels + 1)?;
-        let options = read_enumerate_options(alloc, tokens, spot)?;
-        return Ok(enumerate(alloc, place, axis, options)?);
+        return read_enumerate(alloc, tokens, spot, levels);
     }
     let place = expect(tokens, spot, Mark::Scan)?;
     open(tokens, spot, Mark::LeftParen, levels)?;
     let source = read_assignment(alloc, tokens, spot, levels + 1)?;
     expect(tokens, spot, Mark::Comma)?;
     let axis = read_assignment(alloc, tokens, spot, levels + 1)?;
-    let options = read_scan_options(alloc, tokens, spot)?;
-    Ok(scan(alloc, place, source, axis, options)?)
+    let ScanOptions {
+        combiner,
+        direction,
+        mode,
+        bit,
+        inclusion,
+    } = read_scan_options(alloc, tokens, spot)?;
+    Ok(Expr::Scan {
+        place,
+        source: Box::new(alloc, source)?,
+        axis: Box::new(alloc, axis)?,
+        combiner,
+        direction,
+        mode,
+        bit,
+        inclusion,
+    })
+}
+
+/// Reads an `enumerate`.
+#[cycle(expression)]
+#[tactic(auto, using(crate::proofs::Grammar::enumerates))]
+fn read_enumerate(
+    alloc: Global,
+    tokens: &[Token],
+    spot: &mut Spot,
+    levels: u32,
+) -> Result<Expr, ParseFault>
+    requires few { length tokens.now ≤ 1048576 }
+    requires within { spot.old.at ≤ length tokens.now }
+    requires depth { levels ≤ 100 }
+    ensures spelled { IfOk result (λ e. IsExpr tokens.now spot.old.at e spot.new.at) }
+    ensures strong { IfOk result (λ e. 15 ≤ strength_of e) }
+    ensures forward { OnOk result ((spot.old.at < spot.new.at) × (spot.new.at ≤ length tokens.now)) }
+    ensures fault { IfErr result (IsAmong (length tokens.now)) }
+{
+    let place = expect(tokens, spot, Mark::Enumerate)?;
+    open(tokens, spot, Mark::LeftParen, levels)?;
+    let axis = read_assignment(alloc, tokens, spot, levels + 1)?;
+    let EnumerateOptions {
+        direction,
+        inclusion,
+        mode,
+        bit,
+    } = read_enumerate_options(alloc, tokens, spot)?;
+    Ok(Expr::Enumerate {
+        place,
+        axis: Box::new(alloc, axis)?,
+        direction,
+        inclusion,
+        mode,
+        bit,
+    })
 }
 
 /// Reads a `printf`.
 #[cycle(expression)]
+#[tactic(auto, using(crate::proofs::Grammar::printfs))]
 fn read_printf(
     alloc: Global,
     tokens: &[Token],
@@ -441,6 +520,8 @@ fn read_printf(
     requires few { length tokens.now ≤ 1048576 }
     requires within { spot.old.at ≤ length tokens.now }
     requires depth { levels ≤ 100 }
+    ensures spelled { IfOk result (λ e. IsExpr tokens.now spot.old.at e spot.new.at) }
+    ensures strong { IfOk result (λ e. 15 ≤ strength_of e) }
     ensures forward { OnOk result ((spot.old.at < spot.new.at) × (spot.new.at ≤ length tokens.now)) }
     ensures fault { IfErr result (IsAmong (length tokens.now)) }
 {
@@ -456,6 +537,7 @@ fn read_printf(
 }
 
 /// Reads a number, a `.`, or an intrinsic without expressions.
+#[tactic(auto, using(crate::proofs::Grammar::plain))]
 fn read_plain(
     alloc: Global,
     tokens: &[Token],
@@ -465,17 +547,18 @@ fn read_plain(
     requires few { length tokens.now ≤ 1048576 }
     requires within { spot.old.at ≤ length tokens.now }
     requires depth { levels ≤ 100 }
+    ensures spelled { IfOk result (λ e. IsExpr tokens.now spot.old.at e spot.new.at) }
+    ensures strong { IfOk result (λ e. 15 ≤ strength_of e) }
     ensures forward { OnOk result ((spot.old.at < spot.new.at) × (spot.new.at ≤ length tokens.now)) }
     ensures fault { IfErr result (IsAmong (length tokens.now)) }
 {
     match kind_at(tokens, spot.at) {
         Some(Kind::Num { value, unsigned }) => {
             let number = Expr::Number {
-                place: place_at(tokens, spot.at),
+                place: take(tokens, spot),
                 value: *value,
                 unsigned: *unsigned,
             };
-            spot.at += 1;
             Ok(number)
         }
         Some(Kind::Mark(Mark::Dot)) => Ok(Expr::Dot(take_operator(tokens, spot)?)),
