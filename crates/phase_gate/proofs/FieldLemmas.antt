@@ -1,5 +1,5 @@
 -- What the image rules on fields give the phases.
-use Rattle.std.proofs.Common.{◌≡◌, ℕ, ◌<◌, List, length, subst, map, slice_set, get_or, All, sym, ap, ◌∙◌, refl, true, lit≤, arith}
+use Rattle.std.proofs.Common.{◌≡◌, ℕ, zero, suc, [], ◌∷◌, ◌<◌, List, length, subst, map, slice_set, get_or, All, sym, ap, ◌∙◌, refl, true, lit≤, arith}
 use Rattle.std.proofs.Math.Seq.{map-set_same}
 use Rattle.phase_gate.specs.declared.rows.Rows.{Rows}
 use Rattle.phase_gate.specs.Rows.{shape_of_rows}
@@ -13,11 +13,12 @@ use Rattle.paris_code.specs.Operands.{coordinate_of}
 use Rattle.paris_code.specs.Shapes.{SetShape, no_shape, shape_of, bits_at}
 use Rattle.paris_code.specs.declared.instr.Instr.{Instr}
 use Rattle.paris_code.specs.declared.instr.Instr.TheVariants as I
+use Rattle.paris_code.specs.Checking.{set_or_later, set_of_coordinates}
 use Rattle.paris_code.specs.Elementwise.{is_elementwise, destination}
 use Rattle.paris_code.specs.Memory.{context_run, test_run}
 use Rattle.paris_code.specs.Sound.{IsShape}
 use Rattle.paris_code.specs.RuleField.{Fits, CoordinateFits}
-use Rattle.paris_code.specs.RuleOperands.{IsWith, CoordinateIsWith}
+use Rattle.paris_code.specs.RuleOperands.{IsWith, CoordinateIsWith, AreTogether}
 use Rattle.paris_code.specs.RuleSet.{FieldExists, CoordinateExists}
 use Rattle.phase_gate.specs.Apply.{IsPosition, LiesIn, IsCoordinateIn, IsCoordinateAt, CanApply, IsRun, active_set}
 
@@ -98,7 +99,44 @@ destination_runs shapes (I.LogandContextWithTest set) args can is = ((flag_runs 
 destination_runs shapes (I.LogandcContextWithTest set) args can is = ((flag_runs shapes set can.set).0, refl)
 destination_runs shapes _ args can is = cc
 
--- the fields among coordinates that are checked have the positions of the set whose processors check
+-- the fields among coordinates that are checked are of the set whose processors check
+abbrev AreAllTogether : List SetShape → List SignedCoordinate → Type 0
+AreAllTogether shapes cs = All (λ c. All (λ e. AreTogether shapes (coordinate_of c) (coordinate_of e)) cs) cs
+
+of_set : (shapes : List SetShape) (target : ℕ) (cs : List SignedCoordinate) → All (λ c. CoordinateExists shapes (coordinate_of c)) cs → AreAllTogether shapes cs
+    → (k : ℕ) (d : SignedCoordinate) → k < length cs → (f : Field) → coordinate_of (get_or cs k d) ≡ C.Field f → f.set ≡ set_of_coordinates target cs
+of_set shapes target [] there pairs k d b f is = absurd (omega arith)
+of_set shapes target (c ∷ cs) there pairs k d b f is = first (coordinate_of c) refl
+  where
+    exists : FieldExists shapes f
+    exists = subst (λ (q : Coordinate). CoordinateExists shapes q) is (there k d b)
+
+    later : (j : ℕ) → j < length (c ∷ cs) → (r : ℕ) → coordinate_of c ≡ C.Reg r → coordinate_of (get_or (c ∷ cs) j d) ≡ C.Field f → f.set ≡ set_of_coordinates target cs
+    later zero h r e at = cc
+    later (suc j) h r e at = of_set shapes target cs (λ i x l. there (suc i) x (omega arith)) (λ i x l i' x' l'. pairs (suc i) x (omega arith) (suc i') x' (omega arith)) j d (omega arith) f at
+
+    first : (q : Coordinate) → coordinate_of c ≡ q → f.set ≡ set_or_later (coordinate_of c) (set_of_coordinates target cs)
+    first (C.Field g) e =
+        let pair : IsWith shapes g f =
+        subst (λ (q : Coordinate). AreTogether shapes (C.Field g) q) is (subst (λ (q : Coordinate). AreTogether shapes q (coordinate_of (get_or (c ∷ cs) k d))) e (pairs 0 d (omega arith) k d b)) in
+        sym (pair (subst (λ (q : Coordinate). CoordinateExists shapes q) e (there 0 d (omega arith))) exists) ∙ sym (ap (λ q. set_or_later q (set_of_coordinates target cs)) e)
+    first (C.Reg r) e = later k b r e is ∙ sym (ap (λ q. set_or_later q (set_of_coordinates target cs)) e)
+
 at_set : (shapes : List SetShape) (slots set p : ℕ) (c : Coordinate) → IsPosition shapes set p → CoordinateFits shapes slots c → CoordinateExists shapes c → ((f : Field) → c ≡ C.Field f → f.set ≡ set) → IsCoordinateAt shapes p c
 at_set shapes slots set p (C.Field f) at fits there same = (lies shapes f fits there, subst (λ s. IsPosition shapes s p) (sym (same f refl)) at)
 at_set shapes slots set p (C.Reg r) at fits there same = tt
+
+-- so they have its positions
+pub checked_at : (shapes : List SetShape) (slots target : ℕ) (cs : List SignedCoordinate) → All (λ c. CoordinateFits shapes slots (coordinate_of c)) cs → All (λ c. CoordinateExists shapes (coordinate_of c)) cs → AreAllTogether shapes cs
+    → (p : ℕ) → IsPosition shapes (set_of_coordinates target cs) p → All (λ c. IsCoordinateAt shapes p (coordinate_of c)) cs
+checked_at shapes slots target cs fit there pairs p at = λ k d b.
+    at_set shapes slots (set_of_coordinates target cs) p (coordinate_of (get_or cs k d)) at (fit k d b) (there k d b) (λ f is. of_set shapes target cs there pairs k d b f is)
+
+-- and it exists
+pub own_exists : (shapes : List SetShape) (target : ℕ) (cs : List SignedCoordinate) → target < length shapes → All (λ c. CoordinateExists shapes (coordinate_of c)) cs → set_of_coordinates target cs < length shapes
+own_exists shapes target [] exists there = exists
+own_exists shapes target (c ∷ cs) exists there = own (coordinate_of c) (there 0 c (omega arith))
+  where
+    own : (q : Coordinate) → CoordinateExists shapes q → set_or_later q (set_of_coordinates target cs) < length shapes
+    own (C.Field f) here = here
+    own (C.Reg r) here = own_exists shapes target cs exists (λ i x l. there (suc i) x (omega arith))

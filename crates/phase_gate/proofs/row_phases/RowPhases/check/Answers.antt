@@ -24,3 +24,9 @@ returns-in-CheckGrid-clause-least c = λ settled.
     (c.answer-in-CheckGrid.ensures ∙ ap bad_or_nothing (
     c.check_grid.ensures
     ∙ ap (λ (steps : List GridStep). least_below (λ p. is_active now m set p && any_leaves (extents_at now set) steps args p) (processors now set)) c.as_slice-in-CheckGrid.ensures.value))
+
+pub check_target-requires-clause-fields : goal.check_target-requires-clause-fields
+check_target-requires-clause-fields c = ?
+
+pub returns-in-CheckTarget-clause-least : goal.returns-in-CheckTarget-clause-least
+returns-in-CheckTarget-clause-least c = λ settled. ?
