@@ -11,10 +11,11 @@ ghost use Rattle.cstar_top.specs.Modes.{AsksFor, HasBudget, LeavesInput, budget,
 ghost use Rattle.cstar_top.specs.Reports.{CannotFetch, PutsAnswer, PutsPartOfAnswer};
 
 use crate::answer::Answer;
+use crate::assemble::assembled;
 use crate::compile::{FILE_LIMIT, NoImage, accepted, compile, not_built, too_long};
 use crate::drill::drill;
 use crate::report::report;
-use crate::run::run_image;
+use crate::run::{list_image, run_image};
 use cstar_io::{Gate, Shelf, ShelfErr, Sink, Source};
 use cstar_words::{Mode, Options, WordsErr, read};
 use image_check::Sound;
@@ -74,7 +75,7 @@ fn answer_to<I: Source, O: Sink>(
     ensures named { status_of result ≢ 2 }
     ensures readable { status_of result ≢ 5 }
     ensures refused { status_of result ≡ 3 → (out.new ≡ out.old) × (input.new ≡ input.old) }
-    ensures stopped { status_of result ≡ 4 → (options.now.mode ≡ M.Run) × (result ≡ A.Stopped options.now.turns) }
+    ensures stopped { status_of result ≡ 4 → (options.now.mode ≢ M.Drill) × (result ≡ A.Stopped options.now.turns) }
     ensures silent { options.now.mode ≡ M.Check → out.new ≡ out.old }
     ensures unread { leaves_input options.now.mode ≡ true → input.new ≡ input.old }
     ensures write_fault { status_of result ≡ 6 → RisesBy (O.faults out.old) (O.faults out.new) }
@@ -90,11 +91,15 @@ fn answer_to<I: Source, O: Sink>(
             Ok(_) => Answer::Done,
             Err(no_image) => refusal(no_image),
         },
-        Mode::List => match accepted(alloc, text) {
-            Ok(_) => refusal(not_built()),
+        Mode::List => match compiled(alloc, text) {
+            Ok(sound) => list_image(&sound, out),
             Err(no_image) => refusal(no_image),
         },
-        Mode::Drill | Mode::Asm | Mode::Resume => {
+        Mode::Asm => match runnable_listing(alloc, options, text) {
+            Ok(sound) => run_image(alloc, &sound, options, input, out),
+            Err(no_image) => refusal(no_image),
+        },
+        Mode::Drill | Mode::Resume => {
             if text.len() > limit(options.mode) as usize {
                 refusal(too_long())
             } else {
@@ -104,13 +109,28 @@ fn answer_to<I: Source, O: Sink>(
     }
 }
 
-/// The image of a program that is to be run. A run that is to be listed or saved is not built yet.
+/// The image of a program.
+fn compiled(alloc: Global, text: &[u8]) -> Result<Sound, NoImage> {
+    let program = accepted(alloc, text)?;
+    compile(alloc, &program.typed)
+}
+
+/// The image of a program that is to be run. A run that is to be saved is not built yet.
 fn runnable(alloc: Global, options: &Options, text: &[u8]) -> Result<Sound, NoImage> {
     let program = accepted(alloc, text)?;
-    if options.listing || options.save.is_some() {
+    if options.save.is_some() {
         return Err(not_built());
     }
     compile(alloc, &program.typed)
+}
+
+/// The image of a listing that is to be run. A run that is to be saved is not built yet.
+fn runnable_listing(alloc: Global, options: &Options, text: &[u8]) -> Result<Sound, NoImage> {
+    let sound = assembled(alloc, text)?;
+    if options.save.is_some() {
+        return Err(not_built());
+    }
+    Ok(sound)
 }
 
 fn refusal(no_image: NoImage) -> Answer
