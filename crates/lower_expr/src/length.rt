@@ -2,7 +2,7 @@
 //! what they pass over are known beforehand.
 
 use crate::spots::bare;
-use crate::steps::stays_scalar;
+use crate::steps::{constant_word, immediate, is_relation, stays_scalar};
 use crate::value::is_send;
 use cstar_base::{Elem, Memory, Op};
 use cstar_tree::syntax::{AssignOp, ReduceOp};
@@ -58,15 +58,13 @@ pub fn length(t: &Typed, names: &Names, e: &TExpr) -> Result<u32, Memory> {
             right,
             ..
         } => {
-            let a = length(t, names, left)?;
-            let b = length(t, names, right)?;
-            let parts = plus(a, b)?;
-            match ty.shape {
-                None => plus(parts, operate_length(*op, true)),
-                Some(_) => {
-                    let moved = plus(spread_by(left), spread_by(right))?;
-                    plus(plus(parts, moved)?, operate_length(*op, false))
-                }
+            if ty.shape.is_none() {
+                let a = length(t, names, left)?;
+                let b = length(t, names, right)?;
+                plus(plus(a, b)?, operate_length(*op, true))
+            } else {
+                let a = spread_length(t, names, left)?;
+                plus(a, right_length(t, names, *op, right)?)
             }
         }
         TExpr::LogicalOr { ty, left, right } | TExpr::LogicalAnd { ty, left, right } => {
@@ -134,12 +132,21 @@ pub fn length(t: &Typed, names: &Names, e: &TExpr) -> Result<u32, Memory> {
 /// The instructions of a value in a field: what `spread` appends.
 #[cycle(length)]
 pub fn spread_length(t: &Typed, names: &Names, e: &TExpr) -> Result<u32, Memory> {
-    plus(length(t, names, e)?, spread_by(e))
+    if constant_word(e).is_some() {
+        return Ok(1);
+    }
+    plus(length(t, names, e)?, if stays_scalar(e) { 1 } else { 0 })
 }
 
-/// One more where the value is in a register, which is spread.
-fn spread_by(e: &TExpr) -> u32 {
-    if stays_scalar(e) { 1 } else { 0 }
+/// The instructions of a right operand of a parallel operation, and of the operation.
+#[cycle(length)]
+fn right_length(t: &Typed, names: &Names, op: Op, e: &TExpr) -> Result<u32, Memory> {
+    if immediate(op, e).is_some() {
+        return Ok(1);
+    }
+    let is_spread = stays_scalar(e) && (is_relation(op) || divides(op));
+    let own = plus(operate_length(op, false), if is_spread { 1 } else { 0 })?;
+    plus(length(t, names, e)?, own)
 }
 
 /// A conversion in place.
@@ -169,11 +176,10 @@ fn operate_length(op: Op, scalar: bool) -> u32 {
         2
     } else if scalar {
         1
+    } else if is_relation(op) {
+        3
     } else {
-        match op {
-            Op::Eq | Op::Ne | Op::Lt | Op::Le | Op::Gt | Op::Ge => 3,
-            _ => 1,
-        }
+        1
     }
 }
 
@@ -289,16 +295,12 @@ fn assign_length(t: &Typed, names: &Names, e: &TExpr) -> Result<u32, Memory> {
         let v = length(t, names, value)?;
         return plus(plus(both, v)?, 3);
     }
-    let v = if scalar {
-        length(t, names, value)?
+    let operated = if scalar {
+        plus(length(t, names, value)?, operate_length(op, true))?
     } else {
-        spread_length(t, names, value)?
+        right_length(t, names, op, value)?
     };
-    let own = plus(
-        operate_length(op, scalar),
-        conversion(scalar, target.ty().elem),
-    )?;
-    plus(plus(both, v)?, own)
+    plus(plus(both, operated)?, conversion(scalar, target.ty().elem))
 }
 
 /// A call beside its arguments: zeroing and copying, the turn, the call, and the result.

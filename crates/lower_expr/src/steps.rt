@@ -1,12 +1,20 @@
 //! Short stretches of code over values that stand in registers and fields already.
 
-use cstar_base::{Elem, Memory, Op, Place};
+use cstar_base::{Elem, Memory, Op, Place, numbers};
 use cstar_tree::typed::{Format, Piece, TExpr, UnaryOp};
 use lower_comm::Out;
 use lower_comm::emit::{flag, put};
 use lower_comm::operators::{Machine, divides, machine_op, promoted_signed};
 use paris_code::{Field, Instr, Konst, NumberFormat, Operation, Unit};
+use source_meaning::constant as constant_value;
 use std::alloc::Global;
+
+/// The right operand of a parallel operation: a field, or one word for all positions.
+#[derive(Clone, Copy)]
+pub enum Right {
+    Field(Field),
+    Word(Konst),
+}
 
 /// Whether the value stands in a register: that of a scalar, and that of a promoted scalar before
 /// it is spread.
@@ -17,6 +25,37 @@ pub fn stays_scalar(e: &TExpr) -> bool {
         TExpr::Brackets { inner, .. } => stays_scalar(inner),
         _ => e.ty().shape.is_none(),
     }
+}
+
+/// The word that a promoted constant is at every position, promoted to 32 bits.
+pub fn constant_word(e: &TExpr) -> Option<u32> {
+    match e {
+        TExpr::Promote { operand, .. } => {
+            let value = constant_value(operand)?;
+            Some(numbers::convert(Elem::INT, operand.ty().elem, value))
+        }
+        TExpr::Brackets { inner, .. } => constant_word(inner),
+        _ => None,
+    }
+}
+
+/// The word of a constant right operand that an instruction takes as an immediate: a relation takes
+/// none, and a divisor of 0 is left to its check.
+pub fn immediate(op: Op, e: &TExpr) -> Option<u32> {
+    if is_relation(op) {
+        return None;
+    }
+    let word = constant_word(e)?;
+    if divides(op) && word == 0 {
+        None
+    } else {
+        Some(word)
+    }
+}
+
+/// Whether the operator is a relation.
+pub fn is_relation(op: Op) -> bool {
+    matches!(op, Op::Eq | Op::Ne | Op::Lt | Op::Le | Op::Gt | Op::Ge)
 }
 
 /// A value in a register.
@@ -218,6 +257,52 @@ pub fn operate_fields(
             )?;
             test_value(dest, u)
         }
+    }
+}
+
+/// A binary operator on a field and a right operand. A word that the instruction cannot take, or
+/// that has to be checked as a divisor, is spread into `spare`.
+pub fn operate_right(
+    op: Op,
+    signed: bool,
+    place: Place,
+    dest: Field,
+    left: Field,
+    right: Right,
+    spare: Field,
+    u: &mut Unit,
+) -> Result<(), Memory> {
+    match right {
+        Right::Field(right) => operate_fields(op, signed, place, dest, left, right, u),
+        Right::Word(word) => match machine_op(op, signed) {
+            Machine::Operate(operation) if takes_word(op, word) => put(
+                u,
+                Instr::OperateConstant {
+                    op: operation,
+                    dest,
+                    left,
+                    right: word,
+                },
+            ),
+            _ => {
+                put(
+                    u,
+                    Instr::MoveConstant {
+                        dest: spare,
+                        value: word,
+                    },
+                )?;
+                operate_fields(op, signed, place, dest, left, spare, u)
+            }
+        },
+    }
+}
+
+/// Whether the operation takes the word as it is: a divisor only where it is known not to be 0.
+fn takes_word(op: Op, word: Konst) -> bool {
+    match word {
+        Konst::Imm(_) => true,
+        Konst::Reg(_) => !divides(op),
     }
 }
 

@@ -5,8 +5,8 @@
 use crate::length::length;
 use crate::spots::{Spot, bare, check_index, load, store};
 use crate::steps::{
-    as_field, assign_signed, constant, convert, operate, operate_fields, print_pieces, set,
-    set_field, stays_scalar, test_value, unary,
+    Right, as_field, assign_signed, constant, constant_word, convert, immediate, operate,
+    operate_right, print_pieces, set, stays_scalar, test_value, unary,
 };
 use cstar_base::{Memory, Op};
 use cstar_tree::syntax::StepOp;
@@ -39,11 +39,52 @@ pub fn spread(
 ) -> Result<Out, Memory> {
     if stays_scalar(e) {
         let dest = field(u, shape)?;
-        let v = value(alloc, t, names, e, u)?;
-        set_field(dest, v, u)?;
-        Ok(Out::Field(dest))
+        Ok(Out::Field(spread_to(alloc, t, names, e, dest, u)?))
     } else {
         value(alloc, t, names, e, u)
+    }
+}
+
+/// The value of a parallel operand in a field; that of a promoted scalar is spread into `dest`.
+#[cycle(value)]
+fn spread_to(
+    alloc: Global,
+    t: &Typed,
+    names: &Names,
+    e: &TExpr,
+    dest: Field,
+    u: &mut Unit,
+) -> Result<Field, Memory> {
+    match constant_word(e) {
+        Some(word) => {
+            let value = Konst::Imm(word);
+            put(u, Instr::MoveConstant { dest, value })?;
+            Ok(dest)
+        }
+        None => {
+            let v = value(alloc, t, names, e, u)?;
+            as_field(v, dest, u)
+        }
+    }
+}
+
+/// The right operand of a parallel operation: a constant that the instruction takes has no code.
+#[cycle(value)]
+fn right_operand(
+    alloc: Global,
+    t: &Typed,
+    names: &Names,
+    op: Op,
+    e: &TExpr,
+    u: &mut Unit,
+) -> Result<Right, Memory> {
+    match immediate(op, e) {
+        Some(word) => Ok(Right::Word(Konst::Imm(word))),
+        None => match value(alloc, t, names, e, u)? {
+            Out::Field(field) => Ok(Right::Field(field)),
+            Out::Scalar(register) => Ok(Right::Word(Konst::Reg(register))),
+            Out::Nothing => Err(Memory),
+        },
     }
 }
 
@@ -147,17 +188,17 @@ fn operator(
             right,
         } => {
             let dest = fresh(*ty, u)?;
-            let a = value(alloc, t, names, left, u)?;
-            let b = value(alloc, t, names, right, u)?;
             let signed = promoted_signed(left.ty().elem);
             match dest {
                 Out::Scalar(r) => {
-                    operate(*op, signed, *place, r, a.register()?, b.register()?, u)?;
+                    let a = value(alloc, t, names, left, u)?.register()?;
+                    let b = value(alloc, t, names, right, u)?.register()?;
+                    operate(*op, signed, *place, r, a, b, u)?;
                 }
                 Out::Field(f) => {
-                    let a = as_field(a, f, u)?;
-                    let b = as_field(b, f, u)?;
-                    operate_fields(*op, signed, *place, f, a, b, u)?;
+                    let a = spread_to(alloc, t, names, left, f, u)?;
+                    let b = right_operand(alloc, t, names, *op, right, u)?;
+                    operate_right(*op, signed, *place, f, a, b, f, u)?;
                 }
                 Out::Nothing => return Err(Memory),
             }
@@ -437,11 +478,10 @@ fn assignment(
                     let dest = field(u, set)?;
                     let spare = field(u, set)?;
                     let spot = spot(alloc, t, names, target, u)?;
-                    let v = value(alloc, t, names, right, u)?;
-                    let v = as_field(v, spare, u)?;
+                    let v = right_operand(alloc, t, names, op, right, u)?;
                     load(t, names, target, spot, Out::Field(dest), u)?;
                     let signed = assign_signed(op, target_ty.elem, right.ty().elem);
-                    operate_fields(op, signed, *place, dest, dest, v, u)?;
+                    operate_right(op, signed, *place, dest, dest, v, spare, u)?;
                     convert(Out::Field(dest), target_ty.elem, u)?;
                     store(t, names, e, spot, Out::Field(dest), u)?;
                     Ok(Out::Field(dest))
