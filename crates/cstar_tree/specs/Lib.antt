@@ -1,3 +1,4 @@
+pub mod BlockScopes
 pub mod Constants
 pub mod Conversions
 pub mod Declarations
@@ -13,8 +14,10 @@ pub mod Options
 pub mod Positions
 pub mod Room
 pub mod Scopes
+pub mod StatementTypes
 pub mod Statements
 pub mod Syntax
+pub mod SyntaxParts
 pub mod Typed
 pub mod TypedParts
 pub mod Types
