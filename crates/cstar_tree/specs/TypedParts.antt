@@ -70,7 +70,7 @@ optional_box None = []
 optional_box (Some a) = a.value ∷ []
 
 -- lists, one behind the other
-abbrev pub concat : {A : Type 0} → List (List A) → List A
+unfoldable pub concat : {A : Type 0} → List (List A) → List A
 concat [] = []
 concat (xs ∷ rest) = xs ++ concat rest
 
