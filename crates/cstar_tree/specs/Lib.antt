@@ -3,14 +3,17 @@ pub mod Calls
 pub mod Constants
 pub mod Conversions
 pub mod Declarations
+pub mod ExpressionFaults
 pub mod ExpressionTypes
 pub mod Expressions
+pub mod FileFaults
 pub mod FileScopes
 pub mod Formats
 pub mod Headers
 pub mod Instances
 pub mod IsTyped
 pub mod Items
+pub mod Nodes
 pub mod Operations
 pub mod Operators
 pub mod Options
@@ -18,6 +21,7 @@ pub mod Positions
 pub mod ProgramTypes
 pub mod Room
 pub mod Scopes
+pub mod StatementFaults
 pub mod StatementTypes
 pub mod Statements
 pub mod Syntax
