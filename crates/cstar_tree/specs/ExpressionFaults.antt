@@ -1,0 +1,214 @@
+-- The faults of typing that stand in an expression, each with its number and its place. A fault
+-- stands at a node only where the parts of the node have types; at a name whatever else is faulty.
+use Rattle.std.specs.Prelude.{◌≡◌, ℕ, ◌+◌, ℤ, Bool, true, false, List, [], ◌∷◌, ◌++◌, map, length, slice_get, Option, Some, None, Box, Vec}
+use Rattle.std.specs.declared.alloc.Global.{Global}
+use Rattle.cstar_base.specs.declared.elem.Elem.{Elem}
+use Rattle.cstar_base.specs.declared.operators.Combiner.{Combiner}
+use Rattle.cstar_base.specs.declared.operators.Direction.{Direction}
+use Rattle.cstar_base.specs.declared.operators.Inclusion.{Inclusion}
+use Rattle.cstar_base.specs.declared.operators.Place.{Place}
+use Rattle.cstar_base.specs.declared.operators.SegmentMode.{SegmentMode}
+use Rattle.cstar_base.specs.declared.operators.SegmentMode.TheVariants as M
+use Rattle.cstar_tree.specs.declared.syntax.AssignOp.{AssignOp}
+use Rattle.cstar_tree.specs.declared.syntax.Cast.{Cast}
+use Rattle.cstar_tree.specs.declared.syntax.Expr.{Expr}
+use Rattle.cstar_tree.specs.declared.syntax.Expr as E
+use Rattle.cstar_tree.specs.declared.syntax.Expr.TheOpen.{Expr-F}
+use Rattle.cstar_tree.specs.declared.syntax.Expr.TheViews.{out-Expr}
+use Rattle.cstar_tree.specs.declared.syntax.Name.{Name}
+use Rattle.cstar_tree.specs.declared.syntax.PrefixOp.TheVariants as P
+use Rattle.cstar_tree.specs.declared.syntax.ReduceOp.{ReduceOp}
+use Rattle.cstar_tree.specs.declared.syntax.ShapeRef.{ShapeRef}
+use Rattle.cstar_tree.specs.declared.syntax.ShapeRef.TheVariants as R
+use Rattle.cstar_tree.specs.declared.syntax.StepOp.{StepOp}
+use Rattle.cstar_tree.specs.declared.syntax.TypeName.{TypeName}
+use Rattle.cstar_tree.specs.declared.typed.Piece.{Piece}
+use Rattle.cstar_tree.specs.declared.typed.TExpr.{TExpr}
+use Rattle.cstar_tree.specs.declared.typed.ValueType.{ValueType}
+use Rattle.cstar_tree.specs.declared.typed.Variable.{Variable}
+use Rattle.cstar_tree.specs.Syntax.{place_of}
+use Rattle.cstar_tree.specs.Typed.{type_of}
+use Rattle.cstar_tree.specs.Constants.{axis_among, constant_number}
+use Rattle.cstar_tree.specs.Conversions.{parallel, scalar}
+use Rattle.cstar_tree.specs.ExpressionTypes.{HasValue, IsVariable, Types, TypesEach, TypesIndexes, callee, result_known}
+use Rattle.cstar_tree.specs.Formats.{conversions, pieces_of}
+use Rattle.cstar_tree.specs.Headers.{Leads, Placed, Program, parameter_types, returns_of}
+use Rattle.cstar_tree.specs.Operations.{folds, many, one, sends, target_of}
+use Rattle.cstar_tree.specs.Scopes.{Here, Meaning, VariableType, a_function, a_shape, a_variable, extents_of, index_place, meaning, part, shape_of, written_type}
+use Rattle.cstar_tree.specs.SyntaxParts.{parts_of}
+
+-- the kinds of declarations, and the kind of what a name stands for
+pub data Kind : Type 0 where
+  shape function variable : Kind
+
+abbrev pub kind_of : Meaning → Kind
+kind_of (a_shape s) = shape
+kind_of (a_function f) = function
+kind_of (a_variable v t) = variable
+
+-- an expression names a shape itself
+pub data NamesShape : Expr → ShapeRef → Type 0 where
+  in_cast : {p : Place} {written : TypeName} {s : ShapeRef} {operand : Box Expr Global} → written.shape ≡ Some s → NamesShape (E.ParallelCast p written operand) s
+  in_positions : {p : Place} {s : ShapeRef} → NamesShape (E.PositionsOf p s) s
+  in_rank : {p : Place} {s : ShapeRef} → NamesShape (E.RankOf p s) s
+  in_dim : {p : Place} {s : ShapeRef} {axis : Box Expr Global} → NamesShape (E.DimOf p s axis) s
+
+-- a scan or an enumerate with this mode names segment bits, or none
+pub data NamesBit : Expr → SegmentMode → Option Name → Type 0 where
+  in_scan : {p : Place} {source axis : Box Expr Global} {combiner : Combiner} {direction : Direction} {mode : SegmentMode} {bit : Option Name} {inclusion : Inclusion} → NamesBit (E.Scan p source axis combiner direction mode bit inclusion) mode bit
+  in_enumerate : {p : Place} {axis : Box Expr Global} {direction : Direction} {mode : SegmentMode} {bit : Option Name} {inclusion : Inclusion} → NamesBit (E.Enumerate p axis direction inclusion mode bit) mode bit
+
+-- a name in an expression, and the kind of declaration that its place needs
+pub data Uses : Expr → Kind → Name → Type 0 where
+  as_value : {n : Name} → Uses (E.Name n) variable n
+  as_array : {n : Name} {bracket : Place} {index : Box Expr Global} → Uses (E.Element n bracket index) variable n
+  as_indexed : {p : Place} (indexes : Vec Expr Global) {n : Name} → Uses (E.LeftIndex p indexes n) variable n
+  as_bit : {e : Expr} {mode : SegmentMode} {n : Name} → NamesBit e mode (Some n) → Uses e variable n
+  as_function : {n : Name} (arguments : Vec Expr Global) → Uses (E.Call n arguments) function n
+  as_shape : {e : Expr} {n : Name} → NamesShape e (R.Named n) → Uses e shape n
+
+-- a parallel `bool` variable that is no array
+pub data HoldsBits : VariableType → ℕ → Type 0 where
+  holds_bits : {elem : Elem} {shape : ℕ} → elem.bits ≡ 1 → HoldsBits (record { value = parallel elem shape; array = None }) shape
+
+-- segment bits, if they are named, that have no fault
+pub data IsSoundBit (here : Here) : Option Name → Type 0 where
+  no_bit : IsSoundBit here None
+  bit : {n : Name} {v : Variable} {ty : VariableType} {s : ℕ} → IsVariable here n v ty → HoldsBits ty s → here.current ≡ Some s → IsSoundBit here (Some n)
+
+-- an axis that is a constant, and one that is moreover no fault along the current shape
+abbrev pub IsAxis : Program → Here → Expr → ℤ → Type 0
+IsAxis program here axis number = HasValue program (part here) axis × constant_number here axis ≡ Some number
+
+pub data IsSoundAxis (program : Program) (here : Here) (axis : Expr) : Type 0 where
+  under_none : {number : ℤ} → here.current ≡ None → IsAxis program here axis number → IsSoundAxis program here axis
+  under_shape : {number : ℤ} {s known : ℕ} {extents : List ℕ} → here.current ≡ Some s → extents_of here s ≡ Some extents → IsAxis program here axis number → axis_among extents (Some number) ≡ Some known → IsSoundAxis program here axis
+
+-- an intrinsic that goes along an axis of the current shape, with its axis and segment bits
+pub data GoesAlong : Expr → Expr → SegmentMode → Option Name → Type 0 where
+  pcoord : {p : Place} (axis : Box Expr Global) → GoesAlong (E.Pcoord p axis) axis.value M.NoSegments None
+  scan : {p : Place} (source axis : Box Expr Global) {combiner : Combiner} {direction : Direction} {mode : SegmentMode} {bit : Option Name} {inclusion : Inclusion} → GoesAlong (E.Scan p source axis combiner direction mode bit inclusion) axis.value mode bit
+  enumerate : {p : Place} (axis : Box Expr Global) {direction : Direction} {mode : SegmentMode} {bit : Option Name} {inclusion : Inclusion} → GoesAlong (E.Enumerate p axis direction inclusion mode bit) axis.value mode bit
+
+-- the source of a scan has a type; the others have none
+pub data HasSource (program : Program) (here : Here) : Expr → Type 0 where
+  no_source : {p : Place} {axis : Box Expr Global} → HasSource program here (E.Pcoord p axis)
+  for_enumerate : {p : Place} {axis : Box Expr Global} {direction : Direction} {mode : SegmentMode} {bit : Option Name} {inclusion : Inclusion} → HasSource program here (E.Enumerate p axis direction inclusion mode bit)
+  source : {p : Place} (source : Box Expr Global) {axis : Box Expr Global} {combiner : Combiner} {direction : Direction} {mode : SegmentMode} {bit : Option Name} {inclusion : Inclusion} → HasValue program (part here) source.value → HasSource program here (E.Scan p source axis combiner direction mode bit inclusion)
+
+-- all the parts and names of such an intrinsic are sound
+pub record IsReady (program : Program) (here : Here) (e : Expr) (mode : SegmentMode) (bit : Option Name) : Type 0 where
+  pub axis : Expr
+  pub along : GoesAlong e axis mode bit
+  pub sound_axis : IsSoundAxis program here axis
+  pub sound_bit : IsSoundBit here bit
+  pub source : HasSource program here e
+
+-- the mode without segments goes with no bits, and each other mode with bits
+pub data Mismatch : SegmentMode → Option Name → Type 0 where
+  bit_without_segments : {n : Name} → Mismatch M.NoSegments (Some n)
+  segments_without_bit : {mode : SegmentMode} → (mode ≡ M.NoSegments → ⊥) → Mismatch mode None
+
+-- `++` or `--`, before or behind its operand
+pub data IsStep : Place → Expr → Expr → Type 0 where
+  before : {p : Place} {op : StepOp} (operand : Box Expr Global) → IsStep p operand.value (E.Prefix p (P.Step op) operand)
+  behind : {p : Place} {op : StepOp} (operand : Box Expr Global) → IsStep p operand.value (E.Postfix p op operand)
+
+-- a value whose shape is not the current one: there is none, or it is another
+pub data IsAway : Option ℕ → ℕ → ℕ → Type 0 where
+  no_current : {s : ℕ} → IsAway None s 10
+  other : {c s : ℕ} → (c ≡ s → ⊥) → IsAway (Some c) s 11
+
+-- the place of the innermost of casts, or else this one
+abbrev pub last_place : List Cast → Place → Place
+last_place [] otherwise = otherwise
+last_place (c ∷ cs) otherwise = last_place cs c.place
+
+-- a call of a function, with its typed arguments
+pub record IsCall (program : Program) (here : Here) (n : Name) (arguments : List Expr) (f : ℕ) (placed : Placed) (given : List TExpr) : Type 0 where
+  pub is_function : meaning here n.word ≡ Some (a_function f)
+  pub is_placed : slice_get program.functions f ≡ Some placed
+  pub typed : TypesEach program (part here) arguments given
+
+abbrev pub parameters_of : Here → Placed → ℕ → List (Option ValueType)
+parameters_of here placed f = parameter_types (callee here placed f) 0 placed.function.parameters.items
+
+abbrev pub result_of : Here → Placed → ℕ → Option ValueType
+result_of here placed f = result_known (returns_of (callee here placed f) placed.function.result)
+
+-- a fault with this number stands at this place, at a node or at a name of it
+pub data FaultAt (program : Program) (here : Here) : Expr → ℕ → Place → Type 0 where
+  -- names
+  unknown : {e : Expr} {kind : Kind} {n : Name} → Uses e kind n → meaning here n.word ≡ None → FaultAt program here e 7 n.place
+  wrong_kind : {e : Expr} {kind : Kind} {n : Name} {m : Meaning} → Uses e kind n → meaning here n.word ≡ Some m → (kind_of m ≡ kind → ⊥) → FaultAt program here e 8 n.place
+  no_bits : {e : Expr} {mode : SegmentMode} {n : Name} {v : Variable} {ty : VariableType} → NamesBit e mode (Some n) → IsVariable here n v ty → ((s : ℕ) → HoldsBits ty s → ⊥) → FaultAt program here e 8 n.place
+  no_current : {e : Expr} {p : Place} → NamesShape e (R.Current p) → here.current ≡ None → FaultAt program here e 10 p
+  bits_away : {e : Expr} {mode : SegmentMode} {n : Name} {v : Variable} {ty : VariableType} {s : ℕ} → NamesBit e mode (Some n) → IsVariable here n v ty → HoldsBits ty s → (here.current ≡ Some s → ⊥) → FaultAt program here e 11 n.place
+  array_alone : {n : Name} {v : Variable} {ty : ValueType} {length : ℕ} → IsVariable here n v (record { value = ty; array = Some length }) → FaultAt program here (E.Name n) 32 n.place
+  array_indexed : {p : Place} (indexes : Vec Expr Global) {n : Name} {v : Variable} {ty : ValueType} {length : ℕ} → IsVariable here n v (record { value = ty; array = Some length }) → FaultAt program here (E.LeftIndex p indexes n) 32 n.place
+  no_array : {bracket : Place} {index : Box Expr Global} {n : Name} {v : Variable} {ty : ValueType} → IsVariable here n v (record { value = ty; array = None }) → FaultAt program here (E.Element n bracket index) 32 n.place
+  -- whole parallel values away from their shape
+  variable_away : {n : Name} {v : Variable} {elem : Elem} {s number : ℕ} → IsVariable here n v (record { value = parallel elem s; array = None }) → IsAway here.current s number → FaultAt program here (E.Name n) number n.place
+  element_away : {n : Name} {bracket : Place} {v : Variable} {elem : Elem} {s length number : ℕ} {i : TExpr} (index : Box Expr Global) → IsVariable here n v (record { value = parallel elem s; array = Some length }) → Types program (part here) index.value i true → (type_of i).shape ≡ None → IsAway here.current s number → FaultAt program here (E.Element n bracket index) number n.place
+  cast_away : {p : Place} {written : TypeName} {elem : Elem} {s number : ℕ} (operand : Box Expr Global) → written_type here written ≡ Some (parallel elem s) → HasValue program (part here) operand.value → IsAway here.current s number → FaultAt program here (E.ParallelCast p written operand) number p
+  intrinsic_alone : {e : Expr} {mode : SegmentMode} {bit : Option Name} → IsReady program here e mode bit → here.current ≡ None → FaultAt program here e 10 (place_of e)
+  argument_away : {n : Name} (arguments : Vec Expr Global) {f : ℕ} {placed : Placed} {given : List TExpr} {elem : Elem} {s : ℕ} (which : ℕ) → IsCall program here n arguments.items f placed given → slice_get (parameters_of here placed f) which ≡ Some (Some (parallel elem s)) → (here.current ≡ Some s → ⊥) → FaultAt program here (E.Call n arguments) 11 n.place
+  result_away : {n : Name} (arguments : Vec Expr Global) {f : ℕ} {placed : Placed} {given : List TExpr} {elem : Elem} {s : ℕ} → IsCall program here n arguments.items f placed given → result_of here placed f ≡ Some (parallel elem s) → (here.current ≡ Some s → ⊥) → FaultAt program here (E.Call n arguments) 11 n.place
+  -- parallel values in the place of scalar ones
+  parallel_index : {n : Name} {bracket : Place} {v : Variable} {ty : ValueType} {length s : ℕ} {i : TExpr} (index : Box Expr Global) → IsVariable here n v (record { value = ty; array = Some length }) → Types program (part here) index.value i true → (type_of i).shape ≡ Some s → FaultAt program here (E.Element n bracket index) 12 bracket
+  parallel_cast : (chain : Vec Cast Global) {x : TExpr} {s : ℕ} (operand : Box Expr Global) → Types program (part here) operand.value x true → (type_of x).shape ≡ Some s → FaultAt program here (E.Casts chain operand) 12 (last_place chain.items (place_of operand.value))
+  parallel_argument : {n : Name} (arguments : Vec Expr Global) {f s : ℕ} {placed : Placed} {given : List TExpr} {elem : Elem} {a : TExpr} (which : ℕ) → IsCall program here n arguments.items f placed given → slice_get (parameters_of here placed f) which ≡ Some (Some (scalar elem)) → slice_get given which ≡ Some a → (type_of a).shape ≡ Some s → FaultAt program here (E.Call n arguments) 12 n.place
+  parallel_printed : {p : Place} {text : List ℕ} (arguments : Vec Expr Global) {given : List TExpr} {s : ℕ} {a : TExpr} (which : ℕ) → TypesEach program (part here) arguments.items given → slice_get given which ≡ Some a → (type_of a).shape ≡ Some s → FaultAt program here (E.Printf p text arguments) 12 p
+  parallel_stored : {p : Place} {op : AssignOp} {t v : TExpr} {s : ℕ} (target value : Box Expr Global) → Types program (part here) target.value t true → Types program (part here) value.value v true → target_of t ≡ Some one → (type_of t).shape ≡ None → (type_of v).shape ≡ Some s → folds op ≡ false → FaultAt program here (E.Assign p op target value) 12 p
+  -- scalar values in the place of parallel ones
+  scalar_reduced : {p : Place} {op : ReduceOp} {x : TExpr} (operand : Box Expr Global) → Types program (part here) operand.value x true → (type_of x).shape ≡ None → FaultAt program here (E.Prefix p (P.Reduce op) operand) 13 p
+  scalar_scanned : {p : Place} {combiner : Combiner} {direction : Direction} {mode : SegmentMode} {bit : Option Name} {inclusion : Inclusion} {x : TExpr} (source axis : Box Expr Global) → IsReady program here (E.Scan p source axis combiner direction mode bit inclusion) mode bit → Types program (part here) source.value x true → (type_of x).shape ≡ None → FaultAt program here (E.Scan p source axis combiner direction mode bit inclusion) 13 p
+  -- left indexes and targets
+  index_count : {p : Place} {n : Name} {v : Variable} {elem : Elem} {s : ℕ} {extents : List ℕ} {given : List TExpr} (indexes : Vec Expr Global) → IsVariable here n v (record { value = parallel elem s; array = None }) → extents_of here s ≡ Some extents → TypesIndexes program here n 0 indexes.items given → (length indexes.items ≡ length extents → ⊥) → FaultAt program here (E.LeftIndex p indexes n) 14 p
+  index_of_scalar : {p : Place} {n : Name} {v : Variable} {elem : Elem} {given : List TExpr} (indexes : Vec Expr Global) → IsVariable here n v (record { value = scalar elem; array = None }) → TypesIndexes program here n 0 indexes.items given → FaultAt program here (E.LeftIndex p indexes n) 14 p
+  dot_alone : {p : Place} → here.dot ≡ None → FaultAt program here (E.Dot p) 15 p
+  no_target : {p : Place} {op : AssignOp} {t v : TExpr} (target value : Box Expr Global) → Types program (part here) target.value t true → Types program (part here) value.value v true → target_of t ≡ None → FaultAt program here (E.Assign p op target value) 16 p
+  no_target_of_step : {p : Place} {e operand : Expr} {t : TExpr} → IsStep p operand e → Types program (part here) operand t true → target_of t ≡ None → FaultAt program here e 16 p
+  send_inside : {p q : Place} {op : AssignOp} {t v : TExpr} (target value : Box Expr Global) → Types program (part here) target.value t true → Types program (part here) value.value v true → target_of t ≡ Some (many q) → sends op ≡ true → here.whole ≡ false → FaultAt program here (E.Assign p op target value) 17 p
+  send_operator : {p q : Place} {op : AssignOp} {t : TExpr} (target value : Box Expr Global) → Types program (part here) target.value t true → target_of t ≡ Some (many q) → sends op ≡ false → FaultAt program here (E.Assign p op target value) 18 q
+  send_step : {p q : Place} {e operand : Expr} {t : TExpr} → IsStep p operand e → Types program (part here) operand t true → target_of t ≡ Some (many q) → FaultAt program here e 18 q
+  -- calls and intrinsics
+  argument_count : {n : Name} (arguments : Vec Expr Global) {f : ℕ} {placed : Placed} {given : List TExpr} → IsCall program here n arguments.items f placed given → (length given ≡ length (parameters_of here placed f) → ⊥) → FaultAt program here (E.Call n arguments) 19 n.place
+  mode_mismatch : {e : Expr} {mode : SegmentMode} {bit : Option Name} → IsReady program here e mode bit → Mismatch mode bit → FaultAt program here e 19 (place_of e)
+  axis_outside : {e axis : Expr} {mode : SegmentMode} {bit : Option Name} {number : ℤ} {s : ℕ} {extents : List ℕ} → GoesAlong e axis mode bit → IsAxis program here axis number → here.current ≡ Some s → extents_of here s ≡ Some extents → axis_among extents (Some number) ≡ None → FaultAt program here e 21 (place_of axis)
+  axis_outside_dim : {p : Place} {written : ShapeRef} {number : ℤ} {s : ℕ} {extents : List ℕ} (axis : Box Expr Global) → IsAxis program here axis.value number → shape_of here written ≡ Some s → extents_of here s ≡ Some extents → axis_among extents (Some number) ≡ None → FaultAt program here (E.DimOf p written axis) 21 (place_of axis.value)
+  recursion : {n : Name} (arguments : Vec Expr Global) {f around : ℕ} {placed : Placed} {given : List TExpr} → IsCall program here n arguments.items f placed given → here.around ≡ Some around → Leads program.calls f around → FaultAt program here (E.Call n arguments) 23 n.place
+  no_format : {p : Place} {text : List ℕ} (arguments : Vec Expr Global) {given : List TExpr} → TypesEach program (part here) arguments.items given → pieces_of text ≡ None → FaultAt program here (E.Printf p text arguments) 25 p
+  value_count : {p : Place} {text : List ℕ} (arguments : Vec Expr Global) {given : List TExpr} {pieces : List Piece} → TypesEach program (part here) arguments.items given → pieces_of text ≡ Some pieces → (conversions pieces ≡ length arguments.items → ⊥) → FaultAt program here (E.Printf p text arguments) 25 p
+  axis_no_constant : {e axis : Expr} {mode : SegmentMode} {bit : Option Name} → GoesAlong e axis mode bit → HasValue program (part here) axis → constant_number here axis ≡ None → FaultAt program here e 26 (place_of axis)
+  axis_no_constant_dim : {p : Place} {written : ShapeRef} (axis : Box Expr Global) → HasValue program (part here) axis.value → constant_number here axis.value ≡ None → FaultAt program here (E.DimOf p written axis) 26 (place_of axis.value)
+
+-- a part of an expression with its place, and whether it needs a value there
+pub record Part : Type 0 where
+  pub place : Here
+  pub expr : Expr
+  pub needs_value : Bool
+
+abbrev pub value_parts : Here → List Expr → List Part
+value_parts here es = map (λ e. record { place = part here; expr = e; needs_value = true }) es
+
+unfoldable pub index_parts : Here → List ℕ → ℕ → List Expr → List Part
+index_parts here word axis [] = []
+index_parts here word axis (e ∷ es) = record { place = index_place here word axis; expr = e; needs_value = true } ∷ index_parts here word (axis + 1) es
+
+-- brackets alone stand for what is in them
+abbrev pub placed_parts : Here → Expr-F Expr → List Part
+placed_parts here (Expr-F.Brackets p inner) = record { place = here; expr = inner.value; needs_value = false } ∷ []
+placed_parts here (Expr-F.LeftIndex p indexes n) = index_parts here n.word 0 indexes.items
+placed_parts here node = value_parts here (parts_of node)
+
+-- a fault stands in an expression: at it, or in a part, or where a part has no value and needs one
+pub data FaultIn (program : Program) : Here → Expr → ℕ → Place → Type 0 where
+  at : {here : Here} {e : Expr} {number : ℕ} {p : Place} → FaultAt program here e number p → FaultIn program here e number p
+  in_part : {here : Here} {e : Expr} {number : ℕ} {p : Place} (which : ℕ) (piece : Part) → slice_get (placed_parts here (out-Expr e)) which ≡ Some piece → FaultIn program piece.place piece.expr number p → FaultIn program here e number p
+  no_value : {here : Here} {e : Expr} {t : TExpr} (which : ℕ) (piece : Part) → slice_get (placed_parts here (out-Expr e)) which ≡ Some piece → piece.needs_value ≡ true → Types program piece.place piece.expr t false → FaultIn program here e 8 (place_of piece.expr)
+
+-- a fault stands in an expression that needs a value
+pub data ValueFaultIn (program : Program) (here : Here) (e : Expr) : ℕ → Place → Type 0 where
+  within : {number : ℕ} {p : Place} → FaultIn program here e number p → ValueFaultIn program here e number p
+  without_value : {t : TExpr} → Types program here e t false → ValueFaultIn program here e 8 (place_of e)
