@@ -1,6 +1,8 @@
 //! What an expression of the source means, as far as the compiler has to know it.
 #![tactic(auto)]
 
+pub mod laws;
+
 ghost use Rattle.std.specs.Prelude.{◌<◌, ◌^◌, IfSome};
 ghost use Rattle.cstar_tree.specs.Typed.{type_of};
 

@@ -1,0 +1,14 @@
+pub mod Examples
+pub mod Expressions
+pub mod Gets
+pub mod Narrowing
+pub mod Orders
+pub mod Printing
+pub mod Programs
+pub mod Reductions
+pub mod Scans
+pub mod Sends
+pub mod State
+pub mod Statements
+pub mod Targets
+pub mod Values
