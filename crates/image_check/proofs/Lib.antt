@@ -1,6 +1,7 @@
-pub mod Chains
-pub mod Cleanness
-pub mod Marks
+pub mod CallLaws
+pub mod FaultLaws
+pub mod JumpMarks
 pub mod Shapes
+pub mod StackLaws
 pub mod Starts
 pub mod StepLaws

@@ -1,11 +1,12 @@
 -- Units that begin at or before a place, and instructions of units.
-use Rattle.std.proofs.Common.{◌≡◌, ℕ, zero, suc, ◌+◌, ◌<◌, ◌≤◌, List, [], ◌∷◌, length, map, get_or, refl, sym, ap, ◌∙◌, arith, below_more}
+use Rattle.std.proofs.Common.{◌≡◌, ℕ, zero, suc, ◌+◌, ◌<◌, ◌≤◌, List, [], ◌∷◌, length, map, get_or, refl, sym, ap, ◌∙◌, inl, inr, arith, below_more}
 use Rattle.std.specs.Prelude.{true, false, nat_le}
-use Rattle.std.proofs.lemmas.Bool.{lt-leb, le-leb}
+use Rattle.std.proofs.lemmas.Bool.{lt-leb, le-leb, cases_lt}
 use Rattle.std.proofs.lemmas.Bool.Decides.{nat_tests}
 use Rattle.std.specs.List.{slice_index}
-use Rattle.paris_code.specs.Units.{start_of, started}
+use Rattle.paris_code.specs.Units.{start_of, starts_of, started, unit_of}
 use Rattle.paris_code.specs.declared.program.Entry.{Entry}
+use Rattle.paris_code.specs.declared.program.Image.{Image}
 use Rattle.std.proofs.lemmas.List.{get_or-map, length-map}
 use Rattle.image_check.specs.Tables.{AreBegun}
 
@@ -67,3 +68,15 @@ begun_more units place count entry inside before begun =
     let start : slice_index (map start_of units) count ≡ start_of (get_or units count entry) = read_start units count entry inside in
     let P : ℕ → Type 0 = λ unit. slice_index (map start_of units) unit ≤ place in
     (omega (arith, same, inside), below_more P count begun.1 (omega (arith, start, before)))
+
+started-le : (starts : List ℕ) (place : ℕ) → started starts place ≤ length starts
+started-le [] place = omega (arith, started-none place)
+started-le (start ∷ starts) place =
+    elim (cases_lt place start) [
+      | inl h ↦ omega (arith, started-stop start starts place h)
+      | inr h ↦ omega (arith, started-more start starts place h, started-le starts place)
+    ]
+
+-- an instruction stands in a unit of the image
+pub unit_inside : (image : Image) (place : ℕ) → 0 < length image.units.items → unit_of image place < length image.units.items
+unit_inside image place some = omega (arith, some, started-le (starts_of image) place, length-map image.units.items start_of)

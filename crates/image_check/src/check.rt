@@ -2,8 +2,9 @@
 
 ghost use Rattle.std.specs.Prelude.{ℕ, ◌≡◌, ◌≢◌, ◌↔◌, ◌<◌, ◌≤◌, IsTrue, IfOk, length, Some, MatchOption, MatchResult};
 ghost use Rattle.paris_code.specs.RuleTarget.{HasUnits};
-ghost use Rattle.paris_code.specs.Sound.{IsNumbered, IsSound};
-ghost use Rattle.image_check.specs.Tables.{AllKeepRules, AreTables, IsClean};
+ghost use Rattle.paris_code.specs.Sound.{IsNumbered, KeepsRules, IsSound};
+ghost use Rattle.image_check.specs.Faults.{IsFirstFault, IsAnswer, PartsKeep};
+ghost use Rattle.image_check.specs.Tables.{AllKeepRules, AreTables, TellsStack, IsLeastRule, IsLeastRuleOfParts};
 
 use crate::fault::{Fault, Rule};
 use crate::parts::broken_part;
@@ -54,7 +55,8 @@ fn is_at(found: Option<usize>, place: usize) -> bool
 fn broken_rule(image: &Image, tables: &Tables, place: usize, instr: &Instr) -> Option<Rule>
     requires tables { AreTables image.now tables.now }
     requires inside { place < length image.now.code.items }
-    ensures { MatchOption result (IsClean image.now tables.now place instr.now) (λ _. Unit {0}) }
+    requires told { TellsStack image.now tables.now place instr.now }
+    ensures { MatchOption result (KeepsRules image.now place instr.now) (IsLeastRule image.now place instr.now) }
 {
     let shapes = image.shapes.as_slice();
     let numbers = tables.numbers.as_slice();
@@ -83,7 +85,7 @@ fn broken_rule(image: &Image, tables: &Tables, place: usize, instr: &Instr) -> O
 fn first_fault(image: &Image, tables: &Tables) -> Option<Fault>
     requires tables { AreTables image.now tables.now }
     requires numbered { IsNumbered image.now }
-    ensures { MatchOption result (AllKeepRules image.now) (λ fault. fault.at < length image.now.code.items) }
+    ensures { MatchOption result (AllKeepRules image.now) (λ fault. IsFirstFault image.now fault.rule fault.at) }
 {
     for place in 0..image.code.len() {
         match broken_rule(image, tables, place, instruction(image, place)) {
@@ -99,20 +101,42 @@ fn first_fault(image: &Image, tables: &Tables) -> Option<Fault>
     None
 }
 
+/// The fault of a shape or a final variable.
+fn fault_of_parts(image: &Image, rule: Rule) -> Fault
+    requires numbered { IsNumbered image.now }
+    requires each { AllKeepRules image.now }
+    requires least { IsLeastRuleOfParts image.now rule }
+    ensures { IsFirstFault image.now result.rule result.at }
+{
+    Fault {
+        rule,
+        at: image.code.len() as u32,
+    }
+}
+
+/// The fault of the units.
+fn fault_of_units(image: &Image) -> Fault
+    requires numbered { IsNumbered image.now }
+    requires units { ¬ HasUnits image.now }
+    ensures { IsAnswer image.now result.rule result.at }
+{
+    Fault {
+        rule: Rule::Target,
+        at: image.code.len() as u32,
+    }
+}
+
 /// The least place at which an image rule is broken, and the least rule that is broken there.
 fn least_fault(image: &Image, tables: &Tables) -> Option<Fault>
     requires tables { AreTables image.now tables.now }
     requires numbered { IsNumbered image.now }
     requires units { HasUnits image.now }
-    ensures { MatchOption result (IsSound image.now) (λ fault. fault.at ≤ length image.now.code.items) }
+    ensures { MatchOption result (IsSound image.now) (λ fault. ¬ IsSound image.now × IsAnswer image.now fault.rule fault.at) }
 {
     match first_fault(image, tables) {
         Some(fault) => Some(fault),
         None => match broken_part(image) {
-            Some(rule) => Some(Fault {
-                rule,
-                at: image.code.len() as u32,
-            }),
+            Some(rule) => Some(fault_of_parts(image, rule)),
             None => None,
         },
     }
@@ -122,13 +146,10 @@ fn least_fault(image: &Image, tables: &Tables) -> Option<Fault>
 /// the units are broken, that alone.
 pub fn find_fault(alloc: Global, image: &Image) -> Result<Option<Fault>, AllocError>
     requires { IsNumbered image.now }
-    ensures { IfOk result (λ found. MatchOption found (IsSound image.now) (λ fault. fault.at ≤ length image.now.code.items)) }
+    ensures { IfOk result (λ found. MatchOption found (IsSound image.now) (λ fault. ¬ IsSound image.now × IsAnswer image.now fault.rule fault.at)) }
 {
     if !are_starts(image.units.as_slice(), image.code.len()) {
-        return Ok(Some(Fault {
-            rule: Rule::Target,
-            at: image.code.len() as u32,
-        }));
+        return Ok(Some(fault_of_units(image)));
     }
     let tables = tables_of(alloc, image)?;
     Ok(least_fault(image, &tables))

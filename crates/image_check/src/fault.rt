@@ -1,6 +1,7 @@
 //! What breaks an image rule.
 
-ghost use Rattle.std.specs.Prelude.{◌≤◌};
+ghost use Rattle.std.specs.Prelude.{◌≡◌};
+ghost use Rattle.image_check.specs.Faults.{number_of};
 
 use paris_code::Image;
 
@@ -18,8 +19,7 @@ pub enum Rule {
 impl Rule {
     /// The number of the rule.
     pub fn number(self) -> u8
-        ensures least { 1 ≤ result }
-        ensures greatest { result ≤ 6 }
+        ensures { result ≡ number_of self }
     {
         self as u8
     }

@@ -1,9 +1,11 @@
 //! The check of a linked image: whether it keeps the six image rules.
 #![tactic(auto)]
 
+mod chains;
 mod check;
 mod fault;
 mod lookup;
+mod marks;
 mod parts;
 mod rule_back_edge;
 mod rule_field;

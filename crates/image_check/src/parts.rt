@@ -5,6 +5,7 @@ ghost use Rattle.paris_code.specs.Shapes.{shape_of, shapes_of};
 ghost use Rattle.paris_code.specs.RuleField.{Fits};
 ghost use Rattle.paris_code.specs.RuleSet.{FieldExists};
 ghost use Rattle.paris_code.specs.Sound.{field_of, IsShape, KeepsShapes};
+ghost use Rattle.image_check.specs.Tables.{IsLeastRuleOfParts};
 
 use crate::fault::Rule;
 use crate::lookup::{fits, set_exists};
@@ -52,7 +53,7 @@ fn finals_exist(shapes: &[ShapeBits], finals: &[Final]) -> bool
 
 /// The least image rule that the shapes and the final variables break.
 pub fn broken_part(image: &Image) -> Option<Rule>
-    ensures { MatchOption result (KeepsShapes (shapes_of image.now) × All (λ f. FieldExists (shapes_of image.now) (field_of f) × Fits (shapes_of image.now) (field_of f)) image.now.finals.items) (λ _. Unit {0}) }
+    ensures { MatchOption result (KeepsShapes (shapes_of image.now) × All (λ f. FieldExists (shapes_of image.now) (field_of f) × Fits (shapes_of image.now) (field_of f)) image.now.finals.items) (IsLeastRuleOfParts image.now) }
 {
     let shapes = image.shapes.as_slice();
     let finals = image.finals.as_slice();

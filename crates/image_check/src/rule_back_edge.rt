@@ -1,11 +1,12 @@
 //! Image rule 4: each way back, and each call, costs a turn.
 
-ghost use Rattle.std.specs.Prelude.{ℕ, ◌≡◌, ◌≢◌, ◌↔◌, ◌<◌, ◌≤◌, ◌+◌, IsTrue, length, false, true, MatchOption, IfOk};
-ghost use Rattle.std.specs.List.{slice_index_or};
+ghost use Rattle.std.specs.Prelude.{ℕ, ◌≡◌, ◌≢◌, ◌↔◌, ◌<◌, ◌≤◌, ◌+◌, IsTrue, length, MatchOption, IfOk};
 ghost use Rattle.paris_code.specs.Units.{unit_of, IsAt};
 ghost use Rattle.paris_code.specs.RuleBackEdge.{IsNoJumpTo, IsNoTarget, IsBehindTurn, GoesBackToTurn, KeepsBackEdge};
 ghost use Rattle.image_check.specs.Tables.{AreUnitNumbers, MarksTargets};
+ghost use Rattle.image_check.specs.Marks.{IsMarked};
 
+use crate::marks::{is_marked, set_mark};
 use crate::units::instruction;
 use paris_code::{Image, Instr};
 use std::alloc::{AllocError, Global};
@@ -25,15 +26,11 @@ fn jump_target(instr: &Instr) -> Option<u32>
 /// Marks the target of the instruction, if it is a jump.
 fn mark(marks: &mut Vec<bool>, instr: &Instr)
     ensures same { length marks.new.items ≡ length marks.old.items }
-    ensures kept { (place : ℕ) → slice_index_or marks.new.items place true ≡ false → slice_index_or marks.old.items place true ≡ false }
-    ensures marked { (place : ℕ) → slice_index_or marks.new.items place true ≡ false → IsNoJumpTo place instr.now }
+    ensures marked { (place : ℕ) → place < length marks.old.items → (¬ IsMarked marks.new.items place) ↔ ((¬ IsMarked marks.old.items place) × IsNoJumpTo place instr.now) }
 {
-    let Some(target) = jump_target(instr) else {
-        return;
-    };
-    let target = target as usize;
-    if target < marks.len() {
-        marks[target] = true;
+    match jump_target(instr) {
+        Some(target) => set_mark(marks, target as usize),
+        None => {}
     }
 }
 
@@ -87,6 +84,15 @@ fn is_behind_turn(image: &Image, numbers: &[u32], place: usize) -> bool
     is_turn_before(image, numbers, place - 1, place)
 }
 
+/// Whether no jump leads to a place.
+fn is_no_target(image: &Image, marks: &[bool], place: usize) -> bool
+    requires marked { MarksTargets image.now.code.items (length image.now.code.items) marks.now }
+    requires inside { place < length marks.now }
+    ensures { IsTrue result ↔ IsNoTarget image.now place }
+{
+    !is_marked(marks, place)
+}
+
 /// Whether an instruction keeps image rule 4.
 pub fn keeps_back_edge(
     image: &Image,
@@ -99,7 +105,7 @@ pub fn keeps_back_edge(
     requires marked { MarksTargets image.now.code.items (length image.now.code.items) marks.now }
     requires inside { place < length numbers.now }
     requires marks { place < length marks.now }
-    ensures { IsTrue result → KeepsBackEdge image.now place instr.now }
+    ensures { IsTrue result ↔ KeepsBackEdge image.now place instr.now }
 {
     match instr {
         Instr::FrontJump { target } => goes_back_to_turn(image, place, *target as usize),
@@ -107,7 +113,9 @@ pub fn keeps_back_edge(
         Instr::FrontJumpNonzero { target, .. } => {
             goes_back_to_turn(image, place, *target as usize)
         }
-        Instr::FrontCall { .. } => is_behind_turn(image, numbers, place) && !marks[place],
+        Instr::FrontCall { .. } => {
+            is_behind_turn(image, numbers, place) && is_no_target(image, marks, place)
+        }
         _ => true,
     }
 }

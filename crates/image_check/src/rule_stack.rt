@@ -1,18 +1,25 @@
 //! Image rule 3: how calls may be nested.
 
-ghost use Rattle.std.specs.Prelude.{ℕ, ◌≡◌, ◌≢◌, ◌↔◌, ◌<◌, ◌≤◌, IsTrue, IfOk, length, slice_index, MatchOption};
-ghost use Rattle.paris_code.specs.Units.{unit_of};
-ghost use Rattle.image_check.specs.Tables.{AreUnitNumbers, AllKeepStack, AreLevels, KeepsLevels, IsLevelledCall};
+ghost use Rattle.std.specs.Prelude.{ℕ, ◌≡◌, ◌≢◌, ◌↔◌, ◌<◌, ◌≤◌, ◌+◌, suc, IsTrue, IfOk, length, MatchOption, Contains};
+ghost use Rattle.paris_code.specs.Units.{unit_of, IsAt};
+ghost use Rattle.paris_code.specs.RuleStack.{KeepsStack};
+ghost use Rattle.image_check.specs.Calls.{Chain, IsDeep, AreMadeBy, AreMarks, AreLong, KeepsCall};
+ghost use Rattle.image_check.specs.Stacks.{AreCalls, AreChains};
+ghost use Rattle.image_check.specs.Tables.{AreUnitNumbers, AllKeepStack, IsFirstUnstacked};
 
+use crate::chains::{Call, after_calls, reached_from};
+use crate::marks::is_marked;
 use crate::units::instruction;
 use paris_code::{Image, Instr};
 use std::alloc::{AllocError, Global};
 
-/// A call of a unit by another.
-#[derive(Clone, Copy)]
-struct Call {
-    from: u32,
-    to: u32,
+/// The calls of an image, the units that end a chain of `depth` or more calls from unit 0, and
+/// those that end one of as many calls as there are units: of the units on cycles all.
+#[derive(Drop)]
+pub struct Chains {
+    pub calls: Vec<Call>,
+    pub deep: Vec<bool>,
+    pub long: Vec<bool>,
 }
 
 /// The unit that an instruction calls.
@@ -25,79 +32,6 @@ fn called(instr: &Instr) -> Option<u32>
     }
 }
 
-/// The number of a unit in a table, 0 where it has none.
-fn level(levels: &[u32], unit: u32) -> u32
-    ensures { result ≡ slice_index levels.now unit }
-{
-    levels.get(unit as usize).copied().unwrap_or(0)
-}
-
-/// The calls of the code, in its order.
-fn calls_of(alloc: Global, image: &Image, numbers: &[u32]) -> Result<Vec<Call>, AllocError>
-    requires { AreUnitNumbers image.now numbers.now }
-{
-    let mut calls = Vec::new(alloc);
-    for place in 0..image.code.len() {
-        if let Some(unit) = called(instruction(image, place)) {
-            calls.push(Call {
-                from: numbers[place],
-                to: unit,
-            })?;
-        }
-    }
-    Ok(calls)
-}
-
-/// Raises the called unit of a call above its caller, if that has a level. Answers whether it had
-/// to.
-fn raise(levels: &mut [u32], call: Call) -> bool
-    ensures { (unit : ℕ) → slice_index levels.old unit ≤ slice_index levels.new unit }
-{
-    let from = level(levels, call.from);
-    let to = call.to as usize;
-    if from == 0 || to >= levels.len() || levels[to] > from {
-        return false;
-    }
-    levels[to] = from.saturating_add(1);
-    true
-}
-
-/// Raises the called unit of each call in turn. Answers whether one had to be.
-fn raise_each(levels: &mut [u32], calls: &[Call]) -> bool
-    ensures { (unit : ℕ) → slice_index levels.old unit ≤ slice_index levels.new unit }
-{
-    let mut raised = false;
-    for call in calls {
-        if raise(levels, *call) {
-            raised = true;
-        }
-    }
-    raised
-}
-
-/// Raises the called units above their callers until all are, or for as many rounds as there are
-/// units.
-fn raise_all(levels: &mut [u32], calls: &[Call])
-    ensures { (unit : ℕ) → slice_index levels.old unit ≤ slice_index levels.new unit }
-{
-    'rounds: for _ in 0..levels.len() {
-        if !raise_each(levels, calls) {
-            return;
-        }
-    }
-}
-
-/// Whether a call goes to a unit of a higher rank, and to a greater height from a height that the
-/// depth allows.
-fn is_levelled(ranks: &[u32], heights: &[u32], depth: u32, from: u32, to: u32) -> bool
-    ensures { IsTrue result ↔ IsLevelledCall ranks.now heights.now depth from to }
-{
-    let height = level(heights, from);
-    level(ranks, from) < level(ranks, to)
-        && (height == 0 || height < level(heights, to))
-        && height <= depth
-}
-
 /// The unit of an instruction.
 fn unit_at(image: &Image, numbers: &[u32], place: usize) -> u32
     requires numbered { AreUnitNumbers image.now numbers.now }
@@ -107,39 +41,129 @@ fn unit_at(image: &Image, numbers: &[u32], place: usize) -> u32
     numbers[place]
 }
 
-/// Whether the instruction is no call, or one that is levelled.
-fn keeps_levels(
+/// The calls of the code, in its order.
+fn calls_of(alloc: Global, image: &Image, numbers: &[u32]) -> Result<Vec<Call>, AllocError>
+    requires { AreUnitNumbers image.now numbers.now }
+    ensures { IfOk result (λ calls. AreCalls image.now (length image.now.code.items) calls.items) }
+{
+    let mut calls = Vec::new(alloc);
+    for place in 0..image.code.len() {
+        match called(instruction(image, place)) {
+            Some(to) => {
+                let from = unit_at(image, numbers, place);
+                calls.push(Call { from, to })?;
+            }
+            None => {}
+        }
+    }
+    Ok(calls)
+}
+
+/// The units that end a chain of so many calls from unit 0, or of more.
+fn deep_units(
+    alloc: Global,
+    calls: &[Call],
+    units: usize,
+    depth: usize,
+) -> Result<Vec<bool>, AllocError>
+    requires { AreMadeBy units calls.now }
+    ensures { IfOk result (λ marks. AreMarks units marks.items (IsDeep calls.now depth)) }
+{
+    let reached = reached_from(alloc, calls, units, 0)?;
+    after_calls(alloc, calls, reached, depth)
+}
+
+/// The units that end a chain of as many calls as there are units.
+fn long_units(alloc: Global, calls: &[Call], units: usize) -> Result<Vec<bool>, AllocError>
+    requires { AreMadeBy units calls.now }
+    ensures { IfOk result (λ marks. AreLong units calls.now marks.items) }
+{
+    let all = vec![in alloc; true; units]?;
+    after_calls(alloc, calls, all, units)
+}
+
+fn chains_of(alloc: Global, image: &Image, numbers: &[u32]) -> Result<Chains, AllocError>
+    requires numbered { AreUnitNumbers image.now numbers.now }
+    requires units { 0 < length image.now.units.items }
+    ensures { IfOk result (λ chains. AreChains image.now chains) }
+{
+    let units = image.units.len();
+    let calls = calls_of(alloc, image, numbers)?;
+    let deep = deep_units(alloc, calls.as_slice(), units, image.depth as usize)?;
+    let long = long_units(alloc, calls.as_slice(), units)?;
+    Ok(Chains { calls, deep, long })
+}
+
+/// Whether a call lies on a cycle of calls.
+fn is_on_cycle(
+    alloc: Global,
+    image: &Image,
+    chains: &Chains,
+    call: Call,
+) -> Result<bool, AllocError>
+    requires chains { AreChains image.now chains.now }
+    requires among { Contains chains.now.calls.items call }
+    ensures { IfOk result (λ is. IsTrue is ↔ ((count : ℕ) × Chain chains.now.calls.items count call.to call.from)) }
+{
+    if !is_marked(chains.long.as_slice(), call.to as usize) {
+        return Ok(false);
+    }
+    let below = reached_from(alloc, chains.calls.as_slice(), image.units.len(), call.to)?;
+    Ok(is_marked(below.as_slice(), call.from as usize))
+}
+
+fn keeps_call(alloc: Global, image: &Image, chains: &Chains, call: Call) -> Result<bool, AllocError>
+    requires chains { AreChains image.now chains.now }
+    requires among { Contains chains.now.calls.items call }
+    ensures { IfOk result (λ keeps. IsTrue keeps ↔ KeepsCall chains.now.calls.items image.now.depth call) }
+{
+    if is_marked(chains.deep.as_slice(), call.from as usize) {
+        return Ok(false);
+    }
+    let is_cyclic = is_on_cycle(alloc, image, chains, call)?;
+    Ok(!is_cyclic)
+}
+
+/// Whether an instruction keeps image rule 3.
+fn keeps_stack(
+    alloc: Global,
     image: &Image,
     numbers: &[u32],
-    ranks: &[u32],
-    heights: &[u32],
+    chains: &Chains,
     place: usize,
-) -> bool
+) -> Result<bool, AllocError>
     requires numbered { AreUnitNumbers image.now numbers.now }
     requires inside { place < length numbers.now }
-    ensures { IsTrue result → KeepsLevels image.now ranks.now heights.now place }
+    requires chains { AreChains image.now chains.now }
+    ensures { IfOk result (λ keeps. IsTrue keeps ↔ ((instr : Instr) → IsAt image.now place instr → KeepsStack image.now place instr)) }
 {
     match called(instruction(image, place)) {
-        Some(unit) => {
+        Some(to) => {
             let from = unit_at(image, numbers, place);
-            is_levelled(ranks, heights, image.depth, from, unit)
+            keeps_call(alloc, image, chains, Call { from, to })
         }
-        None => true,
+        None => Ok(true),
     }
 }
 
-/// The first call that is not levelled.
-fn first_unlevelled(image: &Image, numbers: &[u32], ranks: &[u32], heights: &[u32]) -> Option<usize>
+/// The first call that breaks image rule 3.
+fn first_unstacked(
+    alloc: Global,
+    image: &Image,
+    numbers: &[u32],
+    chains: &Chains,
+) -> Result<Option<usize>, AllocError>
     requires numbered { AreUnitNumbers image.now numbers.now }
-    requires first { 1 ≤ slice_index heights.now 0 }
-    ensures { MatchOption result (AreLevels image.now ranks.now heights.now) (λ place. place < length image.now.code.items) }
+    requires chains { AreChains image.now chains.now }
+    ensures { IfOk result (λ found. MatchOption found (AllKeepStack image.now) (IsFirstUnstacked image.now)) }
 {
     for place in 0..image.code.len() {
-        if !keeps_levels(image, numbers, ranks, heights, place) {
-            return Some(place);
+        let keeps = keeps_stack(alloc, image, numbers, chains, place)?;
+        if !keeps {
+            return Ok(Some(place));
         }
     }
-    None
+    Ok(None)
 }
 
 /// The first call that breaks image rule 3.
@@ -150,13 +174,8 @@ pub fn broken_stack(
 ) -> Result<Option<usize>, AllocError>
     requires numbered { AreUnitNumbers image.now numbers.now }
     requires units { 0 < length image.now.units.items }
-    ensures { IfOk result (λ found. MatchOption found (AllKeepStack image.now) (λ place. place < length image.now.code.items)) }
+    ensures { IfOk result (λ found. MatchOption found (AllKeepStack image.now) (IsFirstUnstacked image.now)) }
 {
-    let calls = calls_of(alloc, image, numbers)?;
-    let mut ranks = vec![in alloc; 1; image.units.len()]?;
-    raise_all(ranks.as_mut_slice(), calls.as_slice());
-    let mut heights = vec![in alloc; 0; image.units.len()]?;
-    heights[0] = 1;
-    raise_all(heights.as_mut_slice(), calls.as_slice());
-    Ok(first_unlevelled(image, numbers, ranks.as_slice(), heights.as_slice()))
+    let chains = chains_of(alloc, image, numbers)?;
+    first_unstacked(alloc, image, numbers, &chains)
 }

@@ -35,10 +35,10 @@ impl Sound {
     }
 }
 
-/// Checks an image. Bad where an image rule is broken, Memory at want of memory.
+/// Checks an image. Bad exactly where an image rule is broken, Memory at want of memory.
 pub fn verify(alloc: Global, image: Image) -> Result<Sound, CheckErr>
     requires { IsNumbered image }
-    ensures { MatchResult result (λ sound. sound ≡ image) (IsRefusalOf image) }
+    ensures { MatchResult result (λ sound. (sound ≡ image) × IsSound image) (IsRefusalOf image) }
 {
     let Ok(found) = find_fault(alloc, &image) else {
         return Err(CheckErr::Memory { image });

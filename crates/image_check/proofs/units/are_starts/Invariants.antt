@@ -1,4 +1,4 @@
-use Rattle.std.proofs.Common.{◌↔◌, map, drop, length}
+use Rattle.std.proofs.Common.{◌↔◌, map, drop}
 use Rattle.paris_code.specs.Units.{start_of}
 use Rattle.paris_code.specs.RuleTarget.{AreOrdered}
 use Rattle.image_check.proofs.units.are_starts.Given as goal

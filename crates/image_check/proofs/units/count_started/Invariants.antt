@@ -1,5 +1,4 @@
-use Rattle.std.proofs.Common.{ℕ, ◌<◌, ◌≤◌, ◌-◌, map, length}
-use Rattle.std.specs.List.{slice_index}
+use Rattle.std.proofs.Common.{◌-◌, map, length}
 use Rattle.paris_code.specs.Units.{start_of}
 use Rattle.image_check.specs.Tables.{AreBegun}
 use Rattle.image_check.proofs.units.count_started.Given as goal

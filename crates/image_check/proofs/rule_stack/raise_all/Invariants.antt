@@ -1,5 +1,0 @@
-use Rattle.std.proofs.Common.{ℕ, ◌≤◌, get_or}
-use Rattle.image_check.proofs.rule_stack.raise_all.Given as goal
-
-abbrev pub invariant-rounds : goal.invariant-rounds
-invariant-rounds l = (unit : ℕ) → get_or l.fn.levels unit 0 ≤ get_or l.levels unit 0
