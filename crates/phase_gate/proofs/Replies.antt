@@ -64,6 +64,7 @@ same_bits shapes m = record { bits = λ s p i a b c. refl; winner = refl }
 -- a check changes nothing, and a settled instruction that is one is a settled check
 pub checked : (shapes : List SetShape) (instr : Instr) (args : List ℕ) (m : BitMemory) → is_check instr ≡ true → is_settled instr ≡ true → (is_settled_check instr ≡ true) × (after shapes instr args m ≡ m)
 unfolding after
+checked shapes (I.CheckTarget set place coordinates) args m is at = (refl, refl)
 checked shapes (I.CheckGrid set place steps) args m is at = (refl, refl)
 checked shapes (I.CheckDivisor place a) args m is at = (refl, refl)
 checked shapes _ args m is at = cc

@@ -35,11 +35,6 @@ IsPosition shapes set position = (set < length shapes) × (position < position_c
 abbrev pub LiesIn : List SetShape → Field → Type 0
 LiesIn shapes f = (f.set < length shapes) × (1 ≤ f.len) × (f.len ≤ 32) × (f.offset + f.len ≤ bits_at shapes f.set)
 
--- a coordinate that is a register, or a field that lies in its set
-abbrev pub IsCoordinateIn : List SetShape → Coordinate → Type 0
-IsCoordinateIn shapes (C.Reg r) = Unit {0}
-IsCoordinateIn shapes (C.Field f) = LiesIn shapes f
-
 -- a coordinate that is a register, or a field that lies in its set, of which there is this position
 abbrev pub IsCoordinateAt : List SetShape → ℕ → Coordinate → Type 0
 IsCoordinateAt shapes position (C.Reg r) = Unit {0}

@@ -6,6 +6,7 @@ use Rattle.paris_code.specs.Elementwise.{is_elementwise}
 
 -- checks
 abbrev pub is_settled_check : Instr → Bool
+is_settled_check (I.CheckTarget set place coordinates) = true
 is_settled_check (I.CheckGrid set place steps) = true
 is_settled_check (I.CheckDivisor place a) = true
 is_settled_check _ = false
