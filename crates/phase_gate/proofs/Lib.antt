@@ -7,6 +7,7 @@ pub mod Operations
 pub mod Replies
 pub mod Rising
 pub mod RowBits
+pub mod Senders
 pub mod Stepwise
 pub mod Tests
 pub mod Widths

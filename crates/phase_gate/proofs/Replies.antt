@@ -55,6 +55,8 @@ pub settled_writes : (shapes : List SetShape) (instr : Instr) (args : List ℕ) 
 settled_writes shapes (I.GetFromNews d a axis k) args m o p q is = (refl, refl)
 settled_writes shapes (I.GetFromNewsAlways d a axis k) args m o p q is = (refl, refl)
 settled_writes shapes (I.Get d address a) args m o p q is = (refl, refl)
+settled_writes shapes (I.SendWithOverwrite d kind address a) args m o p q is = (refl, refl)
+settled_writes shapes (I.SendWithCombiner combiner d kind address a) args m o p q is = (refl, refl)
 settled_writes shapes (I.WriteToProcessor d processor k) args m o p q is = (refl, refl)
 settled_writes shapes _ args m o p q is = cc
 

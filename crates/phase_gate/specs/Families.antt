@@ -22,6 +22,8 @@ abbrev pub is_settled_write : Instr → Bool
 is_settled_write (I.GetFromNews d a axis k) = true
 is_settled_write (I.GetFromNewsAlways d a axis k) = true
 is_settled_write (I.Get d address a) = true
+is_settled_write (I.SendWithOverwrite d kind address a) = true
+is_settled_write (I.SendWithCombiner combiner d kind address a) = true
 is_settled_write (I.WriteToProcessor d processor k) = true
 is_settled_write _ = false
 

@@ -10,7 +10,7 @@ ghost use Rattle.paris_code.specs.Memory.{SameBits, bit_run, context_run, test_r
 ghost use Rattle.paris_code.specs.Writes.{written};
 ghost use Rattle.paris_code.specs.Operands.{result_of};
 ghost use Rattle.paris_code.specs.Shapes.{rank_at};
-ghost use Rattle.phase_gate.specs.Apply.{CanApply, IsRun, LiesIn, active_set, looked_at};
+ghost use Rattle.phase_gate.specs.Apply.{CanApply, IsRun, LiesIn, active_set, is_send, looked_at};
 
 use crate::arith::signed;
 use crate::communication::Scan;
@@ -120,8 +120,8 @@ impl RowPhases {
         ensures sets { sets_of self.new ≡ sets_of self.old }
         ensures memory { SameBits (sets_of self.old) (memory_of self.new) (written (gathered (sets_of self.old) (memory_of self.old) dest always (of_neighbour (sets_of self.old) (memory_of self.old) source axis by)) (memory_of self.old)) }
     {
-        self.gather_shift(source, axis, signed(by));
-        self.write_gathered(dest, always);
+        self.gather_shift(source, axis, signed(by), always);
+        self.write_gathered(dest, None);
     }
 
     /// A get, gathered and then written.
@@ -134,7 +134,7 @@ impl RowPhases {
         ensures memory { SameBits (sets_of self.old) (memory_of self.new) (written (gathered (sets_of self.old) (memory_of self.old) dest false (of_named (sets_of self.old) (memory_of self.old) address source)) (memory_of self.old)) }
     {
         self.gather_named(address, source);
-        self.write_gathered(dest, false);
+        self.write_gathered(dest, None);
     }
 
     /// The source of one processor, or 0 if there is none.
@@ -215,7 +215,8 @@ impl RowPhases {
     #[tactic(auto, using(crate::proofs::FieldLemmas::lies))]
     fn scan_or_send(&mut self, instr: &Instr, args: &[u32])
         requires { CanApply (sets_of self.old) instr.now args.now }
-        ensures { sets_of self.new ≡ sets_of self.old }
+        ensures sets { sets_of self.new ≡ sets_of self.old }
+        ensures memory { is_send instr.now ≡ true → SameBits (sets_of self.old) (memory_of self.new) (after (sets_of self.old) instr.now args.now (memory_of self.old)) }
     {
         match instr {
             Instr::Scan {
@@ -238,7 +239,7 @@ impl RowPhases {
                     inclusion: *inclusion,
                 };
                 self.gather_scan(&scan);
-                self.write_gathered(*dest, false);
+                self.write_gathered(*dest, None);
             }
             Instr::SendWithOverwrite {
                 dest,

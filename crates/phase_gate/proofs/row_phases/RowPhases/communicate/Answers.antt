@@ -1,6 +1,11 @@
-use Rattle.std.proofs.Common.{true, false, List, ℕ, drop, get_or, sym, subst, ap, ◌∙◌, length-drop, arith}
+use Rattle.std.proofs.Common.{◌≡◌, true, false, List, ℕ, drop, get_or, sym, subst, ap, ◌∙◌, refl, length-drop, arith}
 use Rattle.std.proofs.lemmas.List.{take_all}
 use Rattle.paris_code.specs.declared.instr.Instr.{Instr}
+use Rattle.paris_code.specs.declared.instr.Instr.TheVariants as I
+use Rattle.paris_code.specs.declared.operands.Field.{Field}
+use Rattle.paris_code.specs.declared.operands.Konst.{Konst}
+use Rattle.phase_gate.specs.Apply.{is_send}
+use Rattle.phase_gate.specs.Families.{is_settled_write}
 use Rattle.paris_code.specs.Arguments.{konst_number}
 use Rattle.paris_code.specs.Fetching.{at_one, of_neighbour}
 use Rattle.paris_code.specs.Meaning.{after}
@@ -50,3 +55,19 @@ pub returns-in-Get-clause-memory : goal.returns-in-Get-clause-memory
 unfolding after
 returns-in-Get-clause-memory c = λ settled.
     subst (Becomes c.args.self.now c.args.args.now c.do_get.new.self) (sym c.in-Get.is) c.do_get.ensures.memory
+
+-- what is left of those that are settled are the sends
+sends : (instr : Instr) → is_settled_write instr ≡ true
+    → ((d a : Field) (axis : ℕ) (k : Konst) → instr ≡ I.GetFromNews d a axis k → ⊥) → ((d a : Field) (axis : ℕ) (k : Konst) → instr ≡ I.GetFromNewsAlways d a axis k → ⊥)
+    → ((d address a : Field) → instr ≡ I.Get d address a → ⊥) → ((d : Field) (processor : ℕ) (k : Konst) → instr ≡ I.WriteToProcessor d processor k → ⊥) → is_send instr ≡ true
+sends (I.GetFromNews d a axis k) is o p q r = absurd (o d a axis k refl)
+sends (I.GetFromNewsAlways d a axis k) is o p q r = absurd (p d a axis k refl)
+sends (I.Get d address a) is o p q r = absurd (q d address a refl)
+sends (I.WriteToProcessor d processor k) is o p q r = absurd (r d processor k refl)
+sends (I.SendWithOverwrite d kind address a) is o p q r = refl
+sends (I.SendWithCombiner combiner d kind address a) is o p q r = refl
+sends _ is o p q r = cc
+
+pub returns-in_default-clause-memory : goal.returns-in_default-clause-memory
+returns-in_default-clause-memory c = λ settled.
+    c.scan_or_send.ensures.memory (sends c.args.instr.now settled c.in_default.not-GetFromNews c.in_default.not-GetFromNewsAlways c.in_default.not-Get c.in_default.not-WriteToProcessor)
