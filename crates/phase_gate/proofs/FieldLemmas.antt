@@ -1,5 +1,5 @@
 -- What the image rules on fields give the phases.
-use Rattle.std.proofs.Common.{◌≡◌, ℕ, zero, suc, [], ◌∷◌, ◌<◌, List, length, subst, map, slice_set, get_or, All, sym, ap, ◌∙◌, refl, true, lit≤, arith}
+use Rattle.std.proofs.Common.{◌≡◌, ℕ, Option, Some, None, zero, suc, [], ◌∷◌, ◌<◌, List, length, subst, map, slice_set, get_or, All, sym, ap, ◌∙◌, refl, true, lit≤, arith}
 use Rattle.std.proofs.Math.Seq.{map-set_same}
 use Rattle.phase_gate.specs.declared.rows.Rows.{Rows}
 use Rattle.phase_gate.specs.Rows.{shape_of_rows}
@@ -10,17 +10,23 @@ use Rattle.paris_code.specs.declared.operands.Coordinate.TheVariants as C
 use Rattle.paris_code.specs.declared.operands.SignedCoordinate.{SignedCoordinate}
 use Rattle.paris_code.specs.declared.program.ShapeBits.{ShapeBits}
 use Rattle.paris_code.specs.Operands.{coordinate_of}
-use Rattle.paris_code.specs.Shapes.{SetShape, no_shape, shape_of, bits_at}
+use Rattle.std.specs.Prelude.{IfSome}
+use Rattle.cstar_base.specs.declared.operators.Direction.{Direction}
+use Rattle.cstar_base.specs.declared.operators.Inclusion.{Inclusion}
+use Rattle.cstar_base.specs.declared.operators.SegmentMode.{SegmentMode}
+use Rattle.cstar_base.specs.declared.operators.SegmentMode.TheVariants as M
+use Rattle.paris_code.specs.declared.operands.Reduction.{Reduction}
+use Rattle.paris_code.specs.Shapes.{SetShape, no_shape, shape_of, bits_at, rank_at}
 use Rattle.paris_code.specs.declared.instr.Instr.{Instr}
 use Rattle.paris_code.specs.declared.instr.Instr.TheVariants as I
 use Rattle.paris_code.specs.Checking.{set_or_later, set_of_coordinates}
 use Rattle.paris_code.specs.Elementwise.{is_elementwise, destination}
 use Rattle.paris_code.specs.Memory.{context_run, test_run}
 use Rattle.paris_code.specs.Sound.{IsShape}
-use Rattle.paris_code.specs.RuleField.{Fits, CoordinateFits}
-use Rattle.paris_code.specs.RuleOperands.{IsWith, CoordinateIsWith, AreTogether}
-use Rattle.paris_code.specs.RuleSet.{FieldExists, CoordinateExists}
-use Rattle.phase_gate.specs.Apply.{IsPosition, LiesIn, IsCoordinateAt, CanApply, IsRun, active_set}
+use Rattle.paris_code.specs.RuleField.{Fits, CoordinateFits, ScanBitFits}
+use Rattle.paris_code.specs.RuleOperands.{IsWith, CoordinateIsWith, AreTogether, BitIsWith}
+use Rattle.paris_code.specs.RuleSet.{FieldExists, CoordinateExists, BitExists}
+use Rattle.phase_gate.specs.Apply.{IsPosition, LiesIn, IsCoordinateAt, CanApply, IsRun, active_set, looked_at}
 
 -- a field that fits and whose set exists lies in its set
 pub lies : (shapes : List SetShape) (f : Field) → Fits shapes f → FieldExists shapes f → LiesIn shapes f
@@ -130,3 +136,24 @@ own_exists shapes target (c ∷ cs) exists there = own (own_exists shapes target
     own : set_of_coordinates target cs < length shapes → (q : Coordinate) → CoordinateExists shapes q → set_or_later q (set_of_coordinates target cs) < length shapes
     own rest (C.Field f) here = here
     own rest (C.Reg r) here = rest
+
+-- the fields of a scan
+bit_lies : (shapes : List SetShape) (d a : Field) (mode : SegmentMode) (bit : Option Field) → FieldExists shapes d → d.set ≡ a.set → ScanBitFits shapes mode bit → BitExists shapes mode bit → BitIsWith shapes d mode bit
+    → IfSome (looked_at mode bit) (λ f. LiesIn shapes f × (f.set ≡ a.set))
+bit_lies shapes d a M.NoSegments bit exists same fits there with = tt
+bit_lies shapes d a M.StartBit None exists same fits there with = tt
+bit_lies shapes d a M.StartBit (Some f) exists same fits there with = (lies shapes f fits.0 there, sym (with exists there) ∙ same)
+bit_lies shapes d a M.SegmentBit None exists same fits there with = tt
+bit_lies shapes d a M.SegmentBit (Some f) exists same fits there with = (lies shapes f fits.0 there, sym (with exists there) ∙ same)
+
+pub scan_lies : (shapes : List SetShape) (args : List ℕ) (r : Reduction) (d a : Field) (axis : ℕ) (direction : Direction) (mode : SegmentMode) (bit : Option Field) (within : Inclusion)
+    → CanApply shapes (I.Scan r d a axis direction mode bit within) args
+    → LiesIn shapes d × LiesIn shapes a × (axis < rank_at shapes a.set) × IfSome (looked_at mode bit) (λ f. LiesIn shapes f × (f.set ≡ a.set)) × (d.set ≡ a.set)
+scan_lies shapes args r d a axis direction mode bit within can =
+    let same : d.set ≡ a.set = can.operands.0 can.set.0 can.set.1 in (
+      lies shapes d can.field.0.0 can.set.0,
+      lies shapes a can.field.1.0 can.set.1,
+      subst (λ s. axis < rank_at shapes s) same can.set.2,
+      bit_lies shapes d a mode bit can.set.0 same can.field.2 can.set.3 can.operands.1,
+      same,
+    )

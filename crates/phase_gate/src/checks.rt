@@ -7,7 +7,6 @@ ghost use Rattle.paris_code.specs.Shapes.{extents_at};
 ghost use Rattle.paris_code.specs.Meaning.{bad_or_nothing, reply_of};
 ghost use Rattle.paris_code.specs.Memory.{field_number, is_active, processors};
 ghost use Rattle.paris_code.specs.Orders.{least_below};
-ghost use Rattle.phase_gate.specs.Families.{is_settled_check};
 ghost use Rattle.paris_code.specs.Operands.{coordinate_of};
 ghost use Rattle.paris_code.specs.RuleSet.{IsAxis, axis_of};
 ghost use Rattle.phase_gate.specs.Apply.{CanApply, IsCoordinateAt, IsPosition, LiesIn, ReplyFits, is_check};
@@ -174,7 +173,7 @@ impl RowPhases {
         requires { CanApply (sets_of self.now) instr.now args.now }
         ensures checks { MatchOption result (is_check instr.now ≡ false) (λ reply. is_check instr.now ≡ true) }
         ensures fits { IfSome result (λ reply. ReplyFits instr.now reply) }
-        ensures least { IfSome result (λ reply. is_settled_check instr.now ≡ true → reply ≡ reply_of (sets_of self.now) instr.now args.now (memory_of self.now)) }
+        ensures least { IfSome result (λ reply. reply ≡ reply_of (sets_of self.now) instr.now args.now (memory_of self.now)) }
     {
         match instr {
             Instr::CheckTarget {

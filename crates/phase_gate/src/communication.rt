@@ -11,8 +11,8 @@ ghost use Rattle.phase_gate.specs.Apply.{IsPosition, LiesIn};
 ghost use Rattle.phase_gate.specs.Gathered.{in_kind};
 
 use crate::row_phases::RowPhases;
+use cstar_base::Elem;
 use cstar_base::numbers::{convert, fold_step, identity};
-use cstar_base::{Direction, Elem, Inclusion, SegmentMode};
 use paris_code::{Field, Reduction};
 
 /// A word, converted to a type where one is named.
@@ -29,7 +29,6 @@ fn in_kind(kind: Option<Elem>, word: u32) -> u32
 impl RowPhases {
     ghost use Rattle.phase_gate.specs.Rows.{sets_of, memory_of, room_of};
     ghost use Rattle.phase_gate.specs.Gathered.{held, word_if};
-    ghost use Rattle.phase_gate.specs.Scans.{ScanFits};
 
     /// Writes the words that are held for a set's processors to a field of these.
     pub(crate) fn write_gathered(&mut self, dest: Field, kind: Option<Elem>)
@@ -45,7 +44,7 @@ impl RowPhases {
     }
 
     /// Holds a word for a processor that takes one, as the active ones do, or all; else none.
-    fn hold(&mut self, set: u16, always: bool, position: u32, word: u32)
+    pub(crate) fn hold(&mut self, set: u16, always: bool, position: u32, word: u32)
         requires { IsPosition (sets_of self.old) set position }
         ensures sets { sets_of self.new ≡ sets_of self.old }
         ensures memory { memory_of self.new ≡ memory_of self.old }
@@ -114,108 +113,4 @@ impl RowPhases {
         }
         total
     }
-
-    /// Gathers the scan of a field along the axis, line by line.
-    pub(crate) fn gather_scan(&mut self, scan: &Scan)
-        requires { ScanFits (sets_of self.old) scan.now }
-        ensures { sets_of self.new ≡ sets_of self.old }
-    {
-        let set = scan.source.set;
-        'positions: for position in 0..self.positions(set) {
-            let geometry = self.rows(set).geometry;
-            if geometry.coord(position, scan.axis) == 0 {
-                let first = match scan.direction {
-                    Direction::Upward => position,
-                    Direction::Downward => geometry.shift(position, scan.axis, -1),
-                };
-                self.gather_line(scan, first);
-            }
-        }
-    }
-
-    /// Whether the bit that parts the segments is 1 at a position.
-    fn is_marked(&self, scan: &Scan, position: u32) -> bool
-        requires scan { ScanFits (sets_of self.now) scan.now }
-        requires position { IsPosition (sets_of self.now) scan.now.source.set position }
-    {
-        match scan.bit {
-            None => false,
-            Some(bit) => self.field(bit, position) == 1,
-        }
-    }
-
-    /// Whether a segment begins at a position before its own value is taken.
-    fn begins(&self, scan: &Scan, position: u32) -> bool
-        requires scan { ScanFits (sets_of self.now) scan.now }
-        requires position { IsPosition (sets_of self.now) scan.now.source.set position }
-    {
-        match scan.mode {
-            SegmentMode::NoSegments => false,
-            SegmentMode::StartBit => {
-                self.is_active(scan.source.set, position) && self.is_marked(scan, position)
-            }
-            SegmentMode::SegmentBit => {
-                scan.direction == Direction::Upward && self.is_marked(scan, position)
-            }
-        }
-    }
-
-    /// Whether a segment ends with a position: downward, it ends where upward it begins.
-    fn ends(&self, scan: &Scan, position: u32) -> bool
-        requires scan { ScanFits (sets_of self.now) scan.now }
-        requires position { IsPosition (sets_of self.now) scan.now.source.set position }
-    {
-        scan.mode == SegmentMode::SegmentBit
-            && scan.direction == Direction::Downward
-            && self.is_marked(scan, position)
-    }
-
-    /// Gathers the scan of one line, from its first position in the scan's direction on.
-    fn gather_line(&mut self, scan: &Scan, first: u32)
-        requires scan { ScanFits (sets_of self.old) scan.now }
-        requires position { IsPosition (sets_of self.old) scan.now.source.set first }
-        ensures { sets_of self.new ≡ sets_of self.old }
-    {
-        let set = scan.source.set;
-        let (combine, unsigned) = scan.combiner.combiner();
-        let start = identity(combine, unsigned);
-        let step = match scan.direction {
-            Direction::Upward => 1,
-            Direction::Downward => -1,
-        };
-        let mut total = start;
-        let mut position = first;
-        'line: for _ in 0..self.rows(set).geometry.extent(scan.axis) {
-            if self.begins(scan, position) {
-                total = start;
-            }
-            if self.is_active(set, position) {
-                let next = fold_step(combine, unsigned, total, self.field(scan.source, position));
-                let word = match scan.inclusion {
-                    Inclusion::Inclusive => next,
-                    Inclusion::Exclusive => total,
-                };
-                self.gather(set, position, Some(word));
-                total = next;
-            } else {
-                self.gather(set, position, None);
-            }
-            if self.ends(scan, position) {
-                total = start;
-            }
-            position = self.rows(set).geometry.shift(position, scan.axis, step);
-        }
-    }
-}
-
-/// A scan along an axis; the bit is None where the scan has no segments.
-#[derive(Clone, Copy)]
-pub(crate) struct Scan {
-    pub(crate) combiner: Reduction,
-    pub(crate) source: Field,
-    pub(crate) axis: u32,
-    pub(crate) direction: Direction,
-    pub(crate) mode: SegmentMode,
-    pub(crate) bit: Option<Field>,
-    pub(crate) inclusion: Inclusion,
 }

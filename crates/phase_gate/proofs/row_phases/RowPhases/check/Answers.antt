@@ -14,12 +14,12 @@ use Rattle.phase_gate.proofs.FieldLemmas.{checked_at, own_exists}
 use Rattle.phase_gate.proofs.row_phases.RowPhases.check.Goals as goal
 
 pub returns-in-CheckDivisor-clause-least : goal.returns-in-CheckDivisor-clause-least
-returns-in-CheckDivisor-clause-least c = λ settled.
+returns-in-CheckDivisor-clause-least c =
     subst (λ (i : Instr). c.answer-in-CheckDivisor.result ≡ reply_of (sets_of c.args.self.now) i c.args.args.now (memory_of c.args.self.now)) (sym c.in-CheckDivisor.is)
     (c.answer-in-CheckDivisor.ensures ∙ ap bad_or_nothing c.check_divisor.ensures)
 
 pub returns-in-CheckGrid-clause-least : goal.returns-in-CheckGrid-clause-least
-returns-in-CheckGrid-clause-least c = λ settled.
+returns-in-CheckGrid-clause-least c =
     let now = sets_of c.args.self.now in
     let m = memory_of c.args.self.now in
     let set = c.in-CheckGrid.set in
@@ -41,7 +41,7 @@ check_target-requires-clause-fields c = λ p b.
     (own_exists now set list can.set.0 can.set.1, subst (λ s. p < processors now s) own b))
 
 pub returns-in-CheckTarget-clause-least : goal.returns-in-CheckTarget-clause-least
-returns-in-CheckTarget-clause-least c = λ settled.
+returns-in-CheckTarget-clause-least c =
     let now = sets_of c.args.self.now in
     let m = memory_of c.args.self.now in
     let set = c.in-CheckTarget.set in
