@@ -10,8 +10,7 @@ use Rattle.cstar_tree.specs.declared.syntax.BinaryOp.{BinaryOp}
 use Rattle.cstar_tree.specs.declared.syntax.BinaryOp.TheVariants as B
 use Rattle.cstar_tree.specs.declared.syntax.Cast.{Cast}
 use Rattle.cstar_tree.specs.declared.syntax.Expr.{Expr}
-use Rattle.cstar_tree.specs.declared.syntax.Expr.TheOpen.{Expr-F}
-use Rattle.cstar_tree.specs.declared.syntax.Expr.TheFolds.{fold-Expr}
+use Rattle.cstar_tree.specs.declared.syntax.Expr as E
 use Rattle.cstar_tree.specs.declared.syntax.PrefixOp.{PrefixOp}
 use Rattle.cstar_tree.specs.declared.syntax.PrefixOp.TheVariants as P
 use Rattle.cstar_tree.specs.Conversions.{common, int, promoted, unsigned}
@@ -122,23 +121,20 @@ abbrev pub about_shape : (List ℕ → Option ℕ) → Option (List ℕ) → Opt
 about_shape f None = None
 about_shape f (Some extents) = option_map an_int (f extents)
 
--- one node over its parts: numbers, casts to scalar types, `positionsof`, `rankof`, `dimof`,
--- brackets, and operators without an effect and without a reduction
-abbrev pub constant_step : Here → Expr-F (Option Constant) → Option Constant
-constant_step here (Expr-F.Number p value u) = Some (record { elem = (if u then unsigned else int); word = Some value })
-constant_step here (Expr-F.Brackets p inner) = inner.value
-constant_step here (Expr-F.Casts casts operand) = option_map (cast_through casts.items) operand.value
-constant_step here (Expr-F.Prefix p op operand) = over_one (prefixed op) operand.value
-constant_step here (Expr-F.Binary p op left right) = over_two (combined op) left.value right.value
-constant_step here (Expr-F.Choice p test second third) = over_three selected test.value second.value third.value
-constant_step here (Expr-F.PositionsOf p shape) = about_shape (λ ns. Some (product ns)) (extents_meant here (shape_of here shape))
-constant_step here (Expr-F.RankOf p shape) = about_shape (λ ns. Some (length ns)) (extents_meant here (shape_of here shape))
-constant_step here (Expr-F.DimOf p shape axis) = over_one (λ k. about_shape (λ ns. extent_at ns (axis_among ns (number k))) (extents_meant here (shape_of here shape))) axis.value
-constant_step here _ = None
-
--- the constant that an expression is, if it is one by its form
-abbrev pub constant : Here → Expr → Option Constant
-constant here = fold-Expr (Option Constant) (constant_step here)
+-- The constant that an expression is, if it is one by its form: numbers, casts to scalar types,
+-- `positionsof`, `rankof`, `dimof`, brackets, and operators without an effect and without a
+-- reduction.
+unfoldable pub constant : Here → Expr → Option Constant
+constant here (E.Number p value u) = Some (record { elem = (if u then unsigned else int); word = Some value })
+constant here (E.Brackets' p _ inner) = constant here inner
+constant here (E.Casts' casts _ operand) = option_map (cast_through casts.items) (constant here operand)
+constant here (E.Prefix' p op _ operand) = over_one (prefixed op) (constant here operand)
+constant here (E.Binary' p op _ left _ right) = over_two (combined op) (constant here left) (constant here right)
+constant here (E.Choice' p _ test _ second _ third) = over_three selected (constant here test) (constant here second) (constant here third)
+constant here (E.PositionsOf p shape) = about_shape (λ ns. Some (product ns)) (extents_meant here (shape_of here shape))
+constant here (E.RankOf p shape) = about_shape (λ ns. Some (length ns)) (extents_meant here (shape_of here shape))
+constant here (E.DimOf' p shape _ axis) = over_one (λ k. about_shape (λ ns. extent_at ns (axis_among ns (number k))) (extents_meant here (shape_of here shape))) (constant here axis)
+constant here _ = None
 
 abbrev pub number_meant : Option Constant → Option ℤ
 number_meant None = None

@@ -1,6 +1,6 @@
 -- The faults of typing that stand in an expression, each with its number and its place. A fault
 -- stands at a node only where the parts of the node have types; at a name whatever else is faulty.
-use Rattle.std.specs.Prelude.{◌≡◌, ℕ, ◌+◌, ℤ, Bool, true, false, List, [], ◌∷◌, ◌++◌, map, length, slice_get, Option, Some, None, Box, Vec}
+use Rattle.std.specs.Prelude.{◌≡◌, ℕ, ℤ, true, false, List, [], ◌∷◌, length, slice_get, Option, Some, None, Box, Vec}
 use Rattle.std.specs.declared.alloc.Global.{Global}
 use Rattle.cstar_base.specs.declared.elem.Elem.{Elem}
 use Rattle.cstar_base.specs.declared.operators.Combiner.{Combiner}
@@ -13,9 +13,9 @@ use Rattle.cstar_tree.specs.declared.syntax.AssignOp.{AssignOp}
 use Rattle.cstar_tree.specs.declared.syntax.Cast.{Cast}
 use Rattle.cstar_tree.specs.declared.syntax.Expr.{Expr}
 use Rattle.cstar_tree.specs.declared.syntax.Expr as E
-use Rattle.cstar_tree.specs.declared.syntax.Expr.TheOpen.{Expr-F}
-use Rattle.cstar_tree.specs.declared.syntax.Expr.TheViews.{out-Expr}
 use Rattle.cstar_tree.specs.declared.syntax.Name.{Name}
+use Rattle.cstar_tree.specs.declared.syntax.BinaryOp.{BinaryOp}
+use Rattle.cstar_tree.specs.declared.syntax.PrefixOp.{PrefixOp}
 use Rattle.cstar_tree.specs.declared.syntax.PrefixOp.TheVariants as P
 use Rattle.cstar_tree.specs.declared.syntax.ReduceOp.{ReduceOp}
 use Rattle.cstar_tree.specs.declared.syntax.ShapeRef.{ShapeRef}
@@ -35,7 +35,6 @@ use Rattle.cstar_tree.specs.Formats.{conversions, pieces_of}
 use Rattle.cstar_tree.specs.Headers.{Leads, Placed, Program, parameter_types, returns_of}
 use Rattle.cstar_tree.specs.Operations.{folds, many, one, sends, target_of}
 use Rattle.cstar_tree.specs.Scopes.{Here, Meaning, VariableType, a_function, a_shape, a_variable, extents_of, index_place, meaning, part, shape_of, written_type}
-use Rattle.cstar_tree.specs.SyntaxParts.{parts_of}
 
 -- the kinds of declarations, and the kind of what a name stands for
 pub data Kind : Type 0 where
@@ -183,30 +182,34 @@ pub data FaultAt (program : Program) (here : Here) : Expr → ℕ → Place → 
   axis_no_constant : {e axis : Expr} {mode : SegmentMode} {bit : Option Name} → GoesAlong e axis mode bit → HasValue program (part here) axis → constant_number here axis ≡ None → FaultAt program here e 26 (place_of axis)
   axis_no_constant_dim : {p : Place} {written : ShapeRef} (axis : Box Expr Global) → HasValue program (part here) axis.value → constant_number here axis.value ≡ None → FaultAt program here (E.DimOf p written axis) 26 (place_of axis.value)
 
--- a part of an expression with its place, and whether it needs a value there
-pub record Part : Type 0 where
-  pub place : Here
-  pub expr : Expr
-  pub needs_value : Bool
+-- A part of an expression that needs a value, with its place. What is in brackets alone needs none.
+pub data IsPart (here : Here) : Expr → Here → Expr → Type 0 where
+  target : {p : Place} {op : AssignOp} (target value : Box Expr Global) → IsPart here (E.Assign p op target value) (part here) target.value
+  value : {p : Place} {op : AssignOp} (target value : Box Expr Global) → IsPart here (E.Assign p op target value) (part here) value.value
+  test : {p : Place} (test second third : Box Expr Global) → IsPart here (E.Choice p test second third) (part here) test.value
+  second : {p : Place} (test second third : Box Expr Global) → IsPart here (E.Choice p test second third) (part here) second.value
+  third : {p : Place} (test second third : Box Expr Global) → IsPart here (E.Choice p test second third) (part here) third.value
+  left : {p : Place} {op : BinaryOp} (left right : Box Expr Global) → IsPart here (E.Binary p op left right) (part here) left.value
+  right : {p : Place} {op : BinaryOp} (left right : Box Expr Global) → IsPart here (E.Binary p op left right) (part here) right.value
+  of_prefix : {p : Place} {op : PrefixOp} (operand : Box Expr Global) → IsPart here (E.Prefix p op operand) (part here) operand.value
+  of_postfix : {p : Place} {op : StepOp} (operand : Box Expr Global) → IsPart here (E.Postfix p op operand) (part here) operand.value
+  of_casts : (chain : Vec Cast Global) (operand : Box Expr Global) → IsPart here (E.Casts chain operand) (part here) operand.value
+  of_cast : {p : Place} {written : TypeName} (operand : Box Expr Global) → IsPart here (E.ParallelCast p written operand) (part here) operand.value
+  right_index : {n : Name} {bracket : Place} (index : Box Expr Global) → IsPart here (E.Element n bracket index) (part here) index.value
+  argument : {n : Name} {e : Expr} (arguments : Vec Expr Global) (which : ℕ) → slice_get arguments.items which ≡ Some e → IsPart here (E.Call n arguments) (part here) e
+  left_index : {p : Place} {n : Name} {e : Expr} (indexes : Vec Expr Global) (which : ℕ) → slice_get indexes.items which ≡ Some e → IsPart here (E.LeftIndex p indexes n) (index_place here n.word which) e
+  along : {e axis : Expr} {mode : SegmentMode} {bit : Option Name} → GoesAlong e axis mode bit → IsPart here e (part here) axis
+  of_dim : {p : Place} {written : ShapeRef} (axis : Box Expr Global) → IsPart here (E.DimOf p written axis) (part here) axis.value
+  source : {p : Place} (source axis : Box Expr Global) {combiner : Combiner} {direction : Direction} {mode : SegmentMode} {bit : Option Name} {inclusion : Inclusion} → IsPart here (E.Scan p source axis combiner direction mode bit inclusion) (part here) source.value
+  printed : {p : Place} {text : List ℕ} {e : Expr} (arguments : Vec Expr Global) (which : ℕ) → slice_get arguments.items which ≡ Some e → IsPart here (E.Printf p text arguments) (part here) e
 
-abbrev pub value_parts : Here → List Expr → List Part
-value_parts here es = map (λ e. record { place = part here; expr = e; needs_value = true }) es
-
-unfoldable pub index_parts : Here → List ℕ → ℕ → List Expr → List Part
-index_parts here word axis [] = []
-index_parts here word axis (e ∷ es) = record { place = index_place here word axis; expr = e; needs_value = true } ∷ index_parts here word (axis + 1) es
-
--- brackets alone stand for what is in them
-abbrev pub placed_parts : Here → Expr-F Expr → List Part
-placed_parts here (Expr-F.Brackets p inner) = record { place = here; expr = inner.value; needs_value = false } ∷ []
-placed_parts here (Expr-F.LeftIndex p indexes n) = index_parts here n.word 0 indexes.items
-placed_parts here node = value_parts here (parts_of node)
-
--- a fault stands in an expression: at it, or in a part, or where a part has no value and needs one
+-- a fault stands in an expression: at it, in a part or in brackets, or where a part that needs a
+-- value has none
 pub data FaultIn (program : Program) : Here → Expr → ℕ → Place → Type 0 where
   at : {here : Here} {e : Expr} {number : ℕ} {p : Place} → FaultAt program here e number p → FaultIn program here e number p
-  in_part : {here : Here} {e : Expr} {number : ℕ} {p : Place} (which : ℕ) (piece : Part) → slice_get (placed_parts here (out-Expr e)) which ≡ Some piece → FaultIn program piece.place piece.expr number p → FaultIn program here e number p
-  no_value : {here : Here} {e : Expr} {t : TExpr} (which : ℕ) (piece : Part) → slice_get (placed_parts here (out-Expr e)) which ≡ Some piece → piece.needs_value ≡ true → Types program piece.place piece.expr t false → FaultIn program here e 8 (place_of piece.expr)
+  in_part : {here there : Here} {e x : Expr} {number : ℕ} {p : Place} → IsPart here e there x → FaultIn program there x number p → FaultIn program here e number p
+  in_brackets : {here : Here} {q p : Place} {number : ℕ} (inner : Box Expr Global) → FaultIn program here inner.value number p → FaultIn program here (E.Brackets q inner) number p
+  no_value : {here there : Here} {e x : Expr} {t : TExpr} → IsPart here e there x → Types program there x t false → FaultIn program here e 8 (place_of x)
 
 -- a fault stands in an expression that needs a value
 pub data ValueFaultIn (program : Program) (here : Here) (e : Expr) : ℕ → Place → Type 0 where

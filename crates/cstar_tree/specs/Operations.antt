@@ -11,8 +11,7 @@ use Rattle.cstar_tree.specs.declared.syntax.PrefixOp.TheVariants as P
 use Rattle.cstar_tree.specs.declared.typed.UnaryOp.{UnaryOp}
 use Rattle.cstar_tree.specs.declared.typed.UnaryOp.TheVariants as U
 use Rattle.cstar_tree.specs.declared.typed.TExpr.{TExpr}
-use Rattle.cstar_tree.specs.declared.typed.TExpr.TheOpen.{TExpr-F}
-use Rattle.cstar_tree.specs.declared.typed.TExpr.TheFolds.{fold-TExpr}
+use Rattle.cstar_tree.specs.declared.typed.TExpr as T
 use Rattle.cstar_tree.specs.Conversions.{common, int, promoted}
 
 abbrev pub compares : Op → Bool
@@ -82,13 +81,10 @@ abbrev pub left_target : Place → Option ℕ → Target
 left_target place None = one
 left_target place (Some shape) = many place
 
-abbrev pub target_step : TExpr-F (Option Target) → Option Target
-target_step (TExpr-F.Variable ty variable) = Some one
-target_step (TExpr-F.Element ty place array index) = Some one
-target_step (TExpr-F.LeftIndex ty place indexes variable of) = Some (left_target place ty.shape)
-target_step (TExpr-F.Brackets ty inner) = inner.value
-target_step _ = None
-
 -- what an expression is as a target, maybe in brackets
-abbrev pub target_of : TExpr → Option Target
-target_of = fold-TExpr (Option Target) target_step
+unfoldable pub target_of : TExpr → Option Target
+target_of (T.Variable ty variable) = Some one
+target_of (T.Element' ty _ _ _ _) = Some one
+target_of (T.LeftIndex' ty place _ _ _ _) = Some (left_target place ty.shape)
+target_of (T.Brackets' _ _ inner) = target_of inner
+target_of _ = None

@@ -89,23 +89,23 @@ pub data ReturnFault (here : Here) : Returns → TExpr → Type 0 where
   away : {ty : ValueType} {t : TExpr} {s : ℕ} → ty.shape ≡ Some s → (here.current ≡ Some s → ⊥) → ReturnFault here (a_value ty) t
 
 -- a statement with a condition, and whether all the statements in it have types
-pub data IsTyped (program : Program) (returns : Returns) (here : Here) (s : Stmt) : Type 0 where
-  typed : {t : TStmt} → TypesStatement program returns here s t → IsTyped program returns here s
+pub data HasType (program : Program) (returns : Returns) (here : Here) (s : Stmt) : Type 0 where
+  typed : {t : TStmt} → TypesStatement program returns here s t → HasType program returns here s
 
-pub data IsTypedIf (program : Program) (returns : Returns) (here : Here) : Option (Box Stmt Global) → Type 0 where
-  absent : IsTypedIf program returns here None
-  present : (s : Box Stmt Global) → IsTyped program returns here s.value → IsTypedIf program returns here (Some s)
+pub data HasTypeIf (program : Program) (returns : Returns) (here : Here) : Option (Box Stmt Global) → Type 0 where
+  absent : HasTypeIf program returns here None
+  present : (s : Box Stmt Global) → HasType program returns here s.value → HasTypeIf program returns here (Some s)
 
 -- the condition of a statement that runs as C does, and its typed parts
 pub data Tested (program : Program) (returns : Returns) (here : Here) : Place → Stmt → Expr → Type 0 where
-  if : {p : Place} {e : Expr} {third : Option (Box Stmt Global)} (second : Box Stmt Global) → IsTyped program returns here second.value → IsTypedIf program returns (behind here second.value) third → Tested program returns here p (S.If p e second third) e
-  while : {p : Place} {e : Expr} (body : Box Stmt Global) → IsTyped program returns (in_loop here) body.value → Tested program returns here p (S.While p e body) e
-  do_while : {p : Place} {e : Expr} (body : Box Stmt Global) → IsTyped program returns (in_loop here) body.value → Tested program returns here p (S.Do p body e) e
-  for : {p : Place} {e : Expr} {first step : Option Expr} {f s : Option TExpr} (body : Box Stmt Global) → TypesEffectIf program here first f → TypesEffectIf program here step s → IsTyped program returns (in_loop here) body.value → Tested program returns here p (S.For p first (Some e) step body) e
+  if : {p : Place} {e : Expr} {third : Option (Box Stmt Global)} (second : Box Stmt Global) → HasType program returns here second.value → HasTypeIf program returns (behind here second.value) third → Tested program returns here p (S.If p e second third) e
+  while : {p : Place} {e : Expr} (body : Box Stmt Global) → HasType program returns (in_loop here) body.value → Tested program returns here p (S.While p e body) e
+  do_while : {p : Place} {e : Expr} (body : Box Stmt Global) → HasType program returns (in_loop here) body.value → Tested program returns here p (S.Do p body e) e
+  for : {p : Place} {e : Expr} {first step : Option Expr} {f s : Option TExpr} (body : Box Stmt Global) → TypesEffectIf program here first f → TypesEffectIf program here step s → HasType program returns (in_loop here) body.value → Tested program returns here p (S.For p first (Some e) step body) e
 
 -- the condition of a `where`, and its typed parts
 pub data TestedWhere (program : Program) (returns : Returns) (here : Here) : Place → Stmt → Expr → Type 0 where
-  where_of : {p : Place} {e : Expr} {third : Option (Box Stmt Global)} (second : Box Stmt Global) → IsTyped program returns here second.value → IsTypedIf program returns (behind here second.value) third → TestedWhere program returns here p (S.Where p e second third) e
+  where_of : {p : Place} {e : Expr} {third : Option (Box Stmt Global)} (second : Box Stmt Global) → HasType program returns here second.value → HasTypeIf program returns (behind here second.value) third → TestedWhere program returns here p (S.Where p e second third) e
 
 -- a fault at a statement itself, or at the name of its shape
 pub data StatementFaultAt (program : Program) (returns : Returns) (here : Here) : Stmt → ℕ → Place → Type 0 where
@@ -113,7 +113,7 @@ pub data StatementFaultAt (program : Program) (returns : Returns) (here : Here) 
   parallel_test : {s : Stmt} {p : Place} {e : Expr} {t : TExpr} {of : ℕ} → Tested program returns here p s e → Types program here e t true → (type_of t).shape ≡ Some of → StatementFaultAt program returns here s 12 p
   where_alone : {s : Stmt} {p : Place} {e : Expr} → TestedWhere program returns here p s e → HasValue program here e → here.current ≡ None → StatementFaultAt program returns here s 10 p
   where_scalar : {s : Stmt} {p : Place} {e : Expr} {t : TExpr} → TestedWhere program returns here p s e → Types program here e t true → (type_of t).shape ≡ None → StatementFaultAt program returns here s 13 p
-  everywhere_alone : {p : Place} (body : Box Stmt Global) → IsTyped program returns here body.value → here.current ≡ None → StatementFaultAt program returns here (S.Everywhere p body) 10 p
+  everywhere_alone : {p : Place} (body : Box Stmt Global) → HasType program returns here body.value → here.current ≡ None → StatementFaultAt program returns here (S.Everywhere p body) 10 p
   returned : {p : Place} {e : Expr} {t : TExpr} → Types program here e t true → ReturnFault here returns t → StatementFaultAt program returns here (S.Return p (Some e)) 20 p
   break_alone : {p : Place} → here.loop ≡ false → StatementFaultAt program returns here (S.Break p) 22 p
   continue_alone : {p : Place} → here.loop ≡ false → StatementFaultAt program returns here (S.Continue p) 22 p
