@@ -1,3 +1,4 @@
+pub mod Constants
 pub mod Examples
 pub mod Expressions
 pub mod Gets
