@@ -18,10 +18,11 @@ abbrev pub AreMarks : ℕ → List Bool → (ℕ → Type 0) → Type 0
 AreMarks units marks holds =
     (length marks ≡ units) × ((unit : ℕ) → unit < units → IsMarked marks unit ↔ holds unit)
 
--- a chain of calls leads to the unit from one with a mark; and one of so many calls
+-- a chain of so many calls leads to the unit from one with a mark
 abbrev pub IsBehind : List Call → List Bool → ℕ → ℕ → Type 0
 IsBehind calls marks count unit = (from : ℕ) × IsMarked marks from × Chain calls count from unit
 
+-- a chain of calls leads to the unit from one with a mark
 abbrev pub IsReached : List Call → List Bool → ℕ → Type 0
 IsReached calls marks unit = (count : ℕ) × IsBehind calls marks count unit
 

@@ -13,8 +13,8 @@ use crate::units::instruction;
 use paris_code::{Image, Instr};
 use std::alloc::{AllocError, Global};
 
-/// The calls of an image, the units that end a chain of `depth` or more calls from unit 0, and
-/// those that end one of as many calls as there are units: of the units on cycles all.
+/// The calls of an image; the units to which a chain of `depth` or more calls leads from unit 0; and
+/// the units to which one of as many calls leads as there are units, such as all units on cycles.
 #[derive(Drop)]
 pub struct Chains {
     pub calls: Vec<Call>,
@@ -146,7 +146,7 @@ fn keeps_stack(
     }
 }
 
-/// The first call that breaks image rule 3.
+/// The first instruction that does not keep image rule 3.
 fn first_unstacked(
     alloc: Global,
     image: &Image,
@@ -166,7 +166,8 @@ fn first_unstacked(
     Ok(None)
 }
 
-/// The first call that breaks image rule 3.
+/// The first call that breaks image rule 3. This goes over the calls once for each call of the
+/// longest chain, and where there are cycles once more for each call that may lie on one.
 pub fn broken_stack(
     alloc: Global,
     image: &Image,
