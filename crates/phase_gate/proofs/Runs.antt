@@ -1,15 +1,14 @@
 -- The running fold of a line, step by step.
-use Rattle.std.proofs.Common.{◌≡◌, ℕ, zero, suc, ◌+◌, ◌-◌, ◌<◌, ◌≤◌, Bool, true, false, ◌&&◌, not, cond, List, ◌∙◌, sym, ap, inl, inr, refl, arith}
+use Rattle.std.proofs.Common.{◌≡◌, ℕ, zero, suc, ◌+◌, ◌-◌, ◌<◌, ◌≤◌, Bool, true, false, ◌&&◌, not, cond, List, ◌∙◌, sym, ap, refl, arith}
 use Rattle.std.specs.Prelude.{◌||◌}
 use Rattle.std.proofs.Math.Numerals.{add-one}
-use Rattle.std.proofs.lemmas.Bool.{cases_Bool}
 use Rattle.cstar_base.specs.Folds.{fold_once, identity_of}
 use Rattle.paris_code.specs.Memory.{BitMemory, field_number, is_active}
 use Rattle.paris_code.specs.Operators.{combiner_of}
 use Rattle.paris_code.specs.Orders.{fold_below, any_of}
 use Rattle.paris_code.specs.Scanning.{ScanOf, own_step, on_line, bit_is_one, parts, parts_behind, fold_before}
 use Rattle.paris_code.specs.Shapes.{SetShape, extents_at}
-use Rattle.phase_gate.specs.Scans.{IsPrevious}
+use Rattle.phase_gate.specs.Scans.{before_at, IsPrevious}
 
 -- folds of the same values are the same, and one where nothing passes is its start
 fold_same : (step : ℕ → ℕ → ℕ) (f g : ℕ → Bool) (x y : ℕ → ℕ) (start n : ℕ) → ((k : ℕ) → k < n → f k ≡ g k) → ((k : ℕ) → k < n → x k ≡ y k) → fold_below step f x start n ≡ fold_below step g y start n
@@ -78,49 +77,77 @@ module _ (step : ℕ → ℕ → ℕ) (active parted : ℕ → Bool) (value : �
       and_true true = refl
       and_true false = refl
 
--- the fold before a position: nothing on the first step of its line, and else from its previous one
-pub first_fold : (shapes : List SetShape) (m : BitMemory) (scan : ScanOf) (p : ℕ) → own_step (extents_at shapes scan.source.set) scan p ≡ 0
-    → fold_before shapes m scan p (own_step (extents_at shapes scan.source.set) scan p) ≡ identity_of (combiner_of scan.combiner).0 (combiner_of scan.combiner).1
+-- what a scan folds, and from where, at the steps of the line of a position
+abbrev pub folds : ScanOf → ℕ → ℕ → ℕ
+folds scan total n = fold_once (combiner_of scan.combiner).0 (combiner_of scan.combiner).1 total n
+
+abbrev pub start_of : ScanOf → ℕ
+start_of scan = identity_of (combiner_of scan.combiner).0 (combiner_of scan.combiner).1
+
+abbrev active_on : List SetShape → BitMemory → ScanOf → ℕ → ℕ → Bool
+active_on shapes m scan x k = is_active shapes m scan.source.set (on_line (extents_at shapes scan.source.set) scan x k)
+
+abbrev value_on : List SetShape → BitMemory → ScanOf → ℕ → ℕ → ℕ
+value_on shapes m scan x k = field_number m scan.source (on_line (extents_at shapes scan.source.set) scan x k)
+
+-- a new segment begins between two positions
+abbrev pub begins : List SetShape → BitMemory → ScanOf → ℕ → ℕ → Bool
+begins shapes m scan first second = parts scan.mode scan.direction (bit_is_one m scan.bit first) (bit_is_one m scan.bit second) (is_active shapes m scan.source.set second)
+
+-- the fold before a position on the first step of its line
+pub first_fold : (shapes : List SetShape) (m : BitMemory) (scan : ScanOf) (p : ℕ) → own_step (extents_at shapes scan.source.set) scan p ≡ 0 → before_at shapes m scan p ≡ start_of scan
 unfolding fold_before fold_below
 first_fold shapes m scan p is = ap (fold_before shapes m scan p) is
 
-pub next_fold : (shapes : List SetShape) (m : BitMemory) (scan : ScanOf) (p q : ℕ) → IsPrevious (extents_at shapes scan.source.set) scan p q
-    → fold_before shapes m scan p (own_step (extents_at shapes scan.source.set) scan p)
-    ≡ cond (parts scan.mode scan.direction (bit_is_one m scan.bit q) (bit_is_one m scan.bit p) (is_active shapes m scan.source.set p)) (identity_of (combiner_of scan.combiner).0 (combiner_of scan.combiner).1)
-    (cond (is_active shapes m scan.source.set q) (fold_once (combiner_of scan.combiner).0 (combiner_of scan.combiner).1 (fold_before shapes m scan q (own_step (extents_at shapes scan.source.set) scan q)) (field_number m scan.source q))
-    (fold_before shapes m scan q (own_step (extents_at shapes scan.source.set) scan q)))
-unfolding fold_before parts_behind run
-next_fold shapes m scan p q is =
-    let set : ℕ = scan.source.set in
-    let extents : List ℕ = extents_at shapes set in
-    let c = combiner_of scan.combiner in
-    let step : ℕ → ℕ → ℕ = λ total n. fold_once c.0 c.1 total n in
-    let start : ℕ = identity_of c.0 c.1 in
-    let s : ℕ = own_step extents scan q in
-    let active : ℕ → ℕ → Bool = λ x k. is_active shapes m set (on_line extents scan x k) in
-    let parted : ℕ → ℕ → Bool = λ x k. parts_behind shapes m scan x k in
-    let value : ℕ → ℕ → ℕ = λ x k. field_number m scan.source (on_line extents scan x k) in
-    let at_q : on_line extents scan p s ≡ q = sym (is.line s (omega (arith, is.inside, is.step))) ∙ is.here in
-    let at_p : on_line extents scan p (s + 1) ≡ p = ap (on_line extents scan p) (sym is.step) ∙ is.there in
-    let parting : parted p s ≡ parts scan.mode scan.direction (bit_is_one m scan.bit q) (bit_is_one m scan.bit p) (is_active shapes m set p) =
-    ap (λ x. parts scan.mode scan.direction (bit_is_one m scan.bit x) (bit_is_one m scan.bit (on_line extents scan p (s + 1))) (is_active shapes m set (on_line extents scan p (s + 1)))) at_q
-    ∙ ap (λ y. parts scan.mode scan.direction (bit_is_one m scan.bit q) (bit_is_one m scan.bit y) (is_active shapes m set y)) at_p in
-    let parted_same : (k : ℕ) → k < s → parted p k ≡ parted q k = λ k b.
-    ap (λ x. parts scan.mode scan.direction (bit_is_one m scan.bit x) (bit_is_one m scan.bit (on_line extents scan p (k + 1))) (is_active shapes m set (on_line extents scan p (k + 1)))) (sym (is.line k (omega (arith, is.inside, is.step))))
-    ∙ ap (λ y. parts scan.mode scan.direction (bit_is_one m scan.bit (on_line extents scan q k)) (bit_is_one m scan.bit y) (is_active shapes m set y)) (sym (is.line (k + 1) (omega (arith, is.inside, is.step)))) in
-    let before : run step (active p) (parted p) (value p) start s ≡ fold_before shapes m scan q s =
-    fold_same step (λ k. active p k && not (any_of (parted p) k (s - k))) (λ k. active q k && not (any_of (parted q) k (s - k))) (value p) (value q) start s
-    (λ k b.
-    ap (λ x. is_active shapes m set x && not (any_of (parted p) k (s - k))) (sym (is.line k (omega (arith, is.inside, is.step))))
-    ∙ ap (λ t. active q k && not t) (any_same (parted p) (parted q) k (s - k) (λ j h. parted_same j (omega arith))))
-    (λ k b. ap (field_number m scan.source) (sym (is.line k (omega (arith, is.inside, is.step))))) in
-    let last : ℕ = cond (is_active shapes m set q) (step (fold_before shapes m scan q s) (field_number m scan.source q)) (fold_before shapes m scan q s) in
-    ap (fold_before shapes m scan p) is.step
-    ∙ elim (cases_Bool (parts scan.mode scan.direction (bit_is_one m scan.bit q) (bit_is_one m scan.bit p) (is_active shapes m set p))) [
-      | inl on ↦ run_parted step (active p) (parted p) (value p) start s (parting ∙ on) ∙ sym (ap (λ t. cond t start last) on)
-      | inr off ↦
-          run_on step (active p) (parted p) (value p) start s (parting ∙ off)
-          ∙ ap (λ x. cond (is_active shapes m set x) (step (run step (active p) (parted p) (value p) start s) (field_number m scan.source x)) (run step (active p) (parted p) (value p) start s)) at_q
-          ∙ ap (λ r. cond (is_active shapes m set q) (step r (field_number m scan.source q)) r) before
-          ∙ sym (ap (λ t. cond t start last) off)
-    ]
+-- and behind its previous one
+module _ (shapes : List SetShape) (m : BitMemory) (scan : ScanOf) (p q : ℕ) (is : IsPrevious (extents_at shapes scan.source.set) scan p q) where
+  at_q : on_line (extents_at shapes scan.source.set) scan p (own_step (extents_at shapes scan.source.set) scan q) ≡ q
+  at_q = sym (is.line (own_step (extents_at shapes scan.source.set) scan q) (omega (arith, is.inside, is.step))) ∙ is.here
+
+  at_p : on_line (extents_at shapes scan.source.set) scan p (own_step (extents_at shapes scan.source.set) scan q + 1) ≡ p
+  at_p = ap (on_line (extents_at shapes scan.source.set) scan p) (sym is.step) ∙ is.there
+
+  parted_is : parts_behind shapes m scan p (own_step (extents_at shapes scan.source.set) scan q) ≡ begins shapes m scan q p
+  unfolding parts_behind
+  parted_is =
+      ap (λ x. begins shapes m scan x (on_line (extents_at shapes scan.source.set) scan p (own_step (extents_at shapes scan.source.set) scan q + 1))) at_q
+      ∙ ap (begins shapes m scan q) at_p
+
+  parted_same : (k : ℕ) → k < own_step (extents_at shapes scan.source.set) scan q → parts_behind shapes m scan p k ≡ parts_behind shapes m scan q k
+  unfolding parts_behind
+  parted_same k b =
+      ap (λ x. begins shapes m scan x (on_line (extents_at shapes scan.source.set) scan p (k + 1))) (sym (is.line k (omega (arith, is.inside, is.step))))
+      ∙ ap (begins shapes m scan (on_line (extents_at shapes scan.source.set) scan q k)) (sym (is.line (k + 1) (omega (arith, is.inside, is.step))))
+
+  before_same : run (folds scan) (active_on shapes m scan p) (parts_behind shapes m scan p) (value_on shapes m scan p) (start_of scan) (own_step (extents_at shapes scan.source.set) scan q) ≡ before_at shapes m scan q
+  unfolding fold_before run
+  before_same =
+      let s : ℕ = own_step (extents_at shapes scan.source.set) scan q in
+      fold_same (folds scan) (λ k. active_on shapes m scan p k && not (any_of (parts_behind shapes m scan p) k (s - k))) (λ k. active_on shapes m scan q k && not (any_of (parts_behind shapes m scan q) k (s - k)))
+      (value_on shapes m scan p) (value_on shapes m scan q) (start_of scan) s
+      (λ k b.
+      ap (λ x. is_active shapes m scan.source.set x && not (any_of (parts_behind shapes m scan p) k (s - k))) (sym (is.line k (omega (arith, is.inside, is.step))))
+      ∙ ap (λ t. active_on shapes m scan q k && not t) (any_same (parts_behind shapes m scan p) (parts_behind shapes m scan q) k (s - k) (λ j h. parted_same j (omega arith))))
+      (λ k b. ap (field_number m scan.source) (sym (is.line k (omega (arith, is.inside, is.step)))))
+
+  pub begun_fold : begins shapes m scan q p ≡ true → before_at shapes m scan p ≡ start_of scan
+  unfolding fold_before run
+  begun_fold on =
+      ap (fold_before shapes m scan p) is.step
+      ∙ run_parted (folds scan) (active_on shapes m scan p) (parts_behind shapes m scan p) (value_on shapes m scan p) (start_of scan) (own_step (extents_at shapes scan.source.set) scan q) (parted_is ∙ on)
+
+  next_fold : begins shapes m scan q p ≡ false → before_at shapes m scan p ≡ cond (is_active shapes m scan.source.set q) (folds scan (before_at shapes m scan q) (field_number m scan.source q)) (before_at shapes m scan q)
+  unfolding fold_before run
+  next_fold off =
+      let s : ℕ = own_step (extents_at shapes scan.source.set) scan q in
+      let so_far : ℕ = run (folds scan) (active_on shapes m scan p) (parts_behind shapes m scan p) (value_on shapes m scan p) (start_of scan) s in
+      ap (fold_before shapes m scan p) is.step
+      ∙ run_on (folds scan) (active_on shapes m scan p) (parts_behind shapes m scan p) (value_on shapes m scan p) (start_of scan) s (parted_is ∙ off)
+      ∙ ap (λ x. cond (is_active shapes m scan.source.set x) (folds scan so_far (field_number m scan.source x)) so_far) at_q
+      ∙ ap (λ r. cond (is_active shapes m scan.source.set q) (folds scan r (field_number m scan.source q)) r) before_same
+
+  pub more_fold : begins shapes m scan q p ≡ false → is_active shapes m scan.source.set q ≡ true → before_at shapes m scan p ≡ folds scan (before_at shapes m scan q) (field_number m scan.source q)
+  more_fold off on = next_fold off ∙ ap (λ t. cond t (folds scan (before_at shapes m scan q) (field_number m scan.source q)) (before_at shapes m scan q)) on
+
+  pub same_fold : begins shapes m scan q p ≡ false → is_active shapes m scan.source.set q ≡ false → before_at shapes m scan p ≡ before_at shapes m scan q
+  same_fold off on = next_fold off ∙ ap (λ t. cond t (folds scan (before_at shapes m scan q) (field_number m scan.source q)) (before_at shapes m scan q)) on

@@ -92,11 +92,10 @@ impl RowPhases {
         ensures value { result ≡ number_or_zero (sets_of self.now) (memory_of self.now) source processor }
         ensures bound { result < 2 ^ source.len }
     {
-        if processor < self.positions(source.set) {
-            self.field(source, processor)
-        } else {
-            0
+        if self.positions(source.set) <= processor {
+            return 0;
         }
+        self.field(source, processor)
     }
 
     /// The fold of a field over the active processors in order.
