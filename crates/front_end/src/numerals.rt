@@ -2,7 +2,7 @@
 
 ghost use Rattle.std.specs.Prelude.{◌≡◌, ◌<◌, ◌≤◌, ◌^◌, ℕ, true, length, take};
 ghost use Rattle.cstar_base.specs.Numbers.{number_of};
-ghost use Rattle.front_end.specs.Numerals.{digit_of};
+ghost use Rattle.paris_code.specs.Numerals.{digit_of};
 
 use cstar_base::Elem;
 use cstar_base::numbers::value;

@@ -1,14 +1,14 @@
 //! What the scalar instructions compute.
 
 ghost use Rattle.std.specs.Prelude.{◌≡◌};
-ghost use Rattle.front_end.specs.Scalar.{operated, compared};
+ghost use Rattle.paris_code.specs.Scalar.{operated, compared};
 
 use cstar_base::Elem;
 use cstar_base::numbers::{convert, op, value, wrap};
 use paris_code::{Compare, Operation};
 
 /// The operation on two words. A division by 0 gives 0.
-#[tactic(auto, unfolding(crate::specs::Scalar::operated))]
+#[tactic(auto, unfolding(paris_code::specs::Scalar::operated))]
 pub fn operate(operation: Operation, x: u32, y: u32) -> u32
     ensures { result ≡ operated operation x y }
 {
@@ -17,7 +17,7 @@ pub fn operate(operation: Operation, x: u32, y: u32) -> u32
 }
 
 /// 1 where the relation holds of two words, else 0.
-#[tactic(auto, unfolding(crate::specs::Scalar::compared))]
+#[tactic(auto, unfolding(paris_code::specs::Scalar::compared))]
 pub fn compare(relation: Compare, x: u32, y: u32) -> u32
     ensures { result ≡ compared relation x y }
 {
