@@ -118,18 +118,18 @@ fault_at (I.CheckGrid set place steps) position = Fault 1 place (Some position)
 fault_at (I.CheckDivisor place a) position = Fault 2 place (Some position)
 fault_at _ position = Done
 
--- what follows from the reply to a parallel instruction, and the memory behind it
-abbrev pub replied : Instr → BitMemory → CodeState → Reply → Next
-replied instr memory s R.Nothing = Goes (record s { at = s.at + 1; memory = memory })
-replied instr memory s (R.Value v) = Goes (record s { at = s.at + 1; memory = memory; registers = stored (result_of instr) v s.registers })
-replied instr memory s (R.Bad position) = Ends (fault_at instr position) (record s { at = s.at + 1; memory = memory })
-replied instr memory s R.Memory = Ends Done s
+-- what follows from the reply to a parallel instruction, from the state behind it
+abbrev pub replied : Instr → CodeState → Reply → Next
+replied instr s R.Nothing = Goes s
+replied instr s (R.Value v) = Goes (record s { registers = stored (result_of instr) v s.registers })
+replied instr s (R.Bad position) = Ends (fault_at instr position) s
+replied instr s R.Memory = Ends Done s
 
 -- a parallel instruction
 unfoldable pub applied : List SetShape → Instr → CodeState → Next
 applied shapes instr s =
     let args = arguments_at instr s.registers in
-    replied instr (after shapes instr args s.memory) s (reply_of shapes instr args s.memory)
+    replied instr (record s { at = s.at + 1; memory = after shapes instr args s.memory }) (reply_of shapes instr args s.memory)
 
 -- a scalar instruction sets its register, or else is one of the others
 abbrev pub set_or : Option (ℕ × ℕ) → CodeState → Next → Next
