@@ -1,5 +1,5 @@
 -- What the code of an image means: one instruction from a state to the next, and a run of many.
-use Rattle.std.specs.Prelude.{ℕ, zero, suc, Bool, true, false, ◌+◌, ◌-◌, ◌^◌, ◌==◌, if◌then◌else◌, List, [], ◌∷◌, ◌++◌, length, map, take, replicate, slice_index, slice_set, Option, Some, None}
+use Rattle.std.specs.Prelude.{ℕ, zero, suc, Bool, true, ◌+◌, ◌-◌, ◌^◌, ◌==◌, not, if◌then◌else◌, List, [], ◌∷◌, ◌++◌, length, map, take, replicate, slice_index, slice_set, Option, Some, None}
 use Rattle.std.specs.List.{slice_get}
 use Rattle.cstar_base.specs.declared.operators.Place.{Place}
 use Rattle.paris_code.specs.declared.instr.Instr.{Instr}
@@ -93,7 +93,7 @@ controlled image (I.FrontCheckTarget set place coordinates) s = checked (any_reg
 controlled image (I.FrontCheckDivisor place x) s = checked (slice_index s.registers x == 0) 2 place s
 controlled image (I.FrontJump target) s = Goes (jumped true target s)
 controlled image (I.FrontJumpZero x target) s = Goes (jumped (slice_index s.registers x == 0) target s)
-controlled image (I.FrontJumpNonzero x target) s = Goes (jumped (if slice_index s.registers x == 0 then false else true) target s)
+controlled image (I.FrontJumpNonzero x target) s = Goes (jumped (not (slice_index s.registers x == 0)) target s)
 controlled image I.FrontTurn s = turned s
 controlled image (I.FrontCall unit) s = Goes (called image unit s)
 controlled image I.FrontReturn s = Goes (returned s)
