@@ -1,5 +1,6 @@
 pub mod Addresses
 pub mod FieldLemmas
+pub mod Lines
 pub mod Locality
 pub mod Memories
 pub mod Partly
@@ -7,6 +8,8 @@ pub mod Operations
 pub mod Replies
 pub mod Rising
 pub mod RowBits
+pub mod Runs
+pub mod Senders
 pub mod Stepwise
 pub mod Tests
 pub mod Widths

@@ -11,7 +11,6 @@ use Rattle.paris_code.specs.Operands.{result_of}
 use Rattle.paris_code.specs.Shapes.{SetShape}
 use Rattle.paris_code.specs.Writes.{written}
 use Rattle.phase_gate.specs.Apply.{is_check}
-use Rattle.phase_gate.specs.Families.{is_settled, is_settled_write, is_settled_check}
 
 -- an elementwise instruction checks nothing, answers nothing, and writes at each position
 abbrev pub Plain : List SetShape → Instr → List ℕ → BitMemory → Type 0
@@ -49,24 +48,16 @@ answered shapes (I.Global combiner r a) args m is = refl
 answered shapes (I.ReadFromProcessor signed r processor a) args m is = refl
 answered shapes _ args m is = cc
 
--- one of the others that are settled writes, and answers nothing
-pub settled_writes : (shapes : List SetShape) (instr : Instr) (args : List ℕ) (m : BitMemory) → is_check instr ≡ false → is_elementwise instr ≡ false → result_of instr ≡ None → is_settled instr ≡ true
-    → (is_settled_write instr ≡ true) × (reply_of shapes instr args m ≡ R.Nothing)
-settled_writes shapes (I.GetFromNews d a axis k) args m o p q is = (refl, refl)
-settled_writes shapes (I.GetFromNewsAlways d a axis k) args m o p q is = (refl, refl)
-settled_writes shapes (I.Get d address a) args m o p q is = (refl, refl)
-settled_writes shapes (I.WriteToProcessor d processor k) args m o p q is = (refl, refl)
-settled_writes shapes _ args m o p q is = cc
-
 pub same_bits : (shapes : List SetShape) (m : BitMemory) → SameBits shapes m m
 same_bits shapes m = record { bits = λ s p i a b c. refl; winner = refl }
 
--- a check changes nothing, and a settled instruction that is one is a settled check
-pub checked : (shapes : List SetShape) (instr : Instr) (args : List ℕ) (m : BitMemory) → is_check instr ≡ true → is_settled instr ≡ true → (is_settled_check instr ≡ true) × (after shapes instr args m ≡ m)
+-- a check changes nothing
+pub checked : (shapes : List SetShape) (instr : Instr) (args : List ℕ) (m : BitMemory) → is_check instr ≡ true → after shapes instr args m ≡ m
 unfolding after
-checked shapes (I.CheckGrid set place steps) args m is at = (refl, refl)
-checked shapes (I.CheckDivisor place a) args m is at = (refl, refl)
-checked shapes _ args m is at = cc
+checked shapes (I.CheckTarget set place coordinates) args m is = refl
+checked shapes (I.CheckGrid set place steps) args m is = refl
+checked shapes (I.CheckDivisor place a) args m is = refl
+checked shapes _ args m is = cc
 
 -- an instruction that leaves the memory as it was, by its reply
 pub quiet : (shapes : List SetShape) (instr : Instr) (args : List ℕ) (m : BitMemory) (reply : Reply) → reply ≡ reply_of shapes instr args m → after shapes instr args m ≡ m → Means shapes instr args m m reply

@@ -1,17 +1,19 @@
 -- One more position of an elementwise instruction.
-use Rattle.std.proofs.Common.{◌≡◌, ℕ, ◌+◌, ◌%◌, ◌^◌, ◌<◌, ◌-◌, Bool, true, false, ◌&&◌, cond, eqb, leb, ltb, List, length, sym, ◌∙◌, ap, subst, inl, inr, arith}
+use Rattle.std.proofs.Common.{◌≡◌, ℕ, ◌+◌, ◌%◌, ◌^◌, ◌<◌, ◌-◌, Bool, true, false, ◌&&◌, cond, eqb, leb, ltb, List, Option, Some, None, sym, ◌∙◌, ap, subst, inl, inr, refl, arith}
 use Rattle.std.specs.Int.{bit_at}
 use Rattle.std.proofs.lemmas.Bool.{cases_eq, ne_eqb}
-use Rattle.std.specs.Prelude.{◌||◌}
+use Rattle.std.specs.Prelude.{◌||◌, is_some, unwrap_or}
+use Rattle.std.specs.Bool.{then_some}
+use Rattle.cstar_base.specs.declared.elem.Elem.{Elem}
 use Rattle.paris_code.specs.declared.operands.Field.{Field}
 use Rattle.paris_code.specs.declared.instr.Instr.{Instr}
 use Rattle.paris_code.specs.Elementwise.{is_elementwise, destination, writes_always, element, elementwise}
 use Rattle.paris_code.specs.Fetching.{at_one}
 use Rattle.paris_code.specs.Memory.{BitMemory, SameBits, is_active, processors}
 use Rattle.paris_code.specs.Shapes.{SetShape}
-use Rattle.paris_code.specs.Writes.{written, covers}
+use Rattle.paris_code.specs.Writes.{Write, written, covers}
 use Rattle.phase_gate.specs.Apply.{CanApply}
-use Rattle.phase_gate.specs.Gathered.{gathered}
+use Rattle.phase_gate.specs.Gathered.{held, in_kind}
 use Rattle.phase_gate.proofs.FieldLemmas.{destination_runs}
 use Rattle.phase_gate.proofs.Locality.{AgreeAt, element_same, active_same}
 use Rattle.phase_gate.proofs.Partly.{PartlyWritten, part_at, part_skip, part_more}
@@ -63,39 +65,39 @@ skipped_more now shapes instr args old m k run always same can is at when bound 
     skipped_at now instr args old m k can is (subst (λ r. k < processors now r.set) at bound) partly (subst (λ t. (t || is_active now m (destination now instr).set k) ≡ false) when there)
 
 -- one more position of a write of words that are held
-module _ (now shapes : List SetShape) (d : Field) (always : Bool) (words : ℕ → ℕ) (old m : BitMemory) (k : ℕ) (same : shapes ≡ now)
-    (exists : d.set < length now) (bound : k < processors now d.set) (partly : PartlyWritten now (gathered now old d always words) old k m) where
-  held_same : (always || is_active shapes m d.set k) ≡ (always || is_active now old d.set k)
-  held_same =
-      ap (λ (s : List SetShape). always || is_active s m d.set k) same
-      ∙ ap (λ t. always || t) (active_same now m old d.set k (part_at now (gathered now old d always words) old m k partly exists bound))
+module _ (now shapes : List SetShape) (d : Field) (kind : Option Elem) (words : ℕ → Option ℕ) (old m : BitMemory) (k : ℕ) (same : shapes ≡ now)
+    (partly : PartlyWritten now (held d kind words) old k m) where
+  pub held_more : (new : BitMemory) (word : ℕ) → words k ≡ Some word → SameBits shapes new (written (at_one d k (in_kind kind word)) m) → PartlyWritten now (held d kind words) old (k + 1) new
+  held_more new word is step =
+      part_more now (held d kind words) old m new k (in_kind kind word) (ap is_some is) (ap (λ o. in_kind kind (unwrap_or o 0) % 2 ^ d.len) (sym is)) partly
+      (subst (λ (s : List SetShape). SameBits s new (written (at_one d k (in_kind kind word)) m)) same step)
 
-  pub held_more : (new : BitMemory) (word : ℕ) → (always || is_active shapes m d.set k) ≡ true → word ≡ words k
-      → SameBits shapes new (written (at_one d k word) m) → PartlyWritten now (gathered now old d always words) old (k + 1) new
-  held_more new word takes is step =
-      part_more now (gathered now old d always words) old m new k word (sym held_same ∙ takes) (ap (λ n. n % 2 ^ d.len) is) partly (subst (λ (s : List SetShape). SameBits s new (written (at_one d k word) m)) same step)
+  pub held_skip : words k ≡ None → PartlyWritten now (held d kind words) old (k + 1) m
+  held_skip is = part_skip now (held d kind words) old m k (ap is_some is) partly
 
-  pub held_skip : (always || is_active shapes m d.set k) ≡ false → PartlyWritten now (gathered now old d always words) old (k + 1) m
-  held_skip takes = part_skip now (gathered now old d always words) old m k (sym held_same ∙ takes) partly
+-- the words that are held are those that a write gives
+same_choice : (c t : Bool) (kind : Option Elem) (v j x : ℕ) → cond (c && is_some (then_some t v)) (bit_at (in_kind kind (unwrap_or (then_some t v) 0)) j) x ≡ cond (c && t) (bit_at (in_kind kind v) j) x
+same_choice c true kind v j x = refl
+same_choice true false kind v j x = refl
+same_choice false false kind v j x = refl
 
--- words that are held are as good as what they are the same as
-pub held_words : (now : List SetShape) (m new : BitMemory) (d : Field) (always : Bool) (words other : ℕ → ℕ) → ((p : ℕ) → p < processors now d.set → words p ≡ other p)
-    → SameBits now new (written (gathered now m d always words) m) → SameBits now new (written (gathered now m d always other) m)
+pub held_words : (now mid : List SetShape) (old m new : BitMemory) (w : Write) (kind : Option Elem) (words : ℕ → Option ℕ) (value : ℕ → ℕ) → mid ≡ now → m ≡ old
+    → ((p : ℕ) → w.value p ≡ in_kind kind (value p)) → ((p : ℕ) → p < processors now w.run.set → words p ≡ then_some (w.writes p) (value p))
+    → SameBits mid new (written (held w.run kind words) m) → SameBits now new (written w old)
 unfolding written covers
-held_words now m new d always words other same is = record {
-  bits = λ s p i a b c. is.bits s p i a b c ∙ elim (cases_eq s d.set) [
-    | inl e ↦
-        ap (λ n. cond ((eqb s d.set && (leb d.offset i && ltb i (d.offset + d.len))) && (always || is_active now m d.set p)) (bit_at n (i - d.offset)) (m.bit s p i)) (same p (omega (arith, ap (processors now) e)))
-    | inr n ↦
-        ap (λ t. cond ((t && (leb d.offset i && ltb i (d.offset + d.len))) && (always || is_active now m d.set p)) (bit_at (words p) (i - d.offset)) (m.bit s p i)) (ne_eqb s d.set n)
-        ∙ sym (ap (λ t. cond ((t && (leb d.offset i && ltb i (d.offset + d.len))) && (always || is_active now m d.set p)) (bit_at (other p) (i - d.offset)) (m.bit s p i)) (ne_eqb s d.set n))
-  ];
-  winner = is.winner;
-}
-
--- gathered first and then written
-pub held_then : (now mid : List SetShape) (old m new : BitMemory) (d : Field) (always : Bool) (words other : ℕ → ℕ) → mid ≡ now → m ≡ old
-    → ((p : ℕ) → p < processors now d.set → words p ≡ other p) → SameBits mid new (written (gathered mid m d always words) m) → SameBits now new (written (gathered now old d always other) old)
-held_then now mid old m new d always words other same kept are is =
-    let at : SameBits now new (written (gathered now m d always words) m) = subst (λ (s : List SetShape). SameBits s new (written (gathered s m d always words) m)) same is in
-    held_words now old new d always words other are (subst (λ (n : BitMemory). SameBits now new (written (gathered now n d always words) n)) kept at)
+held_words now mid old m new w kind words value same kept converts are is =
+    let at : SameBits now new (written (held w.run kind words) m) = subst (λ (s : List SetShape). SameBits s new (written (held w.run kind words) m)) same is in
+    let all : SameBits now new (written (held w.run kind words) old) = subst (λ (n : BitMemory). SameBits now new (written (held w.run kind words) n)) kept at in
+    record {
+      bits = λ s p i a b c. all.bits s p i a b c ∙ elim (cases_eq s w.run.set) [
+        | inl e ↦
+            let within : Bool = eqb s w.run.set && (leb w.run.offset i && ltb i (w.run.offset + w.run.len)) in
+            ap (λ o. cond (within && is_some o) (bit_at (in_kind kind (unwrap_or o 0)) (i - w.run.offset)) (old.bit s p i)) (are p (omega (arith, ap (processors now) e)))
+            ∙ same_choice within (w.writes p) kind (value p) (i - w.run.offset) (old.bit s p i)
+            ∙ ap (λ n. cond (within && w.writes p) (bit_at n (i - w.run.offset)) (old.bit s p i)) (sym (converts p))
+        | inr n ↦
+            ap (λ t. cond ((t && (leb w.run.offset i && ltb i (w.run.offset + w.run.len))) && is_some (words p)) (bit_at (in_kind kind (unwrap_or (words p) 0)) (i - w.run.offset)) (old.bit s p i)) (ne_eqb s w.run.set n)
+            ∙ sym (ap (λ t. cond ((t && (leb w.run.offset i && ltb i (w.run.offset + w.run.len))) && w.writes p) (bit_at (w.value p) (i - w.run.offset)) (old.bit s p i)) (ne_eqb s w.run.set n))
+      ];
+      winner = all.winner;
+    }

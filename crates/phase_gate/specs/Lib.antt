@@ -1,5 +1,4 @@
 pub mod Apply
-pub mod Families
 pub mod Gathered
 pub mod Rows
 pub mod Scans

@@ -1,5 +1,5 @@
 -- How the plain phases hold the sets.
-use Rattle.std.specs.Prelude.{◌≡◌, ℕ, ◌+◌, ◌*◌, ◌/◌, ◌%◌, ◌<◌, ◌==◌, List, map, slice_index, if◌then◌else◌}
+use Rattle.std.specs.Prelude.{◌≡◌, ℕ, ◌+◌, ◌*◌, ◌/◌, ◌%◌, ◌<◌, ◌==◌, List, map, slice_index, Option, None, if◌then◌else◌}
 use Rattle.vp_sets.specs.Positions.{position_count}
 use Rattle.std.specs.Int.{bit_at}
 use Rattle.std.specs.List.{slice_index_or}
@@ -20,19 +20,19 @@ sets_of p = map shape_of_rows p.sets.items
 unfoldable pub row_bit : Rows → ℕ → ℕ → ℕ
 row_bit rows position index = bit_at (slice_index rows.cells.items (position * rows.words + index / 32)) (index % 32)
 
--- the word that is held for a processor
-unfoldable pub room_word : Rows → ℕ → ℕ
-room_word rows position = slice_index rows.room.items position
+-- the word that is held for a processor, if any
+unfoldable pub room_word : Rows → ℕ → Option ℕ
+room_word rows position = slice_index_or rows.room.items position None
 
 -- what stands for the bits of a set that does not exist
 abbrev pub no_bits : ℕ → ℕ → ℕ
 no_bits position index = 0
 
 -- the words that are held for the processors of all sets
-abbrev pub no_words : ℕ → ℕ
-no_words position = 0
+abbrev pub no_words : ℕ → Option ℕ
+no_words position = None
 
-unfoldable pub room_of : RowPhases → ℕ → ℕ → ℕ
+unfoldable pub room_of : RowPhases → ℕ → ℕ → Option ℕ
 room_of p set = slice_index_or (map room_word p.sets.items) set no_words
 
 -- the bits of all sets

@@ -4,21 +4,20 @@ ghost use Rattle.std.specs.Prelude.{◌≡◌, ◌<◌, length, true, false, Non
 ghost use Rattle.paris_code.specs.Elementwise.{is_elementwise, destination, writes_always, elementwise};
 ghost use Rattle.paris_code.specs.Fetching.{at_one, of_named, of_neighbour, word_of_one};
 ghost use Rattle.paris_code.specs.Meaning.{after, reply_of};
-ghost use Rattle.phase_gate.specs.Families.{is_settled_write};
 ghost use Rattle.phase_gate.specs.Gathered.{gathered};
 ghost use Rattle.paris_code.specs.Memory.{SameBits, bit_run, context_run, test_run};
 ghost use Rattle.paris_code.specs.Writes.{written};
 ghost use Rattle.paris_code.specs.Operands.{result_of};
 ghost use Rattle.paris_code.specs.Shapes.{rank_at};
-ghost use Rattle.phase_gate.specs.Apply.{CanApply, IsRun, LiesIn, active_set, looked_at};
+ghost use Rattle.phase_gate.specs.Apply.{CanApply, IsRun, LiesIn, active_set, is_fetch};
 
 use crate::arith::signed;
-use crate::communication::Scan;
 use crate::elements::konst;
 use crate::phases::Phases;
 use crate::row_phases::RowPhases;
+use crate::scans::Scan;
 use crate::sends::Send;
-use cstar_base::{SegmentMode, Winner};
+use cstar_base::Winner;
 use paris_code::{Field, Instr, Reply};
 
 /// A flag, as the run of its one bit.
@@ -29,16 +28,6 @@ fn flag(set: u16, offset: u32) -> Field
         set,
         offset,
         len: 1,
-    }
-}
-
-/// The bit of a scan, in the modes that look at it.
-fn looked_at(mode: SegmentMode, bit: Option<Field>) -> Option<Field>
-    ensures { result ≡ looked_at mode bit }
-{
-    match mode {
-        SegmentMode::NoSegments => None,
-        SegmentMode::StartBit | SegmentMode::SegmentBit => bit,
     }
 }
 
@@ -120,8 +109,8 @@ impl RowPhases {
         ensures sets { sets_of self.new ≡ sets_of self.old }
         ensures memory { SameBits (sets_of self.old) (memory_of self.new) (written (gathered (sets_of self.old) (memory_of self.old) dest always (of_neighbour (sets_of self.old) (memory_of self.old) source axis by)) (memory_of self.old)) }
     {
-        self.gather_shift(source, axis, signed(by));
-        self.write_gathered(dest, always);
+        self.gather_shift(source, axis, signed(by), always);
+        self.write_gathered(dest, None);
     }
 
     /// A get, gathered and then written.
@@ -134,7 +123,7 @@ impl RowPhases {
         ensures memory { SameBits (sets_of self.old) (memory_of self.new) (written (gathered (sets_of self.old) (memory_of self.old) dest false (of_named (sets_of self.old) (memory_of self.old) address source)) (memory_of self.old)) }
     {
         self.gather_named(address, source);
-        self.write_gathered(dest, false);
+        self.write_gathered(dest, None);
     }
 
     /// The source of one processor, or 0 if there is none.
@@ -183,9 +172,10 @@ impl RowPhases {
     /// Does an instruction that moves values between processors.
     #[tactic(auto, using(crate::proofs::FieldLemmas::lies))]
     fn communicate(&mut self, instr: &Instr, args: &[u32])
-        requires { CanApply (sets_of self.old) instr.now args.now }
+        requires can { CanApply (sets_of self.old) instr.now args.now }
+        requires other { is_elementwise instr.now ≡ false }
         ensures sets { sets_of self.new ≡ sets_of self.old }
-        ensures memory { is_settled_write instr.now ≡ true → SameBits (sets_of self.old) (memory_of self.new) (after (sets_of self.old) instr.now args.now (memory_of self.old)) }
+        ensures memory { SameBits (sets_of self.old) (memory_of self.new) (after (sets_of self.old) instr.now args.now (memory_of self.old)) }
     {
         match instr {
             Instr::GetFromNews {
@@ -212,10 +202,13 @@ impl RowPhases {
         }
     }
 
+    /// Does a scan or a send.
     #[tactic(auto, using(crate::proofs::FieldLemmas::lies))]
     fn scan_or_send(&mut self, instr: &Instr, args: &[u32])
-        requires { CanApply (sets_of self.old) instr.now args.now }
-        ensures { sets_of self.new ≡ sets_of self.old }
+        requires can { CanApply (sets_of self.old) instr.now args.now }
+        requires other { (is_elementwise instr.now ≡ false) × (is_fetch instr.now ≡ false) }
+        ensures sets { sets_of self.new ≡ sets_of self.old }
+        ensures memory { SameBits (sets_of self.old) (memory_of self.new) (after (sets_of self.old) instr.now args.now (memory_of self.old)) }
     {
         match instr {
             Instr::Scan {
@@ -234,11 +227,10 @@ impl RowPhases {
                     axis: *axis,
                     direction: *direction,
                     mode: *mode,
-                    bit: looked_at(*mode, *bit),
+                    bit: *bit,
                     inclusion: *inclusion,
                 };
-                self.gather_scan(&scan);
-                self.write_gathered(*dest, false);
+                self.do_scan(*dest, &scan);
             }
             Instr::SendWithOverwrite {
                 dest,

@@ -1,18 +1,18 @@
 //! Checks: the least active processor that fails.
 
-ghost use Rattle.std.specs.Prelude.{◌≡◌, ◌<◌, ◌&&◌, ◌==◌, length, All, IfSome, MatchOption, true, false};
-ghost use Rattle.paris_code.specs.Arguments.{behind_konst};
-ghost use Rattle.paris_code.specs.Checking.{any_leaves, is_outside};
+ghost use Rattle.std.specs.Prelude.{ℕ, ◌≡◌, ◌<◌, ◌&&◌, ◌==◌, length, All, IfSome, MatchOption, true, false};
+ghost use Rattle.paris_code.specs.Arguments.{coordinate_whole, behind_konst};
+ghost use Rattle.paris_code.specs.Checking.{any_outside, any_leaves, is_outside, is_signed, set_of_coordinates};
 ghost use Rattle.paris_code.specs.Shapes.{extents_at};
 ghost use Rattle.paris_code.specs.Meaning.{bad_or_nothing, reply_of};
 ghost use Rattle.paris_code.specs.Memory.{field_number, is_active, processors};
 ghost use Rattle.paris_code.specs.Orders.{least_below};
-ghost use Rattle.phase_gate.specs.Families.{is_settled_check};
 ghost use Rattle.paris_code.specs.Operands.{coordinate_of};
 ghost use Rattle.paris_code.specs.RuleSet.{IsAxis, axis_of};
-ghost use Rattle.phase_gate.specs.Apply.{CanApply, IsCoordinateIn, IsPosition, LiesIn, ReplyFits, is_check};
+ghost use Rattle.phase_gate.specs.Apply.{CanApply, IsCoordinateAt, IsPosition, LiesIn, ReplyFits, is_check};
 
-use crate::arith::{extended, signed, whole};
+use crate::arith::{signed, whole};
+use crate::elements::{behind, next};
 use crate::row_phases::RowPhases;
 use paris_code::{Coordinate, Field, GridStep, Instr, Konst, Reply, SignedCoordinate};
 
@@ -29,14 +29,6 @@ fn behind_step(step: Konst, args: &[u32]) -> &[u32]
     }
 }
 
-/// Whether a whole number is no coordinate of an axis with this extent.
-#[tactic(auto, unfolding(paris_code::specs::Checking::is_outside))]
-fn is_outside(extent: u32, number: i64) -> bool
-    ensures { result ≡ is_outside extent number }
-{
-    (number < 0) | (i64::from(extent) <= number)
-}
-
 /// The reply that tells the least processor whose check fails, if there is one.
 fn answer(failing: Option<u32>) -> Reply
     ensures { result ≡ bad_or_nothing failing }
@@ -47,54 +39,78 @@ fn answer(failing: Option<u32>) -> Reply
     }
 }
 
+/// Whether a whole number is no coordinate of an axis with this extent.
+#[tactic(auto, unfolding(paris_code::specs::Checking::is_outside))]
+fn is_outside(extent: u32, number: i64) -> bool
+    ensures { result ≡ is_outside extent number }
+{
+    (number < 0) | (i64::from(extent) <= number)
+}
+
+/// The set whose processors check these coordinates: that of the first field, or else the target's.
+fn checking_set(target: u16, list: &[SignedCoordinate]) -> u16
+    ensures { result ≡ set_of_coordinates target list.now }
+{
+    match list.split_first() {
+        None => target,
+        Some((first, rest)) => match first.coordinate {
+            Coordinate::Field(f) => f.set,
+            Coordinate::Reg(_) => checking_set(target, rest),
+        },
+    }
+}
+
 impl RowPhases {
     ghost use Rattle.phase_gate.specs.Rows.{sets_of, memory_of};
 
-    /// The set whose processors check these coordinates: that of their fields, or else of the
-    /// target.
-    fn checking_set(&self, set: u16, coordinates: &[SignedCoordinate]) -> u16
-        requires set { set < length (sets_of self.now) }
-        requires fields { All (λ c. IsCoordinateIn (sets_of self.now) (coordinate_of c)) coordinates.now }
-        ensures { result < length (sets_of self.now) }
+    /// A coordinate of a processor as a whole number; a register's is the next argument.
+    fn whole_coordinate(&self, checked: SignedCoordinate, args: &[u32], position: u32) -> i64
+        requires { IsCoordinateAt (sets_of self.now) position (coordinate_of checked) }
+        ensures { result ≡ coordinate_whole (memory_of self.now) (is_signed checked) (coordinate_of checked) args.now position }
     {
-        for checked in coordinates {
-            if let Coordinate::Field(f) = checked.coordinate {
-                return f.set;
-            }
+        match checked.coordinate {
+            Coordinate::Field(f) => whole(checked.signed, self.word(checked.signed, f, position)),
+            Coordinate::Reg(_) => whole(checked.signed, next(args)),
         }
-        set
     }
 
-    /// Whether the coordinates of a processor are those of a position of the set.
-    fn are_inside(&self, set: u16, list: &[SignedCoordinate], args: &[u32], position: u32) -> bool
-        requires set { set < length (sets_of self.now) }
-        requires fields { All (λ c. IsCoordinateIn (sets_of self.now) (coordinate_of c)) list.now }
+    /// Whether a coordinate of a processor is outside its extent.
+    fn any_outside(
+        &self,
+        extents: &[u32],
+        list: &[SignedCoordinate],
+        args: &[u32],
+        position: u32,
+    ) -> bool
+        requires { All (λ c. IsCoordinateAt (sets_of self.now) position (coordinate_of c)) list.now }
+        ensures { result ≡ any_outside (memory_of self.now) extents.now list.now args.now position }
     {
-        let geometry = self.rows(set).geometry;
-        let mut registers = args.iter();
-        for (checked, extent) in list.iter().zip(geometry.extents()) {
-            let x = match checked.coordinate {
-                Coordinate::Field(f) => {
-                    extended(checked.signed, f.len, self.field_or_zero(f, position))
-                }
-                Coordinate::Reg(_) => registers.next().copied().unwrap_or(0),
-            };
-            let number = whole(checked.signed, x);
-            if number < 0 || i64::from(*extent) <= number {
-                return false;
+        match (extents.split_first(), list.split_first()) {
+            (Some((extent, later)), Some((first, rest))) => {
+                let here = is_outside(*extent, self.whole_coordinate(*first, args, position));
+                here | self.any_outside(later, rest, behind(first.coordinate, args), position)
             }
+            _ => false,
         }
-        true
     }
 
     /// The least active processor that has a coordinate outside.
-    fn check_target(&self, set: u16, list: &[SignedCoordinate], args: &[u32]) -> Option<u32>
+    fn check_target(
+        &self,
+        own: u16,
+        set: u16,
+        list: &[SignedCoordinate],
+        args: &[u32],
+    ) -> Option<u32>
+        requires own { own < length (sets_of self.now) }
         requires set { set < length (sets_of self.now) }
-        requires fields { All (λ c. IsCoordinateIn (sets_of self.now) (coordinate_of c)) list.now }
+        requires fields { (p : ℕ) → p < processors (sets_of self.now) own → All (λ c. IsCoordinateAt (sets_of self.now) p (coordinate_of c)) list.now }
+        ensures { result ≡ least_below (λ p. is_active (sets_of self.now) (memory_of self.now) own p && any_outside (memory_of self.now) (extents_at (sets_of self.now) set) list.now args.now p) (processors (sets_of self.now) own) }
     {
-        let own = self.checking_set(set, list);
-        for position in 0..self.positions(own) {
-            if self.is_active(own, position) && !self.are_inside(set, list, args, position) {
+        let geometry = self.rows(set).geometry;
+        'positions: for position in 0..self.positions(own) {
+            let outside = self.any_outside(geometry.extents(), list, args, position);
+            if self.is_active(own, position) & outside {
                 return Some(position);
             }
         }
@@ -113,7 +129,7 @@ impl RowPhases {
                 let geometry = self.rows(set).geometry;
                 let by = match step.step {
                     Konst::Imm(n) => n,
-                    Konst::Reg(_) => args.first().copied().unwrap_or(0),
+                    Konst::Reg(_) => next(args),
                 };
                 let own = i64::from(geometry.coord(position, step.axis));
                 let here = is_outside(geometry.extent(step.axis), own + i64::from(signed(by)));
@@ -152,19 +168,22 @@ impl RowPhases {
     }
 
     /// The reply to an instruction that checks; none to another.
-    #[tactic(auto, using(crate::proofs::FieldLemmas::lies, crate::proofs::FieldLemmas::checked_lie))]
+    #[tactic(auto, using(crate::proofs::FieldLemmas::lies, crate::proofs::FieldLemmas::own_exists))]
     pub(crate) fn check(&self, instr: &Instr, args: &[u32]) -> Option<Reply>
         requires { CanApply (sets_of self.now) instr.now args.now }
         ensures checks { MatchOption result (is_check instr.now ≡ false) (λ reply. is_check instr.now ≡ true) }
         ensures fits { IfSome result (λ reply. ReplyFits instr.now reply) }
-        ensures least { IfSome result (λ reply. is_settled_check instr.now ≡ true → reply ≡ reply_of (sets_of self.now) instr.now args.now (memory_of self.now)) }
+        ensures least { IfSome result (λ reply. reply ≡ reply_of (sets_of self.now) instr.now args.now (memory_of self.now)) }
     {
         match instr {
             Instr::CheckTarget {
                 set,
                 coordinates,
                 ..
-            } => Some(answer(self.check_target(*set, coordinates.as_slice(), args))),
+            } => {
+                let list = coordinates.as_slice();
+                Some(answer(self.check_target(checking_set(*set, list), *set, list, args)))
+            }
             Instr::CheckGrid { set, steps, .. } => {
                 Some(answer(self.check_grid(*set, steps.as_slice(), args)))
             }

@@ -1,6 +1,6 @@
 //! What the elementwise instructions compute at one processor.
 
-ghost use Rattle.std.specs.Prelude.{◌≡◌, ◌+◌, ◌*◌, ◌<◌, ◌%◌, ◌^◌, length, All};
+ghost use Rattle.std.specs.Prelude.{◌≡◌, ◌+◌, ◌*◌, ◌<◌, ◌%◌, ◌^◌, length, slice_index, All};
 ghost use Rattle.vp_sets.specs.Positions.{position_count, number_at};
 ghost use Rattle.paris_code.specs.Arguments.{konst_number, coordinate_number, coordinate_numbers, behind_coordinate};
 ghost use Rattle.paris_code.specs.Elementwise.{element, destination};
@@ -22,8 +22,15 @@ pub(crate) fn konst(k: Konst, args: &[u32]) -> u32
     }
 }
 
+/// The next argument, for an operand that is a register.
+pub(crate) fn next(args: &[u32]) -> u32
+    ensures { result ≡ slice_index args.now 0 }
+{
+    args.first().copied().unwrap_or(0)
+}
+
 /// The arguments behind those that a coordinate takes.
-fn behind(coordinate: Coordinate, args: &[u32]) -> &[u32]
+pub(crate) fn behind(coordinate: Coordinate, args: &[u32]) -> &[u32]
     ensures { result.now ≡ behind_coordinate coordinate args.now }
 {
     match coordinate {
@@ -45,7 +52,7 @@ impl RowPhases {
     {
         match coordinate {
             Coordinate::Field(f) => self.field(f, position),
-            Coordinate::Reg(_) => args.first().copied().unwrap_or(0),
+            Coordinate::Reg(_) => next(args),
         }
     }
 

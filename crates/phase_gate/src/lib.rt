@@ -10,6 +10,7 @@ mod elements;
 mod phases;
 mod row_phases;
 mod rows;
+mod scans;
 mod sends;
 
 pub use phases::Phases;

@@ -6,7 +6,6 @@ ghost use Rattle.paris_code.specs.Memory.{BitMemory, SameBits, bit_run, field_nu
 ghost use Rattle.paris_code.specs.Shapes.{SetShape, bits_at};
 ghost use Rattle.paris_code.specs.Writes.{written};
 ghost use Rattle.phase_gate.specs.Apply.{CanApply, IsPosition, LiesIn, ReplyFits};
-ghost use Rattle.phase_gate.specs.Families.{is_settled};
 
 use cstar_base::Winner;
 use paris_code::{Field, Instr, Reply};
@@ -27,7 +26,7 @@ pub trait Phases {
         requires { CanApply (shapes self.old) instr.now args.now }
         ensures reply { ReplyFits instr.now result }
         ensures shapes { shapes self.new ≡ shapes self.old }
-        ensures meaning { is_settled instr.now ≡ true → Means (shapes self.old) instr.now args.now (memory self.old) (memory self.new) result };
+        ensures meaning { Means (shapes self.old) instr.now args.now (memory self.old) (memory self.new) result };
 
     /// The number in a field of a processor, unsigned.
     fn read(&self, field: Field, position: u32) -> u32

@@ -132,17 +132,17 @@ impl RowPhases {
         self.sets[usize::from(run.set)].set_number(position, run.offset, run.len, n);
     }
 
-    /// The word that is held for a processor.
-    pub(crate) fn gathered(&self, set: u16, position: u32) -> u32
+    /// The word that is held for a processor, if any.
+    pub(crate) fn gathered(&self, set: u16, position: u32) -> Option<u32>
         requires { IsPosition (sets_of self.now) set position }
         ensures { result ≡ room_of self.now set position }
     {
         self.rows(set).gathered(position)
     }
 
-    /// Holds a word for a processor.
+    /// Holds a word for a processor, or none.
     #[tactic(auto, using(crate::proofs::FieldLemmas::same_sets))]
-    pub(crate) fn gather(&mut self, set: u16, position: u32, word: u32)
+    pub(crate) fn gather(&mut self, set: u16, position: u32, word: Option<u32>)
         requires { IsPosition (sets_of self.old) set position }
         ensures sets { sets_of self.new ≡ sets_of self.old }
         ensures memory { memory_of self.new ≡ memory_of self.old }

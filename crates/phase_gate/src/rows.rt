@@ -22,8 +22,8 @@ pub(crate) struct Rows {
     /// The machine words of one row.
     words: u32,
     cells: Vec<u32>,
-    /// A word for each processor, for values that are gathered before they are written.
-    room: Vec<u32>,
+    /// The word that each processor is to take, if any: words are gathered before they are written.
+    room: Vec<Option<u32>>,
     ghost few: { bits ≤ 2 ^ 30 },
     ghost wide: { bits + 65 ≤ 32 * words },
     ghost narrow: { words ≤ 2 ^ 26 },
@@ -46,7 +46,7 @@ impl Rows {
         let words = bits / WORD + 3;
         let count = positions as usize * words as usize;
         let cells = vec![in alloc; 0; count]?;
-        let room = vec![in alloc; 0; positions as usize]?;
+        let room = vec![in alloc; None; positions as usize]?;
         let mut rows = Rows {
             geometry,
             bits,
@@ -149,16 +149,16 @@ impl Rows {
         self.number(position, self.bits + 1, 1) == 1
     }
 
-    /// The word that is held for a processor.
-    pub(crate) fn gathered(&self, position: u32) -> u32
+    /// The word that is held for a processor, if any.
+    pub(crate) fn gathered(&self, position: u32) -> Option<u32>
         requires { position < position_count self.now.geometry }
         ensures { result ≡ room_word self.now position }
     {
         self.room[position as usize]
     }
 
-    /// Holds a word for a processor.
-    pub(crate) fn gather(&mut self, position: u32, word: u32)
+    /// Holds a word for a processor, or none.
+    pub(crate) fn gather(&mut self, position: u32, word: Option<u32>)
         requires { position < position_count self.old.geometry }
         ensures shape { shape_of_rows self.new ≡ shape_of_rows self.old }
         ensures bits { row_bit self.new ≡ row_bit self.old }

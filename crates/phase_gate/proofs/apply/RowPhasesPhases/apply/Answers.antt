@@ -5,7 +5,7 @@ use Rattle.phase_gate.proofs.Replies.{plain, answered, checked, quiet, same_bits
 use Rattle.phase_gate.proofs.apply.RowPhasesPhases.apply.Goals as goal
 
 pub returns-in-Some-written_by-clause-meaning : goal.returns-in-Some-written_by-clause-meaning
-returns-in-Some-written_by-clause-meaning c = λ settled.
+returns-in-Some-written_by-clause-meaning c =
     let now = sets_of c.args.self.now in
     let old = memory_of c.args.self.now in
     let is = plain now c.args.instr.now c.args.args.now old c.in-Some-written_by.ensures.0 in (
@@ -14,7 +14,7 @@ returns-in-Some-written_by-clause-meaning c = λ settled.
     )
 
 pub returns-in-Some-value_of-clause-meaning : goal.returns-in-Some-value_of-clause-meaning
-returns-in-Some-value_of-clause-meaning c = λ settled.
+returns-in-Some-value_of-clause-meaning c =
     let now = sets_of c.args.self.now in
     let old = memory_of c.args.self.now in (
       sym c.in-Some-value_of.ensures.1,
@@ -22,8 +22,7 @@ returns-in-Some-value_of-clause-meaning c = λ settled.
     )
 
 pub returns-in-Some-clause-meaning : goal.returns-in-Some-clause-meaning
-returns-in-Some-clause-meaning c = λ settled.
+returns-in-Some-clause-meaning c =
     let now = sets_of c.args.self.now in
     let old = memory_of c.args.self.now in
-    let is = checked now c.args.instr.now c.args.args.now old c.in-Some.ensures.checks settled in
-    quiet now c.args.instr.now c.args.args.now old c.in-Some.reply (c.in-Some.ensures.least is.0) is.1
+    quiet now c.args.instr.now c.args.args.now old c.in-Some.reply c.in-Some.ensures.least (checked now c.args.instr.now c.args.args.now old c.in-Some.ensures.checks)

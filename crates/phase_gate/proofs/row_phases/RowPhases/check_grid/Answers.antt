@@ -1,4 +1,4 @@
-use Rattle.std.proofs.Common.{◌≡◌, ℕ, ◌<◌, ◌≤◌, Bool, ◌&&◌, ◌∙◌, false, true, sym, ap, arith}
+use Rattle.std.proofs.Common.{ℕ, Bool, ◌&&◌, ◌∙◌, sym, ap, arith}
 use Rattle.paris_code.specs.Checking.{any_leaves}
 use Rattle.paris_code.specs.Memory.{is_active, processors}
 use Rattle.paris_code.specs.Shapes.{extents_at}

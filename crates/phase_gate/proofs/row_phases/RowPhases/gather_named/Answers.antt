@@ -1,9 +1,10 @@
-use Rattle.std.proofs.Common.{◌≡◌, ◌∙◌, sym, ap, inl, inr, arith}
+use Rattle.std.proofs.Common.{◌≡◌, false, ◌∙◌, sym, ap, inl, inr, arith}
 use Rattle.std.proofs.lemmas.Bool.{cases_eq}
 use Rattle.paris_code.specs.Fetching.{of_named, number_or_zero}
 use Rattle.paris_code.specs.Memory.{BitMemory, field_number}
 use Rattle.paris_code.specs.Shapes.{SetShape}
 use Rattle.std.proofs.Common.{List}
+use Rattle.phase_gate.specs.Gathered.{word_if}
 use Rattle.phase_gate.specs.Rows.{sets_of, memory_of, room_of}
 use Rattle.phase_gate.proofs.row_phases.RowPhases.gather_named.Goals as goal
 
@@ -20,10 +21,14 @@ positions-preserved c =
     ∙ ap (λ (s : List SetShape). number_or_zero s (memory_of c.positions.self) c.args.source c.field-from.result) here.0
     ∙ ap (λ (n : BitMemory). number_or_zero now n c.args.source c.field-from.result) here.1
     ∙ ap (number_or_zero now m c.args.source) (c.field-from.ensures.value ∙ ap (λ (n : BitMemory). field_number n a k) here.1) in (
-      c.gather.ensures.sets ∙ here.0,
-      c.gather.ensures.memory ∙ here.1,
+      c.hold.ensures.sets ∙ here.0,
+      c.hold.ensures.memory ∙ here.1,
       λ p b. elim (cases_eq p k) [
-        | inl e ↦ ap (room_of c.gather.new.self a.set) e ∙ c.gather.ensures.held ∙ word ∙ ap (of_named now m a c.args.source) (sym e)
-        | inr n ↦ c.gather.ensures.others a.set p (inr n) ∙ here.2 p (omega arith)
+        | inl e ↦
+            ap (room_of c.hold.new.self a.set) e ∙ c.hold.ensures.held
+            ∙ ap (λ (s : List SetShape). word_if s (memory_of c.positions.self) a.set false k c.field_or_zero-word.result) here.0
+            ∙ ap (λ (n : BitMemory). word_if now n a.set false k c.field_or_zero-word.result) here.1
+            ∙ ap (word_if now m a.set false k) word ∙ ap (λ q. word_if now m a.set false q (of_named now m a c.args.source q)) (sym e)
+        | inr n ↦ c.hold.ensures.others a.set p (inr n) ∙ here.2 p (omega arith)
       ],
     )

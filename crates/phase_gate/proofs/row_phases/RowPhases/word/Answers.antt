@@ -1,4 +1,4 @@
-use Rattle.std.proofs.Common.{◌≡◌, ◌^◌, ◌<◌, ◌∙◌, ap, sym, subst, arith}
+use Rattle.std.proofs.Common.{◌∙◌, ap}
 use Rattle.cstar_base.specs.Numbers.{residue, number_of}
 use Rattle.paris_code.specs.Memory.{whole_number}
 use Rattle.phase_gate.proofs.Widths.{number_in_word}

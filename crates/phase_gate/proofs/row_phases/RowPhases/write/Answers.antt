@@ -1,4 +1,4 @@
-use Rattle.std.proofs.Common.{◌≡◌, ℕ, ◌+◌, ◌<◌, List, length, map, get_or, ap, refl, subst, ◌∙◌, arith}
+use Rattle.std.proofs.Common.{◌≡◌, ℕ, ◌+◌, ◌<◌, List, Option, length, map, get_or, ap, refl, subst, ◌∙◌, arith}
 use Rattle.std.proofs.Math.ListN.{set}
 use Rattle.std.proofs.Math.Seq.{map-set_same}
 use Rattle.std.proofs.lemmas.List.{length-map}
@@ -34,5 +34,5 @@ returns-clause-bits c =
 pub returns-clause-room : goal.returns-clause-room
 unfolding room_of
 returns-clause-room c =
-    let of_words : List (ℕ → ℕ) → ℕ → ℕ → ℕ = λ words set. get_or words set no_words in
+    let of_words : List (ℕ → Option ℕ) → ℕ → ℕ → Option ℕ = λ words set. get_or words set no_words in
     ap of_words (map-set_same room_word c.args.self.now.sets.items c.from.result c.set_number.new.self c.index_mut.result.now (c.set_number.ensures.room ∙ ap room_word c.index_mut.ensures.value))

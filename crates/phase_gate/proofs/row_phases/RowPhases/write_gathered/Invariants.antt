@@ -1,5 +1,5 @@
 use Rattle.std.proofs.Common.{◌≡◌}
-use Rattle.phase_gate.specs.Gathered.{gathered}
+use Rattle.phase_gate.specs.Gathered.{held}
 use Rattle.phase_gate.specs.Rows.{sets_of, memory_of, room_of}
 use Rattle.phase_gate.proofs.Partly.{PartlyWritten}
 use Rattle.phase_gate.proofs.row_phases.RowPhases.write_gathered.Given as goal
@@ -7,4 +7,4 @@ use Rattle.phase_gate.proofs.row_phases.RowPhases.write_gathered.Given as goal
 abbrev pub invariant-positions : goal.invariant-positions
 invariant-positions l =
     (sets_of l.self ≡ sets_of l.initial.self) × (room_of l.self ≡ room_of l.initial.self)
-    × PartlyWritten (sets_of l.initial.self) (gathered (sets_of l.initial.self) (memory_of l.initial.self) l.dest l.always (room_of l.initial.self l.dest.set)) (memory_of l.initial.self) l.position (memory_of l.self)
+    × PartlyWritten (sets_of l.initial.self) (held l.dest l.kind (room_of l.initial.self l.dest.set)) (memory_of l.initial.self) l.position (memory_of l.self)

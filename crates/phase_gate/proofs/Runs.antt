@@ -1,0 +1,126 @@
+-- The running fold of a line, step by step.
+use Rattle.std.proofs.Common.{◌≡◌, ℕ, zero, suc, ◌+◌, ◌-◌, ◌<◌, ◌≤◌, Bool, true, false, ◌&&◌, not, cond, List, ◌∙◌, sym, ap, inl, inr, refl, arith}
+use Rattle.std.specs.Prelude.{◌||◌}
+use Rattle.std.proofs.Math.Numerals.{add-one}
+use Rattle.std.proofs.lemmas.Bool.{cases_Bool}
+use Rattle.cstar_base.specs.Folds.{fold_once, identity_of}
+use Rattle.paris_code.specs.Memory.{BitMemory, field_number, is_active}
+use Rattle.paris_code.specs.Operators.{combiner_of}
+use Rattle.paris_code.specs.Orders.{fold_below, any_of}
+use Rattle.paris_code.specs.Scanning.{ScanOf, own_step, on_line, bit_is_one, parts, parts_behind, fold_before}
+use Rattle.paris_code.specs.Shapes.{SetShape, extents_at}
+use Rattle.phase_gate.specs.Scans.{IsPrevious}
+
+-- folds of the same values are the same, and one where nothing passes is its start
+fold_same : (step : ℕ → ℕ → ℕ) (f g : ℕ → Bool) (x y : ℕ → ℕ) (start n : ℕ) → ((k : ℕ) → k < n → f k ≡ g k) → ((k : ℕ) → k < n → x k ≡ y k) → fold_below step f x start n ≡ fold_below step g y start n
+unfolding fold_below
+fold_same step f g x y start zero same also = refl
+fold_same step f g x y start (suc n) same also =
+    let rest : fold_below step f x start n ≡ fold_below step g y start n = fold_same step f g x y start n (λ k b. same k (omega arith)) (λ k b. also k (omega arith)) in
+    ap (λ t. cond t (step (fold_below step f x start n) (x n)) (fold_below step f x start n)) (same n (omega arith))
+    ∙ ap (λ r. cond (g n) (step r (x n)) r) rest ∙ ap (λ v. cond (g n) (step (fold_below step g y start n) v) (fold_below step g y start n)) (also n (omega arith))
+
+fold_nothing : (step : ℕ → ℕ → ℕ) (f : ℕ → Bool) (x : ℕ → ℕ) (start n : ℕ) → ((k : ℕ) → k < n → f k ≡ false) → fold_below step f x start n ≡ start
+unfolding fold_below
+fold_nothing step f x start zero off = refl
+fold_nothing step f x start (suc n) off =
+    ap (λ t. cond t (step (fold_below step f x start n) (x n)) (fold_below step f x start n)) (off n (omega arith)) ∙ fold_nothing step f x start n (λ k b. off k (omega arith))
+
+any_same : (f g : ℕ → Bool) (from n : ℕ) → ((k : ℕ) → k < from + n → f k ≡ g k) → any_of f from n ≡ any_of g from n
+unfolding any_of
+any_same f g from zero same = refl
+any_same f g from (suc n) same = ap (λ t. t || f (from + n)) (any_same f g from n (λ k b. same k (omega arith))) ∙ ap (λ t. any_of g from n || t) (same (from + n) (omega arith))
+
+-- the fold before step s of values of which some pass, where a new segment begins behind some
+module _ (step : ℕ → ℕ → ℕ) (active parted : ℕ → Bool) (value : ℕ → ℕ) (start : ℕ) where
+  run : ℕ → ℕ
+  run s = fold_below step (λ k. active k && not (any_of parted k (s - k))) value start s
+
+  run_none : run 0 ≡ start
+  unfolding run fold_below
+  run_none = refl
+
+  -- one more step, behind a place that comes before
+  more_parted : (s k : ℕ) → k ≤ s → any_of parted k (s + 1 - k) ≡ (any_of parted k (s - k) || parted s)
+  unfolding any_of
+  more_parted s k b =
+      ap (any_of parted k) (let e : s + 1 - k ≡ suc (s - k) = omega arith in e)
+      ∙ ap (λ j. any_of parted k (s - k) || parted j) (let e : k + (s - k) ≡ s = omega arith in e)
+
+  run_parted : (s : ℕ) → parted s ≡ true → run (s + 1) ≡ start
+  unfolding run
+  run_parted s is = fold_nothing step (λ k. active k && not (any_of parted k (s + 1 - k))) value start (s + 1) (λ k b.
+      ap (λ t. active k && not t) (more_parted s k (omega arith) ∙ ap (λ t. any_of parted k (s - k) || t) is) ∙ off (active k) (any_of parted k (s - k)))
+    where
+      off : (a t : Bool) → (a && not (t || true)) ≡ false
+      off true true = refl
+      off true false = refl
+      off false true = refl
+      off false false = refl
+
+  run_on : (s : ℕ) → parted s ≡ false → run (s + 1) ≡ cond (active s) (step (run s) (value s)) (run s)
+  unfolding run fold_below any_of
+  run_on s is =
+      let next : ℕ → Bool = λ k. active k && not (any_of parted k (s + 1 - k)) in
+      let same : (k : ℕ) → k ≤ s → next k ≡ (active k && not (any_of parted k (s - k))) =
+      λ k b. ap (λ t. active k && not t) (more_parted s k b ∙ ap (λ t. any_of parted k (s - k) || t) is ∙ or_false (any_of parted k (s - k))) in
+      let here : next s ≡ active s = same s (omega arith) ∙ ap (λ n. active s && not (any_of parted s n)) (let e : s - s ≡ 0 = omega arith in e) ∙ and_true (active s) in
+      let rest : fold_below step next value start s ≡ run s = fold_same step next (λ k. active k && not (any_of parted k (s - k))) value value start s (λ k b. same k (omega arith)) (λ k b. refl) in
+      ap (fold_below step next value start) (add-one s)
+      ∙ ap (λ t. cond t (step (fold_below step next value start s) (value s)) (fold_below step next value start s)) here
+      ∙ ap (λ r. cond (active s) (step r (value s)) r) rest
+    where
+      or_false : (t : Bool) → (t || false) ≡ t
+      or_false true = refl
+      or_false false = refl
+
+      and_true : (t : Bool) → (t && true) ≡ t
+      and_true true = refl
+      and_true false = refl
+
+-- the fold before a position: nothing on the first step of its line, and else from its previous one
+pub first_fold : (shapes : List SetShape) (m : BitMemory) (scan : ScanOf) (p : ℕ) → own_step (extents_at shapes scan.source.set) scan p ≡ 0
+    → fold_before shapes m scan p (own_step (extents_at shapes scan.source.set) scan p) ≡ identity_of (combiner_of scan.combiner).0 (combiner_of scan.combiner).1
+unfolding fold_before fold_below
+first_fold shapes m scan p is = ap (fold_before shapes m scan p) is
+
+pub next_fold : (shapes : List SetShape) (m : BitMemory) (scan : ScanOf) (p q : ℕ) → IsPrevious (extents_at shapes scan.source.set) scan p q
+    → fold_before shapes m scan p (own_step (extents_at shapes scan.source.set) scan p)
+    ≡ cond (parts scan.mode scan.direction (bit_is_one m scan.bit q) (bit_is_one m scan.bit p) (is_active shapes m scan.source.set p)) (identity_of (combiner_of scan.combiner).0 (combiner_of scan.combiner).1)
+    (cond (is_active shapes m scan.source.set q) (fold_once (combiner_of scan.combiner).0 (combiner_of scan.combiner).1 (fold_before shapes m scan q (own_step (extents_at shapes scan.source.set) scan q)) (field_number m scan.source q))
+    (fold_before shapes m scan q (own_step (extents_at shapes scan.source.set) scan q)))
+unfolding fold_before parts_behind run
+next_fold shapes m scan p q is =
+    let set : ℕ = scan.source.set in
+    let extents : List ℕ = extents_at shapes set in
+    let c = combiner_of scan.combiner in
+    let step : ℕ → ℕ → ℕ = λ total n. fold_once c.0 c.1 total n in
+    let start : ℕ = identity_of c.0 c.1 in
+    let s : ℕ = own_step extents scan q in
+    let active : ℕ → ℕ → Bool = λ x k. is_active shapes m set (on_line extents scan x k) in
+    let parted : ℕ → ℕ → Bool = λ x k. parts_behind shapes m scan x k in
+    let value : ℕ → ℕ → ℕ = λ x k. field_number m scan.source (on_line extents scan x k) in
+    let at_q : on_line extents scan p s ≡ q = sym (is.line s (omega (arith, is.inside, is.step))) ∙ is.here in
+    let at_p : on_line extents scan p (s + 1) ≡ p = ap (on_line extents scan p) (sym is.step) ∙ is.there in
+    let parting : parted p s ≡ parts scan.mode scan.direction (bit_is_one m scan.bit q) (bit_is_one m scan.bit p) (is_active shapes m set p) =
+    ap (λ x. parts scan.mode scan.direction (bit_is_one m scan.bit x) (bit_is_one m scan.bit (on_line extents scan p (s + 1))) (is_active shapes m set (on_line extents scan p (s + 1)))) at_q
+    ∙ ap (λ y. parts scan.mode scan.direction (bit_is_one m scan.bit q) (bit_is_one m scan.bit y) (is_active shapes m set y)) at_p in
+    let parted_same : (k : ℕ) → k < s → parted p k ≡ parted q k = λ k b.
+    ap (λ x. parts scan.mode scan.direction (bit_is_one m scan.bit x) (bit_is_one m scan.bit (on_line extents scan p (k + 1))) (is_active shapes m set (on_line extents scan p (k + 1)))) (sym (is.line k (omega (arith, is.inside, is.step))))
+    ∙ ap (λ y. parts scan.mode scan.direction (bit_is_one m scan.bit (on_line extents scan q k)) (bit_is_one m scan.bit y) (is_active shapes m set y)) (sym (is.line (k + 1) (omega (arith, is.inside, is.step)))) in
+    let before : run step (active p) (parted p) (value p) start s ≡ fold_before shapes m scan q s =
+    fold_same step (λ k. active p k && not (any_of (parted p) k (s - k))) (λ k. active q k && not (any_of (parted q) k (s - k))) (value p) (value q) start s
+    (λ k b.
+    ap (λ x. is_active shapes m set x && not (any_of (parted p) k (s - k))) (sym (is.line k (omega (arith, is.inside, is.step))))
+    ∙ ap (λ t. active q k && not t) (any_same (parted p) (parted q) k (s - k) (λ j h. parted_same j (omega arith))))
+    (λ k b. ap (field_number m scan.source) (sym (is.line k (omega (arith, is.inside, is.step))))) in
+    let last : ℕ = cond (is_active shapes m set q) (step (fold_before shapes m scan q s) (field_number m scan.source q)) (fold_before shapes m scan q s) in
+    ap (fold_before shapes m scan p) is.step
+    ∙ elim (cases_Bool (parts scan.mode scan.direction (bit_is_one m scan.bit q) (bit_is_one m scan.bit p) (is_active shapes m set p))) [
+      | inl on ↦ run_parted step (active p) (parted p) (value p) start s (parting ∙ on) ∙ sym (ap (λ t. cond t start last) on)
+      | inr off ↦
+          run_on step (active p) (parted p) (value p) start s (parting ∙ off)
+          ∙ ap (λ x. cond (is_active shapes m set x) (step (run step (active p) (parted p) (value p) start s) (field_number m scan.source x)) (run step (active p) (parted p) (value p) start s)) at_q
+          ∙ ap (λ r. cond (is_active shapes m set q) (step r (field_number m scan.source q)) r) before
+          ∙ sym (ap (λ t. cond t start last) off)
+    ]
