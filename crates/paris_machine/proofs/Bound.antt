@@ -1,6 +1,6 @@
 -- Each instruction that does not end the run lowers the number of those that can still be begun.
 use Rattle.std.proofs.Common.{◌≡◌, ◌≢◌, ℕ, zero, suc, ◌+◌, ◌-◌, ◌*◌, ◌<◌, ◌≤◌, Bool, true, false, ◌&&◌, if◌then◌else◌, List, [], ◌∷◌, ◌++◌, length, take, slice_index, Option, Some, None, refl, sym, ◌∙◌, ap, subst, arith, inl, inr, ◌⊎◌, eqb, leb}
-use Rattle.std.specs.Prelude.{◌==◌, ◌||◌, ◌^◌, nat_le, not}
+use Rattle.std.specs.Prelude.{◌==◌, ◌||◌, ◌^◌, not}
 use Rattle.std.specs.List.{slice_get}
 use Rattle.std.proofs.lemmas.Bool.{cases_lt, cases_eq, cases_Bool, le-leb, lt-leb, eq-eqb, ne_eqb, and_parts, leb-true, eqb-true}
 use Rattle.std.proofs.lemmas.Bool.Decides.{nat_tests}
@@ -11,15 +11,14 @@ use Rattle.paris_code.specs.declared.instr.Instr.TheVariants as I
 use Rattle.paris_code.specs.declared.program.Image.{Image}
 use Rattle.paris_code.specs.declared.program.Reply.{Reply}
 use Rattle.paris_code.specs.declared.program.Reply.TheVariants as R
-use Rattle.paris_code.specs.Code.{CodeState, Rest, Mark, End, Broken, Next, Goes, Ends, Stopped, step, begun, begun_at, applied, controlled, set_or, with_register, with_printed, onward, jumped, called, returned, checked, given, replied, stored, arguments_at}
+use Rattle.paris_code.specs.Code.{CodeState, Mark, End, Broken, Next, Goes, Ends, Stopped, step, begun, begun_at, applied, controlled, set_or, with_register, with_printed, onward, jumped, called, returned, checked, given, replied, stored, arguments_at}
 use Rattle.paris_code.specs.Kinds.{is_parallel}
 use Rattle.paris_code.specs.Meaning.{after, reply_of}
 use Rattle.paris_code.specs.Numerals.{printed}
 use Rattle.paris_code.specs.Operands.{result_of}
 use Rattle.paris_code.specs.Scalar.{computed, any_register_outside}
 use Rattle.paris_code.specs.Shapes.{SetShape, shapes_of, extents_at}
-use Rattle.paris_code.specs.RuleBackEdge.{IsBehindTurn, KeepsBackEdge, IsNoTarget, GoesBackToTurn}
-use Rattle.paris_code.specs.RuleStack.{KeepsStack}
+use Rattle.paris_code.specs.RuleBackEdge.{IsBehindTurn, IsNoTarget, GoesBackToTurn}
 use Rattle.paris_code.specs.RuleTarget.{GoesOn, AreStarts, KeepsTarget}
 use Rattle.paris_code.specs.Sound.{IsSound, KeepsRules}
 use Rattle.paris_code.specs.Units.{unit_of, started, starts_of, start_at, IsAt, IsInUnitOf, Path}
@@ -167,19 +166,17 @@ apart_from image sound unit (place ∷ places) at chain h = elim h [
 ]
 
 -- what a code's instruction is
-is_call : Option Instr → Bool
+abbrev pub is_call : Option Instr → Bool
 is_call (Some (I.FrontCall unit)) = true
 is_call _ = false
 
 most_plain : (o : Option Instr) (turns all ahead : ℕ) → is_turn o ≡ false → is_call o ≡ false → most_from o turns all ahead ≡ turns * all + ahead
-unfolding is_call
 most_plain (Some I.FrontTurn) turns all ahead t c = cc
 most_plain (Some (I.FrontCall unit)) turns all ahead t c = cc
 most_plain _ turns all ahead t c = refl
 
 -- an instruction that is no call
 most_no_call : (o : Option Instr) (turns all ahead : ℕ) → is_call o ≡ false → 1 ≤ ahead → most_from o turns all ahead ≤ turns * all + ahead
-unfolding is_call
 most_no_call (Some I.FrontTurn) turns all ahead c h = omega arith
 most_no_call (Some (I.FrontCall unit)) turns all ahead c h = cc
 most_no_call _ turns all ahead c h = omega arith
@@ -195,7 +192,6 @@ most_some (Some (I.FrontCall unit)) turns all ahead a h = omega arith
 most_some _ turns all ahead a h = omega arith
 
 call_there : (o : Option Instr) → is_call o ≡ true → (unit : ℕ) × (o ≡ Some (I.FrontCall unit))
-unfolding is_call
 call_there (Some (I.FrontCall unit)) h = (unit, refl)
 call_there _ h = cc
 
@@ -277,11 +273,11 @@ falls_forward image sound at to returns turns place inside further off plain fre
     lower image at to returns returns turns place.0 inside.0 off plain free
     (λ p h. elim h [
       | inl here ↦ inl (sym inside.1 ∙ here.0, omega (arith, further, here.1))
-      | inr open ↦ inr open
+      | inr older ↦ inr older
     ])
     (λ h. elim h [
       | inl here ↦ omega (arith, further, here.1)
-      | inr open ↦ lost_here image sound at returns place open
+      | inr older ↦ lost_here image sound at returns place older
     ])
 
 -- a call stands directly behind a turn, so nothing else leads to it
@@ -354,7 +350,7 @@ start_free image sound unit within = no_call (slice_get image.code.items (start_
 count_always : (n : ℕ) → count_below (λ p. true) n ≡ n
 unfolding count_below
 count_always zero = refl
-count_always (suc n) = ap (λ k. k + 1) (count_always n)
+count_always (suc n) = let rest : count_below (λ p. true) n ≡ n = count_always n in omega arith
 
 -- a call leads into a unit in which nothing is open
 pub falls_call : (image : Image) (sound : IsSound image) (at unit : ℕ) (returns : List ℕ) (turns : ℕ) → IsPlace image at returns → IsAt image at (I.FrontCall unit)
@@ -368,7 +364,7 @@ falls_call image sound at unit returns turns place here =
     let new : ℕ = count_below (Ahead image to later) all in
     let lost : Some_of (λ x. Behind image x at) (to ∷ later) → ⊥ = λ h. elim h [
       | inl begins ↦ keeps.stack.0 0 (sym start.0 ∙ begins.0)
-      | inr open ↦ elim (some_split (λ x. Behind image x at) returns ((at + 1) ∷ []) open) [
+      | inr held ↦ elim (some_split (λ x. Behind image x at) returns ((at + 1) ∷ []) held) [
         | inl older ↦ lost_here image sound at returns place older
         | inr newest ↦ elim newest [ inl behind ↦ omega (arith, behind.1) | inr nothing ↦ nothing ]
       ]
@@ -387,18 +383,17 @@ last_call image unit (place ∷ places) at to h = last_call image h.1.0 places a
 
 pub falls_return : (image : Image) (sound : IsSound image) (at to : ℕ) (returns rest : List ℕ) (turns : ℕ) → IsPlace image at returns → IsAt image at I.FrontReturn → returns ≡ rest ++ to ∷ []
     → most_left image to rest turns + 1 ≤ most_left image at returns turns
-unfolding is_call
 falls_return image sound at to returns rest turns place here split =
     let chain : IsChain image 0 (rest ++ to ∷ []) at = subst (λ (places : List ℕ). IsChain image 0 places at) split place.1 in
     let call = (last_call image 0 rest at to chain).1 in
     let inside : to < length image.code.items = (chain_returned image 0 rest at to chain).1 in
     let free : is_call (slice_get image.code.items to) ≡ false = no_call (slice_get image.code.items to) (λ unit there.
-        let turn = (behind_turn image sound to unit there).0 in
-        let same : turn.0 ≡ call.0 = omega (arith, turn.1, call.1) in
-        let one : slice_get image.code.items call.0 ≡ Some I.FrontTurn = ap (λ p. slice_get image.code.items p) (sym same) ∙ turn.2 in
-        let other : slice_get image.code.items call.0 ≡ Some (I.FrontCall (last_call image 0 rest at to chain).0) = call.2 in
-        let clash : is_turn (Some I.FrontTurn) ≡ is_turn (Some (I.FrontCall (last_call image 0 rest at to chain).0)) = ap is_turn (sym one ∙ other) in
-        cc) in
+    let turn = (behind_turn image sound to unit there).0 in
+    let same : turn.0 ≡ call.0 = omega (arith, turn.1, call.1) in
+    let one : slice_get image.code.items call.0 ≡ Some I.FrontTurn = ap (λ p. slice_get image.code.items p) (sym same) ∙ turn.2 in
+    let other : slice_get image.code.items call.0 ≡ Some (I.FrontCall (last_call image 0 rest at to chain).0) = call.2 in
+    let clash : is_turn (Some I.FrontTurn) ≡ is_turn (Some (I.FrontCall (last_call image 0 rest at to chain).0)) = ap is_turn (sym one ∙ other) in
+    cc) in
     let moved : (P : ℕ → Type 0) → Some_of P (to ∷ rest) → Some_of P returns = λ P h. subst (λ (places : List ℕ). Some_of P places) (sym split) (elim h [
       | inl last ↦ some_back P rest (to ∷ []) (inl last)
       | inr older ↦ some_front P rest (to ∷ []) older
@@ -481,7 +476,6 @@ abbrev pub left_at : Image → CodeState → ℕ
 left_at image s = most_left image s.at s.returns s.turns
 
 steady_plain : (instr : Instr) → is_steady instr ≡ true → (is_turn (Some instr) ≡ false) × (is_call (Some instr) ≡ false)
-unfolding is_call
 steady_plain (I.FrontJump target) h = cc
 steady_plain (I.FrontJumpZero x target) h = cc
 steady_plain (I.FrontJumpNonzero x target) h = cc
@@ -525,17 +519,22 @@ turned_falls image s t false is place here e =
     omega (arith, same, falls_turn image s.at (s.at + 1) s.returns s.turns place.0 here some)
 
 -- a list that is not empty is all but the last, and the last
+split_at : (x : ℕ) (xs : List ℕ) → x ∷ xs ≡ take (length xs) (x ∷ xs) ++ slice_index (x ∷ xs) (length xs) ∷ []
+split_at x [] = refl
+split_at x (y ∷ ys) = ap (λ (l : List ℕ). x ∷ l) (split_at y ys)
+
 last_split : (xs : List ℕ) → 1 ≤ length xs → xs ≡ take (length xs - 1) xs ++ slice_index xs (length xs - 1) ∷ []
 last_split [] h = absurd (omega arith)
-last_split (x ∷ []) h = refl
-last_split (x ∷ (y ∷ ys)) h = ap (λ l. x ∷ l) (last_split (y ∷ ys) (omega arith))
+last_split (x ∷ xs) h =
+    let count : length xs ≡ length (x ∷ xs) - 1 = omega arith in
+    subst (λ (n : ℕ). x ∷ xs ≡ take n (x ∷ xs) ++ slice_index (x ∷ xs) n ∷ []) count (split_at x xs)
 
 returns_some : (image : Image) (at : ℕ) (returns : List ℕ) → IsPlace image at returns → unit_of image at ≢ 0 → 1 ≤ length returns
 returns_some image at [] place inner = absurd (inner place.1)
 returns_some image at (x ∷ xs) place inner = omega arith
 
 falls_at : (image : Image) (sound : IsSound image) (s t : CodeState) (instr : Instr) → IsPlace image s.at s.returns → IsAt image s.at instr → KeepsRules image s.at instr → begun image instr s ≡ Goes t → left_at image t + 1 ≤ left_at image s
-unfolding begun is_call
+unfolding begun
 falls_at image sound s t (I.FrontJump target) place here keeps e =
     falls_jump image sound s t (I.FrontJump target) true target place here refl refl keeps.target (λ h. cc) keeps.back_edge (λ free. free s.at (I.FrontJump target) here refl) e
 falls_at image sound s t (I.FrontJumpZero x target) place here keeps e =

@@ -1,35 +1,33 @@
 -- How one step of the machine follows one instruction of the code.
-use Rattle.std.proofs.Common.{◌≡◌, ◌≢◌, ℕ, zero, suc, ◌+◌, ◌*◌, ◌≤◌, ◌<◌, Bool, true, false, List, [], ◌∷◌, ◌++◌, length, take, Option, Some, None, refl, sym, ◌∙◌, ap, subst, arith}
-use Rattle.std.specs.Prelude.{◌-◌, ◌^◌, IsSome, IfSome, slice_set, option_map}
-use Rattle.std.proofs.lemmas.List.{append_nil, append_assoc}
+use Rattle.std.proofs.Common.{◌≡◌, ℕ, suc, ◌+◌, ◌*◌, ◌≤◌, ◌<◌, Bool, true, false, List, [], ◌++◌, length, take, Option, Some, None, refl, sym, ◌∙◌, ap, subst, arith}
+use Rattle.std.specs.Prelude.{◌-◌, ◌^◌, IsSome, IfSome, IfNone, replicate, slice_set, option_map}
+use Rattle.std.proofs.lemmas.List.{append-nil, append_assoc}
 use Rattle.std.proofs.Math.Seq.{take-append-add}
 use Rattle.cstar_base.specs.declared.operators.Place.{Place}
 use Rattle.paris_code.specs.declared.instr.Instr.{Instr}
-use Rattle.paris_code.specs.declared.instr.Instr.TheVariants as I
 use Rattle.paris_code.specs.declared.program.Image.{Image}
 use Rattle.paris_code.specs.declared.program.Reply.{Reply}
 use Rattle.paris_code.specs.declared.program.Reply.TheVariants as R
-use Rattle.paris_code.specs.Code.{CodeState, Rest, Mark, End, Broken, Next, Goes, Ends, CodeEnd, Fault, Done, Stopped, InputBroken, step, replied, stored, fault_at}
+use Rattle.paris_code.specs.Code.{CodeState, Rest, End, Next, Goes, Ends, CodeEnd, Fault, replied, stored, fault_at, opening}
 use Rattle.paris_code.specs.Kinds.{is_parallel}
 use Rattle.paris_code.specs.Meaning.{Means, after, reply_of}
 use Rattle.paris_code.specs.Memory.{BitMemory, SameBits}
 use Rattle.paris_code.specs.Operands.{result_of}
-use Rattle.paris_code.specs.RuleTarget.{KeepsTarget, GoesOn}
 use Rattle.paris_code.specs.Shapes.{SetShape, shapes_of}
 use Rattle.paris_code.specs.Sound.{IsSound}
 use Rattle.paris_code.specs.Units.{IsAt}
 use Rattle.cstar_io.specs.Input.{Took}
-use Rattle.cstar_io.specs.Output.{Takes, TakesPrefix}
-use Rattle.front_end.specs.declared.ask.Ask.{Ask}
+use Rattle.cstar_io.specs.Output.{Takes}
 use Rattle.front_end.specs.declared.ask.Ask.TheVariants as A
+use Rattle.front_end.specs.declared.kept.Kept.{Kept}
 use Rattle.front_end.specs.Fit.{IsPlace}
-use Rattle.front_end.specs.Front.{State, AsksFor, Begins, joined, answered, answered_from}
+use Rattle.front_end.specs.Front.{State, AsksFor, Begins, joined, answered}
 use Rattle.paris_machine.specs.declared.outcome.End.{End as RunEnd}
 use Rattle.paris_machine.specs.declared.outcome.End.TheVariants as E
 use Rattle.paris_machine.specs.Bound.{most_left}
-use Rattle.paris_machine.specs.Ends.{input_broke_in}
-use Rattle.paris_machine.specs.Runs.{SameState, SameNext, Reaches, IsAtSend, ComesTo, before, IsLeft, Puts, StaysOver, Advances, Runs, RepliesTo, IsPutEnd, ReadsTo, Reads, Stays}
-use Rattle.paris_machine.proofs.Bound.{falls, falls_parallel}
+use Rattle.paris_machine.specs.Ends.{input_broke_in, output_broke_in}
+use Rattle.paris_machine.specs.Runs.{SameState, SameNext, Reaches, ComesTo, before, IsLeft, Puts, StaysOver, Advances, Runs, RepliesTo, IsPutEnd, Reads, Stays, kept_state}
+use Rattle.paris_machine.proofs.Bound.{falls, falls_parallel, some_left}
 
 bits_self : (shapes : List SetShape) (m : BitMemory) → SameBits shapes m m
 bits_self shapes m = record { bits = λ s p i a b c. refl; winner = refl }
@@ -79,11 +77,11 @@ took_none None = refl
 took_none (Some rest) = refl
 
 pub takes_none : {S : Type 0} (agrees : S → List ℕ → Type 0) (s : S) → Takes agrees s s []
-takes_none agrees s = λ list h. subst (λ (l : List ℕ). agrees s l) (sym (append_nil list)) h
+takes_none agrees s = λ list h. subst (λ (l : List ℕ). agrees s l) (sym (append-nil list)) h
 
 quiet : (image : Image) (old : State) (m : BitMemory) (result : Option RunEnd) (new : State) (n : BitMemory) (ended : Bool) → ((later : Rest) (output : List ℕ) → ComesTo image (joined old m later output) result (joined new n later output)) → Advances image old m result new n ended [] []
 quiet image old m result new n ended h = λ later left output.
-    subst (λ (o : List ℕ). ComesTo image (joined old m later output) result (joined new n later o)) (sym (append_nil output)) (h later output)
+    subst (λ (o : List ℕ). ComesTo image (joined old m later output) result (joined new n later o)) (sym (append-nil output)) (h later output)
 
 pub ran_advances : (image : Image) (old new : State) (m : BitMemory) (ended : Bool) → AsksFor image old A.Ran new → Advances image old m None new m ended [] []
 ran_advances image old new m ended asks = quiet image old m None new m ended (λ later output. exact_goes (shapes_of image) _ _ (asks.1 m later output))
@@ -113,14 +111,14 @@ applied_advances image old between new instr m n (Some E.Stopped) ended is repli
 applied_advances image old between new instr m n (Some E.InputBroken) ended is replies = absurd replies
 applied_advances image old between new instr m n (Some E.OutputBroken) ended is replies = absurd replies
 
-pub applied_puts : (image : Image) (between new : State) (instr : Instr) (m n : BitMemory) (result : Option RunEnd) {S : Type 0} (agrees : S → List ℕ → Type 0) (s : S) → RepliesTo image instr between m result new n → Puts result agrees s s []
-applied_puts image between new instr m n None agrees s replies = takes_none agrees s
-applied_puts image between new instr m n (Some (E.Fault kind place position)) agrees s replies = takes_none agrees s
-applied_puts image between new instr m n (Some E.Memory) agrees s replies = takes_none agrees s
-applied_puts image between new instr m n (Some E.Done) agrees s replies = absurd replies
-applied_puts image between new instr m n (Some E.Stopped) agrees s replies = absurd replies
-applied_puts image between new instr m n (Some E.InputBroken) agrees s replies = absurd replies
-applied_puts image between new instr m n (Some E.OutputBroken) agrees s replies = absurd replies
+pub puts_none : (result : Option RunEnd) {S : Type 0} (agrees : S → List ℕ → Type 0) (s : S) → output_broke_in result ≡ false → Puts result agrees s s []
+puts_none None agrees s h = takes_none agrees s
+puts_none (Some (E.Fault kind place position)) agrees s h = takes_none agrees s
+puts_none (Some E.Memory) agrees s h = takes_none agrees s
+puts_none (Some E.Done) agrees s h = takes_none agrees s
+puts_none (Some E.Stopped) agrees s h = takes_none agrees s
+puts_none (Some E.InputBroken) agrees s h = takes_none agrees s
+puts_none (Some E.OutputBroken) agrees s h = cc
 
 -- bytes that are printed
 pub put_advances : (image : Image) (old new : State) (m : BitMemory) (result : Option RunEnd) (ended : Bool) (bytes : List ℕ) → IsPutEnd result → Begins image old (λ m i o. Goes (joined new m i (o ++ bytes))) → Advances image old m result new m ended [] bytes
@@ -135,10 +133,10 @@ put_advances image old new m (Some E.InputBroken) ended bytes is begins = absurd
 -- a byte that is read
 pub read_advances : (image : Image) (old between new : State) (m : BitMemory) (result : Option RunEnd) (ended : Bool) (taken : List ℕ) → AsksFor image old A.Byte between → Reads between result new ended taken → Advances image old m result new m ended taken []
 read_advances image old between new m None ended taken asks reads = λ later left output.
-    subst (λ (o : List ℕ). ComesTo image (joined old m (before taken later) output) None (joined new m later o)) (sym (append_nil output))
+    subst (λ (o : List ℕ). ComesTo image (joined old m (before taken later) output) None (joined new m later o)) (sym (append-nil output))
     (exact_goes (shapes_of image) _ _ (asks.1 m (before taken later) output ∙ reads later left m output))
 read_advances image old between new m (Some E.InputBroken) ended taken asks reads = λ later left output.
-    subst (λ (o : List ℕ). ComesTo image (joined old m (before taken later) output) (Some E.InputBroken) (joined new m later o)) (sym (append_nil output))
+    subst (λ (o : List ℕ). ComesTo image (joined old m (before taken later) output) (Some E.InputBroken) (joined new m later o)) (sym (append-nil output))
     (exact_ends (shapes_of image) _ _ _ (asks.1 m (before taken later) output ∙ reads later left m output))
 read_advances image old between new m (Some (E.Fault kind place position)) ended taken asks reads = λ later left output. absurd (reads later left m output)
 read_advances image old between new m (Some E.Memory) ended taken asks reads = λ later left output. absurd (reads later left m output)
@@ -163,12 +161,15 @@ left_before true now result taken later over left =
     over_left (Some E.OutputBroken) later h left = left
     over_left (Some E.Memory) later h left = left
 
+one_more : (n : ℕ) → suc n ≡ n + 1
+one_more n = omega arith
+
 -- one instruction more
 pub reaches_more : (image : Image) (start old new : State) (m0 m n : BitMemory) (begun : ℕ) (ended now : Bool) (taken more printed text : List ℕ)
     → ((later : Rest) → IsLeft ended None later → Reaches image (joined start m0 (before taken later) []) begun (joined old m later printed))
     → StaysOver ended None now more → Advances image old m None new n now more text
-    → (later : Rest) → IsLeft now None later → Reaches image (joined start m0 (before (taken ++ more) later) []) (suc begun) (joined new n later (printed ++ text))
-reaches_more image start old new m0 m n begun ended now taken more printed text reaches over advances later left = (
+    → (later : Rest) → IsLeft now None later → Reaches image (joined start m0 (before (taken ++ more) later) []) (begun + 1) (joined new n later (printed ++ text))
+reaches_more image start old new m0 m n begun ended now taken more printed text reaches over advances later left = subst (λ (k : ℕ). Reaches image (joined start m0 (before (taken ++ more) later) []) k (joined new n later (printed ++ text))) (one_more begun) (
   joined old m (before more later) printed,
   subst (λ (bytes : List ℕ). Reaches image (joined start m0 (record { bytes = bytes; mark = later.mark }) []) begun (joined old m (before more later) printed)) (sym (append_assoc taken more later.bytes)) (reaches (before more later) (left_before ended now None more later over left)),
   advances later left printed,
@@ -235,3 +236,66 @@ applied_falls image sound old between new instr place here parallel at returns t
     let same : most_left image between.at between.returns between.turns ≡ most_left image (old.at + 1) old.returns old.turns =
     ap (λ at. most_left image at between.returns between.turns) at ∙ ap (λ (returns : List ℕ). most_left image (old.at + 1) returns between.turns) returns ∙ ap (λ turns. most_left image (old.at + 1) old.returns turns) turns in
     omega (arith, stays_left image between new stays, fell, same)
+
+-- the same of what was asked for
+pub apply_falls : (image : Image) (sound : IsSound image) (old between new : State) (at : ℕ) → IsPlace image old.at old.returns → AsksFor image old (A.Apply at) between → Stays between new → most_left image new.at new.returns new.turns + 1 ≤ most_left image old.at old.returns old.turns
+apply_falls image sound old between new at place asks stays =
+    applied_falls image sound old between new asks.0 place (subst (λ (p : ℕ). IsAt image p asks.0) asks.1 asks.2) asks.3
+    (ap (λ (s : State). s.at) asks.4) (ap (λ (s : State). s.returns) asks.4) (ap (λ (s : State). s.turns) asks.4) stays
+
+pub apply_advances : (image : Image) (old between new : State) (at : ℕ) (m n : BitMemory) (result : Option RunEnd) (ended : Bool) (asks : AsksFor image old (A.Apply at) between) → RepliesTo image asks.0 between m result new n → Advances image old m result new n ended [] []
+apply_advances image old between new at m n result ended asks replies =
+    applied_advances image old between new asks.0 m n result ended (subst (λ (p : ℕ). IsAt image p asks.0) asks.1 asks.2, asks.5) replies
+
+pub for_none : {A : Type 0} (o : Option A) (P : Type 0) → P → IfNone o P
+for_none None P h = h
+for_none (Some x) P h = tt
+
+-- where the input has ended now, it had before or ended here
+pub empty_more : (first between now : Bool) (P Q : Type 0) → (first ≡ false → between ≡ true → P) → (between ≡ true → P → Q) → (between ≡ false → now ≡ true → Q) → first ≡ false → now ≡ true → Q
+empty_more first true now P Q before still here f n = still refl (before f refl)
+empty_more first false now P Q before still here f n = here refl n
+
+-- runs between the same states
+runs_same : (image : Image) (from from' : Rest → CodeState) (end : RunEnd) (steps : ℕ) (to to' : Rest → CodeState) (ended : Bool) (taken : List ℕ) → ((rest : Rest) → from rest ≡ from' rest) → ((rest : Rest) → to rest ≡ to' rest)
+    → Runs image from end steps to ended taken → Runs image from' end steps to' ended taken
+runs_same image from from' end steps to to' ended taken first last runs = λ later left.
+    let run = runs later left in (
+      run.0,
+      run.1,
+      (
+        run.2.0,
+        subst (λ (s : CodeState). Reaches image s run.0 run.2.0) (first (before taken later)) run.2.1,
+        subst (λ (s : CodeState). ComesTo image run.2.0 (Some end) s) (last later) run.2.2,
+      ),
+    )
+
+-- a state by its parts
+abbrev stands : ℕ → List ℕ → List ℕ → ℕ → BitMemory → Rest → List ℕ → CodeState
+stands at registers returns turns memory input output = record { at = at; registers = registers; returns = returns; memory = memory; turns = turns; input = input; output = output }
+
+joined_is : (at at' : ℕ) (registers registers' returns returns' : List ℕ) (turns turns' : ℕ) (m : BitMemory) (input : Rest) (output : List ℕ) → at ≡ at' → registers ≡ registers' → returns ≡ returns' → turns ≡ turns'
+    → stands at registers returns turns m input output ≡ stands at' registers' returns' turns' m input output
+joined_is at at' registers registers' returns returns' turns turns' m input output a b c d =
+    ap (λ x. stands x registers returns turns m input output) a ∙ ap (λ x. stands at' x returns turns m input output) b ∙ ap (λ x. stands at' registers' x turns m input output) c ∙ ap (λ x. stands at' registers' returns' x m input output) d
+
+pub runs_kept : (image : Image) (s t : State) (kept stopped : Kept) (turns left : ℕ) (m n : BitMemory) (end : RunEnd) (steps : ℕ) (printed : List ℕ) (ended : Bool) (taken : List ℕ)
+    → s.at ≡ kept.at → s.registers ≡ kept.regs → s.returns ≡ kept.returns → s.turns ≡ turns → t.at ≡ stopped.at → t.registers ≡ stopped.regs → t.returns ≡ stopped.returns → t.turns ≡ left
+    → Runs image (λ rest. joined s m rest []) end steps (λ rest. joined t n rest printed) ended taken
+    → Runs image (λ rest. kept_state kept turns m rest []) end steps (λ rest. kept_state stopped left n rest printed) ended taken
+runs_kept image s t kept stopped turns left m n end steps printed ended taken a b c d e f g h runs =
+    runs_same image (λ rest. joined s m rest []) (λ rest. kept_state kept turns m rest []) end steps (λ rest. joined t n rest printed) (λ rest. kept_state stopped left n rest printed) ended taken
+    (λ rest. joined_is s.at kept.at s.registers kept.regs s.returns kept.returns s.turns turns m rest [] a b c d)
+    (λ rest. joined_is t.at stopped.at t.registers stopped.regs t.returns stopped.returns t.turns left n rest printed e f g h) runs
+
+pub runs_open : (image : Image) (kept : Kept) (turns : ℕ) (m : BitMemory) (end : RunEnd) (steps : ℕ) (to : Rest → CodeState) (ended : Bool) (taken : List ℕ) → kept.at ≡ 0 → kept.regs ≡ replicate image.slots 0 → kept.returns ≡ []
+    → Runs image (λ rest. kept_state kept turns m rest []) end steps to ended taken → Runs image (λ rest. opening image m turns rest) end steps to ended taken
+runs_open image kept turns m end steps to ended taken a b c runs =
+    runs_same image (λ rest. kept_state kept turns m rest []) (λ rest. opening image m turns rest) end steps to to ended taken
+    (λ rest. joined_is kept.at 0 kept.regs (replicate image.slots 0) kept.returns [] turns turns m rest [] a b c refl) (λ rest. refl) runs
+
+-- a run does not come to its last instruction and go on
+pub exhausted : (image : Image) (at : ℕ) (returns : List ℕ) (turns begun first left most : ℕ) → at < length image.code.items → begun + most_left image at returns turns ≤ (first + 1) * length image.code.items
+    → left ≡ first → most ≡ (left + 1) * length image.code.items → most ≤ begun → ⊥
+exhausted image at returns turns begun first left most b bound same all over =
+    omega (arith, some_left image at returns turns b, bound, all ∙ ap (λ t. (t + 1) * length image.code.items) same, over)

@@ -2,15 +2,13 @@
 use Rattle.std.specs.Prelude.{◌≡◌, ℕ, zero, suc, ◌+◌, Bool, true, false, List, [], ◌++◌, Option, Some, None}
 use Rattle.paris_code.specs.declared.instr.Instr.{Instr}
 use Rattle.paris_code.specs.declared.program.Image.{Image}
-use Rattle.paris_code.specs.Code.{CodeState, Rest, Mark, End, Broken, Next, Goes, Ends, Done, Fault, Stopped, InputBroken, step, replied}
-use Rattle.paris_code.specs.Kinds.{is_parallel}
+use Rattle.paris_code.specs.Code.{CodeState, Rest, End, Broken, Next, Goes, Ends, Done, Fault, Stopped, InputBroken, step, replied}
 use Rattle.paris_code.specs.Meaning.{after, reply_of}
 use Rattle.paris_code.specs.Memory.{BitMemory, SameBits}
 use Rattle.paris_code.specs.Shapes.{SetShape, shapes_of}
 use Rattle.paris_code.specs.Units.{IsAt}
 use Rattle.cstar_io.specs.Output.{Takes, TakesPrefix}
 use Rattle.phase_gate.specs.Apply.{is_send}
-use Rattle.phase_gate.specs.Families.{is_settled}
 use Rattle.front_end.specs.declared.kept.Kept.{Kept}
 use Rattle.front_end.specs.Front.{State, joined, answered_from}
 use Rattle.paris_machine.specs.Ends.{input_broke_in}
@@ -109,10 +107,6 @@ Reads old result new ended taken =
 -- an answer changes neither the place nor the open calls nor the turns
 abbrev pub Stays : State → State → Type 0
 Stays old new = (new.at ≡ old.at) × (new.returns ≡ old.returns) × (new.turns ≡ old.turns)
-
--- the phases promise the meaning of all parallel instructions of the code
-abbrev pub IsSettledCode : Image → Type 0
-IsSettledCode image = (place : ℕ) (instr : Instr) → IsAt image place instr → is_parallel instr ≡ true → is_settled instr ≡ true
 
 -- the state of the code that was kept
 abbrev pub kept_state : Kept → ℕ → BitMemory → Rest → List ℕ → CodeState

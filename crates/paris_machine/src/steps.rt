@@ -7,14 +7,13 @@ ghost use Rattle.paris_code.specs.Shapes.{shapes_of};
 ghost use Rattle.paris_code.specs.Sound.{KeepsRules};
 ghost use Rattle.paris_code.specs.Units.{IsAt};
 ghost use Rattle.phase_gate.specs.Apply.{is_check};
-ghost use Rattle.phase_gate.specs.Families.{is_settled};
 ghost use Rattle.front_end.specs.declared.kept.Kept.{Kept};
 ghost use Rattle.front_end.specs.Front.{state_of, Fits, joined};
 ghost use Rattle.front_end.specs.Kept.{KeptFits};
 ghost use Rattle.paris_machine.specs.Ends.{input_broke, output_broke, input_broke_in, output_broke_in, Tells};
 ghost use Rattle.paris_machine.specs.Asked.{IsAsked};
 ghost use Rattle.paris_machine.specs.Bound.{most_left};
-ghost use Rattle.paris_machine.specs.Runs.{Advances, IsPutEnd, IsSettledCode, Puts, Reads, RepliesTo, Runs, Stays, StaysOver, kept_state};
+ghost use Rattle.paris_machine.specs.Runs.{Advances, IsPutEnd, Puts, Reads, RepliesTo, Runs, Stays, StaysOver, kept_state};
 
 use crate::outcome::{End, Outcome};
 use cstar_base::Place;
@@ -60,7 +59,7 @@ fn apply<P: Phases>(sound: &Sound, front: &mut Front, at: u32, p: &mut P) -> Opt
     ensures input { input_broke_in result ≡ false }
     ensures output { output_broke_in result ≡ false }
     ensures stays { Stays (state_of front.old) (state_of front.new) }
-    ensures meaning { (instr : Instr) → IsAt sound.now at instr → is_settled instr ≡ true → RepliesTo sound.now instr (state_of front.old) (P.memory p.old) result (state_of front.new) (P.memory p.new) }
+    ensures meaning { (instr : Instr) → IsAt sound.now at instr → RepliesTo sound.now instr (state_of front.old) (P.memory p.old) result (state_of front.new) (P.memory p.new) }
 {
     let instr = instr_at(sound, at);
     match p.apply(instr, front.args()) {
@@ -155,10 +154,11 @@ fn advance<P: Phases, I: Source, O: Sink>(
     ensures empty { ended.old ≡ false → ended.new ≡ true → IfSome (I.left input.new) (λ rest. rest ≡ []) }
     ensures falls { IfNone result (most_left sound.now front.new.at front.new.returns.items front.new.turns + 1
         ≤ most_left sound.now front.old.at front.old.returns.items front.old.turns) }
-    ensures meaning { IsSettledCode sound.now → (taken : List ℕ) × ((printed : List ℕ)
+    ensures meaning { (taken : List ℕ) × ((printed : List ℕ)
         × Took (I.left input.old) taken (I.left input.new) × Puts result O.agrees out.old out.new printed × StaysOver ended.old result ended.new taken
         × Advances sound.now (state_of front.old) (P.memory p.old) result (state_of front.new) (P.memory p.new) ended.new taken printed) }
 {
+    let _image = sound.image();
     match front.step(sound) {
         Ask::Ran => None,
         Ask::Apply { at } => apply(sound, front, at, p),
@@ -202,10 +202,10 @@ fn drive<P: Phases, I: Source, O: Sink>(
     ensures output { Tells (output_broke result.0) (O.faults out.old) (O.faults out.new) }
     ensures over { ended.old ≡ true → (ended.new ≡ true) × (input.new ≡ input.old) }
     ensures empty { ended.old ≡ false → ended.new ≡ true → IfSome (I.left input.new) (λ rest. rest ≡ []) }
-    ensures meaning { IsSettledCode sound.now → (taken : List ℕ) × ((printed : List ℕ)
+    ensures meaning { (taken : List ℕ) × ((printed : List ℕ)
         × Took (I.left input.old) taken (I.left input.new) × Puts (Some result.0) O.agrees out.old out.new printed
         × Runs sound.now (λ rest. joined (state_of front.old) (P.memory p.old) rest []) result.0 result.1
-          (λ rest. joined (state_of front.new) (P.memory p.new) rest printed) ended.new taken) }
+        (λ rest. joined (state_of front.new) (P.memory p.new) rest printed) ended.new taken) }
 {
     'steps: for begun in 0..most_steps(sound, front.turns_left()) {
         if let Some(end) = advance(sound, front, ended, p, input, out) {
@@ -239,10 +239,10 @@ pub fn resume<P: Phases, I: Source, O: Sink>(
     ensures over { kept.ended ≡ true → (result.1.ended ≡ true) × (input.new ≡ input.old) }
     ensures empty { kept.ended ≡ false → result.1.ended ≡ true → IfSome (I.left input.new) (λ rest. rest ≡ []) }
     ensures none { result.0.steps ≡ 0 → (result.0.end ≡ End.Memory) × (result.0.turns_left ≡ turns) × (result.1 ≡ kept) × (p.new ≡ p.old) × (input.new ≡ input.old) × (out.new ≡ out.old) }
-    ensures meaning { 0 < result.0.steps → IsSettledCode sound.now → (taken : List ℕ) × ((printed : List ℕ)
+    ensures meaning { 0 < result.0.steps → (taken : List ℕ) × ((printed : List ℕ)
         × Took (I.left input.old) taken (I.left input.new) × Puts (Some result.0.end) O.agrees out.old out.new printed
         × Runs sound.now (λ rest. kept_state kept turns (P.memory p.old) rest []) result.0.end result.0.steps
-          (λ rest. kept_state result.1 result.0.turns_left (P.memory p.new) rest printed) result.1.ended taken) }
+        (λ rest. kept_state result.1 result.0.turns_left (P.memory p.new) rest printed) result.1.ended taken) }
 {
     let mut ended = kept.ended;
     let mut front = match Front::from_kept(alloc, sound, kept, turns) {
@@ -282,11 +282,11 @@ pub fn run<P: Phases, I: Source, O: Sink>(
     ensures input { Tells (input_broke result.end) (I.faults input.old) (I.faults input.new) }
     ensures output { Tells (output_broke result.end) (O.faults out.old) (O.faults out.new) }
     ensures none { result.steps ≡ 0 → (result.end ≡ End.Memory) × (result.turns_left ≡ turns) × (p.new ≡ p.old) × (input.new ≡ input.old) × (out.new ≡ out.old) }
-    ensures meaning { 0 < result.steps → IsSettledCode sound.now → (ended : Bool) × ((stopped : Kept) × ((taken : List ℕ) × ((printed : List ℕ)
+    ensures meaning { 0 < result.steps → (ended : Bool) × ((stopped : Kept) × ((taken : List ℕ) × ((printed : List ℕ)
         × (ended ≡ true → IfSome (I.left input.new) (λ rest. rest ≡ []))
         × Took (I.left input.old) taken (I.left input.new) × Puts (Some result.end) O.agrees out.old out.new printed
         × Runs sound.now (opening sound.now (P.memory p.old) turns) result.end result.steps
-          (λ rest. kept_state stopped result.turns_left (P.memory p.new) rest printed) ended taken))) }
+        (λ rest. kept_state stopped result.turns_left (P.memory p.new) rest printed) ended taken))) }
 {
     match Kept::new(alloc, sound) {
         Ok(kept) => resume(alloc, sound, kept, turns, p, input, out).0,
