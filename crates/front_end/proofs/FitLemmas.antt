@@ -1,5 +1,5 @@
 -- How a place with its open calls changes by jumps, calls and returns.
-use Rattle.std.proofs.Common.{◌≡◌, ◌≢◌, ℕ, zero, suc, ◌+◌, ◌-◌, ◌<◌, ◌≤◌, List, [], ◌∷◌, ◌++◌, length, refl, sym, ◌∙◌, ap, subst, arith, slice_index, map, nat_le, if◌then◌else◌, true, false}
+use Rattle.std.proofs.Common.{◌≡◌, ℕ, zero, suc, ◌+◌, ◌-◌, ◌<◌, ◌≤◌, List, [], ◌∷◌, ◌++◌, length, refl, sym, ◌∙◌, ap, subst, arith, slice_index, nat_le, true, false}
 use Rattle.std.proofs.lemmas.List.{length-map}
 use Rattle.std.proofs.lemmas.Bool.{le-leb}
 use Rattle.std.proofs.lemmas.Bool.Decides.{nat_tests}
@@ -8,7 +8,7 @@ use Rattle.paris_code.specs.declared.program.Image.{Image}
 use Rattle.paris_code.specs.Units.{unit_of, started, starts_of, start_at, IsAt, IsInUnitOf, Path}
 use Rattle.paris_code.specs.RuleTarget.{AreOrdered, AreStarts, HasUnits}
 use Rattle.paris_code.specs.RuleStack.{KeepsStack}
-use Rattle.front_end.specs.Fit.{IsBehindCall, IsChain, IsPlace}
+use Rattle.front_end.specs.Fit.{IsChain, IsPlace}
 
 -- a chain of calls is the same at each place of a unit
 pub chain_moved : (image : Image) (unit : ℕ) (places : List ℕ) (at to : ℕ) → IsChain image unit places at → unit_of image to ≡ unit_of image at → IsChain image unit places to

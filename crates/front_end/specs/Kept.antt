@@ -1,5 +1,5 @@
 -- The states that are kept between runs.
-use Rattle.std.specs.Prelude.{◌≡◌, ℕ, List, [], length, replicate, false, None}
+use Rattle.std.specs.Prelude.{◌≡◌, ℕ, [], length, replicate, false, None}
 use Rattle.paris_code.specs.declared.program.Image.{Image}
 use Rattle.front_end.specs.declared.front.Front.{Front}
 use Rattle.front_end.specs.declared.kept.Kept.{Kept}

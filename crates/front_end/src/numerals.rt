@@ -1,8 +1,8 @@
 //! Numbers as text.
 
-ghost use Rattle.std.specs.Prelude.{◌≡◌, ◌<◌, ◌≤◌, ◌^◌, ℕ, true, length, take};
+ghost use Rattle.std.specs.Prelude.{◌≡◌, ◌+◌, ◌<◌, ◌≤◌, ◌^◌, ◌++◌, ◌∷◌, [], true, length, take};
 ghost use Rattle.cstar_base.specs.Numbers.{number_of};
-ghost use Rattle.front_end.specs.Numerals.{digit_of};
+ghost use Rattle.paris_code.specs.Numerals.{digit_of, numeral_in, printed};
 
 use cstar_base::Elem;
 use cstar_base::numbers::value;
@@ -20,7 +20,8 @@ pub struct Numeral {
 /// The text in a room of its own.
 fn held(text: &[u8]) -> Numeral
     requires { length text.now ≤ 11 }
-    ensures { take result.len result.text ≡ text.now }
+    ensures len { result.len ≡ length text.now }
+    ensures text { take result.len result.text ≡ text.now }
 {
     let mut room = [0; 11];
     room[..text.len()].copy_from_slice(text);
@@ -42,21 +43,33 @@ fn digit(n: u32) -> u8
     }
 }
 
-/// The number in octal or hexadecimal, by digits of 3 or 4 bits.
-fn in_bits(width: u32, n: u32) -> Numeral
-    requires { (3 ≤ width) × (width ≤ 4) }
-{
-    let mut room = [0; 11];
-    let mut len = 0u8;
-    'places: for k in 0..11u32 {
-        let rest = u64::from(n) >> (width * (10 - k));
-        if rest != 0 || k == 10 {
-            let low = if width == 4 { rest % 16 } else { rest % 8 };
-            room[usize::from(len)] = digit(low as u32);
-            len += 1;
-        }
+impl Numeral {
+    /// The text with one more byte behind it.
+    fn with(self, byte: u8) -> Numeral
+        requires { self.len < 11 }
+        ensures len { result.len ≡ self.len + 1 }
+        ensures text { take result.len result.text ≡ take self.len self.text ++ byte ∷ [] }
+    {
+        let Numeral { mut text, len } = self;
+        text[usize::from(len)] = byte;
+        Numeral { text, len: len + 1 }
     }
-    Numeral { text: room, len }
+}
+
+/// The number in a base, at no more than so many places.
+#[tactic(auto, unfolding(paris_code::specs::Numerals::numeral_in))]
+fn in_base(base: u32, places: u8, n: u32) -> Numeral
+    requires base { (2 ≤ base) × (base ≤ 16) }
+    requires places { (1 ≤ places) × (places ≤ 11) }
+    requires fits { n < base ^ places }
+    ensures len { result.len ≤ places }
+    ensures text { take result.len result.text ≡ numeral_in base places n }
+{
+    if n < base {
+        held(&[digit(n)])
+    } else {
+        in_base(base, places - 1, n / base).with(digit(n % base))
+    }
 }
 
 /// The number that a word stands for in two's complement.
@@ -68,13 +81,16 @@ pub fn signed(w: u32) -> i32
 }
 
 /// The text of a register.
-pub fn print(format: NumberFormat, w: u32) -> Numeral {
+#[tactic(auto, unfolding(paris_code::specs::Numerals::printed))]
+pub fn print(format: NumberFormat, w: u32) -> Numeral
+    ensures { take result.len result.text ≡ printed format w }
+{
     let mut buffer = Buffer::new();
     match format {
         NumberFormat::Signed => held(buffer.format(signed(w)).as_bytes()),
         NumberFormat::Unsigned => held(buffer.format(w).as_bytes()),
-        NumberFormat::Hexadecimal => in_bits(4, w),
-        NumberFormat::Octal => in_bits(3, w),
+        NumberFormat::Hexadecimal => in_base(16, 11, w),
+        NumberFormat::Octal => in_base(8, 11, w),
         NumberFormat::Character => held(&[(w % 256) as u8]),
     }
 }

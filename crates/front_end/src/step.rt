@@ -1,9 +1,14 @@
-ghost use Rattle.std.specs.Prelude.{◌≡◌, ◌≢◌, ◌+◌, ◌-◌, ◌<◌, ◌≤◌, ◌==◌, if◌then◌else◌, length, slice_set, slice_index, true, false, None, Some, ◌++◌, ◌∷◌, []};
+ghost use Rattle.std.specs.Prelude.{◌≡◌, ◌≢◌, ◌+◌, ◌-◌, ◌<◌, ◌≤◌, ◌==◌, if◌then◌else◌, length, slice_set, slice_index, take, true, false, None, Some, ◌++◌, ◌∷◌, []};
 ghost use Rattle.paris_code.specs.Sound.{KeepsRules};
 ghost use Rattle.paris_code.specs.RuleTarget.{GoesOn};
 ghost use Rattle.paris_code.specs.Units.{IsAt, IsInUnitOf, unit_of, start_at};
+ghost use Rattle.paris_code.specs.Code.{arguments_at};
 ghost use Rattle.paris_code.specs.Kinds.{is_parallel};
-ghost use Rattle.front_end.specs.Front.{state_of, Fits, AsksFor};
+ghost use Rattle.paris_code.specs.Numerals.{printed};
+ghost use Rattle.paris_code.specs.Operands.{result_of};
+ghost use Rattle.paris_code.specs.Scalar.{computed};
+ghost use Rattle.paris_code.specs.Shapes.{shapes_of};
+ghost use Rattle.front_end.specs.Front.{state_of, Fits, AsksFor, Prints};
 
 use crate::ask::Ask;
 use crate::compute::result_register;
@@ -93,10 +98,9 @@ impl Front {
     fn give_back(&mut self, sound: &Sound) -> Ask
         requires fits { Fits sound.now (state_of self.old) }
         requires inner { unit_of sound.now self.old.at ≢ 0 }
-        ensures state { self.old.returns.items ≡ self.new.returns.items ++ self.new.at ∷ [] }
-        ensures same { state_of self.new ≡ record (state_of self.old) {
-          at = self.new.at;
-          returns = self.new.returns.items;
+        ensures state { state_of self.new ≡ record (state_of self.old) {
+          at = slice_index self.old.returns.items (length self.old.returns.items - 1);
+          returns = take (length self.old.returns.items - 1) self.old.returns.items;
         } }
         ensures fits { Fits sound.now (state_of self.new) }
         ensures asks { result ≡ Ask.Ran }
@@ -147,10 +151,13 @@ impl Front {
         requires keeps { KeepsRules sound.now self.old.at instr.now }
         requires here { IsAt sound.now self.old.at instr.now }
         requires parallel { is_parallel instr.now ≡ true }
-        requires ready { self.old.wanted ≡ None }
         ensures fits { Fits sound.now (state_of self.new) }
-        ensures asks { AsksFor sound.now (state_of self.old) result (state_of self.new) }
-        ensures turns { self.new.turns ≡ self.old.turns }
+        ensures state { state_of self.new ≡ record (state_of self.old) {
+          at = self.old.at + 1;
+          args = arguments_at instr.now self.old.registers.items;
+          wanted = result_of instr.now;
+        } }
+        ensures asks { result ≡ Ask.Apply self.old.at }
     {
         let at = self.at;
         self.gather(sound, instr);
@@ -165,11 +172,25 @@ impl Front {
         requires goes { GoesOn sound.now self.old.at }
         requires slot { dest < sound.now.slots }
         ensures fits { Fits sound.now (state_of self.new) }
-        ensures asks { AsksFor sound.now (state_of self.old) result (state_of self.new) }
+        ensures state { state_of self.new ≡ record (state_of self.old) { at = self.old.at + 1; wanted = Some dest } }
+        ensures asks { result ≡ Ask.Byte }
     {
         self.wanted = Some(dest);
         self.go_on(sound);
         Ask::Byte
+    }
+
+    /// Asks for the bytes of the instruction to be printed.
+    fn put(&mut self, sound: &Sound) -> Ask
+        requires fits { Fits sound.now (state_of self.old) }
+        requires goes { GoesOn sound.now self.old.at }
+        ensures fits { Fits sound.now (state_of self.new) }
+        ensures state { state_of self.new ≡ record (state_of self.old) { at = self.old.at + 1 } }
+        ensures asks { result ≡ Ask.Literal self.old.at }
+    {
+        let at = self.at;
+        self.go_on(sound);
+        Ask::Literal { at }
     }
 
     /// Asks for the text of a register to be printed.
@@ -177,44 +198,42 @@ impl Front {
         requires fits { Fits sound.now (state_of self.old) }
         requires goes { GoesOn sound.now self.old.at }
         requires slot { source < sound.now.slots }
-        requires ready { self.old.wanted ≡ None }
         ensures fits { Fits sound.now (state_of self.new) }
-        ensures asks { AsksFor sound.now (state_of self.old) result (state_of self.new) }
+        ensures state { state_of self.new ≡ record (state_of self.old) { at = self.old.at + 1 } }
+        ensures asks { Prints result (printed format (slice_index self.old.registers.items source)) }
     {
         let Numeral { text, len } = numerals::print(format, self.register(source));
         self.go_on(sound);
         Ask::Digits { text, len }
     }
 
-    /// Goes on where a check held; else the fault at its place.
-    fn check(&mut self, sound: &Sound, holds: bool, kind: u8, place: Place) -> Ask
+    /// Goes on; a check that failed is a fault at its place.
+    fn check(&mut self, sound: &Sound, fails: bool, kind: u8, place: Place) -> Ask
         requires fits { Fits sound.now (state_of self.old) }
         requires goes { GoesOn sound.now self.old.at }
-        requires ready { self.old.wanted ≡ None }
         ensures fits { Fits sound.now (state_of self.new) }
-        ensures asks { AsksFor sound.now (state_of self.old) result (state_of self.new) }
+        ensures state { state_of self.new ≡ record (state_of self.old) { at = self.old.at + 1 } }
+        ensures asks { result ≡ (if fails then Ask.Fault kind place else Ask.Ran) }
     {
-        if !holds {
-            return Ask::Fault { kind, place };
-        }
         self.go_on(sound);
-        Ask::Ran
+        if fails {
+            Ask::Fault { kind, place }
+        } else {
+            Ask::Ran
+        }
     }
 
-    /// Begins the instruction at which the code stands. Ran where it is thereby done, Apply at a
-    /// parallel instruction, Literal and Digits where it prints, Byte where it reads, Fault where
-    /// its check fails, Stopped where it is a turn and none is left, Halted at the end.
-    pub fn step(&mut self, sound: &Sound) -> Ask
+    /// Begins an instruction that does more than set a register.
+    fn control(&mut self, sound: &Sound, instr: &Instr) -> Ask
         requires fits { Fits sound.now (state_of self.old) }
+        requires keeps { KeepsRules sound.now self.old.at instr.now }
+        requires here { IsAt sound.now self.old.at instr.now }
         requires ready { self.old.wanted ≡ None }
+        requires scalar { is_parallel instr.now ≡ false }
+        requires other { computed (shapes_of sound.now) instr.now self.old.registers.items ≡ None }
         ensures fits { Fits sound.now (state_of self.new) }
         ensures asks { AsksFor sound.now (state_of self.old) result (state_of self.new) }
     {
-        let at = self.at;
-        let instr = instr_at(sound, at);
-        if instr.parallel() {
-            return self.apply(sound, instr);
-        }
         match instr {
             Instr::FrontJump { target } => self.jump(sound, true, *target),
             Instr::FrontJumpZero { test, target } => {
@@ -228,11 +247,7 @@ impl Front {
             Instr::FrontCall { unit } => self.call(sound, *unit),
             Instr::FrontReturn => self.give_back(sound),
             Instr::FrontTurn => self.turn(sound),
-            Instr::FrontHalt => Ask::Halted,
-            Instr::FrontPutBytes { .. } => {
-                self.go_on(sound);
-                Ask::Literal { at }
-            }
+            Instr::FrontPutBytes { .. } => self.put(sound),
             Instr::FrontPut { format, source } => self.print(sound, *format, *source),
             Instr::FrontGetByte { dest } => self.read(sound, *dest),
             Instr::FrontCheckTarget {
@@ -240,17 +255,33 @@ impl Front {
                 place,
                 coordinates,
             } => {
-                let holds = self.are_inside(sound, *set, coordinates.as_slice());
-                self.check(sound, holds, 1, *place)
+                let fails = self.any_outside(sound, *set, coordinates.as_slice());
+                self.check(sound, fails, 1, *place)
             }
             Instr::FrontCheckDivisor { place, source } => {
                 let value = self.register(*source);
-                self.check(sound, value != 0, 2, *place)
+                self.check(sound, value == 0, 2, *place)
             }
-            _ => match self.computed(sound, instr) {
-                Some((dest, value)) => self.set(sound, dest, value),
-                None => Ask::Halted,
-            },
+            _ => Ask::Halted,
+        }
+    }
+
+    /// Begins the instruction at which the code stands. Ran where it is thereby done, Apply at a
+    /// parallel instruction, Literal and Digits where it prints, Byte where it reads, Fault where
+    /// its check fails, Stopped where it is a turn and none is left, Halted at the end.
+    pub fn step(&mut self, sound: &Sound) -> Ask
+        requires fits { Fits sound.now (state_of self.old) }
+        requires ready { self.old.wanted ≡ None }
+        ensures fits { Fits sound.now (state_of self.new) }
+        ensures asks { AsksFor sound.now (state_of self.old) result (state_of self.new) }
+    {
+        let instr = instr_at(sound, self.at);
+        if instr.parallel() {
+            return self.apply(sound, instr);
+        }
+        match self.computed(sound, instr) {
+            Some((dest, value)) => self.set(sound, dest, value),
+            None => self.control(sound, instr),
         }
     }
 }

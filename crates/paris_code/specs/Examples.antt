@@ -10,6 +10,9 @@ use Rattle.cstar_base.specs.declared.operators.Winner.TheVariants as W
 use Rattle.cstar_base.specs.Operators.{outcome}
 use Rattle.paris_code.specs.declared.operands.Field.{Field}
 use Rattle.paris_code.specs.declared.operands.Reduction.TheVariants as F
+use Rattle.paris_code.specs.declared.instr.Instr.TheVariants as I
+use Rattle.paris_code.specs.declared.program.Image.{Image}
+use Rattle.paris_code.specs.Code.{CodeState, Mark, End, Broken, Stopped, InputBroken, Goes, Ends, begun, called, onward}
 use Rattle.paris_code.specs.Fetching.{of_named, global_fold}
 use Rattle.paris_code.specs.Memory.{BitMemory, is_active}
 use Rattle.paris_code.specs.Orders.{least_below}
@@ -70,3 +73,22 @@ pub record Communication : Type 0 where
   pub no_processor : of_named line (memory_by (row 4 0 1 ∷ row 0 0 1 ∷ []) W.High) number_field number_field 0 ≡ 0
   pub minimum_of_nothing : global_fold line (memory_by [] W.High) F.SMin number_field ≡ 2 ^ 31 - 1
   pub least_of_two : least_below (λ p. is_active line (marked_line W.High) 0 p) 4 ≡ Some 0
+
+-- code at place 4 with two registers, no turn and no input left
+abbrev pub at_four : BitMemory → Mark → CodeState
+at_four memory mark = record {
+  at = 4;
+  registers = 7 ∷ 8 ∷ [];
+  returns = [];
+  memory = memory;
+  turns = 0;
+  input = record { bytes = []; mark = mark };
+  output = [];
+}
+
+-- of the code: a turn with none left, a call and its return, and reads behind the last byte
+pub record FrontSteps (image : Image) (memory : BitMemory) : Type 0 where
+  pub no_turn_left : begun image I.FrontTurn (at_four memory End) ≡ Ends Stopped (at_four memory End)
+  pub call_and_return : begun image I.FrontReturn (called image 3 (at_four memory End)) ≡ Goes (onward (at_four memory End))
+  pub read_at_end : begun image (I.FrontGetByte 1) (at_four memory End) ≡ Goes (record (at_four memory End) { at = 5; registers = 7 ∷ 4294967295 ∷ [] })
+  pub read_of_broken : begun image (I.FrontGetByte 1) (at_four memory Broken) ≡ Ends InputBroken (onward (at_four memory Broken))

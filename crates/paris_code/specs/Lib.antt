@@ -1,5 +1,6 @@
 pub mod Arguments
 pub mod Checking
+pub mod Code
 pub mod Elementwise
 pub mod Examples
 pub mod Fetching
@@ -8,6 +9,7 @@ pub mod Listing
 pub mod Meaning
 pub mod Memory
 pub mod Mnemonics
+pub mod Numerals
 pub mod Operands
 pub mod Operators
 pub mod Orders
@@ -17,6 +19,7 @@ pub mod RuleOperands
 pub mod RuleSet
 pub mod RuleStack
 pub mod RuleTarget
+pub mod Scalar
 pub mod Scanning
 pub mod Sending
 pub mod Shapes

@@ -1,5 +1,5 @@
 -- An instruction that the front end asks for can be applied by phases with the image's sets.
-use Rattle.std.proofs.Common.{◌≡◌, ℕ, List, length, true, Some, sym, ◌∙◌, subst}
+use Rattle.std.proofs.Common.{◌≡◌, ℕ, List, length, true, sym, subst}
 use Rattle.paris_code.specs.declared.instr.Instr.{Instr}
 use Rattle.paris_code.specs.declared.program.Image.{Image}
 use Rattle.paris_code.specs.Kinds.{is_parallel}

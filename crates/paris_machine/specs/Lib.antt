@@ -1,2 +1,4 @@
 pub mod Asked
+pub mod Bound
 pub mod Ends
+pub mod Runs

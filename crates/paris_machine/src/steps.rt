@@ -1,16 +1,19 @@
-ghost use Rattle.std.specs.Prelude.{◌≡◌, ◌+◌, ◌*◌, ◌<◌, ◌≤◌, ℕ, List, length, Option, Some, None, IsSome, IfNone, is_some, true, false};
+ghost use Rattle.std.specs.Prelude.{◌≡◌, ◌+◌, ◌*◌, ◌<◌, ◌≤◌, ℕ, Bool, List, [], length, Option, Some, None, IsSome, IfNone, IfSome, is_some, true, false};
 ghost use Rattle.cstar_io.specs.Faults.{RisesBy};
+ghost use Rattle.cstar_io.specs.Input.{Took};
 ghost use Rattle.paris_code.specs.declared.instr.Instr.{Instr};
-ghost use Rattle.paris_code.specs.Kinds.{is_parallel};
-ghost use Rattle.paris_code.specs.Operands.{arguments_of, result_of};
+ghost use Rattle.paris_code.specs.Code.{Fault, fault_at, opening};
 ghost use Rattle.paris_code.specs.Shapes.{shapes_of};
 ghost use Rattle.paris_code.specs.Sound.{KeepsRules};
 ghost use Rattle.paris_code.specs.Units.{IsAt};
 ghost use Rattle.phase_gate.specs.Apply.{is_check};
-ghost use Rattle.front_end.specs.Front.{state_of, Fits, AsksFor};
+ghost use Rattle.front_end.specs.declared.kept.Kept.{Kept};
+ghost use Rattle.front_end.specs.Front.{state_of, Fits, joined};
 ghost use Rattle.front_end.specs.Kept.{KeptFits};
 ghost use Rattle.paris_machine.specs.Ends.{input_broke, output_broke, input_broke_in, output_broke_in, Tells};
 ghost use Rattle.paris_machine.specs.Asked.{IsAsked};
+ghost use Rattle.paris_machine.specs.Bound.{most_left};
+ghost use Rattle.paris_machine.specs.Runs.{Advances, IsPutEnd, Puts, Reads, RepliesTo, Runs, Stays, StaysOver, kept_state};
 
 use crate::outcome::{End, Outcome};
 use cstar_base::Place;
@@ -35,7 +38,8 @@ fn instr_at(sound: &Sound, at: u32) -> &Instr
 
 /// The kind and the place of the fault of a check of the phases.
 fn fault_of(instr: &Instr) -> Option<(u8, Place)>
-    ensures { is_some result ≡ is_check instr.now }
+    ensures some { is_some result ≡ is_check instr.now }
+    ensures fault { (position : ℕ) → IfSome result (λ f. fault_at instr.now position ≡ Fault f.0 f.1 (Some position)) }
 {
     match instr {
         Instr::CheckTarget { place, .. } | Instr::CheckGrid { place, .. } => Some((1, *place)),
@@ -54,6 +58,8 @@ fn apply<P: Phases>(sound: &Sound, front: &mut Front, at: u32, p: &mut P) -> Opt
     ensures ready { IfNone result (front.new.wanted ≡ None) }
     ensures input { input_broke_in result ≡ false }
     ensures output { output_broke_in result ≡ false }
+    ensures stays { Stays (state_of front.old) (state_of front.new) }
+    ensures meaning { (instr : Instr) → IsAt sound.now at instr → RepliesTo sound.now instr (state_of front.old) (P.memory p.old) result (state_of front.new) (P.memory p.new) }
 {
     let instr = instr_at(sound, at);
     match p.apply(instr, front.args()) {
@@ -78,6 +84,8 @@ fn apply<P: Phases>(sound: &Sound, front: &mut Front, at: u32, p: &mut P) -> Opt
 fn put<O: Sink>(bytes: &[u8], out: &mut O) -> Option<End>
     ensures tells { Tells (output_broke_in result) (O.faults out.old) (O.faults out.new) }
     ensures input { input_broke_in result ≡ false }
+    ensures only { IsPutEnd result }
+    ensures puts { Puts result O.agrees out.old out.new bytes.now }
 {
     match out.put(bytes) {
         Ok(()) => None,
@@ -90,8 +98,9 @@ fn put_literal<O: Sink>(sound: &Sound, at: u32, out: &mut O) -> Option<End>
     requires { at < length sound.now.code.items }
     ensures tells { Tells (output_broke_in result) (O.faults out.old) (O.faults out.new) }
     ensures input { input_broke_in result ≡ false }
+    ensures puts { (bytes : List ℕ) → IsAt sound.now at (Instr.FrontPutBytes bytes) → IsPutEnd result × Puts result O.agrees out.old out.new bytes }
 {
-    match &sound.image().code[at as usize] {
+    match instr_at(sound, at) {
         Instr::FrontPutBytes { bytes } => put(bytes.bytes(), out),
         _ => None,
     }
@@ -106,6 +115,10 @@ fn read<I: Source>(sound: &Sound, front: &mut Front, ended: &mut bool, input: &m
     ensures tells { Tells (input_broke_in result) (I.faults input.old) (I.faults input.new) }
     ensures output { output_broke_in result ≡ false }
     ensures over { ended.old ≡ true → (ended.new ≡ true) × (input.new ≡ input.old) }
+    ensures empty { ended.old ≡ false → ended.new ≡ true → IfSome (I.left input.new) (λ rest. rest ≡ []) }
+    ensures stays { Stays (state_of front.old) (state_of front.new) }
+    ensures meaning { (taken : List ℕ) × Took (I.left input.old) taken (I.left input.new) × StaysOver ended.old result ended.new taken
+        × Reads (state_of front.old) result (state_of front.new) ended.new taken }
 {
     let byte = if *ended {
         None
@@ -137,7 +150,15 @@ fn advance<P: Phases, I: Source, O: Sink>(
     ensures ready { IfNone result (front.new.wanted ≡ None) }
     ensures input { Tells (input_broke_in result) (I.faults input.old) (I.faults input.new) }
     ensures output { Tells (output_broke_in result) (O.faults out.old) (O.faults out.new) }
+    ensures over { ended.old ≡ true → (ended.new ≡ true) × (input.new ≡ input.old) }
+    ensures empty { ended.old ≡ false → ended.new ≡ true → IfSome (I.left input.new) (λ rest. rest ≡ []) }
+    ensures falls { IfNone result (most_left sound.now front.new.at front.new.returns.items front.new.turns + 1
+        ≤ most_left sound.now front.old.at front.old.returns.items front.old.turns) }
+    ensures meaning { (taken : List ℕ) × ((printed : List ℕ)
+        × Took (I.left input.old) taken (I.left input.new) × Puts result O.agrees out.old out.new printed × StaysOver ended.old result ended.new taken
+        × Advances sound.now (state_of front.old) (P.memory p.old) result (state_of front.new) (P.memory p.new) ended.new taken printed) }
 {
+    let _image = sound.image();
     match front.step(sound) {
         Ask::Ran => None,
         Ask::Apply { at } => apply(sound, front, at, p),
@@ -176,8 +197,15 @@ fn drive<P: Phases, I: Source, O: Sink>(
     ensures fits { Fits sound.now (state_of front.new) }
     ensures shapes { P.shapes p.new ≡ shapes_of sound.now }
     ensures steps { result.1 ≤ (front.old.turns + 1) * length sound.now.code.items }
+    ensures some { 1 ≤ result.1 }
     ensures input { Tells (input_broke result.0) (I.faults input.old) (I.faults input.new) }
     ensures output { Tells (output_broke result.0) (O.faults out.old) (O.faults out.new) }
+    ensures over { ended.old ≡ true → (ended.new ≡ true) × (input.new ≡ input.old) }
+    ensures empty { ended.old ≡ false → ended.new ≡ true → IfSome (I.left input.new) (λ rest. rest ≡ []) }
+    ensures meaning { (taken : List ℕ) × ((printed : List ℕ)
+        × Took (I.left input.old) taken (I.left input.new) × Puts (Some result.0) O.agrees out.old out.new printed
+        × Runs sound.now (λ rest. joined (state_of front.old) (P.memory p.old) rest []) result.0 result.1
+        (λ rest. joined (state_of front.new) (P.memory p.new) rest printed) ended.new taken) }
 {
     'steps: for begun in 0..most_steps(sound, front.turns_left()) {
         if let Some(end) = advance(sound, front, ended, p, input, out) {
@@ -189,6 +217,9 @@ fn drive<P: Phases, I: Source, O: Sink>(
 
 /// Runs the code of an image from a kept state, with so many turns, and gives the state where it
 /// ended. Memory with 0 steps, and the kept state unchanged, is want of memory for the front end.
+/// Else the bytes that were taken, followed by what the input may have left, lead by this many
+/// instructions of the code to this end; the output took what they print, or the first of it where
+/// it failed.
 pub fn resume<P: Phases, I: Source, O: Sink>(
     alloc: Global,
     sound: &Sound,
@@ -205,6 +236,13 @@ pub fn resume<P: Phases, I: Source, O: Sink>(
     ensures steps { result.0.steps ≤ (turns + 1) * length sound.now.code.items }
     ensures input { Tells (input_broke result.0.end) (I.faults input.old) (I.faults input.new) }
     ensures output { Tells (output_broke result.0.end) (O.faults out.old) (O.faults out.new) }
+    ensures over { kept.ended ≡ true → (result.1.ended ≡ true) × (input.new ≡ input.old) }
+    ensures empty { kept.ended ≡ false → result.1.ended ≡ true → IfSome (I.left input.new) (λ rest. rest ≡ []) }
+    ensures none { result.0.steps ≡ 0 → (result.0.end ≡ End.Memory) × (result.0.turns_left ≡ turns) × (result.1 ≡ kept) × (p.new ≡ p.old) × (input.new ≡ input.old) × (out.new ≡ out.old) }
+    ensures meaning { 0 < result.0.steps → (taken : List ℕ) × ((printed : List ℕ)
+        × Took (I.left input.old) taken (I.left input.new) × Puts (Some result.0.end) O.agrees out.old out.new printed
+        × Runs sound.now (λ rest. kept_state kept turns (P.memory p.old) rest []) result.0.end result.0.steps
+        (λ rest. kept_state result.1 result.0.turns_left (P.memory p.new) rest printed) result.1.ended taken) }
 {
     let mut ended = kept.ended;
     let mut front = match Front::from_kept(alloc, sound, kept, turns) {
@@ -229,7 +267,7 @@ pub fn resume<P: Phases, I: Source, O: Sink>(
     (outcome, kept)
 }
 
-/// Runs the code of an image from its start on new phases.
+/// Runs the code of an image from its start on new phases; else as `resume`.
 pub fn run<P: Phases, I: Source, O: Sink>(
     alloc: Global,
     sound: &Sound,
@@ -243,6 +281,12 @@ pub fn run<P: Phases, I: Source, O: Sink>(
     ensures steps { result.steps ≤ (turns + 1) * length sound.now.code.items }
     ensures input { Tells (input_broke result.end) (I.faults input.old) (I.faults input.new) }
     ensures output { Tells (output_broke result.end) (O.faults out.old) (O.faults out.new) }
+    ensures none { result.steps ≡ 0 → (result.end ≡ End.Memory) × (result.turns_left ≡ turns) × (p.new ≡ p.old) × (input.new ≡ input.old) × (out.new ≡ out.old) }
+    ensures meaning { 0 < result.steps → (ended : Bool) × ((stopped : Kept) × ((taken : List ℕ) × ((printed : List ℕ)
+        × (ended ≡ true → IfSome (I.left input.new) (λ rest. rest ≡ []))
+        × Took (I.left input.old) taken (I.left input.new) × Puts (Some result.end) O.agrees out.old out.new printed
+        × Runs sound.now (opening sound.now (P.memory p.old) turns) result.end result.steps
+        (λ rest. kept_state stopped result.turns_left (P.memory p.new) rest printed) ended taken))) }
 {
     match Kept::new(alloc, sound) {
         Ok(kept) => resume(alloc, sound, kept, turns, p, input, out).0,

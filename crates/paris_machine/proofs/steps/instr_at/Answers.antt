@@ -1,4 +1,4 @@
-use Rattle.std.proofs.Common.{◌≡◌, ◌<◌, refl, ap, sym, subst, length, arith}
+use Rattle.std.proofs.Common.{◌<◌, refl, sym, subst, length}
 use Rattle.std.proofs.lemmas.Option.{slice_get_read}
 use Rattle.paris_code.specs.declared.program.Image.{Image}
 use Rattle.paris_code.specs.Units.{IsAt}

@@ -1,4 +1,4 @@
-use Rattle.std.proofs.Common.{◌≡◌, ℕ, List, [], length, arith}
+use Rattle.std.proofs.Common.{◌≡◌, [], length, arith}
 use Rattle.std.proofs.lemmas.Grind.{common_steps}
 use Rattle.front_end.proofs.FitLemmas.{place_open}
 use Rattle.front_end.proofs.kept.Kept.new.Goals as goal

@@ -1,5 +1,5 @@
 -- How registers are printed.
-use Rattle.std.specs.Prelude.{ℕ, zero, suc, ◌+◌, ◌-◌, ◌/◌, ◌%◌, List, [], ◌∷◌, ◌++◌, nat_lt, if◌then◌else◌, true, decimal}
+use Rattle.std.specs.Prelude.{ℕ, zero, suc, ◌+◌, ◌/◌, ◌%◌, List, [], ◌∷◌, ◌++◌, nat_lt, if◌then◌else◌, true, decimal}
 use Rattle.std.specs.Fmt.{signed_decimal}
 use Rattle.cstar_base.specs.Numbers.{number_of}
 use Rattle.paris_code.specs.declared.operands.NumberFormat.{NumberFormat}

@@ -1,0 +1,69 @@
+use Rattle.std.proofs.Common.{◌≡◌, [], ◌++◌, refl, sym, ◌∙◌, subst, arith}
+use Rattle.std.specs.Prelude.{IfSome}
+use Rattle.front_end.specs.Front.{state_of}
+use Rattle.paris_machine.proofs.Bound.{left_most}
+use Rattle.paris_machine.proofs.Following.{took_none, takes_none, took_more, takes_more, puts_more, reaches_more, runs_end, empty_more, exhausted}
+use Rattle.paris_machine.proofs.steps.drive.Goals as goal
+
+pub steps-init : goal.steps-init
+steps-init g c = record {
+  fits = c.requires.fits;
+  ready = c.requires.ready;
+  shapes = c.requires.shapes;
+  input = refl;
+  output = refl;
+  over = λ e. (e, refl);
+  empty = λ e f. cc;
+  left = omega (arith, left_most c.args.sound.now c.args.front.now.at c.args.front.now.returns.items c.args.front.now.turns c.requires.fits.place.0);
+  taken = [];
+  printed = [];
+  took = took_none (g.I.Source.left c.args.input.now);
+  takes = takes_none g.O.Sink.agrees c.args.out.now;
+  reaches = λ later left. refl;
+}
+
+pub returns-in-Some-clause-meaning : goal.returns-in-Some-clause-meaning
+returns-in-Some-clause-meaning g c =
+    let kept = c.steps.invariant in
+    let moved = c.in-Some.ensures.meaning in (
+      kept.taken ++ moved.0,
+      (
+        kept.printed ++ moved.1.0,
+        took_more (g.I.Source.left c.args.input.now) (g.I.Source.left c.steps.input) (g.I.Source.left c.advance.new.input) kept.taken moved.0 kept.took moved.1.1,
+        puts_more c.in-Some.end g.O.Sink.agrees c.args.out.now c.steps.out c.advance.new.out kept.printed moved.1.0 kept.takes moved.1.2,
+        runs_end c.args.sound.now (state_of c.args.front.now) (state_of c.steps.front) (state_of c.advance.new.front) (g.P.Phases.memory c.args.p.now) (g.P.Phases.memory c.steps.p) (g.P.Phases.memory c.advance.new.p)
+            c.steps.begun c.steps.ended c.advance.new.ended c.in-Some.end kept.taken moved.0 kept.printed moved.1.0 kept.reaches moved.1.3 moved.1.4,
+      ),
+    )
+
+pub steps-preserved : goal.steps-preserved
+steps-preserved g c =
+    let kept = c.steps.invariant in
+    let moved = c.in_default.ensures.meaning in
+    record {
+      fits = c.in_default.ensures.fits;
+      ready = c.in_default.ensures.ready;
+      shapes = c.in_default.ensures.shapes;
+      input = c.in_default.ensures.input ∙ kept.input;
+      output = c.in_default.ensures.output ∙ kept.output;
+      over = λ e. (let was = kept.over e in let is = c.advance.ensures.over was.0 in (is.0, is.1 ∙ was.1));
+      empty = empty_more c.args.ended.now c.steps.ended c.advance.new.ended (IfSome (g.I.Source.left c.steps.input) (λ rest. rest ≡ [])) (IfSome (g.I.Source.left c.advance.new.input) (λ rest. rest ≡ []))
+          kept.empty (λ e here. subst (λ x. IfSome (g.I.Source.left x) (λ rest. rest ≡ [])) (sym (c.advance.ensures.over e).1) here) c.advance.ensures.empty;
+      left = omega (arith, kept.left, c.in_default.ensures.falls);
+      taken = kept.taken ++ moved.0;
+      printed = kept.printed ++ moved.1.0;
+      took = took_more (g.I.Source.left c.args.input.now) (g.I.Source.left c.steps.input) (g.I.Source.left c.advance.new.input) kept.taken moved.0 kept.took moved.1.1;
+      takes = takes_more g.O.Sink.agrees c.args.out.now c.steps.out c.advance.new.out kept.printed moved.1.0 kept.takes moved.1.2;
+      reaches = reaches_more c.args.sound.now (state_of c.args.front.now) (state_of c.steps.front) (state_of c.advance.new.front) (g.P.Phases.memory c.args.p.now) (g.P.Phases.memory c.steps.p) (g.P.Phases.memory c.advance.new.p)
+          c.steps.begun c.steps.ended c.advance.new.ended kept.taken moved.0 kept.printed moved.1.0 kept.reaches moved.1.3 moved.1.4;
+    }
+
+pub returns-clause-some : goal.returns-clause-some
+returns-clause-some g c = absurd (
+    exhausted c.args.sound.now c.steps.front.at c.steps.front.returns.items c.steps.front.turns c.steps.begun c.args.front.now.turns c.turns_left.result c.most_steps-begun-end.result
+    c.steps.invariant.fits.place.0 c.steps.invariant.left c.turns_left.ensures c.most_steps-begun-end.ensures c.steps-test.false)
+
+pub returns-clause-meaning : goal.returns-clause-meaning
+returns-clause-meaning g c = absurd (
+    exhausted c.args.sound.now c.steps.front.at c.steps.front.returns.items c.steps.front.turns c.steps.begun c.args.front.now.turns c.turns_left.result c.most_steps-begun-end.result
+    c.steps.invariant.fits.place.0 c.steps.invariant.left c.turns_left.ensures c.most_steps-begun-end.ensures c.steps-test.false)
