@@ -2,13 +2,26 @@
 //! docs/faults.md are among them, kept in step by hand.
 
 use crate::bench::{SOUND, command, program};
+use std::test::Fail;
 
 struct Refusal {
     text: &'static str,
     err: &'static str,
 }
 
-static REFUSALS: [Refusal; 40] = [
+static REFUSALS: [Refusal; 43] = [
+    Refusal {
+        text: "089",
+        err: "a.cs:1:2: E01 BadByte\n",
+    },
+    Refusal {
+        text: "1.",
+        err: "a.cs:1:2: E01 BadByte\n",
+    },
+    Refusal {
+        text: "4294967296",
+        err: "a.cs:1:1: E03 Wide\n",
+    },
     Refusal {
         text: "",
         err: "a.cs:1:1: E24 NoMain\n",
@@ -229,4 +242,59 @@ fn a_file_has_at_most_a_mebibyte(rt: HostRuntime) {
             assert_eq!(rt; done.err.taken(), b"a.cs:1:1: E30 TooLong\n".as_slice());
         }
     }
+}
+
+/// A text with a piece that comes so many times, and what stands on the error output.
+struct Repeated {
+    before: &'static str,
+    piece: &'static str,
+    times: u32,
+    behind: &'static str,
+    err: &'static str,
+}
+
+static DEPTHS: [Repeated; 4] = [
+    Repeated {
+        before: "main() { int x; x = ",
+        piece: "(",
+        times: 99,
+        behind: "1))))))))))))))))))))))))))))))))))))))))))))))))))))))))))))))))))))))))))))))))))))))))))))))))))); }",
+        err: "",
+    },
+    Repeated {
+        before: "main() { int x; x = ",
+        piece: "(",
+        times: 100,
+        behind: "",
+        err: "a.cs:1:120: E27 Depth\n",
+    },
+    Repeated {
+        before: "main() { int x; x = 1",
+        piece: " + 1",
+        times: 999,
+        behind: "; }",
+        err: "",
+    },
+    Repeated {
+        before: "main() { int x; x = 1",
+        piece: " + 1",
+        times: 1000,
+        behind: "; }",
+        err: "a.cs:1:4019: E27 Depth\n",
+    },
+];
+
+#[test]
+fn texts_are_refused_from_their_greatest_depth_on(rt: HostRuntime) -> Result<(), Fail> {
+    for row in &DEPTHS {
+        let mut text = String::from_str(rt.alloc(), row.before)?;
+        for _ in 0..row.times {
+            text.push_str(row.piece)?;
+        }
+        text.push_str(row.behind)?;
+        let done = program(&rt, rt.alloc(), text.as_str())?;
+        assert_eq!(rt; done.err.taken(), row.err.as_bytes(), "{}", text);
+        assert_eq!(rt; done.status == 0, row.err.is_empty(), "{}", text);
+    }
+    Ok(())
 }

@@ -17,6 +17,8 @@ pub struct Outside<'a> {
     pub shelf: &'a [u64],
     pub out: &'a [u64],
     pub err: &'a [u64],
+    /// How many bytes a failing put of the output takes.
+    pub keep: u32,
 }
 
 /// An outside of which no call fails.
@@ -26,6 +28,7 @@ pub const SOUND: Outside<'static> = Outside {
     shelf: &[],
     out: &[],
     err: &[],
+    keep: 0,
 };
 
 /// What the command did: its status and what its sinks took.
@@ -65,7 +68,8 @@ pub fn command<R: Threads + Sync>(
         Vec::from_slice(alloc, outside.input)?,
         Vec::from_slice(alloc, outside.source)?,
     );
-    let mut out = MemSink::new(alloc, ROOM, Vec::from_slice(alloc, outside.out)?)?;
+    let failing = Vec::from_slice(alloc, outside.out)?;
+    let mut out = MemSink::partial(alloc, ROOM, failing, outside.keep)?;
     let mut err = MemSink::new(alloc, ROOM, Vec::from_slice(alloc, outside.err)?)?;
     let status = cstar_top::cstar(
         rt,

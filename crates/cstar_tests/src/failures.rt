@@ -37,6 +37,59 @@ fn a_failed_put_on_the_error_output_is_a_write_fault(rt: HostRuntime) {
     assert_eq!(rt; done.err.taken(), b"".as_slice());
 }
 
+/// Which call of the input fails, and then the output and the status.
+static INPUTS: [(u64, &str, u8); 4] = [
+    (1, "", 7),
+    (2, "97 ", 7),
+    (3, "97 98 ", 7),
+    (4, "97 98 -1", 0),
+];
+
+#[test]
+fn a_failed_input_is_an_input_fault(rt: HostRuntime) {
+    for (call, out, status) in &INPUTS {
+        let outside = Outside {
+            input: b"ab",
+            source: &[*call],
+            ..SOUND
+        };
+        let text =
+            b"main() { printf(\"%d \", getchar()); printf(\"%d \", getchar()); printf(\"%d\", getchar()); }";
+        let Ok(done) = command(&rt, rt.alloc(), &["a.cs"], text, outside) else {
+            panic!(rt; "no memory");
+        };
+        let err: &[u8] = if *status == 7 { b"input fault\n" } else { b"" };
+        assert_eq!(rt; done.status, *status, "call {call}");
+        assert_eq!(rt; done.out.taken(), out.as_bytes(), "call {call}");
+        assert_eq!(rt; done.err.taken(), err, "call {call}");
+    }
+}
+
+#[test]
+fn a_failed_put_leaves_the_bytes_before_it(rt: HostRuntime) {
+    let text = b"main() { printf(\"a\"); printf(\"b\"); printf(\"c\"); }";
+    for call in 1..=10u64 {
+        for keep in 0..2u32 {
+            let outside = Outside {
+                out: &[call],
+                keep,
+                ..SOUND
+            };
+            let Ok(done) = command(&rt, rt.alloc(), &["a.cs"], text, outside) else {
+                panic!(rt; "no memory");
+            };
+            assert!(rt; b"abc".starts_with(done.out.taken()), "call {call}");
+            assert!(rt;
+                done.status == 6 || done.out.taken() == b"abc",
+                "call {call}"
+            );
+            assert!(rt; done.status == 6 || done.status == 0, "call {call}");
+            assert!(rt; call > 1 || done.status == 6, "call {call}");
+            assert_eq!(rt; done.err.taken(), b"".as_slice(), "call {call}");
+        }
+    }
+}
+
 #[test]
 fn a_failed_fetch_cannot_read(rt: HostRuntime) {
     let outside = Outside {
@@ -49,6 +102,19 @@ fn a_failed_fetch_cannot_read(rt: HostRuntime) {
     assert_eq!(rt; done.status, 5);
     assert_eq!(rt; done.out.taken(), b"".as_slice());
     assert_eq!(rt; done.err.taken(), b"cannot read a.cs\n".as_slice());
+}
+
+#[test]
+fn a_file_is_fetched_once(rt: HostRuntime) {
+    let outside = Outside {
+        shelf: &[2],
+        ..SOUND
+    };
+    let Ok(done) = command(&rt, rt.alloc(), &["a.cs"], FIRST.as_bytes(), outside) else {
+        panic!(rt; "no memory");
+    };
+    assert_eq!(rt; done.status, 0);
+    assert_eq!(rt; done.out.taken(), b"48\n".as_slice());
 }
 
 #[test]

@@ -2,6 +2,8 @@
 #![tactic(auto)]
 
 #[cfg(test)]
+mod asm;
+#[cfg(test)]
 mod bad_input;
 #[cfg(test)]
 mod bench;
@@ -10,8 +12,14 @@ mod commands;
 #[cfg(test)]
 mod failures;
 #[cfg(test)]
+mod frames;
+#[cfg(test)]
+mod instructions;
+#[cfg(test)]
 mod listings;
 #[cfg(test)]
 mod programs;
+#[cfg(test)]
+mod trials;
 #[cfg(test)]
 mod words;

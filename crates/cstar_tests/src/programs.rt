@@ -7,7 +7,11 @@ struct Row {
     out: &'static str,
 }
 
-static ROWS: [Row; 25] = [
+static ROWS: [Row; 26] = [
+    Row {
+        text: "shape [513]S; int:S p, q;\nmain() { with (S) { p = 1; q = scan(p, 0, CMC_combiner_add, CMC_upward, CMC_none, CMC_no_field, CMC_inclusive); printf(\"%d\", [512]q); } }",
+        out: "513",
+    },
     Row {
         text: "shape [8]S;\nint:S v;\nmain() { with (S) { v = 3; v = v + v; printf(\"%d\\n\", += v); } }\n",
         out: "48\n",

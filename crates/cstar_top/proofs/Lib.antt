@@ -1,2 +1,4 @@
 pub mod Asked
 pub mod Lines
+pub mod Listings
+pub mod Names

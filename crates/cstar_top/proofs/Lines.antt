@@ -1,5 +1,5 @@
 -- What a sink that took a whole line took of it.
-use Rattle.std.proofs.Common.{◌≡◌, ℕ, List, ◌++◌, ◌⊎◌, inl, inr, length, take, sym, ◌∙◌, subst, codes, refl, arith}
+use Rattle.std.proofs.Common.{◌≡◌, ◌<◌, ℕ, List, ◌++◌, ◌⊎◌, inl, inr, length, take, sym, ◌∙◌, subst, codes, refl, arith}
 use Rattle.cstar_top.specs.Reports.{PutsPartOfAnswer}
 use Rattle.std.proofs.Math.Seq.{take-length}
 use Rattle.cstar_top.specs.declared.answer.Answer.{Answer}
@@ -25,11 +25,11 @@ memory_line file A.WriteFault e = absurd (omega arith)
 memory_line file A.InputFault e = absurd (omega arith)
 memory_line file A.Memory e = refl
 
--- a status that is neither 6 nor 8 is the answer's
-pub status_is : (r s : ℕ) → (r ≡ s) ⊎ ((r ≡ 6) ⊎ (r ≡ 8)) → r ≡ 4 → s ≡ 4
-status_is r s (inl same) four = sym same ∙ four
-status_is r s (inr (inl six)) four = absurd (omega arith)
-status_is r s (inr (inr eight)) four = absurd (omega arith)
+-- a status below 6 is the answer's
+pub status_is : (n r s : ℕ) → n < 6 → (r ≡ s) ⊎ ((r ≡ 6) ⊎ (r ≡ 8)) → r ≡ n → s ≡ n
+status_is n r s below (inl same) is = sym same ∙ is
+status_is n r s below (inr (inl six)) is = absurd (omega arith)
+status_is n r s below (inr (inr eight)) is = absurd (omega arith)
 
 -- a prefix of an answer's line, or of the line of want of memory, whatever file they name
 pub part_of_either : {S : Type 0} → (agrees : S → List ℕ → Type 0) (s t : S) (file : List ℕ) (answer : Answer) (text : List ℕ) → line_of file answer ≡ text → TakesPrefix agrees s t text ⊎ TakesPrefix agrees s t (codes "out of memory\n") → PutsPartOfAnswer agrees s t file

@@ -1,5 +1,5 @@
 -- The faults by number, as they are printed.
-use Rattle.std.specs.Prelude.{ℕ, List, [], ◌∷◌, ◌==◌, codes, slice_index_or, if◌then◌else◌}
+use Rattle.std.specs.Prelude.{ℕ, ◌-◌, nat_lt, List, [], ◌∷◌, ◌==◌, codes, slice_index_or, if◌then◌else◌}
 
 -- the refusals of a file, from 0 for a form of the language that is not built yet
 abbrev pub refusals : List (List ℕ)
@@ -12,8 +12,16 @@ refusals =
     ∷ codes "E26 Constant" ∷ codes "E27 Depth" ∷ codes "E28 Space" ∷ codes "E29 Size" ∷ codes "E30 TooLong" ∷ codes "E31 ArrayDecl"
     ∷ codes "E32 ArrayUse" ∷ []
 
+-- the refusals of a listing, from 40
+abbrev pub listing_refusals : List (List ℕ)
+listing_refusals =
+    codes "E40 Listing" ∷ codes "E41 Target" ∷ codes "E42 Field" ∷ codes "E43 Stack" ∷ codes "E44 BackEdge" ∷ codes "E45 Set"
+    ∷ codes "E46 Operands" ∷ codes "E47 Space" ∷ codes "E48 Slots" ∷ []
+
 abbrev pub refusal_text : ℕ → List ℕ
-refusal_text number = slice_index_or refusals number (codes "E00 NotBuilt")
+refusal_text number =
+    if nat_lt number 40 then slice_index_or refusals number (codes "E00 NotBuilt")
+    else slice_index_or listing_refusals (number - 40) (codes "E00 NotBuilt")
 
 -- the faults of a run: 1 for an index out of its extent, 2 for a zero divisor
 abbrev pub fault_text : ℕ → List ℕ

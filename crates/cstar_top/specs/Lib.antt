@@ -1,5 +1,6 @@
 pub mod Answers
 pub mod Faults
+pub mod Listings
 pub mod Modes
 pub mod Reports
 pub mod Runs

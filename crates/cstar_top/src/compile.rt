@@ -23,9 +23,9 @@ const DEPTH: u8 = 27;
 const TOO_LONG: u8 = 30;
 
 /// How many units, and how many instructions, 32 bits can number.
-const MOST_NUMBERED: usize = u32::MAX as usize;
+pub const MOST_NUMBERED: usize = u32::MAX as usize;
 
-const FILE_START: Place = Place { line: 1, col: 1 };
+pub const FILE_START: Place = Place { line: 1, col: 1 };
 
 /// Why there is no image of a file: it is refused for the fault of this number at this place, or
 /// there is no memory.
@@ -77,7 +77,7 @@ pub fn not_built() -> NoImage {
     refused(NOT_BUILT, FILE_START)
 }
 
-fn refused(number: u8, place: Place) -> NoImage {
+pub fn refused(number: u8, place: Place) -> NoImage {
     NoImage::Refused { number, place }
 }
 

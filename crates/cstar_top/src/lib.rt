@@ -2,6 +2,7 @@
 #![tactic(auto)]
 
 mod answer;
+mod assemble;
 mod compile;
 mod drill;
 mod line;

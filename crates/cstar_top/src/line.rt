@@ -1,4 +1,4 @@
-ghost use Rattle.std.specs.Prelude.{◌≡◌, ◌≤◌, IfOk, OnOk, ◌++◌, List, ℕ, decimal, codes};
+ghost use Rattle.std.specs.Prelude.{◌≡◌, ◌<◌, ◌≤◌, IfOk, OnOk, ◌++◌, List, ℕ, decimal, codes};
 ghost use Rattle.cstar_top.specs.Answers.{line_of, at_place, at_position};
 ghost use Rattle.cstar_top.specs.Faults.{refusal_text, fault_text};
 
@@ -122,7 +122,7 @@ fn refusal_name(number: u8) -> &'static [u8]
     ensures { result.now ≡ refusal_text number }
 {
     if number > 32 {
-        return b"E00 NotBuilt";
+        return listing_refusal_name(number);
     }
     match number {
         0 => b"E00 NotBuilt",
@@ -159,5 +159,27 @@ fn refusal_name(number: u8) -> &'static [u8]
         31 => b"E31 ArrayDecl",
         32 => b"E32 ArrayUse",
         _ => unreachable!(),
+    }
+}
+
+/// The refusals of a listing.
+fn listing_refusal_name(number: u8) -> &'static [u8]
+    requires { 32 < number }
+    ensures { result.now ≡ refusal_text number }
+{
+    if number > 48 {
+        return b"E00 NotBuilt";
+    }
+    match number {
+        40 => b"E40 Listing",
+        41 => b"E41 Target",
+        42 => b"E42 Field",
+        43 => b"E43 Stack",
+        44 => b"E44 BackEdge",
+        45 => b"E45 Set",
+        46 => b"E46 Operands",
+        47 => b"E47 Space",
+        48 => b"E48 Slots",
+        _ => b"E00 NotBuilt",
     }
 }

@@ -1,4 +1,4 @@
-ghost use Rattle.std.specs.Prelude.{◌≡◌, ◌≢◌, ◌≤◌, ℕ, List, true, false, ◌⊎◌, map, codes};
+ghost use Rattle.std.specs.Prelude.{◌≡◌, ◌≢◌, ◌≤◌, ℕ, List, true, false, ◌⊎◌, map, codes, IfOk};
 ghost use Rattle.std.specs.String.{string_bytes};
 ghost use Rattle.cstar_io.specs.Faults.{RisesBy};
 ghost use Rattle.cstar_io.specs.Output.{Takes, TakesPrefix};
@@ -7,14 +7,17 @@ ghost use Rattle.cstar_words.specs.Reading.{is_command};
 ghost use Rattle.cstar_top.specs.declared.answer.Answer.{Answer};
 ghost use Rattle.cstar_top.specs.declared.answer.Answer.TheVariants as A;
 ghost use Rattle.cstar_top.specs.Answers.{line_of, status_of, usage_line};
+ghost use Rattle.cstar_top.specs.Listings.{IsListing, TakesListing, TakesPartOfListing};
+ghost use Rattle.paris_code.specs.Listing.{listing};
 ghost use Rattle.cstar_top.specs.Modes.{AsksFor, HasBudget, LeavesInput, budget, leaves_input, named};
 ghost use Rattle.cstar_top.specs.Reports.{CannotFetch, PutsAnswer, PutsPartOfAnswer};
 
 use crate::answer::Answer;
+use crate::assemble::assembled;
 use crate::compile::{FILE_LIMIT, NoImage, accepted, compile, not_built, too_long};
 use crate::drill::drill;
 use crate::report::report;
-use crate::run::run_image;
+use crate::run::{list_image, run_image};
 use cstar_io::{Gate, Shelf, ShelfErr, Sink, Source};
 use cstar_words::{Mode, Options, WordsErr, read};
 use image_check::Sound;
@@ -25,6 +28,7 @@ use std::thread::Threads;
 const POINT_LIMIT: u32 = 1_073_741_824;
 
 /// What the command comes to.
+#[tactic(auto, using(crate::proofs::Listings::nothing_taken))]
 fn answer<S: Shelf, I: Source, O: Sink>(
     alloc: Global,
     options: &Options,
@@ -37,6 +41,8 @@ fn answer<S: Shelf, I: Source, O: Sink>(
     ensures unreadable { status_of result ≡ 5 → (result ≡ A.CannotRead) × (out.new ≡ out.old) × (input.new ≡ input.old)
         × CannotFetch S.faults S.last_failed shelf.old shelf.new options.now.file.now }
     ensures stopped { status_of result ≡ 4 → result ≡ A.Stopped (budget options.now.mode options.now.turns) }
+    ensures listed { options.now.mode ≡ M.List → status_of result ≡ 0 → TakesListing O.agrees out.old out.new }
+    ensures part { options.now.mode ≡ M.List → TakesPartOfListing O.agrees out.old out.new }
     ensures silent { options.now.mode ≡ M.Check → out.new ≡ out.old }
     ensures unread { leaves_input options.now.mode ≡ true → input.new ≡ input.old }
     ensures write_fault { status_of result ≡ 6 → RisesBy (O.faults out.old) (O.faults out.new) }
@@ -74,7 +80,10 @@ fn answer_to<I: Source, O: Sink>(
     ensures named { status_of result ≢ 2 }
     ensures readable { status_of result ≢ 5 }
     ensures refused { status_of result ≡ 3 → (out.new ≡ out.old) × (input.new ≡ input.old) }
-    ensures stopped { status_of result ≡ 4 → (options.now.mode ≡ M.Run) × (result ≡ A.Stopped options.now.turns) }
+    ensures stopped { status_of result ≡ 4 → (options.now.mode ≢ M.Drill) × (result ≡ A.Stopped options.now.turns) }
+    ensures listed { options.now.mode ≡ M.List → status_of result ≡ 0 → TakesListing O.agrees out.old out.new }
+    ensures part { options.now.mode ≡ M.List → TakesPartOfListing O.agrees out.old out.new }
+    ensures assembled { options.now.mode ≡ M.Asm → status_of result ≢ 3 → status_of result ≢ 8 → IsListing text.now }
     ensures silent { options.now.mode ≡ M.Check → out.new ≡ out.old }
     ensures unread { leaves_input options.now.mode ≡ true → input.new ≡ input.old }
     ensures write_fault { status_of result ≡ 6 → RisesBy (O.faults out.old) (O.faults out.new) }
@@ -90,11 +99,15 @@ fn answer_to<I: Source, O: Sink>(
             Ok(_) => Answer::Done,
             Err(no_image) => refusal(no_image),
         },
-        Mode::List => match accepted(alloc, text) {
-            Ok(_) => refusal(not_built()),
+        Mode::List => match compiled(alloc, text) {
+            Ok(sound) => list_image(&sound, out),
             Err(no_image) => refusal(no_image),
         },
-        Mode::Drill | Mode::Asm | Mode::Resume => {
+        Mode::Asm => match runnable_listing(alloc, options, text) {
+            Ok(sound) => run_image(alloc, &sound, options, input, out),
+            Err(no_image) => refusal(no_image),
+        },
+        Mode::Drill | Mode::Resume => {
             if text.len() > limit(options.mode) as usize {
                 refusal(too_long())
             } else {
@@ -104,13 +117,30 @@ fn answer_to<I: Source, O: Sink>(
     }
 }
 
-/// The image of a program that is to be run. A run that is to be listed or saved is not built yet.
+/// The image of a program.
+fn compiled(alloc: Global, text: &[u8]) -> Result<Sound, NoImage> {
+    let program = accepted(alloc, text)?;
+    compile(alloc, &program.typed)
+}
+
+/// The image of a program that is to be run. A run that is to be saved is not built yet.
 fn runnable(alloc: Global, options: &Options, text: &[u8]) -> Result<Sound, NoImage> {
     let program = accepted(alloc, text)?;
-    if options.listing || options.save.is_some() {
+    if options.save.is_some() {
         return Err(not_built());
     }
     compile(alloc, &program.typed)
+}
+
+/// The image of a listing that is to be run. A run that is to be saved is not built yet.
+fn runnable_listing(alloc: Global, options: &Options, text: &[u8]) -> Result<Sound, NoImage>
+    ensures { IfOk result (λ sound. listing sound ≡ text.now) }
+{
+    let sound = assembled(alloc, text)?;
+    if options.save.is_some() {
+        return Err(not_built());
+    }
+    Ok(sound)
 }
 
 fn refusal(no_image: NoImage) -> Answer
@@ -152,6 +182,8 @@ pub fn cstar<R: Threads + Sync, S: Shelf, I: Source, O: Sink, E: Sink, G: Gate +
     ensures unreadable { result ≡ 5 → (out.new ≡ out.old) × (input.new ≡ input.old)
         × CannotFetch S.faults S.last_failed shelf.old shelf.new (named (map string_bytes words.now))
         × Takes E.agrees err.old err.new (line_of (named (map string_bytes words.now)) A.CannotRead) }
+    ensures listing { AsksFor M.List (map string_bytes words.now) → result ≡ 0 → TakesListing O.agrees out.old out.new }
+    ensures part_of_listing { AsksFor M.List (map string_bytes words.now) → TakesPartOfListing O.agrees out.old out.new }
     ensures silent { AsksFor M.Check (map string_bytes words.now) → out.new ≡ out.old }
     ensures unread { LeavesInput (map string_bytes words.now) → input.new ≡ input.old }
     ensures write_fault { result ≡ 6 → RisesBy (O.faults out.old) (O.faults out.new) ⊎ RisesBy (E.faults err.old) (E.faults err.new) }

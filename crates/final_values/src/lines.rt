@@ -13,17 +13,14 @@ use paris_code::{Field, Final};
 use phase_gate::Phases;
 use vp_sets::Geometry;
 
-/// Puts a newline, and then one line for each file-scope parallel variable in order of
-/// declaration: its name, a colon, and for each position in order a space and the value there in
-/// decimal. `Failed` where the sink failed; then nothing more is put.
+/// Puts one line for each file-scope parallel variable in order of declaration: its name, a colon,
+/// and for each position in order a space and the value there in decimal. `Failed` where the sink
+/// failed; then nothing more is put.
 pub fn put_finals<P: Phases, O: Sink>(sound: &Sound, phases: &P, out: &mut O) -> Result<(), Failed>
     requires { P.shapes phases.now ≡ shapes_of sound.now }
     ensures failed { OnErr result (RisesBy (O.faults out.old) (O.faults out.new)) }
     ensures other { OnOk result (O.faults out.new ≡ O.faults out.old) }
 {
-    if let Err(failed) = out.put(b"\n") {
-        return Err(failed);
-    }
     'finals: for last in sound.image().finals.iter() {
         if let Err(failed) = put_final(sound, last, phases, out) {
             return Err(failed);

@@ -1,4 +1,4 @@
-use Rattle.std.proofs.Common.{◌∙◌, List, ℕ, map, subst, sym, ap, codes, refl, arith}
+use Rattle.std.proofs.Common.{◌∙◌, List, ℕ, map, subst, sym, ap, codes, refl, arith, lit<}
 use Rattle.std.specs.String.{string_bytes}
 use Rattle.cstar_top.proofs.Asked.{budget_is, mode_is, named_is}
 use Rattle.cstar_io.specs.Output.{Takes}
@@ -7,6 +7,7 @@ use Rattle.cstar_top.specs.declared.answer.Answer.TheVariants as A
 use Rattle.cstar_top.specs.Answers.{line_of, status_of, usage_line}
 use Rattle.cstar_top.specs.Modes.{budget, leaves_input, named}
 use Rattle.cstar_top.proofs.Lines.{part_of_either, status_is}
+use Rattle.cstar_top.proofs.Listings.{nothing_taken}
 use Rattle.cstar_top.proofs.top.cstar.Goals as goal
 
 pub returns-in-Ok-clause-counts : goal.returns-in-Ok-clause-counts
@@ -25,7 +26,7 @@ pub returns-in-Ok-clause-stopped : goal.returns-in-Ok-clause-stopped
 returns-in-Ok-clause-stopped g c four =
     let words = map string_bytes c.args.words.now in
     let options = c.in-Ok.options in
-    let status = status_is c.report.result (status_of c.answer-answer.result) c.report.ensures.status four in
+    let status = status_is 4 c.report.result (status_of c.answer-answer.result) (lit< tt) c.report.ensures.status four in
     let own = c.report.ensures.own (four ∙ sym status) (λ six. omega arith) (λ eight. omega arith) in
     let name = ap (λ (name : List ℕ). line_of name c.answer-answer.result) (c.as_bytes.ensures.value ∙ sym (named_is words options c.in-Ok.ensures.reads)) in
     let is = ap (λ (answer : Answer). line_of (named words) answer) (c.answer-answer.ensures.stopped status) in (
@@ -43,3 +44,19 @@ pub returns-in-Err-Memory-clause-part : goal.returns-in-Err-Memory-clause-part
 unfolding line_of
 returns-in-Err-Memory-clause-part g c six =
     part_of_either g.E.Sink.agrees c.args.err.now c.report-in-Err-Memory.new.err (named (map string_bytes c.args.words.now)) A.Memory (codes "out of memory\n") refl (c.report-in-Err-Memory.ensures.own_part six)
+
+pub returns-in-Ok-clause-listing : goal.returns-in-Ok-clause-listing
+returns-in-Ok-clause-listing g c asks none =
+    c.answer-answer.ensures.listed
+    (mode_is _ c.in-Ok.options _ c.in-Ok.ensures.reads asks)
+    (status_is 0 c.report.result (status_of c.answer-answer.result) (lit< tt) c.report.ensures.status none)
+
+pub returns-in-Ok-clause-part_of_listing : goal.returns-in-Ok-clause-part_of_listing
+returns-in-Ok-clause-part_of_listing g c asks =
+    c.answer-answer.ensures.part (mode_is _ c.in-Ok.options _ c.in-Ok.ensures.reads asks)
+
+pub returns-in-Err-Usage-clause-part_of_listing : goal.returns-in-Err-Usage-clause-part_of_listing
+returns-in-Err-Usage-clause-part_of_listing g c asks = nothing_taken g.O.Sink.agrees c.args.out.now
+
+pub returns-in-Err-Memory-clause-part_of_listing : goal.returns-in-Err-Memory-clause-part_of_listing
+returns-in-Err-Memory-clause-part_of_listing g c asks = nothing_taken g.O.Sink.agrees c.args.out.now
