@@ -5,7 +5,7 @@
  */
 #include <stdio.h>
 
-#define SIDE 9
+#define SIDE 7
 #define DEGREE 256
 
 shape [SIDE][SIDE]plate;

@@ -5,11 +5,11 @@
  */
 #include <stdio.h>
 
-#define ROWS 21
-#define COLUMNS 60
+#define ROWS 15
+#define COLUMNS 42
 #define ONE 4096
 #define BITS 12
-#define ROUNDS 30
+#define ROUNDS 20
 
 shape [ROWS][COLUMNS]plane;
 char:plane count;
@@ -17,8 +17,8 @@ char:plane count;
 void iterate()
 {
     int:plane x, y, next;
-    int:plane c_x = (pcoord(1) - 42) * ONE / 20;
-    int:plane c_y = (pcoord(0) - 10) * ONE / 9;
+    int:plane c_x = (pcoord(1) - 29) * ONE / 14;
+    int:plane c_y = (pcoord(0) - 7) * ONE / 6;
     int i;
 
     for (i = 0; i < ROUNDS; i++)
@@ -33,7 +33,7 @@ void iterate()
 /* The longer a point stays, the darker. */
 int shade(int rounds)
 {
-    return rounds == ROUNDS ? '#' : rounds > 9 ? '+' : rounds > 5 ? ':' : rounds > 3 ? '.' : ' ';
+    return rounds == ROUNDS ? '#' : rounds > 7 ? '+' : rounds > 4 ? ':' : rounds > 2 ? '.' : ' ';
 }
 
 main()

@@ -1,15 +1,15 @@
 /*
- * Six queens on a board of six by six, none of which may take another. There
+ * Five queens on a board of five by five, none of which may take another. There
  * is one position for each way to put one queen into each row: the digits of
- * its number to the base 6 are the columns. All ways are tried at once, and
+ * its number to the base 5 are the columns. All ways are tried at once, and
  * those that are left number themselves and send their numbers to a list.
  */
 #include <stdio.h>
 
-#define QUEENS 6
-#define ROOM 10         /* solutions that the list has room for */
+#define QUEENS 5
+#define ROOM 16         /* solutions that the list has room for */
 
-shape [46656]ways;      /* 6 to the power of 6 */
+shape [3125]ways;       /* 5 to the power of 5 */
 shape [ROOM]list;
 char:ways column[QUEENS];
 int:list solution;
@@ -55,7 +55,7 @@ main()
     }
     printf("%d of %d ways\n", found, positionsof(ways));
     for (i = 0; i < found; i++) {
-        for (power = 7776; power > 0; power /= QUEENS)
+        for (power = 625; power > 0; power /= QUEENS)
             printf("%d ", [i]solution / power % QUEENS);
         printf("\n");
     }

@@ -9,7 +9,7 @@
 #define ROUNDS 8
 #define SIDE 32768
 
-shape [2048]generators;
+shape [512]generators;
 unsigned int:generators state;
 
 /* Each position's next number, 0 to SIDE - 1. */

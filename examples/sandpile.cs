@@ -1,12 +1,12 @@
 /*
- * A sandpile. 300 grains lie on one position of a table. Wherever four or more
+ * A sandpile. 100 grains lie on one position of a table. Wherever four or more
  * lie, four fall, one to each neighbour; all such positions fall at once, and
  * so on until none falls. Grains that reach the rim stay there.
  */
 #include <stdio.h>
 
-#define SIDE 15
-#define GRAINS 300
+#define SIDE 11
+#define GRAINS 100
 
 shape [SIDE][SIDE]table;
 int:table grains;
