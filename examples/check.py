@@ -1,10 +1,22 @@
 #!/usr/bin/env python3
-"""Runs each example by the cstar that is named, and compares what it prints with what is expected."""
+"""Compares the examples with the copies that the gate runs. With --copy the copies are made anew, and
+with --binary CSTAR each example is run by that command and its output compared."""
+import argparse
 import pathlib
 import subprocess
 import sys
 
 HERE = pathlib.Path(__file__).resolve().parent
+CRATE = HERE.parent / "crates" / "example_runs"
+
+
+def wanted_files():
+    """What the crate is to hold, by path."""
+    names = sorted(file.stem for file in HERE.glob("*.cs"))
+    files = {f"data/{file.name}": file.read_bytes() for kind in ("cs", "in", "out") for file in HERE.glob(f"*.{kind}")}
+    files["args"] = "".join(f"{name}\n" for name in names).encode()
+    files["stdout"] = "".join(f"{name}: as expected\n" for name in names).encode()
+    return names, files
 
 
 def runs_well(binary, name):
@@ -15,10 +27,22 @@ def runs_well(binary, name):
 
 
 def main():
-    binary = str(pathlib.Path(sys.argv[1]).resolve())
-    names = sorted(file.stem for file in HERE.glob("*.cs"))
-    wrong = [name for name in names if not runs_well(binary, name)]
-    print("".join(f"{name} printed something else\n" for name in wrong) + f"{len(names)} examples, {len(wrong)} wrong")
+    words = argparse.ArgumentParser(description=__doc__)
+    words.add_argument("--copy", action="store_true")
+    words.add_argument("--binary")
+    given = words.parse_args()
+    names, files = wanted_files()
+    if given.copy:
+        (CRATE / "data").mkdir(exist_ok=True)
+        for path, text in files.items():
+            (CRATE / path).write_bytes(text)
+    there = {f"data/{file.name}" for file in (CRATE / "data").glob("*")}
+    wrong = [path for path, text in files.items() if not (CRATE / path).exists() or (CRATE / path).read_bytes() != text]
+    wrong += sorted(there - set(files))
+    if given.binary:
+        binary = str(pathlib.Path(given.binary).resolve())
+        wrong += [f"{name} printed something else" for name in names if not runs_well(binary, name)]
+    print("\n".join(wrong) or f"{len(names)} examples, all as they should be")
     return bool(wrong)
 
 
