@@ -285,5 +285,6 @@ number_below ty w h = fits_below ty w (and_right (is_none ty.shape) (fits ty w) 
 
 -- the answer for a constant expression, and for one that is not constant
 pub constant_given : (e : TExpr) (r : Option ℕ) → is_constant e ≡ true → r ≡ value_of e → IsConstantOf e r
+unfolding IsConstantOf
 constant_given e (Some v) h q = (h, subst (λ o. IsValueOf e o) (sym q) (value_means e h))
 constant_given e None h q = inr (subst (λ o. IsValueOf e o) (sym q) (value_means e h))
