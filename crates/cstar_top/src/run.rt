@@ -38,15 +38,43 @@ pub fn run_image<I: Source, O: Sink>(
         Err(_) => return Answer::Memory,
     };
     phases.choose(options.winner);
-    if options.listing
-        && let Err(_) = print(sound.image(), out)
-    {
+    if let Err(_) = put_beginning(sound, options, out) {
         return Answer::WriteFault;
     }
+    run_on(alloc, sound, options, &mut phases, input, out)
+}
+
+/// Puts what stands before a run's own output: with a listing the listing.
+fn put_beginning<O: Sink>(sound: &Sound, options: &Options, out: &mut O) -> Result<(), Failed>
+    ensures failed { OnErr result (RisesBy (O.faults out.old) (O.faults out.new)) }
+    ensures other { OnOk result (O.faults out.new ≡ O.faults out.old) }
+{
+    if options.listing {
+        return print(sound.image(), out);
+    }
+    Ok(())
+}
+
+/// Runs an image on its phases. What the run comes to, once all that it printed is sent on.
+fn run_on<P: Phases, I: Source, O: Sink>(
+    alloc: Global,
+    sound: &Sound,
+    options: &Options,
+    phases: &mut P,
+    input: &mut I,
+    out: &mut O,
+) -> Answer
+    requires { P.shapes phases.old ≡ shapes_of sound.now }
+    ensures end { IsEndOfRun result }
+    ensures stopped { status_of result ≡ 4 → result ≡ A.Stopped options.now.turns }
+    ensures write_fault { status_of result ≡ 6 → RisesBy (O.faults out.old) (O.faults out.new) }
+    ensures input_fault { status_of result ≡ 7 → RisesBy (I.faults input.old) (I.faults input.new) }
+    ensures count { status_of result ≢ 6 → O.faults out.new ≡ O.faults out.old }
+{
     let turns = options.turns;
-    let Outcome { end, steps, .. } = run(alloc, sound, turns, &mut phases, input, out);
+    let Outcome { end, steps, .. } = run(alloc, sound, turns, phases, input, out);
     match end {
-        End::Done => ended(sound, options, steps, &phases, out, Answer::Done),
+        End::Done => ended(sound, options, steps, phases, out, Answer::Done),
         End::Fault {
             kind,
             place,
@@ -55,7 +83,7 @@ pub fn run_image<I: Source, O: Sink>(
             sound,
             options,
             steps,
-            &phases,
+            phases,
             out,
             Answer::Fault {
                 kind,
@@ -67,7 +95,7 @@ pub fn run_image<I: Source, O: Sink>(
             sound,
             options,
             steps,
-            &phases,
+            phases,
             out,
             Answer::Stopped { turns },
         ),
