@@ -1,8 +1,11 @@
 //! The command `cstar`: the top call over the system's files and streams.
 #![tactic(auto)]
 
+mod prompt;
+
+use crate::prompt::Prompt;
 use cstar_io::{Open, RealShelf, RealSink, RealSource};
-use std::io::{ErrorKind, Read, Write};
+use std::io::{ErrorKind, IsTerminal, Read, Write};
 use std::process::ExitCode;
 use std::rt::{Env, Files};
 use std::thread::Threads;
@@ -21,22 +24,25 @@ fn words<R: Env + AllocGlobal>(rt: &R) -> io::Result<Vec<String>> {
     Ok(args.collect(rt.alloc())?)
 }
 
-/// The status of the command on these words.
+/// The status of the command on these words. Where the input is a terminal, output is sent on at
+/// once.
 fn status<R, I, O, E>(rt: &R, words: &[String], input: I, out: O, err: E) -> u8
 where
     R: Files + AllocGlobal + Threads + Sync,
-    I: Read + Drop,
+    I: Read + IsTerminal + Drop,
     O: Write + Drop,
     E: Write + Drop,
 {
     let alloc = rt.alloc();
-    let (Ok(mut input), Ok(mut out), Ok(mut err)) = (
+    let is_typed = input.is_terminal();
+    let (Ok(mut input), Ok(out), Ok(mut err)) = (
         RealSource::new(alloc, input),
         RealSink::new(alloc, out),
         RealSink::new(alloc, err),
     ) else {
         return NO_MEMORY;
     };
+    let mut out = Prompt::new(out, is_typed);
     let mut shelf = RealShelf::new(rt, alloc);
     cstar_top::cstar(
         rt, alloc, words, &mut shelf, &mut input, &mut out, &mut err, &Open,
