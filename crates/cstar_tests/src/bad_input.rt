@@ -9,7 +9,7 @@ struct Refusal {
     err: &'static str,
 }
 
-static REFUSALS: [Refusal; 43] = [
+static REFUSALS: [Refusal; 45] = [
     Refusal {
         text: "089",
         err: "a.cs:1:2: E01 BadByte\n",
@@ -181,6 +181,14 @@ static REFUSALS: [Refusal; 43] = [
     Refusal {
         text: "shape [1048576]S;\nint:S a, c, d, e, f, g, h, i, j, k, l, m, n, o, p, q, r, s, t, u, v, w, x, y, z, A, B, C, D, E, F;\nbool:S G, H, I, J, K, L, M, N, O, P, Q, R, T, U, V, W, X, Y, Z, aa, ab, ac, ad, ae, af, ag, ah, ai, aj, ak, al;\nmain() { }",
         err: "a.cs:4:11: E28 Space\n",
+    },
+    Refusal {
+        text: "shape [1048576]S; int:S a[31]; bool:S b[31]; main() { }",
+        err: "a.cs:1:56: E28 Space\n",
+    },
+    Refusal {
+        text: "shape [1]S1, [1]S2, [1]S3, [1]S4, [1]S5, [1]S6, [1]S7, [1]S8, [1]S9, [1]S10, [1]S11, [1]S12, [1]S13, [1]S14, [1]S15, [1]S16, [1]S17, [1]S18, [1]S19, [1]S20, [1]S21, [1]S22, [1]S23, [1]S24, [1]S25, [1]S26, [1]S27, [1]S28, [1]S29, [1]S30, [1]S31, [1]S32, [1]S33, [1]S34, [1]S35, [1]S36, [1]S37, [1]S38, [1]S39, [1]S40, [1]S41, [1]S42, [1]S43, [1]S44, [1]S45, [1]S46, [1]S47, [1]S48, [1]S49, [1]S50, [1]S51, [1]S52, [1]S53, [1]S54, [1]S55, [1]S56, [1]S57, [1]S58, [1]S59, [1]S60, [1]S61, [1]S62, [1]S63, [1]S64, [1]S65; main() { }",
+        err: "a.cs:1:513: E29 Size\n",
     },
 ];
 
