@@ -80,7 +80,7 @@ fn a_failed_put_leaves_the_bytes_before_it(rt: HostRuntime) {
             };
             assert!(rt; b"abc".starts_with(done.out.taken()), "call {call}");
             assert!(rt;
-                done.status == 6 || done.out.taken() == b"abc",
+                done.status == 6 || done.out.taken() == b"abc".as_slice(),
                 "call {call}"
             );
             assert!(rt; done.status == 6 || done.status == 0, "call {call}");

@@ -1,21 +1,19 @@
 -- Small computed cases of the typing rules and of the room.
 use Rattle.std.proofs.Common.{refl}
-use Rattle.std.specs.Prelude.{◌≡◌, ℕ, ◌-◌, ◌^◌, List, [], ◌∷◌, true, false, pos, negsuc, Option, Some, None}
+use Rattle.std.specs.Prelude.{◌≡◌, [], ◌∷◌, true, false, pos, Some, None}
 use Rattle.cstar_base.specs.declared.elem.Elem.{Elem}
 use Rattle.cstar_base.specs.declared.operators.Op.TheVariants as O
-use Rattle.cstar_base.specs.Numbers.{number_of, residue, truth_of}
+use Rattle.cstar_base.specs.Numbers.{number_of, residue}
 use Rattle.cstar_base.specs.Numbers.{converted as converted_word}
-use Rattle.cstar_base.specs.Operators.{difference_of, is_below, operand, operate, outcome, divides, quotient_of, sum_of}
+use Rattle.cstar_base.specs.Operators.{operate, divides}
 use Rattle.cstar_tree.specs.declared.syntax.AssignOp.TheVariants as A
 use Rattle.cstar_tree.specs.declared.syntax.BinaryOp.TheVariants as B
-use Rattle.cstar_tree.specs.declared.syntax.PrefixOp.TheVariants as P
 use Rattle.cstar_tree.specs.declared.typed.Format.TheVariants as F
 use Rattle.cstar_tree.specs.declared.typed.Piece.TheVariants as C
-use Rattle.cstar_tree.specs.Constants.{Constant, an_int, axis_among, cast_to, chosen, combined, negated, number, operated, prefixed, product, selected, signed_by, truth, with_both}
+use Rattle.cstar_tree.specs.Constants.{Constant, an_int, axis_among, cast_to, chosen, combined, operated, product, selected, with_both}
 use Rattle.cstar_tree.specs.Conversions.{common, int, promoted, unsigned}
 use Rattle.cstar_tree.specs.FileScopes.{extent_of}
-use Rattle.cstar_tree.specs.Formats.{conversions, form_behind, format_of, pieces_behind, pieces_of}
-use Rattle.cstar_tree.specs.Headers.{Reached}
+use Rattle.cstar_tree.specs.Formats.{form_behind, format_of, pieces_behind, pieces_of}
 use Rattle.cstar_tree.specs.Instances.{first_met, is_met}
 use Rattle.cstar_tree.specs.Operations.{assigned_elem, left_elem, result_elem, right_elem}
 use Rattle.cstar_tree.specs.Room.{beside, blocks}

@@ -1,5 +1,5 @@
 -- The variables of blocks: where each begins to be known.
-use Rattle.std.specs.Prelude.{ℕ, ◌+◌, ℤ, pos, negsuc, List, [], ◌∷◌, Bool, true, Option, Some, None}
+use Rattle.std.specs.Prelude.{◌+◌, ℤ, pos, negsuc, List, [], ◌∷◌, true, Option, Some, None}
 use Rattle.cstar_tree.specs.declared.syntax.Declaration.{Declaration}
 use Rattle.cstar_tree.specs.declared.syntax.Declarator.{Declarator}
 use Rattle.cstar_tree.specs.declared.syntax.Expr.{Expr}

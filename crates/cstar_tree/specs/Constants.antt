@@ -1,5 +1,5 @@
 -- Constant expressions: which expressions are constant by their form, and their values.
-use Rattle.std.specs.Prelude.{ℕ, ◌+◌, ◌-◌, ◌*◌, ◌^◌, ◌==◌, nat_lt, not, Bool, true, false, ℤ, pos, negsuc, List, [], ◌∷◌, length, slice_get, Option, Some, None, if◌then◌else◌}
+use Rattle.std.specs.Prelude.{ℕ, ◌-◌, ◌*◌, ◌^◌, ◌==◌, nat_lt, not, true, ℤ, pos, negsuc, List, [], ◌∷◌, length, slice_get, Option, Some, None, if◌then◌else◌}
 use Rattle.std.specs.Option.{option_map}
 use Rattle.cstar_base.specs.Numbers.{number_of}
 use Rattle.cstar_base.specs.Numbers.{converted as converted_word}

@@ -1,5 +1,5 @@
 -- Promotions and conversions: the types of operands, and the nodes that bring a value to a type.
-use Rattle.std.specs.Prelude.{◌≡◌, refl, ℕ, Bool, true, false, ◌&&◌, nat_lt, Option, Some, None, List, [], ◌∷◌, Box, if◌then◌else◌}
+use Rattle.std.specs.Prelude.{◌≡◌, refl, ℕ, true, false, ◌&&◌, nat_lt, Option, Some, None, List, [], ◌∷◌, Box, if◌then◌else◌}
 use Rattle.std.specs.declared.alloc.Global.{Global}
 use Rattle.cstar_base.specs.declared.elem.Elem.{Elem}
 use Rattle.cstar_tree.specs.declared.typed.TExpr.{TExpr}

@@ -37,7 +37,7 @@ use Rattle.cstar_tree.specs.Conversions.{AreFitted, ArePromoted, AreSpread, IsCo
 use Rattle.cstar_tree.specs.Operations.{assigned_elem, folds, left_elem, many, one, result_elem, right_elem, sends, sign_of, target_of}
 use Rattle.cstar_tree.specs.Constants.{axis_of, product}
 use Rattle.cstar_tree.specs.Formats.{conversions, pieces_of}
-use Rattle.cstar_tree.specs.Headers.{Leads, Placed, Program, Reached, Returns, a_value, header_place, nothing, parameter_types, returns_of, unknown}
+use Rattle.cstar_tree.specs.Headers.{Leads, Placed, Program, Returns, a_value, header_place, nothing, parameter_types, returns_of, unknown}
 
 -- a name stands for a variable of this type
 abbrev pub IsVariable : Here → Name → Variable → VariableType → Type 0

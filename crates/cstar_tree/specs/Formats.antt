@@ -1,6 +1,5 @@
 -- The text of `printf`, cut into pieces.
 use Rattle.std.specs.Prelude.{ℕ, ◌+◌, ◌==◌, List, [], ◌∷◌, ◌++◌, Option, Some, None, if◌then◌else◌}
-use Rattle.std.specs.Option.{option_map}
 use Rattle.cstar_tree.specs.declared.typed.Format.{Format}
 use Rattle.cstar_tree.specs.declared.typed.Format.TheVariants as F
 use Rattle.cstar_tree.specs.declared.typed.Piece.{Piece}

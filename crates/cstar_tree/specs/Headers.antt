@@ -1,5 +1,5 @@
 -- The headers of functions, and the program that a call stands in.
-use Rattle.std.specs.Prelude.{◌≡◌, ℕ, ◌+◌, List, [], ◌∷◌, Bool, true, false, Option, Some, None, slice_get}
+use Rattle.std.specs.Prelude.{◌≡◌, ℕ, ◌+◌, List, [], ◌∷◌, false, Option, Some, None, slice_get}
 use Rattle.cstar_tree.specs.declared.syntax.Function.{Function}
 use Rattle.cstar_tree.specs.declared.syntax.Parameter.{Parameter}
 use Rattle.cstar_tree.specs.declared.syntax.ResultType.{ResultType}

@@ -1,5 +1,5 @@
 -- The nodes of a file's tree, counted for the bound on its size.
-use Rattle.std.specs.Prelude.{ℕ, ◌+◌, List, [], ◌∷◌, ◌++◌, map, length, slice_get, Option, Some, None}
+use Rattle.std.specs.Prelude.{ℕ, ◌+◌, List, [], ◌∷◌, map, length, slice_get, Option, Some, None}
 use Rattle.cstar_tree.specs.declared.syntax.Block.{Block}
 use Rattle.cstar_tree.specs.declared.syntax.Declaration.{Declaration}
 use Rattle.cstar_tree.specs.declared.syntax.Declarator.{Declarator}
@@ -18,10 +18,9 @@ use Rattle.cstar_tree.specs.BlockScopes.{behind_declarations, behind_declarator,
 use Rattle.cstar_tree.specs.FileScopes.{Known, behind_item, behind_shape, behind_variable, file_known, file_place, functions_named, nothing_known}
 use Rattle.cstar_tree.specs.Headers.{Placed, Program, Reached, body_place}
 use Rattle.cstar_tree.specs.Instances.{program_of}
-use Rattle.cstar_tree.specs.Room.{total}
 use Rattle.cstar_tree.specs.Scopes.{Binding, Here, Meaning, a_function, a_shape, a_variable, meaning, shape_of, under, written_type}
 use Rattle.cstar_tree.specs.SyntaxParts.{expressions_of, initial_values, parts_of, statements_of}
-use Rattle.cstar_tree.specs.TypedParts.{optional}
+use Rattle.cstar_tree.specs.TypedParts.{optional, total}
 
 -- how many elements a name with a right index has
 abbrev pub length_or_one : Option ℕ → ℕ

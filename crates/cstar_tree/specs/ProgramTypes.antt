@@ -1,5 +1,5 @@
 -- The typed program of a file.
-use Rattle.std.specs.Prelude.{◌≡◌, ℕ, ◌+◌, List, [], ◌∷◌, ◌++◌, Bool, true, Option, Some, None, Vec, length, is_some, if◌then◌else◌, slice_get}
+use Rattle.std.specs.Prelude.{◌≡◌, ℕ, ◌+◌, List, [], ◌∷◌, ◌++◌, Option, Some, None, Vec, slice_get}
 use Rattle.std.specs.declared.alloc.Global.{Global}
 use Rattle.cstar_base.specs.declared.elem.Elem.{Elem}
 use Rattle.cstar_base.specs.declared.operators.Place.{Place}
@@ -22,7 +22,7 @@ use Rattle.cstar_tree.specs.declared.typed.ValueType.{ValueType}
 use Rattle.cstar_tree.specs.declared.typed.VarInfo.{VarInfo}
 use Rattle.cstar_tree.specs.BlockScopes.{declared_type}
 use Rattle.cstar_tree.specs.Constants.{Constant, cast_to, constant}
-use Rattle.cstar_tree.specs.FileScopes.{Known, behind_item, behind_shape, behind_variable, defined_extents, file_functions, file_known, file_place, functions_named, nothing_known}
+use Rattle.cstar_tree.specs.FileScopes.{Known, behind_item, behind_shape, behind_variable, defined_extents, file_known, file_place, functions_named, nothing_known}
 use Rattle.cstar_tree.specs.Headers.{Placed, Program, Reached, Returns, a_value, behind_parameter, body_place, header_place, nothing, returns_of}
 use Rattle.cstar_tree.specs.Instances.{program_of}
 use Rattle.cstar_tree.specs.Room.{needs}

@@ -1,6 +1,6 @@
 -- The room that a typed program needs on the machine, in bits for each position of a shape. The
 -- rules of room are this profile's own.
-use Rattle.std.specs.Prelude.{ℕ, zero, suc, ◌+◌, ◌*◌, ◌/◌, ◌^◌, ◌==◌, ◌≤◌, max, Bool, true, false, is_some, List, [], ◌∷◌, map, length, slice_get, Option, Some, None, if◌then◌else◌}
+use Rattle.std.specs.Prelude.{ℕ, zero, suc, ◌+◌, ◌*◌, ◌/◌, ◌^◌, ◌==◌, ◌≤◌, max, Bool, false, is_some, List, [], ◌∷◌, map, length, slice_get, Option, Some, None, if◌then◌else◌}
 use Rattle.cstar_tree.specs.declared.typed.Instance.{Instance}
 use Rattle.cstar_tree.specs.declared.typed.LocalVar.{LocalVar}
 use Rattle.cstar_tree.specs.declared.typed.ShapeInfo.{ShapeInfo}
@@ -13,7 +13,7 @@ use Rattle.cstar_tree.specs.declared.typed.TStmt.TheFolds.{fold-TStmt}
 use Rattle.cstar_tree.specs.declared.typed.VarInfo.{VarInfo}
 use Rattle.cstar_tree.specs.Constants.{product}
 use Rattle.cstar_tree.specs.Scopes.{is_shape}
-use Rattle.cstar_tree.specs.TypedParts.{calls_within, expressions_of, node_type, optional, parts_of, statements_of}
+use Rattle.cstar_tree.specs.TypedParts.{calls_within, expressions_of, node_type, optional, parts_of, statements_of, total}
 
 -- bits that only a value of the shape needs
 unfoldable pub of_shape : ℕ → Option ℕ → ℕ → ℕ
@@ -74,10 +74,6 @@ times_length bits (Some length) = bits * length
 
 unfoldable pub bits_of : ℕ → VarInfo → ℕ
 bits_of shape v = of_shape shape v.shape (times_length v.elem.bits v.array)
-
-unfoldable pub total : List ℕ → ℕ
-total [] = 0
-total (n ∷ ns) = n + total ns
 
 -- what a statement needs beside its parts: a block its own variables, and a context each of `where`
 -- and `everywhere` under the shape

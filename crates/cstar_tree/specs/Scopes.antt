@@ -12,7 +12,7 @@ pub record VariableType : Type 0 where
   pub array : Option ℕ
 
 -- what a name stands for: a shape or a function by its number, or a variable with its type; the
--- type is absent where the declaration has a fault
+-- type is absent where the type or the length that is written has a fault
 pub data Meaning : Type 0 where
   a_shape : ℕ → Meaning
   a_function : ℕ → Meaning

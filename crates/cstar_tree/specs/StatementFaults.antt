@@ -1,6 +1,6 @@
 -- The faults of typing that stand in a statement. The parts of a statement are its expressions and
 -- its statements, so a fault anywhere in its body takes away that at the statement itself.
-use Rattle.std.specs.Prelude.{◌≡◌, ℕ, ◌≤◌, ◌<◌, ℤ, pos, Bool, true, false, List, [], ◌∷◌, ◌⊎◌, Option, Some, None, IsSome, Box, Vec}
+use Rattle.std.specs.Prelude.{◌≡◌, ℕ, ◌≤◌, ℤ, pos, Bool, true, false, List, ◌∷◌, Option, Some, None, Box}
 use Rattle.std.specs.declared.alloc.Global.{Global}
 use Rattle.cstar_base.specs.declared.operators.Place.{Place}
 use Rattle.cstar_tree.specs.declared.syntax.Block.{Block}
@@ -14,19 +14,18 @@ use Rattle.cstar_tree.specs.declared.syntax.ShapeRef.TheVariants as R
 use Rattle.cstar_tree.specs.declared.syntax.Stmt.{Stmt}
 use Rattle.cstar_tree.specs.declared.syntax.Stmt as S
 use Rattle.cstar_tree.specs.declared.syntax.TypeName.{TypeName}
-use Rattle.cstar_tree.specs.declared.typed.LocalVar.{LocalVar}
 use Rattle.cstar_tree.specs.declared.typed.TExpr.{TExpr}
 use Rattle.cstar_tree.specs.declared.typed.TStmt.{TStmt}
 use Rattle.cstar_tree.specs.declared.typed.ValueType.{ValueType}
 use Rattle.cstar_tree.specs.Syntax.{place_of}
 use Rattle.cstar_tree.specs.Typed.{type_of}
-use Rattle.cstar_tree.specs.BlockScopes.{behind, behind_declarations, behind_declarator, behind_declarators, block_place, declared_type, in_loop}
+use Rattle.cstar_tree.specs.BlockScopes.{behind, behind_declarations, behind_declarator, behind_declarators, block_place, in_loop}
 use Rattle.cstar_tree.specs.Constants.{constant_number}
-use Rattle.cstar_tree.specs.ExpressionFaults.{FaultIn, IsAway, Kind, ValueFaultIn, kind_of, shape}
+use Rattle.cstar_tree.specs.ExpressionFaults.{FaultIn, IsAway, ValueFaultIn, kind_of, shape}
 use Rattle.cstar_tree.specs.ExpressionTypes.{HasValue, Types}
 use Rattle.cstar_tree.specs.Headers.{Program, Returns, a_value, nothing}
-use Rattle.cstar_tree.specs.Scopes.{Here, Meaning, VariableType, as_whole, find, meaning, part, shape_of, under, written_type}
-use Rattle.cstar_tree.specs.StatementTypes.{IsDeclarable, TypesEffectIf, TypesStatement, TypesValueIf}
+use Rattle.cstar_tree.specs.Scopes.{Here, Meaning, as_whole, find, meaning, part, shape_of, under, written_type}
+use Rattle.cstar_tree.specs.StatementTypes.{TypesEffectIf, TypesStatement}
 
 -- a shape that is named is unknown or no shape, or there is no current one
 pub data ShapeFaultAt (here : Here) : ShapeRef → ℕ → Place → Type 0 where

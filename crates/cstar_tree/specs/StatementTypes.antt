@@ -1,5 +1,5 @@
 -- The types of statements: which typed tree a statement becomes where it stands.
-use Rattle.std.specs.Prelude.{◌≡◌, ℕ, ◌≤◌, Bool, true, false, List, [], ◌∷◌, ◌++◌, Option, Some, None, IsNone, Box, Vec}
+use Rattle.std.specs.Prelude.{◌≡◌, ℕ, ◌≤◌, Bool, true, List, [], ◌∷◌, ◌++◌, Option, Some, None, IsNone, Box, Vec}
 use Rattle.std.specs.declared.alloc.Global.{Global}
 use Rattle.cstar_base.specs.declared.operators.Place.{Place}
 use Rattle.cstar_tree.specs.declared.syntax.Block.{Block}
@@ -21,7 +21,7 @@ use Rattle.cstar_tree.specs.BlockScopes.{behind, behind_declarations, behind_dec
 use Rattle.cstar_tree.specs.Conversions.{IsFitted}
 use Rattle.cstar_tree.specs.ExpressionTypes.{Types}
 use Rattle.cstar_tree.specs.Headers.{Program, Returns, a_value}
-use Rattle.cstar_tree.specs.Scopes.{Here, IsAtHand, VariableType, as_whole, find, part, shape_of, under, written_type}
+use Rattle.cstar_tree.specs.Scopes.{Here, IsAtHand, VariableType, as_whole, find, shape_of, under, written_type}
 
 -- a variable of the typed program
 abbrev pub variable_info : List ℕ → VariableType → ℕ → VarInfo

@@ -1,15 +1,13 @@
 -- The parts of a node of the syntax tree, in text order.
 use Rattle.std.specs.Prelude.{ℕ, ◌+◌, List, [], ◌∷◌, ◌++◌, map, length, Option, Some, None}
 use Rattle.cstar_tree.specs.declared.syntax.Declaration.{Declaration}
-use Rattle.cstar_tree.specs.declared.syntax.Declarator.{Declarator}
 use Rattle.cstar_tree.specs.declared.syntax.Expr.{Expr}
 use Rattle.cstar_tree.specs.declared.syntax.Expr.TheOpen.{Expr-F}
 use Rattle.cstar_tree.specs.declared.syntax.Initializer.{Initializer}
 use Rattle.cstar_tree.specs.declared.syntax.Stmt.{Stmt}
 use Rattle.cstar_tree.specs.declared.syntax.Stmt.TheOpen.{Block-F, Stmt-F}
 use Rattle.cstar_tree.specs.declared.syntax.Stmt.TheFolds.{fold-Stmt}
-use Rattle.cstar_tree.specs.TypedParts.{concat, optional, optional_box}
-use Rattle.cstar_tree.specs.Room.{total}
+use Rattle.cstar_tree.specs.TypedParts.{optional, optional_box, total}
 
 abbrev pub parts_of : {A : Type 0} → Expr-F A → List A
 parts_of (Expr-F.Assign p op target value) = target.value ∷ value.value ∷ []

@@ -1,5 +1,5 @@
 -- The parts of a node of the typed tree, in text order.
-use Rattle.std.specs.Prelude.{ℕ, List, [], ◌∷◌, ◌++◌, map, Option, Some, None, Box}
+use Rattle.std.specs.Prelude.{ℕ, ◌+◌, List, [], ◌∷◌, ◌++◌, map, Option, Some, None, Box}
 use Rattle.std.specs.declared.alloc.Global.{Global}
 use Rattle.cstar_tree.specs.declared.typed.LocalVar.{LocalVar}
 use Rattle.cstar_tree.specs.declared.typed.TExpr.{TExpr}
@@ -73,6 +73,10 @@ optional_box (Some a) = a.value ∷ []
 unfoldable pub concat : {A : Type 0} → List (List A) → List A
 concat [] = []
 concat (xs ∷ rest) = xs ++ concat rest
+
+unfoldable pub total : List ℕ → ℕ
+total [] = 0
+total (n ∷ ns) = n + total ns
 
 -- the expressions of a statement: conditions, values and initialisers
 abbrev pub expressions_of : {A : Type 0} → TStmt-F A → List TExpr

@@ -13,6 +13,8 @@ pub mod Numerals
 pub mod Operands
 pub mod Operators
 pub mod Orders
+pub mod Plain
+pub mod Proper
 pub mod RuleBackEdge
 pub mod RuleField
 pub mod RuleOperands
@@ -24,5 +26,6 @@ pub mod Scanning
 pub mod Sending
 pub mod Shapes
 pub mod Sound
+pub mod Spans
 pub mod Units
 pub mod Writes

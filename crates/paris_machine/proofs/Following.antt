@@ -1,5 +1,5 @@
 -- How one step of the machine follows one instruction of the code.
-use Rattle.std.proofs.Common.{◌≡◌, ℕ, suc, ◌+◌, ◌*◌, ◌≤◌, ◌<◌, Bool, true, false, List, [], ◌++◌, length, take, Option, Some, None, refl, sym, ◌∙◌, ap, subst, arith}
+use Rattle.std.proofs.Common.{◌≡◌, ℕ, suc, ◌+◌, ◌*◌, ◌≤◌, ◌<◌, Bool, true, false, List, [], ◌++◌, length, take, Option, Some, None, refl, sym, ◌∙◌, ap, subst, arith, zero}
 use Rattle.std.specs.Prelude.{◌-◌, ◌^◌, IsSome, IfSome, IfNone, replicate, slice_set, option_map}
 use Rattle.std.proofs.lemmas.List.{append-nil, append_assoc}
 use Rattle.std.proofs.Math.Seq.{take-append-add}
@@ -8,7 +8,7 @@ use Rattle.paris_code.specs.declared.instr.Instr.{Instr}
 use Rattle.paris_code.specs.declared.program.Image.{Image}
 use Rattle.paris_code.specs.declared.program.Reply.{Reply}
 use Rattle.paris_code.specs.declared.program.Reply.TheVariants as R
-use Rattle.paris_code.specs.Code.{CodeState, Rest, End, Next, Goes, Ends, CodeEnd, Fault, replied, stored, fault_at, opening}
+use Rattle.paris_code.specs.Code.{CodeState, Rest, End, Next, Goes, Ends, CodeEnd, Fault, code, step, replied, stored, fault_at, opening}
 use Rattle.paris_code.specs.Kinds.{is_parallel}
 use Rattle.paris_code.specs.Meaning.{Means, after, reply_of}
 use Rattle.paris_code.specs.Memory.{BitMemory, SameBits}
@@ -26,8 +26,19 @@ use Rattle.paris_machine.specs.declared.outcome.End.{End as RunEnd}
 use Rattle.paris_machine.specs.declared.outcome.End.TheVariants as E
 use Rattle.paris_machine.specs.Bound.{most_left}
 use Rattle.paris_machine.specs.Ends.{input_broke_in, output_broke_in}
-use Rattle.paris_machine.specs.Runs.{SameState, SameNext, Reaches, ComesTo, before, IsLeft, Puts, StaysOver, Advances, Runs, RepliesTo, IsPutEnd, Reads, Stays, kept_state}
+use Rattle.paris_machine.specs.Runs.{SameState, SameNext, ComesTo, before, IsLeft, Puts, StaysOver, Advances, Runs, RepliesTo, IsPutEnd, Reads, Stays, kept_state}
 use Rattle.paris_machine.proofs.Bound.{falls, falls_parallel, some_left}
+
+-- so many instructions of the code lead from one state to another, each but for bits that no set has
+abbrev pub Reaches : Image → CodeState → ℕ → CodeState → Type 0
+Reaches image s zero t = s ≡ t
+Reaches image s (suc n) t = (mid : CodeState) × Reaches image s n mid × SameNext (shapes_of image) (step image mid) (Goes t)
+
+-- a run by such a chain
+abbrev pub Chains : Image → (Rest → CodeState) → RunEnd → ℕ → (Rest → CodeState) → Bool → List ℕ → Type 0
+Chains image from end steps to ended taken =
+    (later : Rest) → IsLeft ended (Some end) later
+    → (n : ℕ) × (steps ≡ n + 1) × ((mid : CodeState) × Reaches image (from (before taken later)) n mid × ComesTo image mid (Some end) (to later))
 
 bits_self : (shapes : List SetShape) (m : BitMemory) → SameBits shapes m m
 bits_self shapes m = record { bits = λ s p i a b c. refl; winner = refl }
@@ -178,7 +189,7 @@ reaches_more image start old new m0 m n begun ended now taken more printed text 
 pub runs_end : (image : Image) (start old new : State) (m0 m n : BitMemory) (begun : ℕ) (ended now : Bool) (end : RunEnd) (taken more printed text : List ℕ)
     → ((later : Rest) → IsLeft ended None later → Reaches image (joined start m0 (before taken later) []) begun (joined old m later printed))
     → StaysOver ended (Some end) now more → Advances image old m (Some end) new n now more text
-    → Runs image (λ rest. joined start m0 rest []) end (begun + 1) (λ rest. joined new n rest (printed ++ text)) now (taken ++ more)
+    → Chains image (λ rest. joined start m0 rest []) end (begun + 1) (λ rest. joined new n rest (printed ++ text)) now (taken ++ more)
 runs_end image start old new m0 m n begun ended now end taken more printed text reaches over advances = λ later left. (
   begun,
   refl,
@@ -265,7 +276,7 @@ runs_same image from from' end steps to to' ended taken first last runs = λ lat
       run.1,
       (
         run.2.0,
-        subst (λ (s : CodeState). Reaches image s run.0 run.2.0) (first (before taken later)) run.2.1,
+        subst (λ (s : CodeState). code image run.0 s ≡ record { next = Goes run.2.0; steps = run.0 }) (first (before taken later)) run.2.1,
         subst (λ (s : CodeState). ComesTo image run.2.0 (Some end) s) (last later) run.2.2,
       ),
     )

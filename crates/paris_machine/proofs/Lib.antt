@@ -1,3 +1,4 @@
 pub mod Applied
 pub mod Bound
 pub mod Following
+pub mod Same

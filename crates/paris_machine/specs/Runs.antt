@@ -1,8 +1,8 @@
 -- How a run of the machine follows the meaning of the code.
-use Rattle.std.specs.Prelude.{◌≡◌, ℕ, zero, suc, ◌+◌, Bool, true, false, List, [], ◌++◌, Option, Some, None}
+use Rattle.std.specs.Prelude.{◌≡◌, ℕ, ◌+◌, Bool, true, false, List, [], ◌++◌, Option, Some, None}
 use Rattle.paris_code.specs.declared.instr.Instr.{Instr}
 use Rattle.paris_code.specs.declared.program.Image.{Image}
-use Rattle.paris_code.specs.Code.{CodeState, Rest, End, Broken, Next, Goes, Ends, Done, Fault, Stopped, InputBroken, step, replied}
+use Rattle.paris_code.specs.Code.{CodeState, Rest, End, Broken, Next, Goes, Ends, Done, Fault, Stopped, InputBroken, code, step, replied}
 use Rattle.paris_code.specs.Meaning.{after, reply_of}
 use Rattle.paris_code.specs.Memory.{BitMemory, SameBits}
 use Rattle.paris_code.specs.Shapes.{SetShape, shapes_of}
@@ -24,11 +24,6 @@ abbrev pub SameNext : List SetShape → Next → Next → Type 0
 SameNext shapes (Goes s) (Goes t) = SameState shapes s t
 SameNext shapes (Ends end s) (Ends other t) = (end ≡ other) × SameState shapes s t
 SameNext shapes next other = ⊥
-
--- so many instructions of the code lead from one state to another
-abbrev pub Reaches : Image → CodeState → ℕ → CodeState → Type 0
-Reaches image s zero t = s ≡ t
-Reaches image s (suc n) t = (mid : CodeState) × Reaches image s n mid × SameNext (shapes_of image) (step image mid) (Goes t)
 
 -- a send stands where the code does
 abbrev pub IsAtSend : Image → CodeState → Type 0
@@ -70,12 +65,12 @@ abbrev pub Advances : Image → State → BitMemory → Option RunEnd → State 
 Advances image old m result new n ended taken printed =
     (later : Rest) → IsLeft ended result later → (output : List ℕ) → ComesTo image (joined old m (before taken later) output) result (joined new n later (output ++ printed))
 
--- The bytes taken, followed by whatever may be left, lead by so many instructions from the state to
--- one at which the next instruction comes to this end.
+-- The bytes taken, followed by whatever may be left, lead the code by so many instructions, but for
+-- the last, to a state at which this one comes to the end.
 abbrev pub Runs : Image → (Rest → CodeState) → RunEnd → ℕ → (Rest → CodeState) → Bool → List ℕ → Type 0
 Runs image from end steps to ended taken =
     (later : Rest) → IsLeft ended (Some end) later
-    → (n : ℕ) × (steps ≡ n + 1) × ((mid : CodeState) × Reaches image (from (before taken later)) n mid × ComesTo image mid (Some end) (to later))
+    → (n : ℕ) × (steps ≡ n + 1) × ((mid : CodeState) × (code image n (from (before taken later)) ≡ record { next = Goes mid; steps = n }) × ComesTo image mid (Some end) (to later))
 
 -- what a reply comes to, from the state behind the instruction
 abbrev pub RepliesTo : Image → Instr → State → BitMemory → Option RunEnd → State → BitMemory → Type 0

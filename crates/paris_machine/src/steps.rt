@@ -207,6 +207,7 @@ fn drive<P: Phases, I: Source, O: Sink>(
         × Runs sound.now (λ rest. joined (state_of front.old) (P.memory p.old) rest []) result.0 result.1
         (λ rest. joined (state_of front.new) (P.memory p.new) rest printed) ended.new taken) }
 {
+    let _image = sound.image();
     'steps: for begun in 0..most_steps(sound, front.turns_left()) {
         if let Some(end) = advance(sound, front, ended, p, input, out) {
             return (end, begun + 1);

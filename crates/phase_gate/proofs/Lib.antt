@@ -1,4 +1,5 @@
 pub mod Addresses
+pub mod Alike
 pub mod FieldLemmas
 pub mod Lines
 pub mod Locality

@@ -11,7 +11,7 @@ use Rattle.paris_code.specs.Shapes.{SetShape, extents_at}
 use Rattle.phase_gate.specs.Scans.{before_at, IsPrevious}
 
 -- folds of the same values are the same, and one where nothing passes is its start
-fold_same : (step : ℕ → ℕ → ℕ) (f g : ℕ → Bool) (x y : ℕ → ℕ) (start n : ℕ) → ((k : ℕ) → k < n → f k ≡ g k) → ((k : ℕ) → k < n → x k ≡ y k) → fold_below step f x start n ≡ fold_below step g y start n
+pub fold_same : (step : ℕ → ℕ → ℕ) (f g : ℕ → Bool) (x y : ℕ → ℕ) (start n : ℕ) → ((k : ℕ) → k < n → f k ≡ g k) → ((k : ℕ) → k < n → x k ≡ y k) → fold_below step f x start n ≡ fold_below step g y start n
 unfolding fold_below
 fold_same step f g x y start zero same also = refl
 fold_same step f g x y start (suc n) same also =
@@ -25,7 +25,7 @@ fold_nothing step f x start zero off = refl
 fold_nothing step f x start (suc n) off =
     ap (λ t. cond t (step (fold_below step f x start n) (x n)) (fold_below step f x start n)) (off n (omega arith)) ∙ fold_nothing step f x start n (λ k b. off k (omega arith))
 
-any_same : (f g : ℕ → Bool) (from n : ℕ) → ((k : ℕ) → k < from + n → f k ≡ g k) → any_of f from n ≡ any_of g from n
+pub any_same : (f g : ℕ → Bool) (from n : ℕ) → ((k : ℕ) → k < from + n → f k ≡ g k) → any_of f from n ≡ any_of g from n
 unfolding any_of
 any_same f g from zero same = refl
 any_same f g from (suc n) same = ap (λ t. t || f (from + n)) (any_same f g from n (λ k b. same k (omega arith))) ∙ ap (λ t. any_of g from n || t) (same (from + n) (omega arith))

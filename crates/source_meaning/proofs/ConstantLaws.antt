@@ -265,9 +265,6 @@ pub record IsLeft (all : List Elem) (first : Elem) (start : ℕ) (xs : List Elem
   pub number : cast_through xs from w ≡ cast_through all first start
   pub elem : cast_type xs from ≡ cast_type all first
 
-pub left_at_once : (all : List Elem) (first : Elem) (start : ℕ) → IsLeft all first start all first start
-left_at_once all first start = record { number = refl; elem = refl }
-
 left_before_last : (all : List Elem) (first : Elem) (start : ℕ) (xs : List Elem) (to from : Elem) (w : ℕ) → IsLeft all first start (xs ++ to ∷ []) from w → IsLeft all first start xs to (converted to from w)
 left_before_last all first start xs to from w l = record { number = sym (through_last xs to from w) ∙ l.number; elem = sym (type_last xs to from) ∙ l.elem }
 
@@ -288,5 +285,6 @@ number_below ty w h = fits_below ty w (and_right (is_none ty.shape) (fits ty w) 
 
 -- the answer for a constant expression, and for one that is not constant
 pub constant_given : (e : TExpr) (r : Option ℕ) → is_constant e ≡ true → r ≡ value_of e → IsConstantOf e r
+unfolding IsConstantOf
 constant_given e (Some v) h q = (h, subst (λ o. IsValueOf e o) (sym q) (value_means e h))
 constant_given e None h q = inr (subst (λ o. IsValueOf e o) (sym q) (value_means e h))

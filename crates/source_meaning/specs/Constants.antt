@@ -46,7 +46,7 @@ abbrev pub IsValueOf : TExpr → Option ℕ → Type 0
 IsValueOf e v = Means (λ scope active st. evaluated scope e active st) v
 
 -- the answer for an expression: its value, and none where it is not constant or its value is a fault
-abbrev pub IsConstantOf : TExpr → Option ℕ → Type 0
+unfoldable pub IsConstantOf : TExpr → Option ℕ → Type 0
 IsConstantOf e (Some v) = (is_constant e ≡ true) × IsValueOf e (Some v)
 IsConstantOf e None = (is_constant e ≡ false) ⊎ IsValueOf e None
 

@@ -68,8 +68,8 @@ returned active (Some s) v = each (Some s) (λ p. if active s p then at v p else
 
 -- the initialiser of one variable, if it has one
 unfoldable pub initialised_one : Scope → Active → Target → Option TExpr → State → Outcome Leaving
-initialised_one scope active target None st = Gives Onward st
-initialised_one scope active target (Some e) st = then_do (evaluated scope e active st) (λ v after. Gives Onward (stored active target v after))
+initialised_one scope active there None st = Gives Onward st
+initialised_one scope active there (Some e) st = then_do (evaluated scope e active st) (λ v after. Gives Onward (stored active there v after))
 
 -- the initialisers of block variables, in order and from a number on; that of a parallel variable
 -- writes active positions

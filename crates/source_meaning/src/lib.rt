@@ -17,6 +17,7 @@ use cstar_tree::typed::{TExpr, UnaryOp, ValueType};
 /// expression is not constant or its value is a fault. It is constant if it is scalar and has
 /// nothing but numbers, casts, what is asked of shapes, and operators without effects; all its
 /// parts count for that, and only the chosen ones for its value.
+#[tactic(auto, unfolding(crate::specs::Constants::IsConstantOf))]
 pub fn constant(e: &TExpr) -> Option<u32>
     ensures value { IsConstantOf e.now result }
     ensures bound { IfSome result (λ v. v < 2 ^ (type_of e.now).elem.bits) }

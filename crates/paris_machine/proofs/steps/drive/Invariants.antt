@@ -6,7 +6,8 @@ use Rattle.cstar_io.specs.Input.{Took}
 use Rattle.cstar_io.specs.Output.{Takes}
 use Rattle.front_end.specs.Front.{state_of, Fits, joined}
 use Rattle.paris_machine.specs.Bound.{most_left}
-use Rattle.paris_machine.specs.Runs.{Reaches, IsLeft, before}
+use Rattle.paris_machine.specs.Runs.{IsLeft, before}
+use Rattle.paris_machine.proofs.Following.{Reaches}
 use Rattle.paris_machine.proofs.steps.drive.Given as goal
 
 abbrev pub invariant-steps : goal.invariant-steps

@@ -1,0 +1,5 @@
+pub mod Casting
+pub mod Grammar
+pub mod Operands
+pub mod PrimaryNodes
+pub mod StatementNodes

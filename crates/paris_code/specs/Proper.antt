@@ -1,0 +1,120 @@
+-- Programs that can be placed: which entries of a unit's fields live together, how high they reach,
+-- and what a program over virtual fields keeps.
+use Rattle.std.specs.Prelude.{◌≡◌, ◌≢◌, ℕ, ◌+◌, ◌<◌, ◌≤◌, ◌⊎◌, ◌==◌, if◌then◌else◌, List, [], ◌∷◌, length, sum_by, All, Some}
+use Rattle.std.specs.List.{slice_get}
+use Rattle.paris_code.specs.declared.operands.Field.{Field}
+use Rattle.paris_code.specs.declared.instr.Instr.{Instr}
+use Rattle.paris_code.specs.declared.instr.Instr.TheVariants as I
+use Rattle.paris_code.specs.declared.program.Final.{Final}
+use Rattle.paris_code.specs.declared.program.Owner.{Owner}
+use Rattle.paris_code.specs.declared.program.Owner.TheVariants as O
+use Rattle.paris_code.specs.declared.program.Program.{Program}
+use Rattle.paris_code.specs.declared.program.Unit.{Unit as CodeUnit}
+use Rattle.paris_code.specs.declared.program.Virtual.{Virtual}
+use Rattle.paris_code.specs.Spans.{fields_of, StandsAt, Span, Holds, Meet, IsSpan}
+
+-- a unit of the program, and an entry of it
+abbrev pub IsUnit : Program → ℕ → CodeUnit → Type 0
+IsUnit program number unit = slice_get program.units.items number ≡ Some unit
+
+abbrev pub IsEntry : CodeUnit → ℕ → Virtual → Type 0
+IsEntry unit entry virtual = slice_get unit.fields.items entry ≡ Some virtual
+
+abbrev pub IsOwn : CodeUnit → ℕ → ℕ → ℕ → Type 0
+IsOwn unit entry set len = IsEntry unit entry (record { set = set; len = len; owner = O.Own })
+
+-- some unit names an entry of this one
+abbrev pub IsLent : Program → ℕ → ℕ → Type 0
+IsLent program number entry =
+    (other : ℕ) × ((unit : CodeUnit) × ((index : ℕ) × ((virtual : Virtual) × IsUnit program other unit × IsEntry unit index virtual × (virtual.owner ≡ O.Of number entry))))
+
+-- two entries of a unit live together: one of them is lent, or their spans meet
+abbrev pub LiveTogether : Program → ℕ → CodeUnit → ℕ → ℕ → Type 0
+LiveTogether program number unit one other =
+    IsLent program number one ⊎ (IsLent program number other
+    ⊎ ((a : Span) × ((b : Span) × IsSpan unit one O.Own a × IsSpan unit other O.Own b × Meet a b)))
+
+-- an earlier entry of the same unit and set with bits of its own, which lives together with one
+abbrev pub IsBelow : Program → ℕ → CodeUnit → ℕ → ℕ → ℕ → Type 0
+IsBelow program number unit set entry other =
+    (other < entry) × ((len : ℕ) × IsOwn unit other set len) × LiveTogether program number unit other entry
+
+-- the ends of a unit's own entries: each is as long as it is above the greatest end of those below
+pub record AreEnds (program : Program) (number : ℕ) (unit : CodeUnit) (ends : ℕ → ℕ) : Type 0 where
+  pub above : (entry set len other : ℕ) → IsOwn unit entry set len → IsBelow program number unit set entry other → ends other + len ≤ ends entry
+  pub exact : (entry set len : ℕ) → IsOwn unit entry set len → (ends entry ≡ len) ⊎ ((other : ℕ) × IsBelow program number unit set entry other × (ends entry ≡ ends other + len))
+
+-- none of a unit's entries of a set ends above this
+abbrev pub EndWithin : Program → ℕ → ℕ → ℕ → Type 0
+EndWithin program set number top =
+    (unit : CodeUnit) (ends : ℕ → ℕ) → IsUnit program number unit → AreEnds program number unit ends → (entry len : ℕ) → IsOwn unit entry set len → ends entry ≤ top
+
+-- a unit calls another
+abbrev pub Calls : Program → ℕ → ℕ → Type 0
+Calls program caller called = (unit : CodeUnit) × ((at : ℕ) × IsUnit program caller unit × StandsAt unit at (I.FrontCall called))
+
+-- units of which each calls the next
+abbrev pub IsCallChain : Program → List ℕ → Type 0
+IsCallChain program [] = Unit {0}
+IsCallChain program (unit ∷ []) = Unit {0}
+IsCallChain program (unit ∷ (next ∷ units)) = Calls program unit next × IsCallChain program (next ∷ units)
+
+-- the bits of the file's fields of a set
+abbrev pub bits_in : ℕ → Final → ℕ
+bits_in set last = if last.field.set == set then last.field.len else 0
+
+-- the height of a set is within this: the file's fields, and above them the units of each chain of
+-- calls, of which each reaches as high as its tops say
+abbrev pub HeightWithin : Program → ℕ → ℕ → Type 0
+HeightWithin program set most =
+    (tops : ℕ → ℕ) × ((number : ℕ) → EndWithin program set number (tops number))
+    × ((chain : List ℕ) → IsCallChain program chain → sum_by (bits_in set) program.finals.items + sum_by tops chain ≤ most)
+
+-- an entry has the set and the length of what it names: the file's field, or an own entry
+abbrev pub OwnerFits : Program → Virtual → Owner → Type 0
+OwnerFits program virtual (O.File file) = (last : Final) × (slice_get program.finals.items file ≡ Some last) × (last.field.set ≡ virtual.set) × (last.field.len ≡ virtual.len)
+OwnerFits program virtual O.Own = Unit {0}
+OwnerFits program virtual (O.Of other index) = (unit : CodeUnit) × IsUnit program other unit × IsOwn unit index virtual.set virtual.len
+
+-- a field of an instruction names an entry of its set that is at least as long
+abbrev pub NamesEntry : CodeUnit → Field → Type 0
+NamesEntry unit f = (virtual : Virtual) × IsEntry unit f.offset virtual × (virtual.set ≡ f.set) × (f.len ≤ virtual.len)
+
+-- an entry of another unit, with its span
+abbrev pub IsBorrowed : CodeUnit → ℕ → ℕ → ℕ → Span → Type 0
+IsBorrowed unit entry other index span =
+    (virtual : Virtual) × IsEntry unit entry virtual × (virtual.owner ≡ O.Of other index) × IsSpan unit entry virtual.owner span
+
+abbrev pub set_of : Virtual → ℕ
+set_of virtual = virtual.set
+
+abbrev pub owner_of : Virtual → Owner
+owner_of virtual = virtual.owner
+
+abbrev pub final_set : Final → ℕ
+final_set last = last.field.set
+
+-- the last of a list
+abbrev pub EndsWith : ℕ → List ℕ → Type 0
+EndsWith last [] = ⊥
+EndsWith last (x ∷ []) = x ≡ last
+EndsWith last (x ∷ (y ∷ ys)) = EndsWith last (y ∷ ys)
+
+-- what each unit keeps; the borrowed entries of two units do not live together, each lives round a
+-- call of its unit alone, and each call stands within the spans of all entries that it lends
+pub record IsProperUnit (program : Program) (unit : CodeUnit) : Type 0 where
+  pub names : (at : ℕ) (instr : Instr) → StandsAt unit at instr → All (NamesEntry unit) (fields_of instr)
+  pub sets : All (λ virtual. set_of virtual < length program.shapes.items) unit.fields.items
+  pub owners : All (λ virtual. OwnerFits program virtual (owner_of virtual)) unit.fields.items
+  pub calls : (at called : ℕ) → StandsAt unit at (I.FrontCall called) → called < length program.units.items
+  pub apart : (one other u v i j : ℕ) (a b : Span) → IsBorrowed unit one u i a → IsBorrowed unit other v j b → u ≢ v → Meet a b → ⊥
+  pub round_call : (entry other index : ℕ) (span : Span) → IsBorrowed unit entry other index span → (at : ℕ) × StandsAt unit at (I.FrontCall other) × Holds span at
+  pub no_other_call : (entry other index at called : ℕ) (span : Span) → IsBorrowed unit entry other index span → StandsAt unit at (I.FrontCall called) → Holds span at → called ≡ other
+  pub lends : (at called index : ℕ) → StandsAt unit at (I.FrontCall called) → IsLent program called index → (entry : ℕ) × ((span : Span) × IsBorrowed unit entry called index span × Holds span at)
+
+-- the finals have the file's fields in order, and the calls have no cycle
+pub record IsProper (program : Program) : Type 0 where
+  pub units : (number : ℕ) (unit : CodeUnit) → IsUnit program number unit → IsProperUnit program unit
+  pub final_sets : All (λ last. final_set last < length program.shapes.items) program.finals.items
+  pub finals : (number : ℕ) (last : Final) → slice_get program.finals.items number ≡ Some last → last.field.offset ≡ number
+  pub no_cycle : (unit next : ℕ) (units : List ℕ) → IsCallChain program (unit ∷ (next ∷ units)) → EndsWith unit (next ∷ units) → ⊥
