@@ -1,4 +1,5 @@
 pub mod Asked
+pub mod Courses
 pub mod Lines
 pub mod Listings
 pub mod Names

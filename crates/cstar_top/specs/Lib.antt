@@ -1,4 +1,5 @@
 pub mod Answers
+pub mod Courses
 pub mod Faults
 pub mod Listings
 pub mod Modes

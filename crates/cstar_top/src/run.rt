@@ -1,11 +1,16 @@
-ghost use Rattle.std.specs.Prelude.{◌≡◌, ◌≢◌, OnErr, OnOk};
+ghost use Rattle.std.specs.Prelude.{◌≡◌, ◌≢◌, ◌++◌, ◌||◌, true, false, codes, decimal};
 ghost use Rattle.cstar_io.specs.Faults.{RisesBy};
-ghost use Rattle.cstar_io.specs.Output.{TakesNothing};
+ghost use Rattle.cstar_io.specs.Output.{Takes, TakesNothing, TakesPrefix};
 ghost use Rattle.cstar_top.specs.declared.answer.Answer.TheVariants as A;
 ghost use Rattle.cstar_top.specs.Answers.{status_of};
+ghost use Rattle.cstar_top.specs.Courses.{Reports, ReportsPart, answer_to_end, closing, closing_text, steps_line, where_asked};
 ghost use Rattle.cstar_top.specs.Listings.{TakesListing, TakesPartOfListing};
 ghost use Rattle.cstar_top.specs.Runs.{IsEndOfRun};
+ghost use Rattle.final_values.specs.Finals.{finals_text};
+ghost use Rattle.paris_code.specs.Listing.{listing};
 ghost use Rattle.paris_code.specs.Shapes.{shapes_of};
+ghost use Rattle.paris_machine.specs.Ends.{output_broke};
+ghost use Rattle.paris_text.specs.Puts.{Puts};
 
 use crate::answer::Answer;
 use cstar_io::{Failed, Sink, Source};
@@ -18,8 +23,8 @@ use paris_text::print;
 use phase_gate::{Phases, RowPhases};
 use std::alloc::Global;
 
-/// Runs an image on new phases, and puts the final values where the options ask for them. What the
-/// run comes to, once all that it printed is sent on.
+/// Runs an image on new phases, and puts the listing, the final values and the number of
+/// instructions where the options ask for them. What the run comes to, once all is sent on.
 pub fn run_image<I: Source, O: Sink>(
     alloc: Global,
     sound: &Sound,
@@ -32,76 +37,80 @@ pub fn run_image<I: Source, O: Sink>(
     ensures write_fault { status_of result ≡ 6 → RisesBy (O.faults out.old) (O.faults out.new) }
     ensures input_fault { status_of result ≡ 7 → RisesBy (I.faults input.old) (I.faults input.new) }
     ensures count { status_of result ≢ 6 → O.faults out.new ≡ O.faults out.old }
+    ensures report { status_of result ≢ 6 → status_of result ≢ 8 → Reports O.agrees out.old out.new (I.left input.old) (I.left input.new) options.now sound.now result }
+    ensures part { ReportsPart O.agrees out.old out.new (I.left input.old) (I.left input.new) options.now sound.now }
 {
     let mut phases = match RowPhases::new(alloc, sound) {
         Ok(phases) => phases,
         Err(_) => return Answer::Memory,
     };
     phases.choose(options.winner);
-    if let Err(_) = put_beginning(sound, options, out) {
-        return Answer::WriteFault;
+    match put_listing(sound, options, out) {
+        Ok(()) => {}
+        Err(_) => return Answer::WriteFault,
     }
-    run_on(alloc, sound, options, &mut phases, input, out)
+    let outcome = run(alloc, sound, options.turns, &mut phases, input, out);
+    finish(sound, options, outcome, &phases, out)
 }
 
-/// Puts what stands before a run's own output: with a listing the listing.
-fn put_beginning<O: Sink>(sound: &Sound, options: &Options, out: &mut O) -> Result<(), Failed>
-    ensures failed { OnErr result (RisesBy (O.faults out.old) (O.faults out.new)) }
-    ensures other { OnOk result (O.faults out.new ≡ O.faults out.old) }
+/// Puts the listing, where it is asked for.
+fn put_listing<O: Sink>(sound: &Sound, options: &Options, out: &mut O) -> Result<(), Failed>
+    ensures { Puts O.agrees O.faults out.old out.new result (where_asked options.now.listing (listing sound.now)) }
 {
     if options.listing {
-        return print(sound.image(), out);
+        print(sound.image(), out)
+    } else {
+        Ok(())
     }
-    Ok(())
 }
 
-/// Runs an image on its phases. What the run comes to, once all that it printed is sent on.
-fn run_on<P: Phases, I: Source, O: Sink>(
-    alloc: Global,
-    sound: &Sound,
-    options: &Options,
-    phases: &mut P,
-    input: &mut I,
-    out: &mut O,
-) -> Answer
-    requires { P.shapes phases.old ≡ shapes_of sound.now }
-    ensures end { IsEndOfRun result }
-    ensures stopped { status_of result ≡ 4 → result ≡ A.Stopped options.now.turns }
-    ensures write_fault { status_of result ≡ 6 → RisesBy (O.faults out.old) (O.faults out.new) }
-    ensures input_fault { status_of result ≡ 7 → RisesBy (I.faults input.old) (I.faults input.new) }
-    ensures count { status_of result ≢ 6 → O.faults out.new ≡ O.faults out.old }
+/// The answer to the end of a run.
+fn answer_of(end: End, turns: u32) -> Answer
+    ensures { result ≡ answer_to_end turns end }
 {
-    let turns = options.turns;
-    let Outcome { end, steps, .. } = run(alloc, sound, turns, phases, input, out);
     match end {
-        End::Done => ended(sound, options, steps, phases, out, Answer::Done),
+        End::Done => Answer::Done,
         End::Fault {
             kind,
             place,
             position,
-        } => ended(
-            sound,
-            options,
-            steps,
-            phases,
-            out,
-            Answer::Fault {
-                kind,
-                place,
-                position,
-            },
-        ),
-        End::Stopped => ended(
-            sound,
-            options,
-            steps,
-            phases,
-            out,
-            Answer::Stopped { turns },
-        ),
-        End::InputBroken => sent(out, Answer::InputFault),
+        } => Answer::Fault {
+            kind,
+            place,
+            position,
+        },
+        End::Stopped => Answer::Stopped { turns },
+        End::InputBroken => Answer::InputFault,
         End::OutputBroken => Answer::WriteFault,
-        End::Memory => sent(out, Answer::Memory),
+        End::Memory => Answer::Memory,
+    }
+}
+
+/// The answer of a run, once what stands behind its own output is put and all is sent on. After a
+/// write fault nothing is put.
+fn finish<P: Phases, O: Sink>(
+    sound: &Sound,
+    options: &Options,
+    outcome: Outcome,
+    phases: &P,
+    out: &mut O,
+) -> Answer
+    requires { P.shapes phases.now ≡ shapes_of sound.now }
+    ensures end { IsEndOfRun result }
+    ensures own { status_of result ≢ 6 → result ≡ answer_to_end options.now.turns outcome.end }
+    ensures taken { status_of result ≢ 6 → Takes O.agrees out.old out.new (closing outcome.end (closing_text options.now sound.now outcome.steps (P.memory phases.now))) }
+    ensures part { TakesPrefix O.agrees out.old out.new (closing outcome.end (closing_text options.now sound.now outcome.steps (P.memory phases.now))) }
+    ensures silent { output_broke outcome.end ≡ true → (out.new ≡ out.old) × (status_of result ≡ 6) }
+    ensures write_fault { output_broke outcome.end ≡ false → status_of result ≡ 6 → RisesBy (O.faults out.old) (O.faults out.new) }
+    ensures count { status_of result ≢ 6 → O.faults out.new ≡ O.faults out.old }
+{
+    let answer = answer_of(outcome.end, options.turns);
+    match outcome.end {
+        End::Done | End::Fault { .. } | End::Stopped => {
+            ended(sound, options, outcome.steps, phases, out, answer)
+        }
+        End::InputBroken | End::Memory => sent(out, answer),
+        End::OutputBroken => answer,
     }
 }
 
@@ -118,6 +127,8 @@ fn ended<P: Phases, O: Sink>(
     requires { P.shapes phases.now ≡ shapes_of sound.now }
     ensures end { IsEndOfRun answer → IsEndOfRun result }
     ensures own { status_of result ≢ 6 → result ≡ answer }
+    ensures taken { status_of result ≢ 6 → Takes O.agrees out.old out.new (closing_text options.now sound.now steps (P.memory phases.now)) }
+    ensures part { TakesPrefix O.agrees out.old out.new (closing_text options.now sound.now steps (P.memory phases.now)) }
     ensures write_fault { status_of answer ≢ 6 → status_of result ≡ 6 → RisesBy (O.faults out.old) (O.faults out.new) }
     ensures count { status_of result ≢ 6 → O.faults out.new ≡ O.faults out.old }
 {
@@ -137,37 +148,85 @@ fn put_end<P: Phases, O: Sink>(
     out: &mut O,
 ) -> Result<(), Failed>
     requires { P.shapes phases.now ≡ shapes_of sound.now }
-    ensures failed { OnErr result (RisesBy (O.faults out.old) (O.faults out.new)) }
-    ensures other { OnOk result (O.faults out.new ≡ O.faults out.old) }
+    ensures { Puts O.agrees O.faults out.old out.new result (closing_text options.now sound.now steps (P.memory phases.now)) }
 {
-    if (options.finals || options.listing)
-        && let Err(failed) = out.put(b"\n")
-    {
-        return Err(failed);
+    match put_newline(options, out) {
+        Ok(()) => put_values(sound, options, steps, phases, out),
+        Err(failed) => Err(failed),
     }
-    if options.finals
-        && let Err(failed) = put_finals(sound, phases, out)
-    {
-        return Err(failed);
+}
+
+/// Puts the newline before final values or the number of instructions.
+fn put_newline<O: Sink>(options: &Options, out: &mut O) -> Result<(), Failed>
+    ensures { Puts O.agrees O.faults out.old out.new result (where_asked (options.now.finals || options.now.listing) (codes "\n")) }
+{
+    if options.finals || options.listing {
+        out.put(b"\n")
+    } else {
+        Ok(())
     }
-    if options.listing {
-        return put_steps(steps, out);
+}
+
+/// Puts the final values and the number of instructions, where they are asked for.
+fn put_values<P: Phases, O: Sink>(
+    sound: &Sound,
+    options: &Options,
+    steps: u64,
+    phases: &P,
+    out: &mut O,
+) -> Result<(), Failed>
+    requires { P.shapes phases.now ≡ shapes_of sound.now }
+    ensures { Puts O.agrees O.faults out.old out.new result (where_asked options.now.finals (finals_text (shapes_of sound.now) (P.memory phases.now) sound.now.finals.items)
+        ++ where_asked options.now.listing (steps_line steps)) }
+{
+    match put_finals_where(options.finals, sound, phases, out) {
+        Ok(()) => put_steps(options.listing, steps, out),
+        Err(failed) => Err(failed),
     }
-    Ok(())
+}
+
+/// Puts the final values, where they are asked for.
+fn put_finals_where<P: Phases, O: Sink>(
+    asked: bool,
+    sound: &Sound,
+    phases: &P,
+    out: &mut O,
+) -> Result<(), Failed>
+    requires { P.shapes phases.now ≡ shapes_of sound.now }
+    ensures { Puts O.agrees O.faults out.old out.new result (where_asked asked (finals_text (shapes_of sound.now) (P.memory phases.now) sound.now.finals.items)) }
+{
+    if asked {
+        put_finals(sound, phases, out)
+    } else {
+        Ok(())
+    }
+}
+
+/// Puts `;; N instructions`, where it is asked for.
+fn put_steps<O: Sink>(asked: bool, steps: u64, out: &mut O) -> Result<(), Failed>
+    ensures { Puts O.agrees O.faults out.old out.new result (where_asked asked (steps_line steps)) }
+{
+    if asked { put_count(steps, out) } else { Ok(()) }
 }
 
 /// `;; N instructions`
-fn put_steps<O: Sink>(steps: u64, out: &mut O) -> Result<(), Failed>
-    ensures failed { OnErr result (RisesBy (O.faults out.old) (O.faults out.new)) }
-    ensures other { OnOk result (O.faults out.new ≡ O.faults out.old) }
+fn put_count<O: Sink>(steps: u64, out: &mut O) -> Result<(), Failed>
+    ensures { Puts O.agrees O.faults out.old out.new result (steps_line steps) }
 {
-    if let Err(failed) = out.put(b";; ") {
-        return Err(failed);
+    match out.put(b";; ") {
+        Ok(()) => put_number(steps, out),
+        Err(failed) => Err(failed),
     }
-    if let Err(failed) = out.put(Buffer::new().format(steps).as_bytes()) {
-        return Err(failed);
+}
+
+/// `N instructions`
+fn put_number<O: Sink>(steps: u64, out: &mut O) -> Result<(), Failed>
+    ensures { Puts O.agrees O.faults out.old out.new result (decimal steps ++ codes " instructions\n") }
+{
+    match out.put(Buffer::new().format(steps).as_bytes()) {
+        Ok(()) => out.put(b" instructions\n"),
+        Err(failed) => Err(failed),
     }
-    out.put(b" instructions\n")
 }
 
 /// Puts the listing of an image.
