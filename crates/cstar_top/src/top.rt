@@ -7,9 +7,12 @@ ghost use Rattle.cstar_words.specs.Reading.{is_command};
 ghost use Rattle.cstar_top.specs.declared.answer.Answer.{Answer};
 ghost use Rattle.cstar_top.specs.declared.answer.Answer.TheVariants as A;
 ghost use Rattle.cstar_top.specs.Answers.{line_of, status_of, usage_line};
-ghost use Rattle.cstar_top.specs.Listings.{IsListing, TakesListing, TakesPartOfListing};
+ghost use Rattle.cstar_top.specs.Listings.{TakesListing, TakesPartOfListing};
 ghost use Rattle.paris_code.specs.Listing.{listing};
 ghost use Rattle.cstar_top.specs.Modes.{AsksFor, HasBudget, LeavesInput, budget, leaves_input, named};
+ghost use Rattle.cstar_words.specs.declared.options.Mode.{Mode};
+ghost use Rattle.cstar_words.specs.declared.options.Options.{Options};
+ghost use Rattle.cstar_top.specs.Reported.{Holds, IsAsked, IsReported, ReportsText, ReportsTextPart, runs_image};
 ghost use Rattle.cstar_top.specs.Reports.{CannotFetch, PutsAnswer, PutsPartOfAnswer};
 
 use crate::answer::Answer;
@@ -43,6 +46,9 @@ fn answer<S: Shelf, I: Source, O: Sink>(
     ensures stopped { status_of result ≡ 4 → result ≡ A.Stopped (budget options.now.mode options.now.turns) }
     ensures listed { options.now.mode ≡ M.List → status_of result ≡ 0 → TakesListing O.agrees out.old out.new }
     ensures part { options.now.mode ≡ M.List → TakesPartOfListing O.agrees out.old out.new }
+    ensures report { runs_image options.now.mode ≡ true → status_of result ≢ 3 → status_of result ≢ 5 → status_of result ≢ 6 → status_of result ≢ 8
+        → (text : List ℕ) × Holds S.tells S.file shelf.old options.now.file.now text
+        × ReportsText O.agrees out.old out.new (I.left input.old) (I.left input.new) options.now text result }
     ensures silent { options.now.mode ≡ M.Check → out.new ≡ out.old }
     ensures unread { leaves_input options.now.mode ≡ true → input.new ≡ input.old }
     ensures write_fault { status_of result ≡ 6 → RisesBy (O.faults out.old) (O.faults out.new) }
@@ -62,7 +68,9 @@ fn answer<S: Shelf, I: Source, O: Sink>(
 }
 
 /// The greatest length of a file.
-fn limit(mode: Mode) -> u32 {
+fn limit(mode: Mode) -> u32
+    ensures { runs_image mode ≡ true → result ≡ 1048576 }
+{
     match mode {
         Mode::Resume => POINT_LIMIT,
         Mode::Run | Mode::List | Mode::Check | Mode::Drill | Mode::Asm => FILE_LIMIT,
@@ -83,7 +91,9 @@ fn answer_to<I: Source, O: Sink>(
     ensures stopped { status_of result ≡ 4 → (options.now.mode ≢ M.Drill) × (result ≡ A.Stopped options.now.turns) }
     ensures listed { options.now.mode ≡ M.List → status_of result ≡ 0 → TakesListing O.agrees out.old out.new }
     ensures part { options.now.mode ≡ M.List → TakesPartOfListing O.agrees out.old out.new }
-    ensures assembled { options.now.mode ≡ M.Asm → status_of result ≢ 3 → status_of result ≢ 8 → IsListing text.now }
+    ensures report { runs_image options.now.mode ≡ true → status_of result ≢ 3 → status_of result ≢ 6 → status_of result ≢ 8
+        → ReportsText O.agrees out.old out.new (I.left input.old) (I.left input.new) options.now text.now result }
+    ensures part_of_report { runs_image options.now.mode ≡ true → ReportsTextPart O.agrees out.old out.new (I.left input.old) (I.left input.new) options.now text.now }
     ensures silent { options.now.mode ≡ M.Check → out.new ≡ out.old }
     ensures unread { leaves_input options.now.mode ≡ true → input.new ≡ input.old }
     ensures write_fault { status_of result ≡ 6 → RisesBy (O.faults out.old) (O.faults out.new) }
@@ -184,6 +194,9 @@ pub fn cstar<R: Threads + Sync, S: Shelf, I: Source, O: Sink, E: Sink, G: Gate +
         × Takes E.agrees err.old err.new (line_of (named (map string_bytes words.now)) A.CannotRead) }
     ensures listing { AsksFor M.List (map string_bytes words.now) → result ≡ 0 → TakesListing O.agrees out.old out.new }
     ensures part_of_listing { AsksFor M.List (map string_bytes words.now) → TakesPartOfListing O.agrees out.old out.new }
+    ensures report { (mode : Mode) → AsksFor mode (map string_bytes words.now) → runs_image mode ≡ true → IsReported result
+        → (options : Options) × IsAsked (map string_bytes words.now) mode options × ((text : List ℕ) × Holds S.tells S.file shelf.old options.file.now text
+        × ((answer : Answer) × (status_of answer ≡ result) × ReportsText O.agrees out.old out.new (I.left input.old) (I.left input.new) options text answer)) }
     ensures silent { AsksFor M.Check (map string_bytes words.now) → out.new ≡ out.old }
     ensures unread { LeavesInput (map string_bytes words.now) → input.new ≡ input.old }
     ensures write_fault { result ≡ 6 → RisesBy (O.faults out.old) (O.faults out.new) ⊎ RisesBy (E.faults err.old) (E.faults err.new) }
