@@ -1,225 +1,107 @@
-//! The names of operations, relations, reductions and formats.
+//! The operation, relation, reduction or format of a name, looked up among the names of listings.
+
+ghost use Rattle.std.specs.Prelude.{◌≡◌, IfOk};
+ghost use Rattle.paris_code.specs.Mnemonics.{format_name, operation_name, reduction_name, relation_name};
 
 use crate::words::Stop;
 use paris_code::{Compare, NumberFormat, Operation, Reduction};
 
-/// A value with its name.
-struct Named<T> {
-    name: &'static str,
-    value: T,
-}
-
-static OPERATIONS: [Named<Operation>; 18] = [
-    Named {
-        name: "s_add",
-        value: Operation::SAdd,
-    },
-    Named {
-        name: "s_subtract",
-        value: Operation::SSubtract,
-    },
-    Named {
-        name: "s_multiply",
-        value: Operation::SMultiply,
-    },
-    Named {
-        name: "s_truncate",
-        value: Operation::STruncate,
-    },
-    Named {
-        name: "u_truncate",
-        value: Operation::UTruncate,
-    },
-    Named {
-        name: "s_rem",
-        value: Operation::SRem,
-    },
-    Named {
-        name: "u_rem",
-        value: Operation::URem,
-    },
-    Named {
-        name: "s_mod",
-        value: Operation::SMod,
-    },
-    Named {
-        name: "s_min",
-        value: Operation::SMin,
-    },
-    Named {
-        name: "u_min",
-        value: Operation::UMin,
-    },
-    Named {
-        name: "s_max",
-        value: Operation::SMax,
-    },
-    Named {
-        name: "u_max",
-        value: Operation::UMax,
-    },
-    Named {
-        name: "logand",
-        value: Operation::Logand,
-    },
-    Named {
-        name: "logior",
-        value: Operation::Logior,
-    },
-    Named {
-        name: "logxor",
-        value: Operation::Logxor,
-    },
-    Named {
-        name: "u_shift_left",
-        value: Operation::UShiftLeft,
-    },
-    Named {
-        name: "s_shift_right",
-        value: Operation::SShiftRight,
-    },
-    Named {
-        name: "u_shift_right",
-        value: Operation::UShiftRight,
-    },
+static OPERATIONS: [Operation; 18] = [
+    Operation::SAdd,
+    Operation::SSubtract,
+    Operation::SMultiply,
+    Operation::STruncate,
+    Operation::UTruncate,
+    Operation::SRem,
+    Operation::URem,
+    Operation::SMod,
+    Operation::SMin,
+    Operation::UMin,
+    Operation::SMax,
+    Operation::UMax,
+    Operation::Logand,
+    Operation::Logior,
+    Operation::Logxor,
+    Operation::UShiftLeft,
+    Operation::SShiftRight,
+    Operation::UShiftRight,
 ];
 
 /// The operation of this name.
-pub fn operation(name: &[u8]) -> Result<Operation, Stop> {
-    for named in &OPERATIONS {
-        if named.name.as_bytes() == name {
-            return Ok(named.value);
+pub fn operation(name: &[u8]) -> Result<Operation, Stop>
+    ensures { IfOk result (λ op. operation_name op ≡ name.now) }
+{
+    for op in &OPERATIONS {
+        if paris_text::operation(*op) == name {
+            return Ok(*op);
         }
     }
     Err(Stop::NoLine)
 }
 
-static RELATIONS: [Named<Compare>; 10] = [
-    Named {
-        name: "u_eq",
-        value: Compare::UEq,
-    },
-    Named {
-        name: "u_ne",
-        value: Compare::UNe,
-    },
-    Named {
-        name: "s_lt",
-        value: Compare::SLt,
-    },
-    Named {
-        name: "s_le",
-        value: Compare::SLe,
-    },
-    Named {
-        name: "s_gt",
-        value: Compare::SGt,
-    },
-    Named {
-        name: "s_ge",
-        value: Compare::SGe,
-    },
-    Named {
-        name: "u_lt",
-        value: Compare::ULt,
-    },
-    Named {
-        name: "u_le",
-        value: Compare::ULe,
-    },
-    Named {
-        name: "u_gt",
-        value: Compare::UGt,
-    },
-    Named {
-        name: "u_ge",
-        value: Compare::UGe,
-    },
+static RELATIONS: [Compare; 10] = [
+    Compare::UEq,
+    Compare::UNe,
+    Compare::SLt,
+    Compare::SLe,
+    Compare::SGt,
+    Compare::SGe,
+    Compare::ULt,
+    Compare::ULe,
+    Compare::UGt,
+    Compare::UGe,
 ];
 
 /// The relation of this name.
-pub fn relation(name: &[u8]) -> Result<Compare, Stop> {
-    for named in &RELATIONS {
-        if named.name.as_bytes() == name {
-            return Ok(named.value);
+pub fn relation(name: &[u8]) -> Result<Compare, Stop>
+    ensures { IfOk result (λ relation. relation_name relation ≡ name.now) }
+{
+    for relation in &RELATIONS {
+        if paris_text::relation(*relation) == name {
+            return Ok(*relation);
         }
     }
     Err(Stop::NoLine)
 }
 
-static REDUCTIONS: [Named<Reduction>; 8] = [
-    Named {
-        name: "s_add",
-        value: Reduction::SAdd,
-    },
-    Named {
-        name: "logand",
-        value: Reduction::Logand,
-    },
-    Named {
-        name: "logior",
-        value: Reduction::Logior,
-    },
-    Named {
-        name: "logxor",
-        value: Reduction::Logxor,
-    },
-    Named {
-        name: "s_min",
-        value: Reduction::SMin,
-    },
-    Named {
-        name: "u_min",
-        value: Reduction::UMin,
-    },
-    Named {
-        name: "s_max",
-        value: Reduction::SMax,
-    },
-    Named {
-        name: "u_max",
-        value: Reduction::UMax,
-    },
+static REDUCTIONS: [Reduction; 8] = [
+    Reduction::SAdd,
+    Reduction::Logand,
+    Reduction::Logior,
+    Reduction::Logxor,
+    Reduction::SMin,
+    Reduction::UMin,
+    Reduction::SMax,
+    Reduction::UMax,
 ];
 
 /// The reduction of this name.
-pub fn reduction(name: &[u8]) -> Result<Reduction, Stop> {
-    for named in &REDUCTIONS {
-        if named.name.as_bytes() == name {
-            return Ok(named.value);
+pub fn reduction(name: &[u8]) -> Result<Reduction, Stop>
+    ensures { IfOk result (λ combiner. reduction_name combiner ≡ name.now) }
+{
+    for combiner in &REDUCTIONS {
+        if paris_text::reduction(*combiner) == name {
+            return Ok(*combiner);
         }
     }
     Err(Stop::NoLine)
 }
 
-static FORMATS: [Named<NumberFormat>; 5] = [
-    Named {
-        name: "s",
-        value: NumberFormat::Signed,
-    },
-    Named {
-        name: "u",
-        value: NumberFormat::Unsigned,
-    },
-    Named {
-        name: "x",
-        value: NumberFormat::Hexadecimal,
-    },
-    Named {
-        name: "o",
-        value: NumberFormat::Octal,
-    },
-    Named {
-        name: "c",
-        value: NumberFormat::Character,
-    },
+static FORMATS: [NumberFormat; 5] = [
+    NumberFormat::Signed,
+    NumberFormat::Unsigned,
+    NumberFormat::Hexadecimal,
+    NumberFormat::Octal,
+    NumberFormat::Character,
 ];
 
 /// The format of this letter.
-pub fn format(name: &[u8]) -> Result<NumberFormat, Stop> {
-    for named in &FORMATS {
-        if named.name.as_bytes() == name {
-            return Ok(named.value);
+pub fn format(letter: &[u8]) -> Result<NumberFormat, Stop>
+    ensures { IfOk result (λ format. format_name format ≡ letter.now) }
+{
+    for format in &FORMATS {
+        if paris_text::format(*format) == letter {
+            return Ok(*format);
         }
     }
     Err(Stop::NoLine)

@@ -9,3 +9,4 @@ mod pieces;
 mod words;
 
 pub use image::print;
+pub use mnemonics::{format, operation, reduction, relation};
