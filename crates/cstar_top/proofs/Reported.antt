@@ -1,31 +1,6 @@
--- The report of the command: the text that it is of, the statuses that it comes with, and the counts of faults.
-use Rattle.std.proofs.Common.{◌≡◌, ◌≢◌, ◌≤◌, ◌+◌, ◌∙◌, ℕ, List, [], Option, Some, None, ◌⊎◌, inl, inr, length, take, min, option_map, ap, sym, subst, refl, arith}
-use Rattle.std.specs.Prelude.{unwrap_or}
-use Rattle.std.proofs.lemmas.List.{length-take, take_all}
-use Rattle.paris_machine.specs.declared.outcome.End.{End}
-use Rattle.paris_machine.specs.declared.outcome.End.TheVariants as E
-use Rattle.paris_machine.specs.Ends.{Tells, input_broke}
-use Rattle.cstar_top.specs.Answers.{status_of}
-use Rattle.cstar_top.specs.Courses.{answer_to_end}
+-- The statuses that the report of a run comes with.
+use Rattle.std.proofs.Common.{◌≡◌, ◌≢◌, ◌≤◌, ℕ, ◌⊎◌, inl, inr, arith}
 use Rattle.cstar_top.specs.Reported.{IsWhole}
-
--- a file whose first bytes are a text within the greatest length is that text
-pub held : (limit : ℕ) (file : Option (List ℕ)) (text : List ℕ) → option_map (take (limit + 1)) file ≡ Some text → length text ≤ limit → file ≡ Some text
-held limit None text is within = cc
-held limit (Some bytes) text is within =
-    let first : take (limit + 1) bytes ≡ text = ap (λ (o : Option (List ℕ)). unwrap_or o []) is in
-    let long : min (limit + 1) (length bytes) ≡ length text = sym (length-take (limit + 1) bytes) ∙ ap length first in
-    let fits : length bytes ≤ limit + 1 = omega arith in
-    ap Some (sym (take_all (limit + 1) bytes fits) ∙ first)
-
--- a run that ended otherwise than by a failed input left the count of its input
-pub input_unbroken : (end : End) (turns old new : ℕ) → Tells (input_broke end) old new → status_of (answer_to_end turns end) ≢ 7 → new ≡ old
-input_unbroken E.Done turns old new tells other = tells
-input_unbroken (E.Fault kind place position) turns old new tells other = tells
-input_unbroken E.Stopped turns old new tells other = tells
-input_unbroken E.InputBroken turns old new tells other = absurd (other refl)
-input_unbroken E.OutputBroken turns old new tells other = tells
-input_unbroken E.Memory turns old new tells other = tells
 
 -- the statuses of outputs that were taken whole are none of the others
 pub whole_not : (s : ℕ) → IsWhole s → (s ≢ 2) × (s ≢ 3) × (s ≢ 5) × (s ≢ 6) × (s ≢ 8)
