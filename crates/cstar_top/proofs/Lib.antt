@@ -3,3 +3,4 @@ pub mod Courses
 pub mod Lines
 pub mod Listings
 pub mod Names
+pub mod Reported

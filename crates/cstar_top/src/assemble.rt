@@ -1,6 +1,6 @@
 //! From a listing to a checked image.
 
-ghost use Rattle.std.specs.Prelude.{◌≡◌, IfOk};
+ghost use Rattle.std.specs.Prelude.{◌≡◌, ◌≤◌, IfOk, length};
 ghost use Rattle.paris_code.specs.Listing.{listing};
 
 use crate::compile::{FILE_LIMIT, FILE_START, MOST_NUMBERED, NoImage, refused, too_long};
@@ -30,7 +30,8 @@ const MOST_SLOTS: u32 = 67_108_864;
 /// none of a listing, sets that take too many bits, too many registers or open calls, and the first
 /// instruction that breaks an image rule, at its line.
 pub fn assembled(alloc: Global, text: &[u8]) -> Result<Sound, NoImage>
-    ensures { IfOk result (λ sound. listing sound ≡ text.now) }
+    ensures listed { IfOk result (λ sound. listing sound ≡ text.now) }
+    ensures within { IfOk result (λ sound. length text.now ≤ FILE_LIMIT) }
 {
     if text.len() > FILE_LIMIT as usize {
         return Err(too_long());

@@ -50,7 +50,9 @@ impl From<Memory> for NoImage {
 
 /// The typed program of a file's text. The first fault is that of the length, then of the words of
 /// the text, of the grammar, of the types, each over the whole file.
-pub fn accepted(alloc: Global, text: &[u8]) -> Result<TypedText, NoImage> {
+pub fn accepted(alloc: Global, text: &[u8]) -> Result<TypedText, NoImage>
+    ensures { IfOk result (λ program. length text.now ≤ FILE_LIMIT) }
+{
     if text.len() > FILE_LIMIT as usize {
         return Err(too_long());
     }

@@ -37,6 +37,7 @@ pub fn run_image<I: Source, O: Sink>(
     ensures write_fault { status_of result ≡ 6 → RisesBy (O.faults out.old) (O.faults out.new) }
     ensures input_fault { status_of result ≡ 7 → RisesBy (I.faults input.old) (I.faults input.new) }
     ensures count { status_of result ≢ 6 → O.faults out.new ≡ O.faults out.old }
+    ensures input_count { status_of result ≢ 6 → status_of result ≢ 7 → I.faults input.new ≡ I.faults input.old }
     ensures report { status_of result ≢ 6 → status_of result ≢ 8 → Reports O.agrees out.old out.new (I.left input.old) (I.left input.new) options.now sound.now result }
     ensures part { ReportsPart O.agrees out.old out.new (I.left input.old) (I.left input.new) options.now sound.now }
 {

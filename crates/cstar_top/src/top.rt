@@ -1,15 +1,17 @@
-ghost use Rattle.std.specs.Prelude.{◌≡◌, ◌≢◌, ◌≤◌, ℕ, List, true, false, ◌⊎◌, map, codes, IfOk};
+ghost use Rattle.std.specs.Prelude.{◌≡◌, ◌≢◌, ◌≤◌, ℕ, List, true, false, ◌⊎◌, map, length, codes, IfOk};
 ghost use Rattle.std.specs.String.{string_bytes};
 ghost use Rattle.cstar_io.specs.Faults.{RisesBy};
-ghost use Rattle.cstar_io.specs.Output.{Takes, TakesPrefix};
+ghost use Rattle.cstar_io.specs.Output.{Takes, TakesNothing, TakesPrefix};
 ghost use Rattle.cstar_words.specs.declared.options.Mode.TheVariants as M;
-ghost use Rattle.cstar_words.specs.Reading.{is_command};
+ghost use Rattle.cstar_words.specs.Reading.{Reads, is_command, rows_in};
 ghost use Rattle.cstar_top.specs.declared.answer.Answer.{Answer};
 ghost use Rattle.cstar_top.specs.declared.answer.Answer.TheVariants as A;
 ghost use Rattle.cstar_top.specs.Answers.{line_of, status_of, usage_line};
 ghost use Rattle.cstar_top.specs.Listings.{IsListing, TakesListing, TakesPartOfListing};
 ghost use Rattle.paris_code.specs.Listing.{listing};
 ghost use Rattle.cstar_top.specs.Modes.{AsksFor, HasBudget, LeavesInput, budget, leaves_input, named};
+ghost use Rattle.cstar_words.specs.declared.options.Options.{Options};
+ghost use Rattle.cstar_top.specs.Reported.{AsksToRun, Holds, IsWhole, ReportsText, ReportsTextPart, runs_image};
 ghost use Rattle.cstar_top.specs.Reports.{CannotFetch, PutsAnswer, PutsPartOfAnswer};
 
 use crate::answer::Answer;
@@ -43,11 +45,19 @@ fn answer<S: Shelf, I: Source, O: Sink>(
     ensures stopped { status_of result ≡ 4 → result ≡ A.Stopped (budget options.now.mode options.now.turns) }
     ensures listed { options.now.mode ≡ M.List → status_of result ≡ 0 → TakesListing O.agrees out.old out.new }
     ensures part { options.now.mode ≡ M.List → TakesPartOfListing O.agrees out.old out.new }
+    ensures report { runs_image options.now.mode ≡ true → status_of result ≢ 3 → status_of result ≢ 5 → status_of result ≢ 6 → status_of result ≢ 8
+        → (text : List ℕ) × Holds S.tells S.file shelf.old options.now.file.now text
+        × ReportsText O.agrees out.old out.new (I.left input.old) (I.left input.new) options.now text result }
+    ensures part_of_report { runs_image options.now.mode ≡ true → TakesNothing O.agrees out.old out.new
+        ⊎ ((text : List ℕ) × Holds S.tells S.file shelf.old options.now.file.now text
+        × ReportsTextPart O.agrees out.old out.new (I.left input.old) (I.left input.new) options.now text) }
     ensures silent { options.now.mode ≡ M.Check → out.new ≡ out.old }
     ensures unread { leaves_input options.now.mode ≡ true → input.new ≡ input.old }
     ensures write_fault { status_of result ≡ 6 → RisesBy (O.faults out.old) (O.faults out.new) }
     ensures input_fault { status_of result ≡ 7 → RisesBy (I.faults input.old) (I.faults input.new) }
     ensures count { status_of result ≢ 6 → O.faults out.new ≡ O.faults out.old }
+    ensures input_count { status_of result ≢ 6 → status_of result ≢ 7 → I.faults input.new ≡ I.faults input.old }
+    ensures shelf_count { status_of result ≢ 5 → S.faults shelf.new ≡ S.faults shelf.old }
     ensures files { (name : List ℕ) → S.file shelf.new name ≡ S.file shelf.old name }
 {
     if let Mode::Drill = options.mode {
@@ -62,7 +72,9 @@ fn answer<S: Shelf, I: Source, O: Sink>(
 }
 
 /// The greatest length of a file.
-fn limit(mode: Mode) -> u32 {
+fn limit(mode: Mode) -> u32
+    ensures { runs_image mode ≡ true → result ≡ 1048576 }
+{
     match mode {
         Mode::Resume => POINT_LIMIT,
         Mode::Run | Mode::List | Mode::Check | Mode::Drill | Mode::Asm => FILE_LIMIT,
@@ -84,11 +96,16 @@ fn answer_to<I: Source, O: Sink>(
     ensures listed { options.now.mode ≡ M.List → status_of result ≡ 0 → TakesListing O.agrees out.old out.new }
     ensures part { options.now.mode ≡ M.List → TakesPartOfListing O.agrees out.old out.new }
     ensures assembled { options.now.mode ≡ M.Asm → status_of result ≢ 3 → status_of result ≢ 8 → IsListing text.now }
+    ensures report { runs_image options.now.mode ≡ true → status_of result ≢ 3 → status_of result ≢ 6 → status_of result ≢ 8
+        → ReportsText O.agrees out.old out.new (I.left input.old) (I.left input.new) options.now text.now result }
+    ensures part_of_report { runs_image options.now.mode ≡ true → TakesNothing O.agrees out.old out.new
+        ⊎ ReportsTextPart O.agrees out.old out.new (I.left input.old) (I.left input.new) options.now text.now }
     ensures silent { options.now.mode ≡ M.Check → out.new ≡ out.old }
     ensures unread { leaves_input options.now.mode ≡ true → input.new ≡ input.old }
     ensures write_fault { status_of result ≡ 6 → RisesBy (O.faults out.old) (O.faults out.new) }
     ensures input_fault { status_of result ≡ 7 → RisesBy (I.faults input.old) (I.faults input.new) }
     ensures count { status_of result ≢ 6 → O.faults out.new ≡ O.faults out.old }
+    ensures input_count { status_of result ≢ 6 → status_of result ≢ 7 → I.faults input.new ≡ I.faults input.old }
 {
     match options.mode {
         Mode::Run => match runnable(alloc, options, text) {
@@ -124,7 +141,9 @@ fn compiled(alloc: Global, text: &[u8]) -> Result<Sound, NoImage> {
 }
 
 /// The image of a program that is to be run. A run that is to be saved is not built yet.
-fn runnable(alloc: Global, options: &Options, text: &[u8]) -> Result<Sound, NoImage> {
+fn runnable(alloc: Global, options: &Options, text: &[u8]) -> Result<Sound, NoImage>
+    ensures { IfOk result (λ sound. length text.now ≤ FILE_LIMIT) }
+{
     let program = accepted(alloc, text)?;
     if options.save.is_some() {
         return Err(not_built());
@@ -134,7 +153,8 @@ fn runnable(alloc: Global, options: &Options, text: &[u8]) -> Result<Sound, NoIm
 
 /// The image of a listing that is to be run. A run that is to be saved is not built yet.
 fn runnable_listing(alloc: Global, options: &Options, text: &[u8]) -> Result<Sound, NoImage>
-    ensures { IfOk result (λ sound. listing sound ≡ text.now) }
+    ensures listed { IfOk result (λ sound. listing sound ≡ text.now) }
+    ensures within { IfOk result (λ sound. length text.now ≤ FILE_LIMIT) }
 {
     let sound = assembled(alloc, text)?;
     if options.save.is_some() {
@@ -184,11 +204,19 @@ pub fn cstar<R: Threads + Sync, S: Shelf, I: Source, O: Sink, E: Sink, G: Gate +
         × Takes E.agrees err.old err.new (line_of (named (map string_bytes words.now)) A.CannotRead) }
     ensures listing { AsksFor M.List (map string_bytes words.now) → result ≡ 0 → TakesListing O.agrees out.old out.new }
     ensures part_of_listing { AsksFor M.List (map string_bytes words.now) → TakesPartOfListing O.agrees out.old out.new }
+    ensures report { AsksToRun (map string_bytes words.now) → IsWhole result
+        → (options : Options) × Reads (rows_in (map string_bytes words.now)) options × ((text : List ℕ) × Holds S.tells S.file shelf.old options.file.now text
+        × ((answer : Answer) × (status_of answer ≡ result) × Takes E.agrees err.old err.new (line_of options.file.now answer)
+        × ReportsText O.agrees out.old out.new (I.left input.old) (I.left input.new) options text answer)) }
+    ensures part_of_report { AsksToRun (map string_bytes words.now) → TakesNothing O.agrees out.old out.new
+        ⊎ ((options : Options) × Reads (rows_in (map string_bytes words.now)) options × ((text : List ℕ) × Holds S.tells S.file shelf.old options.file.now text
+        × ReportsTextPart O.agrees out.old out.new (I.left input.old) (I.left input.new) options text)) }
     ensures silent { AsksFor M.Check (map string_bytes words.now) → out.new ≡ out.old }
     ensures unread { LeavesInput (map string_bytes words.now) → input.new ≡ input.old }
     ensures write_fault { result ≡ 6 → RisesBy (O.faults out.old) (O.faults out.new) ⊎ RisesBy (E.faults err.old) (E.faults err.new) }
     ensures input_fault { result ≡ 7 → RisesBy (I.faults input.old) (I.faults input.new) }
     ensures counts { result ≢ 6 → (O.faults out.new ≡ O.faults out.old) × (E.faults err.new ≡ E.faults err.old) }
+    ensures calm { result ≤ 4 → (I.faults input.new ≡ I.faults input.old) × (S.faults shelf.new ≡ S.faults shelf.old) }
     ensures memory { result ≡ 8 → Takes E.agrees err.old err.new (codes "out of memory\n") }
     ensures line { result ≢ 6 → PutsAnswer E.agrees err.old err.new (named (map string_bytes words.now)) result }
     ensures part { result ≡ 6 → PutsPartOfAnswer E.agrees err.old err.new (named (map string_bytes words.now)) }

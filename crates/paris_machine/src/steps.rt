@@ -52,9 +52,11 @@ fn fault_of(instr: &Instr) -> Option<(u8, Place)>
 fn apply<P: Phases>(sound: &Sound, front: &mut Front, at: u32, p: &mut P) -> Option<End>
     requires fits { Fits sound.now (state_of front.old) }
     requires shapes { P.shapes p.old ≡ shapes_of sound.now }
+    requires able { P.able p.old }
     requires asked { IsAsked sound.now at (state_of front.old) }
     ensures fits { Fits sound.now (state_of front.new) }
     ensures shapes { P.shapes p.new ≡ shapes_of sound.now }
+    ensures able { P.able p.new }
     ensures ready { IfNone result (front.new.wanted ≡ None) }
     ensures input { input_broke_in result ≡ false }
     ensures output { output_broke_in result ≡ false }
@@ -145,8 +147,10 @@ fn advance<P: Phases, I: Source, O: Sink>(
     requires fits { Fits sound.now (state_of front.old) }
     requires ready { front.old.wanted ≡ None }
     requires shapes { P.shapes p.old ≡ shapes_of sound.now }
+    requires able { P.able p.old }
     ensures fits { Fits sound.now (state_of front.new) }
     ensures shapes { P.shapes p.new ≡ shapes_of sound.now }
+    ensures able { P.able p.new }
     ensures ready { IfNone result (front.new.wanted ≡ None) }
     ensures input { Tells (input_broke_in result) (I.faults input.old) (I.faults input.new) }
     ensures output { Tells (output_broke_in result) (O.faults out.old) (O.faults out.new) }
@@ -194,8 +198,10 @@ fn drive<P: Phases, I: Source, O: Sink>(
     requires fits { Fits sound.now (state_of front.old) }
     requires ready { front.old.wanted ≡ None }
     requires shapes { P.shapes p.old ≡ shapes_of sound.now }
+    requires able { P.able p.old }
     ensures fits { Fits sound.now (state_of front.new) }
     ensures shapes { P.shapes p.new ≡ shapes_of sound.now }
+    ensures able { P.able p.new }
     ensures steps { result.1 ≤ (front.old.turns + 1) * length sound.now.code.items }
     ensures some { 1 ≤ result.1 }
     ensures input { Tells (input_broke result.0) (I.faults input.old) (I.faults input.new) }
@@ -232,8 +238,10 @@ pub fn resume<P: Phases, I: Source, O: Sink>(
 ) -> (Outcome, Kept)
     requires fits { KeptFits sound.now kept }
     requires shapes { P.shapes p.old ≡ shapes_of sound.now }
+    requires able { P.able p.old }
     ensures fits { KeptFits sound.now result.1 }
     ensures shapes { P.shapes p.new ≡ shapes_of sound.now }
+    ensures able { P.able p.new }
     ensures steps { result.0.steps ≤ (turns + 1) * length sound.now.code.items }
     ensures input { Tells (input_broke result.0.end) (I.faults input.old) (I.faults input.new) }
     ensures output { Tells (output_broke result.0.end) (O.faults out.old) (O.faults out.new) }
@@ -277,8 +285,10 @@ pub fn run<P: Phases, I: Source, O: Sink>(
     input: &mut I,
     out: &mut O,
 ) -> Outcome
-    requires { P.shapes p.old ≡ shapes_of sound.now }
+    requires shapes { P.shapes p.old ≡ shapes_of sound.now }
+    requires able { P.able p.old }
     ensures shapes { P.shapes p.new ≡ shapes_of sound.now }
+    ensures able { P.able p.new }
     ensures steps { result.steps ≤ (turns + 1) * length sound.now.code.items }
     ensures input { Tells (input_broke result.end) (I.faults input.old) (I.faults input.new) }
     ensures output { Tells (output_broke result.end) (O.faults out.old) (O.faults out.new) }

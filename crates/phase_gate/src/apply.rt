@@ -270,6 +270,8 @@ impl Phases for RowPhases {
 
     ghost memory = { memory_of };
 
+    ghost able = { λ _. Unit {0} };
+
     fn apply(&mut self, instr: &Instr, args: &[u32]) -> Reply {
         if let Some(reply) = self.check(instr, args) {
             return reply;

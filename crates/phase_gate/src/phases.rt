@@ -18,12 +18,19 @@ pub trait Phases {
     /// The bits of all processors.
     ghost memory: { Self → BitMemory };
 
+    /// What must be true of the phases for `apply` to mean the instruction. Phases on several threads
+    /// rest on what they run their work by: that it may be shared among threads, may be called, and
+    /// does what it says. Phases on one thread rest on nothing.
+    ghost able: { Self → Type 0 };
+
     /// Does a parallel instruction; `args` are the values of the registers that it reads, in the
     /// order of its operands. `Value` where it has a result register, `Bad` with the least active
     /// processor whose check fails, `Memory` at a send alone, and then nothing has changed; else
     /// `Nothing`.
     fn apply(&mut self, instr: &Instr, args: &[u32]) -> Reply
-        requires { CanApply (shapes self.old) instr.now args.now }
+        requires can { CanApply (shapes self.old) instr.now args.now }
+        requires able { able self.old }
+        ensures able { able self.new }
         ensures reply { ReplyFits instr.now result }
         ensures shapes { shapes self.new ≡ shapes self.old }
         ensures meaning { Means (shapes self.old) instr.now args.now (memory self.old) (memory self.new) result };
@@ -45,11 +52,13 @@ pub trait Phases {
     fn set_bit(&mut self, set: u16, index: u32, position: u32, b: bool)
         requires position { IsPosition (shapes self.old) set position }
         requires index { index < bits_at (shapes self.old) set + 2 }
+        ensures able { able self.old → able self.new }
         ensures shapes { shapes self.new ≡ shapes self.old }
         ensures memory { SameBits (shapes self.old) (memory self.new) (written (at_one (bit_run set index) position (from_bool b)) (memory self.old)) };
 
     /// Changes which sender of a colliding send without a combiner wins, and nothing else.
     fn choose(&mut self, w: Winner)
+        ensures able { able self.old → able self.new }
         ensures shapes { shapes self.new ≡ shapes self.old }
         ensures memory { SameBits (shapes self.old) (memory self.new) (record { bit = (memory self.old).bit; winner = w }) };
 }

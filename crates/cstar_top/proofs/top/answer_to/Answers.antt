@@ -1,6 +1,8 @@
-use Rattle.std.proofs.Common.{subst, arith}
+use Rattle.std.proofs.Common.{sym, subst, arith, inr}
+use Rattle.cstar_words.specs.declared.options.Mode.{Mode}
 use Rattle.paris_code.specs.declared.program.Image.{Image}
 use Rattle.paris_code.specs.Sound.{IsSound}
+use Rattle.cstar_top.specs.Reported.{IsImageOf}
 use Rattle.cstar_top.proofs.top.answer_to.Goals as goal
 
 pub returns-in-Ok-compiled-clause-listed : goal.returns-in-Ok-compiled-clause-listed
@@ -10,4 +12,32 @@ pub returns-in-Ok-runnable_listing-clause-assembled : goal.returns-in-Ok-runnabl
 returns-in-Ok-runnable_listing-clause-assembled g c asks other more =
     let image = c.in-Ok-runnable_listing.sound in
     let sound : IsSound image = subst (λ (i : Image). IsSound i) c.sound-in-Ok-runnable_listing.view_is c.sound-in-Ok-runnable_listing.invariant.0 in
-    (image, sound, c.in-Ok-runnable_listing.ensures)
+    (image, sound, c.in-Ok-runnable_listing.ensures.listed)
+
+pub returns-in-Ok-runnable_listing-clause-report : goal.returns-in-Ok-runnable_listing-clause-report
+returns-in-Ok-runnable_listing-clause-report g c runs three six eight =
+    let image = c.in-Ok-runnable_listing.sound in
+    let sound : IsSound image = subst (λ (i : Image). IsSound i) c.sound-in-Ok-runnable_listing.view_is c.sound-in-Ok-runnable_listing.invariant.0 in
+    let is = subst (λ (mode : Mode). IsImageOf mode c.args.text.now image) (sym c.in-Asm.is) (c.in-Ok-runnable_listing.ensures.within, sound, c.in-Ok-runnable_listing.ensures.listed) in
+    (image, is, c.run_image-in-Ok-runnable_listing.ensures.report six eight)
+
+pub returns-in-Ok-runnable_listing-clause-part_of_report : goal.returns-in-Ok-runnable_listing-clause-part_of_report
+returns-in-Ok-runnable_listing-clause-part_of_report g c runs =
+    let image = c.in-Ok-runnable_listing.sound in
+    let sound : IsSound image = subst (λ (i : Image). IsSound i) c.sound-in-Ok-runnable_listing.view_is c.sound-in-Ok-runnable_listing.invariant.0 in
+    let is = subst (λ (mode : Mode). IsImageOf mode c.args.text.now image) (sym c.in-Asm.is) (c.in-Ok-runnable_listing.ensures.within, sound, c.in-Ok-runnable_listing.ensures.listed) in
+    inr (image, is, c.run_image-in-Ok-runnable_listing.ensures.part)
+
+pub returns-in-Ok-clause-report : goal.returns-in-Ok-clause-report
+returns-in-Ok-clause-report g c runs three six eight =
+    let image = c.in-Ok.sound in
+    let sound : IsSound image = subst (λ (i : Image). IsSound i) c.sound.view_is c.sound.invariant.0 in
+    let is = subst (λ (mode : Mode). IsImageOf mode c.args.text.now image) (sym c.in-Run.is) (c.in-Ok.ensures, sound) in
+    (image, is, c.run_image.ensures.report six eight)
+
+pub returns-in-Ok-clause-part_of_report : goal.returns-in-Ok-clause-part_of_report
+returns-in-Ok-clause-part_of_report g c runs =
+    let image = c.in-Ok.sound in
+    let sound : IsSound image = subst (λ (i : Image). IsSound i) c.sound.view_is c.sound.invariant.0 in
+    let is = subst (λ (mode : Mode). IsImageOf mode c.args.text.now image) (sym c.in-Run.is) (c.in-Ok.ensures, sound) in
+    inr (image, is, c.run_image.ensures.part)

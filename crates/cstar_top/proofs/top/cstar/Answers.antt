@@ -1,4 +1,4 @@
-use Rattle.std.proofs.Common.{◌∙◌, List, ℕ, map, subst, sym, ap, codes, refl, arith, lit<}
+use Rattle.std.proofs.Common.{◌∙◌, List, ℕ, inl, inr, map, subst, sym, ap, codes, refl, arith, lit<}
 use Rattle.std.specs.String.{string_bytes}
 use Rattle.cstar_top.proofs.Asked.{budget_is, mode_is, named_is}
 use Rattle.cstar_io.specs.Output.{Takes}
@@ -6,8 +6,10 @@ use Rattle.cstar_top.specs.declared.answer.Answer.{Answer}
 use Rattle.cstar_top.specs.declared.answer.Answer.TheVariants as A
 use Rattle.cstar_top.specs.Answers.{line_of, status_of, usage_line}
 use Rattle.cstar_top.specs.Modes.{budget, leaves_input, named}
+use Rattle.cstar_top.specs.Reported.{runs_image}
 use Rattle.cstar_top.proofs.Lines.{part_of_either, status_is}
 use Rattle.cstar_top.proofs.Listings.{nothing_taken}
+use Rattle.cstar_top.proofs.Reported.{calm_is, whole_is, whole_not}
 use Rattle.cstar_top.proofs.top.cstar.Goals as goal
 
 pub returns-in-Ok-clause-counts : goal.returns-in-Ok-clause-counts
@@ -60,3 +62,40 @@ returns-in-Err-Usage-clause-part_of_listing g c asks = nothing_taken g.O.Sink.ag
 
 pub returns-in-Err-Memory-clause-part_of_listing : goal.returns-in-Err-Memory-clause-part_of_listing
 returns-in-Err-Memory-clause-part_of_listing g c asks = nothing_taken g.O.Sink.agrees c.args.out.now
+
+pub returns-in-Ok-clause-report : goal.returns-in-Ok-clause-report
+returns-in-Ok-clause-report g c asks whole =
+    let options = c.in-Ok.options in
+    let answer = c.answer-answer.result in
+    let same = whole_is c.report.result (status_of answer) whole c.report.ensures.status in
+    let others = whole_not c.report.result whole in
+    let runs = ap runs_image (mode_is _ options asks.0 c.in-Ok.ensures.reads asks.1) ∙ asks.2 in
+    let own = c.report.ensures.own same others.3 others.4 in
+    let reported = c.answer-answer.ensures.report runs (λ is. others.1 (same ∙ is)) (λ is. others.2 (same ∙ is)) (λ is. others.3 (same ∙ is)) (λ is. others.4 (same ∙ is)) in (
+      options,
+      c.in-Ok.ensures.reads,
+      (
+        reported.0,
+        reported.1,
+        (
+          answer,
+          sym same,
+          subst (λ (name : List ℕ). Takes g.E.Sink.agrees c.args.err.now c.report.new.err (line_of name answer)) c.as_bytes.ensures.value own,
+          reported.2,
+        ),
+      ),
+    )
+
+pub returns-in-Ok-clause-part_of_report : goal.returns-in-Ok-clause-part_of_report
+returns-in-Ok-clause-part_of_report g c asks =
+    let options = c.in-Ok.options in
+    let runs = ap runs_image (mode_is _ options asks.0 c.in-Ok.ensures.reads asks.1) ∙ asks.2 in
+    elim (c.answer-answer.ensures.part_of_report runs) [
+      | inl nothing ↦ inl nothing
+      | inr part ↦ inr (options, c.in-Ok.ensures.reads, (part.0, part.1, part.2))
+    ]
+
+pub returns-in-Ok-clause-calm : goal.returns-in-Ok-clause-calm
+returns-in-Ok-clause-calm g c below =
+    let same = calm_is c.report.result (status_of c.answer-answer.result) below c.report.ensures.status in
+    (c.answer-answer.ensures.input_count (λ six. omega arith) (λ seven. omega arith), c.answer-answer.ensures.shelf_count (λ five. omega arith))

@@ -11,6 +11,7 @@ steps-init g c = record {
   fits = c.requires.fits;
   ready = c.requires.ready;
   shapes = c.requires.shapes;
+  able = c.requires.able;
   input = refl;
   output = refl;
   over = λ e. (e, refl);
@@ -46,6 +47,7 @@ steps-preserved g c =
       fits = c.in_default.ensures.fits;
       ready = c.in_default.ensures.ready;
       shapes = c.in_default.ensures.shapes;
+      able = c.in_default.ensures.able;
       input = c.in_default.ensures.input ∙ kept.input;
       output = c.in_default.ensures.output ∙ kept.output;
       over = λ e. (let was = kept.over e in let is = c.advance.ensures.over was.0 in (is.0, is.1 ∙ was.1));

@@ -15,6 +15,7 @@ invariant-steps g l = record {
   fits : Fits l.sound (state_of l.front);
   ready : l.front.wanted ≡ None;
   shapes : g.P.Phases.shapes l.p ≡ shapes_of l.sound;
+  able : g.P.Phases.able l.p;
   input : g.I.Source.faults l.input ≡ g.I.Source.faults l.initial.input;
   output : g.O.Sink.faults l.out ≡ g.O.Sink.faults l.initial.out;
   over : l.initial.ended ≡ true → (l.ended ≡ true) × (l.input ≡ l.initial.input);
