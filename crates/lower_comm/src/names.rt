@@ -2,6 +2,11 @@
 //! and behind them, for each function, its parameters, its result and the variables of its blocks.
 //! Instances of one function share these, as a function is never called while it runs.
 
+ghost use Rattle.std.specs.Prelude.{◌≡◌, IfOk};
+ghost use Rattle.lower_comm.specs.Drafts.{Makes, draft, from, an_entry};
+ghost use Rattle.paris_code.specs.declared.program.Owner.TheVariants as W;
+ghost use Rattle.lower_comm.specs.Layouts.{layout, entries_of, elements_of, result_register, register_of, own_field, field_of};
+
 use crate::emit::plus;
 use cstar_base::Memory;
 use cstar_tree::typed::{Instance, TStmt, Typed, VarInfo, Variable};
@@ -100,7 +105,10 @@ impl Names {
     }
 
     /// The register of a scalar variable.
-    pub fn register(&self, variable: Variable) -> Result<u32, Memory> {
+    #[tactic(auto, unfolding(crate::specs::Layouts::register_of, crate::specs::Layouts::layout))]
+    pub fn register(&self, variable: Variable) -> Result<u32, Memory>
+        ensures { IfOk result (λ r. r ≡ register_of (layout self.now) variable) }
+    {
         match variable {
             Variable::File(k) => Ok(k),
             Variable::Param(k) => plus(self.base, k),
@@ -109,19 +117,25 @@ impl Names {
     }
 
     /// The register of a scalar result.
-    pub fn result_register(&self) -> Result<u32, Memory> {
+    #[tactic(auto, unfolding(crate::specs::Layouts::result_register, crate::specs::Layouts::layout))]
+    pub fn result_register(&self) -> Result<u32, Memory>
+        ensures { IfOk result (λ r. r ≡ result_register (layout self.now)) }
+    {
         plus(self.base, count(self.params.len())?)
     }
 
     /// The field of a parallel variable, or of an element of an array. A variable of the file gets
     /// one more entry of the unit.
+    #[tactic(auto, unfolding(crate::specs::Layouts::field_of, crate::specs::Layouts::layout, crate::specs::Drafts::draft, crate::specs::Drafts::from))]
     pub fn field(
         &self,
         t: &Typed,
         variable: Variable,
         element: u32,
         u: &mut Unit,
-    ) -> Result<Field, Memory> {
+    ) -> Result<Field, Memory>
+        ensures draft { IfOk result (λ f. field_of t.now (layout self.now) variable element (draft u.old) ≡ Makes f (draft u.new)) }
+    {
         match variable {
             Variable::File(k) => {
                 let (Some(info), Some(first)) = (t.vars.get(k as usize), self.files.get(k as usize))
@@ -151,7 +165,10 @@ impl Names {
     }
 
     /// How many elements an array has.
-    pub fn elements(&self, t: &Typed, variable: Variable) -> u32 {
+    #[tactic(auto, unfolding(crate::specs::Layouts::elements_of, crate::specs::Layouts::layout))]
+    pub fn elements(&self, t: &Typed, variable: Variable) -> u32
+        ensures { result ≡ elements_of t.now (layout self.now) variable }
+    {
         match variable {
             Variable::File(k) => match t.vars.get(k as usize) {
                 Some(info) => entries_of(info),
@@ -177,7 +194,10 @@ pub fn named(t: &Typed, name: &[u8]) -> Option<usize> {
 }
 
 /// How many fields a variable has: none, one, or one for each element.
-pub fn entries_of(info: &VarInfo) -> u32 {
+#[tactic(auto, unfolding(crate::specs::Layouts::entries_of))]
+pub fn entries_of(info: &VarInfo) -> u32
+    ensures { result ≡ entries_of info.now }
+{
     match info.shape {
         Some(_) => info.array.unwrap_or(1),
         None => 0,
@@ -185,7 +205,10 @@ pub fn entries_of(info: &VarInfo) -> u32 {
 }
 
 /// The field of a variable of the file, as one more entry.
-fn file_entry(u: &mut Unit, info: &VarInfo, number: u32) -> Result<Field, Memory> {
+#[tactic(auto, unfolding(crate::specs::Drafts::from))]
+fn file_entry(u: &mut Unit, info: &VarInfo, number: u32) -> Result<Field, Memory>
+    ensures draft { IfOk result (λ f. from info.now.shape (λ set. an_entry set info.now.elem.bits (W.File number) (draft u.old)) ≡ Makes f (draft u.new)) }
+{
     match info.shape {
         Some(set) => crate::emit::entry(u, set, info.elem.bits, Owner::File(number)),
         None => Err(Memory),
@@ -193,7 +216,10 @@ fn file_entry(u: &mut Unit, info: &VarInfo, number: u32) -> Result<Field, Memory
 }
 
 /// The field of an entry of the unit.
-pub fn own_entry(u: &Unit, index: u32) -> Result<Field, Memory> {
+#[tactic(auto, unfolding(crate::specs::Layouts::own_field, crate::specs::Drafts::draft, crate::specs::Drafts::from))]
+pub fn own_entry(u: &Unit, index: u32) -> Result<Field, Memory>
+    ensures { IfOk result (λ f. own_field index (draft u.now) ≡ Makes f (draft u.now)) }
+{
     match u.fields.get(index as usize) {
         Some(entry) => Ok(Field {
             set: entry.set,
@@ -205,7 +231,9 @@ pub fn own_entry(u: &Unit, index: u32) -> Result<Field, Memory> {
 }
 
 /// A length as a number of 32 bits.
-pub fn count(n: usize) -> Result<u32, Memory> {
+pub fn count(n: usize) -> Result<u32, Memory>
+    ensures { IfOk result (λ c. c ≡ n) }
+{
     match u32::try_from(n) {
         Ok(count) => Ok(count),
         Err(_) => Err(Memory),
