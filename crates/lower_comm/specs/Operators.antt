@@ -1,15 +1,13 @@
 -- Which operator of the machine does what an operator of the language means.
-use Rattle.std.specs.Prelude.{ℕ, Bool, ◌||◌, if◌then◌else◌, nat_lt, Option, Some, None}
+use Rattle.std.specs.Prelude.{Bool, ◌||◌, if◌then◌else◌, nat_lt, Option, Some, None}
 use Rattle.cstar_base.specs.declared.elem.Elem.{Elem}
 use Rattle.cstar_base.specs.declared.operators.Combiner.{Combiner}
 use Rattle.cstar_base.specs.declared.operators.Combiner.TheVariants as C
 use Rattle.cstar_base.specs.declared.operators.Op.{Op}
-use Rattle.cstar_base.specs.declared.operators.Op.TheVariants as Op
 use Rattle.cstar_tree.specs.declared.syntax.AssignOp.{AssignOp}
 use Rattle.cstar_tree.specs.declared.syntax.AssignOp.TheVariants as A
 use Rattle.cstar_tree.specs.declared.syntax.ReduceOp.{ReduceOp}
 use Rattle.cstar_tree.specs.declared.syntax.ReduceOp.TheVariants as R
-use Rattle.paris_code.specs.declared.operands.Compare.{Compare}
 use Rattle.paris_code.specs.declared.operands.Compare.TheVariants as K
 use Rattle.paris_code.specs.declared.operands.Operation.{Operation}
 use Rattle.paris_code.specs.declared.operands.Operation.TheVariants as N
