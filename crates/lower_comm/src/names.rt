@@ -329,7 +329,7 @@ fn behind(next: u32, info: &VarInfo) -> Result<u32, Memory>
 
 /// Numbers the variables of a statement's blocks, in the order of the text.
 #[cycle(locals)]
-#[tactic(auto, unfolding(crate::specs::Layouts::variables_step, crate::specs::Layouts::declared_by, cstar_tree::specs::TypedParts::concat))]
+#[tactic(auto, using(crate::proofs::Numbering::numbered_append, crate::proofs::Numbering::numbered_none), unfolding(crate::specs::Layouts::variables_step, crate::specs::Layouts::declared_by, crate::specs::Layouts::numbered, cstar_tree::specs::TypedParts::concat))]
 fn number_locals(s: &TStmt, locals: &mut Vec<LocalName>, homes: &mut u32) -> Result<(), Memory>
     ensures {
         OnOk result (numbered (variables_of s.now) (record { locals = locals.old.items; homes = homes.old })
@@ -365,13 +365,17 @@ fn number_locals(s: &TStmt, locals: &mut Vec<LocalName>, homes: &mut u32) -> Res
         | TStmt::For { body, .. }
         | TStmt::With { body, .. }
         | TStmt::Everywhere { body, .. } => number_locals(body, locals, homes),
-        _ => Ok(()),
+        TStmt::Expression(_)
+        | TStmt::Empty
+        | TStmt::Break
+        | TStmt::Continue
+        | TStmt::Return(_) => Ok(()),
     }
 }
 
 /// Numbers the variables of the blocks in statements.
 #[cycle(locals)]
-#[tactic(auto, unfolding(cstar_tree::specs::TypedParts::concat))]
+#[tactic(auto)]
 fn number_each(
     statements: &[TStmt],
     locals: &mut Vec<LocalName>,
