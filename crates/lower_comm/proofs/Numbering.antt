@@ -10,9 +10,10 @@ use Rattle.cstar_tree.specs.declared.typed.TStmt as S
 use Rattle.cstar_tree.specs.declared.typed.TStmt.TheFolds.{fold-roll-TStmt}
 use Rattle.cstar_tree.specs.declared.typed.TStmt.TheOpen.{TStmt-F}
 use Rattle.cstar_tree.specs.declared.typed.TStmt.TheVariants.{rolls-Block}
+use Rattle.cstar_tree.specs.declared.typed.Typed.{Typed}
 use Rattle.cstar_tree.specs.declared.typed.VarInfo.{VarInfo}
 use Rattle.cstar_tree.specs.TypedParts.{concat}
-use Rattle.lower_comm.specs.Layouts.{Numbering, numbered, with_local, declared_by, variables_step, variables_of}
+use Rattle.lower_comm.specs.Layouts.{Layout, Numbering, numbered, with_local, declared_by, variables_step, variables_of, entered, layout_of}
 
 pub numbered_append : (xs ys : List VarInfo) (n : Numbering) → numbered (xs ++ ys) n ≡ numbered ys (numbered xs n)
 unfolding numbered
@@ -44,3 +45,11 @@ numbered_none n = refl
 pub variables_block : (declared : Vec LocalVar Global) (statements : Vec TStmt Global) → variables_of (S.Block declared statements) ≡ map (λ (local : LocalVar). local.info) declared.items ++ concat (map variables_of statements.items)
 unfolding variables_step declared_by
 variables_block declared statements = ap variables_of (sym (rolls-Block declared statements)) ∙ fold-roll-TStmt (List VarInfo) variables_step (TStmt-F.Block declared statements)
+
+-- whichever instance saw the numbering before, another one sees it as from the start
+pub entered_of : (t : Typed) (n m : ℕ) → entered t n (layout_of t m) ≡ layout_of t n
+unfolding entered layout_of
+entered_of t n m = refl
+
+pub entered_from : (t : Typed) (n m : ℕ) (before after : Layout) → before ≡ layout_of t m → after ≡ entered t n before → after ≡ layout_of t n
+entered_from t n m before after h e = e ∙ ap (entered t n) h ∙ entered_of t n m

@@ -46,7 +46,7 @@ pub struct Names {
 
 impl Names {
     /// The numbering as `main` sees it.
-    #[tactic(auto, unfolding(crate::specs::Layouts::layout_of, crate::specs::Layouts::layout))]
+    #[tactic(auto, unfolding(crate::specs::Layouts::layout_of, crate::specs::Layouts::entered, crate::specs::Layouts::layout))]
     pub fn of(alloc: Global, t: &Typed) -> Result<Names, Memory>
         ensures { IfOk result (λ names. layout names ≡ layout_of t.now 0) }
     {
@@ -67,9 +67,17 @@ impl Names {
         Ok(names)
     }
 
-    /// The numbering as an instance sees it.
-    #[tactic(auto, unfolding(crate::specs::Layouts::entered, crate::specs::Layouts::layout))]
+    /// The numbering as an instance sees it, whichever instance saw it before.
     pub fn enter(&mut self, t: &Typed, number: usize) -> Result<(), Memory>
+        ensures entered { OnOk result (layout self.new ≡ entered t.now number (layout self.old)) }
+        ensures other { OnOk result ((m : ℕ) → layout self.old ≡ layout_of t.now m → layout self.new ≡ layout_of t.now number) }
+    {
+        self.see_as(t, number)?;
+        Ok(())
+    }
+
+    #[tactic(auto, unfolding(crate::specs::Layouts::entered, crate::specs::Layouts::layout))]
+    fn see_as(&mut self, t: &Typed, number: usize) -> Result<(), Memory>
         ensures { OnOk result (layout self.new ≡ entered t.now number (layout self.old)) }
     {
         let Some(base) = self.bases.get(number) else {
@@ -247,6 +255,7 @@ fn first_fields(alloc: Global, vars: &[VarInfo]) -> Result<Vec<u32>, Memory>
 }
 
 /// The first registers of all instances, behind those of the file. `end` moves behind them.
+#[tactic(auto, unfolding(crate::specs::Layouts::registers_of))]
 fn bases_of(alloc: Global, instances: &[Instance], end: &mut u32) -> Result<Vec<u32>, Memory>
     ensures { IfOk result (λ bases. registers_of instances.now end.old ≡ record { bases = bases.items; end = end.new }) }
 {
