@@ -63,14 +63,13 @@ impl Names {
             locals: Vec::new(alloc),
             homes: 0,
         };
-        names.enter(t, 0)?;
+        names.see_as(t, 0)?;
         Ok(names)
     }
 
     /// The numbering as an instance sees it, whichever instance saw it before.
     pub fn enter(&mut self, t: &Typed, number: usize) -> Result<(), Memory>
-        ensures entered { OnOk result (layout self.new ≡ entered t.now number (layout self.old)) }
-        ensures other { OnOk result ((m : ℕ) → layout self.old ≡ layout_of t.now m → layout self.new ≡ layout_of t.now number) }
+        ensures { (k : ℕ) → layout self.old ≡ layout_of t.now k → OnOk result (layout self.new ≡ layout_of t.now number) }
     {
         self.see_as(t, number)?;
         Ok(())
@@ -276,10 +275,8 @@ fn add_base(
     bases: &mut Vec<u32>,
     end: &mut u32,
 ) -> Result<(), Memory>
-    ensures {
-        OnOk result (with_instance instances.now (record { bases = bases.old.items; end = end.old }) instance.now
-            ≡ record { bases = bases.new.items; end = end.new })
-    }
+    ensures { OnOk result (with_instance instances.now (record { bases = bases.old.items; end = end.old }) instance.now
+        ≡ record { bases = bases.new.items; end = end.new }) }
 {
     if let Some(base) = earlier_base(instances, bases, instance) {
         bases.push(base)?;
@@ -340,10 +337,8 @@ fn behind(next: u32, info: &VarInfo) -> Result<u32, Memory>
 #[cycle(locals)]
 #[tactic(auto, using(crate::proofs::Numbering::numbered_append, crate::proofs::Numbering::numbered_none), unfolding(crate::specs::Layouts::variables_step, crate::specs::Layouts::declared_by, crate::specs::Layouts::numbered, cstar_tree::specs::TypedParts::concat))]
 fn number_locals(s: &TStmt, locals: &mut Vec<LocalName>, homes: &mut u32) -> Result<(), Memory>
-    ensures {
-        OnOk result (numbered (variables_of s.now) (record { locals = locals.old.items; homes = homes.old })
-            ≡ record { locals = locals.new.items; homes = homes.new })
-    }
+    ensures { OnOk result (numbered (variables_of s.now) (record { locals = locals.old.items; homes = homes.old })
+        ≡ record { locals = locals.new.items; homes = homes.new }) }
 {
     match s {
         TStmt::Block {
@@ -374,11 +369,8 @@ fn number_locals(s: &TStmt, locals: &mut Vec<LocalName>, homes: &mut u32) -> Res
         | TStmt::For { body, .. }
         | TStmt::With { body, .. }
         | TStmt::Everywhere { body, .. } => number_locals(body, locals, homes),
-        TStmt::Expression(_)
-        | TStmt::Empty
-        | TStmt::Break
-        | TStmt::Continue
-        | TStmt::Return(_) => Ok(()),
+        TStmt::Expression(_) | TStmt::Empty | TStmt::Break | TStmt::Continue | TStmt::Return(_) =>
+            Ok(()),
     }
 }
 
@@ -390,10 +382,8 @@ fn number_each(
     locals: &mut Vec<LocalName>,
     homes: &mut u32,
 ) -> Result<(), Memory>
-    ensures {
-        OnOk result (numbered (concat (map variables_of statements.now)) (record { locals = locals.old.items; homes = homes.old })
-            ≡ record { locals = locals.new.items; homes = homes.new })
-    }
+    ensures { OnOk result (numbered (concat (map variables_of statements.now)) (record { locals = locals.old.items; homes = homes.old })
+        ≡ record { locals = locals.new.items; homes = homes.new }) }
 {
     for statement in statements {
         number_locals(statement, locals, homes)?;
@@ -408,10 +398,8 @@ fn number_declared(
     locals: &mut Vec<LocalName>,
     homes: &mut u32,
 ) -> Result<(), Memory>
-    ensures {
-        OnOk result (numbered (map (λ (local : LocalVar). local.info) declared.now) (record { locals = locals.old.items; homes = homes.old })
-            ≡ record { locals = locals.new.items; homes = homes.new })
-    }
+    ensures { OnOk result (numbered (map (λ (local : LocalVar). local.info) declared.now) (record { locals = locals.old.items; homes = homes.old })
+        ≡ record { locals = locals.new.items; homes = homes.new }) }
 {
     for local in declared {
         add_local(&local.info, locals, homes)?;
@@ -422,10 +410,8 @@ fn number_declared(
 /// One more variable of a block.
 #[tactic(auto, unfolding(crate::specs::Layouts::with_local))]
 fn add_local(info: &VarInfo, locals: &mut Vec<LocalName>, homes: &mut u32) -> Result<(), Memory>
-    ensures {
-        OnOk result (with_local (record { locals = locals.old.items; homes = homes.old }) info.now
-            ≡ record { locals = locals.new.items; homes = homes.new })
-    }
+    ensures { OnOk result (with_local (record { locals = locals.old.items; homes = homes.old }) info.now
+        ≡ record { locals = locals.new.items; homes = homes.new }) }
 {
     locals.push(LocalName {
         home: *homes,
