@@ -1,8 +1,7 @@
 -- The code of communication, over parts that stand in registers and fields already.
-use Rattle.std.specs.Prelude.{ℕ, Bool, true, false, ◌+◌, ◌==◌, if◌then◌else◌, List, [], ◌∷◌, ◌++◌, map, slice_get, Option, Some, None}
+use Rattle.std.specs.Prelude.{ℕ, Bool, false, ◌+◌, ◌==◌, if◌then◌else◌, List, [], ◌∷◌, ◌++◌, map, slice_get, Option, Some, None}
 use Rattle.cstar_base.specs.declared.elem.Elem.{Elem}
 use Rattle.cstar_base.specs.declared.operators.Op.{Op}
-use Rattle.cstar_base.specs.declared.operators.Op.TheVariants as Op
 use Rattle.cstar_base.specs.declared.operators.Place.{Place}
 use Rattle.cstar_tree.specs.declared.syntax.ReduceOp.{ReduceOp}
 use Rattle.cstar_tree.specs.declared.syntax.ReduceOp.TheVariants as R
@@ -10,7 +9,6 @@ use Rattle.cstar_tree.specs.declared.typed.TExpr.{TExpr, out-TExpr}
 use Rattle.cstar_tree.specs.declared.typed.TExpr as T
 use Rattle.cstar_tree.specs.declared.typed.TExpr.TheOpen.{TExpr-F}
 use Rattle.cstar_tree.specs.declared.typed.Typed.{Typed}
-use Rattle.cstar_tree.specs.declared.typed.ValueType.{ValueType}
 use Rattle.cstar_tree.specs.declared.typed.Variable.{Variable}
 use Rattle.cstar_tree.specs.Typed.{type_of}
 use Rattle.paris_code.specs.declared.instr.Instr.TheVariants as I
