@@ -1,6 +1,9 @@
 //! How a unit grows: by one instruction, one register or one field at a time.
 
-ghost use Rattle.std.specs.Prelude.{◌≡◌, [], ◌∷◌, ◌++◌, ◌+◌, vec_len, IfOk, OnOk};
+ghost use Rattle.std.specs.Prelude.{◌≡◌, ◌+◌, IfOk, OnOk};
+ghost use Rattle.paris_code.specs.declared.program.Owner.TheVariants as W;
+ghost use Rattle.lower_comm.specs.declared.emit.Out.TheVariants as O;
+ghost use Rattle.lower_comm.specs.Drafts.{Makes, draft, here, with_instr, a_register, an_entry};
 
 use cstar_base::Memory;
 use paris_code::{Field, Instr, Owner, Unit, Virtual};
@@ -15,20 +18,18 @@ pub enum Out {
 }
 
 /// One more instruction.
+#[tactic(auto, using(std::proofs::lemmas::List::map_push), unfolding(crate::specs::Drafts::draft, crate::specs::Drafts::with_instr, crate::specs::Drafts::with_step))]
 pub fn put(u: &mut Unit, instr: Instr) -> Result<(), Memory>
-    ensures code { OnOk result (u.new.code.items ≡ u.old.code.items ++ instr ∷ []) }
-    ensures place { OnOk result (vec_len u.new.code ≡ vec_len u.old.code + 1) }
-    ensures regs { u.new.regs ≡ u.old.regs }
-    ensures homes { u.new.homes ≡ u.old.homes }
-    ensures fields { u.new.fields ≡ u.old.fields }
+    ensures draft { OnOk result (with_instr instr (draft u.old) ≡ draft u.new) }
 {
     u.code.push(instr)?;
     Ok(())
 }
 
 /// The place of the next instruction.
+#[tactic(auto, unfolding(crate::specs::Drafts::draft, crate::specs::Drafts::here))]
 pub fn here(u: &Unit) -> Result<u32, Memory>
-    ensures { IfOk result (λ n. n ≡ vec_len u.now.code) }
+    ensures { IfOk result (λ n. n ≡ here (draft u.now)) }
 {
     match u32::try_from(u.code.len()) {
         Ok(place) => Ok(place),
@@ -37,12 +38,9 @@ pub fn here(u: &Unit) -> Result<u32, Memory>
 }
 
 /// A fresh register.
+#[tactic(auto, unfolding(crate::specs::Drafts::draft, crate::specs::Drafts::a_register))]
 pub fn register(u: &mut Unit) -> Result<u32, Memory>
-    ensures result { IfOk result (λ r. r ≡ u.old.regs) }
-    ensures regs { OnOk result (u.new.regs ≡ u.old.regs + 1) }
-    ensures code { u.new.code ≡ u.old.code }
-    ensures homes { u.new.homes ≡ u.old.homes }
-    ensures fields { u.new.fields ≡ u.old.fields }
+    ensures draft { IfOk result (λ r. a_register (draft u.old) ≡ Makes r (draft u.new)) }
 {
     let fresh = u.regs;
     u.regs = plus(fresh, 1)?;
@@ -50,12 +48,9 @@ pub fn register(u: &mut Unit) -> Result<u32, Memory>
 }
 
 /// One more entry of the unit's fields, as a field of its whole length.
+#[tactic(auto, unfolding(crate::specs::Drafts::draft, crate::specs::Drafts::an_entry))]
 pub fn entry(u: &mut Unit, set: u16, len: u8, owner: Owner) -> Result<Field, Memory>
-    ensures fields { OnOk result (u.new.fields.items ≡ u.old.fields.items ++ record { set = set; len = len; owner = owner } ∷ []) }
-    ensures result { IfOk result (λ f. f ≡ record { set = set; offset = vec_len u.old.fields; len = len }) }
-    ensures code { u.new.code ≡ u.old.code }
-    ensures homes { u.new.homes ≡ u.old.homes }
-    ensures regs { u.new.regs ≡ u.old.regs }
+    ensures draft { IfOk result (λ f. an_entry set len owner (draft u.old) ≡ Makes f (draft u.new)) }
 {
     let Ok(offset) = u32::try_from(u.fields.len()) else {
         return Err(Memory);
@@ -66,18 +61,14 @@ pub fn entry(u: &mut Unit, set: u16, len: u8, owner: Owner) -> Result<Field, Mem
 
 /// A fresh field for a value.
 pub fn field(u: &mut Unit, set: u16) -> Result<Field, Memory>
-    ensures code { u.new.code ≡ u.old.code }
-    ensures homes { u.new.homes ≡ u.old.homes }
-    ensures regs { u.new.regs ≡ u.old.regs }
+    ensures draft { IfOk result (λ f. an_entry set 32 W.Own (draft u.old) ≡ Makes f (draft u.new)) }
 {
     entry(u, set, 32, Owner::Own)
 }
 
 /// A fresh field of one bit, for a flag.
 pub fn flag(u: &mut Unit, set: u16) -> Result<Field, Memory>
-    ensures code { u.new.code ≡ u.old.code }
-    ensures homes { u.new.homes ≡ u.old.homes }
-    ensures regs { u.new.regs ≡ u.old.regs }
+    ensures draft { IfOk result (λ f. an_entry set 1 W.Own (draft u.old) ≡ Makes f (draft u.new)) }
 {
     entry(u, set, 1, Owner::Own)
 }
@@ -94,7 +85,9 @@ pub fn plus(a: u32, b: u32) -> Result<u32, Memory>
 
 impl Out {
     /// The register, where there is one.
-    pub fn register(self) -> Result<u32, Memory> {
+    pub fn register(self) -> Result<u32, Memory>
+        ensures { IfOk result (λ r. self ≡ O.Scalar r) }
+    {
         match self {
             Out::Scalar(register) => Ok(register),
             Out::Field(_) | Out::Nothing => Err(Memory),
@@ -102,7 +95,9 @@ impl Out {
     }
 
     /// The field, where there is one.
-    pub fn field(self) -> Result<Field, Memory> {
+    pub fn field(self) -> Result<Field, Memory>
+        ensures { IfOk result (λ f. self ≡ O.Field f) }
+    {
         match self {
             Out::Field(field) => Ok(field),
             Out::Scalar(_) | Out::Nothing => Err(Memory),

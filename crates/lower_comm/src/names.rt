@@ -2,9 +2,16 @@
 //! and behind them, for each function, its parameters, its result and the variables of its blocks.
 //! Instances of one function share these, as a function is never called while it runs.
 
+ghost use Rattle.std.specs.Prelude.{◌≡◌, ℕ, ◌+◌, ◌++◌, length, map, fold, IfOk, OnOk};
+ghost use Rattle.cstar_tree.specs.declared.typed.LocalVar.{LocalVar};
+ghost use Rattle.cstar_tree.specs.TypedParts.{concat};
+ghost use Rattle.lower_comm.specs.Drafts.{Makes, draft, from, an_entry};
+ghost use Rattle.paris_code.specs.declared.program.Owner.TheVariants as W;
+ghost use Rattle.lower_comm.specs.Layouts.{layout, entries_of, elements_of, result_register, register_of, own_field, field_of, first_fields, behind, param_entries, variables_of, numbered, nothing_numbered, with_local, first_named, earlier_base, with_instance, registers_of, entered, layout_of};
+
 use crate::emit::plus;
 use cstar_base::Memory;
-use cstar_tree::typed::{Instance, TStmt, Typed, VarInfo, Variable};
+use cstar_tree::typed::{Instance, LocalVar, TStmt, Typed, VarInfo, Variable};
 use paris_code::{Field, Owner, Unit};
 use std::alloc::Global;
 
@@ -39,50 +46,39 @@ pub struct Names {
 
 impl Names {
     /// The numbering as `main` sees it.
-    pub fn of(alloc: Global, t: &Typed) -> Result<Names, Memory> {
+    #[tactic(auto, unfolding(crate::specs::Layouts::layout_of, crate::specs::Layouts::entered, crate::specs::Layouts::layout))]
+    pub fn of(alloc: Global, t: &Typed) -> Result<Names, Memory>
+        ensures { IfOk result (λ names. layout names ≡ layout_of t.now 0) }
+    {
+        let files = first_fields(alloc, &t.vars)?;
+        let mut end = count(t.vars.len())?;
+        let bases = bases_of(alloc, &t.instances, &mut end)?;
         let mut names = Names {
-            files: Vec::new(alloc),
-            bases: Vec::new(alloc),
-            end: 0,
+            files,
+            bases,
+            end,
             base: 0,
             params: Vec::new(alloc),
             outcome: 0,
             locals: Vec::new(alloc),
             homes: 0,
         };
-        names.end = number_files(t, &mut names.files)?;
-        for instance in &t.instances {
-            let base = names.base_of(t, instance)?;
-            names.bases.push(base)?;
-        }
-        names.enter(t, 0)?;
+        names.see_as(t, 0)?;
         Ok(names)
     }
 
-    /// Where an instance's registers begin: where those of an earlier one of its function do, or
-    /// else behind all others.
-    fn base_of(&mut self, t: &Typed, instance: &Instance) -> Result<u32, Memory> {
-        if let Some(earlier) = named(t, instance.name.bytes()) {
-            if let Some(base) = self.bases.get(earlier) {
-                return Ok(*base);
-            }
-        }
-        let base = self.end;
-        self.locals.clear();
-        self.homes = 0;
-        number_locals(&instance.body, &mut self.locals, &mut self.homes)?;
-        let scalars = count(self.locals.len())?;
-        let params = count(instance.params.len())?;
-        self.end = plus(plus(plus(base, scalars)?, params)?, 1)?;
-        Ok(base)
+    /// The numbering as an instance sees it, whichever instance saw it before.
+    pub fn enter(&mut self, t: &Typed, number: usize) -> Result<(), Memory>
+        ensures { (k : ℕ) → layout self.old ≡ layout_of t.now k → OnOk result (layout self.new ≡ layout_of t.now number) }
+    {
+        self.see_as(t, number)?;
+        Ok(())
     }
 
-    /// The numbering as an instance sees it.
-    pub fn enter(&mut self, t: &Typed, number: usize) -> Result<(), Memory> {
-        self.params.clear();
-        self.locals.clear();
-        self.homes = 0;
-        self.outcome = 0;
+    #[tactic(auto, unfolding(crate::specs::Layouts::entered, crate::specs::Layouts::layout))]
+    fn see_as(&mut self, t: &Typed, number: usize) -> Result<(), Memory>
+        ensures { OnOk result (layout self.new ≡ entered t.now number (layout self.old)) }
+    {
         let Some(base) = self.bases.get(number) else {
             return Err(Memory);
         };
@@ -90,17 +86,18 @@ impl Names {
         let Some(instance) = t.instances.get(number) else {
             return Err(Memory);
         };
-        for param in &instance.params {
-            self.params.push(self.outcome)?;
-            if param.shape.is_some() {
-                self.outcome = plus(self.outcome, 1)?;
-            }
-        }
+        self.params.clear();
+        self.outcome = number_params(&instance.params, &mut self.params)?;
+        self.locals.clear();
+        self.homes = 0;
         number_locals(&instance.body, &mut self.locals, &mut self.homes)
     }
 
     /// The register of a scalar variable.
-    pub fn register(&self, variable: Variable) -> Result<u32, Memory> {
+    #[tactic(auto, unfolding(crate::specs::Layouts::register_of, crate::specs::Layouts::layout))]
+    pub fn register(&self, variable: Variable) -> Result<u32, Memory>
+        ensures { IfOk result (λ r. r ≡ register_of (layout self.now) variable) }
+    {
         match variable {
             Variable::File(k) => Ok(k),
             Variable::Param(k) => plus(self.base, k),
@@ -109,19 +106,25 @@ impl Names {
     }
 
     /// The register of a scalar result.
-    pub fn result_register(&self) -> Result<u32, Memory> {
+    #[tactic(auto, unfolding(crate::specs::Layouts::result_register, crate::specs::Layouts::layout))]
+    pub fn result_register(&self) -> Result<u32, Memory>
+        ensures { IfOk result (λ r. r ≡ result_register (layout self.now)) }
+    {
         plus(self.base, count(self.params.len())?)
     }
 
     /// The field of a parallel variable, or of an element of an array. A variable of the file gets
     /// one more entry of the unit.
+    #[tactic(auto, unfolding(crate::specs::Layouts::field_of, crate::specs::Layouts::layout, crate::specs::Drafts::draft, crate::specs::Drafts::from))]
     pub fn field(
         &self,
         t: &Typed,
         variable: Variable,
         element: u32,
         u: &mut Unit,
-    ) -> Result<Field, Memory> {
+    ) -> Result<Field, Memory>
+        ensures draft { IfOk result (λ f. field_of t.now (layout self.now) variable element (draft u.old) ≡ Makes f (draft u.new)) }
+    {
         match variable {
             Variable::File(k) => {
                 let (Some(info), Some(first)) = (t.vars.get(k as usize), self.files.get(k as usize))
@@ -151,7 +154,10 @@ impl Names {
     }
 
     /// How many elements an array has.
-    pub fn elements(&self, t: &Typed, variable: Variable) -> u32 {
+    #[tactic(auto, unfolding(crate::specs::Layouts::elements_of, crate::specs::Layouts::layout))]
+    pub fn elements(&self, t: &Typed, variable: Variable) -> u32
+        ensures { result ≡ elements_of t.now (layout self.now) variable }
+    {
         match variable {
             Variable::File(k) => match t.vars.get(k as usize) {
                 Some(info) => entries_of(info),
@@ -167,8 +173,18 @@ impl Names {
 }
 
 /// The instance that a name first has.
-pub fn named(t: &Typed, name: &[u8]) -> Option<usize> {
-    for (number, instance) in t.instances.iter().enumerate() {
+pub fn named(t: &Typed, name: &[u8]) -> Option<usize>
+    ensures { result ≡ first_named 0 name.now t.now.instances.items }
+{
+    first_named(&t.instances, name)
+}
+
+/// The first instance with a name.
+#[tactic(auto, unfolding(crate::specs::Layouts::first_named))]
+fn first_named(instances: &[Instance], name: &[u8]) -> Option<usize>
+    ensures { result ≡ first_named 0 name.now instances.now }
+{
+    for (number, instance) in instances.iter().enumerate() {
         if instance.name.bytes() == name {
             return Some(number);
         }
@@ -177,7 +193,10 @@ pub fn named(t: &Typed, name: &[u8]) -> Option<usize> {
 }
 
 /// How many fields a variable has: none, one, or one for each element.
-pub fn entries_of(info: &VarInfo) -> u32 {
+#[tactic(auto, unfolding(crate::specs::Layouts::entries_of))]
+pub fn entries_of(info: &VarInfo) -> u32
+    ensures { result ≡ entries_of info.now }
+{
     match info.shape {
         Some(_) => info.array.unwrap_or(1),
         None => 0,
@@ -185,7 +204,10 @@ pub fn entries_of(info: &VarInfo) -> u32 {
 }
 
 /// The field of a variable of the file, as one more entry.
-fn file_entry(u: &mut Unit, info: &VarInfo, number: u32) -> Result<Field, Memory> {
+#[tactic(auto, unfolding(crate::specs::Drafts::from))]
+fn file_entry(u: &mut Unit, info: &VarInfo, number: u32) -> Result<Field, Memory>
+    ensures draft { IfOk result (λ f. from info.now.shape (λ set. an_entry set info.now.elem.bits (W.File number) (draft u.old)) ≡ Makes f (draft u.new)) }
+{
     match info.shape {
         Some(set) => crate::emit::entry(u, set, info.elem.bits, Owner::File(number)),
         None => Err(Memory),
@@ -193,7 +215,10 @@ fn file_entry(u: &mut Unit, info: &VarInfo, number: u32) -> Result<Field, Memory
 }
 
 /// The field of an entry of the unit.
-pub fn own_entry(u: &Unit, index: u32) -> Result<Field, Memory> {
+#[tactic(auto, unfolding(crate::specs::Layouts::own_field, crate::specs::Drafts::draft, crate::specs::Drafts::from))]
+pub fn own_entry(u: &Unit, index: u32) -> Result<Field, Memory>
+    ensures { IfOk result (λ f. own_field index (draft u.now) ≡ Makes f (draft u.now)) }
+{
     match u.fields.get(index as usize) {
         Some(entry) => Ok(Field {
             set: entry.set,
@@ -205,37 +230,123 @@ pub fn own_entry(u: &Unit, index: u32) -> Result<Field, Memory> {
 }
 
 /// A length as a number of 32 bits.
-pub fn count(n: usize) -> Result<u32, Memory> {
+pub fn count(n: usize) -> Result<u32, Memory>
+    ensures { IfOk result (λ c. c ≡ n) }
+{
     match u32::try_from(n) {
         Ok(count) => Ok(count),
         Err(_) => Err(Memory),
     }
 }
 
-/// Numbers the fields of the file, and answers how many variables it has.
-fn number_files(t: &Typed, files: &mut Vec<u32>) -> Result<u32, Memory> {
+/// The number of the first field of each variable of the file.
+#[tactic(auto, unfolding(crate::specs::Layouts::first_fields))]
+fn first_fields(alloc: Global, vars: &[VarInfo]) -> Result<Vec<u32>, Memory>
+    ensures { IfOk result (λ files. files.items ≡ first_fields 0 vars.now) }
+{
+    let mut files = Vec::new(alloc);
     let mut next = 0;
-    for info in &t.vars {
+    for info in vars {
         files.push(next)?;
         next = plus(next, entries_of(info))?;
     }
-    count(t.vars.len())
+    Ok(files)
+}
+
+/// The first registers of all instances, behind those of the file. `end` moves behind them.
+#[tactic(auto, unfolding(crate::specs::Layouts::registers_of))]
+fn bases_of(alloc: Global, instances: &[Instance], end: &mut u32) -> Result<Vec<u32>, Memory>
+    ensures { IfOk result (λ bases. registers_of instances.now end.old ≡ record { bases = bases.items; end = end.new }) }
+{
+    let mut bases = Vec::new(alloc);
+    for instance in instances {
+        add_base(alloc, instances, instance, &mut bases, end)?;
+    }
+    Ok(bases)
+}
+
+/// The first register of one more instance: where those of an earlier one of its function begin,
+/// or else behind all others.
+#[tactic(auto, unfolding(crate::specs::Layouts::with_instance))]
+fn add_base(
+    alloc: Global,
+    instances: &[Instance],
+    instance: &Instance,
+    bases: &mut Vec<u32>,
+    end: &mut u32,
+) -> Result<(), Memory>
+    ensures { OnOk result (with_instance instances.now (record { bases = bases.old.items; end = end.old }) instance.now
+        ≡ record { bases = bases.new.items; end = end.new }) }
+{
+    if let Some(base) = earlier_base(instances, bases, instance) {
+        bases.push(base)?;
+        return Ok(());
+    }
+    bases.push(*end)?;
+    *end = plus(*end, size_of(alloc, instance)?)?;
+    Ok(())
+}
+
+/// Where the registers of an earlier instance of the same function begin.
+#[tactic(auto, unfolding(crate::specs::Layouts::earlier_base))]
+fn earlier_base(instances: &[Instance], bases: &[u32], instance: &Instance) -> Option<u32>
+    ensures { (end : ℕ) → result ≡ earlier_base instances.now (record { bases = bases.now; end = end }) instance.now }
+{
+    let earlier = first_named(instances, instance.name.bytes())?;
+    bases.get(earlier).copied()
+}
+
+/// How many registers an instance has.
+fn size_of(alloc: Global, instance: &Instance) -> Result<u32, Memory>
+    ensures { IfOk result (λ n. n ≡ length (numbered (variables_of instance.now.body) nothing_numbered).locals + length instance.now.params.items + 1) }
+{
+    let mut locals = Vec::new(alloc);
+    let mut homes = 0;
+    number_locals(&instance.body, &mut locals, &mut homes)?;
+    let scalars = count(locals.len())?;
+    let params = count(instance.params.len())?;
+    plus(plus(scalars, params)?, 1)
+}
+
+/// Numbers the parameters, and answers how many of them are parallel.
+#[tactic(auto, unfolding(crate::specs::Layouts::param_entries))]
+fn number_params(params: &[VarInfo], entries: &mut Vec<u32>) -> Result<u32, Memory>
+    ensures entries { OnOk result (entries.new.items ≡ entries.old.items ++ param_entries 0 params.now) }
+    ensures outcome { IfOk result (λ n. n ≡ fold behind 0 params.now) }
+{
+    let mut next = 0;
+    for info in params {
+        entries.push(next)?;
+        next = behind(next, info)?;
+    }
+    Ok(next)
+}
+
+/// The number behind a variable, where the parallel ones are counted.
+#[tactic(auto, unfolding(crate::specs::Layouts::behind))]
+fn behind(next: u32, info: &VarInfo) -> Result<u32, Memory>
+    ensures { IfOk result (λ n. n ≡ behind next info.now) }
+{
+    match info.shape {
+        Some(_) => plus(next, 1),
+        None => Ok(next),
+    }
 }
 
 /// Numbers the variables of a statement's blocks, in the order of the text.
-fn number_locals(s: &TStmt, locals: &mut Vec<LocalName>, homes: &mut u32) -> Result<(), Memory> {
+#[cycle(locals)]
+#[tactic(auto, using(crate::proofs::Numbering::numbered_append, crate::proofs::Numbering::numbered_none), unfolding(crate::specs::Layouts::variables_step, crate::specs::Layouts::declared_by, crate::specs::Layouts::numbered, cstar_tree::specs::TypedParts::concat))]
+fn number_locals(s: &TStmt, locals: &mut Vec<LocalName>, homes: &mut u32) -> Result<(), Memory>
+    ensures { OnOk result (numbered (variables_of s.now) (record { locals = locals.old.items; homes = homes.old })
+        ≡ record { locals = locals.new.items; homes = homes.new }) }
+{
     match s {
         TStmt::Block {
             locals: declared,
             statements,
         } => {
-            for local in declared {
-                add_local(&local.info, locals, homes)?;
-            }
-            for inner in statements {
-                number_locals(inner, locals, homes)?;
-            }
-            Ok(())
+            number_declared(declared, locals, homes)?;
+            number_each(statements, locals, homes)
         }
         TStmt::If {
             then,
@@ -258,19 +369,54 @@ fn number_locals(s: &TStmt, locals: &mut Vec<LocalName>, homes: &mut u32) -> Res
         | TStmt::For { body, .. }
         | TStmt::With { body, .. }
         | TStmt::Everywhere { body, .. } => number_locals(body, locals, homes),
-        _ => Ok(()),
+        TStmt::Expression(_) | TStmt::Empty | TStmt::Break | TStmt::Continue | TStmt::Return(_) =>
+            Ok(()),
     }
 }
 
+/// Numbers the variables of the blocks in statements.
+#[cycle(locals)]
+#[tactic(auto)]
+fn number_each(
+    statements: &[TStmt],
+    locals: &mut Vec<LocalName>,
+    homes: &mut u32,
+) -> Result<(), Memory>
+    ensures { OnOk result (numbered (concat (map variables_of statements.now)) (record { locals = locals.old.items; homes = homes.old })
+        ≡ record { locals = locals.new.items; homes = homes.new }) }
+{
+    for statement in statements {
+        number_locals(statement, locals, homes)?;
+    }
+    Ok(())
+}
+
+/// Numbers the variables that a block declares.
+#[tactic(auto, unfolding(crate::specs::Layouts::numbered))]
+fn number_declared(
+    declared: &[LocalVar],
+    locals: &mut Vec<LocalName>,
+    homes: &mut u32,
+) -> Result<(), Memory>
+    ensures { OnOk result (numbered (map (λ (local : LocalVar). local.info) declared.now) (record { locals = locals.old.items; homes = homes.old })
+        ≡ record { locals = locals.new.items; homes = homes.new }) }
+{
+    for local in declared {
+        add_local(&local.info, locals, homes)?;
+    }
+    Ok(())
+}
+
 /// One more variable of a block.
-fn add_local(info: &VarInfo, locals: &mut Vec<LocalName>, homes: &mut u32) -> Result<(), Memory> {
-    let entries = entries_of(info);
+#[tactic(auto, unfolding(crate::specs::Layouts::with_local))]
+fn add_local(info: &VarInfo, locals: &mut Vec<LocalName>, homes: &mut u32) -> Result<(), Memory>
+    ensures { OnOk result (with_local (record { locals = locals.old.items; homes = homes.old }) info.now
+        ≡ record { locals = locals.new.items; homes = homes.new }) }
+{
     locals.push(LocalName {
         home: *homes,
-        entries,
+        entries: entries_of(info),
     })?;
-    if info.shape.is_some() {
-        *homes = plus(*homes, 1)?;
-    }
+    *homes = behind(*homes, info)?;
     Ok(())
 }

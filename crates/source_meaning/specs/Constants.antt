@@ -74,3 +74,7 @@ value_of (T.LogicalAnd' ty p left q right) =
 value_of (T.Choice' ty p test q first r second) =
     then_value (value_of test) (λ v. if nonzero v then value_of first else value_of second)
 value_of _ = None
+
+-- the value of an expression where it is constant and no fault
+unfoldable pub constant_of : TExpr → Option ℕ
+constant_of e = if is_constant e then value_of e else None

@@ -7,7 +7,7 @@ pub mod laws;
 ghost use Rattle.std.specs.Prelude.{◌≡◌, ◌<◌, ◌^◌, true, IfSome};
 ghost use Rattle.cstar_base.specs.Operators.{operate};
 ghost use Rattle.cstar_tree.specs.Typed.{type_of};
-ghost use Rattle.source_meaning.specs.Constants.{fits, is_constant, value_of, IsConstantOf};
+ghost use Rattle.source_meaning.specs.Constants.{fits, is_constant, value_of, constant_of, IsConstantOf};
 ghost use Rattle.source_meaning.specs.Values.{cast_type, cast_through, unary_of};
 
 use cstar_base::{Elem, Op, numbers};
@@ -17,9 +17,10 @@ use cstar_tree::typed::{TExpr, UnaryOp, ValueType};
 /// expression is not constant or its value is a fault. It is constant if it is scalar and has
 /// nothing but numbers, casts, what is asked of shapes, and operators without effects; all its
 /// parts count for that, and only the chosen ones for its value.
-#[tactic(auto, unfolding(crate::specs::Constants::IsConstantOf))]
+#[tactic(auto, unfolding(crate::specs::Constants::IsConstantOf, crate::specs::Constants::constant_of))]
 pub fn constant(e: &TExpr) -> Option<u32>
     ensures value { IsConstantOf e.now result }
+    ensures word { result ≡ constant_of e.now }
     ensures bound { IfSome result (λ v. v < 2 ^ (type_of e.now).elem.bits) }
 {
     if is_constant(e) { value(e) } else { None }
