@@ -1,5 +1,9 @@
 //! The fields that an instruction names.
 
+ghost use Rattle.std.specs.Prelude.{◌≡◌, IfOk, map};
+ghost use Rattle.field_alloc.specs.Placed.{IsPlacedInstr, moved, moved_arithmetic, moved_bit, moved_coordinate, moved_instr, moved_message, moved_signed};
+
+use crate::places::number_at;
 use cstar_base::Memory;
 use paris_code::{Coordinate, Field, Instr, SignedCoordinate};
 use std::alloc::Global;
@@ -107,67 +111,87 @@ fn coordinate_field(coordinate: Coordinate, all: &mut Vec<Field>) -> Result<(), 
 }
 
 /// The field at the bits that its entry has.
-fn moved(f: Field, places: &[u32]) -> Field {
+fn moved(f: Field, places: &[u32]) -> Field
+    ensures { result ≡ moved places.now f }
+{
     Field {
         set: f.set,
-        offset: match places.get(f.offset as usize) {
-            Some(place) => *place,
-            None => 0,
-        },
+        offset: number_at(places, f.offset as usize),
         len: f.len,
     }
 }
 
-fn moved_coordinate(coordinate: Coordinate, places: &[u32]) -> Coordinate {
+fn moved_coordinate(coordinate: Coordinate, places: &[u32]) -> Coordinate
+    ensures { result ≡ moved_coordinate places.now coordinate }
+{
     match coordinate {
         Coordinate::Field(field) => Coordinate::Field(moved(field, places)),
         Coordinate::Reg(register) => Coordinate::Reg(register),
     }
 }
 
+fn moved_coordinates(
+    alloc: Global,
+    coordinates: &[Coordinate],
+    places: &[u32],
+) -> Result<Vec<Coordinate>, Memory>
+    ensures { IfOk result (λ v. v.items ≡ map (moved_coordinate places.now) coordinates.now) }
+{
+    let mut over = Vec::new(alloc);
+    for coordinate in coordinates {
+        over.push(moved_coordinate(*coordinate, places))?;
+    }
+    Ok(over)
+}
+
+fn moved_signed(
+    alloc: Global,
+    coordinates: &[SignedCoordinate],
+    places: &[u32],
+) -> Result<Vec<SignedCoordinate>, Memory>
+    ensures { IfOk result (λ v. v.items ≡ map (moved_signed places.now) coordinates.now) }
+{
+    let mut over = Vec::new(alloc);
+    for checked in coordinates {
+        over.push(SignedCoordinate {
+            coordinate: moved_coordinate(checked.coordinate, places),
+            signed: checked.signed,
+        })?;
+    }
+    Ok(over)
+}
+
 /// The instruction over bits: each field at the place of its entry.
-pub fn placed(alloc: Global, i: Instr, places: &[u32]) -> Result<Instr, Memory> {
+pub fn placed(alloc: Global, i: Instr, places: &[u32]) -> Result<Instr, Memory>
+    ensures { IfOk result (λ over. IsPlacedInstr places.now i over) }
+{
     match i {
         Instr::MakeAddress {
             dest,
             set,
             coordinates,
-        } => {
-            let mut over = Vec::new(alloc);
-            for coordinate in &coordinates {
-                over.push(moved_coordinate(*coordinate, places))?;
-            }
-            Ok(Instr::MakeAddress {
-                dest: moved(dest, places),
-                set,
-                coordinates: over,
-            })
-        }
+        } => Ok(Instr::MakeAddress {
+            dest: moved(dest, places),
+            set,
+            coordinates: moved_coordinates(alloc, coordinates.as_slice(), places)?,
+        }),
         Instr::CheckTarget {
             set,
             place,
             coordinates,
-        } => {
-            let mut over = Vec::new(alloc);
-            for checked in &coordinates {
-                let coordinate = moved_coordinate(checked.coordinate, places);
-                over.push(SignedCoordinate {
-                    coordinate,
-                    signed: checked.signed,
-                })?;
-            }
-            Ok(Instr::CheckTarget {
-                set,
-                place,
-                coordinates: over,
-            })
-        }
+        } => Ok(Instr::CheckTarget {
+            set,
+            place,
+            coordinates: moved_signed(alloc, coordinates.as_slice(), places)?,
+        }),
         other => Ok(placed_elementwise(other, places)),
     }
 }
 
 /// The same for moves, flags and checks.
-fn placed_elementwise(i: Instr, p: &[u32]) -> Instr {
+fn placed_elementwise(i: Instr, p: &[u32]) -> Instr
+    ensures { result ≡ moved_instr p.now i }
+{
     match i {
         Instr::Move {
             signed,
@@ -228,7 +252,9 @@ fn placed_elementwise(i: Instr, p: &[u32]) -> Instr {
 }
 
 /// The same for arithmetic and comparisons.
-fn placed_arithmetic(i: Instr, p: &[u32]) -> Instr {
+fn placed_arithmetic(i: Instr, p: &[u32]) -> Instr
+    ensures { result ≡ moved_arithmetic p.now i }
+{
     match i {
         Instr::Operate {
             op,
@@ -284,7 +310,9 @@ fn placed_arithmetic(i: Instr, p: &[u32]) -> Instr {
 }
 
 /// The same for communication. The front end's instructions name no field.
-fn placed_messages(i: Instr, p: &[u32]) -> Instr {
+fn placed_messages(i: Instr, p: &[u32]) -> Instr
+    ensures { result ≡ moved_message p.now i }
+{
     match i {
         Instr::GetFromNews {
             dest,
@@ -409,7 +437,9 @@ fn placed_messages(i: Instr, p: &[u32]) -> Instr {
     }
 }
 
-fn moved_bit(bit: Option<Field>, p: &[u32]) -> Option<Field> {
+fn moved_bit(bit: Option<Field>, p: &[u32]) -> Option<Field>
+    ensures { result ≡ moved_bit p.now bit }
+{
     match bit {
         Some(bit) => Some(moved(bit, p)),
         None => None,

@@ -1,0 +1,40 @@
+-- A program is placed where its units are, at the places that their entries' owners have.
+use Rattle.std.proofs.Common.{◌≡◌, ℕ, ◌+◌, List, sym, ap, ◌∙◌, subst, arith}
+use Rattle.std.specs.List.{slice_index}
+use Rattle.paris_code.specs.declared.program.Final.{Final}
+use Rattle.paris_code.specs.declared.program.Owner.{Owner}
+use Rattle.paris_code.specs.declared.program.Program.{Program}
+use Rattle.paris_code.specs.declared.program.Unit.{Unit as CodeUnit}
+use Rattle.paris_code.specs.declared.program.Virtual.{Virtual}
+use Rattle.paris_code.specs.Proper.{IsUnit, IsEntry}
+use Rattle.field_alloc.specs.Placed.{ArePlacedUnits, IsPlaced, begins}
+use Rattle.field_alloc.specs.Places.{begin_of, final_offset, units_from}
+use Rattle.field_alloc.proofs.Rows.{entry_begins, unit_begins}
+
+-- an entry begins where its owner says
+begins_by_owner : (finals : List Final) (own : List (List ℕ)) (program : Program) (number entry : ℕ) (unit : CodeUnit) (virtual : Virtual) → IsUnit program number unit → IsEntry unit entry virtual → begins (units_from finals own 0 program.units.items) number entry ≡ begin_of finals own number entry virtual.owner
+begins_by_owner finals own program number entry unit virtual is_unit is_entry =
+    let n : 0 + number ≡ number = omega arith in
+    let e : 0 + entry ≡ entry = omega arith in
+    ap (λ (l : List ℕ). slice_index l entry) (unit_begins finals own 0 program.units.items number unit is_unit)
+    ∙ entry_begins finals own (0 + number) 0 unit.fields.items entry virtual is_entry
+    ∙ ap (λ k. begin_of finals own k (0 + entry) virtual.owner) n
+    ∙ ap (λ k. begin_of finals own number k virtual.owner) e
+
+pub is_placed : (before after : Program) (own places : List (List ℕ)) → places ≡ units_from after.finals.items own 0 before.units.items → ArePlacedUnits places 0 before.units.items after.units.items → IsPlaced before after
+is_placed before after own places are units =
+    let finals = after.finals.items in
+    let rows = units_from finals own 0 before.units.items in
+    record {
+      places = rows;
+      units = subst (λ (l : List (List ℕ)). ArePlacedUnits l 0 before.units.items after.units.items) are units;
+      borrowed = λ number entry other index unit owner virtual mine is_unit is_entry is_of is_owner is_mine is_own.
+          begins_by_owner finals own before number entry unit virtual is_unit is_entry
+          ∙ ap (λ (o : Owner). begin_of finals own number entry o) is_of
+          ∙ sym (ap (λ (o : Owner). begin_of finals own other index o) is_own)
+          ∙ sym (begins_by_owner finals own before other index owner mine is_owner is_mine);
+      files = λ number entry file unit virtual last is_unit is_entry is_file is_last.
+          begins_by_owner finals own before number entry unit virtual is_unit is_entry
+          ∙ ap (λ (o : Owner). begin_of finals own number entry o) is_file
+          ∙ ap final_offset is_last;
+    }

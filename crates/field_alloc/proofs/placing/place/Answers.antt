@@ -1,0 +1,19 @@
+use Rattle.std.proofs.Common.{◌≡◌, List, map, ap, ◌∙◌}
+use Rattle.paris_code.specs.declared.program.Final.{Final}
+use Rattle.paris_code.specs.declared.program.Unit.{Unit as CodeUnit}
+use Rattle.field_alloc.specs.Places.{items_of, units_from}
+use Rattle.field_alloc.proofs.Whole.{is_placed}
+use Rattle.field_alloc.proofs.placing.place.Goals as goal
+
+pub returns-clause-placed : goal.returns-clause-placed
+returns-clause-placed c =
+    let own = c.in_ok-own.own.items in
+    let places = c.in_ok-places.places.items in
+    let before = c.args.p.units.items in
+    let finals = c.in_ok-finals.finals.items in
+    let are : map items_of places ≡ units_from finals (map items_of own) 0 before =
+    c.in_ok-places.ensures
+    ∙ ap (λ (fs : List Final). units_from fs (map items_of c.as_slice-4.result.now) 0 c.as_slice-3.result.now) c.as_slice-5.ensures.value
+    ∙ ap (λ rows. units_from finals (map items_of rows) 0 c.as_slice-3.result.now) c.as_slice-4.ensures.value
+    ∙ ap (λ (us : List CodeUnit). units_from finals (map items_of own) 0 us) c.as_slice-3.ensures.value in
+    is_placed _ _ (map items_of own) (map items_of places) are (rw c.as_slice-6.ensures.value at c.in_ok-units.ensures)

@@ -1,0 +1,49 @@
+//! The bits of the file's fields.
+
+ghost use Rattle.std.specs.Prelude.{◌≡◌, IfOk};
+
+use cstar_base::Memory;
+use paris_code::{Field, Final};
+use std::alloc::Global;
+
+/// The finals over bits: in each set one behind the other, from where `ends` says on. Then `ends`
+/// says where the last ones end.
+pub fn placed_finals(
+    alloc: Global,
+    finals: Vec<Final>,
+    ends: &mut Vec<u32>,
+) -> Result<Vec<Final>, Memory> {
+    let mut over = Vec::new(alloc);
+    for last in finals {
+        let offset = take_bits(ends, last.field)?;
+        over.push(moved_final(last, offset))?;
+    }
+    Ok(over)
+}
+
+/// The next free bits of a file's field, which are then taken.
+fn take_bits(ends: &mut Vec<u32>, field: Field) -> Result<u32, Memory> {
+    let set = field.set as usize;
+    if set >= ends.len() {
+        return Ok(0);
+    }
+    let offset = ends[set];
+    let Some(end) = offset.checked_add(u32::from(field.len)) else {
+        return Err(Memory);
+    };
+    ends[set] = end;
+    Ok(offset)
+}
+
+fn moved_final(last: Final, offset: u32) -> Final {
+    let Final { name, elem, field } = last;
+    Final {
+        name,
+        elem,
+        field: Field {
+            set: field.set,
+            offset,
+            len: field.len,
+        },
+    }
+}
