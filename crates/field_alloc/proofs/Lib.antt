@@ -1,3 +1,5 @@
+pub mod Held
 pub mod Others
 pub mod Rows
+pub mod Sweeps
 pub mod Whole

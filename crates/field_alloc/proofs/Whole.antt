@@ -1,13 +1,15 @@
 -- A program is placed where its units are, at the places that their entries' owners have.
-use Rattle.std.proofs.Common.{◌≡◌, ℕ, ◌+◌, List, sym, ap, ◌∙◌, subst, arith}
-use Rattle.std.specs.List.{slice_index}
+use Rattle.std.proofs.Common.{◌≡◌, ℕ, ◌+◌, List, [], length, inr, sym, ap, ◌∙◌, subst, arith}
+use Rattle.std.specs.List.{AllZip, slice_index, slice_index_or}
 use Rattle.paris_code.specs.declared.program.Final.{Final}
 use Rattle.paris_code.specs.declared.program.Owner.{Owner}
+use Rattle.paris_code.specs.declared.program.Owner.TheVariants as O
 use Rattle.paris_code.specs.declared.program.Program.{Program}
 use Rattle.paris_code.specs.declared.program.Unit.{Unit as CodeUnit}
 use Rattle.paris_code.specs.declared.program.Virtual.{Virtual}
 use Rattle.paris_code.specs.Proper.{IsUnit, IsEntry}
-use Rattle.field_alloc.specs.Placed.{ArePlacedUnits, IsPlaced, begins}
+use Rattle.field_alloc.specs.Placed.{ArePlacedUnits, IsPlaced, IsPlacedFinal, begins}
+use Rattle.field_alloc.specs.Named.{AreAllApart, AreApart}
 use Rattle.field_alloc.specs.Places.{begin_of, final_offset, units_from}
 use Rattle.field_alloc.proofs.Rows.{entry_begins, unit_begins}
 
@@ -21,8 +23,8 @@ begins_by_owner finals own program number entry unit virtual is_unit is_entry =
     ∙ ap (λ k. begin_of finals own k (0 + entry) virtual.owner) n
     ∙ ap (λ k. begin_of finals own number k virtual.owner) e
 
-pub is_placed : (before after : Program) (own places : List (List ℕ)) → places ≡ units_from after.finals.items own 0 before.units.items → ArePlacedUnits places 0 before.units.items after.units.items → IsPlaced before after
-is_placed before after own places are units =
+pub is_placed : (before after : Program) (own places : List (List ℕ)) → places ≡ units_from after.finals.items own 0 before.units.items → ArePlacedUnits places 0 before.units.items after.units.items → AllZip IsPlacedFinal before.finals.items after.finals.items → AreAllApart before.units.items (length before.shapes.items) own → IsPlaced before after
+is_placed before after own places are units finals_are own_apart =
     let finals = after.finals.items in
     let rows = units_from finals own 0 before.units.items in
     record {
@@ -37,4 +39,11 @@ is_placed before after own places are units =
           begins_by_owner finals own before number entry unit virtual is_unit is_entry
           ∙ ap (λ (o : Owner). begin_of finals own number entry o) is_file
           ∙ ap final_offset is_last;
+      finals = finals_are;
+      apart = λ number one other set len over at unit is_unit differ in_sets is_one is_other in_code named named_too.
+          let e = begins_by_owner finals own before number one unit (record { set = set; len = len; owner = O.Own }) is_unit is_one in
+          let f = begins_by_owner finals own before number other unit (record { set = set; len = over; owner = O.Own }) is_unit is_other in
+          subst (λ n. AreApart n len (begins rows number other) over) (sym e)
+          (subst (λ n. AreApart (slice_index (slice_index_or own number []) one) len n over) (sym f)
+          (own_apart number unit is_unit one other set len over at differ in_sets is_one is_other in_code (inr named) (inr named_too)));
     }

@@ -1,2 +1,4 @@
 pub mod Placed
 pub mod Places
+pub mod Sweep
+pub mod Named

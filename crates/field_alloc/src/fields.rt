@@ -1,6 +1,9 @@
 //! The fields that an instruction names.
 
-ghost use Rattle.std.specs.Prelude.{◌≡◌, IfOk, map};
+ghost use Rattle.std.specs.Prelude.{◌≡◌, [], ◌∷◌, ◌++◌, IfOk, map, OnOk};
+ghost use Rattle.std.specs.List.{flat_map};
+ghost use Rattle.paris_code.specs.Operands.{coordinate_of};
+ghost use Rattle.paris_code.specs.Spans.{fields_of, fields_of_coordinate};
 ghost use Rattle.field_alloc.specs.Placed.{IsPlacedInstr, moved, moved_arithmetic, moved_bit, moved_coordinate, moved_instr, moved_message, moved_signed};
 
 use crate::places::number_at;
@@ -9,7 +12,9 @@ use paris_code::{Coordinate, Field, Instr, SignedCoordinate};
 use std::alloc::Global;
 
 /// Appends the fields that an instruction names.
-pub fn named(i: &Instr, all: &mut Vec<Field>) -> Result<(), Memory> {
+pub fn named(i: &Instr, all: &mut Vec<Field>) -> Result<(), Memory>
+    ensures { OnOk result (all.new.items ≡ all.old.items ++ fields_of i.now) }
+{
     match i {
         Instr::MoveConstant { dest, .. }
         | Instr::MoveZeroAlways { dest }
@@ -73,37 +78,78 @@ pub fn named(i: &Instr, all: &mut Vec<Field>) -> Result<(), Memory> {
             ..
         } => {
             one(*dest, all)?;
-            for coordinate in coordinates {
-                coordinate_field(*coordinate, all)?;
-            }
-            Ok(())
+            coordinate_fields(coordinates.as_slice(), all)
         }
-        Instr::CheckTarget { coordinates, .. } => {
-            for coordinate in coordinates {
-                coordinate_field(coordinate.coordinate, all)?;
-            }
-            Ok(())
-        }
-        _ => Ok(()),
+        Instr::CheckTarget { coordinates, .. } => checked_fields(coordinates.as_slice(), all),
+        Instr::SetContext { .. }
+        | Instr::LogandContextWithTest { .. }
+        | Instr::LogandcContextWithTest { .. }
+        | Instr::CheckGrid { .. }
+        | Instr::FrontConst { .. }
+        | Instr::FrontMove { .. }
+        | Instr::FrontOperate { .. }
+        | Instr::FrontCompare { .. }
+        | Instr::FrontNegate { .. }
+        | Instr::FrontLognot { .. }
+        | Instr::FrontConvert { .. }
+        | Instr::FrontMakeAddress { .. }
+        | Instr::FrontCheckTarget { .. }
+        | Instr::FrontCheckDivisor { .. }
+        | Instr::FrontJump { .. }
+        | Instr::FrontJumpZero { .. }
+        | Instr::FrontJumpNonzero { .. }
+        | Instr::FrontTurn
+        | Instr::FrontCall { .. }
+        | Instr::FrontReturn
+        | Instr::FrontPutBytes { .. }
+        | Instr::FrontPut { .. }
+        | Instr::FrontGetByte { .. }
+        | Instr::FrontHalt => Ok(()),
     }
 }
 
-fn one(a: Field, all: &mut Vec<Field>) -> Result<(), Memory> {
+fn coordinate_fields(coordinates: &[Coordinate], all: &mut Vec<Field>) -> Result<(), Memory>
+    ensures { OnOk result (all.new.items ≡ all.old.items ++ flat_map fields_of_coordinate coordinates.now) }
+{
+    for coordinate in coordinates {
+        coordinate_field(*coordinate, all)?;
+    }
+    Ok(())
+}
+
+fn checked_fields(coordinates: &[SignedCoordinate], all: &mut Vec<Field>) -> Result<(), Memory>
+    ensures { OnOk result (all.new.items ≡ all.old.items ++ flat_map (λ c. fields_of_coordinate (coordinate_of c)) coordinates.now) }
+{
+    for checked in coordinates {
+        coordinate_field(checked.coordinate, all)?;
+    }
+    Ok(())
+}
+
+fn one(a: Field, all: &mut Vec<Field>) -> Result<(), Memory>
+    ensures { OnOk result (all.new.items ≡ all.old.items ++ a ∷ []) }
+{
     all.push(a)?;
     Ok(())
 }
 
-fn two(a: Field, b: Field, all: &mut Vec<Field>) -> Result<(), Memory> {
+fn two(a: Field, b: Field, all: &mut Vec<Field>) -> Result<(), Memory>
+    ensures { OnOk result (all.new.items ≡ all.old.items ++ (a ∷ (b ∷ []))) }
+{
     one(a, all)?;
     one(b, all)
 }
 
-fn three(a: Field, b: Field, c: Field, all: &mut Vec<Field>) -> Result<(), Memory> {
+fn three(a: Field, b: Field, c: Field, all: &mut Vec<Field>) -> Result<(), Memory>
+    ensures { OnOk result (all.new.items ≡ all.old.items ++ (a ∷ (b ∷ (c ∷ [])))) }
+{
     two(a, b, all)?;
     one(c, all)
 }
 
-fn coordinate_field(coordinate: Coordinate, all: &mut Vec<Field>) -> Result<(), Memory> {
+fn coordinate_field(coordinate: Coordinate, all: &mut Vec<Field>) -> Result<(), Memory>
+    ensures { OnOk result (all.new.items ≡ all.old.items ++ fields_of_coordinate coordinate) }
+{
     match coordinate {
         Coordinate::Field(field) => one(field, all),
         Coordinate::Reg(_) => Ok(()),

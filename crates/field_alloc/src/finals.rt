@@ -1,6 +1,8 @@
 //! The bits of the file's fields.
 
-ghost use Rattle.std.specs.Prelude.{◌≡◌, IfOk};
+ghost use Rattle.std.specs.Prelude.{◌≡◌, IfOk, length, OnOk};
+ghost use Rattle.std.specs.List.{AllZip};
+ghost use Rattle.field_alloc.specs.Placed.{IsPlacedFinal};
 
 use cstar_base::Memory;
 use paris_code::{Field, Final};
@@ -12,7 +14,10 @@ pub fn placed_finals(
     alloc: Global,
     finals: Vec<Final>,
     ends: &mut Vec<u32>,
-) -> Result<Vec<Final>, Memory> {
+) -> Result<Vec<Final>, Memory>
+    ensures kept { IfOk result (λ v. AllZip IsPlacedFinal finals.items v.items) }
+    ensures length { OnOk result (length ends.new.items ≡ length ends.old.items) }
+{
     let mut over = Vec::new(alloc);
     for last in finals {
         let offset = take_bits(ends, last.field)?;
@@ -22,7 +27,9 @@ pub fn placed_finals(
 }
 
 /// The next free bits of a file's field, which are then taken.
-fn take_bits(ends: &mut Vec<u32>, field: Field) -> Result<u32, Memory> {
+fn take_bits(ends: &mut Vec<u32>, field: Field) -> Result<u32, Memory>
+    ensures { length ends.new.items ≡ length ends.old.items }
+{
     let set = field.set as usize;
     if set >= ends.len() {
         return Ok(0);
@@ -35,7 +42,9 @@ fn take_bits(ends: &mut Vec<u32>, field: Field) -> Result<u32, Memory> {
     Ok(offset)
 }
 
-fn moved_final(last: Final, offset: u32) -> Final {
+fn moved_final(last: Final, offset: u32) -> Final
+    ensures { IsPlacedFinal last result }
+{
     let Final { name, elem, field } = last;
     Final {
         name,

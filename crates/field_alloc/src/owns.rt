@@ -1,46 +1,76 @@
 //! The bits of each unit's own entries.
 
-use crate::chains::{Bases, bases_of};
+ghost use Rattle.std.specs.Prelude.{◌≡◌, IfOk, length, map};
+ghost use Rattle.field_alloc.specs.Named.{AreAllApart, AreLifted};
+ghost use Rattle.field_alloc.specs.Places.{items_of};
+
+use crate::chains::bases_of;
 use crate::offsets::offsets_of;
+use crate::places::{number_at, row};
 use cstar_base::Memory;
 use paris_code::{Owner, Unit, Virtual};
 use std::alloc::Global;
 
 /// For each unit, the bits at which its own entries begin. What `ends` says of each set is taken.
-pub fn own_places(alloc: Global, units: &[Unit], ends: &[u32]) -> Result<Vec<Vec<u32>>, Memory> {
+pub fn own_places(alloc: Global, units: &[Unit], ends: &[u32]) -> Result<Vec<Vec<u32>>, Memory>
+    ensures { IfOk result (λ v. AreAllApart units.now (length ends.now) (map items_of v.items)) }
+{
     let lent = lent_entries(alloc, units)?;
-    let mut offsets = Vec::new(alloc);
-    for (unit, lent) in units.iter().zip(lent.iter()) {
-        let own = offsets_of(alloc, unit, lent.as_slice(), ends.len())?;
-        offsets.push(own)?;
-    }
-    let bases = bases_of(alloc, units, offsets.as_slice(), ends)?;
+    let mut tops = Vec::new(alloc);
+    let starts = starts_of_units(alloc, units, lent.as_slice(), ends.len(), &mut tops)?;
+    let bases = bases_of(alloc, units, tops.as_slice(), ends)?;
     let mut places = Vec::new(alloc);
-    for (unit, own) in units.iter().zip(offsets.iter()) {
+    for unit in units {
         let number = places.len();
+        let base = bases.row(alloc, number)?;
         let own = lifted(
             alloc,
             unit.fields.as_slice(),
-            own.starts.as_slice(),
-            &bases,
-            number,
+            base.as_slice(),
+            row(starts.as_slice(), number),
         )?;
         places.push(own)?;
     }
     Ok(places)
 }
 
-/// The bits at which a unit's entries begin, behind where the unit's own bits do.
+/// For each unit, where its own entries begin, counted from where its own bits do; their greatest
+/// ends are put into `tops`.
+fn starts_of_units(
+    alloc: Global,
+    units: &[Unit],
+    lent: &[Vec<bool>],
+    sets: usize,
+    tops: &mut Vec<Vec<u32>>,
+) -> Result<Vec<Vec<u32>>, Memory>
+    ensures { IfOk result (λ v. AreAllApart units.now sets (map items_of v.items)) }
+{
+    let mut starts = Vec::new(alloc);
+    for unit in units {
+        let lent = match lent.get(starts.len()) {
+            Some(entries) => entries.as_slice(),
+            None => &[],
+        };
+        let own = offsets_of(alloc, unit, lent, sets)?;
+        starts.push(own.starts)?;
+        tops.push(own.ends)?;
+    }
+    Ok(starts)
+}
+
+/// The bits at which a unit's entries begin: by the starts, behind where its bits of each set do.
 fn lifted(
     alloc: Global,
     entries: &[Virtual],
+    base: &[u32],
     starts: &[u32],
-    bases: &Bases,
-    unit: usize,
-) -> Result<Vec<u32>, Memory> {
+) -> Result<Vec<u32>, Memory>
+    ensures { IfOk result (λ v. AreLifted entries.now base.now starts.now v.items) }
+{
     let mut places = Vec::new(alloc);
-    for (entry, start) in entries.iter().zip(starts) {
-        let Some(place) = bases.at(unit, entry.set as usize).checked_add(*start) else {
+    for entry in entries {
+        let start = number_at(starts, places.len());
+        let Some(place) = number_at(base, entry.set as usize).checked_add(start) else {
             return Err(Memory);
         };
         places.push(place)?;

@@ -1,0 +1,12 @@
+use Rattle.std.proofs.Common.{◌≡◌, ℕ, ◌<◌, length, map, [], Some}
+use Rattle.std.specs.List.{slice_get, slice_index_or}
+use Rattle.paris_code.specs.declared.program.Unit.{Unit as CodeUnit}
+use Rattle.field_alloc.specs.Named.{AreUnitApart}
+use Rattle.field_alloc.specs.Places.{items_of}
+use Rattle.field_alloc.proofs.owns.own_places.Given as goal
+
+abbrev pub invariant-loop-unit : goal.invariant-loop-unit
+invariant-loop-unit l = record {
+  long : length l.places.items ≡ l.unit-index;
+  apart : (number : ℕ) (unit : CodeUnit) → number < l.unit-index → slice_get l.units number ≡ Some unit → AreUnitApart unit [] (length l.ends) (slice_index_or (map items_of l.places.items) number []);
+}

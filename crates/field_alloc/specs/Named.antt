@@ -1,0 +1,46 @@
+-- At which instructions of a unit an entry is in use.
+use Rattle.std.specs.Prelude.{◌≡◌, ◌≢◌, ◌⊎◌, ℕ, ◌+◌, ◌<◌, ◌≤◌, List, [], Bool, true, Option, Some, None, length}
+use Rattle.std.specs.List.{slice_get, slice_index, slice_index_or}
+use Rattle.paris_code.specs.declared.program.Unit.{Unit as CodeUnit}
+use Rattle.paris_code.specs.declared.program.Virtual.{Virtual}
+use Rattle.paris_code.specs.Proper.{IsOwn}
+use Rattle.paris_code.specs.Spans.{IsNamedAt}
+use Rattle.field_alloc.specs.declared.spans.Span.{Span}
+use Rattle.field_alloc.specs.Sweep.{Holds}
+
+-- a span, if there is one, holds an instruction
+abbrev pub HeldBy : Option Span → ℕ → Type 0
+HeldBy None at = ⊥
+HeldBy (Some span) at = Holds span at
+
+-- the span of an entry does
+abbrev pub HeldAt : List (Option Span) → ℕ → ℕ → Type 0
+HeldAt spans entry at = HeldBy (slice_index_or spans entry None) at
+
+-- the instruction is between two that name the entry, or one of these
+abbrev pub IsBetween : CodeUnit → ℕ → ℕ → Type 0
+IsBetween unit entry at =
+    (first : ℕ) × ((last : ℕ) × IsNamedAt unit entry first × IsNamedAt unit entry last × (first ≤ at) × (at ≤ last))
+
+-- the entry is lent, and so in use throughout, or the instruction is between two that name it
+abbrev pub IsInUseAt : CodeUnit → List Bool → ℕ → ℕ → Type 0
+IsInUseAt unit lent entry at = (slice_get lent entry ≡ Some true) ⊎ IsBetween unit entry at
+
+-- two runs of bits have none in common
+abbrev pub AreApart : ℕ → ℕ → ℕ → ℕ → Type 0
+AreApart start len other over = (start + len ≤ other) ⊎ (other + over ≤ start)
+
+-- own entries of a unit in one of so many sets that are in use at one instruction are apart
+abbrev pub AreUnitApart : CodeUnit → List Bool → ℕ → List ℕ → Type 0
+AreUnitApart unit lent sets starts =
+    (one other set len over at : ℕ) → one ≢ other → set < sets → IsOwn unit one set len → IsOwn unit other set over → at < length unit.code.items → IsInUseAt unit lent one at → IsInUseAt unit lent other at → AreApart (slice_index starts one) len (slice_index starts other) over
+
+-- the own entries of all units are, where no entry is lent
+abbrev pub AreAllApart : List CodeUnit → ℕ → List (List ℕ) → Type 0
+AreAllApart units sets starts =
+    (number : ℕ) (unit : CodeUnit) → slice_get units number ≡ Some unit → AreUnitApart unit [] sets (slice_index_or starts number [])
+
+-- entries stand by the starts, behind where their set's bits begin
+abbrev pub AreLifted : List Virtual → List ℕ → List ℕ → List ℕ → Type 0
+AreLifted entries base starts places =
+    (entry : ℕ) (v : Virtual) → slice_get entries entry ≡ Some v → slice_index places entry ≡ slice_index base v.set + slice_index starts entry
