@@ -7,7 +7,7 @@ use Rattle.std.specs.List.{slice_get, slice_index}
 use Rattle.paris_code.specs.declared.program.Owner.TheVariants as O
 use Rattle.paris_code.specs.declared.program.Virtual.{Virtual}
 use Rattle.field_alloc.specs.declared.spans.Span.{Span}
-use Rattle.field_alloc.specs.Sweep.{AreHeights, AreStacked, AreUnder, Holds, IsInSet, IsSwept, KeepsOthers}
+use Rattle.field_alloc.specs.Sweep.{Holds, IsInSet, IsSwept}
 
 pub below_or_at : (k n : ℕ) → k < n + 1 → (k < n) ⊎ (k ≡ n)
 below_or_at k n h =

@@ -1,4 +1,4 @@
-use Rattle.std.proofs.Common.{◌≡◌, ◌≢◌, ℕ, ◌+◌, ◌<◌, ◌≤◌, List, Option, length, ⊎_elim, sym, ◌∙◌, subst, arith}
+use Rattle.std.proofs.Common.{◌≡◌, ◌≢◌, ◌<◌, List, Option, length, ⊎_elim, sym, ◌∙◌, subst, arith}
 use Rattle.paris_code.specs.declared.program.Virtual.{Virtual}
 use Rattle.field_alloc.specs.declared.spans.Span.{Span}
 use Rattle.field_alloc.specs.Sweep.{AreStacked, KeepsOthers}

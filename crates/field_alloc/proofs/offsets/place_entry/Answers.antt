@@ -1,9 +1,8 @@
-use Rattle.std.proofs.Common.{◌≡◌, ℕ, ◌+◌, ◌<◌, ◌≤◌, List, length, get_or, ap, ◌∙◌, arith}
+use Rattle.std.proofs.Common.{ℕ, ◌<◌, List, length, get_or, ap, ◌∙◌, arith}
 use Rattle.std.proofs.lemmas.Option.{slice_get-get_or}
 use Rattle.std.specs.List.{slice_index}
 use Rattle.paris_code.specs.declared.program.Owner.TheVariants as O
 use Rattle.paris_code.specs.declared.program.Virtual.{Virtual}
-use Rattle.field_alloc.specs.Sweep.{Holds}
 use Rattle.field_alloc.proofs.Sweeps.{in_set, owner_read, set_read, swept_more, swept_skip}
 use Rattle.field_alloc.proofs.offsets.place_entry.Goals as goal
 

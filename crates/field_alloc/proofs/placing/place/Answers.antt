@@ -1,8 +1,7 @@
-use Rattle.std.proofs.Common.{◌≡◌, ℕ, List, length, map, ap, sym, ◌∙◌, subst, arith}
+use Rattle.std.proofs.Common.{◌≡◌, List, length, map, ap, ◌∙◌, subst, arith}
 use Rattle.paris_code.specs.declared.program.Final.{Final}
 use Rattle.paris_code.specs.declared.program.Unit.{Unit as CodeUnit}
 use Rattle.field_alloc.specs.Named.{AreAllApart}
-use Rattle.field_alloc.specs.Placed.{ArePlacedUnits}
 use Rattle.field_alloc.specs.Places.{items_of, units_from}
 use Rattle.field_alloc.proofs.Whole.{is_placed}
 use Rattle.field_alloc.proofs.placing.place.Goals as goal
