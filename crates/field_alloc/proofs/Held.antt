@@ -11,7 +11,7 @@ use Rattle.paris_code.specs.declared.program.Unit.{Unit as CodeUnit}
 use Rattle.paris_code.specs.declared.program.Virtual.{Virtual}
 use Rattle.paris_code.specs.Spans.{IsNamedAt, StandsAt, fields_of}
 use Rattle.field_alloc.specs.declared.spans.Span.{Span}
-use Rattle.field_alloc.specs.Named.{AreLifted, AreUnitApart, HeldAt, HeldBy, IsInUseAt, IsBetween}
+use Rattle.field_alloc.specs.Named.{AreLifted, AreUnitApart, IsUnitAbove, HeldAt, HeldBy, IsInUseAt, IsBetween}
 use Rattle.field_alloc.specs.Places.{items_of}
 use Rattle.field_alloc.specs.Sweep.{AreStacked, Holds, IsInSet, KeepsOthers}
 use Rattle.field_alloc.proofs.Sweeps.{below_or_at}
@@ -82,15 +82,21 @@ row_last rows v k long =
     ap (λ (l : List (List ℕ)). slice_index_or l k []) (map-append items_of rows (v ∷ []))
     ∙ get_or_push (map items_of rows) v.items [] k (length-map rows items_of ∙ long)
 
-pub all_apart_more : (units : List CodeUnit) (sets : ℕ) (rows : List (Vec ℕ Global)) (v : Vec ℕ Global) (i : ℕ) (u : CodeUnit) → length rows ≡ i → slice_get units i ≡ Some u → ((number : ℕ) (unit : CodeUnit) → number < i → slice_get units number ≡ Some unit → AreUnitApart unit [] sets (slice_index_or (map items_of rows) number [])) → AreUnitApart u [] sets v.items → (number : ℕ) (unit : CodeUnit) → number < i + 1 → slice_get units number ≡ Some unit → AreUnitApart unit [] sets (slice_index_or (map items_of (rows ++ v ∷ [])) number [])
-all_apart_more units sets rows v i u long is_u old new number unit lt is_unit =
+pub all_rows_more : (P : CodeUnit → List ℕ → Type 0) (units : List CodeUnit) (rows : List (Vec ℕ Global)) (v : Vec ℕ Global) (i : ℕ) (u : CodeUnit) → length rows ≡ i → slice_get units i ≡ Some u → ((number : ℕ) (unit : CodeUnit) → number < i → slice_get units number ≡ Some unit → P unit (slice_index_or (map items_of rows) number [])) → P u v.items → (number : ℕ) (unit : CodeUnit) → number < i + 1 → slice_get units number ≡ Some unit → P unit (slice_index_or (map items_of (rows ++ v ∷ [])) number [])
+all_rows_more P units rows v i u long is_u old new number unit lt is_unit =
     ⊎_elim
-    (λ (x : number < i). subst (λ (l : List ℕ). AreUnitApart unit [] sets l) (sym (rows_more rows v number (omega arith))) (old number unit x is_unit))
+    (λ (x : number < i). subst (λ (l : List ℕ). P unit l) (sym (rows_more rows v number (omega arith))) (old number unit x is_unit))
     (λ (x : number ≡ i).
     let same : u ≡ unit = same_Some u unit (sym is_u ∙ ap (slice_get units) (sym x) ∙ is_unit) in
-    subst (λ (l : List ℕ). AreUnitApart unit [] sets l) (sym (row_last rows v number (long ∙ sym x)))
-    (subst (λ (w : CodeUnit). AreUnitApart w [] sets v.items) same new))
+    subst (λ (l : List ℕ). P unit l) (sym (row_last rows v number (long ∙ sym x)))
+    (subst (λ (w : CodeUnit). P w v.items) same new))
     (below_or_at number i lt)
+
+pub lifted_above : (unit : CodeUnit) (ends base starts places : List ℕ) → AreLifted unit.fields.items base starts places → ((set : ℕ) → set < length ends → slice_index ends set ≤ slice_index base set) → IsUnitAbove ends unit places
+lifted_above unit ends base starts places lifted above entry v at in_sets =
+    let e = lifted entry v at in
+    let u = above v.set in_sets in
+    omega arith
 
 -- what the fields of an instruction say is said of the entries that it names
 pub named_here : (unit : CodeUnit) (instr : Instr) (at : ℕ) (fields : List Field) (spans : List (Option Span)) → StandsAt unit at instr → fields ≡ fields_of instr → ((k entry : ℕ) (field : Field) → k < length fields → slice_index_or fields k field ≡ field → field.offset ≡ entry → entry < length unit.fields.items → HeldAt spans entry at) → (entry : ℕ) → entry < length unit.fields.items → IsNamedAt unit entry at → HeldAt spans entry at

@@ -1,3 +1,4 @@
+pub mod FileBits
 pub mod Held
 pub mod Others
 pub mod Rows

@@ -1,5 +1,5 @@
 -- A program is placed where its units are, at the places that their entries' owners have.
-use Rattle.std.proofs.Common.{◌≡◌, ℕ, ◌+◌, List, [], length, inr, sym, ap, ◌∙◌, subst, arith}
+use Rattle.std.proofs.Common.{◌≡◌, ℕ, ◌+◌, ◌<◌, ◌≤◌, List, [], length, inr, sym, ap, ◌∙◌, subst, arith}
 use Rattle.std.specs.List.{AllZip, slice_index, slice_index_or}
 use Rattle.paris_code.specs.declared.program.Final.{Final}
 use Rattle.paris_code.specs.declared.program.Owner.{Owner}
@@ -9,7 +9,8 @@ use Rattle.paris_code.specs.declared.program.Unit.{Unit as CodeUnit}
 use Rattle.paris_code.specs.declared.program.Virtual.{Virtual}
 use Rattle.paris_code.specs.Proper.{IsUnit, IsEntry}
 use Rattle.field_alloc.specs.Placed.{ArePlacedUnits, IsPlaced, IsPlacedFinal, begins}
-use Rattle.field_alloc.specs.Named.{AreAllApart, AreApart}
+use Rattle.field_alloc.specs.Named.{AreAllAbove, AreAllApart, AreApart}
+use Rattle.field_alloc.specs.Files.{AreFilesStacked, AreFilesUnder}
 use Rattle.field_alloc.specs.Places.{begin_of, final_offset, units_from}
 use Rattle.field_alloc.proofs.Rows.{entry_begins, unit_begins}
 
@@ -23,8 +24,8 @@ begins_by_owner finals own program number entry unit virtual is_unit is_entry =
     ∙ ap (λ k. begin_of finals own k (0 + entry) virtual.owner) n
     ∙ ap (λ k. begin_of finals own number k virtual.owner) e
 
-pub is_placed : (before after : Program) (own places : List (List ℕ)) → places ≡ units_from after.finals.items own 0 before.units.items → ArePlacedUnits places 0 before.units.items after.units.items → AllZip IsPlacedFinal before.finals.items after.finals.items → AreAllApart before.units.items (length before.shapes.items) own → IsPlaced before after
-is_placed before after own places are units finals_are own_apart =
+pub is_placed : (before after : Program) (own places : List (List ℕ)) → places ≡ units_from after.finals.items own 0 before.units.items → ArePlacedUnits places 0 before.units.items after.units.items → AllZip IsPlacedFinal before.finals.items after.finals.items → AreAllApart before.units.items (length before.shapes.items) own → (ends : List ℕ) → length ends ≡ length before.shapes.items → AreAllAbove before.units.items ends own → AreFilesUnder after.finals.items ends → AreFilesStacked (length ends) after.finals.items → IsPlaced before after
+is_placed before after own places are units finals_are own_apart ends sets own_above files_under files_stacked =
     let finals = after.finals.items in
     let rows = units_from finals own 0 before.units.items in
     record {
@@ -46,4 +47,14 @@ is_placed before after own places are units finals_are own_apart =
           subst (λ n. AreApart n len (begins rows number other) over) (sym e)
           (subst (λ n. AreApart (slice_index (slice_index_or own number []) one) len n over) (sym f)
           (own_apart number unit is_unit one other set len over at differ in_sets is_one is_other in_code (inr named) (inr named_too)));
+      finals_apart = subst (λ n. AreFilesStacked n finals) sets files_stacked;
+      files_apart = λ number entry file set len unit last is_unit is_entry in_sets is_last same.
+          let own_entry : Virtual = record { set = set; len = len; owner = O.Own } in
+          let e = begins_by_owner finals own before number entry unit own_entry is_unit is_entry in
+          let in_ends : set < length ends = omega arith in
+          let last_in : last.field.set < length ends = omega arith in
+          let u = files_under file last is_last last_in in
+          let h = own_above number unit is_unit entry own_entry is_entry in_ends in
+          let q = ap (slice_index ends) same in
+          omega arith;
     }

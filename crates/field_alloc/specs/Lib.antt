@@ -2,3 +2,4 @@ pub mod Placed
 pub mod Places
 pub mod Sweep
 pub mod Named
+pub mod Files

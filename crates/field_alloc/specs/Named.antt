@@ -44,3 +44,12 @@ AreAllApart units sets starts =
 abbrev pub AreLifted : List Virtual → List ℕ → List ℕ → List ℕ → Type 0
 AreLifted entries base starts places =
     (entry : ℕ) (v : Virtual) → slice_get entries entry ≡ Some v → slice_index places entry ≡ slice_index base v.set + slice_index starts entry
+
+-- the entries of a unit begin no lower than where the file's fields of their set end
+abbrev pub IsUnitAbove : List ℕ → CodeUnit → List ℕ → Type 0
+IsUnitAbove ends unit places =
+    (entry : ℕ) (v : Virtual) → slice_get unit.fields.items entry ≡ Some v → v.set < length ends → slice_index ends v.set ≤ slice_index places entry
+
+abbrev pub AreAllAbove : List CodeUnit → List ℕ → List (List ℕ) → Type 0
+AreAllAbove units ends places =
+    (number : ℕ) (unit : CodeUnit) → slice_get units number ≡ Some unit → IsUnitAbove ends unit (slice_index_or places number [])

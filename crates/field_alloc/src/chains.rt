@@ -1,11 +1,15 @@
 //! Where the bits of each unit begin: behind those of the file, and behind those of every chain of
 //! units that leads to it by calls.
 
+ghost use Rattle.std.specs.Prelude.{ℕ, ◌<◌, ◌≤◌, IfOk, length};
+ghost use Rattle.std.specs.List.{slice_index};
+
 use cstar_base::Memory;
 use paris_code::{Instr, Unit};
 use std::alloc::Global;
 
-/// For each unit and set, the number at `unit * sets + set`.
+/// For each unit and set, the number at `unit * sets + set`: where the unit's bits begin, counted
+/// from the end of the file's fields.
 #[derive(Drop)]
 pub struct Bases {
     pub sets: usize,
@@ -23,11 +27,16 @@ impl Bases {
         }
     }
 
-    /// Where the unit's bits of each set begin.
-    pub fn row(&self, alloc: Global, unit: usize) -> Result<Vec<u32>, Memory> {
+    /// Where the unit's bits of each set begin: behind the file's fields, which end there.
+    pub fn row(&self, alloc: Global, unit: usize, files: &[u32]) -> Result<Vec<u32>, Memory>
+        ensures { IfOk result (λ v. (set : ℕ) → set < length files.now → slice_index files.now set ≤ slice_index v.items set) }
+    {
         let mut row = Vec::new(alloc);
-        for set in 0..self.sets {
-            row.push(self.at(unit, set))?;
+        for end in files {
+            let Some(base) = self.at(unit, row.len()).checked_add(*end) else {
+                return Err(Memory);
+            };
+            row.push(base)?;
         }
         Ok(row)
     }
@@ -43,20 +52,21 @@ impl Bases {
     }
 }
 
-/// The bases of all units, whose own bits reach up to `tops`. Calls have no cycle, so each unit comes once all its callers have.
+/// The bases of all units, whose own bits reach up to `tops`. Calls have no cycle, so each unit comes
+/// once all its callers have.
 pub fn bases_of(
     alloc: Global,
     units: &[Unit],
     tops: &[Vec<u32>],
-    files: &[u32],
+    sets: usize,
 ) -> Result<Bases, Memory> {
     let mut bases = Bases {
-        sets: files.len(),
+        sets,
         list: Vec::new(alloc),
     };
     for _ in units {
-        for file in files {
-            bases.list.push(*file)?;
+        for _ in 0..sets {
+            bases.list.push(0)?;
         }
     }
     let mut callers = count_callers(alloc, units)?;

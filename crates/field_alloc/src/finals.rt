@@ -1,7 +1,8 @@
 //! The bits of the file's fields.
 
-ghost use Rattle.std.specs.Prelude.{◌≡◌, IfOk, length, OnOk};
-ghost use Rattle.std.specs.List.{AllZip};
+ghost use Rattle.std.specs.Prelude.{◌≡◌, ◌≢◌, ℕ, ◌+◌, ◌<◌, IfOk, length, OnOk};
+ghost use Rattle.std.specs.List.{AllZip, slice_index};
+ghost use Rattle.field_alloc.specs.Files.{AreFilesStacked, AreFilesUnder};
 ghost use Rattle.field_alloc.specs.Placed.{IsPlacedFinal};
 
 use cstar_base::Memory;
@@ -17,6 +18,8 @@ pub fn placed_finals(
 ) -> Result<Vec<Final>, Memory>
     ensures kept { IfOk result (λ v. AllZip IsPlacedFinal finals.items v.items) }
     ensures length { OnOk result (length ends.new.items ≡ length ends.old.items) }
+    ensures under { IfOk result (λ v. AreFilesUnder v.items ends.new.items) }
+    ensures stacked { IfOk result (λ v. AreFilesStacked (length ends.new.items) v.items) }
 {
     let mut over = Vec::new(alloc);
     for last in finals {
@@ -28,7 +31,9 @@ pub fn placed_finals(
 
 /// The next free bits of a file's field, which are then taken.
 fn take_bits(ends: &mut Vec<u32>, field: Field) -> Result<u32, Memory>
-    ensures { length ends.new.items ≡ length ends.old.items }
+    ensures length { length ends.new.items ≡ length ends.old.items }
+    ensures taken { IfOk result (λ offset. field.set < length ends.old.items → (offset ≡ slice_index ends.old.items field.set) × (slice_index ends.new.items field.set ≡ offset + field.len)) }
+    ensures others { (set : ℕ) → set ≢ field.set → slice_index ends.new.items set ≡ slice_index ends.old.items set }
 {
     let set = field.set as usize;
     if set >= ends.len() {
@@ -43,7 +48,8 @@ fn take_bits(ends: &mut Vec<u32>, field: Field) -> Result<u32, Memory>
 }
 
 fn moved_final(last: Final, offset: u32) -> Final
-    ensures { IsPlacedFinal last result }
+    ensures kept { IsPlacedFinal last result }
+    ensures offset { result.field.offset ≡ offset }
 {
     let Final { name, elem, field } = last;
     Final {

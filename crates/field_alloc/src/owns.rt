@@ -1,7 +1,7 @@
 //! The bits of each unit's own entries.
 
 ghost use Rattle.std.specs.Prelude.{◌≡◌, IfOk, length, map};
-ghost use Rattle.field_alloc.specs.Named.{AreAllApart, AreLifted};
+ghost use Rattle.field_alloc.specs.Named.{AreAllAbove, AreAllApart, AreLifted};
 ghost use Rattle.field_alloc.specs.Places.{items_of};
 
 use crate::chains::bases_of;
@@ -13,16 +13,17 @@ use std::alloc::Global;
 
 /// For each unit, the bits at which its own entries begin. What `ends` says of each set is taken.
 pub fn own_places(alloc: Global, units: &[Unit], ends: &[u32]) -> Result<Vec<Vec<u32>>, Memory>
-    ensures { IfOk result (λ v. AreAllApart units.now (length ends.now) (map items_of v.items)) }
+    ensures apart { IfOk result (λ v. AreAllApart units.now (length ends.now) (map items_of v.items)) }
+    ensures above { IfOk result (λ v. AreAllAbove units.now ends.now (map items_of v.items)) }
 {
     let lent = lent_entries(alloc, units)?;
     let mut tops = Vec::new(alloc);
     let starts = starts_of_units(alloc, units, lent.as_slice(), ends.len(), &mut tops)?;
-    let bases = bases_of(alloc, units, tops.as_slice(), ends)?;
+    let bases = bases_of(alloc, units, tops.as_slice(), ends.len())?;
     let mut places = Vec::new(alloc);
     for unit in units {
         let number = places.len();
-        let base = bases.row(alloc, number)?;
+        let base = bases.row(alloc, number, ends)?;
         let own = lifted(
             alloc,
             unit.fields.as_slice(),

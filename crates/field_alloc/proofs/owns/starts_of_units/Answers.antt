@@ -4,7 +4,7 @@ use Rattle.std.proofs.lemmas.Option.{slice_get_read, slice_get_within}
 use Rattle.std.specs.List.{slice_index_or}
 use Rattle.field_alloc.specs.Named.{AreUnitApart}
 use Rattle.field_alloc.specs.Places.{items_of}
-use Rattle.field_alloc.proofs.Held.{all_apart_more, unlent}
+use Rattle.field_alloc.proofs.Held.{all_rows_more, unlent}
 use Rattle.field_alloc.proofs.owns.starts_of_units.Goals as goal
 
 pub loop-unit-preserved : goal.loop-unit-preserved
@@ -21,7 +21,7 @@ loop-unit-preserved c =
       apart = λ number unit lt is.
           subst (λ (l : List (Vec ℕ Global)). AreUnitApart unit [] c.args.sets (slice_index_or (map items_of l) number []))
           (sym {A = List (Vec ℕ Global)} c.in_ok-push.ensures.items)
-          (all_apart_more units c.args.sets rows v i u c.loop-unit.invariant.long is_u c.loop-unit.invariant.apart new number unit lt is);
+          (all_rows_more (λ w l. AreUnitApart w [] c.args.sets l) units rows v i u c.loop-unit.invariant.long is_u c.loop-unit.invariant.apart new number unit lt is);
     }
 
 pub returns : goal.returns

@@ -1,7 +1,7 @@
-use Rattle.std.proofs.Common.{◌≡◌, List, length, map, ap, ◌∙◌, subst, arith}
+use Rattle.std.proofs.Common.{◌≡◌, ℕ, List, length, map, ap, sym, ◌∙◌, subst, arith}
 use Rattle.paris_code.specs.declared.program.Final.{Final}
 use Rattle.paris_code.specs.declared.program.Unit.{Unit as CodeUnit}
-use Rattle.field_alloc.specs.Named.{AreAllApart}
+use Rattle.field_alloc.specs.Named.{AreAllAbove, AreAllApart}
 use Rattle.field_alloc.specs.Places.{items_of, units_from}
 use Rattle.field_alloc.proofs.Whole.{is_placed}
 use Rattle.field_alloc.proofs.placing.place.Goals as goal
@@ -21,5 +21,11 @@ returns-clause-placed c =
     omega (arith, ap length c.as_slice-2.ensures.value, c.in_ok-finals.ensures.length, ap length c.deref-items.ensures.value) in
     let apart =
     subst (λ n. AreAllApart before n (map items_of own)) sets
-    (subst (λ (us : List CodeUnit). AreAllApart us (length c.as_slice-2.result.now) (map items_of own)) c.as_slice.ensures.value c.in_ok-own.ensures) in
+    (subst (λ (us : List CodeUnit). AreAllApart us (length c.as_slice-2.result.now) (map items_of own)) c.as_slice.ensures.value c.in_ok-own.ensures.apart) in
+    let ends = c.placed_finals.new.ends.items in
+    let ends_are : length ends ≡ length c.args.p.shapes.items = sym (ap length c.as_slice-2.ensures.value) ∙ sets in
+    let above =
+    subst (λ (es : List ℕ). AreAllAbove before es (map items_of own)) c.as_slice-2.ensures.value
+    (subst (λ (us : List CodeUnit). AreAllAbove us c.as_slice-2.result.now (map items_of own)) c.as_slice.ensures.value c.in_ok-own.ensures.above) in
     is_placed _ _ (map items_of own) (map items_of places) are (rw c.as_slice-6.ensures.value at c.in_ok-units.ensures) c.in_ok-finals.ensures.kept apart
+    ends ends_are above c.in_ok-finals.ensures.under c.in_ok-finals.ensures.stacked
