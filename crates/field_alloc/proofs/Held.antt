@@ -11,9 +11,9 @@ use Rattle.paris_code.specs.declared.program.Unit.{Unit as CodeUnit}
 use Rattle.paris_code.specs.declared.program.Virtual.{Virtual}
 use Rattle.paris_code.specs.Spans.{IsNamedAt, StandsAt, fields_of}
 use Rattle.field_alloc.specs.declared.spans.Span.{Span}
-use Rattle.field_alloc.specs.Named.{AreLifted, AreUnitApart, IsUnitAbove, HeldAt, HeldBy, IsInUseAt, IsBetween}
+use Rattle.field_alloc.specs.Named.{AreAllBehind, AreCallsApart, AreLifted, AreUnitApart, IsBased, IsUnitAbove, IsUnitUnder, HeldAt, HeldBy, IsInUseAt, IsBetween}
 use Rattle.field_alloc.specs.Places.{items_of}
-use Rattle.field_alloc.specs.Sweep.{AreStacked, Holds, IsInSet, KeepsOthers}
+use Rattle.field_alloc.specs.Sweep.{AreBelow, AreStacked, Holds, IsInSet, KeepsOthers}
 use Rattle.field_alloc.proofs.Sweeps.{below_or_at}
 
 pub held_span : (o : Option Span) (at : ℕ) → HeldBy o at → (a : Span) × (o ≡ Some a) × Holds a at
@@ -128,3 +128,56 @@ held_in_use unit lent named spans whole held long names in_whole entry at in_fie
     (λ (b : IsBetween unit entry at).
     inr (held_between (slice_index_or named entry None) b.0 b.1.0 at (names entry b.0 in_fields b.1.1) (names entry b.1.0 in_fields b.1.2) b.1.3 b.1.4))
     used)
+
+pub below_kept : (fields : List Virtual) (spans : List (Option Span)) (s set number : ℕ) (before starts : List ℕ) (top : ℕ) → KeepsOthers fields set before starts → s ≢ set → AreBelow fields spans s number before top → AreBelow fields spans s number starts top
+unfolding own_entry
+below_kept fields spans s set number before starts top keeps away old entry len a lt p =
+    let e = keeps entry (own_entry s len) p.entry_is away in
+    let u = old entry len a lt p in
+    omega arith
+
+pub unit_under : (unit : CodeUnit) (lent : List Bool) (spans : List (Option Span)) (sets : ℕ) (starts ends : List ℕ) → ((entry at : ℕ) → entry < length unit.fields.items → at < length unit.code.items → IsInUseAt unit lent entry at → HeldAt spans entry at) → ((s : ℕ) → s < sets → AreBelow unit.fields.items spans s (length unit.fields.items) starts (slice_index ends s)) → IsUnitUnder unit lent sets starts ends
+unfolding own_entry
+unit_under unit lent spans sets starts ends held below entry set len at in_sets is_entry in_code used =
+    let within = slice_get_within unit.fields.items entry (own_entry set len) is_entry in
+    let a = held_span (slice_index_or spans entry None) at (held entry at within in_code used) in
+    let p : IsInSet unit.fields.items spans set entry len a.0 = record { entry_is = is_entry; span_is = a.1 } in
+    below set in_sets entry len a.0 within p
+
+pub unlent_under : (unit : CodeUnit) (lent : List Bool) (sets : ℕ) (starts ends : List ℕ) → IsUnitUnder unit lent sets starts ends → IsUnitUnder unit [] sets starts ends
+unlent_under unit lent sets starts ends h entry set len at in_sets is_entry in_code used =
+    h entry set len at in_sets is_entry in_code (unlent_use unit lent entry at used)
+
+-- the same for two rows at once
+pub all_pairs_more : (P : ℕ → CodeUnit → List ℕ → List ℕ → Type 0) (units : List CodeUnit) (rows others : List (Vec ℕ Global)) (v w : Vec ℕ Global) (i : ℕ) (u : CodeUnit) → length rows ≡ i → length others ≡ i → slice_get units i ≡ Some u → ((number : ℕ) (unit : CodeUnit) → number < i → slice_get units number ≡ Some unit → P number unit (slice_index_or (map items_of rows) number []) (slice_index_or (map items_of others) number [])) → P i u v.items w.items → (number : ℕ) (unit : CodeUnit) → number < i + 1 → slice_get units number ≡ Some unit → P number unit (slice_index_or (map items_of (rows ++ v ∷ [])) number []) (slice_index_or (map items_of (others ++ w ∷ [])) number [])
+all_pairs_more P units rows others v w i u long long_too is_u old new number unit lt is_unit =
+    ⊎_elim
+    (λ (x : number < i).
+    subst (λ (l : List ℕ). P number unit l (slice_index_or (map items_of (others ++ w ∷ [])) number [])) (sym (rows_more rows v number (omega arith)))
+    (subst (λ (l : List ℕ). P number unit (slice_index_or (map items_of rows) number []) l) (sym (rows_more others w number (omega arith))) (old number unit x is_unit)))
+    (λ (x : number ≡ i).
+    let same : u ≡ unit = same_Some u unit (sym is_u ∙ ap (slice_get units) (sym x) ∙ is_unit) in
+    subst (λ (l : List ℕ). P number unit l (slice_index_or (map items_of (others ++ w ∷ [])) number [])) (sym (row_last rows v number (long ∙ sym x)))
+    (subst (λ (l : List ℕ). P number unit v.items l) (sym (row_last others w number (long_too ∙ sym x)))
+    (subst (λ k. P k unit v.items w.items) (sym x)
+    (subst (λ (z : CodeUnit). P i z v.items w.items) same new))))
+    (below_or_at number i lt)
+
+pub lifted_based : (unit : CodeUnit) (sets : ℕ) (base starts places tops : List ℕ) → AreLifted unit.fields.items base starts places → IsUnitUnder unit [] sets starts tops → IsBased unit sets tops places base
+unfolding own_entry
+lifted_based unit sets base starts places tops lifted under = record {
+  under = λ entry set len at in_sets is_entry in_code named.
+      let e = lifted entry (own_entry set len) is_entry in
+      let u = under entry set len at in_sets is_entry in_code (inr named) in
+      omega arith;
+  above = λ entry set len is_entry.
+      let e = lifted entry (own_entry set len) is_entry in
+      omega arith;
+}
+
+pub calls_apart : (units : List CodeUnit) (sets : ℕ) (bases tops places : List (List ℕ)) → AreAllBehind units sets bases tops → ((number : ℕ) (unit : CodeUnit) → slice_get units number ≡ Some unit → IsBased unit sets (slice_index_or tops number []) (slice_index_or places number []) (slice_index_or bases number [])) → AreCallsApart units sets places
+calls_apart units sets bases tops places behind based caller called at entry other set len over used unit owner is_unit is_call is_owner in_sets is_entry is_other in_code named =
+    let u = (based caller unit is_unit).under entry set len used in_sets is_entry in_code named in
+    let b = behind caller unit is_unit at called is_call set in_sets in
+    let a = (based called owner is_owner).above other set over is_other in
+    omega arith

@@ -7,7 +7,7 @@ use Rattle.std.specs.List.{slice_get, slice_index}
 use Rattle.paris_code.specs.declared.program.Owner.TheVariants as O
 use Rattle.paris_code.specs.declared.program.Virtual.{Virtual}
 use Rattle.field_alloc.specs.declared.spans.Span.{Span}
-use Rattle.field_alloc.specs.Sweep.{Holds, IsInSet, IsSwept}
+use Rattle.field_alloc.specs.Sweep.{AreBelow, Holds, IsInSet, IsSwept}
 
 pub below_or_at : (k n : ℕ) → k < n + 1 → (k < n) ⊎ (k ≡ n)
 below_or_at k n h =
@@ -116,3 +116,25 @@ in_set fields spans group n v a at e f span = record {
   entry_is = at ∙ ap (λ (w : Virtual). Some w) (own_is v group e f);
   span_is = span;
 }
+
+pub below_skip : (fields : List Virtual) (spans : List (Option Span)) (group n : ℕ) (starts : List ℕ) (top : ℕ) → AreBelow fields spans group n starts top → ((len : ℕ) (a : Span) → IsInSet fields spans group n len a → ⊥) → AreBelow fields spans group (n + 1) starts top
+below_skip fields spans group n starts top h none entry len a lt p =
+    ⊎_elim
+    (λ (x : entry < n). h entry len a x p)
+    (λ (x : entry ≡ n). absurd (none len a (subst (λ k. IsInSet fields spans group k len a) x p)))
+    (below_or_at entry n lt)
+
+pub below_last : (fields : List Virtual) (spans : List (Option Span)) (group n : ℕ) (starts : List ℕ) (top : ℕ) → AreBelow fields spans group n starts top → (len start : ℕ) (span : Span) → IsInSet fields spans group n len span → n < length starts → start + len ≤ top → AreBelow fields spans group (n + 1) (set starts n start) top
+below_last fields spans group n starts top h len start span p in_starts ends entry l a lt q =
+    ⊎_elim
+    (λ (x : entry < n).
+    let away : entry ≢ n = omega arith in
+    let e = get_or-set_other starts n entry start 0 away in
+    let u = h entry l a x q in
+    omega arith)
+    (λ (x : entry ≡ n).
+    let mine = subst (λ k. IsInSet fields spans group k l a) x q in
+    let e = same_len fields spans group n l len a span mine p in
+    let i : slice_index (set starts n start) entry ≡ start = ap (slice_index (set starts n start)) x ∙ get_or-set_same starts n start 0 in_starts in
+    omega arith)
+    (below_or_at entry n lt)

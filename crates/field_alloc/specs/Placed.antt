@@ -106,7 +106,8 @@ begins places number entry = slice_index (slice_index_or places number []) entry
 -- A program, and the same over bits. An entry that stands for another unit's own one is at the bits
 -- of that, and one that stands for a field of the file at the bits that the final has. Two own
 -- entries have no bit in common if some instruction is between two that name the one, and between two
--- that name the other. The file's fields are apart from each other, and below all own entries.
+-- that name the other. The file's fields are apart from each other, and below all own entries; and
+-- those of a unit that are named are below all own entries of the units that it calls.
 pub record IsPlaced (before after : Program) : Type 0 where
   pub places : List (List ℕ)
   pub units : ArePlacedUnits places 0 before.units.items after.units.items
@@ -116,3 +117,4 @@ pub record IsPlaced (before after : Program) : Type 0 where
   pub apart : (number one other set len over at : ℕ) (unit : CodeUnit) → IsUnit before number unit → one ≢ other → set < length before.shapes.items → IsOwn unit one set len → IsOwn unit other set over → at < length unit.code.items → IsBetween unit one at → IsBetween unit other at → AreApart (begins places number one) len (begins places number other) over
   pub finals_apart : AreFilesStacked (length before.shapes.items) after.finals.items
   pub files_apart : (number entry file set len : ℕ) (unit : CodeUnit) (last : Final) → IsUnit before number unit → IsOwn unit entry set len → set < length before.shapes.items → slice_get after.finals.items file ≡ Some last → last.field.set ≡ set → last.field.offset + last.field.len ≤ begins places number entry
+  pub calls_apart : (caller called at entry other set len over used : ℕ) (unit owner : CodeUnit) → IsUnit before caller unit → slice_get unit.code.items at ≡ Some (I.FrontCall called) → IsUnit before called owner → set < length before.shapes.items → IsOwn unit entry set len → IsOwn owner other set over → used < length unit.code.items → IsBetween unit entry used → begins places caller entry + len ≤ begins places called other

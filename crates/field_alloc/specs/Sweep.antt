@@ -39,3 +39,8 @@ pub record IsSwept (fields : List Virtual) (spans : List (Option Span)) (size se
   pub others : KeepsOthers fields set before starts
   pub under : AreUnder fields spans size set number starts heights
   pub stacked : AreStacked fields spans size set number starts
+
+-- none of the entries before one of a number ends above the top
+abbrev pub AreBelow : List Virtual → List (Option Span) → ℕ → ℕ → List ℕ → ℕ → Type 0
+AreBelow fields spans set number starts top =
+    (entry len : ℕ) (a : Span) → entry < number → IsInSet fields spans set entry len a → slice_index starts entry + len ≤ top

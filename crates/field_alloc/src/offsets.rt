@@ -3,8 +3,8 @@
 
 ghost use Rattle.std.specs.Prelude.{◌≡◌, ℕ, ◌+◌, ◌-◌, ◌^◌, ◌<◌, ◌≤◌, List, length, IfOk, OnOk};
 ghost use Rattle.std.specs.List.{slice_index};
-ghost use Rattle.field_alloc.specs.Named.{AreUnitApart};
-ghost use Rattle.field_alloc.specs.Sweep.{AreHeights, AreStacked, Holds, IsSwept, KeepsOthers};
+ghost use Rattle.field_alloc.specs.Named.{AreUnitApart, IsUnitUnder};
+ghost use Rattle.field_alloc.specs.Sweep.{AreBelow, AreHeights, AreStacked, Holds, IsSwept, KeepsOthers};
 
 use crate::places::number_at;
 use crate::spans::{Span, spans_of};
@@ -22,7 +22,8 @@ pub struct Offsets {
 /// The offsets of a unit's entries in so many sets. An entry that another unit names, as `lent`
 /// says, lasts through the whole unit.
 pub fn offsets_of(alloc: Global, unit: &Unit, lent: &[bool], sets: usize) -> Result<Offsets, Memory>
-    ensures { IfOk result (λ o. AreUnitApart unit.now lent.now sets o.starts.items) }
+    ensures apart { IfOk result (λ o. AreUnitApart unit.now lent.now sets o.starts.items) }
+    ensures under { IfOk result (λ o. IsUnitUnder unit.now lent.now sets o.starts.items o.ends.items) }
 {
     let spans = spans_of(alloc, unit, lent)?;
     let Ok(length) = u32::try_from(unit.code.len()) else {
@@ -63,6 +64,7 @@ fn place_set(
     ensures length { OnOk result (length starts.new.items ≡ length starts.old.items) }
     ensures others { OnOk result (KeepsOthers fields.now set starts.old.items starts.new.items) }
     ensures stacked { OnOk result (AreStacked fields.now spans.now size set (length fields.now) starts.new.items) }
+    ensures below { IfOk result (λ top. AreBelow fields.now spans.now set (length fields.now) starts.new.items top) }
 {
     heights.clear();
     let mut greatest = 0u32;
@@ -88,6 +90,7 @@ fn place_entry(
     requires starts { length starts.old.items ≡ length fields.now }
     requires heights { AreHeights size heights.old.items }
     ensures swept { (before : List ℕ) → IsSwept fields.now spans.now size set number before starts.old.items heights.old.items → OnOk result (IsSwept fields.now spans.now size set (number + 1) before starts.new.items heights.new.items) }
+    ensures below { IfOk result (λ end. (top : ℕ) → end ≤ top → AreBelow fields.now spans.now set number starts.old.items top → AreBelow fields.now spans.now set (number + 1) starts.new.items top) }
 {
     let entry = fields[number];
     let Owner::Own = entry.owner else {

@@ -1,5 +1,6 @@
 use Rattle.std.proofs.Common.{◌≡◌, ℕ, ◌<◌, length}
-use Rattle.field_alloc.specs.Sweep.{AreStacked}
+use Rattle.std.specs.List.{slice_index}
+use Rattle.field_alloc.specs.Sweep.{AreBelow, AreStacked}
 use Rattle.field_alloc.proofs.offsets.offsets_of.Given as goal
 
 abbrev pub invariant-loop : goal.invariant-loop
@@ -9,4 +10,6 @@ abbrev pub invariant-loop-set : goal.invariant-loop-set
 invariant-loop-set l = record {
   long : length l.starts.items ≡ length l.unit.fields.items;
   stacked : (s : ℕ) → s < l.set → AreStacked l.unit.fields.items l.spans.items l.length s (length l.unit.fields.items) l.starts.items;
+  ends_long : length l.ends.items ≡ l.set;
+  below : (s : ℕ) → s < l.set → AreBelow l.unit.fields.items l.spans.items s (length l.unit.fields.items) l.starts.items (slice_index l.ends.items s);
 }
