@@ -1,1 +1,5 @@
 pub mod Placed
+pub mod Places
+pub mod Sweep
+pub mod Named
+pub mod Files

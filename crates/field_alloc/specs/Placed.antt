@@ -1,11 +1,120 @@
--- What placing keeps of a program.
-use Rattle.std.specs.Prelude.{ℕ, ◌≡◌, List, length, map}
-use Rattle.paris_code.specs.declared.program.Unit.{Unit}
+-- What placing makes of a program: each field stands at the bits of its entry, and all else is as it
+-- was. `places` are the bits at which the entries of a unit begin, in the order of the entries.
+use Rattle.std.specs.Prelude.{◌≡◌, ◌≢◌, ℕ, ◌+◌, ◌<◌, ◌≤◌, List, [], ◌∷◌, length, map, Option, Some, None}
+use Rattle.std.specs.List.{AllZip, slice_get, slice_index, slice_index_or}
+use Rattle.paris_code.specs.declared.operands.Coordinate.{Coordinate}
+use Rattle.paris_code.specs.declared.operands.Coordinate.TheVariants as C
+use Rattle.paris_code.specs.declared.operands.Field.{Field}
+use Rattle.paris_code.specs.declared.operands.SignedCoordinate.{SignedCoordinate}
+use Rattle.paris_code.specs.declared.instr.Instr.{Instr}
+use Rattle.paris_code.specs.declared.instr.Instr.TheVariants as I
+use Rattle.paris_code.specs.declared.program.Final.{Final}
+use Rattle.paris_code.specs.declared.program.Owner.TheVariants as O
+use Rattle.paris_code.specs.declared.program.Program.{Program}
+use Rattle.paris_code.specs.declared.program.Unit.{Unit as CodeUnit}
+use Rattle.paris_code.specs.declared.program.Virtual.{Virtual}
+use Rattle.paris_code.specs.Proper.{IsUnit, IsEntry, IsOwn}
+use Rattle.field_alloc.specs.Files.{AreFilesStacked}
+use Rattle.field_alloc.specs.Named.{AreApart, IsBetween}
 
--- how many instructions a unit has
-abbrev pub length_of : Unit → ℕ
-length_of u = length u.code.items
+-- the field at the bits of its entry
+abbrev pub moved : List ℕ → Field → Field
+moved places f = record { set = f.set; offset = slice_index places f.offset; len = f.len }
 
--- as many units as before, each with as many instructions
-abbrev pub KeepsLengths : List Unit → List Unit → Type 0
-KeepsLengths before after = map length_of after ≡ map length_of before
+abbrev pub moved_coordinate : List ℕ → Coordinate → Coordinate
+moved_coordinate places (C.Field f) = C.Field (moved places f)
+moved_coordinate places (C.Reg r) = C.Reg r
+
+abbrev pub moved_signed : List ℕ → SignedCoordinate → SignedCoordinate
+moved_signed places c = record { coordinate = moved_coordinate places c.coordinate; signed = c.signed }
+
+abbrev pub moved_bit : List ℕ → Option Field → Option Field
+moved_bit places None = None
+moved_bit places (Some f) = Some (moved places f)
+
+-- communication over bits; what names no field stays as it is
+abbrev pub moved_message : List ℕ → Instr → Instr
+moved_message p (I.GetFromNews d a axis k) = I.GetFromNews (moved p d) (moved p a) axis k
+moved_message p (I.GetFromNewsAlways d a axis k) = I.GetFromNewsAlways (moved p d) (moved p a) axis k
+moved_message p (I.Get d address a) = I.Get (moved p d) (moved p address) (moved p a)
+moved_message p (I.SendWithOverwrite d kind address a) = I.SendWithOverwrite (moved p d) kind (moved p address) (moved p a)
+moved_message p (I.SendWithCombiner c d kind address a) = I.SendWithCombiner c (moved p d) kind (moved p address) (moved p a)
+moved_message p (I.Global c r a) = I.Global c r (moved p a)
+moved_message p (I.Scan c d a axis direction mode bit inclusion) = I.Scan c (moved p d) (moved p a) axis direction mode (moved_bit p bit) inclusion
+moved_message p (I.ReadFromProcessor signed r processor a) = I.ReadFromProcessor signed r processor (moved p a)
+moved_message p (I.WriteToProcessor d processor k) = I.WriteToProcessor (moved p d) processor k
+moved_message p instr = instr
+
+-- arithmetic and comparisons over bits, or one of the above
+abbrev pub moved_arithmetic : List ℕ → Instr → Instr
+moved_arithmetic p (I.Operate op d a b) = I.Operate op (moved p d) (moved p a) (moved p b)
+moved_arithmetic p (I.OperateConstant op d a k) = I.OperateConstant op (moved p d) (moved p a) k
+moved_arithmetic p (I.Negate d a) = I.Negate (moved p d) (moved p a)
+moved_arithmetic p (I.Lognot d a) = I.Lognot (moved p d) (moved p a)
+moved_arithmetic p (I.Compare relation a b) = I.Compare relation (moved p a) (moved p b)
+moved_arithmetic p instr = moved_message p instr
+
+-- an instruction without a list of coordinates over bits
+abbrev pub moved_instr : List ℕ → Instr → Instr
+moved_instr p (I.Move signed d a) = I.Move signed (moved p d) (moved p a)
+moved_instr p (I.MoveConstant d k) = I.MoveConstant (moved p d) k
+moved_instr p (I.MoveZeroAlways d) = I.MoveZeroAlways (moved p d)
+moved_instr p (I.MoveAlways d a) = I.MoveAlways (moved p d) (moved p a)
+moved_instr p (I.MyNewsCoordinate d axis) = I.MyNewsCoordinate (moved p d) axis
+moved_instr p (I.EqZero a) = I.EqZero (moved p a)
+moved_instr p (I.NeZero a) = I.NeZero (moved p a)
+moved_instr p (I.LoadTest a) = I.LoadTest (moved p a)
+moved_instr p (I.StoreTest d) = I.StoreTest (moved p d)
+moved_instr p (I.LoadContext a) = I.LoadContext (moved p a)
+moved_instr p (I.StoreContext d) = I.StoreContext (moved p d)
+moved_instr p (I.CheckDivisor place a) = I.CheckDivisor place (moved p a)
+moved_instr p instr = moved_arithmetic p instr
+
+-- an instruction, and the same over bits
+abbrev pub IsPlacedInstr : List ℕ → Instr → Instr → Type 0
+IsPlacedInstr p (I.MakeAddress d set coordinates) (I.MakeAddress e t over) =
+    (e ≡ moved p d) × (t ≡ set) × (over.items ≡ map (moved_coordinate p) coordinates.items)
+IsPlacedInstr p (I.MakeAddress d set coordinates) over = ⊥
+IsPlacedInstr p (I.CheckTarget set place coordinates) (I.CheckTarget t at over) =
+    (t ≡ set) × (at ≡ place) × (over.items ≡ map (moved_signed p) coordinates.items)
+IsPlacedInstr p (I.CheckTarget set place coordinates) over = ⊥
+IsPlacedInstr p instr over = over ≡ moved_instr p instr
+
+-- a unit, and the same over bits
+pub record IsPlacedUnit (p : List ℕ) (unit over : CodeUnit) : Type 0 where
+  pub name : over.name ≡ unit.name
+  pub regs : over.regs ≡ unit.regs
+  pub homes : over.homes ≡ unit.homes
+  pub fields : over.fields ≡ unit.fields
+  pub code : AllZip (IsPlacedInstr p) unit.code.items over.code.items
+
+-- the units from one of a number, and the same over bits; `places` has a list for each unit
+unfoldable pub ArePlacedUnits : List (List ℕ) → ℕ → List CodeUnit → List CodeUnit → Type 0
+ArePlacedUnits places number [] [] = Unit {0}
+ArePlacedUnits places number (u ∷ us) (o ∷ os) = IsPlacedUnit (slice_index_or places number []) u o × ArePlacedUnits places (number + 1) us os
+ArePlacedUnits places number _ _ = ⊥
+
+-- a final, and the same over bits
+abbrev pub IsPlacedFinal : Final → Final → Type 0
+IsPlacedFinal last over =
+    (over.name ≡ last.name) × (over.elem ≡ last.elem) × (over.field.set ≡ last.field.set) × (over.field.len ≡ last.field.len)
+
+-- the bit at which an entry of a unit begins
+abbrev pub begins : List (List ℕ) → ℕ → ℕ → ℕ
+begins places number entry = slice_index (slice_index_or places number []) entry
+
+-- A program, and the same over bits. An entry that stands for another unit's own one is at the bits
+-- of that, and one that stands for a field of the file at the bits that the final has. Two own
+-- entries have no bit in common if some instruction is between two that name the one, and between two
+-- that name the other. The file's fields are apart from each other, and below all own entries; and
+-- those of a unit that are named are below all own entries of the units that it calls.
+pub record IsPlaced (before after : Program) : Type 0 where
+  pub places : List (List ℕ)
+  pub units : ArePlacedUnits places 0 before.units.items after.units.items
+  pub borrowed : (number entry other index : ℕ) (unit owner : CodeUnit) (virtual own : Virtual) → IsUnit before number unit → IsEntry unit entry virtual → virtual.owner ≡ O.Of other index → IsUnit before other owner → IsEntry owner index own → own.owner ≡ O.Own → begins places number entry ≡ begins places other index
+  pub files : (number entry file : ℕ) (unit : CodeUnit) (virtual : Virtual) (last : Final) → IsUnit before number unit → IsEntry unit entry virtual → virtual.owner ≡ O.File file → slice_get after.finals.items file ≡ Some last → begins places number entry ≡ last.field.offset
+  pub finals : AllZip IsPlacedFinal before.finals.items after.finals.items
+  pub apart : (number one other set len over at : ℕ) (unit : CodeUnit) → IsUnit before number unit → one ≢ other → set < length before.shapes.items → IsOwn unit one set len → IsOwn unit other set over → at < length unit.code.items → IsBetween unit one at → IsBetween unit other at → AreApart (begins places number one) len (begins places number other) over
+  pub finals_apart : AreFilesStacked (length before.shapes.items) after.finals.items
+  pub files_apart : (number entry file set len : ℕ) (unit : CodeUnit) (last : Final) → IsUnit before number unit → IsOwn unit entry set len → set < length before.shapes.items → slice_get after.finals.items file ≡ Some last → last.field.set ≡ set → last.field.offset + last.field.len ≤ begins places number entry
+  pub calls_apart : (caller called at entry other set len over used : ℕ) (unit owner : CodeUnit) → IsUnit before caller unit → slice_get unit.code.items at ≡ Some (I.FrontCall called) → IsUnit before called owner → set < length before.shapes.items → IsOwn unit entry set len → IsOwn owner other set over → used < length unit.code.items → IsBetween unit entry used → begins places caller entry + len ≤ begins places called other

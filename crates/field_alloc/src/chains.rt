@@ -1,12 +1,15 @@
 //! Where the bits of each unit begin: behind those of the file, and behind those of every chain of
 //! units that leads to it by calls.
 
-use crate::offsets::Offsets;
+ghost use Rattle.std.specs.Prelude.{ℕ, ◌<◌, ◌≤◌, IfOk, length};
+ghost use Rattle.std.specs.List.{slice_index};
+
 use cstar_base::Memory;
 use paris_code::{Instr, Unit};
 use std::alloc::Global;
 
-/// For each unit and set, the number at `unit * sets + set`.
+/// For each unit and set, the number at `unit * sets + set`: where the unit's bits begin, counted
+/// from the end of the file's fields.
 #[derive(Drop)]
 pub struct Bases {
     pub sets: usize,
@@ -14,8 +17,7 @@ pub struct Bases {
 }
 
 impl Bases {
-    /// Where the unit's bits in the set begin.
-    pub fn at(&self, unit: usize, set: usize) -> u32 {
+    fn at(&self, unit: usize, set: usize) -> u32 {
         match self
             .list
             .get(unit.saturating_mul(self.sets).saturating_add(set))
@@ -23,6 +25,20 @@ impl Bases {
             Some(base) => *base,
             None => 0,
         }
+    }
+
+    /// Where the unit's bits of each set begin: behind the file's fields, which end there.
+    pub fn row(&self, alloc: Global, unit: usize, files: &[u32]) -> Result<Vec<u32>, Memory>
+        ensures { IfOk result (λ v. (set : ℕ) → set < length files.now → slice_index files.now set ≤ slice_index v.items set) }
+    {
+        let mut row = Vec::new(alloc);
+        for end in files {
+            let Some(base) = self.at(unit, row.len()).checked_add(*end) else {
+                return Err(Memory);
+            };
+            row.push(base)?;
+        }
+        Ok(row)
     }
 
     /// No lower than this.
@@ -36,20 +52,21 @@ impl Bases {
     }
 }
 
-/// The bases of all units. Calls have no cycle, so each unit comes once all its callers have.
+/// The bases of all units, whose own bits reach up to `tops`. Calls have no cycle, so each unit comes
+/// once all its callers have.
 pub fn bases_of(
     alloc: Global,
     units: &[Unit],
-    offsets: &[Offsets],
-    files: &[u32],
+    tops: &[Vec<u32>],
+    sets: usize,
 ) -> Result<Bases, Memory> {
     let mut bases = Bases {
-        sets: files.len(),
+        sets,
         list: Vec::new(alloc),
     };
     for _ in units {
-        for file in files {
-            bases.list.push(*file)?;
+        for _ in 0..sets {
+            bases.list.push(0)?;
         }
     }
     let mut callers = count_callers(alloc, units)?;
@@ -63,8 +80,15 @@ pub fn bases_of(
         let Some(number) = ready.pop() else {
             return Ok(bases);
         };
-        if let (Some(unit), Some(own)) = (units.get(number), offsets.get(number)) {
-            pass_on(unit, number, own, &mut bases, &mut callers, &mut ready)?;
+        if let (Some(unit), Some(tops)) = (units.get(number), tops.get(number)) {
+            pass_on(
+                unit,
+                number,
+                tops.as_slice(),
+                &mut bases,
+                &mut callers,
+                &mut ready,
+            )?;
         }
     }
     Ok(bases)
@@ -93,7 +117,7 @@ fn count_callers(alloc: Global, units: &[Unit]) -> Result<Vec<usize>, Memory> {
 fn pass_on(
     unit: &Unit,
     number: usize,
-    own: &Offsets,
+    tops: &[u32],
     bases: &mut Bases,
     callers: &mut Vec<usize>,
     ready: &mut Vec<usize>,
@@ -102,7 +126,7 @@ fn pass_on(
         if let Instr::FrontCall { unit: callee } = instr {
             let callee = *callee as usize;
             if callee < callers.len() {
-                lift(number, callee, own, bases)?;
+                lift(number, callee, tops, bases)?;
                 callers[callee] = callers[callee].saturating_sub(1);
                 if callers[callee] == 0 {
                     ready.push(callee)?;
@@ -114,8 +138,8 @@ fn pass_on(
 }
 
 /// The called unit's bits begin no lower than where the caller's end, in each set.
-fn lift(caller: usize, callee: usize, own: &Offsets, bases: &mut Bases) -> Result<(), Memory> {
-    for (set, end) in own.ends.iter().enumerate() {
+fn lift(caller: usize, callee: usize, tops: &[u32], bases: &mut Bases) -> Result<(), Memory> {
+    for (set, end) in tops.iter().enumerate() {
         let Some(base) = bases.at(caller, set).checked_add(*end) else {
             return Err(Memory);
         };

@@ -1,11 +1,20 @@
 //! The fields that an instruction names.
 
+ghost use Rattle.std.specs.Prelude.{◌≡◌, [], ◌∷◌, ◌++◌, IfOk, map, OnOk};
+ghost use Rattle.std.specs.List.{flat_map};
+ghost use Rattle.paris_code.specs.Operands.{coordinate_of};
+ghost use Rattle.paris_code.specs.Spans.{fields_of, fields_of_coordinate};
+ghost use Rattle.field_alloc.specs.Placed.{IsPlacedInstr, moved, moved_arithmetic, moved_bit, moved_coordinate, moved_instr, moved_message, moved_signed};
+
+use crate::places::number_at;
 use cstar_base::Memory;
 use paris_code::{Coordinate, Field, Instr, SignedCoordinate};
 use std::alloc::Global;
 
 /// Appends the fields that an instruction names.
-pub fn named(i: &Instr, all: &mut Vec<Field>) -> Result<(), Memory> {
+pub fn named(i: &Instr, all: &mut Vec<Field>) -> Result<(), Memory>
+    ensures { OnOk result (all.new.items ≡ all.old.items ++ fields_of i.now) }
+{
     match i {
         Instr::MoveConstant { dest, .. }
         | Instr::MoveZeroAlways { dest }
@@ -69,37 +78,78 @@ pub fn named(i: &Instr, all: &mut Vec<Field>) -> Result<(), Memory> {
             ..
         } => {
             one(*dest, all)?;
-            for coordinate in coordinates {
-                coordinate_field(*coordinate, all)?;
-            }
-            Ok(())
+            coordinate_fields(coordinates.as_slice(), all)
         }
-        Instr::CheckTarget { coordinates, .. } => {
-            for coordinate in coordinates {
-                coordinate_field(coordinate.coordinate, all)?;
-            }
-            Ok(())
-        }
-        _ => Ok(()),
+        Instr::CheckTarget { coordinates, .. } => checked_fields(coordinates.as_slice(), all),
+        Instr::SetContext { .. }
+        | Instr::LogandContextWithTest { .. }
+        | Instr::LogandcContextWithTest { .. }
+        | Instr::CheckGrid { .. }
+        | Instr::FrontConst { .. }
+        | Instr::FrontMove { .. }
+        | Instr::FrontOperate { .. }
+        | Instr::FrontCompare { .. }
+        | Instr::FrontNegate { .. }
+        | Instr::FrontLognot { .. }
+        | Instr::FrontConvert { .. }
+        | Instr::FrontMakeAddress { .. }
+        | Instr::FrontCheckTarget { .. }
+        | Instr::FrontCheckDivisor { .. }
+        | Instr::FrontJump { .. }
+        | Instr::FrontJumpZero { .. }
+        | Instr::FrontJumpNonzero { .. }
+        | Instr::FrontTurn
+        | Instr::FrontCall { .. }
+        | Instr::FrontReturn
+        | Instr::FrontPutBytes { .. }
+        | Instr::FrontPut { .. }
+        | Instr::FrontGetByte { .. }
+        | Instr::FrontHalt => Ok(()),
     }
 }
 
-fn one(a: Field, all: &mut Vec<Field>) -> Result<(), Memory> {
+fn coordinate_fields(coordinates: &[Coordinate], all: &mut Vec<Field>) -> Result<(), Memory>
+    ensures { OnOk result (all.new.items ≡ all.old.items ++ flat_map fields_of_coordinate coordinates.now) }
+{
+    for coordinate in coordinates {
+        coordinate_field(*coordinate, all)?;
+    }
+    Ok(())
+}
+
+fn checked_fields(coordinates: &[SignedCoordinate], all: &mut Vec<Field>) -> Result<(), Memory>
+    ensures { OnOk result (all.new.items ≡ all.old.items ++ flat_map (λ c. fields_of_coordinate (coordinate_of c)) coordinates.now) }
+{
+    for checked in coordinates {
+        coordinate_field(checked.coordinate, all)?;
+    }
+    Ok(())
+}
+
+fn one(a: Field, all: &mut Vec<Field>) -> Result<(), Memory>
+    ensures { OnOk result (all.new.items ≡ all.old.items ++ a ∷ []) }
+{
     all.push(a)?;
     Ok(())
 }
 
-fn two(a: Field, b: Field, all: &mut Vec<Field>) -> Result<(), Memory> {
+fn two(a: Field, b: Field, all: &mut Vec<Field>) -> Result<(), Memory>
+    ensures { OnOk result (all.new.items ≡ all.old.items ++ (a ∷ (b ∷ []))) }
+{
     one(a, all)?;
     one(b, all)
 }
 
-fn three(a: Field, b: Field, c: Field, all: &mut Vec<Field>) -> Result<(), Memory> {
+fn three(a: Field, b: Field, c: Field, all: &mut Vec<Field>) -> Result<(), Memory>
+    ensures { OnOk result (all.new.items ≡ all.old.items ++ (a ∷ (b ∷ (c ∷ [])))) }
+{
     two(a, b, all)?;
     one(c, all)
 }
 
-fn coordinate_field(coordinate: Coordinate, all: &mut Vec<Field>) -> Result<(), Memory> {
+fn coordinate_field(coordinate: Coordinate, all: &mut Vec<Field>) -> Result<(), Memory>
+    ensures { OnOk result (all.new.items ≡ all.old.items ++ fields_of_coordinate coordinate) }
+{
     match coordinate {
         Coordinate::Field(field) => one(field, all),
         Coordinate::Reg(_) => Ok(()),
@@ -107,67 +157,87 @@ fn coordinate_field(coordinate: Coordinate, all: &mut Vec<Field>) -> Result<(), 
 }
 
 /// The field at the bits that its entry has.
-fn moved(f: Field, places: &[u32]) -> Field {
+fn moved(f: Field, places: &[u32]) -> Field
+    ensures { result ≡ moved places.now f }
+{
     Field {
         set: f.set,
-        offset: match places.get(f.offset as usize) {
-            Some(place) => *place,
-            None => 0,
-        },
+        offset: number_at(places, f.offset as usize),
         len: f.len,
     }
 }
 
-fn moved_coordinate(coordinate: Coordinate, places: &[u32]) -> Coordinate {
+fn moved_coordinate(coordinate: Coordinate, places: &[u32]) -> Coordinate
+    ensures { result ≡ moved_coordinate places.now coordinate }
+{
     match coordinate {
         Coordinate::Field(field) => Coordinate::Field(moved(field, places)),
         Coordinate::Reg(register) => Coordinate::Reg(register),
     }
 }
 
+fn moved_coordinates(
+    alloc: Global,
+    coordinates: &[Coordinate],
+    places: &[u32],
+) -> Result<Vec<Coordinate>, Memory>
+    ensures { IfOk result (λ v. v.items ≡ map (moved_coordinate places.now) coordinates.now) }
+{
+    let mut over = Vec::new(alloc);
+    for coordinate in coordinates {
+        over.push(moved_coordinate(*coordinate, places))?;
+    }
+    Ok(over)
+}
+
+fn moved_signed(
+    alloc: Global,
+    coordinates: &[SignedCoordinate],
+    places: &[u32],
+) -> Result<Vec<SignedCoordinate>, Memory>
+    ensures { IfOk result (λ v. v.items ≡ map (moved_signed places.now) coordinates.now) }
+{
+    let mut over = Vec::new(alloc);
+    for checked in coordinates {
+        over.push(SignedCoordinate {
+            coordinate: moved_coordinate(checked.coordinate, places),
+            signed: checked.signed,
+        })?;
+    }
+    Ok(over)
+}
+
 /// The instruction over bits: each field at the place of its entry.
-pub fn placed(alloc: Global, i: Instr, places: &[u32]) -> Result<Instr, Memory> {
+pub fn placed(alloc: Global, i: Instr, places: &[u32]) -> Result<Instr, Memory>
+    ensures { IfOk result (λ over. IsPlacedInstr places.now i over) }
+{
     match i {
         Instr::MakeAddress {
             dest,
             set,
             coordinates,
-        } => {
-            let mut over = Vec::new(alloc);
-            for coordinate in &coordinates {
-                over.push(moved_coordinate(*coordinate, places))?;
-            }
-            Ok(Instr::MakeAddress {
-                dest: moved(dest, places),
-                set,
-                coordinates: over,
-            })
-        }
+        } => Ok(Instr::MakeAddress {
+            dest: moved(dest, places),
+            set,
+            coordinates: moved_coordinates(alloc, coordinates.as_slice(), places)?,
+        }),
         Instr::CheckTarget {
             set,
             place,
             coordinates,
-        } => {
-            let mut over = Vec::new(alloc);
-            for checked in &coordinates {
-                let coordinate = moved_coordinate(checked.coordinate, places);
-                over.push(SignedCoordinate {
-                    coordinate,
-                    signed: checked.signed,
-                })?;
-            }
-            Ok(Instr::CheckTarget {
-                set,
-                place,
-                coordinates: over,
-            })
-        }
+        } => Ok(Instr::CheckTarget {
+            set,
+            place,
+            coordinates: moved_signed(alloc, coordinates.as_slice(), places)?,
+        }),
         other => Ok(placed_elementwise(other, places)),
     }
 }
 
 /// The same for moves, flags and checks.
-fn placed_elementwise(i: Instr, p: &[u32]) -> Instr {
+fn placed_elementwise(i: Instr, p: &[u32]) -> Instr
+    ensures { result ≡ moved_instr p.now i }
+{
     match i {
         Instr::Move {
             signed,
@@ -228,7 +298,9 @@ fn placed_elementwise(i: Instr, p: &[u32]) -> Instr {
 }
 
 /// The same for arithmetic and comparisons.
-fn placed_arithmetic(i: Instr, p: &[u32]) -> Instr {
+fn placed_arithmetic(i: Instr, p: &[u32]) -> Instr
+    ensures { result ≡ moved_arithmetic p.now i }
+{
     match i {
         Instr::Operate {
             op,
@@ -284,7 +356,9 @@ fn placed_arithmetic(i: Instr, p: &[u32]) -> Instr {
 }
 
 /// The same for communication. The front end's instructions name no field.
-fn placed_messages(i: Instr, p: &[u32]) -> Instr {
+fn placed_messages(i: Instr, p: &[u32]) -> Instr
+    ensures { result ≡ moved_message p.now i }
+{
     match i {
         Instr::GetFromNews {
             dest,
@@ -409,7 +483,9 @@ fn placed_messages(i: Instr, p: &[u32]) -> Instr {
     }
 }
 
-fn moved_bit(bit: Option<Field>, p: &[u32]) -> Option<Field> {
+fn moved_bit(bit: Option<Field>, p: &[u32]) -> Option<Field>
+    ensures { result ≡ moved_bit p.now bit }
+{
     match bit {
         Some(bit) => Some(moved(bit, p)),
         None => None,

@@ -3,7 +3,10 @@
 
 mod chains;
 mod fields;
+mod finals;
 mod offsets;
+mod owns;
+mod places;
 mod placing;
 mod spans;
 

@@ -2,9 +2,15 @@
 //! of another unit's entry goes on to the call of that unit. A span that a loop's stretch cuts takes
 //! in the whole stretch, since what stands in the entry then has to last from one round to the next.
 
+ghost use Rattle.std.specs.Prelude.{◌≡◌, ◌⊎◌, ℕ, ◌<◌, ◌≤◌, false, IfOk, length, OnOk, Some, true};
+ghost use Rattle.std.specs.List.{slice_get, slice_index_or};
+ghost use Rattle.paris_code.specs.Spans.{IsNamedAt};
+ghost use Rattle.field_alloc.specs.Sweep.{Holds};
+ghost use Rattle.field_alloc.specs.Named.{HeldAt, HeldBy, IsInUseAt};
+
 use crate::fields::named;
 use cstar_base::Memory;
-use paris_code::{Instr, Owner, Unit};
+use paris_code::{Field, Instr, Owner, Unit, Virtual};
 use std::alloc::Global;
 
 /// The instructions from `first` to `last`.
@@ -14,22 +20,86 @@ pub struct Span {
     pub last: u32,
 }
 
-/// The spans of a unit's entries; none where no instruction names the entry.
-pub fn spans_of(alloc: Global, unit: &Unit) -> Result<Vec<Option<Span>>, Memory> {
-    let mut spans: Vec<Option<Span>> = Vec::new(alloc);
+/// The spans of a unit's entries; none where no instruction names the entry. One that another unit
+/// names, as `lent` says, lasts through the whole unit.
+pub fn spans_of(alloc: Global, unit: &Unit, lent: &[bool]) -> Result<Vec<Option<Span>>, Memory>
+    ensures length { IfOk result (λ spans. length spans.items ≡ length unit.now.fields.items) }
+    ensures held { IfOk result (λ spans. (entry at : ℕ) → entry < length unit.now.fields.items → at < length unit.now.code.items → IsInUseAt unit.now lent.now entry at → HeldAt spans.items entry at) }
+{
+    let Ok(length) = u32::try_from(unit.code.len()) else {
+        return Err(Memory);
+    };
+    let whole = Span {
+        first: 0,
+        last: length.saturating_sub(1),
+    };
+    let mut named = Vec::new(alloc);
     for _ in &unit.fields {
-        spans.push(None)?;
+        named.push(None)?;
     }
-    let loops = name_all(alloc, unit, &mut spans)?;
+    let loops = name_all(alloc, unit, &mut named)?;
     let ends = ends_before(alloc, unit.code.len(), loops.as_slice())?;
-    for span in spans.iter_mut() {
-        if let Some(s) = *span {
-            if !is_straight(s, ends.as_slice()) {
-                *span = Some(lasting(s, loops.as_slice()));
-            }
-        }
+    let spans = in_use_all(
+        alloc,
+        named.as_slice(),
+        lent,
+        whole,
+        ends.as_slice(),
+        loops.as_slice(),
+    )?;
+    Ok(spans)
+}
+
+/// The spans with the stretches that they meet, and the whole one where the entry is lent.
+fn in_use_all(
+    alloc: Global,
+    named: &[Option<Span>],
+    lent: &[bool],
+    whole: Span,
+    ends: &[u32],
+    loops: &[Span],
+) -> Result<Vec<Option<Span>>, Memory>
+    ensures length { IfOk result (λ spans. length spans.items ≡ length named.now) }
+    ensures held { IfOk result (λ spans. (entry at : ℕ) → entry < length named.now → Holds whole at → (slice_get lent.now entry ≡ Some true) ⊎ HeldAt named.now entry at → HeldAt spans.items entry at) }
+{
+    let mut spans = Vec::new(alloc);
+    for span in named {
+        let is_lent = flag_at(lent, spans.len());
+        spans.push(in_use(*span, is_lent, whole, ends, loops))?;
     }
     Ok(spans)
+}
+
+/// Whether the flag of this number is set.
+fn flag_at(flags: &[bool], number: usize) -> bool
+    ensures { slice_get flags.now number ≡ Some true → result ≡ true }
+{
+    match flags.get(number) {
+        Some(flag) => *flag,
+        None => false,
+    }
+}
+
+/// The span with the stretches that it meets, or the whole one.
+fn in_use(
+    span: Option<Span>,
+    is_lent: bool,
+    whole: Span,
+    ends: &[u32],
+    loops: &[Span],
+) -> Option<Span>
+    ensures lent { is_lent ≡ true → result ≡ Some whole }
+    ensures held { is_lent ≡ false → (at : ℕ) → HeldBy span at → HeldBy result at }
+{
+    if is_lent {
+        return Some(whole);
+    }
+    let span = span?;
+    if is_straight(span, ends) {
+        Some(span)
+    } else {
+        Some(lasting(span, loops))
+    }
 }
 
 /// For each instruction, how many ends of stretches are at the instructions before it.
@@ -66,42 +136,65 @@ fn is_straight(span: Span, ends: &[u32]) -> bool {
 }
 
 /// Goes through the code from its end, and answers the stretches of the jumps back.
-fn name_all(
-    alloc: Global,
-    unit: &Unit,
-    spans: &mut Vec<Option<Span>>,
-) -> Result<Vec<Span>, Memory> {
+fn name_all(alloc: Global, unit: &Unit, spans: &mut Vec<Option<Span>>) -> Result<Vec<Span>, Memory>
+    requires { length spans.old.items ≡ length unit.now.fields.items }
+    ensures length { OnOk result (length spans.new.items ≡ length spans.old.items) }
+    ensures named { OnOk result ((entry at : ℕ) → entry < length unit.now.fields.items → IsNamedAt unit.now entry at → HeldAt spans.new.items entry at) }
+{
     let mut loops = Vec::new(alloc);
     let mut fields = Vec::new(alloc);
     let mut call = None;
     let mut left = unit.code.len();
-    for instr in unit.code.iter().rev() {
-        left = left.saturating_sub(1);
+    while left > 0 {
+        left -= 1;
         let Ok(at) = u32::try_from(left) else {
             return Err(Memory);
         };
+        let instr = &unit.code[left];
         if let Instr::FrontCall { .. } = instr {
             call = Some(at);
         }
-        if let Some(target) = target_of(instr) {
-            if target <= at {
-                loops.push(Span {
-                    first: target,
-                    last: at,
-                })?;
-            }
-        }
+        note_stretch(instr, at, &mut loops)?;
         fields.clear();
         named(instr, &mut fields)?;
-        for field in &fields {
-            let number = field.offset as usize;
-            if number < spans.len() && number < unit.fields.len() {
-                let owner = unit.fields[number].owner;
-                spans[number] = Some(widened(spans[number], at, call, owner));
-            }
-        }
+        name_fields(fields.as_slice(), unit.fields.as_slice(), at, call, spans);
     }
     Ok(loops)
+}
+
+/// The stretch of the jump, if it is one that does not lead forward.
+fn note_stretch(instr: &Instr, at: u32, loops: &mut Vec<Span>) -> Result<(), Memory> {
+    if let Some(target) = target_of(instr) {
+        if target <= at {
+            loops.push(Span {
+                first: target,
+                last: at,
+            })?;
+        }
+    }
+    Ok(())
+}
+
+/// The spans with one more instruction, which names these fields.
+fn name_fields(
+    named: &[Field],
+    entries: &[Virtual],
+    at: u32,
+    call: Option<u32>,
+    spans: &mut Vec<Option<Span>>,
+)
+    requires { length spans.old.items ≡ length entries.now }
+    ensures length { length spans.new.items ≡ length spans.old.items }
+    ensures kept { (entry other : ℕ) → at ≤ other → HeldAt spans.old.items entry other → HeldAt spans.new.items entry other }
+    ensures named { (k entry : ℕ) (field : Field) → k < length named.now → slice_index_or named.now k field ≡ field → field.offset ≡ entry → entry < length entries.now → HeldAt spans.new.items entry at }
+{
+    for field in named {
+        let number = field.offset as usize;
+        if number < entries.len() {
+            let owner = entries[number].owner;
+            spans[number] = Some(widened(spans[number], at, call, owner));
+        }
+    }
 }
 
 fn target_of(i: &Instr) -> Option<u32> {
@@ -114,9 +207,12 @@ fn target_of(i: &Instr) -> Option<u32> {
 }
 
 /// The span with one more instruction before it. Another unit's entry lasts to the next call.
-fn widened(span: Option<Span>, at: u32, call: Option<u32>, owner: Owner) -> Span {
+fn widened(span: Option<Span>, at: u32, call: Option<u32>, owner: Owner) -> Span
+    ensures kept { (other : ℕ) → at ≤ other → HeldBy span other → Holds result other }
+    ensures here { Holds result at }
+{
     let mut last = match span {
-        Some(s) => s.last,
+        Some(s) => s.last.max(at),
         None => at,
     };
     if let Owner::Of { .. } = owner {
@@ -126,7 +222,9 @@ fn widened(span: Option<Span>, at: u32, call: Option<u32>, owner: Owner) -> Span
 }
 
 /// The span with each loop's stretch that it meets, unless it lies inside that stretch.
-fn lasting(span: Span, loops: &[Span]) -> Span {
+fn lasting(span: Span, loops: &[Span]) -> Span
+    ensures { (at : ℕ) → Holds span at → Holds result at }
+{
     let mut wide = span;
     for _ in 0..loops.len() {
         let next = wider(wide, loops);
@@ -138,7 +236,9 @@ fn lasting(span: Span, loops: &[Span]) -> Span {
     wide
 }
 
-fn wider(span: Span, loops: &[Span]) -> Span {
+fn wider(span: Span, loops: &[Span]) -> Span
+    ensures { (at : ℕ) → Holds span at → Holds result at }
+{
     let mut wide = span;
     for stretch in loops {
         let meets = stretch.first <= wide.last && wide.first <= stretch.last;

@@ -1,6 +1,5 @@
-use Rattle.std.proofs.Common.{◌≡◌, map}
-use Rattle.field_alloc.specs.Placed.{length_of}
+use Rattle.std.proofs.Common.{◌≡◌, length}
 use Rattle.field_alloc.proofs.placing.place.Given as goal
 
-abbrev pub invariant-each : goal.invariant-each
-invariant-each l = map length_of l.over.items ≡ map length_of l.yielded
+abbrev pub invariant-loop : goal.invariant-loop
+invariant-loop l = length l.ends.items ≡ l.index

@@ -1,0 +1,6 @@
+pub mod FileBits
+pub mod Held
+pub mod Others
+pub mod Rows
+pub mod Sweeps
+pub mod Whole

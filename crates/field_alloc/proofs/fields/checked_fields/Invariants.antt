@@ -1,0 +1,8 @@
+use Rattle.std.proofs.Common.{◌≡◌, ◌++◌, take}
+use Rattle.std.specs.List.{flat_map}
+use Rattle.paris_code.specs.Operands.{coordinate_of}
+use Rattle.paris_code.specs.Spans.{fields_of_coordinate}
+use Rattle.field_alloc.proofs.fields.checked_fields.Given as goal
+
+abbrev pub invariant-loop-checked : goal.invariant-loop-checked
+invariant-loop-checked l = l.all.items ≡ l.initial.all.items ++ flat_map (λ c. fields_of_coordinate (coordinate_of c)) (take l.checked-index l.coordinates)

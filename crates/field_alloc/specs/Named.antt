@@ -1,0 +1,91 @@
+-- At which instructions of a unit an entry is in use.
+use Rattle.std.specs.Prelude.{◌≡◌, ◌≢◌, ◌⊎◌, ℕ, ◌+◌, ◌<◌, ◌≤◌, List, [], Bool, true, Option, Some, None, length}
+use Rattle.std.specs.List.{slice_get, slice_index, slice_index_or}
+use Rattle.paris_code.specs.declared.instr.Instr.{Instr}
+use Rattle.paris_code.specs.declared.instr.Instr.TheVariants as I
+use Rattle.paris_code.specs.declared.program.Unit.{Unit as CodeUnit}
+use Rattle.paris_code.specs.declared.program.Virtual.{Virtual}
+use Rattle.paris_code.specs.Proper.{IsOwn}
+use Rattle.paris_code.specs.Spans.{IsNamedAt}
+use Rattle.field_alloc.specs.declared.spans.Span.{Span}
+use Rattle.field_alloc.specs.Sweep.{Holds}
+
+-- a span, if there is one, holds an instruction
+abbrev pub HeldBy : Option Span → ℕ → Type 0
+HeldBy None at = ⊥
+HeldBy (Some span) at = Holds span at
+
+-- the span of an entry does
+abbrev pub HeldAt : List (Option Span) → ℕ → ℕ → Type 0
+HeldAt spans entry at = HeldBy (slice_index_or spans entry None) at
+
+-- the instruction is between two that name the entry, or one of these
+abbrev pub IsBetween : CodeUnit → ℕ → ℕ → Type 0
+IsBetween unit entry at =
+    (first : ℕ) × ((last : ℕ) × IsNamedAt unit entry first × IsNamedAt unit entry last × (first ≤ at) × (at ≤ last))
+
+-- the entry is lent, and so in use throughout, or the instruction is between two that name it
+abbrev pub IsInUseAt : CodeUnit → List Bool → ℕ → ℕ → Type 0
+IsInUseAt unit lent entry at = (slice_get lent entry ≡ Some true) ⊎ IsBetween unit entry at
+
+-- two runs of bits have none in common
+abbrev pub AreApart : ℕ → ℕ → ℕ → ℕ → Type 0
+AreApart start len other over = (start + len ≤ other) ⊎ (other + over ≤ start)
+
+-- own entries of a unit in one of so many sets that are in use at one instruction are apart
+abbrev pub AreUnitApart : CodeUnit → List Bool → ℕ → List ℕ → Type 0
+AreUnitApart unit lent sets starts =
+    (one other set len over at : ℕ) → one ≢ other → set < sets → IsOwn unit one set len → IsOwn unit other set over → at < length unit.code.items → IsInUseAt unit lent one at → IsInUseAt unit lent other at → AreApart (slice_index starts one) len (slice_index starts other) over
+
+-- the own entries of all units are, where no entry is lent
+abbrev pub AreAllApart : List CodeUnit → ℕ → List (List ℕ) → Type 0
+AreAllApart units sets starts =
+    (number : ℕ) (unit : CodeUnit) → slice_get units number ≡ Some unit → AreUnitApart unit [] sets (slice_index_or starts number [])
+
+-- entries stand by the starts, behind where their set's bits begin
+abbrev pub AreLifted : List Virtual → List ℕ → List ℕ → List ℕ → Type 0
+AreLifted entries base starts places =
+    (entry : ℕ) (v : Virtual) → slice_get entries entry ≡ Some v → slice_index places entry ≡ slice_index base v.set + slice_index starts entry
+
+-- the entries of a unit begin no lower than where the file's fields of their set end
+abbrev pub IsUnitAbove : List ℕ → CodeUnit → List ℕ → Type 0
+IsUnitAbove ends unit places =
+    (entry : ℕ) (v : Virtual) → slice_get unit.fields.items entry ≡ Some v → v.set < length ends → slice_index ends v.set ≤ slice_index places entry
+
+abbrev pub AreAllAbove : List CodeUnit → List ℕ → List (List ℕ) → Type 0
+AreAllAbove units ends places =
+    (number : ℕ) (unit : CodeUnit) → slice_get units number ≡ Some unit → IsUnitAbove ends unit (slice_index_or places number [])
+
+-- own entries of a unit that are in use end within the end of their set
+abbrev pub IsUnitUnder : CodeUnit → List Bool → ℕ → List ℕ → List ℕ → Type 0
+IsUnitUnder unit lent sets starts ends =
+    (entry set len at : ℕ) → set < sets → IsOwn unit entry set len → at < length unit.code.items → IsInUseAt unit lent entry at → slice_index starts entry + len ≤ slice_index ends set
+
+-- those of all units do, where no entry is lent
+abbrev pub AreAllUnder : List CodeUnit → ℕ → List (List ℕ) → List (List ℕ) → Type 0
+AreAllUnder units sets starts ends =
+    (number : ℕ) (unit : CodeUnit) → slice_get units number ≡ Some unit → IsUnitUnder unit [] sets (slice_index_or starts number []) (slice_index_or ends number [])
+
+-- in each set the bits of one unit end, `tops` above their base, where those of another begin or before
+abbrev pub IsBehind : ℕ → List ℕ → List ℕ → List ℕ → Type 0
+IsBehind sets base tops called = (set : ℕ) → set < sets → slice_index base set + slice_index tops set ≤ slice_index called set
+
+-- those of each unit that the code calls begin there
+abbrev pub AreCallsBehind : List Instr → ℕ → List ℕ → List ℕ → List (List ℕ) → Type 0
+AreCallsBehind code sets base tops bases =
+    (at called : ℕ) → slice_get code at ≡ Some (I.FrontCall called) → IsBehind sets base tops (slice_index_or bases called [])
+
+-- the same for the code of all units
+abbrev pub AreAllBehind : List CodeUnit → ℕ → List (List ℕ) → List (List ℕ) → Type 0
+AreAllBehind units sets bases tops =
+    (number : ℕ) (unit : CodeUnit) → slice_get units number ≡ Some unit → AreCallsBehind unit.code.items sets (slice_index_or bases number []) (slice_index_or tops number []) bases
+
+-- where own entries in use of a unit end, and own entries begin, by its base and tops of each set
+pub record IsBased (unit : CodeUnit) (sets : ℕ) (tops places base : List ℕ) : Type 0 where
+  pub under : (entry set len at : ℕ) → set < sets → IsOwn unit entry set len → at < length unit.code.items → IsBetween unit entry at → slice_index places entry + len ≤ slice_index base set + slice_index tops set
+  pub above : (entry set len : ℕ) → IsOwn unit entry set len → slice_index base set ≤ slice_index places entry
+
+-- an own entry of a unit that is in use ends where all own entries of a called unit begin, or before
+abbrev pub AreCallsApart : List CodeUnit → ℕ → List (List ℕ) → Type 0
+AreCallsApart units sets places =
+    (caller called at entry other set len over used : ℕ) (unit owner : CodeUnit) → slice_get units caller ≡ Some unit → slice_get unit.code.items at ≡ Some (I.FrontCall called) → slice_get units called ≡ Some owner → set < sets → IsOwn unit entry set len → IsOwn owner other set over → used < length unit.code.items → IsBetween unit entry used → slice_index (slice_index_or places caller []) entry + len ≤ slice_index (slice_index_or places called []) other
