@@ -12,7 +12,7 @@ struct Command {
     status: u8,
 }
 
-static COMMANDS: [Command; 30] = [
+static COMMANDS: [Command; 31] = [
     Command {
         words: "--mode check a.cs",
         text: "shape [1048576]S;\nint:S a, c, d, e, f, g, h, i, j, k, l, m, n, o, p, q, r, s, t, u, v, w, x, y, z, A, B, C, D, E, F;\nbool:S G, H, I, J, K, L, M, N, O, P, Q, R, T, U, V, W, X, Y, Z, aa, ab, ac, ad, ae, af, ag, ah, ai, aj, ak;\nmain() { }",
@@ -168,6 +168,14 @@ static COMMANDS: [Command; 30] = [
     Command {
         words: "--mode=check --finals --turns 0 -- a.cs",
         text: "main() { printf(\"%d \", getchar()); printf(\"%d \", getchar()); printf(\"%d\", getchar()); }",
+        input: "",
+        out: "",
+        err: "",
+        status: 0,
+    },
+    Command {
+        words: "--mode check a.cs",
+        text: "#include <stdio.h>\nshape [2][32768]ShapeA;\nint:ShapeA p1, p2, p3;\nint sum = 0;\nmain()\n{\nwith (ShapeA) {\np1 = 1;\np2 = 2;\np3 = p1 + p2;\nsum += p3;\nprintf(\"The sum is %d.\\n\", sum);\n}\n}\n",
         input: "",
         out: "",
         err: "",

@@ -8,6 +8,8 @@ mod bad_input;
 #[cfg(test)]
 mod bench;
 #[cfg(test)]
+mod big_input;
+#[cfg(test)]
 mod commands;
 #[cfg(test)]
 mod failures;
@@ -19,6 +21,8 @@ mod instructions;
 mod listings;
 #[cfg(test)]
 mod programs;
+#[cfg(test)]
+mod tokens;
 #[cfg(test)]
 mod trials;
 #[cfg(test)]
