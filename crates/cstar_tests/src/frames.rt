@@ -7,7 +7,7 @@ use std::test::Fail;
 static WORKERS: [u32; 4] = [1, 2, 3, 64];
 
 /// Further words, the body, and the output.
-static FRAMES: [(&str, &str, &str); 16] = [
+static FRAMES: [(&str, &str, &str); 17] = [
     (
         "",
         "where (p % 2 == 0) p = 100; else p = p * 10;",
@@ -42,6 +42,11 @@ static FRAMES: [(&str, &str, &str); 16] = [
         "",
         "d = 9; where (pcoord(0) < dimof(S, 0) - 1) d = [. + 1]p; q = [(. - 1) %% dimof(S, 0)]p;",
         "\np: 0 1 2 3 4 5 6 7\nq: 7 0 1 2 3 4 5 6\nd: 1 2 3 4 5 6 7 9\nb: 0 0 0 0 0 0 0 0\n",
+    ),
+    (
+        "",
+        "where (p < 4) { where (p < 2) d = 1; else d = 2; }",
+        "\np: 0 1 2 3 4 5 6 7\nq: 0 0 0 0 0 0 0 0\nd: 1 1 2 2 0 0 0 0\nb: 0 0 0 0 0 0 0 0\n",
     ),
     (
         "",
