@@ -16,6 +16,8 @@ mod failures;
 #[cfg(test)]
 mod frames;
 #[cfg(test)]
+mod grammar;
+#[cfg(test)]
 mod instructions;
 #[cfg(test)]
 mod listings;
