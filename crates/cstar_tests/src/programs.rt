@@ -7,7 +7,7 @@ struct Row {
     out: &'static str,
 }
 
-static ROWS: [Row; 25] = [
+static ROWS: [Row; 26] = [
     Row {
         text: "shape [8]S;\nint:S v;\nmain() { with (S) { v = 3; v = v + v; printf(\"%d\\n\", += v); } }\n",
         out: "48\n",
@@ -95,6 +95,10 @@ static ROWS: [Row; 25] = [
     Row {
         text: "main() { printf(\"%d %d %d\\n\", -7 % 3, -7 %% 3, (-2147483647 - 1) / -1); }",
         out: "-1 2 -2147483648\n",
+    },
+    Row {
+        text: "main() { char c; unsigned char u; short s; bool b; c = 200; u = 300; s = 70000; b = 2; printf(\"%d %d %d %d\", c, u, s, b); }",
+        out: "-56 44 4464 1",
     },
     Row {
         text: "main() { printf(\"%d\", getchar()); }",
