@@ -1,21 +1,26 @@
 #!/usr/bin/env python3
 """Compares the examples with the copies that the gate runs. With --copy the copies are made anew, and
-with --binary CSTAR each example is run by that command and its output compared."""
+with --binary CSTAR each example is run by that command and its output compared. The page of faults lies
+in the crate alone (docs/faults.md is a link to it)."""
 import argparse
 import pathlib
+import re
 import subprocess
 import sys
 
 HERE = pathlib.Path(__file__).resolve().parent
 CRATE = HERE.parent / "crates" / "example_runs"
+PAGE = CRATE / "data" / "faults.md"
 
 
 def wanted_files():
     """What the crate is to hold, by path."""
     names = sorted(file.stem for file in HERE.glob("*.cs"))
     files = {f"data/{file.name}": file.read_bytes() for kind in ("cs", "in", "out") for file in HERE.glob(f"*.{kind}")}
-    files["args"] = "".join(f"{name}\n" for name in names).encode()
-    files["stdout"] = "".join(f"{name}: as expected\n" for name in names).encode()
+    files[f"data/{PAGE.name}"] = PAGE.read_bytes()
+    faults = re.findall(r"^## ([EF]\d+ \w+)$", PAGE.read_text(), re.M)
+    files["args"] = "".join(f"{name}\n" for name in [*names, PAGE.name]).encode()
+    files["stdout"] = "".join(f"{name}: as expected\n" for name in [*names, *faults]).encode()
     return names, files
 
 

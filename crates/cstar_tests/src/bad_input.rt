@@ -1,5 +1,4 @@
-//! Files that are no program: the listed status and line, and nothing else. The examples of
-//! docs/faults.md are among them, kept in step by hand.
+//! Files that are no program: the listed status and line, and nothing else.
 
 use crate::bench::{SOUND, command, program};
 use std::test::Fail;

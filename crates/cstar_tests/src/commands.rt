@@ -12,7 +12,7 @@ struct Command {
     status: u8,
 }
 
-static COMMANDS: [Command; 30] = [
+static COMMANDS: [Command; 33] = [
     Command {
         words: "--mode check a.cs",
         text: "shape [1048576]S;\nint:S a, c, d, e, f, g, h, i, j, k, l, m, n, o, p, q, r, s, t, u, v, w, x, y, z, A, B, C, D, E, F;\nbool:S G, H, I, J, K, L, M, N, O, P, Q, R, T, U, V, W, X, Y, Z, aa, ab, ac, ad, ae, af, ag, ah, ai, aj, ak;\nmain() { }",
@@ -95,6 +95,22 @@ static COMMANDS: [Command; 30] = [
     },
     Command {
         words: "--finals a.cs",
+        text: "shape [4]S; int:S p, d;\nint:current f(int:current x) { int:current y; y = x * 3; return y + 1; }\nmain() { with (S) { int:S k; k = pcoord(0) + 10; p = f(pcoord(0)); d = p + k; } }",
+        input: "",
+        out: "\np: 1 4 7 10\nd: 11 15 19 23\n",
+        err: "",
+        status: 0,
+    },
+    Command {
+        words: "--finals a.cs",
+        text: "shape [2]S; char:S c; unsigned char:S u; bool:S b;\nmain() { with (S) { b = 1; u = 7; c = 300; } }",
+        input: "",
+        out: "\nc: 44 44\nu: 7 7\nb: 1 1\n",
+        err: "",
+        status: 0,
+    },
+    Command {
+        words: "--finals a.cs",
         text: "main() { }",
         input: "",
         out: "\n",
@@ -168,6 +184,14 @@ static COMMANDS: [Command; 30] = [
     Command {
         words: "--mode=check --finals --turns 0 -- a.cs",
         text: "main() { printf(\"%d \", getchar()); printf(\"%d \", getchar()); printf(\"%d\", getchar()); }",
+        input: "",
+        out: "",
+        err: "",
+        status: 0,
+    },
+    Command {
+        words: "--mode check a.cs",
+        text: "#include <stdio.h>\nshape [2][32768]ShapeA;\nint:ShapeA p1, p2, p3;\nint sum = 0;\nmain()\n{\nwith (ShapeA) {\np1 = 1;\np2 = 2;\np3 = p1 + p2;\nsum += p3;\nprintf(\"The sum is %d.\\n\", sum);\n}\n}\n",
         input: "",
         out: "",
         err: "",

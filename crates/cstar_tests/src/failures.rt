@@ -29,7 +29,9 @@ fn a_failed_put_in_mid_stream_leaves_a_prefix(rt: HostRuntime) {
 #[test]
 fn a_failed_put_on_the_error_output_is_a_write_fault(rt: HostRuntime) {
     let outside = Outside { err: &[1], ..SOUND };
-    let Ok(done) = command(&rt, rt.alloc(), &["a.cs"], b"main() { y = 1; }", outside) else {
+    let text =
+        b"shape [8]S; int:S p, q, d; int s;\nmain() { with (S) { p = pcoord(0);\ns = p;\n} }\n";
+    let Ok(done) = command(&rt, rt.alloc(), &["a.cs"], text, outside) else {
         panic!(rt; "no memory");
     };
     assert_eq!(rt; done.status, 6);

@@ -53,17 +53,27 @@ fn words_that_are_no_command_are_refused(rt: HostRuntime) {
     }
 }
 
+static DRILLS: [&str; 4] = [
+    "--mode drill --seed 7",
+    "--mode drill --seed 7",
+    "--workers 1 --mode drill --seed 7",
+    "--workers 64 --mode drill --seed 7",
+];
+
 /// The drill of a seed, by the rules of the drill and of the language: its tokens, the turns that
 /// it spends, its printed bytes and their sum.
 #[test]
 fn a_drill_tells_what_it_came_to(rt: HostRuntime) {
-    let Ok(done) = line(&rt, rt.alloc(), "--mode drill --seed 7", "", SOUND) else {
-        panic!(rt; "no memory");
-    };
-    assert_eq!(rt;
-        done.out.taken(),
-        b"tokens 2947 turns 96 bytes 231 sum 11140\n".as_slice()
-    );
-    assert_eq!(rt; done.err.taken(), b"".as_slice());
-    assert_eq!(rt; done.status, 0);
+    for words in &DRILLS {
+        let Ok(done) = line(&rt, rt.alloc(), words, "", SOUND) else {
+            panic!(rt; "no memory");
+        };
+        assert_eq!(rt;
+            done.out.taken(),
+            b"tokens 2947 turns 96 bytes 231 sum 11140\n".as_slice(),
+            "{words}"
+        );
+        assert_eq!(rt; done.err.taken(), b"".as_slice(), "{words}");
+        assert_eq!(rt; done.status, 0, "{words}");
+    }
 }

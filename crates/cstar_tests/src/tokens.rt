@@ -1,0 +1,142 @@
+//! Texts with each of their tokens, and texts that are refused for their words.
+
+use cstar_lexer::{LexFault, lex};
+use cstar_tree::token::{Kind, Mark, Tokens};
+use std::alloc::Global;
+
+/// A token as a row names it.
+enum Wanted {
+    Name(&'static str),
+    Number(u32),
+    Text(&'static str),
+    Sign(Mark),
+}
+
+use Wanted::{Name, Number, Sign, Text};
+
+fn is_wanted(kind: &Kind, wanted: &Wanted) -> bool {
+    match (kind, wanted) {
+        (Kind::Name(word), Name(name)) => word.bytes() == name.as_bytes(),
+        (Kind::Num { value, .. }, Number(number)) => *value == *number,
+        (Kind::Text(word), Text(text)) => word.bytes() == text.as_bytes(),
+        (Kind::Mark(mark), Sign(sign)) => *mark == *sign,
+        _ => false,
+    }
+}
+
+/// The tokens of a row's text, which is short.
+fn tokens_of(alloc: Global, text: &str) -> Result<Tokens, LexFault> {
+    let bytes = text.as_bytes();
+    if bytes.len() > 65536 {
+        return Err(LexFault::Memory);
+    }
+    lex(alloc, bytes)
+}
+
+static TEXTS: [(&str, &[Wanted]); 8] = [
+    (
+        "x<?=y",
+        &[Name("x"), Sign(Mark::LessQuestionEqual), Name("y")],
+    ),
+    (
+        "a%%%b",
+        &[
+            Name("a"),
+            Sign(Mark::PercentPercent),
+            Sign(Mark::Percent),
+            Name("b"),
+        ],
+    ),
+    (
+        "a%%%%=b",
+        &[
+            Name("a"),
+            Sign(Mark::PercentPercent),
+            Sign(Mark::PercentPercentEqual),
+            Name("b"),
+        ],
+    ),
+    (
+        "a>>=b>>c>?d>?=e",
+        &[
+            Name("a"),
+            Sign(Mark::ShiftRightEqual),
+            Name("b"),
+            Sign(Mark::ShiftRight),
+            Name("c"),
+            Sign(Mark::GreaterQuestion),
+            Name("d"),
+            Sign(Mark::GreaterQuestionEqual),
+            Name("e"),
+        ],
+    ),
+    (
+        "i+++++j",
+        &[
+            Name("i"),
+            Sign(Mark::PlusPlus),
+            Sign(Mark::PlusPlus),
+            Sign(Mark::Plus),
+            Name("j"),
+        ],
+    ),
+    (
+        "boolsizeof bool sizeof _CMC_none CMC_none",
+        &[
+            Name("boolsizeof"),
+            Sign(Mark::Bool),
+            Sign(Mark::SizeOf),
+            Name("_CMC_none"),
+            Sign(Mark::NoSegments),
+        ],
+    ),
+    (
+        "1'a'\"%\\x64\"017l/* b */0",
+        &[Number(1), Number(97), Text("%d"), Number(15), Number(0)],
+    ),
+    (
+        "N\n#define N 0x10\nN.",
+        &[Name("N"), Number(16), Sign(Mark::Dot)],
+    ),
+];
+
+#[test]
+fn texts_have_these_tokens(rt: HostRuntime) {
+    for (text, wanted) in &TEXTS {
+        let Ok(tokens) = tokens_of(rt.alloc(), text) else {
+            panic!(rt; "{text} is refused");
+        };
+        assert_eq!(rt; tokens.list.len(), wanted.len(), "{text}");
+        for (token, wanted) in tokens.list.iter().zip(wanted.iter()) {
+            assert!(rt; is_wanted(&token.kind, wanted), "{text}");
+        }
+    }
+}
+
+/// Texts with the number of their fault and the column of its place on the first line.
+static REFUSED: [(&str, u8, u32); 6] = [
+    ("089", 1, 2),
+    ("1.", 1, 2),
+    ("4294967296", 3, 1),
+    ("x = 1.5;", 1, 6),
+    ("a <? 0400000000008", 3, 6),
+    ("a /*/", 2, 3),
+];
+
+#[test]
+fn texts_are_refused_for_their_words(rt: HostRuntime) {
+    for (text, number, column) in &REFUSED {
+        match tokens_of(rt.alloc(), text) {
+            Err(
+                LexFault::Fault {
+                    number: found,
+                    place,
+                },
+            ) => {
+                assert_eq!(rt; found, *number, "{text}");
+                assert_eq!(rt; (place.line, place.col), (1, *column), "{text}");
+            }
+            _ => panic!(rt; "{text}"),
+        }
+    }
+}
