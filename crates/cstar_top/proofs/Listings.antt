@@ -1,5 +1,5 @@
 -- What a sink took of a listing.
-use Rattle.std.proofs.Common.{◌≡◌, ℕ, List, ◌++◌, inl, inr}
+use Rattle.std.proofs.Common.{ℕ, List, ◌++◌, inl, inr}
 use Rattle.cstar_io.specs.Output.{Takes, TakesPrefix, TakesNothing}
 use Rattle.paris_code.specs.declared.program.Image.{Image}
 use Rattle.paris_code.specs.Listing.{listing}

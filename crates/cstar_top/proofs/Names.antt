@@ -1,5 +1,5 @@
 -- Numbers that are no fault's.
-use Rattle.std.proofs.Common.{◌≡◌, ◌<◌, ◌≤◌, ◌-◌, ◌⊎◌, inl, inr, ℕ, Bool, true, false, List, length, nat_lt, ap, sym, ◌∙◌, codes, if◌then◌else◌, arith, slice_index_or}
+use Rattle.std.proofs.Common.{◌≡◌, ◌<◌, ◌≤◌, ◌-◌, ◌⊎◌, inl, inr, ℕ, Bool, true, false, length, nat_lt, ap, sym, ◌∙◌, codes, if◌then◌else◌, arith, slice_index_or}
 use Rattle.std.proofs.lemmas.Bool.Decides.{nat_tests}
 use Rattle.std.proofs.lemmas.List.{get_or_past}
 use Rattle.cstar_top.specs.Faults.{listing_refusals, refusal_text, refusals}

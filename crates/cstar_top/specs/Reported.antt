@@ -1,6 +1,5 @@
 -- The report of the command in the modes that run the image of a file.
 use Rattle.std.specs.Prelude.{◌≡◌, ◌≤◌, ℕ, Bool, true, false, ◌⊎◌, List, Option, Some, IsTrue, length}
-use Rattle.cstar_io.specs.Output.{TakesNothing}
 use Rattle.cstar_words.specs.declared.options.Mode.{Mode}
 use Rattle.cstar_words.specs.declared.options.Mode.TheVariants as M
 use Rattle.cstar_words.specs.declared.options.Options.{Options}
@@ -15,7 +14,7 @@ use Rattle.cstar_top.specs.Modes.{AsksFor}
 abbrev pub runs_image : Mode → Bool
 runs_image M.Run = true
 runs_image M.Asm = true
-runs_image mode = false
+runs_image _ = false
 
 -- the words ask for such a mode
 abbrev pub AsksToRun : List (List ℕ) → Type 0
@@ -28,7 +27,7 @@ IsWhole status = (status ≡ 0) ⊎ ((status ≡ 1) ⊎ ((status ≡ 4) ⊎ (sta
 -- an image of a text of no more than 2^20 bytes keeps the image rules, and in mode asm the text is its listing
 abbrev pub IsImageOf : Mode → List ℕ → Image → Type 0
 IsImageOf M.Asm text image = (length text ≤ 1048576) × IsSound image × (listing image ≡ text)
-IsImageOf mode text image = (length text ≤ 1048576) × IsSound image
+IsImageOf _ text image = (length text ≤ 1048576) × IsSound image
 
 -- a sink took the report of an image of the text
 abbrev pub ReportsText : {O : Type 0} → (O → List ℕ → Type 0) → O → O → Option (List ℕ) → Option (List ℕ) → Options → List ℕ → Answer → Type 0
