@@ -1,8 +1,14 @@
 -- A unit as it grows. The code of a tree is a function from the draft that stood before to the one
 -- that stands behind, so that jumps name their places from the start of the unit.
-use Rattle.std.specs.Prelude.{ℕ, ◌+◌, List, [], ◌∷◌, ◌++◌, length, Option, Some, None}
+use Rattle.std.specs.Prelude.{ℕ, ◌+◌, List, [], ◌∷◌, ◌++◌, length, map, Option, Some, None}
+use Rattle.cstar_base.specs.declared.operators.Place.{Place}
 use Rattle.paris_code.specs.declared.instr.Instr.{Instr}
+use Rattle.paris_code.specs.declared.instr.Instr.TheVariants as I
+use Rattle.paris_code.specs.declared.operands.Coordinate.{Coordinate}
 use Rattle.paris_code.specs.declared.operands.Field.{Field}
+use Rattle.paris_code.specs.declared.operands.GridStep.{GridStep}
+use Rattle.paris_code.specs.declared.operands.RegisterCoordinate.{RegisterCoordinate}
+use Rattle.paris_code.specs.declared.operands.SignedCoordinate.{SignedCoordinate}
 use Rattle.paris_code.specs.declared.program.Owner.{Owner}
 use Rattle.paris_code.specs.declared.program.Owner.TheVariants as W
 use Rattle.paris_code.specs.declared.program.Unit.{Unit}
@@ -10,16 +16,33 @@ use Rattle.paris_code.specs.declared.program.Virtual.{Virtual}
 use Rattle.lower_comm.specs.declared.emit.Out.{Out}
 use Rattle.lower_comm.specs.declared.emit.Out.TheVariants as O
 
+-- An instruction, wherever its list of coordinates is kept: one with such a list has its items here.
+pub data Step : Type 0 where
+  Plain : Instr → Step
+  MakesAddress : Field → ℕ → List Coordinate → Step
+  ChecksTarget : ℕ → Place → List SignedCoordinate → Step
+  ChecksGrid : ℕ → Place → List GridStep → Step
+  FrontMakesAddress : ℕ → ℕ → List ℕ → Step
+  FrontChecksTarget : ℕ → Place → List RegisterCoordinate → Step
+
+unfoldable pub step : Instr → Step
+step (I.MakeAddress dest set coordinates) = MakesAddress dest set coordinates.items
+step (I.CheckTarget set place coordinates) = ChecksTarget set place coordinates.items
+step (I.CheckGrid set place steps) = ChecksGrid set place steps.items
+step (I.FrontMakeAddress dest set coordinates) = FrontMakesAddress dest set coordinates.items
+step (I.FrontCheckTarget set place coordinates) = FrontChecksTarget set place coordinates.items
+step instr = Plain instr
+
 -- What a unit has so far: its code, how many registers are taken, the entries of its fields, and
 -- the first entry of each parallel variable that its blocks have declared.
 pub record Draft : Type 0 where
-  pub code : List Instr
+  pub code : List Step
   pub regs : ℕ
   pub fields : List Virtual
   pub homes : List ℕ
 
 unfoldable pub draft : Unit → Draft
-draft u = record { code = u.code.items; regs = u.regs; fields = u.fields.items; homes = u.homes.items }
+draft u = record { code = map step u.code.items; regs = u.regs; fields = u.fields.items; homes = u.homes.items }
 
 -- what a piece of code answers, with the draft behind it; no tree that is typed gives `Fails`
 pub data Made (A : Type 0) : Type 0 where
@@ -41,8 +64,11 @@ unfoldable pub here : Draft → ℕ
 here d = length d.code
 
 -- one more instruction
+unfoldable pub with_step : Step → Draft → Draft
+with_step next d = record d { code = d.code ++ next ∷ [] }
+
 unfoldable pub with_instr : Instr → Draft → Draft
-with_instr instr d = record d { code = d.code ++ instr ∷ [] }
+with_instr instr d = with_step (step instr) d
 
 -- a fresh register
 unfoldable pub a_register : Draft → Made ℕ

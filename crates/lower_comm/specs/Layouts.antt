@@ -1,5 +1,5 @@
 -- Where the variables of a typed program are, as one of its instances sees it.
-use Rattle.std.specs.Prelude.{ℕ, ◌+◌, List, length, slice_get, Option, Some, None}
+use Rattle.std.specs.Prelude.{ℕ, ◌+◌, List, length, slice_get, Some, None}
 use Rattle.cstar_tree.specs.declared.typed.Typed.{Typed}
 use Rattle.cstar_tree.specs.declared.typed.VarInfo.{VarInfo}
 use Rattle.cstar_tree.specs.declared.typed.Variable.{Variable}

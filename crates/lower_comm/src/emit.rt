@@ -18,7 +18,7 @@ pub enum Out {
 }
 
 /// One more instruction.
-#[tactic(auto, unfolding(crate::specs::Drafts::draft, crate::specs::Drafts::with_instr))]
+#[tactic(auto, using(std::proofs::lemmas::List::map_push), unfolding(crate::specs::Drafts::draft, crate::specs::Drafts::with_instr, crate::specs::Drafts::with_step))]
 pub fn put(u: &mut Unit, instr: Instr) -> Result<(), Memory>
     ensures draft { OnOk result (with_instr instr (draft u.old) ≡ draft u.new) }
 {

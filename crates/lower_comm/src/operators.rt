@@ -1,5 +1,9 @@
 //! Which instruction does what an operator of the language means.
 
+ghost use Rattle.std.specs.Prelude.{◌≡◌};
+ghost use Rattle.cstar_base.specs.Operators.{divides};
+ghost use Rattle.lower_comm.specs.Operators.{operation_of, machine_of, assign_op_of, fold_of, reduce_op_of, scan_fold_of, is_signed};
+
 use cstar_base::{Combiner, Elem, Op};
 use cstar_tree::syntax::{AssignOp, ReduceOp};
 use paris_code::{Compare, Operation, Reduction};
@@ -12,7 +16,10 @@ pub enum Machine {
 }
 
 /// The instruction's operator, for operands that are read signed or unsigned.
-pub fn machine_op(op: Op, signed: bool) -> Machine {
+#[tactic(auto, unfolding(crate::specs::Operators::machine_of))]
+pub fn machine_op(op: Op, signed: bool) -> Machine
+    ensures { result ≡ machine_of op signed }
+{
     match op {
         Op::Eq => Machine::Compare(Compare::UEq),
         Op::Ne => Machine::Compare(Compare::UNe),
@@ -26,7 +33,10 @@ pub fn machine_op(op: Op, signed: bool) -> Machine {
 
 /// The operation of an operator on numbers that is no relation. Modulo by an unsigned divisor is
 /// the remainder.
-pub fn operation(op: Op, signed: bool) -> Operation {
+#[tactic(auto, unfolding(crate::specs::Operators::operation_of))]
+pub fn operation(op: Op, signed: bool) -> Operation
+    ensures { result ≡ operation_of op signed }
+{
     match op {
         Op::Sub => Operation::SSubtract,
         Op::Mul => Operation::SMultiply,
@@ -69,12 +79,18 @@ pub fn operation(op: Op, signed: bool) -> Operation {
 }
 
 /// Whether the operator has a divisor, which is to be checked.
-pub fn divides(op: Op) -> bool {
+#[tactic(auto, unfolding(cstar_base::specs::Operators::divides))]
+pub fn divides(op: Op) -> bool
+    ensures { result ≡ divides op }
+{
     matches!(op, Op::Div | Op::Rem | Op::Mod)
 }
 
 /// The operator of a compound assignment.
-pub fn assign_op(op: AssignOp) -> Option<Op> {
+#[tactic(auto, unfolding(crate::specs::Operators::assign_op_of))]
+pub fn assign_op(op: AssignOp) -> Option<Op>
+    ensures { result ≡ assign_op_of op }
+{
     match op {
         AssignOp::Set => None,
         AssignOp::Add => Some(Op::Add),
@@ -94,7 +110,10 @@ pub fn assign_op(op: AssignOp) -> Option<Op> {
 }
 
 /// What folds the elements that an operator combines. A difference is folded as a sum.
-pub fn fold_of(op: Op, signed: bool) -> Reduction {
+#[tactic(auto, unfolding(crate::specs::Operators::fold_of))]
+pub fn fold_of(op: Op, signed: bool) -> Reduction
+    ensures { result ≡ fold_of op signed }
+{
     match op {
         Op::And => Reduction::Logand,
         Op::Or => Reduction::Logior,
@@ -114,7 +133,10 @@ pub fn fold_of(op: Op, signed: bool) -> Reduction {
 }
 
 /// The operator of a unary reduction.
-pub fn reduce_op(op: ReduceOp) -> Op {
+#[tactic(auto, unfolding(crate::specs::Operators::reduce_op_of))]
+pub fn reduce_op(op: ReduceOp) -> Op
+    ensures { result ≡ reduce_op_of op }
+{
     match op {
         ReduceOp::Add => Op::Add,
         ReduceOp::Sub => Op::Sub,
@@ -127,7 +149,10 @@ pub fn reduce_op(op: ReduceOp) -> Op {
 }
 
 /// What folds the steps of a scan.
-pub fn scan_fold(combiner: Combiner, signed: bool) -> Reduction {
+#[tactic(auto, unfolding(crate::specs::Operators::scan_fold_of))]
+pub fn scan_fold(combiner: Combiner, signed: bool) -> Reduction
+    ensures { result ≡ scan_fold_of combiner signed }
+{
     match combiner {
         Combiner::And => Reduction::Logand,
         Combiner::Or => Reduction::Logior,
@@ -147,6 +172,9 @@ pub fn scan_fold(combiner: Combiner, signed: bool) -> Reduction {
 }
 
 /// Whether a value of the type, promoted to 32 bits, is read in two's complement.
-pub fn promoted_signed(elem: Elem) -> bool {
+#[tactic(auto, unfolding(crate::specs::Operators::is_signed))]
+pub fn promoted_signed(elem: Elem) -> bool
+    ensures { result ≡ is_signed elem }
+{
     elem.signed || elem.bits < 32
 }
