@@ -1,6 +1,6 @@
 -- How many instructions an expression compiles to. Jumps are written once, since the lengths of
 -- what they pass over are known beforehand.
-use Rattle.std.specs.Prelude.{ℕ, ◌+◌, ◌-◌, Bool, true, false, ◌==◌, ◌||◌, if◌then◌else◌, List, [], ◌∷◌, length, slice_get, Option, Some, None, is_none, is_some}
+use Rattle.std.specs.Prelude.{ℕ, ◌+◌, ◌-◌, Bool, true, false, ◌==◌, ◌&&◌, ◌||◌, if◌then◌else◌, List, [], ◌∷◌, length, slice_get, Option, Some, None, is_none, is_some}
 use Rattle.cstar_base.specs.declared.elem.Elem.{Elem}
 use Rattle.cstar_base.specs.declared.operators.Op.{Op}
 use Rattle.cstar_base.specs.Operators.{divides}
@@ -44,16 +44,28 @@ unfoldable pub logical_length : Bool → Bool → Bool → ℕ
 logical_length scalar left_kept right_kept =
     if scalar then 4 else (if left_kept then 5 else (if right_kept then 7 else 8))
 
+-- `?:` beside its operands
+unfoldable pub choice_length : Bool → ℕ
+choice_length kept = if kept then 4 else 9
+
 -- an expression of this length, with its value in a field
 unfoldable pub spread_length : ℕ → TExpr → ℕ
 spread_length n e = elim (word_of e) [ Some _ ↦ 1 | None ↦ n + (if is_kept e then 1 else 0) ]
 
 -- the right operand of a parallel operation, and the operation
+unfoldable pub spare_length : Op → Bool → ℕ
+spare_length op kept = if kept && (relates op || divides op) then 1 else 0
+
 unfoldable pub right_length : ℕ → Op → TExpr → ℕ
 right_length n op e = elim (word_taken op e) [
   | Some _ ↦ 1
-  | None ↦ n + (operate_length op false + (if is_kept e then (if relates op || divides op then 1 else 0) else 0))
+  | None ↦ n + (operate_length op false + spare_length op (is_kept e))
 ]
+
+-- a binary operator and its operands, by their lengths
+unfoldable pub binary_length : Bool → Op → ℕ → TExpr → ℕ → TExpr → ℕ
+binary_length scalar op n left m right =
+    if scalar then (n + m) + operate_length op true else spread_length n left + right_length m op right
 
 -- the moves of a get by NEWS, one for each axis with a step
 unfoldable pub news_move : Option NewsStep → ℕ
@@ -133,10 +145,13 @@ assign_length t l op target there n e =
         ((there + store_length t l target) + load_length t l target) o n e
     ]
 
+unfoldable pub step_once_length : Bool → ℕ
+step_once_length scalar = if scalar then 2 else 1
+
 -- a step, by the length of its target
 unfoldable pub step_length : Typed → Layout → TExpr → ℕ → ℕ
 step_length t l target there =
-    (there + ((if is_none (type_of target).shape then 2 else 1)
+    (there + (step_once_length (is_none (type_of target).shape)
       + conversion_length (is_none (type_of target).shape) (type_of target).elem))
     + (load_length t l target + store_length t l target)
 
@@ -161,14 +176,13 @@ unfoldable mutual
   length_of t l (T.Assign' ty place op p target q value) =
       assign_length t l op target (spot_length_of t l target) (length_of t l value) value
   length_of t l (T.Choice' ty p test q first r second) =
-      (length_of t l test + (length_of t l first + length_of t l second)) + (if is_kept test then 4 else 9)
+      (length_of t l test + (length_of t l first + length_of t l second)) + choice_length (is_kept test)
   length_of t l (T.LogicalOr' ty p left q right) =
       (length_of t l left + length_of t l right) + logical_length (is_none ty.shape) (is_kept left) (is_kept right)
   length_of t l (T.LogicalAnd' ty p left q right) =
       (length_of t l left + length_of t l right) + logical_length (is_none ty.shape) (is_kept left) (is_kept right)
   length_of t l (T.Binary' ty place op p left q right) =
-      if is_none ty.shape then (length_of t l left + length_of t l right) + operate_length op true
-      else spread_length (length_of t l left) left + right_length (length_of t l right) op right
+      binary_length (is_none ty.shape) op (length_of t l left) left (length_of t l right) right
   length_of t l (T.Unary' ty op p operand) = length_of t l operand + unary_length op (is_kept operand)
   length_of t l (T.Step' ty op order p target) = step_length t l target (spot_length_of t l target)
   length_of t l (T.Reduce' ty op p operand) = length_of t l operand + reduce_length op
@@ -206,6 +220,11 @@ unfoldable mutual
   pub lengths_of : {n : _} → Typed → Layout → Row_of-TExpr n → ℕ
   lengths_of t l end_of-TExpr = 0
   lengths_of t l (more_of-TExpr e rest) = length_of t l e + lengths_of t l rest
+
+-- the same of a list as it stands in memory
+unfoldable pub lengths_in : Typed → Layout → List TExpr → ℕ
+lengths_in t l [] = 0
+lengths_in t l (e ∷ rest) = length_of t l e + lengths_in t l rest
 
 -- the value of an expression in a field
 unfoldable pub spread_length_of : Typed → Layout → TExpr → ℕ

@@ -36,7 +36,7 @@ pub fn stays_scalar(e: &TExpr) -> bool
 }
 
 /// The word that a promoted constant is at every position, promoted to 32 bits.
-#[tactic(auto, unfolding(crate::specs::Steps::word_of))]
+#[tactic(auto, unfolding(crate::specs::Steps::word_of, cstar_base::specs::Numbers::converted))]
 pub fn constant_word(e: &TExpr) -> Option<u32>
     ensures value { result ≡ word_of e.now }
 {
