@@ -1,3 +1,4 @@
 pub mod Drafts
 pub mod Layouts
+pub mod News
 pub mod Operators

@@ -1,5 +1,8 @@
 //! The calls on a unit as `lower` has it when it comes to a communication.
 
+ghost use Rattle.std.specs.Prelude.{◌≡◌};
+ghost use Rattle.lower_comm.specs.News.{goes_by_news};
+
 use crate::emit::Out;
 use crate::messages::{address_of, check_grid, comm_in, goes_by_news, locate_in};
 use crate::names::{Names, named};
@@ -9,7 +12,9 @@ use paris_code::Unit;
 use std::alloc::Global;
 
 /// Whether the get goes by NEWS. Every other get, and every send, goes by the router.
-pub fn by_news(_t: &Typed, e: &TExpr) -> bool {
+pub fn by_news(_t: &Typed, e: &TExpr) -> bool
+    ensures { result ≡ goes_by_news e.now }
+{
     goes_by_news(e)
 }
 

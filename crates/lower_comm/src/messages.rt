@@ -1,8 +1,11 @@
 //! The code of one communication, over parts that stand in registers and fields already.
 
+ghost use Rattle.std.specs.Prelude.{◌≡◌};
+ghost use Rattle.lower_comm.specs.News.{goes_by_news};
+
 use crate::emit::{Out, field, put, register};
-use crate::names::Names;
-use crate::news::step_of;
+use crate::names::{Names, count};
+use crate::news::{all_go_by_news, step_of};
 use crate::operators::{assign_op, fold_of, operation, promoted_signed, reduce_op, scan_fold};
 use cstar_base::{Direction, Elem, Inclusion, Memory, Op, SegmentMode};
 use cstar_tree::syntax::ReduceOp;
@@ -14,7 +17,10 @@ use paris_code::{
 use std::alloc::Global;
 
 /// Whether the get goes by NEWS: each index is a step along its own axis.
-pub fn goes_by_news(e: &TExpr) -> bool {
+#[tactic(auto, unfolding(crate::specs::News::goes_by_news))]
+pub fn goes_by_news(e: &TExpr) -> bool
+    ensures { result ≡ goes_by_news e.now }
+{
     let TExpr::LeftIndex {
         ty,
         indexes,
@@ -27,14 +33,7 @@ pub fn goes_by_news(e: &TExpr) -> bool {
     if ty.shape.is_none() {
         return false;
     }
-    let mut axis = 0u32;
-    for index in indexes {
-        if step_of(*of, axis, index).is_none() {
-            return false;
-        }
-        axis = axis.saturating_add(1);
-    }
-    true
+    all_go_by_news(*of, indexes)
 }
 
 /// Where the address of a left index goes: a fresh field or a fresh register.
@@ -119,17 +118,15 @@ pub fn check_grid(alloc: Global, e: &TExpr, u: &mut Unit) -> Result<Out, Memory>
         return Err(Memory);
     };
     let mut steps = Vec::new(alloc);
-    let mut axis = 0u32;
-    for index in indexes {
+    for (axis, index) in indexes.iter().enumerate() {
         if let Some(step) = step_of(*of, axis, index) {
             if step.checked {
                 steps.push(GridStep {
-                    axis,
+                    axis: count(axis)?,
                     step: Konst::Imm(step.by),
                 })?;
             }
         }
-        axis = axis.saturating_add(1);
     }
     if steps.is_empty() {
         return Ok(Out::Nothing);
@@ -332,8 +329,7 @@ fn by_steps(e: &TExpr, elem: Elem, source: Field, dest: Field, u: &mut Unit) -> 
     let other = crate::emit::entry(u, dest.set, source.len, Owner::Own)?;
     let mut from = source;
     let mut to = one;
-    let mut axis = 0u32;
-    for index in indexes {
+    for (axis, index) in indexes.iter().enumerate() {
         let by = match step_of(*of, axis, index) {
             Some(step) => step.by,
             None => 0,
@@ -345,14 +341,13 @@ fn by_steps(e: &TExpr, elem: Elem, source: Field, dest: Field, u: &mut Unit) -> 
                 Instr::GetFromNewsAlways {
                     dest: to,
                     source: from,
-                    axis,
+                    axis: count(axis)?,
                     by,
                 },
             )?;
             from = to;
             to = if to == one { other } else { one };
         }
-        axis = axis.saturating_add(1);
     }
     put(
         u,
