@@ -105,10 +105,15 @@ is_send target = is_sent (bare target)
 unfoldable pub four_times : ℕ → ℕ
 four_times n = (n + n) + (n + n)
 
+-- a read through a left index: of every position, or of one
+unfoldable pub read_length : Option ℕ → ℕ
+read_length (Some _) = 2
+read_length None = 1
+
 -- what reads a located place, and what writes it; a send is counted with its assignment
 unfoldable pub load_length_of : Typed → Layout → TExpr → ℕ
 load_length_of t l (T.Element' ty place array p index) = four_times (elements_of t l array)
-load_length_of t l (T.LeftIndex' ty place p indexes x of) = if is_some ty.shape then 2 else 1
+load_length_of t l (T.LeftIndex' ty place p indexes x of) = read_length ty.shape
 load_length_of t l _ = 1
 
 unfoldable pub store_length_of : Typed → Layout → TExpr → ℕ
@@ -199,13 +204,13 @@ unfoldable mutual
       call_length (slice_get t.instances.items instance) (length (items-the_row-TExpr _ arguments)) + lengths_of t l arguments
   length_of t l (T.LeftIndex' ty place p indexes x of) =
       if goes_by_news (T.LeftIndex' ty place p indexes x of) then news_length of (items-the_row-TExpr _ indexes)
-      else (2 + lengths_of t l indexes) + (if is_some ty.shape then 2 else 1)
+      else (2 + lengths_of t l indexes) + read_length ty.shape
   length_of t l (T.Pcoord ty axis) = 1
   length_of t l (T.PositionsOf ty shape value) = 1
   length_of t l (T.RankOf ty shape value) = 1
   length_of t l (T.DimOf ty shape axis value) = 1
-  length_of t l (T.Scan' ty p source axis combiner direction mode bit inclusion) = length_of t l source + 1
-  length_of t l (T.Enumerate ty axis direction inclusion mode bit) = 2
+  length_of t l (T.Scan' ty p source axis combiner direction mode bit _) = length_of t l source + 1
+  length_of t l (T.Enumerate ty axis direction _ mode bit) = 2
   length_of t l (T.Printf' ty pieces p arguments) = length pieces.items + lengths_of t l arguments
   length_of t l (T.GetChar ty) = 1
 

@@ -56,7 +56,8 @@ loaded t l target (S.Indexed at) dest d = then_make (communicated t l (bare targ
 
 -- a value copied to a field of a variable
 unfoldable pub field_stored : Typed → Layout → Variable → ℕ → Out → Draft → Made Out
-field_stored t l x element v d = then_make (field_of t l x element d) (λ dest after. put_in_field dest v after)
+field_stored t l x element v d =
+    then_make (field_of t l x element d) (λ dest between. then_make (put_in_field dest v between) (λ _ after. Makes v after))
 
 unfoldable pub elements_stored : Typed → Layout → Variable → ℕ → Out → ℕ → ℕ → Draft → Made Out
 elements_stored t l array index v zero element d = Makes v d
@@ -67,7 +68,7 @@ elements_stored t l array index v (suc more) element d =
 -- a value becomes that of the spot, at the active positions; the expression is the assignment
 unfoldable pub stored : Typed → Layout → TExpr → Spot → Out → Draft → Made Out
 stored t l e (S.Register dest) v d = then_make (put_value (O.Scalar dest) v d) (λ _ after. Makes v after)
-stored t l e (S.Whole x) v d = then_make (field_stored t l x 0 v d) (λ _ after. Makes v after)
+stored t l e (S.Whole x) v d = field_stored t l x 0 v d
 stored t l e (S.Element array index) v d = elements_stored t l array index v (elements_of t l array) 0 d
 stored t l e (S.Indexed at) v d = then_make (communicated t l e at (v ∷ []) O.Nothing d) (λ _ after. Makes v after)
 

@@ -319,11 +319,11 @@ unfoldable mutual
   value_of t l (T.PositionsOf ty shape value) d = constant_in value d
   value_of t l (T.RankOf ty shape value) d = constant_in value d
   value_of t l (T.DimOf ty shape axis value) d = constant_in value d
-  value_of t l (T.Scan' ty p source axis combiner direction mode bit inclusion) d =
-      message_by t l (T.Scan' ty p source axis combiner direction mode bit inclusion) ty (value_of t l source) d
-  value_of t l (T.Enumerate ty axis direction inclusion mode bit) d =
+  value_of t l (T.Scan' ty p source axis combiner direction mode bit within) d =
+      message_by t l (T.Scan' ty p source axis combiner direction mode bit within) ty (value_of t l source) d
+  value_of t l (T.Enumerate ty axis direction within mode bit) d =
       then_make (fresh_for ty.shape d)
-      (λ dest after. communicated t l (T.Enumerate ty axis direction inclusion mode bit) O.Nothing [] dest after)
+      (λ dest after. communicated t l (T.Enumerate ty axis direction within mode bit) O.Nothing [] dest after)
   value_of t l (T.Printf' ty pieces p arguments) d =
       then_make (values_of t l arguments [] d) (λ given after. pieces_printed pieces.items given after)
   value_of t l (T.GetChar ty) d =
@@ -343,6 +343,11 @@ unfoldable mutual
   values_of t l end_of-TExpr outs d = Makes outs d
   values_of t l (more_of-TExpr e rest) outs d =
       then_make (value_of t l e d) (λ v after. values_of t l rest (outs ++ v ∷ []) after)
+
+-- the same of a list as it stands in memory
+unfoldable pub values_in : Typed → Layout → List TExpr → List Out → Draft → Made (List Out)
+values_in t l [] outs d = Makes outs d
+values_in t l (e ∷ rest) outs d = then_make (value_of t l e d) (λ v after. values_in t l rest (outs ++ v ∷ []) after)
 
 -- the value of a parallel expression in a field, that of a promoted scalar too
 unfoldable pub spread_of : Typed → Layout → TExpr → ℕ → Draft → Made Out

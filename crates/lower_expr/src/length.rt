@@ -4,7 +4,7 @@
 ghost use Rattle.std.specs.Prelude.{◌≡◌, IfOk, length, slice_get};
 ghost use Rattle.lower_comm.specs.Layouts.{layout};
 ghost use Rattle.lower_expr.specs.Steps.{is_kept};
-ghost use Rattle.lower_expr.specs.Lengths.{conversion_length, unary_length, operate_length, logical_length, spread_length, right_length, binary_length, spare_length, choice_length, step_once_length, params_length, news_move, is_checked, news_length, four_times, load_length, store_length, send_length, set_length, compound_length, assign_length, step_length, reduce_length, call_length, length_of, spot_length_of, lengths_in, spread_length_of};
+ghost use Rattle.lower_expr.specs.Lengths.{conversion_length, unary_length, operate_length, logical_length, spread_length, right_length, binary_length, spare_length, choice_length, step_once_length, params_length, news_move, is_checked, news_length, read_length, four_times, load_length, store_length, send_length, set_length, compound_length, assign_length, step_length, reduce_length, call_length, length_of, spot_length_of, lengths_in, spread_length_of};
 
 use crate::spots::bare;
 use crate::steps::{constant_word, immediate, is_relation, stays_scalar};
@@ -20,7 +20,7 @@ use lower_comm::operators::{assign_op, divides};
 
 /// The instructions of a value: what `value` appends.
 #[cycle(length)]
-#[tactic(auto, using(crate::proofs::Lists::length_of_call, crate::proofs::Lists::length_of_left_index, crate::proofs::Lists::length_of_printf), unfolding(crate::specs::Lengths::length_of))]
+#[tactic(auto, unfolding(crate::specs::Lengths::length_of))]
 pub fn length(t: &Typed, names: &Names, e: &TExpr) -> Result<u32, Memory>
     ensures { IfOk result (λ n. n ≡ length_of t.now (layout names.now) e.now) }
 {
@@ -77,6 +77,19 @@ pub fn length(t: &Typed, names: &Names, e: &TExpr) -> Result<u32, Memory>
             let there = spot_length(t, names, target)?;
             step_length(t, names, target, there)
         }
+        TExpr::LeftIndex { .. } | TExpr::Call { .. } | TExpr::Printf { .. } => {
+            listed_length(t, names, e)
+        }
+    }
+}
+
+/// A left index, a call or `printf`, with the expressions in its list.
+#[cycle(length)]
+#[tactic(auto, using(crate::proofs::Lists::length_of_call, crate::proofs::Lists::length_of_left_index, crate::proofs::Lists::length_of_printf))]
+fn listed_length(t: &Typed, names: &Names, e: &TExpr) -> Result<u32, Memory>
+    ensures { IfOk result (λ n. n ≡ length_of t.now (layout names.now) e.now) }
+{
+    match e {
         TExpr::LeftIndex {
             ty,
             indexes,
@@ -84,11 +97,10 @@ pub fn length(t: &Typed, names: &Names, e: &TExpr) -> Result<u32, Memory>
             ..
         } => {
             if goes_by_news(e) {
-                news_length(*of, indexes.as_slice())
-            } else {
-                let located = plus(2, lengths(t, names, indexes.as_slice())?)?;
-                plus(located, if ty.shape.is_some() { 2 } else { 1 })
+                return news_length(*of, indexes.as_slice());
             }
+            let located = plus(2, lengths(t, names, indexes.as_slice())?)?;
+            plus(located, read_length(ty.shape))
         }
         TExpr::Call {
             instance,
@@ -106,6 +118,7 @@ pub fn length(t: &Typed, names: &Names, e: &TExpr) -> Result<u32, Memory>
             let own = count(pieces.len())?;
             plus(own, lengths(t, names, arguments.as_slice())?)
         }
+        _ => Err(Memory),
     }
 }
 
@@ -169,15 +182,27 @@ fn lengths(t: &Typed, names: &Names, es: &[TExpr]) -> Result<u32, Memory>
 
 /// What locates a target or a reference.
 #[cycle(length)]
-#[tactic(auto, using(crate::proofs::Lists::spot_length_of_left_index), unfolding(crate::specs::Lengths::spot_length_of))]
+#[tactic(auto, unfolding(crate::specs::Lengths::spot_length_of))]
 fn spot_length(t: &Typed, names: &Names, e: &TExpr) -> Result<u32, Memory>
     ensures { IfOk result (λ n. n ≡ spot_length_of t.now (layout names.now) e.now) }
 {
     match e {
         TExpr::Brackets { inner, .. } => spot_length(t, names, inner),
         TExpr::Element { index, .. } => plus(length(t, names, index)?, 5),
-        TExpr::LeftIndex { indexes, .. } => plus(2, lengths(t, names, indexes.as_slice())?),
+        TExpr::LeftIndex { .. } => indexed_length(t, names, e),
         _ => Ok(0),
+    }
+}
+
+/// What locates a left index.
+#[cycle(length)]
+#[tactic(auto, using(crate::proofs::Lists::spot_length_of_left_index))]
+fn indexed_length(t: &Typed, names: &Names, e: &TExpr) -> Result<u32, Memory>
+    ensures { IfOk result (λ n. n ≡ spot_length_of t.now (layout names.now) e.now) }
+{
+    match e {
+        TExpr::LeftIndex { indexes, .. } => plus(2, lengths(t, names, indexes.as_slice())?),
+        _ => Err(Memory),
     }
 }
 
@@ -367,8 +392,19 @@ fn load_length(t: &Typed, names: &Names, target: &TExpr) -> Result<u32, Memory>
 {
     match bare(target) {
         TExpr::Element { array, .. } => times_four(names.elements(t, *array)),
-        TExpr::LeftIndex { ty, .. } => Ok(if ty.shape.is_some() { 2 } else { 1 }),
+        TExpr::LeftIndex { ty, .. } => Ok(read_length(ty.shape)),
         _ => Ok(1),
+    }
+}
+
+/// A read through a left index: of every position, or of one.
+#[tactic(auto, unfolding(crate::specs::Lengths::read_length))]
+fn read_length(shape: Option<u16>) -> u32
+    ensures { result ≡ read_length shape }
+{
+    match shape {
+        Some(_) => 2,
+        None => 1,
     }
 }
 

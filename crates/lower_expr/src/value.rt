@@ -2,6 +2,9 @@
 //! its parts are taken behind it, in the order of the text. A variable is copied, since a later part
 //! may change it.
 
+ghost use Rattle.std.specs.Prelude.{◌≡◌};
+ghost use Rattle.lower_expr.specs.Lengths.{is_send};
+
 use crate::length::length;
 use crate::spots::{Spot, bare, check_index, load, store};
 use crate::steps::{
@@ -512,7 +515,10 @@ fn assignment(
 }
 
 /// Whether an assignment to the target is a send.
-pub fn is_send(target: &TExpr) -> bool {
+#[tactic(auto, unfolding(crate::specs::Lengths::is_send, crate::specs::Lengths::is_sent))]
+pub fn is_send(target: &TExpr) -> bool
+    ensures { result ≡ is_send target.now }
+{
     match bare(target) {
         TExpr::LeftIndex { ty, .. } => ty.shape.is_some(),
         _ => false,
