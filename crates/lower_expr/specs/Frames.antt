@@ -42,19 +42,21 @@ unfoldable pub finished : ℕ → Option VarInfo → ℕ → ℕ → Out → Dra
 finished unit None register index dest d = Makes O.Nothing (turn_and_call unit d)
 finished unit (Some info) register index dest d = result_given unit info register index dest d
 
--- the parallel parameter takes its argument
-unfoldable pub field_passed : ℕ → VarInfo → ℕ → ℕ → Out → Draft → Made Out
-field_passed unit param set index v d =
-    then_make (zeroed_entry unit set param.elem.bits index d) (λ place after. put_in_field place v after)
+-- a parameter takes its argument; the answer is the number of the next parallel one
+unfoldable pub argument_passed : ℕ → VarInfo → ℕ → ℕ → Out → Draft → Made ℕ
+argument_passed unit param register index v d = elim param.shape [
+  | None ↦ then_make (put_value (O.Scalar register) v d) (λ _ after. Makes index after)
+  | Some set ↦ then_make (zeroed_entry unit set param.elem.bits index d) (λ place between.
+    then_make (put_in_field place v between) (λ _ after. Makes (index + 1) after))
+]
 
 -- each parameter takes its argument, and then the instance is called
 unfoldable pub passed : ℕ → Option VarInfo → List VarInfo → List Out → ℕ → ℕ → Out → Draft → Made Out
-passed unit outcome (param ∷ params) (v ∷ vs) register index dest d = elim param.shape [
-  | None ↦ then_make (put_value (O.Scalar register) v d) (λ _ after. passed unit outcome params vs (register + 1) index dest after)
-  | Some set ↦ then_make (field_passed unit param set index v d)
-    (λ _ after. passed unit outcome params vs (register + 1) (index + 1) dest after)
-]
-passed unit outcome _ _ register index dest d = finished unit outcome register index dest d
+passed unit outcome [] vs register index dest d = finished unit outcome register index dest d
+passed unit outcome (param ∷ params) [] register index dest d = finished unit outcome register index dest d
+passed unit outcome (param ∷ params) (v ∷ vs) register index dest d =
+    then_make (argument_passed unit param register index v d)
+    (λ next after. passed unit outcome params vs (register + 1) next dest after)
 
 -- a call of an instance with these arguments
 unfoldable pub called : Typed → Layout → ℕ → List Out → Out → Draft → Made Out

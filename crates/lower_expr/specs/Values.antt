@@ -26,7 +26,7 @@ use Rattle.paris_code.specs.declared.operands.Operation.{Operation}
 use Rattle.paris_code.specs.declared.operands.Operation.TheVariants as Act
 use Rattle.lower_comm.specs.declared.emit.Out.{Out}
 use Rattle.lower_comm.specs.declared.emit.Out.TheVariants as O
-use Rattle.lower_comm.specs.Drafts.{Draft, Made, Makes, Fails, then_make, here, with_instr, a_register, a_field, a_flag, in_register, in_field}
+use Rattle.lower_comm.specs.Drafts.{Draft, Made, Makes, Fails, then_make, from, here, with_instr, a_register, a_field, a_flag, in_register, in_field}
 use Rattle.lower_comm.specs.Layouts.{Layout}
 use Rattle.lower_comm.specs.Messages.{address, located, checked_grid, communicated}
 use Rattle.lower_comm.specs.News.{goes_by_news}
@@ -67,27 +67,39 @@ spread_by code e set d =
     else code d
 
 -- the right operand of a parallel operation: a constant that the operation takes has no code
-unfoldable pub right_of : Out → Draft → Made Right
-right_of (O.Field f) d = Makes (R.Field f) d
-right_of (O.Scalar r) d = Makes (R.Word (K.Reg r)) d
-right_of O.Nothing d = Fails
+unfoldable pub right_given : Out → Option Right
+right_given (O.Field f) = Some (R.Field f)
+right_given (O.Scalar r) = Some (R.Word (K.Reg r))
+right_given O.Nothing = None
 
 unfoldable pub right_by : Code → Op → TExpr → Draft → Made Right
 right_by code op e d = elim (word_taken op e) [
   | Some word ↦ Makes (R.Word (K.Imm word)) d
-  | None ↦ then_make (code d) right_of
+  | None ↦ then_make (code d) (λ v after. from (right_given v) (λ right. Makes right after))
 ]
+
+-- the own coordinate, and the next byte of the input
+unfoldable pub coordinate_in : Option ℕ → ℕ → Draft → Made Out
+coordinate_in shape axis d =
+    then_make (a_field (unwrap_or shape 0) d) (λ f after. Makes (O.Field f) (with_instr (I.MyNewsCoordinate f axis) after))
+
+unfoldable pub byte_in : Draft → Made Out
+byte_in d = then_make (a_register d) (λ r after. Makes (O.Scalar r) (with_instr (I.FrontGetByte r) after))
 
 -- a chain of casts, from the innermost to the outermost
 unfoldable pub casts_put : List Elem → ℕ → Draft → Draft
 casts_put [] r d = d
 casts_put (kind ∷ inner) r d = with_instr (I.FrontConvert r r kind) (casts_put inner r d)
 
--- a unary operator
+-- a unary operator; `+` has no code
+unfoldable pub is_plus : UnaryOp → Bool
+is_plus Un.Plus = true
+is_plus _ = false
+
 unfoldable pub unary_by : ValueType → UnaryOp → Code → Draft → Made Out
-unary_by ty Un.Plus code d = code d
 unary_by ty op code d =
-    then_make (fresh_for ty.shape d) (λ dest between. then_make (code between) (λ v after. negated op dest v after))
+    if is_plus op then code d
+    else then_make (fresh_for ty.shape d) (λ dest between. then_make (code between) (λ v after. negated op dest v after))
 
 -- a binary operator
 unfoldable pub binary_at : Out → Op → Bool → Place → Code → TExpr → Code → TExpr → Draft → Made Out
@@ -110,31 +122,51 @@ narrowed_by is_or source d =
     if is_or then with_instr (I.LogandcContextWithTest source.set) (with_instr (I.NeZero source) d)
     else with_instr (I.LogandContextWithTest source.set) (with_instr (I.NeZero source) d)
 
+-- The place behind so many instructions, to which the jump leads where the first operand decides.
+unfoldable pub decided : Bool → Out → ℕ → ℕ → Draft → Made ℕ
+decided is_or v n own d =
+    in_register v (λ a. Makes ((here d + n) + own) (jump_if_decided is_or a ((here d + n) + own) d))
+
+-- the context narrowed by the first operand, behind the saving of the old one
+unfoldable pub limited : Bool → Field → Out → Draft → Made Field
+limited is_or saved v d = in_field v (λ a. Makes a (narrowed_by is_or a (with_instr (I.StoreContext saved) d)))
+
 -- `&&` and `||` of scalars: the result begins as what a decided left operand gives
+unfoldable pub logical_begun : Bool → Draft → Made ℕ
+logical_begun is_or d = then_make (a_register d) (λ dest after. Makes dest (with_instr (I.FrontConst dest (from_bool is_or)) after))
+
+unfoldable pub logical_ended : Bool → ℕ → Out → ℕ → Draft → Made Out
+logical_ended is_or dest w end d =
+    in_register w (λ b. Makes (O.Scalar dest) (with_instr (I.FrontConst dest (from_bool (not is_or))) (jump_if_decided is_or b end d)))
+
 unfoldable pub scalar_logical_by : Bool → Code → Code → ℕ → Draft → Made Out
 scalar_logical_by is_or first second n d =
-    then_make (a_register d) (λ dest begun. then_make (first (with_instr (I.FrontConst dest (from_bool is_or)) begun))
-    (λ v between. in_register v (λ a. then_make (second (jump_if_decided is_or a ((here between + n) + 3) between))
-    (λ w after. in_register w (λ b. Makes (O.Scalar dest) (with_instr (I.FrontConst dest (from_bool (not is_or)))
-    (jump_if_decided is_or b ((here between + n) + 3) after)))))))
+    then_make (logical_begun is_or d) (λ dest begun. then_make (first begun) (λ v between.
+    then_make (decided is_or v n 3 between) (λ end next. then_make (second next) (λ w after. logical_ended is_or dest w end after))))
 
 -- `&&` and `||` with a parallel right operand, behind a scalar left one: a jump
+unfoldable pub nonzero_tested : Field → Out → Draft → Made Out
+nonzero_tested dest w d = in_field w (λ b. put_test dest (with_instr (I.NeZero b) d))
+
 unfoldable pub decided_by : Bool → Field → Out → Code → ℕ → Draft → Made Out
 decided_by is_or dest v second n d =
-    in_register v (λ a. then_make (second (jump_if_decided is_or a ((here d + n) + 4) d))
-    (λ w after. in_field w (λ b. put_test dest (with_instr (I.NeZero b) after))))
+    then_make (decided is_or v n 4 d) (λ _ next. then_make (second next) (λ w after. nonzero_tested dest w after))
 
 -- behind a parallel left one: a narrower context for the right one and for the result
 unfoldable pub narrowed_again : Bool → Bool → Out → Draft → Made Out
-narrowed_again is_or true w d = in_register w (λ b. Makes w (jump_if_decided is_or b (here d + 2) d))
-narrowed_again is_or false w d = in_field w (λ b. Makes w (narrowed_by is_or b d))
+narrowed_again is_or kept w d =
+    if kept then in_register w (λ b. Makes w (jump_if_decided is_or b (here d + 2) d))
+    else in_field w (λ b. Makes w (narrowed_by is_or b d))
+
+unfoldable pub parallel_ended : Bool → Field → Field → Bool → Out → Draft → Made Out
+parallel_ended is_or dest saved kept w d =
+    then_make (narrowed_again is_or kept w d)
+    (λ _ after. Makes (O.Field dest) (with_instr (I.LoadContext saved)
+      (with_instr (I.MoveConstant dest (K.Imm (from_bool (not is_or)))) after)))
 
 unfoldable pub limited_by : Bool → Field → Field → Out → Code → Bool → Draft → Made Out
-limited_by is_or dest saved v second right_kept d =
-    in_field v (λ a. then_make (second (narrowed_by is_or a (with_instr (I.StoreContext saved) d)))
-    (λ w between. then_make (narrowed_again is_or right_kept w between)
-    (λ _ after. Makes (O.Field dest) (with_instr (I.LoadContext saved)
-    (with_instr (I.MoveConstant dest (K.Imm (from_bool (not is_or)))) after)))))
+limited_by is_or dest saved v second kept d =
+    then_make (limited is_or saved v d) (λ _ next. then_make (second next) (λ w after. parallel_ended is_or dest saved kept w after))
 
 unfoldable pub parallel_logical_by : Bool → ℕ → Code → Bool → Code → Bool → ℕ → Draft → Made Out
 parallel_logical_by is_or set first left_kept second right_kept n d =
@@ -151,20 +183,20 @@ logical_by is_or (Some set) first left_kept second right_kept n d =
 -- `?:` with a scalar condition: one of the two is evaluated
 unfoldable pub scalar_choice_by : Out → Code → Code → Code → ℕ → ℕ → Draft → Made Out
 scalar_choice_by dest test first second n m d =
-    then_make (test d) (λ c begun. in_register c (λ r.
-    then_make (first (with_instr (I.FrontJumpZero r ((here begun + n) + 3)) begun)) (λ v between.
-    then_make (put_value dest v between) (λ _ next.
-    then_make (second (with_instr (I.FrontJump ((((here begun + n) + 3) + m) + 1)) next)) (λ w after.
-    put_value dest w after)))))
+    then_make (test d) (λ c begun. then_make (decided false c n 3 begun) (λ other next.
+    then_make (first next) (λ v between. then_make (put_value dest v between) (λ _ half.
+    then_make (second (with_instr (I.FrontJump ((other + m) + 1)) half)) (λ w after. put_value dest w after)))))
 
 -- `?:` with a parallel condition: both are evaluated, each where it counts
+unfoldable pub turned_over : Field → Field → Draft → Draft
+turned_over saved condition d = narrowed_by true condition (with_instr (I.LoadContext saved) d)
+
 unfoldable pub parallel_choice_by : Out → Code → Code → Code → Draft → Made Out
 parallel_choice_by dest test first second d =
-    in_field dest (λ f. then_make (a_flag f.set d) (λ saved begun. then_make (test begun) (λ c next. in_field c (λ condition.
-    then_make (first (narrowed_by false condition (with_instr (I.StoreContext saved) next))) (λ v between.
-    then_make (put_value dest v between) (λ _ half.
-    then_make (second (narrowed_by true condition (with_instr (I.LoadContext saved) half))) (λ w after.
-    then_make (put_value dest w after) (λ _ last. Makes dest (with_instr (I.LoadContext saved) last)))))))))
+    in_field dest (λ f. then_make (a_flag f.set d) (λ saved begun. then_make (test begun) (λ c next.
+    then_make (limited false saved c next) (λ condition third. then_make (first third) (λ v fourth.
+    then_make (put_value dest v fourth) (λ _ fifth. then_make (second (turned_over saved condition fifth)) (λ w sixth.
+    then_make (put_value dest w sixth) (λ _ last. Makes dest (with_instr (I.LoadContext saved) last)))))))))
 
 unfoldable pub choice_by : ValueType → Bool → Code → Code → Code → ℕ → ℕ → Draft → Made Out
 choice_by ty kept test first second n m d =
@@ -193,30 +225,29 @@ news_by t l e ty d =
     then_make (fresh_for ty.shape d) (λ dest begun. then_make (checked_grid e begun)
     (λ _ after. communicated t l e O.Nothing [] dest after))
 
--- an assignment without an operator, of a value in a field or in a register; a send has no value
+-- an assignment without an operator; a send has no value
 unfoldable pub set_by : Typed → Layout → TExpr → (Draft → Made Spot) → Code → Draft → Made Out
 set_by t l e spot code d =
     then_make (spot d) (λ there between. then_make (code between) (λ v after. stored t l e there v after))
 
 unfoldable pub sent_by : Typed → Layout → TExpr → (Draft → Made Spot) → Code → Draft → Made Out
-sent_by t l e spot code d = then_make (set_by t l e spot code d) (λ _ after. Makes O.Nothing after)
+sent_by t l e spot code d =
+    then_make (spot d) (λ there between. then_make (code between) (λ v after.
+    then_make (stored t l e there v after) (λ _ last. Makes O.Nothing last)))
 
--- an assignment with an operator, to a parallel target
-unfoldable pub field_updated : Typed → Layout → TExpr → Op → Place → TExpr → ℕ → TExpr → (Draft → Made Spot) → Code → Draft → Made Out
-field_updated t l e op place target set value spot code d =
-    then_make (a_field set d) (λ dest begun. then_make (a_field set begun) (λ spare next.
-    then_make (spot next) (λ there between. then_make (right_by code op value between) (λ v half.
-    then_make (loaded t l target there (O.Field dest) half) (λ _ read.
-    then_make (right_operated op (assigned_signed op (type_of target).elem (type_of value).elem) place dest dest v spare read)
-    (λ _ computed. then_make (converted_in_place (O.Field dest) (type_of target).elem computed)
-    (λ _ after. stored t l e there (O.Field dest) after)))))))
+-- an assignment with an operator, to a parallel target that is located
+unfoldable pub field_updated : Typed → Layout → TExpr → Op → Bool → Place → TExpr → Field → Field → Spot → Right → Draft → Made Out
+field_updated t l e op signed place target dest spare there v d =
+    then_make (loaded t l target there (O.Field dest) d) (λ _ begun.
+    then_make (right_operated op signed place dest dest v spare begun) (λ _ between.
+    then_make (converted_in_place (O.Field dest) (type_of target).elem between) (λ _ after.
+    stored t l e there (O.Field dest) after)))
 
 -- to a scalar target: of a scalar value, and of a parallel one, which is folded
-unfoldable pub register_updated : Typed → Layout → TExpr → Op → Place → TExpr → TExpr → ℕ → Spot → Out → Draft → Made Out
-register_updated t l e op place target value dest there v d =
-    then_make (loaded t l target there (O.Scalar dest) d) (λ _ read. in_register v (λ r.
-    then_make (converted_in_place (O.Scalar dest) (type_of target).elem
-      (operated op (assigned_signed op (type_of target).elem (type_of value).elem) place dest dest r read))
+unfoldable pub register_updated : Typed → Layout → TExpr → Op → Bool → Place → TExpr → ℕ → Spot → Out → Draft → Made Out
+register_updated t l e op signed place target dest there v d =
+    then_make (loaded t l target there (O.Scalar dest) d) (λ _ between. in_register v (λ r.
+    then_make (converted_in_place (O.Scalar dest) (type_of target).elem (operated op signed place dest dest r between))
     (λ _ after. stored t l e there (O.Scalar dest) after)))
 
 unfoldable pub register_folded : Typed → Layout → TExpr → TExpr → ℕ → Spot → Out → Draft → Made Out
@@ -225,18 +256,24 @@ register_folded t l e target dest there v d =
     then_make (communicated t l e O.Nothing (v ∷ O.Scalar old ∷ []) (O.Scalar dest) between)
     (λ _ after. stored t l e there (O.Scalar dest) after)))
 
-unfoldable pub scalar_updated : Typed → Layout → TExpr → Op → Place → TExpr → TExpr → (Draft → Made Spot) → Code → Draft → Made Out
-scalar_updated t l e op place target value spot code d =
+unfoldable pub updated_by : Typed → Layout → TExpr → Op → Place → TExpr → TExpr → Option ℕ → (Draft → Made Spot) → Code → Draft → Made Out
+updated_by t l e op place target value (Some set) spot code d =
+    then_make (a_field set d) (λ dest begun. then_make (a_field set begun) (λ spare next.
+    then_make (spot next) (λ there between. then_make (right_by code op value between) (λ v after.
+    field_updated t l e op (assigned_signed op (type_of target).elem (type_of value).elem) place target dest spare there v after))))
+updated_by t l e op place target value None spot code d =
     then_make (a_register d) (λ dest begun. then_make (spot begun) (λ there between. then_make (code between) (λ v after.
-    if is_kept value then register_updated t l e op place target value dest there v after
+    if is_kept value then register_updated t l e op (assigned_signed op (type_of target).elem (type_of value).elem) place target dest there v after
     else register_folded t l e target dest there v after)))
 
 -- an assignment
+unfoldable pub plainly_set_by : Typed → Layout → TExpr → TExpr → Option ℕ → (Draft → Made Spot) → Code → Draft → Made Out
+plainly_set_by t l e value (Some set) spot code d = set_by t l e spot (spread_by code value set) d
+plainly_set_by t l e value None spot code d = set_by t l e spot code d
+
 unfoldable pub assigned_by : Typed → Layout → TExpr → Option Op → Place → TExpr → TExpr → Option ℕ → (Draft → Made Spot) → Code → Draft → Made Out
-assigned_by t l e None place target value (Some set) spot code d = set_by t l e spot (spread_by code value set) d
-assigned_by t l e None place target value None spot code d = set_by t l e spot code d
-assigned_by t l e (Some op) place target value (Some set) spot code d = field_updated t l e op place target set value spot code d
-assigned_by t l e (Some op) place target value None spot code d = scalar_updated t l e op place target value spot code d
+assigned_by t l e None place target value shape spot code d = plainly_set_by t l e value shape spot code d
+assigned_by t l e (Some op) place target value shape spot code d = updated_by t l e op place target value shape spot code d
 
 unfoldable pub assign_by : Typed → Layout → TExpr → AssignOp → Place → TExpr → TExpr → (Draft → Made Spot) → Code → Draft → Made Out
 assign_by t l e op place target value spot code d =
@@ -262,14 +299,17 @@ stepped_at t l e op target there old new d =
     then_make (loaded t l target there old d) (λ _ begun. then_make (stepped_once op old new begun) (λ _ between.
     then_make (converted_in_place new (type_of target).elem between) (λ _ after. stored t l e there new after)))
 
--- the value before a step, and the value behind it in a second register or field
+unfoldable pub stepped_in : Typed → Layout → TExpr → StepOp → StepOrder → TExpr → Spot → Out → Out → Draft → Made Out
+stepped_in t l e op Or.Prefix target there outcome second d =
+    then_make (stepped_at t l e op target there second outcome d) (λ _ after. Makes outcome after)
+stepped_in t l e op Or.Postfix target there outcome second d =
+    then_make (stepped_at t l e op target there outcome second d) (λ _ after. Makes outcome after)
+
+-- the value of a step, and the other one of the two in a second register or field
 unfoldable pub step_by : Typed → Layout → TExpr → StepOp → StepOrder → TExpr → (Draft → Made Spot) → Draft → Made Out
 step_by t l e op order target spot d =
     then_make (fresh_for (type_of target).shape d) (λ outcome begun. then_make (fresh_for (type_of target).shape begun) (λ second next.
-    then_make (spot next) (λ there between. then_make (elim order [
-      | Or.Prefix ↦ stepped_at t l e op target there second outcome between
-      | Or.Postfix ↦ stepped_at t l e op target there outcome second between
-    ]) (λ _ after. Makes outcome after))))
+    then_make (spot next) (λ there after. stepped_in t l e op order target there outcome second after)))
 
 -- a reduction or a scan of a value
 unfoldable pub message_by : Typed → Layout → TExpr → ValueType → Code → Draft → Made Out
@@ -305,8 +345,7 @@ unfoldable mutual
   value_of t l (T.Element' ty place array p index) d =
       read_by t l (T.Element' ty place array p index) ty (element_spot t l ty place array (value_of t l index)) d
   value_of t l (T.Number ty value) d = constant_in value d
-  value_of t l (T.Dot ty axis) d =
-      then_make (a_field (unwrap_or ty.shape 0) d) (λ f after. Makes (O.Field f) (with_instr (I.MyNewsCoordinate f axis) after))
+  value_of t l (T.Dot ty axis) d = coordinate_in ty.shape axis d
   value_of t l (T.Brackets' ty p inner) d = value_of t l inner d
   value_of t l (T.Call' ty instance p arguments) d =
       then_make (fresh_for ty.shape d) (λ dest begun. then_make (values_of t l arguments [] begun)
@@ -314,8 +353,7 @@ unfoldable mutual
   value_of t l (T.LeftIndex' ty place p indexes x of) d =
       if goes_by_news (T.LeftIndex' ty place p indexes x of) then news_by t l (T.LeftIndex' ty place p indexes x of) ty d
       else read_by t l (T.LeftIndex' ty place p indexes x of) ty (indexed_spot (T.LeftIndex' ty place p indexes x of) (values_of t l indexes)) d
-  value_of t l (T.Pcoord ty axis) d =
-      then_make (a_field (unwrap_or ty.shape 0) d) (λ f after. Makes (O.Field f) (with_instr (I.MyNewsCoordinate f axis) after))
+  value_of t l (T.Pcoord ty axis) d = coordinate_in ty.shape axis d
   value_of t l (T.PositionsOf ty shape value) d = constant_in value d
   value_of t l (T.RankOf ty shape value) d = constant_in value d
   value_of t l (T.DimOf ty shape axis value) d = constant_in value d
@@ -326,8 +364,7 @@ unfoldable mutual
       (λ dest after. communicated t l (T.Enumerate ty axis direction within mode bit) O.Nothing [] dest after)
   value_of t l (T.Printf' ty pieces p arguments) d =
       then_make (values_of t l arguments [] d) (λ given after. pieces_printed pieces.items given after)
-  value_of t l (T.GetChar ty) d =
-      then_make (a_register d) (λ r after. Makes (O.Scalar r) (with_instr (I.FrontGetByte r) after))
+  value_of t l (T.GetChar ty) d = byte_in d
 
   -- where a target or a reference is: its indexes, their range check, and the address
   pub spot_of : Typed → Layout → TExpr → Draft → Made Spot
@@ -348,6 +385,12 @@ unfoldable mutual
 unfoldable pub values_in : Typed → Layout → List TExpr → List Out → Draft → Made (List Out)
 values_in t l [] outs d = Makes outs d
 values_in t l (e ∷ rest) outs d = then_make (value_of t l e d) (λ v after. values_in t l rest (outs ++ v ∷ []) after)
+
+-- an assignment with this operator
+unfoldable pub compound_of : Typed → Layout → TExpr → Op → Draft → Made Out
+compound_of t l (T.Assign' ty place o p target q value) op d =
+    updated_by t l (T.Assign' ty place o p target q value) op place target value (type_of target).shape (spot_of t l target) (value_of t l value) d
+compound_of t l _ op d = Fails
 
 -- the value of a parallel expression in a field, that of a promoted scalar too
 unfoldable pub spread_of : Typed → Layout → TExpr → ℕ → Draft → Made Out

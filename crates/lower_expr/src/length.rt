@@ -190,7 +190,8 @@ fn spot_length(t: &Typed, names: &Names, e: &TExpr) -> Result<u32, Memory>
         TExpr::Brackets { inner, .. } => spot_length(t, names, inner),
         TExpr::Element { index, .. } => plus(length(t, names, index)?, 5),
         TExpr::LeftIndex { .. } => indexed_length(t, names, e),
-        _ => Ok(0),
+        TExpr::Variable { .. } => Ok(0),
+        _ => Err(Memory),
     }
 }
 
