@@ -1,9 +1,16 @@
 -- Where the variables of a typed program are, as one of its instances sees it.
-use Rattle.std.specs.Prelude.{ℕ, ◌+◌, List, length, slice_get, Some, None}
+use Rattle.std.specs.Prelude.{ℕ, ◌+◌, ◌==◌, if◌then◌else◌, List, [], ◌∷◌, ◌++◌, length, map, fold, slice_get, Option, Some, None}
+use Rattle.std.specs.Cmp.Lexicographic.{pointwise}
+use Rattle.cstar_tree.specs.declared.typed.Instance.{Instance}
+use Rattle.cstar_tree.specs.declared.typed.LocalVar.{LocalVar}
+use Rattle.cstar_tree.specs.declared.typed.TStmt.{TStmt}
+use Rattle.cstar_tree.specs.declared.typed.TStmt.TheFolds.{fold-TStmt}
+use Rattle.cstar_tree.specs.declared.typed.TStmt.TheOpen.{TStmt-F}
 use Rattle.cstar_tree.specs.declared.typed.Typed.{Typed}
 use Rattle.cstar_tree.specs.declared.typed.VarInfo.{VarInfo}
 use Rattle.cstar_tree.specs.declared.typed.Variable.{Variable}
 use Rattle.cstar_tree.specs.declared.typed.Variable.TheVariants as V
+use Rattle.cstar_tree.specs.TypedParts.{concat, statements_of}
 use Rattle.paris_code.specs.declared.operands.Field.{Field}
 use Rattle.paris_code.specs.declared.program.Owner.TheVariants as W
 use Rattle.lower_comm.specs.declared.names.LocalName.{LocalName}
@@ -66,3 +73,103 @@ field_of t l (V.File k) element d =
 field_of t l (V.Param k) element d = from (slice_get l.params k) (λ index. own_field index d)
 field_of t l (V.Local k) element d =
     from (slice_get l.locals k) (λ name. from (slice_get d.homes name.home) (λ home. own_field (home + element) d))
+
+-- the number of the first field of each variable, from this one on
+unfoldable pub first_fields : ℕ → List VarInfo → List ℕ
+first_fields next [] = []
+first_fields next (info ∷ infos) = next ∷ first_fields (next + entries_of info) infos
+
+-- the number behind a variable, where the parallel ones are counted
+unfoldable pub behind : ℕ → VarInfo → ℕ
+behind next info = elim info.shape [ None ↦ next | Some _ ↦ next + 1 ]
+
+-- the entry of each parameter, from this one on
+unfoldable pub param_entries : ℕ → List VarInfo → List ℕ
+param_entries next [] = []
+param_entries next (info ∷ infos) = next ∷ param_entries (behind next info) infos
+
+-- the variables of a statement's blocks, in the order of the text
+unfoldable pub declared_by : {A : Type 0} → TStmt-F A → List VarInfo
+declared_by (TStmt-F.Block locals statements) = map (λ (local : LocalVar). local.info) locals.items
+declared_by _ = []
+
+unfoldable pub variables_step : TStmt-F (List VarInfo) → List VarInfo
+variables_step node = declared_by node ++ concat (statements_of node)
+
+abbrev pub variables_of : TStmt → List VarInfo
+variables_of = fold-TStmt (List VarInfo) variables_step
+
+-- the variables of blocks that are numbered so far, and how many of them are parallel
+pub record Numbering : Type 0 where
+  pub locals : List LocalName
+  pub homes : ℕ
+
+unfoldable pub with_local : Numbering → VarInfo → Numbering
+with_local n info = record {
+  locals = n.locals ++ record { home = n.homes; entries = entries_of info } ∷ [];
+  homes = behind n.homes info;
+}
+
+unfoldable pub numbered : List VarInfo → Numbering → Numbering
+numbered infos n = fold with_local n infos
+
+abbrev pub nothing_numbered : Numbering
+nothing_numbered = record { locals = []; homes = 0 }
+
+-- the number of the first instance with a name
+unfoldable pub first_named : ℕ → List ℕ → List Instance → Option ℕ
+first_named k name [] = None
+first_named k name (instance ∷ instances) = if pointwise ◌==◌ instance.name name then Some k else first_named (k + 1) name instances
+
+-- the first registers of instances so far, and the first register that none of them has
+pub record Registers : Type 0 where
+  pub bases : List ℕ
+  pub end : ℕ
+
+-- where an earlier instance of the same function begins
+unfoldable pub earlier_base : List Instance → Registers → Instance → Option ℕ
+earlier_base instances r instance =
+    elim (first_named 0 instance.name instances) [ None ↦ None | Some k ↦ slice_get r.bases k ]
+
+-- instances of one function share their registers, those of its parameters, its result and the
+-- variables of its blocks; another function has its own behind all others
+unfoldable pub with_instance : List Instance → Registers → Instance → Registers
+with_instance instances r instance =
+    elim (earlier_base instances r instance) [
+      | Some base ↦ record r { bases = r.bases ++ base ∷ [] }
+      | None ↦ record {
+          bases = r.bases ++ r.end ∷ [];
+          end = r.end + length (numbered (variables_of instance.body) nothing_numbered).locals + length instance.params.items + 1;
+        }
+    ]
+
+unfoldable pub registers_of : List Instance → ℕ → Registers
+registers_of instances variables = fold (with_instance instances) (record { bases = []; end = variables }) instances
+
+-- the numbering as an instance sees it
+unfoldable pub entered : Typed → ℕ → Layout → Layout
+entered t n l =
+    let own : Option Instance = slice_get t.instances.items n in
+    let params : List VarInfo = elim own [ None ↦ [] | Some instance ↦ instance.params.items ] in
+    let variables : List VarInfo = elim own [ None ↦ [] | Some instance ↦ variables_of instance.body ] in
+    record l {
+      base = elim (slice_get l.bases n) [ None ↦ 0 | Some base ↦ base ];
+      params = param_entries 0 params;
+      outcome = fold behind 0 params;
+      locals = (numbered variables nothing_numbered).locals;
+    }
+
+-- The numbering of a typed program: the variables of the file have the first registers, and the
+-- instances those behind them.
+unfoldable pub layout_of : Typed → ℕ → Layout
+layout_of t n =
+    let registers : Registers = registers_of t.instances.items (length t.vars.items) in
+    entered t n (record {
+      files = first_fields 0 t.vars.items;
+      bases = registers.bases;
+      end = registers.end;
+      base = 0;
+      params = [];
+      outcome = 0;
+      locals = [];
+    })

@@ -1,4 +1,5 @@
 pub mod Drafts
 pub mod Layouts
+pub mod Messages
 pub mod News
 pub mod Operators

@@ -3,8 +3,10 @@
 //! grows.
 #![tactic(auto)]
 
+mod addresses;
 mod calls;
 pub mod emit;
+mod gets;
 pub mod messages;
 pub mod names;
 pub mod news;

@@ -1,20 +1,22 @@
 //! The code of one communication, over parts that stand in registers and fields already.
 
-ghost use Rattle.std.specs.Prelude.{◌≡◌};
+ghost use Rattle.std.specs.Prelude.{◌≡◌, IfOk, OnOk, Some, slice_get};
+ghost use Rattle.lower_comm.specs.declared.emit.Out.TheVariants as O;
+ghost use Rattle.lower_comm.specs.Drafts.{Makes, draft};
+ghost use Rattle.lower_comm.specs.Layouts.{layout};
+ghost use Rattle.lower_comm.specs.Messages.{folded_onto, negated_by, reduced, indexed, indexed_field, stored, sent_value, sent_to, sent, assigned, scanned, segment_field, enumerated, communicated};
 ghost use Rattle.lower_comm.specs.News.{goes_by_news};
 
+pub use crate::addresses::{address_of, check_grid, locate_in};
 use crate::emit::{Out, field, put, register};
-use crate::names::{Names, count};
-use crate::news::{all_go_by_news, step_of};
+use crate::gets::read;
+use crate::names::Names;
+use crate::news::all_go_by_news;
 use crate::operators::{assign_op, fold_of, operation, promoted_signed, reduce_op, scan_fold};
 use cstar_base::{Direction, Elem, Inclusion, Memory, Op, SegmentMode};
 use cstar_tree::syntax::ReduceOp;
-use cstar_tree::typed::{TExpr, Typed, ValueType, Variable};
-use paris_code::{
-    Coordinate, Field, GridStep, Instr, Konst, Owner, Reduction, RegisterCoordinate,
-    SignedCoordinate, Unit,
-};
-use std::alloc::Global;
+use cstar_tree::typed::{TExpr, Typed, Variable};
+use paris_code::{Field, Instr, Konst, Owner, Reduction, Unit};
 
 /// Whether the get goes by NEWS: each index is a step along its own axis.
 #[tactic(auto, unfolding(crate::specs::News::goes_by_news))]
@@ -36,152 +38,8 @@ pub fn goes_by_news(e: &TExpr) -> bool
     all_go_by_news(*of, indexes)
 }
 
-/// Where the address of a left index goes: a fresh field or a fresh register.
-pub fn address_of(e: &TExpr, u: &mut Unit) -> Result<Out, Memory> {
-    match e.ty().shape {
-        Some(set) => Ok(Out::Field(field(u, set)?)),
-        None => Ok(Out::Scalar(register(u)?)),
-    }
-}
-
-/// The range check of a left index, and the making of its address at `at`.
-pub fn locate_in(
-    alloc: Global,
-    e: &TExpr,
-    indexes: &[Out],
-    at: Out,
-    u: &mut Unit,
-) -> Result<Out, Memory> {
-    let TExpr::LeftIndex {
-        place,
-        indexes: parts,
-        of,
-        ..
-    } = e
-    else {
-        return Err(Memory);
-    };
-    match at {
-        Out::Scalar(dest) => {
-            let (checked, plain) = registers(alloc, parts.as_slice(), indexes)?;
-            put(
-                u,
-                Instr::FrontCheckTarget {
-                    set: *of,
-                    place: *place,
-                    coordinates: checked,
-                },
-            )?;
-            put(
-                u,
-                Instr::FrontMakeAddress {
-                    dest,
-                    set: *of,
-                    coordinates: plain,
-                },
-            )?;
-        }
-        Out::Field(dest) => {
-            let (checked, plain) = coordinates(alloc, parts.as_slice(), indexes)?;
-            put(
-                u,
-                Instr::CheckTarget {
-                    set: *of,
-                    place: *place,
-                    coordinates: checked,
-                },
-            )?;
-            put(
-                u,
-                Instr::MakeAddress {
-                    dest,
-                    set: *of,
-                    coordinates: plain,
-                },
-            )?;
-        }
-        Out::Nothing => return Err(Memory),
-    }
-    Ok(at)
-}
-
-/// The range check of a get that goes by NEWS: its steps along the axes that do not wrap.
-pub fn check_grid(alloc: Global, e: &TExpr, u: &mut Unit) -> Result<Out, Memory> {
-    let TExpr::LeftIndex {
-        ty,
-        place,
-        indexes,
-        of,
-        ..
-    } = e
-    else {
-        return Err(Memory);
-    };
-    let mut steps = Vec::new(alloc);
-    for (axis, index) in indexes.iter().enumerate() {
-        if let Some(step) = step_of(*of, axis, index) {
-            if step.checked {
-                steps.push(GridStep {
-                    axis: count(axis)?,
-                    step: Konst::Imm(step.by),
-                })?;
-            }
-        }
-    }
-    if steps.is_empty() {
-        return Ok(Out::Nothing);
-    }
-    let set = ty.shape.unwrap_or(*of);
-    put(
-        u,
-        Instr::CheckGrid {
-            set,
-            place: *place,
-            steps,
-        },
-    )?;
-    Ok(Out::Nothing)
-}
-
-/// The registers of scalar indexes, each read by its own sign.
-fn registers(
-    alloc: Global,
-    parts: &[TExpr],
-    indexes: &[Out],
-) -> Result<(Vec<RegisterCoordinate>, Vec<u32>), Memory> {
-    let mut checked = Vec::new(alloc);
-    let mut plain = Vec::new(alloc);
-    for (part, index) in parts.iter().zip(indexes) {
-        let register = index.register()?;
-        let signed = promoted_signed(part.ty().elem);
-        checked.push(RegisterCoordinate { register, signed })?;
-        plain.push(register)?;
-    }
-    Ok((checked, plain))
-}
-
-/// The coordinates of parallel indexes, each read by its own sign.
-fn coordinates(
-    alloc: Global,
-    parts: &[TExpr],
-    indexes: &[Out],
-) -> Result<(Vec<SignedCoordinate>, Vec<Coordinate>), Memory> {
-    let mut checked = Vec::new(alloc);
-    let mut plain = Vec::new(alloc);
-    for (part, index) in parts.iter().zip(indexes) {
-        let coordinate = match index {
-            Out::Scalar(register) => Coordinate::Reg(*register),
-            Out::Field(field) => Coordinate::Field(*field),
-            Out::Nothing => return Err(Memory),
-        };
-        let signed = promoted_signed(part.ty().elem);
-        checked.push(SignedCoordinate { coordinate, signed })?;
-        plain.push(coordinate)?;
-    }
-    Ok((checked, plain))
-}
-
 /// The code of one communication.
+#[tactic(auto, unfolding(crate::specs::Messages::communicated, crate::specs::Messages::part_register, crate::specs::Messages::part_field, crate::specs::Drafts::from, crate::specs::Drafts::in_register, crate::specs::Drafts::in_field, crate::specs::Drafts::then_make))]
 pub fn comm_in(
     t: &Typed,
     names: &Names,
@@ -190,11 +48,19 @@ pub fn comm_in(
     parts: &[Out],
     into: Out,
     u: &mut Unit,
-) -> Result<Out, Memory> {
+) -> Result<Out, Memory>
+    ensures draft { IfOk result (λ out. communicated t.now (layout names.now) e.now at parts.now into (draft u.old) ≡ Makes out (draft u.new)) }
+{
     match e {
-        TExpr::LeftIndex { ty, variable, .. } => {
+        TExpr::LeftIndex {
+            ty,
+            indexes,
+            variable,
+            of,
+            ..
+        } => {
             let source = names.field(t, *variable, 0, u)?;
-            read(e, *ty, source, at, into, u)
+            read(*of, indexes, ty.elem, source, at, into, u)
         }
         TExpr::Assign {
             op,
@@ -202,19 +68,14 @@ pub fn comm_in(
             value,
             ..
         } => {
-            let combine = assign_op(*op);
             let signed = promoted_signed(value.ty().elem);
-            match at {
-                Out::Nothing => fold_onto(combine, signed, target.ty().elem, parts, into, u),
-                Out::Scalar(processor) => store(t, names, target, processor, parts, u),
-                Out::Field(address) => send(t, names, target, combine, signed, address, parts, u),
-            }
+            assign(t, names, target, assign_op(*op), signed, at, parts, into, u)
         }
         TExpr::Step { target, .. } => {
             let processor = at.register()?;
             store(t, names, target, processor, parts, u)
         }
-        TExpr::Reduce { op, operand, .. } => reduce(*op, operand.ty(), parts, into, u),
+        TExpr::Reduce { op, operand, .. } => reduce(*op, operand.ty().elem, parts, into, u),
         TExpr::Scan {
             source,
             axis,
@@ -232,7 +93,7 @@ pub fn comm_in(
                 mode: *mode,
                 inclusion: *inclusion,
             };
-            let source = part(parts, 0)?.field()?;
+            let source = part_field(parts, 0)?;
             let bit = segment_field(t, names, *bit, u)?;
             scan(scan_fold(*combiner, signed), source, line, bit, into, u)
         }
@@ -250,116 +111,56 @@ pub fn comm_in(
                 mode: *mode,
                 inclusion: *inclusion,
             };
-            let dest = into.field()?;
-            let ones = field(u, dest.set)?;
-            put(
-                u,
-                Instr::MoveConstant {
-                    dest: ones,
-                    value: Konst::Imm(1),
-                },
-            )?;
-            let bit = segment_field(t, names, *bit, u)?;
-            scan(Reduction::SAdd, ones, line, bit, into, u)
+            enumerate(t, names, line, *bit, into, u)
         }
         _ => Err(Memory),
     }
 }
 
-fn part(parts: &[Out], number: usize) -> Result<Out, Memory> {
-    match parts.get(number) {
-        Some(part) => Ok(*part),
-        None => Err(Memory),
-    }
-}
-
-/// A read through a left index: of one element, by the router, or by NEWS.
-fn read(
-    e: &TExpr,
-    ty: ValueType,
-    source: Field,
+/// An assignment: a fold onto a scalar, a store to one element, or a send.
+#[tactic(auto, unfolding(crate::specs::Messages::assigned))]
+fn assign(
+    t: &Typed,
+    names: &Names,
+    target: &TExpr,
+    op: Option<Op>,
+    signed: bool,
     at: Out,
+    parts: &[Out],
     into: Out,
     u: &mut Unit,
-) -> Result<Out, Memory> {
+) -> Result<Out, Memory>
+    ensures draft { IfOk result (λ out. assigned t.now (layout names.now) target.now op signed at parts.now into (draft u.old) ≡ Makes out (draft u.new)) }
+{
     match at {
-        Out::Scalar(processor) => {
-            let dest = into.register()?;
-            put(
-                u,
-                Instr::ReadFromProcessor {
-                    signed: ty.elem.signed,
-                    dest,
-                    processor,
-                    source,
-                },
-            )?;
-        }
-        Out::Field(address) => {
-            let dest = into.field()?;
-            let got = crate::emit::entry(u, dest.set, source.len, Owner::Own)?;
-            put(
-                u,
-                Instr::Get {
-                    dest: got,
-                    address,
-                    source,
-                },
-            )?;
-            put(
-                u,
-                Instr::Move {
-                    signed: ty.elem.signed,
-                    dest,
-                    source: got,
-                },
-            )?;
-        }
-        Out::Nothing => by_steps(e, ty.elem, source, into.field()?, u)?,
+        Out::Nothing => fold_onto(op, signed, target.ty().elem, parts, into, u),
+        Out::Scalar(processor) => store(t, names, target, processor, parts, u),
+        Out::Field(address) => send(t, names, target, op, signed, address, parts, u),
     }
-    Ok(into)
 }
 
-/// A get by NEWS: one step along each axis, the values in between at every processor.
-fn by_steps(e: &TExpr, elem: Elem, source: Field, dest: Field, u: &mut Unit) -> Result<(), Memory> {
-    let TExpr::LeftIndex { indexes, of, .. } = e else {
-        return Err(Memory);
-    };
-    let one = crate::emit::entry(u, dest.set, source.len, Owner::Own)?;
-    let other = crate::emit::entry(u, dest.set, source.len, Owner::Own)?;
-    let mut from = source;
-    let mut to = one;
-    for (axis, index) in indexes.iter().enumerate() {
-        let by = match step_of(*of, axis, index) {
-            Some(step) => step.by,
-            None => 0,
-        };
-        if by != 0 {
-            let by = Konst::Imm(by);
-            put(
-                u,
-                Instr::GetFromNewsAlways {
-                    dest: to,
-                    source: from,
-                    axis: count(axis)?,
-                    by,
-                },
-            )?;
-            from = to;
-            to = if to == one { other } else { one };
-        }
+/// The register of a part.
+fn part_register(parts: &[Out], number: usize) -> Result<u32, Memory>
+    ensures { IfOk result (λ r. slice_get parts.now number ≡ Some (O.Scalar r)) }
+{
+    match parts.get(number) {
+        Some(Out::Scalar(register)) => Ok(*register),
+        _ => Err(Memory),
     }
-    put(
-        u,
-        Instr::Move {
-            signed: elem.signed,
-            dest,
-            source: from,
-        },
-    )
+}
+
+/// The field of a part.
+fn part_field(parts: &[Out], number: usize) -> Result<Field, Memory>
+    ensures { IfOk result (λ f. slice_get parts.now number ≡ Some (O.Field f)) }
+{
+    match parts.get(number) {
+        Some(Out::Field(field)) => Ok(*field),
+        _ => Err(Memory),
+    }
 }
 
 /// `s op= p`: the fold of the elements, and then the operator on the old value and it.
+#[tactic(auto, unfolding(crate::specs::Messages::folded_onto, crate::specs::Messages::part_register, crate::specs::Messages::part_field, crate::specs::Drafts::from, crate::specs::Drafts::in_register, crate::specs::Drafts::in_field, crate::specs::Drafts::then_make))]
 fn fold_onto(
     op: Option<Op>,
     signed: bool,
@@ -367,10 +168,12 @@ fn fold_onto(
     parts: &[Out],
     into: Out,
     u: &mut Unit,
-) -> Result<Out, Memory> {
+) -> Result<Out, Memory>
+    ensures draft { IfOk result (λ out. folded_onto op signed elem parts.now into (draft u.old) ≡ Makes out (draft u.new)) }
+{
     let op = op.unwrap_or(Op::Add);
-    let source = part(parts, 0)?.field()?;
-    let old = part(parts, 1)?.register()?;
+    let source = part_field(parts, 0)?;
+    let old = part_register(parts, 1)?;
     let dest = into.register()?;
     let folded = register(u)?;
     put(
@@ -402,32 +205,40 @@ fn fold_onto(
 }
 
 /// A unary reduction. With `-=` it is the negative of the sum.
-fn reduce(
-    op: ReduceOp,
-    ty: ValueType,
-    parts: &[Out],
-    into: Out,
-    u: &mut Unit,
-) -> Result<Out, Memory> {
-    let source = part(parts, 0)?.field()?;
+#[tactic(auto, unfolding(crate::specs::Messages::reduced, crate::specs::Messages::part_register, crate::specs::Messages::part_field, crate::specs::Drafts::from, crate::specs::Drafts::in_register, crate::specs::Drafts::in_field, crate::specs::Drafts::then_make))]
+fn reduce(op: ReduceOp, elem: Elem, parts: &[Out], into: Out, u: &mut Unit) -> Result<Out, Memory>
+    ensures draft { IfOk result (λ out. reduced op elem parts.now into (draft u.old) ≡ Makes out (draft u.new)) }
+{
+    let source = part_field(parts, 0)?;
     let dest = into.register()?;
-    let combiner = fold_of(reduce_op(op), promoted_signed(ty.elem));
     put(
         u,
         Instr::Global {
-            combiner,
+            combiner: fold_of(reduce_op(op), promoted_signed(elem)),
             dest,
             source,
         },
     )?;
-    if op == ReduceOp::Sub {
-        put(u, Instr::FrontNegate { dest, source: dest })?;
-    }
+    negate_by(op, dest, u)?;
     Ok(into)
 }
 
+/// The negative of a register, behind `-=`.
+#[tactic(auto, unfolding(crate::specs::Messages::negated_by))]
+fn negate_by(op: ReduceOp, dest: u32, u: &mut Unit) -> Result<(), Memory>
+    ensures draft { OnOk result (negated_by op dest (draft u.old) ≡ draft u.new) }
+{
+    match op {
+        ReduceOp::Sub => put(u, Instr::FrontNegate { dest, source: dest }),
+        _ => Ok(()),
+    }
+}
+
 /// The variable that a left index is before, maybe in brackets.
-fn indexed(e: &TExpr) -> Option<Variable> {
+#[tactic(auto, unfolding(crate::specs::Messages::indexed))]
+fn indexed(e: &TExpr) -> Option<Variable>
+    ensures { result ≡ indexed e.now }
+{
     match e {
         TExpr::Brackets { inner, .. } => indexed(inner),
         TExpr::LeftIndex { variable, .. } => Some(*variable),
@@ -436,7 +247,10 @@ fn indexed(e: &TExpr) -> Option<Variable> {
 }
 
 /// The field of the variable of a left index.
-fn indexed_field(t: &Typed, names: &Names, e: &TExpr, u: &mut Unit) -> Result<Field, Memory> {
+#[tactic(auto, unfolding(crate::specs::Messages::indexed_field, crate::specs::Drafts::from))]
+fn indexed_field(t: &Typed, names: &Names, e: &TExpr, u: &mut Unit) -> Result<Field, Memory>
+    ensures draft { IfOk result (λ f. indexed_field t.now (layout names.now) e.now (draft u.old) ≡ Makes f (draft u.new)) }
+{
     match indexed(e) {
         Some(variable) => names.field(t, variable, 0, u),
         None => Err(Memory),
@@ -444,6 +258,7 @@ fn indexed_field(t: &Typed, names: &Names, e: &TExpr, u: &mut Unit) -> Result<Fi
 }
 
 /// A store to one element.
+#[tactic(auto, unfolding(crate::specs::Messages::stored, crate::specs::Messages::part_register, crate::specs::Messages::part_field, crate::specs::Drafts::from, crate::specs::Drafts::in_register, crate::specs::Drafts::in_field, crate::specs::Drafts::then_make))]
 fn store(
     t: &Typed,
     names: &Names,
@@ -451,9 +266,11 @@ fn store(
     processor: u32,
     parts: &[Out],
     u: &mut Unit,
-) -> Result<Out, Memory> {
+) -> Result<Out, Memory>
+    ensures draft { IfOk result (λ out. stored t.now (layout names.now) target.now processor parts.now (draft u.old) ≡ Makes out (draft u.new)) }
+{
     let dest = indexed_field(t, names, target, u)?;
-    let value = part(parts, 0)?.register()?;
+    let value = part_register(parts, 0)?;
     put(
         u,
         Instr::WriteToProcessor {
@@ -465,8 +282,8 @@ fn store(
     Ok(Out::Nothing)
 }
 
-/// A send: without a combiner of a value of the target's width, else of 32 bits. What is to be
-/// subtracted is added as its negative.
+/// A send through a left index.
+#[tactic(auto, unfolding(crate::specs::Messages::sent, crate::specs::Messages::part_register, crate::specs::Messages::part_field, crate::specs::Drafts::from, crate::specs::Drafts::in_register, crate::specs::Drafts::in_field, crate::specs::Drafts::then_make))]
 fn send(
     t: &Typed,
     names: &Names,
@@ -476,10 +293,27 @@ fn send(
     address: Field,
     parts: &[Out],
     u: &mut Unit,
-) -> Result<Out, Memory> {
+) -> Result<Out, Memory>
+    ensures draft { IfOk result (λ out. sent t.now (layout names.now) target.now op signed address parts.now (draft u.old) ≡ Makes out (draft u.new)) }
+{
     let dest = indexed_field(t, names, target, u)?;
-    let kind = target.ty().elem;
-    let value = part(parts, 0)?.field()?;
+    let value = part_field(parts, 0)?;
+    send_to(op, signed, target.ty().elem, dest, address, value, u)
+}
+
+/// A send to a field: without a combiner of a value of the field's width, else of 32 bits.
+#[tactic(auto, unfolding(crate::specs::Messages::sent_to, crate::specs::Drafts::then_make))]
+fn send_to(
+    op: Option<Op>,
+    signed: bool,
+    kind: Elem,
+    dest: Field,
+    address: Field,
+    value: Field,
+    u: &mut Unit,
+) -> Result<Out, Memory>
+    ensures draft { IfOk result (λ out. sent_to op signed kind dest address value (draft u.old) ≡ Makes out (draft u.new)) }
+{
     let Some(op) = op else {
         let source = crate::emit::entry(u, value.set, dest.len, Owner::Own)?;
         put(
@@ -501,22 +335,11 @@ fn send(
         )?;
         return Ok(Out::Nothing);
     };
-    let mut source = value;
-    if op == Op::Sub {
-        source = field(u, value.set)?;
-        put(
-            u,
-            Instr::Negate {
-                dest: source,
-                source: value,
-            },
-        )?;
-    }
-    let combiner = fold_of(op, signed);
+    let source = sent_value(op, value, u)?;
     put(
         u,
         Instr::SendWithCombiner {
-            combiner,
+            combiner: fold_of(op, signed),
             dest,
             kind,
             address,
@@ -524,6 +347,27 @@ fn send(
         },
     )?;
     Ok(Out::Nothing)
+}
+
+/// What is sent with a combiner. What is to be subtracted is added as its negative.
+#[tactic(auto, unfolding(crate::specs::Messages::sent_value, crate::specs::Drafts::then_make))]
+fn sent_value(op: Op, value: Field, u: &mut Unit) -> Result<Field, Memory>
+    ensures draft { IfOk result (λ f. sent_value op value (draft u.old) ≡ Makes f (draft u.new)) }
+{
+    match op {
+        Op::Sub => {
+            let source = field(u, value.set)?;
+            put(
+                u,
+                Instr::Negate {
+                    dest: source,
+                    source: value,
+                },
+            )?;
+            Ok(source)
+        }
+        _ => Ok(value),
+    }
 }
 
 /// How a scan goes along its lines.
@@ -535,6 +379,33 @@ struct Line {
     inclusion: Inclusion,
 }
 
+/// An enumeration: a scan of ones.
+#[tactic(auto, unfolding(crate::specs::Messages::enumerated, crate::specs::Drafts::in_field, crate::specs::Drafts::then_make))]
+fn enumerate(
+    t: &Typed,
+    names: &Names,
+    line: Line,
+    bit: Option<Variable>,
+    into: Out,
+    u: &mut Unit,
+) -> Result<Out, Memory>
+    ensures draft { IfOk result (λ out. enumerated t.now (layout names.now) line bit into (draft u.old) ≡ Makes out (draft u.new)) }
+{
+    let dest = into.field()?;
+    let ones = field(u, dest.set)?;
+    put(
+        u,
+        Instr::MoveConstant {
+            dest: ones,
+            value: Konst::Imm(1),
+        },
+    )?;
+    let bits = segment_field(t, names, bit, u)?;
+    scan(Reduction::SAdd, ones, line, bits, into, u)
+}
+
+/// A scan along its lines.
+#[tactic(auto, unfolding(crate::specs::Messages::scanned, crate::specs::Drafts::in_field))]
 fn scan(
     combiner: Reduction,
     source: Field,
@@ -542,7 +413,9 @@ fn scan(
     bit: Option<Field>,
     into: Out,
     u: &mut Unit,
-) -> Result<Out, Memory> {
+) -> Result<Out, Memory>
+    ensures draft { IfOk result (λ out. scanned combiner source line bit into (draft u.old) ≡ Makes out (draft u.new)) }
+{
     let dest = into.field()?;
     put(
         u,
@@ -561,14 +434,20 @@ fn scan(
 }
 
 /// The field of a scan's segment bits.
+#[tactic(auto, unfolding(crate::specs::Messages::segment_field, crate::specs::Drafts::then_make))]
 fn segment_field(
     t: &Typed,
     names: &Names,
     bit: Option<Variable>,
     u: &mut Unit,
-) -> Result<Option<Field>, Memory> {
+) -> Result<Option<Field>, Memory>
+    ensures draft { IfOk result (λ bits. segment_field t.now (layout names.now) bit (draft u.old) ≡ Makes bits (draft u.new)) }
+{
     match bit {
-        Some(variable) => Ok(Some(names.field(t, variable, 0, u)?)),
+        Some(variable) => {
+            let bits = names.field(t, variable, 0, u)?;
+            Ok(Some(bits))
+        }
         None => Ok(None),
     }
 }

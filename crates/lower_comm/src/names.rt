@@ -2,14 +2,16 @@
 //! and behind them, for each function, its parameters, its result and the variables of its blocks.
 //! Instances of one function share these, as a function is never called while it runs.
 
-ghost use Rattle.std.specs.Prelude.{◌≡◌, IfOk};
+ghost use Rattle.std.specs.Prelude.{◌≡◌, ℕ, ◌+◌, ◌++◌, length, map, fold, IfOk, OnOk};
+ghost use Rattle.cstar_tree.specs.declared.typed.LocalVar.{LocalVar};
+ghost use Rattle.cstar_tree.specs.TypedParts.{concat};
 ghost use Rattle.lower_comm.specs.Drafts.{Makes, draft, from, an_entry};
 ghost use Rattle.paris_code.specs.declared.program.Owner.TheVariants as W;
-ghost use Rattle.lower_comm.specs.Layouts.{layout, entries_of, elements_of, result_register, register_of, own_field, field_of};
+ghost use Rattle.lower_comm.specs.Layouts.{layout, entries_of, elements_of, result_register, register_of, own_field, field_of, first_fields, behind, param_entries, variables_of, numbered, nothing_numbered, with_local, first_named, earlier_base, with_instance, registers_of, entered, layout_of};
 
 use crate::emit::plus;
 use cstar_base::Memory;
-use cstar_tree::typed::{Instance, TStmt, Typed, VarInfo, Variable};
+use cstar_tree::typed::{Instance, LocalVar, TStmt, Typed, VarInfo, Variable};
 use paris_code::{Field, Owner, Unit};
 use std::alloc::Global;
 
@@ -44,50 +46,32 @@ pub struct Names {
 
 impl Names {
     /// The numbering as `main` sees it.
-    pub fn of(alloc: Global, t: &Typed) -> Result<Names, Memory> {
+    #[tactic(auto, unfolding(crate::specs::Layouts::layout_of, crate::specs::Layouts::layout))]
+    pub fn of(alloc: Global, t: &Typed) -> Result<Names, Memory>
+        ensures { IfOk result (λ names. layout names ≡ layout_of t.now 0) }
+    {
+        let files = first_fields(alloc, &t.vars)?;
+        let mut end = count(t.vars.len())?;
+        let bases = bases_of(alloc, &t.instances, &mut end)?;
         let mut names = Names {
-            files: Vec::new(alloc),
-            bases: Vec::new(alloc),
-            end: 0,
+            files,
+            bases,
+            end,
             base: 0,
             params: Vec::new(alloc),
             outcome: 0,
             locals: Vec::new(alloc),
             homes: 0,
         };
-        names.end = number_files(t, &mut names.files)?;
-        for instance in &t.instances {
-            let base = names.base_of(t, instance)?;
-            names.bases.push(base)?;
-        }
         names.enter(t, 0)?;
         Ok(names)
     }
 
-    /// Where an instance's registers begin: where those of an earlier one of its function do, or
-    /// else behind all others.
-    fn base_of(&mut self, t: &Typed, instance: &Instance) -> Result<u32, Memory> {
-        if let Some(earlier) = named(t, instance.name.bytes()) {
-            if let Some(base) = self.bases.get(earlier) {
-                return Ok(*base);
-            }
-        }
-        let base = self.end;
-        self.locals.clear();
-        self.homes = 0;
-        number_locals(&instance.body, &mut self.locals, &mut self.homes)?;
-        let scalars = count(self.locals.len())?;
-        let params = count(instance.params.len())?;
-        self.end = plus(plus(plus(base, scalars)?, params)?, 1)?;
-        Ok(base)
-    }
-
     /// The numbering as an instance sees it.
-    pub fn enter(&mut self, t: &Typed, number: usize) -> Result<(), Memory> {
-        self.params.clear();
-        self.locals.clear();
-        self.homes = 0;
-        self.outcome = 0;
+    #[tactic(auto, unfolding(crate::specs::Layouts::entered, crate::specs::Layouts::layout))]
+    pub fn enter(&mut self, t: &Typed, number: usize) -> Result<(), Memory>
+        ensures { OnOk result (layout self.new ≡ entered t.now number (layout self.old)) }
+    {
         let Some(base) = self.bases.get(number) else {
             return Err(Memory);
         };
@@ -95,12 +79,10 @@ impl Names {
         let Some(instance) = t.instances.get(number) else {
             return Err(Memory);
         };
-        for param in &instance.params {
-            self.params.push(self.outcome)?;
-            if param.shape.is_some() {
-                self.outcome = plus(self.outcome, 1)?;
-            }
-        }
+        self.params.clear();
+        self.outcome = number_params(&instance.params, &mut self.params)?;
+        self.locals.clear();
+        self.homes = 0;
         number_locals(&instance.body, &mut self.locals, &mut self.homes)
     }
 
@@ -184,8 +166,18 @@ impl Names {
 }
 
 /// The instance that a name first has.
-pub fn named(t: &Typed, name: &[u8]) -> Option<usize> {
-    for (number, instance) in t.instances.iter().enumerate() {
+pub fn named(t: &Typed, name: &[u8]) -> Option<usize>
+    ensures { result ≡ first_named 0 name.now t.now.instances.items }
+{
+    first_named(&t.instances, name)
+}
+
+/// The first instance with a name.
+#[tactic(auto, unfolding(crate::specs::Layouts::first_named))]
+fn first_named(instances: &[Instance], name: &[u8]) -> Option<usize>
+    ensures { result ≡ first_named 0 name.now instances.now }
+{
+    for (number, instance) in instances.iter().enumerate() {
         if instance.name.bytes() == name {
             return Some(number);
         }
@@ -240,30 +232,117 @@ pub fn count(n: usize) -> Result<u32, Memory>
     }
 }
 
-/// Numbers the fields of the file, and answers how many variables it has.
-fn number_files(t: &Typed, files: &mut Vec<u32>) -> Result<u32, Memory> {
+/// The number of the first field of each variable of the file.
+#[tactic(auto, unfolding(crate::specs::Layouts::first_fields))]
+fn first_fields(alloc: Global, vars: &[VarInfo]) -> Result<Vec<u32>, Memory>
+    ensures { IfOk result (λ files. files.items ≡ first_fields 0 vars.now) }
+{
+    let mut files = Vec::new(alloc);
     let mut next = 0;
-    for info in &t.vars {
+    for info in vars {
         files.push(next)?;
         next = plus(next, entries_of(info))?;
     }
-    count(t.vars.len())
+    Ok(files)
+}
+
+/// The first registers of all instances, behind those of the file. `end` moves behind them.
+fn bases_of(alloc: Global, instances: &[Instance], end: &mut u32) -> Result<Vec<u32>, Memory>
+    ensures { IfOk result (λ bases. registers_of instances.now end.old ≡ record { bases = bases.items; end = end.new }) }
+{
+    let mut bases = Vec::new(alloc);
+    for instance in instances {
+        add_base(alloc, instances, instance, &mut bases, end)?;
+    }
+    Ok(bases)
+}
+
+/// The first register of one more instance: where those of an earlier one of its function begin,
+/// or else behind all others.
+#[tactic(auto, unfolding(crate::specs::Layouts::with_instance))]
+fn add_base(
+    alloc: Global,
+    instances: &[Instance],
+    instance: &Instance,
+    bases: &mut Vec<u32>,
+    end: &mut u32,
+) -> Result<(), Memory>
+    ensures {
+        OnOk result (with_instance instances.now (record { bases = bases.old.items; end = end.old }) instance.now
+            ≡ record { bases = bases.new.items; end = end.new })
+    }
+{
+    if let Some(base) = earlier_base(instances, bases, instance) {
+        bases.push(base)?;
+        return Ok(());
+    }
+    bases.push(*end)?;
+    *end = plus(*end, size_of(alloc, instance)?)?;
+    Ok(())
+}
+
+/// Where the registers of an earlier instance of the same function begin.
+#[tactic(auto, unfolding(crate::specs::Layouts::earlier_base))]
+fn earlier_base(instances: &[Instance], bases: &[u32], instance: &Instance) -> Option<u32>
+    ensures { (end : ℕ) → result ≡ earlier_base instances.now (record { bases = bases.now; end = end }) instance.now }
+{
+    let earlier = first_named(instances, instance.name.bytes())?;
+    bases.get(earlier).copied()
+}
+
+/// How many registers an instance has.
+fn size_of(alloc: Global, instance: &Instance) -> Result<u32, Memory>
+    ensures { IfOk result (λ n. n ≡ length (numbered (variables_of instance.now.body) nothing_numbered).locals + length instance.now.params.items + 1) }
+{
+    let mut locals = Vec::new(alloc);
+    let mut homes = 0;
+    number_locals(&instance.body, &mut locals, &mut homes)?;
+    let scalars = count(locals.len())?;
+    let params = count(instance.params.len())?;
+    plus(plus(scalars, params)?, 1)
+}
+
+/// Numbers the parameters, and answers how many of them are parallel.
+#[tactic(auto, unfolding(crate::specs::Layouts::param_entries))]
+fn number_params(params: &[VarInfo], entries: &mut Vec<u32>) -> Result<u32, Memory>
+    ensures entries { OnOk result (entries.new.items ≡ entries.old.items ++ param_entries 0 params.now) }
+    ensures outcome { IfOk result (λ n. n ≡ fold behind 0 params.now) }
+{
+    let mut next = 0;
+    for info in params {
+        entries.push(next)?;
+        next = behind(next, info)?;
+    }
+    Ok(next)
+}
+
+/// The number behind a variable, where the parallel ones are counted.
+#[tactic(auto, unfolding(crate::specs::Layouts::behind))]
+fn behind(next: u32, info: &VarInfo) -> Result<u32, Memory>
+    ensures { IfOk result (λ n. n ≡ behind next info.now) }
+{
+    match info.shape {
+        Some(_) => plus(next, 1),
+        None => Ok(next),
+    }
 }
 
 /// Numbers the variables of a statement's blocks, in the order of the text.
-fn number_locals(s: &TStmt, locals: &mut Vec<LocalName>, homes: &mut u32) -> Result<(), Memory> {
+#[cycle(locals)]
+#[tactic(auto, unfolding(crate::specs::Layouts::variables_step, crate::specs::Layouts::declared_by, cstar_tree::specs::TypedParts::concat))]
+fn number_locals(s: &TStmt, locals: &mut Vec<LocalName>, homes: &mut u32) -> Result<(), Memory>
+    ensures {
+        OnOk result (numbered (variables_of s.now) (record { locals = locals.old.items; homes = homes.old })
+            ≡ record { locals = locals.new.items; homes = homes.new })
+    }
+{
     match s {
         TStmt::Block {
             locals: declared,
             statements,
         } => {
-            for local in declared {
-                add_local(&local.info, locals, homes)?;
-            }
-            for inner in statements {
-                number_locals(inner, locals, homes)?;
-            }
-            Ok(())
+            number_declared(declared, locals, homes)?;
+            number_each(statements, locals, homes)
         }
         TStmt::If {
             then,
@@ -290,15 +369,55 @@ fn number_locals(s: &TStmt, locals: &mut Vec<LocalName>, homes: &mut u32) -> Res
     }
 }
 
+/// Numbers the variables of the blocks in statements.
+#[cycle(locals)]
+#[tactic(auto, unfolding(cstar_tree::specs::TypedParts::concat))]
+fn number_each(
+    statements: &[TStmt],
+    locals: &mut Vec<LocalName>,
+    homes: &mut u32,
+) -> Result<(), Memory>
+    ensures {
+        OnOk result (numbered (concat (map variables_of statements.now)) (record { locals = locals.old.items; homes = homes.old })
+            ≡ record { locals = locals.new.items; homes = homes.new })
+    }
+{
+    for statement in statements {
+        number_locals(statement, locals, homes)?;
+    }
+    Ok(())
+}
+
+/// Numbers the variables that a block declares.
+#[tactic(auto, unfolding(crate::specs::Layouts::numbered))]
+fn number_declared(
+    declared: &[LocalVar],
+    locals: &mut Vec<LocalName>,
+    homes: &mut u32,
+) -> Result<(), Memory>
+    ensures {
+        OnOk result (numbered (map (λ (local : LocalVar). local.info) declared.now) (record { locals = locals.old.items; homes = homes.old })
+            ≡ record { locals = locals.new.items; homes = homes.new })
+    }
+{
+    for local in declared {
+        add_local(&local.info, locals, homes)?;
+    }
+    Ok(())
+}
+
 /// One more variable of a block.
-fn add_local(info: &VarInfo, locals: &mut Vec<LocalName>, homes: &mut u32) -> Result<(), Memory> {
-    let entries = entries_of(info);
+#[tactic(auto, unfolding(crate::specs::Layouts::with_local))]
+fn add_local(info: &VarInfo, locals: &mut Vec<LocalName>, homes: &mut u32) -> Result<(), Memory>
+    ensures {
+        OnOk result (with_local (record { locals = locals.old.items; homes = homes.old }) info.now
+            ≡ record { locals = locals.new.items; homes = homes.new })
+    }
+{
     locals.push(LocalName {
         home: *homes,
-        entries,
+        entries: entries_of(info),
     })?;
-    if info.shape.is_some() {
-        *homes = plus(*homes, 1)?;
-    }
+    *homes = behind(*homes, info)?;
     Ok(())
 }
