@@ -50,7 +50,7 @@ length_of_call t l ty instance arguments =
 pub length_of_left_index : (t : Typed) (l : Layout) (ty : ValueType) (place : Place) (indexes : Vec TExpr Global) (x : Variable) (of : ℕ) →
     length_of t l (T.LeftIndex ty place indexes x of)
     ≡ (if goes_by_news (T.LeftIndex ty place indexes x of) then news_length of indexes.items
-       else (2 + lengths_in t l indexes.items) + read_length ty.shape)
+    else (2 + lengths_in t l indexes.items) + read_length ty.shape)
 unfolding length_of
 length_of_left_index t l ty place indexes x of =
     let e = T.LeftIndex ty place indexes x of in
@@ -95,14 +95,14 @@ values_of_items t l n row items same outs d = values_of_row t l n row outs d ∙
 pub value_of_call : (t : Typed) (l : Layout) (ty : ValueType) (instance : ℕ) (arguments : Vec TExpr Global) (d : Draft) →
     value_of t l (T.Call ty instance arguments) d
     ≡ then_make (fresh_for ty.shape d) (λ dest begun. then_make (values_in t l arguments.items [] begun)
-      (λ given after. called t l instance given dest after))
+    (λ given after. called t l instance given dest after))
 unfolding value_of
 value_of_call t l ty instance arguments d =
     let row = row_of (T.Call ty instance arguments) in
     same_behind (fresh_for ty.shape d) (λ dest begun. then_make (values_of t l row.1 [] begun) (λ given after. called t l instance given dest after))
     (λ dest begun. then_make (values_in t l arguments.items [] begun) (λ given after. called t l instance given dest after))
     (λ dest begun. ap (λ (m : Made (List Out)). then_make m (λ given after. called t l instance given dest after))
-      (values_of_items t l row.0 row.1 arguments.items (items_hidden-the_row-TExpr-0 arguments) [] begun))
+    (values_of_items t l row.0 row.1 arguments.items (items_hidden-the_row-TExpr-0 arguments) [] begun))
 
 pub value_of_printf : (t : Typed) (l : Layout) (ty : ValueType) (pieces : Vec Piece Global) (arguments : Vec TExpr Global) (d : Draft) →
     value_of t l (T.Printf ty pieces arguments) d
@@ -116,7 +116,7 @@ value_of_printf t l ty pieces arguments d =
 pub value_of_left_index : (t : Typed) (l : Layout) (ty : ValueType) (place : Place) (indexes : Vec TExpr Global) (x : Variable) (of : ℕ) (d : Draft) →
     value_of t l (T.LeftIndex ty place indexes x of) d
     ≡ (if goes_by_news (T.LeftIndex ty place indexes x of) then news_by t l (T.LeftIndex ty place indexes x of) ty d
-       else read_by t l (T.LeftIndex ty place indexes x of) ty (spot_of t l (T.LeftIndex ty place indexes x of)) d)
+    else read_by t l (T.LeftIndex ty place indexes x of) ty (spot_of t l (T.LeftIndex ty place indexes x of)) d)
 unfolding value_of spot_of
 value_of_left_index t l ty place indexes x of d = refl
 
@@ -130,4 +130,4 @@ spot_of_left_index t l ty place indexes x of d =
     (λ at begun. then_make (values_of t l row.1 [] begun) (λ parts between. then_make (located e parts at between) (λ out after. Makes (S.Indexed out) after)))
     (λ at begun. then_make (values_in t l indexes.items [] begun) (λ parts between. then_make (located e parts at between) (λ out after. Makes (S.Indexed out) after)))
     (λ at begun. ap (λ (m : Made (List Out)). then_make m (λ parts between. then_make (located e parts at between) (λ out after. Makes (S.Indexed out) after)))
-      (values_of_items t l row.0 row.1 indexes.items (items_hidden-the_row-TExpr-0 indexes) [] begun))
+    (values_of_items t l row.0 row.1 indexes.items (items_hidden-the_row-TExpr-0 indexes) [] begun))

@@ -47,7 +47,7 @@ unfoldable pub argument_passed : ℕ → VarInfo → ℕ → ℕ → Out → Dra
 argument_passed unit param register index v d = elim param.shape [
   | None ↦ then_make (put_value (O.Scalar register) v d) (λ _ after. Makes index after)
   | Some set ↦ then_make (zeroed_entry unit set param.elem.bits index d) (λ place between.
-    then_make (put_in_field place v between) (λ _ after. Makes (index + 1) after))
+      then_make (put_in_field place v between) (λ _ after. Makes (index + 1) after))
 ]
 
 -- each parameter takes its argument, and then the instance is called

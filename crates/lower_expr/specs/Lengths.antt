@@ -147,7 +147,7 @@ assign_length t l op target there n e =
     else elim (assign_op_of op) [
       | None ↦ set_length (is_none (type_of target).shape) (there + store_length t l target) n e
       | Some o ↦ compound_length (is_none (type_of target).shape) (type_of target).elem
-        ((there + store_length t l target) + load_length t l target) o n e
+          ((there + store_length t l target) + load_length t l target) o n e
     ]
 
 unfoldable pub step_once_length : Bool → ℕ
@@ -157,7 +157,7 @@ step_once_length scalar = if scalar then 2 else 1
 unfoldable pub step_length : Typed → Layout → TExpr → ℕ → ℕ
 step_length t l target there =
     (there + (step_once_length (is_none (type_of target).shape)
-      + conversion_length (is_none (type_of target).shape) (type_of target).elem))
+    + conversion_length (is_none (type_of target).shape) (type_of target).elem))
     + (load_length t l target + store_length t l target)
 
 -- a unary reduction beside its operand

@@ -31,7 +31,7 @@ unfoldable pub skips_unless : ℕ → ℕ → Draft → Made ℕ
 skips_unless index number d =
     then_make (a_register d)
     (λ test after. Makes test (with_instr (I.FrontJumpZero test (here after + 4))
-      (with_instr (I.FrontCompare C.UEq test index test) (with_instr (I.FrontConst test number) after))))
+    (with_instr (I.FrontCompare C.UEq test index test) (with_instr (I.FrontConst test number) after))))
 
 -- a copy of a field of a variable, read signed or not
 unfoldable pub field_loaded : Typed → Layout → Bool → Variable → ℕ → Field → Draft → Made Out

@@ -84,8 +84,8 @@ unfoldable pub field_converted : Field → Elem → Draft → Made Out
 field_converted f elem d =
     if elem.bits == 1 then put_test f (with_instr (I.NeZero f) d)
     else (if nat_lt elem.bits 32 then Makes (O.Field f)
-      (with_instr (I.OperateConstant (shifted_back elem.signed) f f (K.Imm (32 - elem.bits)))
-      (with_instr (I.OperateConstant Act.UShiftLeft f f (K.Imm (32 - elem.bits))) d))
+    (with_instr (I.OperateConstant (shifted_back elem.signed) f f (K.Imm (32 - elem.bits)))
+    (with_instr (I.OperateConstant Act.UShiftLeft f f (K.Imm (32 - elem.bits))) d))
     else Makes (O.Field f) d)
 
 -- a value converted in place

@@ -63,7 +63,7 @@ spread_into code e dest d = elim (word_of e) [
 unfoldable pub spread_by : Code → TExpr → ℕ → Draft → Made Out
 spread_by code e set d =
     if is_kept e then then_make (a_field set d) (λ dest between. then_make (spread_into code e dest between)
-      (λ f after. Makes (O.Field f) after))
+    (λ f after. Makes (O.Field f) after))
     else code d
 
 -- the right operand of a parallel operation: a constant that the operation takes has no code
@@ -162,7 +162,7 @@ unfoldable pub parallel_ended : Bool → Field → Field → Bool → Out → Dr
 parallel_ended is_or dest saved kept w d =
     then_make (narrowed_again is_or kept w d)
     (λ _ after. Makes (O.Field dest) (with_instr (I.LoadContext saved)
-      (with_instr (I.MoveConstant dest (K.Imm (from_bool (not is_or)))) after)))
+    (with_instr (I.MoveConstant dest (K.Imm (from_bool (not is_or)))) after)))
 
 unfoldable pub limited_by : Bool → Field → Field → Out → Code → Bool → Draft → Made Out
 limited_by is_or dest saved v second kept d =
@@ -288,7 +288,7 @@ step_operation Sp.Decrement = Act.SSubtract
 unfoldable pub stepped_once : StepOp → Out → Out → Draft → Made Out
 stepped_once op old (O.Scalar dest) d =
     in_register old (λ r. Makes (O.Scalar dest)
-      (with_instr (I.FrontOperate (step_operation op) dest r dest) (with_instr (I.FrontConst dest 1) d)))
+    (with_instr (I.FrontOperate (step_operation op) dest r dest) (with_instr (I.FrontConst dest 1) d)))
 stepped_once op old (O.Field dest) d =
     in_field old (λ f. Makes (O.Field dest) (with_instr (I.OperateConstant (step_operation op) dest f (K.Imm 1)) d))
 stepped_once op old O.Nothing d = Fails

@@ -33,7 +33,16 @@ pub fn enter(
     ) else {
         return Err(Memory);
     };
-    pass_all(number, callee, callee.params.as_slice(), arguments, *base, 0, dest, u)
+    pass_all(
+        number,
+        callee,
+        callee.params.as_slice(),
+        arguments,
+        *base,
+        0,
+        dest,
+        u,
+    )
 }
 
 /// Each parameter takes its argument, and then the instance is called.

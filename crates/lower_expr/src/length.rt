@@ -509,7 +509,10 @@ fn step_length(t: &Typed, names: &Names, target: &TExpr, there: u32) -> Result<u
     ensures { IfOk result (λ n. n ≡ step_length t.now (layout names.now) target.now there) }
 {
     let ty = target.ty();
-    let own = plus(step_once_length(ty.shape.is_none()), conversion(ty.shape.is_none(), ty.elem))?;
+    let own = plus(
+        step_once_length(ty.shape.is_none()),
+        conversion(ty.shape.is_none(), ty.elem),
+    )?;
     let loaded = load_length(t, names, target)?;
     let stored = store_length(t, names, target)?;
     plus(plus(there, own)?, plus(loaded, stored)?)

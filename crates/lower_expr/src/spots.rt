@@ -261,11 +261,7 @@ pub fn check_index(
 
 /// One coordinate for each axis of the shape, all in this register.
 #[tactic(auto, unfolding(crate::specs::Spots::everywhere_at))]
-fn outside(
-    alloc: Global,
-    extents: &[u32],
-    register: u32,
-) -> Result<Vec<RegisterCoordinate>, Memory>
+fn outside(alloc: Global, extents: &[u32], register: u32) -> Result<Vec<RegisterCoordinate>, Memory>
     ensures { IfOk result (λ v. v.items ≡ everywhere_at register extents.now) }
 {
     let coordinates = extents

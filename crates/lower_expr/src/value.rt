@@ -162,9 +162,8 @@ pub fn value(
         TExpr::Variable { .. } | TExpr::Element { .. } => reference(alloc, t, names, e, u),
         TExpr::LeftIndex { .. } => indexed(alloc, t, names, e, u),
         TExpr::Assign { .. } => assignment(alloc, t, names, e, u),
-        TExpr::Step { .. } | TExpr::Reduce { .. } | TExpr::Scan { .. } | TExpr::Enumerate { .. } => {
-            message(alloc, t, names, e, u)
-        }
+        TExpr::Step { .. } | TExpr::Reduce { .. } | TExpr::Scan { .. } | TExpr::Enumerate { .. } =>
+            { message(alloc, t, names, e, u) }
         TExpr::Call { .. } | TExpr::Printf { .. } => called(alloc, t, names, e, u),
     }
 }
@@ -213,13 +212,7 @@ fn cast_all(elems: &[Elem], register: u32, u: &mut Unit) -> Result<(), Memory>
 /// A unary or binary operator.
 #[cycle(value)]
 #[tactic(auto, unfolding(crate::specs::Values::value_of, crate::specs::Values::unary_by, crate::specs::Values::binary_at, lower_comm::specs::Drafts::then_make, lower_comm::specs::Drafts::in_register))]
-fn operator(
-    alloc: Global,
-    t: &Typed,
-    names: &Names,
-    e: &TExpr,
-    u: &mut Unit,
-) -> Result<Out, Memory>
+fn operator(alloc: Global, t: &Typed, names: &Names, e: &TExpr, u: &mut Unit) -> Result<Out, Memory>
     ensures draft { IfOk result (λ out. value_of t.now (layout names.now) e.now (draft u.old) ≡ Makes out (draft u.new)) }
 {
     match e {
@@ -271,13 +264,7 @@ fn is_plus(op: UnaryOp) -> bool
 /// An operator that chooses which of its operands are evaluated, and where.
 #[cycle(value)]
 #[tactic(auto, unfolding(crate::specs::Values::value_of, crate::specs::Values::logical_by, crate::specs::Values::choice_by, lower_comm::specs::Drafts::then_make))]
-fn chosen(
-    alloc: Global,
-    t: &Typed,
-    names: &Names,
-    e: &TExpr,
-    u: &mut Unit,
-) -> Result<Out, Memory>
+fn chosen(alloc: Global, t: &Typed, names: &Names, e: &TExpr, u: &mut Unit) -> Result<Out, Memory>
     ensures draft { IfOk result (λ out. value_of t.now (layout names.now) e.now (draft u.old) ≡ Makes out (draft u.new)) }
 {
     match e {
@@ -449,7 +436,14 @@ fn test_nonzero(dest: Field, v: Out, u: &mut Unit) -> Result<Out, Memory>
 
 /// The right operand decides the result at the positions that are left, and the context is restored.
 #[tactic(auto, unfolding(crate::specs::Values::parallel_ended, lower_comm::specs::Drafts::then_make))]
-fn end_parallel(is_or: bool, dest: Field, saved: Field, scalar: bool, w: Out, u: &mut Unit) -> Result<Out, Memory>
+fn end_parallel(
+    is_or: bool,
+    dest: Field,
+    saved: Field,
+    scalar: bool,
+    w: Out,
+    u: &mut Unit,
+) -> Result<Out, Memory>
     ensures draft { IfOk result (λ out. parallel_ended is_or dest saved scalar w (draft u.old) ≡ Makes out (draft u.new)) }
 {
     narrow_again(is_or, scalar, w, u)?;
@@ -566,13 +560,7 @@ fn reference(
 /// A get, or a read of one element.
 #[cycle(value)]
 #[tactic(auto, using(crate::proofs::Lists::value_of_left_index), unfolding(crate::specs::Values::read_by, lower_comm::specs::Drafts::then_make))]
-fn indexed(
-    alloc: Global,
-    t: &Typed,
-    names: &Names,
-    e: &TExpr,
-    u: &mut Unit,
-) -> Result<Out, Memory>
+fn indexed(alloc: Global, t: &Typed, names: &Names, e: &TExpr, u: &mut Unit) -> Result<Out, Memory>
     ensures draft { IfOk result (λ out. value_of t.now (layout names.now) e.now (draft u.old) ≡ Makes out (draft u.new)) }
 {
     match e {
@@ -609,13 +597,7 @@ fn by_news(
 /// Locates a target or a reference: its indexes, their range check, and the address.
 #[cycle(value)]
 #[tactic(auto, unfolding(crate::specs::Values::spot_of, crate::specs::Values::element_spot, crate::specs::Spots::variable_spot, lower_comm::specs::Drafts::then_make, lower_comm::specs::Drafts::in_register))]
-fn spot(
-    alloc: Global,
-    t: &Typed,
-    names: &Names,
-    e: &TExpr,
-    u: &mut Unit,
-) -> Result<Spot, Memory>
+fn spot(alloc: Global, t: &Typed, names: &Names, e: &TExpr, u: &mut Unit) -> Result<Spot, Memory>
     ensures draft { IfOk result (λ there. spot_of t.now (layout names.now) e.now (draft u.old) ≡ Makes there (draft u.new)) }
 {
     match e {
@@ -757,7 +739,9 @@ fn compound(
             let spare = field(u, set)?;
             let spot = spot(alloc, t, names, target, u)?;
             let v = right_operand(alloc, t, names, op, right, u)?;
-            update_field(t, names, e, op, signed, *place, target, dest, spare, spot, v, u)
+            update_field(
+                t, names, e, op, signed, *place, target, dest, spare, spot, v, u,
+            )
         }
         None => {
             let dest = register(u)?;
@@ -858,13 +842,7 @@ pub fn is_send(target: &TExpr) -> bool
 /// A step, a reduction, a scan or an enumeration.
 #[cycle(value)]
 #[tactic(auto, unfolding(crate::specs::Values::value_of, crate::specs::Values::step_by, crate::specs::Values::message_by, lower_comm::specs::Drafts::then_make))]
-fn message(
-    alloc: Global,
-    t: &Typed,
-    names: &Names,
-    e: &TExpr,
-    u: &mut Unit,
-) -> Result<Out, Memory>
+fn message(alloc: Global, t: &Typed, names: &Names, e: &TExpr, u: &mut Unit) -> Result<Out, Memory>
     ensures draft { IfOk result (λ out. value_of t.now (layout names.now) e.now (draft u.old) ≡ Makes out (draft u.new)) }
 {
     match e {
@@ -1000,13 +978,7 @@ fn step_operation(op: StepOp) -> paris_code::Operation
 /// A call or `printf`, behind the values of its arguments.
 #[cycle(value)]
 #[tactic(auto, using(crate::proofs::Lists::value_of_call, crate::proofs::Lists::value_of_printf), unfolding(lower_comm::specs::Drafts::then_make))]
-fn called(
-    alloc: Global,
-    t: &Typed,
-    names: &Names,
-    e: &TExpr,
-    u: &mut Unit,
-) -> Result<Out, Memory>
+fn called(alloc: Global, t: &Typed, names: &Names, e: &TExpr, u: &mut Unit) -> Result<Out, Memory>
     ensures draft { IfOk result (λ out. value_of t.now (layout names.now) e.now (draft u.old) ≡ Makes out (draft u.new)) }
 {
     match e {
