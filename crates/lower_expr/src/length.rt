@@ -6,9 +6,9 @@ ghost use Rattle.lower_comm.specs.Layouts.{layout};
 ghost use Rattle.lower_expr.specs.Steps.{is_kept};
 ghost use Rattle.lower_expr.specs.Lengths.{conversion_length, unary_length, operate_length, logical_length, spread_length, right_length, binary_length, spare_length, choice_length, step_once_length, params_length, news_move, is_checked, news_length, read_length, four_times, load_length, store_length, send_length, set_length, compound_length, assign_length, step_length, reduce_length, call_length, length_of, spot_length_of, lengths_in, spread_length_of};
 
+use crate::assign::is_send;
 use crate::spots::bare;
 use crate::steps::{constant_word, immediate, is_relation, stays_scalar};
-use crate::value::is_send;
 use cstar_base::{Elem, Memory, Op};
 use cstar_tree::syntax::{AssignOp, ReduceOp};
 use cstar_tree::typed::{TExpr, Typed, UnaryOp, VarInfo};
