@@ -138,9 +138,9 @@ with_instance instances r instance =
     elim (earlier_base instances r instance) [
       | Some base ↦ record r { bases = r.bases ++ base ∷ [] }
       | None ↦ record {
-          bases = r.bases ++ r.end ∷ [];
-          end = r.end + length (numbered (variables_of instance.body) nothing_numbered).locals + length instance.params.items + 1;
-        }
+        bases = r.bases ++ r.end ∷ [];
+        end = r.end + length (numbered (variables_of instance.body) nothing_numbered).locals + length instance.params.items + 1;
+      }
     ]
 
 unfoldable pub registers_of : List Instance → ℕ → Registers

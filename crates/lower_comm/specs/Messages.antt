@@ -30,7 +30,7 @@ use Rattle.lower_comm.specs.declared.gets.Hop.{Hop}
 use Rattle.lower_comm.specs.declared.messages.Line.{Line}
 use Rattle.lower_comm.specs.declared.news.NewsStep.{NewsStep}
 use Rattle.lower_comm.specs.Drafts.{Draft, Made, Makes, Fails, then_make, from, with_instr, with_step, a_register, a_field, an_entry, in_register, in_field, ChecksGrid, ChecksTarget, MakesAddress, FrontChecksTarget, FrontMakesAddress}
-use Rattle.lower_comm.specs.Layouts.{Layout, field_of}
+use Rattle.lower_comm.specs.Layouts.{Layout, field_of, first_named, layout_of}
 use Rattle.lower_comm.specs.News.{step_of}
 use Rattle.lower_comm.specs.Operators.{operation_of, assign_op_of, fold_of, reduce_op_of, scan_fold_of, is_signed}
 
@@ -243,3 +243,13 @@ communicated t l e at parts into d =
           enumerated t l (record { axis = axis; direction = direction; mode = mode; inclusion = inclusion }) bit into d
       | _ ↦ Fails
     ]
+
+-- a left index with the values of its indexes; a get by NEWS has none
+unfoldable pub reached : TExpr → List Out → Draft → Made Out
+reached e [] d = checked_grid e d
+reached e (out ∷ outs) d = then_make (address e d) (λ at after. located e (out ∷ outs) at after)
+
+-- one communication, as the first instance of this name sees the variables
+unfoldable pub communicated_by : Typed → List ℕ → TExpr → Out → List Out → Out → Draft → Made Out
+communicated_by t name e at parts into d =
+    from (first_named 0 name t.instances.items) (λ n. communicated t (layout_of t n) e at parts into d)

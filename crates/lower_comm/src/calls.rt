@@ -1,6 +1,8 @@
 //! The calls on a unit as `lower` has it when it comes to a communication.
 
-ghost use Rattle.std.specs.Prelude.{◌≡◌};
+ghost use Rattle.std.specs.Prelude.{◌≡◌, IfOk};
+ghost use Rattle.lower_comm.specs.Drafts.{Makes, draft};
+ghost use Rattle.lower_comm.specs.Messages.{reached, communicated_by};
 ghost use Rattle.lower_comm.specs.News.{goes_by_news};
 
 use crate::emit::Out;
@@ -21,24 +23,29 @@ pub fn by_news(_t: &Typed, e: &TExpr) -> bool
 /// Appends the range check of the left-indexed reference `e` and the making of its address, and
 /// answers the field or the register of the address. The indexes have one value for each axis, but
 /// for a get that goes by NEWS: there they are empty, and the answer is `Nothing`.
+#[tactic(auto, unfolding(crate::specs::Messages::reached, crate::specs::Drafts::then_make))]
 pub fn locate(
     alloc: Global,
     t: &Typed,
     e: &TExpr,
     indexes: &[Out],
     u: &mut Unit,
-) -> Result<Out, Memory> {
-    if indexes.is_empty() {
-        check_grid(alloc, e, u)
-    } else {
-        let at = address_of(e, u)?;
-        locate_in(alloc, e, indexes, at, u)
+) -> Result<Out, Memory>
+    ensures draft { IfOk result (λ out. reached e.now indexes.now (draft u.old) ≡ Makes out (draft u.new)) }
+{
+    match indexes {
+        [] => check_grid(alloc, e, u),
+        [_, ..] => {
+            let at = address_of(e, u)?;
+            locate_in(alloc, e, indexes, at, u)
+        }
     }
 }
 
 /// Appends the code of one communication, whose parts are in `parts`: a read or a store through the
 /// left index that was located at `at`, a reduction, a scan or an enumeration. `into` takes its
 /// result.
+#[tactic(auto, unfolding(crate::specs::Messages::communicated_by, crate::specs::Drafts::from))]
 pub fn comm(
     alloc: Global,
     t: &Typed,
@@ -47,7 +54,9 @@ pub fn comm(
     parts: &[Out],
     into: Out,
     u: &mut Unit,
-) -> Result<Out, Memory> {
+) -> Result<Out, Memory>
+    ensures draft { IfOk result (λ out. communicated_by t.now u.old.name e.now at parts.now into (draft u.old) ≡ Makes out (draft u.new)) }
+{
     let mut names = Names::of(alloc, t)?;
     let Some(instance) = named(t, u.name.bytes()) else {
         return Err(Memory);

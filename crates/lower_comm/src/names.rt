@@ -46,7 +46,7 @@ pub struct Names {
 
 impl Names {
     /// The numbering as `main` sees it.
-    #[tactic(auto, unfolding(crate::specs::Layouts::layout_of, crate::specs::Layouts::layout))]
+    #[tactic(auto, unfolding(crate::specs::Layouts::layout_of, crate::specs::Layouts::entered, crate::specs::Layouts::layout))]
     pub fn of(alloc: Global, t: &Typed) -> Result<Names, Memory>
         ensures { IfOk result (λ names. layout names ≡ layout_of t.now 0) }
     {
@@ -63,13 +63,20 @@ impl Names {
             locals: Vec::new(alloc),
             homes: 0,
         };
-        names.enter(t, 0)?;
+        names.see_as(t, 0)?;
         Ok(names)
     }
 
-    /// The numbering as an instance sees it.
-    #[tactic(auto, unfolding(crate::specs::Layouts::entered, crate::specs::Layouts::layout))]
+    /// The numbering as an instance sees it, whichever instance saw it before.
     pub fn enter(&mut self, t: &Typed, number: usize) -> Result<(), Memory>
+        ensures { (k : ℕ) → layout self.old ≡ layout_of t.now k → OnOk result (layout self.new ≡ layout_of t.now number) }
+    {
+        self.see_as(t, number)?;
+        Ok(())
+    }
+
+    #[tactic(auto, unfolding(crate::specs::Layouts::entered, crate::specs::Layouts::layout))]
+    fn see_as(&mut self, t: &Typed, number: usize) -> Result<(), Memory>
         ensures { OnOk result (layout self.new ≡ entered t.now number (layout self.old)) }
     {
         let Some(base) = self.bases.get(number) else {
@@ -247,6 +254,7 @@ fn first_fields(alloc: Global, vars: &[VarInfo]) -> Result<Vec<u32>, Memory>
 }
 
 /// The first registers of all instances, behind those of the file. `end` moves behind them.
+#[tactic(auto, unfolding(crate::specs::Layouts::registers_of))]
 fn bases_of(alloc: Global, instances: &[Instance], end: &mut u32) -> Result<Vec<u32>, Memory>
     ensures { IfOk result (λ bases. registers_of instances.now end.old ≡ record { bases = bases.items; end = end.new }) }
 {
@@ -267,10 +275,8 @@ fn add_base(
     bases: &mut Vec<u32>,
     end: &mut u32,
 ) -> Result<(), Memory>
-    ensures {
-        OnOk result (with_instance instances.now (record { bases = bases.old.items; end = end.old }) instance.now
-            ≡ record { bases = bases.new.items; end = end.new })
-    }
+    ensures { OnOk result (with_instance instances.now (record { bases = bases.old.items; end = end.old }) instance.now
+        ≡ record { bases = bases.new.items; end = end.new }) }
 {
     if let Some(base) = earlier_base(instances, bases, instance) {
         bases.push(base)?;
@@ -329,12 +335,10 @@ fn behind(next: u32, info: &VarInfo) -> Result<u32, Memory>
 
 /// Numbers the variables of a statement's blocks, in the order of the text.
 #[cycle(locals)]
-#[tactic(auto, unfolding(crate::specs::Layouts::variables_step, crate::specs::Layouts::declared_by, cstar_tree::specs::TypedParts::concat))]
+#[tactic(auto, using(crate::proofs::Numbering::numbered_append, crate::proofs::Numbering::numbered_none), unfolding(crate::specs::Layouts::variables_step, crate::specs::Layouts::declared_by, crate::specs::Layouts::numbered, cstar_tree::specs::TypedParts::concat))]
 fn number_locals(s: &TStmt, locals: &mut Vec<LocalName>, homes: &mut u32) -> Result<(), Memory>
-    ensures {
-        OnOk result (numbered (variables_of s.now) (record { locals = locals.old.items; homes = homes.old })
-            ≡ record { locals = locals.new.items; homes = homes.new })
-    }
+    ensures { OnOk result (numbered (variables_of s.now) (record { locals = locals.old.items; homes = homes.old })
+        ≡ record { locals = locals.new.items; homes = homes.new }) }
 {
     match s {
         TStmt::Block {
@@ -365,22 +369,21 @@ fn number_locals(s: &TStmt, locals: &mut Vec<LocalName>, homes: &mut u32) -> Res
         | TStmt::For { body, .. }
         | TStmt::With { body, .. }
         | TStmt::Everywhere { body, .. } => number_locals(body, locals, homes),
-        _ => Ok(()),
+        TStmt::Expression(_) | TStmt::Empty | TStmt::Break | TStmt::Continue | TStmt::Return(_) =>
+            Ok(()),
     }
 }
 
 /// Numbers the variables of the blocks in statements.
 #[cycle(locals)]
-#[tactic(auto, unfolding(cstar_tree::specs::TypedParts::concat))]
+#[tactic(auto)]
 fn number_each(
     statements: &[TStmt],
     locals: &mut Vec<LocalName>,
     homes: &mut u32,
 ) -> Result<(), Memory>
-    ensures {
-        OnOk result (numbered (concat (map variables_of statements.now)) (record { locals = locals.old.items; homes = homes.old })
-            ≡ record { locals = locals.new.items; homes = homes.new })
-    }
+    ensures { OnOk result (numbered (concat (map variables_of statements.now)) (record { locals = locals.old.items; homes = homes.old })
+        ≡ record { locals = locals.new.items; homes = homes.new }) }
 {
     for statement in statements {
         number_locals(statement, locals, homes)?;
@@ -395,10 +398,8 @@ fn number_declared(
     locals: &mut Vec<LocalName>,
     homes: &mut u32,
 ) -> Result<(), Memory>
-    ensures {
-        OnOk result (numbered (map (λ (local : LocalVar). local.info) declared.now) (record { locals = locals.old.items; homes = homes.old })
-            ≡ record { locals = locals.new.items; homes = homes.new })
-    }
+    ensures { OnOk result (numbered (map (λ (local : LocalVar). local.info) declared.now) (record { locals = locals.old.items; homes = homes.old })
+        ≡ record { locals = locals.new.items; homes = homes.new }) }
 {
     for local in declared {
         add_local(&local.info, locals, homes)?;
@@ -409,10 +410,8 @@ fn number_declared(
 /// One more variable of a block.
 #[tactic(auto, unfolding(crate::specs::Layouts::with_local))]
 fn add_local(info: &VarInfo, locals: &mut Vec<LocalName>, homes: &mut u32) -> Result<(), Memory>
-    ensures {
-        OnOk result (with_local (record { locals = locals.old.items; homes = homes.old }) info.now
-            ≡ record { locals = locals.new.items; homes = homes.new })
-    }
+    ensures { OnOk result (with_local (record { locals = locals.old.items; homes = homes.old }) info.now
+        ≡ record { locals = locals.new.items; homes = homes.new }) }
 {
     locals.push(LocalName {
         home: *homes,

@@ -1,0 +1,10 @@
+use Rattle.std.proofs.Common.{◌≡◌, map, drop}
+use Rattle.cstar_tree.specs.TypedParts.{concat}
+use Rattle.lower_comm.specs.Layouts.{Numbering, numbered, variables_of}
+use Rattle.lower_comm.proofs.names.+locals.Given as goal
+
+abbrev pub invariant-number_each-loop-statement : goal.invariant-number_each-loop-statement
+invariant-number_each-loop-statement l =
+    let start : Numbering = record { locals = l.initial.locals.items; homes = l.initial.homes } in
+    let now : Numbering = record { locals = l.locals.items; homes = l.homes } in
+    numbered (concat (map variables_of (drop l.statement-index l.statements))) now ≡ numbered (concat (map variables_of l.statements)) start
