@@ -27,7 +27,7 @@ use Rattle.paris_code.specs.declared.operands.Operation.TheVariants as Act
 use Rattle.lower_comm.specs.declared.emit.Out.{Out}
 use Rattle.lower_comm.specs.declared.emit.Out.TheVariants as O
 use Rattle.lower_comm.specs.Drafts.{Draft, Made, Makes, Fails, then_make, from, here, with_instr, a_register, a_field, a_flag, in_register, in_field}
-use Rattle.lower_comm.specs.Layouts.{Layout}
+use Rattle.lower_comm.specs.Layouts.{Layout, first_named, layout_of}
 use Rattle.lower_comm.specs.Messages.{address, located, checked_grid, communicated}
 use Rattle.lower_comm.specs.News.{goes_by_news}
 use Rattle.lower_comm.specs.Operators.{assign_op_of, is_signed}
@@ -395,3 +395,11 @@ compound_of t l _ op d = Fails
 -- the value of a parallel expression in a field, that of a promoted scalar too
 unfoldable pub spread_of : Typed → Layout → TExpr → ℕ → Draft → Made Out
 spread_of t l e set d = spread_by (value_of t l e) e set d
+
+-- an expression of the instance that the unit is named after; a parallel value is in a field
+unfoldable pub expression_of : Typed → List ℕ → TExpr → Draft → Made Out
+expression_of t name e d =
+    from (first_named 0 name t.instances.items) (λ n. elim (type_of e).shape [
+      | None ↦ value_of t (layout_of t n) e d
+      | Some set ↦ spread_of t (layout_of t n) e set d
+    ])
