@@ -386,6 +386,31 @@ unfoldable pub values_in : Typed → Layout → List TExpr → List Out → Draf
 values_in t l [] outs d = Makes outs d
 values_in t l (e ∷ rest) outs d = then_make (value_of t l e d) (λ v after. values_in t l rest (outs ++ v ∷ []) after)
 
+-- `&&` and `||` of scalars, and with a parallel operand; `?:` into this register or field
+unfoldable pub scalar_logical_of : Typed → Layout → TExpr → Draft → Made Out
+scalar_logical_of t l (T.LogicalOr' ty p left q right) d =
+    scalar_logical_by true (value_of t l left) (value_of t l right) (length_of t l right) d
+scalar_logical_of t l (T.LogicalAnd' ty p left q right) d =
+    scalar_logical_by false (value_of t l left) (value_of t l right) (length_of t l right) d
+scalar_logical_of t l _ d = Fails
+
+unfoldable pub parallel_logical_of : Typed → Layout → TExpr → ℕ → Draft → Made Out
+parallel_logical_of t l (T.LogicalOr' ty p left q right) set d =
+    parallel_logical_by true set (value_of t l left) (is_kept left) (value_of t l right) (is_kept right) (length_of t l right) d
+parallel_logical_of t l (T.LogicalAnd' ty p left q right) set d =
+    parallel_logical_by false set (value_of t l left) (is_kept left) (value_of t l right) (is_kept right) (length_of t l right) d
+parallel_logical_of t l _ set d = Fails
+
+unfoldable pub scalar_choice_of : Typed → Layout → TExpr → Out → Draft → Made Out
+scalar_choice_of t l (T.Choice' ty p test q first r second) dest d =
+    scalar_choice_by dest (value_of t l test) (value_of t l first) (value_of t l second) (length_of t l first) (length_of t l second) d
+scalar_choice_of t l _ dest d = Fails
+
+unfoldable pub parallel_choice_of : Typed → Layout → TExpr → Out → Draft → Made Out
+parallel_choice_of t l (T.Choice' ty p test q first r second) dest d =
+    parallel_choice_by dest (value_of t l test) (value_of t l first) (value_of t l second) d
+parallel_choice_of t l _ dest d = Fails
+
 -- an assignment with this operator
 unfoldable pub compound_of : Typed → Layout → TExpr → Op → Draft → Made Out
 compound_of t l (T.Assign' ty place o p target q value) op d =

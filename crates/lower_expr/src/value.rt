@@ -5,9 +5,7 @@
 ghost use Rattle.std.specs.Prelude.{◌≡◌, [], IfOk, OnOk};
 ghost use Rattle.lower_comm.specs.Drafts.{Makes, draft};
 ghost use Rattle.lower_comm.specs.Layouts.{layout};
-ghost use Rattle.lower_expr.specs.Lengths.{length_of};
-ghost use Rattle.lower_expr.specs.Steps.{is_kept};
-ghost use Rattle.lower_expr.specs.Values.{spread_into, right_by, scalar_logical_by, parallel_logical_by, scalar_choice_by, parallel_choice_by, value_of, spot_of, values_in, compound_of, spread_of};
+ghost use Rattle.lower_expr.specs.Values.{spread_into, right_by, scalar_logical_of, parallel_logical_of, scalar_choice_of, parallel_choice_of, value_of, spot_of, values_in, compound_of, spread_of};
 
 use crate::assign::{fold_into_register, is_send, step_in, update_field, update_register};
 use crate::leaves::{by_news, cast_all, coordinate, fresh, is_plus, next_byte, right_value};
@@ -193,31 +191,26 @@ fn operator(alloc: Global, t: &Typed, names: &Names, e: &TExpr, u: &mut Unit) ->
 
 /// An operator that chooses which of its operands are evaluated, and where.
 #[cycle(value)]
-#[tactic(auto, unfolding(crate::specs::Values::value_of, crate::specs::Values::logical_by, crate::specs::Values::choice_by, lower_comm::specs::Drafts::then_make))]
+#[tactic(auto, unfolding(crate::specs::Values::value_of, crate::specs::Values::logical_by, crate::specs::Values::choice_by, crate::specs::Values::scalar_logical_of, crate::specs::Values::parallel_logical_of, crate::specs::Values::scalar_choice_of, crate::specs::Values::parallel_choice_of, lower_comm::specs::Drafts::then_make))]
 fn chosen(alloc: Global, t: &Typed, names: &Names, e: &TExpr, u: &mut Unit) -> Result<Out, Memory>
     ensures draft { IfOk result (λ out. value_of t.now (layout names.now) e.now (draft u.old) ≡ Makes out (draft u.new)) }
 {
     match e {
-        TExpr::LogicalOr { ty, left, right } => match ty.shape {
-            None => scalar_logical(alloc, t, names, true, left, right, u),
-            Some(set) => parallel_logical(alloc, t, names, true, left, right, set, u),
+        TExpr::LogicalOr { ty, .. } => match ty.shape {
+            None => scalar_logical(alloc, t, names, e, u),
+            Some(set) => parallel_logical(alloc, t, names, e, set, u),
         },
-        TExpr::LogicalAnd { ty, left, right } => match ty.shape {
-            None => scalar_logical(alloc, t, names, false, left, right, u),
-            Some(set) => parallel_logical(alloc, t, names, false, left, right, set, u),
+        TExpr::LogicalAnd { ty, .. } => match ty.shape {
+            None => scalar_logical(alloc, t, names, e, u),
+            Some(set) => parallel_logical(alloc, t, names, e, set, u),
         },
-        TExpr::Choice {
-            ty,
-            test,
-            then,
-            otherwise,
-        } => {
+        TExpr::Choice { ty, test, .. } => {
             let dest = fresh(*ty, u)?;
             if stays_scalar(test) {
-                scalar_choice(alloc, t, names, dest, test, then, otherwise, u)?;
+                scalar_choice(alloc, t, names, e, dest, u)?;
                 Ok(dest)
             } else {
-                parallel_choice(alloc, t, names, dest, test, then, otherwise, u)?;
+                parallel_choice(alloc, t, names, e, dest, u)?;
                 Ok(dest)
             }
         }
@@ -227,77 +220,117 @@ fn chosen(alloc: Global, t: &Typed, names: &Names, e: &TExpr, u: &mut Unit) -> R
 
 /// `&&` and `||` of scalars.
 #[cycle(value)]
-#[tactic(auto, unfolding(crate::specs::Values::scalar_logical_by, lower_comm::specs::Drafts::then_make))]
+#[tactic(auto, unfolding(crate::specs::Values::scalar_logical_of, crate::specs::Values::scalar_logical_by, lower_comm::specs::Drafts::then_make))]
 fn scalar_logical(
     alloc: Global,
     t: &Typed,
     names: &Names,
-    is_or: bool,
-    left: &TExpr,
-    right: &TExpr,
+    e: &TExpr,
     u: &mut Unit,
 ) -> Result<Out, Memory>
-    ensures draft { IfOk result (λ out. scalar_logical_by is_or (value_of t.now (layout names.now) left.now) (value_of t.now (layout names.now) right.now) (length_of t.now (layout names.now) right.now) (draft u.old) ≡ Makes out (draft u.new)) }
+    ensures draft { IfOk result (λ out. scalar_logical_of t.now (layout names.now) e.now (draft u.old) ≡ Makes out (draft u.new)) }
 {
-    let dest = begin_logical(is_or, u)?;
-    let a = value(alloc, t, names, left, u)?;
-    let end = decide(is_or, a, length(t, names, right)?, 3, u)?;
-    let b = value(alloc, t, names, right, u)?;
-    end_logical(is_or, dest, b, end, u)
+    match e {
+        TExpr::LogicalOr { left, right, .. } => {
+            let dest = begin_logical(true, u)?;
+            let a = value(alloc, t, names, left, u)?;
+            let end = decide(true, a, length(t, names, right)?, 3, u)?;
+            let b = value(alloc, t, names, right, u)?;
+            end_logical(true, dest, b, end, u)
+        }
+        TExpr::LogicalAnd { left, right, .. } => {
+            let dest = begin_logical(false, u)?;
+            let a = value(alloc, t, names, left, u)?;
+            let end = decide(false, a, length(t, names, right)?, 3, u)?;
+            let b = value(alloc, t, names, right, u)?;
+            end_logical(false, dest, b, end, u)
+        }
+        _ => Err(Memory),
+    }
 }
 
 /// `&&` and `||` with a parallel operand.
 #[cycle(value)]
-#[tactic(auto, unfolding(crate::specs::Values::parallel_logical_by, crate::specs::Values::decided_by, crate::specs::Values::limited_by, lower_comm::specs::Drafts::then_make))]
+#[tactic(auto, unfolding(crate::specs::Values::parallel_logical_of, crate::specs::Values::parallel_logical_by, crate::specs::Values::decided_by, crate::specs::Values::limited_by, lower_comm::specs::Drafts::then_make))]
 fn parallel_logical(
     alloc: Global,
     t: &Typed,
     names: &Names,
-    is_or: bool,
-    left: &TExpr,
-    right: &TExpr,
+    e: &TExpr,
     set: u16,
     u: &mut Unit,
 ) -> Result<Out, Memory>
-    ensures draft { IfOk result (λ out. parallel_logical_by is_or set (value_of t.now (layout names.now) left.now) (is_kept left.now) (value_of t.now (layout names.now) right.now) (is_kept right.now) (length_of t.now (layout names.now) right.now) (draft u.old) ≡ Makes out (draft u.new)) }
+    ensures draft { IfOk result (λ out. parallel_logical_of t.now (layout names.now) e.now set (draft u.old) ≡ Makes out (draft u.new)) }
 {
     let dest = field(u, set)?;
     let saved = flag(u, set)?;
-    let decided = Konst::Imm(u32::from(is_or));
-    put(
-        u,
-        Instr::MoveConstant {
-            dest,
-            value: decided,
-        },
-    )?;
-    let a = value(alloc, t, names, left, u)?;
-    if stays_scalar(left) {
-        decide(is_or, a, length(t, names, right)?, 4, u)?;
-        let b = value(alloc, t, names, right, u)?;
-        test_nonzero(dest, b, u)
-    } else {
-        limit(is_or, saved, a, u)?;
-        let b = value(alloc, t, names, right, u)?;
-        end_parallel(is_or, dest, saved, stays_scalar(right), b, u)
+    match e {
+        TExpr::LogicalOr { left, right, .. } => {
+            let value_decided = Konst::Imm(1);
+            put(
+                u,
+                Instr::MoveConstant {
+                    dest,
+                    value: value_decided,
+                },
+            )?;
+            let a = value(alloc, t, names, left, u)?;
+            if stays_scalar(left) {
+                decide(true, a, length(t, names, right)?, 4, u)?;
+                let b = value(alloc, t, names, right, u)?;
+                test_nonzero(dest, b, u)
+            } else {
+                limit(true, saved, a, u)?;
+                let b = value(alloc, t, names, right, u)?;
+                end_parallel(true, dest, saved, stays_scalar(right), b, u)
+            }
+        }
+        TExpr::LogicalAnd { left, right, .. } => {
+            let value_decided = Konst::Imm(0);
+            put(
+                u,
+                Instr::MoveConstant {
+                    dest,
+                    value: value_decided,
+                },
+            )?;
+            let a = value(alloc, t, names, left, u)?;
+            if stays_scalar(left) {
+                decide(false, a, length(t, names, right)?, 4, u)?;
+                let b = value(alloc, t, names, right, u)?;
+                test_nonzero(dest, b, u)
+            } else {
+                limit(false, saved, a, u)?;
+                let b = value(alloc, t, names, right, u)?;
+                end_parallel(false, dest, saved, stays_scalar(right), b, u)
+            }
+        }
+        _ => Err(Memory),
     }
 }
 
 /// `?:` with a scalar condition: one of the two is evaluated.
 #[cycle(value)]
-#[tactic(auto, unfolding(crate::specs::Values::scalar_choice_by, lower_comm::specs::Drafts::then_make))]
+#[tactic(auto, unfolding(crate::specs::Values::scalar_choice_of, crate::specs::Values::scalar_choice_by, lower_comm::specs::Drafts::then_make))]
 fn scalar_choice(
     alloc: Global,
     t: &Typed,
     names: &Names,
+    e: &TExpr,
     dest: Out,
-    test: &TExpr,
-    then: &TExpr,
-    otherwise: &TExpr,
     u: &mut Unit,
 ) -> Result<(), Memory>
-    ensures draft { OnOk result (scalar_choice_by dest (value_of t.now (layout names.now) test.now) (value_of t.now (layout names.now) then.now) (value_of t.now (layout names.now) otherwise.now) (length_of t.now (layout names.now) then.now) (length_of t.now (layout names.now) otherwise.now) (draft u.old) ≡ Makes dest (draft u.new)) }
+    ensures draft { OnOk result (scalar_choice_of t.now (layout names.now) e.now dest (draft u.old) ≡ Makes dest (draft u.new)) }
 {
+    let TExpr::Choice {
+        test,
+        then,
+        otherwise,
+        ..
+    } = e
+    else {
+        return Err(Memory);
+    };
     let c = value(alloc, t, names, test, u)?;
     let other = decide(false, c, length(t, names, then)?, 3, u)?;
     let a = value(alloc, t, names, then, u)?;
@@ -310,19 +343,26 @@ fn scalar_choice(
 
 /// `?:` with a parallel condition: both are evaluated, each where it counts.
 #[cycle(value)]
-#[tactic(auto, unfolding(crate::specs::Values::parallel_choice_by, lower_comm::specs::Drafts::then_make, lower_comm::specs::Drafts::in_field))]
+#[tactic(auto, unfolding(crate::specs::Values::parallel_choice_of, crate::specs::Values::parallel_choice_by, lower_comm::specs::Drafts::then_make, lower_comm::specs::Drafts::in_field))]
 fn parallel_choice(
     alloc: Global,
     t: &Typed,
     names: &Names,
+    e: &TExpr,
     dest: Out,
-    test: &TExpr,
-    then: &TExpr,
-    otherwise: &TExpr,
     u: &mut Unit,
 ) -> Result<(), Memory>
-    ensures draft { OnOk result (parallel_choice_by dest (value_of t.now (layout names.now) test.now) (value_of t.now (layout names.now) then.now) (value_of t.now (layout names.now) otherwise.now) (draft u.old) ≡ Makes dest (draft u.new)) }
+    ensures draft { OnOk result (parallel_choice_of t.now (layout names.now) e.now dest (draft u.old) ≡ Makes dest (draft u.new)) }
 {
+    let TExpr::Choice {
+        test,
+        then,
+        otherwise,
+        ..
+    } = e
+    else {
+        return Err(Memory);
+    };
     let shape = dest.field()?.set;
     let saved = flag(u, shape)?;
     let c = value(alloc, t, names, test, u)?;
