@@ -1,5 +1,9 @@
 //! The call on a unit as `lower` has it when it comes to an expression.
 
+ghost use Rattle.std.specs.Prelude.{◌≡◌, IfOk};
+ghost use Rattle.lower_comm.specs.Drafts.{Makes, draft};
+ghost use Rattle.lower_expr.specs.Values.{expression_of};
+
 use crate::value::{spread, value};
 use cstar_base::Memory;
 use cstar_tree::typed::{TExpr, Typed};
@@ -9,7 +13,10 @@ use paris_code::Unit;
 use std::alloc::Global;
 
 /// Appends the code of one expression, and answers where its value is.
-pub fn expr(alloc: Global, t: &Typed, e: &TExpr, u: &mut Unit) -> Result<Out, Memory> {
+#[tactic(auto, unfolding(crate::specs::Values::expression_of, lower_comm::specs::Drafts::from))]
+pub fn expr(alloc: Global, t: &Typed, e: &TExpr, u: &mut Unit) -> Result<Out, Memory>
+    ensures draft { IfOk result (λ out. expression_of t.now u.old.name e.now (draft u.old) ≡ Makes out (draft u.new)) }
+{
     let mut names = Names::of(alloc, t)?;
     let Some(instance) = named(t, u.name.bytes()) else {
         return Err(Memory);

@@ -1,15 +1,22 @@
 //! The code of a call: the called instance's result and parallel parameters become zero, the
 //! parameters take the arguments, a turn is spent, and the result is copied back.
 
-use crate::steps::set;
+ghost use Rattle.std.specs.Prelude.{◌≡◌, IfOk, OnOk};
+ghost use Rattle.lower_comm.specs.declared.emit.Out.TheVariants as O;
+ghost use Rattle.lower_comm.specs.Drafts.{Makes, draft};
+ghost use Rattle.lower_comm.specs.Layouts.{layout};
+ghost use Rattle.lower_expr.specs.Frames.{turn_and_call, zeroed_entry, register_given, field_given, result_given, finished, argument_passed, passed, called};
+
+use crate::steps::{set, set_field};
 use cstar_base::Memory;
-use cstar_tree::typed::{Instance, Typed};
+use cstar_tree::typed::{Instance, Typed, VarInfo};
 use lower_comm::Out;
 use lower_comm::emit::{entry, plus, put};
 use lower_comm::names::Names;
 use paris_code::{Field, Instr, Owner, Unit};
 
 /// Calls an instance with these arguments, and answers where its result is.
+#[tactic(auto, unfolding(crate::specs::Frames::called, lower_comm::specs::Layouts::layout, lower_comm::specs::Drafts::from))]
 pub fn enter(
     t: &Typed,
     names: &Names,
@@ -17,91 +24,168 @@ pub fn enter(
     arguments: &[Out],
     dest: Out,
     u: &mut Unit,
-) -> Result<Out, Memory> {
+) -> Result<Out, Memory>
+    ensures draft { IfOk result (λ out. called t.now (layout names.now) number arguments.now dest (draft u.old) ≡ Makes out (draft u.new)) }
+{
     let (Some(callee), Some(base)) = (
         t.instances.get(number as usize),
         names.bases.get(number as usize),
     ) else {
         return Err(Memory);
     };
-    let mut register = *base;
-    let mut index = 0u32;
-    for (param, argument) in callee.params.iter().zip(arguments) {
-        match param.shape {
-            None => set(Out::Scalar(register), *argument, u)?,
-            Some(shape) => {
-                let owner = Owner::Of {
-                    unit: number,
-                    index,
-                };
-                let place = entry(u, shape, param.elem.bits, owner)?;
-                put(u, Instr::MoveZeroAlways { dest: place })?;
-                set(Out::Field(place), *argument, u)?;
-                index = plus(index, 1)?;
-            }
-        }
-        register = plus(register, 1)?;
-    }
-    finish(callee, number, register, index, dest, u)
+    pass_all(
+        number,
+        callee,
+        callee.params.as_slice(),
+        arguments,
+        *base,
+        0,
+        dest,
+        u,
+    )
 }
 
-/// The result becomes zero, a turn is spent, and the instance is called.
-fn finish(
+/// Each parameter takes its argument, and then the instance is called.
+#[tactic(auto, unfolding(crate::specs::Frames::passed, lower_comm::specs::Drafts::then_make))]
+fn pass_all(
+    unit: u32,
     callee: &Instance,
-    number: u32,
+    params: &[VarInfo],
+    arguments: &[Out],
     register: u32,
     index: u32,
     dest: Out,
     u: &mut Unit,
-) -> Result<Out, Memory> {
-    match &callee.result {
-        None => {
-            spend_and_call(number, u)?;
-            Ok(Out::Nothing)
-        }
-        Some(info) => match info.shape {
-            None => {
-                put(
-                    u,
-                    Instr::FrontConst {
-                        dest: register,
-                        value: 0,
-                    },
-                )?;
-                spend_and_call(number, u)?;
-                put(
-                    u,
-                    Instr::FrontMove {
-                        dest: dest.register()?,
-                        source: register,
-                    },
-                )?;
-                Ok(dest)
-            }
-            Some(shape) => {
-                let owner = Owner::Of {
-                    unit: number,
-                    index,
-                };
-                let source: Field = entry(u, shape, info.elem.bits, owner)?;
-                put(u, Instr::MoveZeroAlways { dest: source })?;
-                spend_and_call(number, u)?;
-                let signed = info.elem.signed;
-                put(
-                    u,
-                    Instr::Move {
-                        signed,
-                        dest: dest.field()?,
-                        source,
-                    },
-                )?;
-                Ok(dest)
+) -> Result<Out, Memory>
+    ensures draft { IfOk result (λ out. passed unit callee.now.result params.now arguments.now register index dest (draft u.old) ≡ Makes out (draft u.new)) }
+{
+    match params {
+        [] => finish(callee, unit, register, index, dest, u),
+        [param, params @ ..] => match arguments {
+            [] => finish(callee, unit, register, index, dest, u),
+            [argument, arguments @ ..] => {
+                let next = pass(unit, param, register, index, *argument, u)?;
+                let register = plus(register, 1)?;
+                pass_all(unit, callee, params, arguments, register, next, dest, u)
             }
         },
     }
 }
 
-fn spend_and_call(unit: u32, u: &mut Unit) -> Result<(), Memory> {
+/// A parameter takes its argument; answers the number of the next parallel one.
+#[tactic(auto, unfolding(crate::specs::Frames::argument_passed, lower_comm::specs::Drafts::then_make))]
+fn pass(
+    unit: u32,
+    param: &VarInfo,
+    register: u32,
+    index: u32,
+    argument: Out,
+    u: &mut Unit,
+) -> Result<u32, Memory>
+    ensures draft { IfOk result (λ next. argument_passed unit param.now register index argument (draft u.old) ≡ Makes next (draft u.new)) }
+{
+    match param.shape {
+        None => {
+            set(Out::Scalar(register), argument, u)?;
+            Ok(index)
+        }
+        Some(shape) => {
+            let place = zeroed(unit, shape, param.elem.bits, index, u)?;
+            set_field(place, argument, u)?;
+            plus(index, 1)
+        }
+    }
+}
+
+/// An entry for a field of the called unit, which becomes zero everywhere.
+#[tactic(auto, unfolding(crate::specs::Frames::zeroed_entry, lower_comm::specs::Drafts::then_make))]
+fn zeroed(unit: u32, set: u16, bits: u8, index: u32, u: &mut Unit) -> Result<Field, Memory>
+    ensures draft { IfOk result (λ f. zeroed_entry unit set bits index (draft u.old) ≡ Makes f (draft u.new)) }
+{
+    let place = entry(u, set, bits, Owner::Of { unit, index })?;
+    put(u, Instr::MoveZeroAlways { dest: place })?;
+    Ok(place)
+}
+
+/// The result becomes zero, a turn is spent, and the instance is called.
+#[tactic(auto, unfolding(crate::specs::Frames::finished, crate::specs::Frames::result_given))]
+fn finish(
+    callee: &Instance,
+    unit: u32,
+    register: u32,
+    index: u32,
+    dest: Out,
+    u: &mut Unit,
+) -> Result<Out, Memory>
+    ensures draft { IfOk result (λ out. finished unit callee.now.result register index dest (draft u.old) ≡ Makes out (draft u.new)) }
+{
+    match &callee.result {
+        None => {
+            spend_and_call(unit, u)?;
+            Ok(Out::Nothing)
+        }
+        Some(info) => match info.shape {
+            None => give_register(unit, register, dest, u),
+            Some(shape) => give_field(unit, info, shape, index, dest, u),
+        },
+    }
+}
+
+/// The call, whose result is in a register.
+#[tactic(auto, unfolding(crate::specs::Frames::register_given, lower_comm::specs::Drafts::in_register))]
+fn give_register(unit: u32, source: u32, dest: Out, u: &mut Unit) -> Result<Out, Memory>
+    ensures draft { IfOk result (λ out. register_given unit source dest (draft u.old) ≡ Makes out (draft u.new)) }
+{
+    let register = dest.register()?;
+    put(
+        u,
+        Instr::FrontConst {
+            dest: source,
+            value: 0,
+        },
+    )?;
+    spend_and_call(unit, u)?;
+    put(
+        u,
+        Instr::FrontMove {
+            dest: register,
+            source,
+        },
+    )?;
+    Ok(dest)
+}
+
+/// The call, whose result is in an entry of the called unit.
+#[tactic(auto, unfolding(crate::specs::Frames::field_given, lower_comm::specs::Drafts::then_make, lower_comm::specs::Drafts::in_field))]
+fn give_field(
+    unit: u32,
+    info: &VarInfo,
+    set: u16,
+    index: u32,
+    dest: Out,
+    u: &mut Unit,
+) -> Result<Out, Memory>
+    ensures draft { IfOk result (λ out. field_given unit info.now set index dest (draft u.old) ≡ Makes out (draft u.new)) }
+{
+    let source = zeroed(unit, set, info.elem.bits, index, u)?;
+    let field = dest.field()?;
+    spend_and_call(unit, u)?;
+    put(
+        u,
+        Instr::Move {
+            signed: info.elem.signed,
+            dest: field,
+            source,
+        },
+    )?;
+    Ok(dest)
+}
+
+/// A turn, and the call.
+#[tactic(auto, unfolding(crate::specs::Frames::turn_and_call))]
+fn spend_and_call(unit: u32, u: &mut Unit) -> Result<(), Memory>
+    ensures draft { OnOk result (turn_and_call unit (draft u.old) ≡ draft u.new) }
+{
     put(u, Instr::FrontTurn)?;
     put(u, Instr::FrontCall { unit })
 }

@@ -1,21 +1,29 @@
 //! How many instructions an expression compiles to. Jumps are written once, since the lengths of
 //! what they pass over are known beforehand.
 
+ghost use Rattle.std.specs.Prelude.{◌≡◌, IfOk, length, slice_get};
+ghost use Rattle.lower_comm.specs.Layouts.{layout};
+ghost use Rattle.lower_expr.specs.Steps.{is_kept};
+ghost use Rattle.lower_expr.specs.Lengths.{conversion_length, unary_length, operate_length, logical_length, spread_length, right_length, binary_length, spare_length, choice_length, step_once_length, params_length, news_move, is_checked, news_length, read_length, four_times, load_length, store_length, send_length, set_length, compound_length, assign_length, step_length, reduce_length, call_length, length_of, spot_length_of, lengths_in, spread_length_of};
+
+use crate::assign::is_send;
 use crate::spots::bare;
 use crate::steps::{constant_word, immediate, is_relation, stays_scalar};
-use crate::value::is_send;
 use cstar_base::{Elem, Memory, Op};
 use cstar_tree::syntax::{AssignOp, ReduceOp};
-use cstar_tree::typed::{TExpr, Typed, UnaryOp};
+use cstar_tree::typed::{TExpr, Typed, UnaryOp, VarInfo};
 use lower_comm::emit::plus;
 use lower_comm::messages::goes_by_news;
 use lower_comm::names::{Names, count};
-use lower_comm::news::step_of;
+use lower_comm::news::{NewsStep, step_of};
 use lower_comm::operators::{assign_op, divides};
 
 /// The instructions of a value: what `value` appends.
 #[cycle(length)]
-pub fn length(t: &Typed, names: &Names, e: &TExpr) -> Result<u32, Memory> {
+#[tactic(auto, unfolding(crate::specs::Lengths::length_of))]
+pub fn length(t: &Typed, names: &Names, e: &TExpr) -> Result<u32, Memory>
+    ensures { IfOk result (λ n. n ≡ length_of t.now (layout names.now) e.now) }
+{
     match e {
         TExpr::Number { .. }
         | TExpr::Dot { .. }
@@ -23,34 +31,104 @@ pub fn length(t: &Typed, names: &Names, e: &TExpr) -> Result<u32, Memory> {
         | TExpr::PositionsOf { .. }
         | TExpr::RankOf { .. }
         | TExpr::DimOf { .. }
-        | TExpr::GetChar { .. } => Ok(1),
+        | TExpr::GetChar { .. }
+        | TExpr::Variable { .. } => Ok(1),
+        TExpr::Enumerate { .. } => Ok(2),
         TExpr::Brackets { inner, .. } => length(t, names, inner),
         TExpr::Promote { operand, .. } => length(t, names, operand),
         TExpr::Convert { ty, operand } => {
-            let inner = length(t, names, operand)?;
-            plus(inner, conversion(stays_scalar(operand), ty.elem))
+            let n = length(t, names, operand)?;
+            plus(n, conversion(stays_scalar(operand), ty.elem))
         }
         TExpr::Casts { elems, operand, .. } => {
             plus(length(t, names, operand)?, count(elems.len())?)
         }
         TExpr::ParallelCast { ty, operand } => {
-            plus(
-                spread_length(t, names, operand)?,
-                conversion(false, ty.elem),
-            )
-        }
-        TExpr::LeftIndex { indexes, of, .. } if goes_by_news(e) => {
-            Ok(news_length(*of, indexes.as_slice()))
-        }
-        TExpr::Variable { .. } | TExpr::Element { .. } | TExpr::LeftIndex { .. } => {
-            plus(spot_length(t, names, e)?, load_length(t, names, e)?)
+            let n = spread_by(length(t, names, operand)?, operand)?;
+            plus(n, conversion(false, ty.elem))
         }
         TExpr::Unary { op, operand, .. } => {
-            plus(
-                length(t, names, operand)?,
-                unary_length(*op, stays_scalar(operand)),
-            )
+            let n = length(t, names, operand)?;
+            plus(n, unary_length(*op, stays_scalar(operand)))
         }
+        TExpr::Reduce { op, operand, .. } => {
+            plus(length(t, names, operand)?, reduce_length(*op))
+        }
+        TExpr::Scan { source, .. } => plus(length(t, names, source)?, 1),
+        TExpr::Element { array, index, .. } => {
+            let located = plus(length(t, names, index)?, 5)?;
+            plus(located, times_four(names.elements(t, *array))?)
+        }
+        TExpr::Binary { .. }
+        | TExpr::LogicalOr { .. }
+        | TExpr::LogicalAnd { .. }
+        | TExpr::Choice { .. } => operator_length(t, names, e),
+        TExpr::Assign {
+            op,
+            target,
+            value,
+            ..
+        } => {
+            let there = spot_length(t, names, target)?;
+            let n = length(t, names, value)?;
+            assign_length(t, names, *op, target, there, n, value)
+        }
+        TExpr::Step { target, .. } => {
+            let there = spot_length(t, names, target)?;
+            step_length(t, names, target, there)
+        }
+        TExpr::LeftIndex { .. } | TExpr::Call { .. } | TExpr::Printf { .. } => {
+            listed_length(t, names, e)
+        }
+    }
+}
+
+/// A left index, a call or `printf`, with the expressions in its list.
+#[cycle(length)]
+#[tactic(auto, using(crate::proofs::Lists::length_of_call, crate::proofs::Lists::length_of_left_index, crate::proofs::Lists::length_of_printf))]
+fn listed_length(t: &Typed, names: &Names, e: &TExpr) -> Result<u32, Memory>
+    ensures { IfOk result (λ n. n ≡ length_of t.now (layout names.now) e.now) }
+{
+    match e {
+        TExpr::LeftIndex {
+            ty,
+            indexes,
+            of,
+            ..
+        } => {
+            if goes_by_news(e) {
+                return news_length(*of, indexes.as_slice());
+            }
+            let located = plus(2, lengths(t, names, indexes.as_slice())?)?;
+            plus(located, read_length(ty.shape))
+        }
+        TExpr::Call {
+            instance,
+            arguments,
+            ..
+        } => {
+            let own = frame_length(t, *instance, arguments.len())?;
+            plus(own, lengths(t, names, arguments.as_slice())?)
+        }
+        TExpr::Printf {
+            pieces,
+            arguments,
+            ..
+        } => {
+            let own = count(pieces.len())?;
+            plus(own, lengths(t, names, arguments.as_slice())?)
+        }
+        _ => Err(Memory),
+    }
+}
+
+/// An operator between its operands.
+#[cycle(length)]
+#[tactic(auto, unfolding(crate::specs::Lengths::length_of))]
+fn operator_length(t: &Typed, names: &Names, e: &TExpr) -> Result<u32, Memory>
+    ensures { IfOk result (λ n. n ≡ length_of t.now (layout names.now) e.now) }
+{
+    match e {
         TExpr::Binary {
             ty,
             op,
@@ -58,16 +136,16 @@ pub fn length(t: &Typed, names: &Names, e: &TExpr) -> Result<u32, Memory> {
             right,
             ..
         } => {
-            if ty.shape.is_none() {
-                let a = length(t, names, left)?;
-                let b = length(t, names, right)?;
-                plus(plus(a, b)?, operate_length(*op, true))
-            } else {
-                let a = spread_length(t, names, left)?;
-                plus(a, right_length(t, names, *op, right)?)
-            }
+            let a = length(t, names, left)?;
+            let b = length(t, names, right)?;
+            binary_length(ty.shape.is_none(), *op, a, left, b, right)
         }
-        TExpr::LogicalOr { ty, left, right } | TExpr::LogicalAnd { ty, left, right } => {
+        TExpr::LogicalOr { ty, left, right } => {
+            let a = length(t, names, left)?;
+            let b = length(t, names, right)?;
+            plus(plus(a, b)?, logical_length(ty.shape.is_none(), left, right))
+        }
+        TExpr::LogicalAnd { ty, left, right } => {
             let a = length(t, names, left)?;
             let b = length(t, names, right)?;
             plus(plus(a, b)?, logical_length(ty.shape.is_none(), left, right))
@@ -81,76 +159,123 @@ pub fn length(t: &Typed, names: &Names, e: &TExpr) -> Result<u32, Memory> {
             let c = length(t, names, test)?;
             let a = length(t, names, then)?;
             let b = length(t, names, otherwise)?;
-            let own = if stays_scalar(test) { 4 } else { 9 };
-            plus(plus(c, plus(a, b)?)?, own)
+            let operands = plus(c, plus(a, b)?)?;
+            plus(operands, choice_length(stays_scalar(test)))
         }
-        TExpr::Assign { .. } => assign_length(t, names, e),
-        TExpr::Step { target, .. } => {
-            let scalar = target.ty().shape.is_none();
-            let located = spot_length(t, names, target)?;
-            let loaded = load_length(t, names, target)?;
-            let stored = store_length(t, names, target)?;
-            let own = plus(
-                if scalar { 2 } else { 1 },
-                conversion(scalar, target.ty().elem),
-            )?;
-            plus(plus(located, own)?, plus(loaded, stored)?)
-        }
-        TExpr::Reduce { op, operand, .. } => {
-            let own = if *op == ReduceOp::Sub { 2 } else { 1 };
-            plus(length(t, names, operand)?, own)
-        }
-        TExpr::Scan { source, .. } => plus(length(t, names, source)?, 1),
-        TExpr::Enumerate { .. } => Ok(2),
-        TExpr::Call {
-            instance,
-            arguments,
-            ..
-        } => {
-            let mut sum = frame_length(t, *instance, arguments.len())?;
-            for argument in arguments {
-                let next = length(t, names, argument)?;
-                sum = plus(sum, next)?;
-            }
-            Ok(sum)
-        }
-        TExpr::Printf {
-            pieces,
-            arguments,
-            ..
-        } => {
-            let mut sum = count(pieces.len())?;
-            for argument in arguments {
-                let next = length(t, names, argument)?;
-                sum = plus(sum, next)?;
-            }
-            Ok(sum)
-        }
+        _ => Err(Memory),
+    }
+}
+
+/// The instructions of a list of values.
+#[cycle(length)]
+#[tactic(auto, unfolding(crate::specs::Lengths::lengths_in))]
+fn lengths(t: &Typed, names: &Names, es: &[TExpr]) -> Result<u32, Memory>
+    ensures { IfOk result (λ n. n ≡ lengths_in t.now (layout names.now) es.now) }
+{
+    let mut sum = 0u32;
+    for e in es {
+        let next = length(t, names, e)?;
+        sum = plus(sum, next)?;
+    }
+    Ok(sum)
+}
+
+/// What locates a target or a reference.
+#[cycle(length)]
+#[tactic(auto, unfolding(crate::specs::Lengths::spot_length_of))]
+fn spot_length(t: &Typed, names: &Names, e: &TExpr) -> Result<u32, Memory>
+    ensures { IfOk result (λ n. n ≡ spot_length_of t.now (layout names.now) e.now) }
+{
+    match e {
+        TExpr::Brackets { inner, .. } => spot_length(t, names, inner),
+        TExpr::Element { index, .. } => plus(length(t, names, index)?, 5),
+        TExpr::LeftIndex { .. } => indexed_length(t, names, e),
+        TExpr::Variable { .. } => Ok(0),
+        _ => Err(Memory),
+    }
+}
+
+/// What locates a left index.
+#[cycle(length)]
+#[tactic(auto, using(crate::proofs::Lists::spot_length_of_left_index))]
+fn indexed_length(t: &Typed, names: &Names, e: &TExpr) -> Result<u32, Memory>
+    ensures { IfOk result (λ n. n ≡ spot_length_of t.now (layout names.now) e.now) }
+{
+    match e {
+        TExpr::LeftIndex { indexes, .. } => plus(2, lengths(t, names, indexes.as_slice())?),
+        _ => Err(Memory),
     }
 }
 
 /// The instructions of a value in a field: what `spread` appends.
-#[cycle(length)]
-pub fn spread_length(t: &Typed, names: &Names, e: &TExpr) -> Result<u32, Memory> {
-    if constant_word(e).is_some() {
-        return Ok(1);
-    }
-    plus(length(t, names, e)?, if stays_scalar(e) { 1 } else { 0 })
+#[tactic(auto, unfolding(crate::specs::Lengths::spread_length_of))]
+pub fn spread_length(t: &Typed, names: &Names, e: &TExpr) -> Result<u32, Memory>
+    ensures { IfOk result (λ n. n ≡ spread_length_of t.now (layout names.now) e.now) }
+{
+    spread_by(length(t, names, e)?, e)
 }
 
-/// The instructions of a right operand of a parallel operation, and of the operation.
-#[cycle(length)]
-fn right_length(t: &Typed, names: &Names, op: Op, e: &TExpr) -> Result<u32, Memory> {
-    if immediate(op, e).is_some() {
-        return Ok(1);
+/// An expression of this length, with its value in a field.
+#[tactic(auto, unfolding(crate::specs::Lengths::spread_length))]
+fn spread_by(n: u32, e: &TExpr) -> Result<u32, Memory>
+    ensures { IfOk result (λ sum. sum ≡ spread_length n e.now) }
+{
+    match constant_word(e) {
+        Some(_) => Ok(1),
+        None => plus(n, if stays_scalar(e) { 1 } else { 0 }),
     }
-    let is_spread = stays_scalar(e) && (is_relation(op) || divides(op));
-    let own = plus(operate_length(op, false), if is_spread { 1 } else { 0 })?;
-    plus(length(t, names, e)?, own)
+}
+
+/// A binary operator and its operands, by their lengths.
+#[tactic(auto, unfolding(crate::specs::Lengths::binary_length))]
+fn binary_length(
+    scalar: bool,
+    op: Op,
+    a: u32,
+    left: &TExpr,
+    b: u32,
+    right: &TExpr,
+) -> Result<u32, Memory>
+    ensures { IfOk result (λ n. n ≡ binary_length scalar op a left.now b right.now) }
+{
+    if scalar {
+        plus(plus(a, b)?, operate_length(op, true))
+    } else {
+        plus(spread_by(a, left)?, right_length(b, op, right)?)
+    }
+}
+
+/// A right operand of a parallel operation, and the operation.
+#[tactic(auto, unfolding(crate::specs::Lengths::right_length))]
+fn right_length(n: u32, op: Op, e: &TExpr) -> Result<u32, Memory>
+    ensures { IfOk result (λ sum. sum ≡ right_length n op e.now) }
+{
+    match immediate(op, e) {
+        Some(_) => Ok(1),
+        None => {
+            let own = plus(operate_length(op, false), spare_length(op, stays_scalar(e)))?;
+            plus(n, own)
+        }
+    }
+}
+
+/// The spreading of a word that the operation does not take.
+#[tactic(auto, unfolding(crate::specs::Lengths::spare_length))]
+fn spare_length(op: Op, scalar: bool) -> u32
+    ensures { result ≡ spare_length op scalar }
+{
+    if scalar && (is_relation(op) || divides(op)) {
+        1
+    } else {
+        0
+    }
 }
 
 /// A conversion in place.
-pub fn conversion(scalar: bool, elem: Elem) -> u32 {
+#[tactic(auto, unfolding(crate::specs::Lengths::conversion_length))]
+pub fn conversion(scalar: bool, elem: Elem) -> u32
+    ensures { result ≡ conversion_length scalar elem }
+{
     if elem.bits == 32 {
         0
     } else if scalar {
@@ -162,7 +287,10 @@ pub fn conversion(scalar: bool, elem: Elem) -> u32 {
     }
 }
 
-fn unary_length(op: UnaryOp, scalar: bool) -> u32 {
+#[tactic(auto, unfolding(crate::specs::Lengths::unary_length))]
+fn unary_length(op: UnaryOp, scalar: bool) -> u32
+    ensures { result ≡ unary_length op scalar }
+{
     match op {
         UnaryOp::Plus => 0,
         UnaryOp::Minus | UnaryOp::Complement => 1,
@@ -170,8 +298,22 @@ fn unary_length(op: UnaryOp, scalar: bool) -> u32 {
     }
 }
 
+/// A unary reduction beside its operand.
+#[tactic(auto, unfolding(crate::specs::Lengths::reduce_length))]
+fn reduce_length(op: ReduceOp) -> u32
+    ensures { result ≡ reduce_length op }
+{
+    match op {
+        ReduceOp::Sub => 2,
+        _ => 1,
+    }
+}
+
 /// A binary operator, with the check of its divisor.
-fn operate_length(op: Op, scalar: bool) -> u32 {
+#[tactic(auto, unfolding(crate::specs::Lengths::operate_length))]
+fn operate_length(op: Op, scalar: bool) -> u32
+    ensures { result ≡ operate_length op scalar }
+{
     if divides(op) {
         2
     } else if scalar {
@@ -183,8 +325,19 @@ fn operate_length(op: Op, scalar: bool) -> u32 {
     }
 }
 
+/// `?:` beside its operands.
+#[tactic(auto, unfolding(crate::specs::Lengths::choice_length))]
+fn choice_length(scalar: bool) -> u32
+    ensures { result ≡ choice_length scalar }
+{
+    if scalar { 4 } else { 9 }
+}
+
 /// `&&` or `||` beside its operands.
-fn logical_length(scalar: bool, left: &TExpr, right: &TExpr) -> u32 {
+#[tactic(auto, unfolding(crate::specs::Lengths::logical_length))]
+fn logical_length(scalar: bool, left: &TExpr, right: &TExpr) -> u32
+    ensures { result ≡ logical_length scalar (is_kept left.now) (is_kept right.now) }
+{
     if scalar {
         4
     } else if stays_scalar(left) {
@@ -197,120 +350,204 @@ fn logical_length(scalar: bool, left: &TExpr, right: &TExpr) -> u32 {
 }
 
 /// A get by NEWS.
-fn news_length(of: u16, indexes: &[TExpr]) -> u32 {
-    let mut moves = 1u32;
+#[tactic(auto, unfolding(crate::specs::Lengths::news_length, crate::specs::Lengths::news_moves, crate::specs::Lengths::news_checked))]
+fn news_length(of: u16, indexes: &[TExpr]) -> Result<u32, Memory>
+    ensures { IfOk result (λ n. n ≡ news_length of indexes.now) }
+{
+    let mut moves = 0u32;
     let mut is_checked = false;
-    let mut axis = 0u32;
-    for index in indexes {
-        if let Some(step) = step_of(of, axis, index) {
-            if step.by != 0 {
-                moves = moves.saturating_add(1);
-            }
-            is_checked = is_checked || step.checked;
-        }
-        axis = axis.saturating_add(1);
+    for (axis, index) in indexes.iter().enumerate() {
+        let step = step_of(of, axis, index);
+        moves = plus(moves, news_move(step))?;
+        is_checked = is_checked || news_checked(step);
     }
-    if is_checked {
-        moves.saturating_add(1)
-    } else {
-        moves
+    plus(plus(moves, 1)?, if is_checked { 1 } else { 0 })
+}
+
+/// The move of a step along an axis.
+#[tactic(auto, unfolding(crate::specs::Lengths::news_move))]
+fn news_move(step: Option<NewsStep>) -> u32
+    ensures { result ≡ news_move step }
+{
+    match step {
+        Some(step) => if step.by == 0 { 0 } else { 1 },
+        None => 0,
     }
 }
 
-/// What locates a target or a reference.
-#[cycle(length)]
-fn spot_length(t: &Typed, names: &Names, e: &TExpr) -> Result<u32, Memory> {
-    match e {
-        TExpr::Brackets { inner, .. } => spot_length(t, names, inner),
-        TExpr::Element { index, .. } => plus(length(t, names, index)?, 5),
-        TExpr::LeftIndex { indexes, .. } => {
-            let mut sum = 2;
-            for index in indexes {
-                let next = length(t, names, index)?;
-                sum = plus(sum, next)?;
-            }
-            Ok(sum)
-        }
-        _ => Ok(0),
+/// Whether the step may lead out of the grid.
+#[tactic(auto, unfolding(crate::specs::Lengths::is_checked))]
+fn news_checked(step: Option<NewsStep>) -> bool
+    ensures { result ≡ is_checked step }
+{
+    match step {
+        Some(step) => step.checked,
+        None => false,
     }
 }
 
 /// What reads a located place.
-fn load_length(t: &Typed, names: &Names, target: &TExpr) -> Result<u32, Memory> {
+#[tactic(auto, unfolding(crate::specs::Lengths::load_length, crate::specs::Lengths::load_length_of))]
+fn load_length(t: &Typed, names: &Names, target: &TExpr) -> Result<u32, Memory>
+    ensures { IfOk result (λ n. n ≡ load_length t.now (layout names.now) target.now) }
+{
     match bare(target) {
         TExpr::Element { array, .. } => times_four(names.elements(t, *array)),
-        TExpr::LeftIndex { ty, .. } => Ok(if ty.shape.is_some() { 2 } else { 1 }),
+        TExpr::LeftIndex { ty, .. } => Ok(read_length(ty.shape)),
         _ => Ok(1),
+    }
+}
+
+/// A read through a left index: of every position, or of one.
+#[tactic(auto, unfolding(crate::specs::Lengths::read_length))]
+fn read_length(shape: Option<u16>) -> u32
+    ensures { result ≡ read_length shape }
+{
+    match shape {
+        Some(_) => 2,
+        None => 1,
     }
 }
 
 /// What writes a located place; a send beside its own code is counted with the assignment.
-fn store_length(t: &Typed, names: &Names, target: &TExpr) -> Result<u32, Memory> {
+#[tactic(auto, unfolding(crate::specs::Lengths::store_length, crate::specs::Lengths::store_length_of))]
+fn store_length(t: &Typed, names: &Names, target: &TExpr) -> Result<u32, Memory>
+    ensures { IfOk result (λ n. n ≡ store_length t.now (layout names.now) target.now) }
+{
     match bare(target) {
         TExpr::Element { array, .. } => times_four(names.elements(t, *array)),
         _ => Ok(1),
     }
 }
 
-fn times_four(n: u32) -> Result<u32, Memory> {
+#[tactic(auto, unfolding(crate::specs::Lengths::four_times))]
+fn times_four(n: u32) -> Result<u32, Memory>
+    ensures { IfOk result (λ m. m ≡ four_times n) }
+{
     let twice = plus(n, n)?;
     plus(twice, twice)
 }
 
-/// An assignment.
-#[cycle(length)]
-fn assign_length(t: &Typed, names: &Names, e: &TExpr) -> Result<u32, Memory> {
-    let TExpr::Assign {
-        op,
-        target,
-        value,
-        ..
-    } = e
-    else {
-        return Err(Memory);
-    };
-    let located = spot_length(t, names, target)?;
-    let scalar = target.ty().shape.is_none();
+/// An assignment, by the lengths of its target and of its value.
+#[tactic(auto, unfolding(crate::specs::Lengths::assign_length))]
+fn assign_length(
+    t: &Typed,
+    names: &Names,
+    op: AssignOp,
+    target: &TExpr,
+    there: u32,
+    n: u32,
+    value: &TExpr,
+) -> Result<u32, Memory>
+    ensures { IfOk result (λ sum. sum ≡ assign_length t.now (layout names.now) op target.now there n value.now) }
+{
     if is_send(target) {
-        let v = spread_length(t, names, value)?;
-        let own = if *op == AssignOp::Set || *op == AssignOp::Sub {
-            2
-        } else {
-            1
-        };
-        return plus(plus(located, v)?, own);
+        return plus(plus(there, spread_by(n, value)?)?, send_length(op));
     }
-    let stored = plus(located, store_length(t, names, target)?)?;
-    let Some(op) = assign_op(*op) else {
-        let v = if scalar {
-            length(t, names, value)?
-        } else {
-            spread_length(t, names, value)?
-        };
-        return plus(stored, v);
-    };
-    let loaded = load_length(t, names, target)?;
-    let both = plus(stored, loaded)?;
-    if scalar && !stays_scalar(value) {
-        let v = length(t, names, value)?;
-        return plus(plus(both, v)?, 3);
+    let ty = target.ty();
+    let stored = plus(there, store_length(t, names, target)?)?;
+    match assign_op(op) {
+        None => set_length(ty.shape.is_none(), stored, n, value),
+        Some(op) => {
+            let both = plus(stored, load_length(t, names, target)?)?;
+            compound_length(ty.shape.is_none(), ty.elem, both, op, n, value)
+        }
     }
-    let operated = if scalar {
-        plus(length(t, names, value)?, operate_length(op, true))?
+}
+
+/// The send itself.
+#[tactic(auto, unfolding(crate::specs::Lengths::send_length))]
+fn send_length(op: AssignOp) -> u32
+    ensures { result ≡ send_length op }
+{
+    match op {
+        AssignOp::Set | AssignOp::Sub => 2,
+        _ => 1,
+    }
+}
+
+/// An assignment without an operator.
+#[tactic(auto, unfolding(crate::specs::Lengths::set_length))]
+fn set_length(scalar: bool, stored: u32, n: u32, e: &TExpr) -> Result<u32, Memory>
+    ensures { IfOk result (λ sum. sum ≡ set_length scalar stored n e.now) }
+{
+    if scalar {
+        plus(stored, n)
     } else {
-        right_length(t, names, op, value)?
-    };
-    plus(plus(both, operated)?, conversion(scalar, target.ty().elem))
+        plus(stored, spread_by(n, e)?)
+    }
+}
+
+/// An assignment with an operator.
+#[tactic(auto, unfolding(crate::specs::Lengths::compound_length))]
+fn compound_length(
+    scalar: bool,
+    elem: Elem,
+    both: u32,
+    op: Op,
+    n: u32,
+    e: &TExpr,
+) -> Result<u32, Memory>
+    ensures { IfOk result (λ sum. sum ≡ compound_length scalar elem both op n e.now) }
+{
+    if scalar {
+        if stays_scalar(e) {
+            let operated = plus(n, operate_length(op, true))?;
+            plus(plus(both, operated)?, conversion(true, elem))
+        } else {
+            plus(plus(both, n)?, 3)
+        }
+    } else {
+        let operated = right_length(n, op, e)?;
+        plus(plus(both, operated)?, conversion(false, elem))
+    }
+}
+
+/// A step, by the length of its target.
+#[tactic(auto, unfolding(crate::specs::Lengths::step_length))]
+fn step_length(t: &Typed, names: &Names, target: &TExpr, there: u32) -> Result<u32, Memory>
+    ensures { IfOk result (λ n. n ≡ step_length t.now (layout names.now) target.now there) }
+{
+    let ty = target.ty();
+    let own = plus(
+        step_once_length(ty.shape.is_none()),
+        conversion(ty.shape.is_none(), ty.elem),
+    )?;
+    let loaded = load_length(t, names, target)?;
+    let stored = store_length(t, names, target)?;
+    plus(plus(there, own)?, plus(loaded, stored)?)
+}
+
+/// One more or one less.
+#[tactic(auto, unfolding(crate::specs::Lengths::step_once_length))]
+fn step_once_length(scalar: bool) -> u32
+    ensures { result ≡ step_once_length scalar }
+{
+    if scalar { 2 } else { 1 }
 }
 
 /// A call beside its arguments: zeroing and copying, the turn, the call, and the result.
-fn frame_length(t: &Typed, instance: u32, given: usize) -> Result<u32, Memory> {
-    let Some(callee) = t.instances.get(instance as usize) else {
-        return Err(Memory);
-    };
-    let mut sum = if callee.result.is_some() { 4 } else { 2 };
+#[tactic(auto, unfolding(crate::specs::Lengths::call_length))]
+fn frame_length(t: &Typed, instance: u32, given: usize) -> Result<u32, Memory>
+    ensures { IfOk result (λ n. n ≡ call_length (slice_get t.now.instances.items instance) given) }
+{
+    match t.instances.get(instance as usize) {
+        Some(callee) => {
+            let own = if callee.result.is_some() { 4 } else { 2 };
+            params_length(callee.params.as_slice(), given, own)
+        }
+        None => Err(Memory),
+    }
+}
+
+/// The parameters that are given arguments.
+#[tactic(auto, unfolding(crate::specs::Lengths::params_length))]
+fn params_length(params: &[VarInfo], given: usize, own: u32) -> Result<u32, Memory>
+    ensures { IfOk result (λ n. n ≡ params_length params.now given own) }
+{
+    let mut sum = own;
     let mut left = given;
-    for param in &callee.params {
+    for param in params {
         if left == 0 {
             return Ok(sum);
         }

@@ -1,9 +1,12 @@
 //! The lowering of expressions.
 #![tactic(auto)]
 
+mod assign;
 mod calls;
 pub mod frames;
+mod leaves;
 pub mod length;
+mod logical;
 pub mod spots;
 pub mod steps;
 pub mod value;

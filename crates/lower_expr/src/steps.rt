@@ -1,5 +1,10 @@
 //! Short stretches of code over values that stand in registers and fields already.
 
+ghost use Rattle.std.specs.Prelude.{◌≡◌, IfOk, OnOk};
+ghost use Rattle.lower_comm.specs.declared.emit.Out.TheVariants as O;
+ghost use Rattle.lower_comm.specs.Drafts.{Makes, draft};
+ghost use Rattle.lower_expr.specs.Steps.{is_kept, word_of, relates, word_taken, constant_in, put_test, field_converted, converted_in_place, put_in_field, put_value, operated, fields_operated, right_operated, takes_word, in_a_field, register_negated, field_negated, negated, format_of, pieces_printed, assigned_signed};
+
 use cstar_base::{Elem, Memory, Op, Place, numbers};
 use cstar_tree::typed::{Format, Piece, TExpr, UnaryOp};
 use lower_comm::Out;
@@ -18,7 +23,10 @@ pub enum Right {
 
 /// Whether the value stands in a register: that of a scalar, and that of a promoted scalar before
 /// it is spread.
-pub fn stays_scalar(e: &TExpr) -> bool {
+#[tactic(auto, unfolding(crate::specs::Steps::is_kept))]
+pub fn stays_scalar(e: &TExpr) -> bool
+    ensures { result ≡ is_kept e.now }
+{
     match e {
         TExpr::Promote { .. } => true,
         TExpr::Convert { operand, .. } => stays_scalar(operand),
@@ -28,7 +36,10 @@ pub fn stays_scalar(e: &TExpr) -> bool {
 }
 
 /// The word that a promoted constant is at every position, promoted to 32 bits.
-pub fn constant_word(e: &TExpr) -> Option<u32> {
+#[tactic(auto, unfolding(crate::specs::Steps::word_of, cstar_base::specs::Numbers::converted))]
+pub fn constant_word(e: &TExpr) -> Option<u32>
+    ensures value { result ≡ word_of e.now }
+{
     match e {
         TExpr::Promote { operand, .. } => {
             let value = constant_value(operand)?;
@@ -41,7 +52,10 @@ pub fn constant_word(e: &TExpr) -> Option<u32> {
 
 /// The word of a constant right operand that an instruction takes as an immediate: a relation takes
 /// none, and a divisor of 0 is left to its check.
-pub fn immediate(op: Op, e: &TExpr) -> Option<u32> {
+#[tactic(auto, unfolding(crate::specs::Steps::word_taken))]
+pub fn immediate(op: Op, e: &TExpr) -> Option<u32>
+    ensures { result ≡ word_taken op e.now }
+{
     if is_relation(op) {
         return None;
     }
@@ -54,19 +68,28 @@ pub fn immediate(op: Op, e: &TExpr) -> Option<u32> {
 }
 
 /// Whether the operator is a relation.
-pub fn is_relation(op: Op) -> bool {
+#[tactic(auto, unfolding(crate::specs::Steps::relates))]
+pub fn is_relation(op: Op) -> bool
+    ensures { result ≡ relates op }
+{
     matches!(op, Op::Eq | Op::Ne | Op::Lt | Op::Le | Op::Gt | Op::Ge)
 }
 
 /// A value in a register.
-pub fn constant(value: u32, u: &mut Unit) -> Result<Out, Memory> {
+#[tactic(auto, unfolding(crate::specs::Steps::constant_in, lower_comm::specs::Drafts::then_make))]
+pub fn constant(value: u32, u: &mut Unit) -> Result<Out, Memory>
+    ensures draft { IfOk result (λ out. constant_in value (draft u.old) ≡ Makes out (draft u.new)) }
+{
     let dest = lower_comm::emit::register(u)?;
     put(u, Instr::FrontConst { dest, value })?;
     Ok(Out::Scalar(dest))
 }
 
 /// The conversion of a value to an element type, in place.
-pub fn convert(v: Out, elem: Elem, u: &mut Unit) -> Result<Out, Memory> {
+#[tactic(auto, unfolding(crate::specs::Steps::converted_in_place))]
+pub fn convert(v: Out, elem: Elem, u: &mut Unit) -> Result<Out, Memory>
+    ensures draft { IfOk result (λ out. converted_in_place v elem (draft u.old) ≡ Makes out (draft u.new)) }
+{
     match v {
         Out::Scalar(r) => {
             if elem.bits < 32 {
@@ -88,7 +111,10 @@ pub fn convert(v: Out, elem: Elem, u: &mut Unit) -> Result<Out, Memory> {
 
 /// The conversion of a field of 32 bits, in place: to `bool` by a test, to another narrow type by
 /// shifting its bits to the top and back.
-pub fn convert_field(f: Field, elem: Elem, u: &mut Unit) -> Result<(), Memory> {
+#[tactic(auto, unfolding(crate::specs::Steps::field_converted, crate::specs::Steps::shifted_back))]
+pub fn convert_field(f: Field, elem: Elem, u: &mut Unit) -> Result<(), Memory>
+    ensures draft { OnOk result (field_converted f elem (draft u.old) ≡ Makes (O.Field f) (draft u.new)) }
+{
     if elem.bits == 1 {
         put(u, Instr::NeZero { source: f })?;
         test_value(f, u)
@@ -123,7 +149,10 @@ pub fn convert_field(f: Field, elem: Elem, u: &mut Unit) -> Result<(), Memory> {
 }
 
 /// The test flag as a value, 0 or 1.
-pub fn test_value(dest: Field, u: &mut Unit) -> Result<(), Memory> {
+#[tactic(auto, unfolding(crate::specs::Steps::put_test, lower_comm::specs::Drafts::then_make))]
+pub fn test_value(dest: Field, u: &mut Unit) -> Result<(), Memory>
+    ensures draft { OnOk result (put_test dest (draft u.old) ≡ Makes (O.Field dest) (draft u.new)) }
+{
     let source = flag(u, dest.set)?;
     put(u, Instr::StoreTest { dest: source })?;
     put(
@@ -137,7 +166,10 @@ pub fn test_value(dest: Field, u: &mut Unit) -> Result<(), Memory> {
 }
 
 /// A value becomes that of a field: copied, or spread from a register.
-pub fn set_field(dest: Field, v: Out, u: &mut Unit) -> Result<(), Memory> {
+#[tactic(auto, unfolding(crate::specs::Steps::put_in_field))]
+pub fn set_field(dest: Field, v: Out, u: &mut Unit) -> Result<(), Memory>
+    ensures draft { OnOk result (put_in_field dest v (draft u.old) ≡ Makes (O.Field dest) (draft u.new)) }
+{
     match v {
         Out::Scalar(r) => put(
             u,
@@ -159,7 +191,10 @@ pub fn set_field(dest: Field, v: Out, u: &mut Unit) -> Result<(), Memory> {
 }
 
 /// A value becomes that of a register or a field.
-pub fn set(dest: Out, v: Out, u: &mut Unit) -> Result<(), Memory> {
+#[tactic(auto, unfolding(crate::specs::Steps::put_value, lower_comm::specs::Drafts::in_register))]
+pub fn set(dest: Out, v: Out, u: &mut Unit) -> Result<(), Memory>
+    ensures draft { OnOk result (put_value dest v (draft u.old) ≡ Makes dest (draft u.new)) }
+{
     match dest {
         Out::Scalar(register) => {
             let source = v.register()?;
@@ -177,6 +212,7 @@ pub fn set(dest: Out, v: Out, u: &mut Unit) -> Result<(), Memory> {
 }
 
 /// A binary operator on registers. A zero divisor is a fault at the place.
+#[tactic(auto, unfolding(crate::specs::Steps::operated, crate::specs::Steps::on_registers, crate::specs::Steps::with_register_check))]
 pub fn operate(
     op: Op,
     signed: bool,
@@ -185,7 +221,9 @@ pub fn operate(
     left: u32,
     right: u32,
     u: &mut Unit,
-) -> Result<(), Memory> {
+) -> Result<(), Memory>
+    ensures draft { OnOk result (operated op signed place dest left right (draft u.old) ≡ draft u.new) }
+{
     if divides(op) {
         put(
             u,
@@ -218,6 +256,7 @@ pub fn operate(
 }
 
 /// A binary operator on fields. A zero divisor at an active position is a fault at the place.
+#[tactic(auto, unfolding(crate::specs::Steps::fields_operated, crate::specs::Steps::on_fields, crate::specs::Steps::with_field_check))]
 pub fn operate_fields(
     op: Op,
     signed: bool,
@@ -226,7 +265,9 @@ pub fn operate_fields(
     left: Field,
     right: Field,
     u: &mut Unit,
-) -> Result<(), Memory> {
+) -> Result<(), Memory>
+    ensures draft { OnOk result (fields_operated op signed place dest left right (draft u.old) ≡ Makes (O.Field dest) (draft u.new)) }
+{
     if divides(op) {
         put(
             u,
@@ -262,6 +303,7 @@ pub fn operate_fields(
 
 /// A binary operator on a field and a right operand. A word that the instruction cannot take, or
 /// that has to be checked as a divisor, is spread into `spare`.
+#[tactic(auto, unfolding(crate::specs::Steps::right_operated, crate::specs::Steps::on_word, crate::specs::Steps::fields_operated))]
 pub fn operate_right(
     op: Op,
     signed: bool,
@@ -271,7 +313,9 @@ pub fn operate_right(
     right: Right,
     spare: Field,
     u: &mut Unit,
-) -> Result<(), Memory> {
+) -> Result<(), Memory>
+    ensures draft { OnOk result (right_operated op signed place dest left right spare (draft u.old) ≡ Makes (O.Field dest) (draft u.new)) }
+{
     match right {
         Right::Field(right) => operate_fields(op, signed, place, dest, left, right, u),
         Right::Word(word) => match machine_op(op, signed) {
@@ -299,7 +343,10 @@ pub fn operate_right(
 }
 
 /// Whether the operation takes the word as it is: a divisor only where it is known not to be 0.
-fn takes_word(op: Op, word: Konst) -> bool {
+#[tactic(auto, unfolding(crate::specs::Steps::takes_word))]
+fn takes_word(op: Op, word: Konst) -> bool
+    ensures { result ≡ takes_word op word }
+{
     match word {
         Konst::Imm(_) => true,
         Konst::Reg(_) => !divides(op),
@@ -307,7 +354,10 @@ fn takes_word(op: Op, word: Konst) -> bool {
 }
 
 /// An operand of a parallel operation as a field: a register is spread into `spare`.
-pub fn as_field(v: Out, spare: Field, u: &mut Unit) -> Result<Field, Memory> {
+#[tactic(auto, unfolding(crate::specs::Steps::in_a_field))]
+pub fn as_field(v: Out, spare: Field, u: &mut Unit) -> Result<Field, Memory>
+    ensures draft { IfOk result (λ f. in_a_field v spare (draft u.old) ≡ Makes f (draft u.new)) }
+{
     match v {
         Out::Field(field) => Ok(field),
         Out::Scalar(r) => {
@@ -325,7 +375,10 @@ pub fn as_field(v: Out, spare: Field, u: &mut Unit) -> Result<Field, Memory> {
 }
 
 /// A unary operator other than `+`.
-pub fn unary(op: UnaryOp, dest: Out, v: Out, u: &mut Unit) -> Result<(), Memory> {
+#[tactic(auto, unfolding(crate::specs::Steps::negated, lower_comm::specs::Drafts::in_register, lower_comm::specs::Drafts::in_field))]
+pub fn unary(op: UnaryOp, dest: Out, v: Out, u: &mut Unit) -> Result<(), Memory>
+    ensures draft { OnOk result (negated op dest v (draft u.old) ≡ Makes dest (draft u.new)) }
+{
     match dest {
         Out::Scalar(dest) => {
             let source = v.register()?;
@@ -339,7 +392,10 @@ pub fn unary(op: UnaryOp, dest: Out, v: Out, u: &mut Unit) -> Result<(), Memory>
     }
 }
 
-fn unary_register(op: UnaryOp, dest: u32, source: u32, u: &mut Unit) -> Result<(), Memory> {
+#[tactic(auto, unfolding(crate::specs::Steps::register_negated))]
+fn unary_register(op: UnaryOp, dest: u32, source: u32, u: &mut Unit) -> Result<(), Memory>
+    ensures draft { OnOk result (register_negated op dest source (draft u.old) ≡ Makes (O.Scalar dest) (draft u.new)) }
+{
     match op {
         UnaryOp::Plus => put(u, Instr::FrontMove { dest, source }),
         UnaryOp::Minus => put(u, Instr::FrontNegate { dest, source }),
@@ -359,7 +415,10 @@ fn unary_register(op: UnaryOp, dest: u32, source: u32, u: &mut Unit) -> Result<(
     }
 }
 
-fn unary_field(op: UnaryOp, dest: Field, source: Field, u: &mut Unit) -> Result<(), Memory> {
+#[tactic(auto, unfolding(crate::specs::Steps::field_negated))]
+fn unary_field(op: UnaryOp, dest: Field, source: Field, u: &mut Unit) -> Result<(), Memory>
+    ensures draft { OnOk result (field_negated op dest source (draft u.old) ≡ Makes (O.Field dest) (draft u.new)) }
+{
     match op {
         UnaryOp::Plus => put(
             u,
@@ -379,12 +438,15 @@ fn unary_field(op: UnaryOp, dest: Field, source: Field, u: &mut Unit) -> Result<
 }
 
 /// Prints the pieces of a text; each conversion takes the next value.
+#[tactic(auto, unfolding(crate::specs::Steps::pieces_printed, lower_comm::specs::Drafts::in_register))]
 pub fn print_pieces(
     alloc: Global,
     pieces: &[Piece],
     values: &[Out],
     u: &mut Unit,
-) -> Result<(), Memory> {
+) -> Result<(), Memory>
+    ensures draft { OnOk result (pieces_printed pieces.now values.now (draft u.old) ≡ Makes O.Nothing (draft u.new)) }
+{
     let mut next = 0usize;
     for piece in pieces {
         match piece {
@@ -411,7 +473,10 @@ pub fn print_pieces(
     Ok(())
 }
 
-fn number_format(format: Format) -> NumberFormat {
+#[tactic(auto, unfolding(crate::specs::Steps::format_of))]
+fn number_format(format: Format) -> NumberFormat
+    ensures { result ≡ format_of format }
+{
     match format {
         Format::Signed => NumberFormat::Signed,
         Format::Unsigned => NumberFormat::Unsigned,
@@ -423,7 +488,10 @@ fn number_format(format: Format) -> NumberFormat {
 
 /// Whether the operator of a compound assignment reads its operands signed: a shift has the type of
 /// the target, and every other operator that of the value, which is the common type.
-pub fn assign_signed(op: Op, target: Elem, value: Elem) -> bool {
+#[tactic(auto, unfolding(crate::specs::Steps::assigned_signed))]
+pub fn assign_signed(op: Op, target: Elem, value: Elem) -> bool
+    ensures { result ≡ assigned_signed op target value }
+{
     if op == Op::Shl || op == Op::Shr {
         promoted_signed(target)
     } else {

@@ -2,33 +2,35 @@
 //! its parts are taken behind it, in the order of the text. A variable is copied, since a later part
 //! may change it.
 
+ghost use Rattle.std.specs.Prelude.{◌≡◌, [], IfOk, OnOk};
+ghost use Rattle.lower_comm.specs.Drafts.{Makes, draft};
+ghost use Rattle.lower_comm.specs.Layouts.{layout};
+ghost use Rattle.lower_expr.specs.Values.{spread_into, right_by, scalar_logical_of, parallel_logical_of, scalar_choice_of, parallel_choice_of, value_of, spot_of, values_in, compound_of, spread_of};
+
+use crate::assign::{fold_into_register, is_send, step_in, update_field, update_register};
+use crate::leaves::{by_news, cast_all, coordinate, fresh, is_plus, next_byte, right_value};
 use crate::length::length;
-use crate::spots::{Spot, bare, check_index, load, store};
+use crate::logical::{
+    begin_logical, decide, end_logical, end_parallel, limit, test_nonzero, turn_over,
+};
+use crate::spots::{Spot, check_index, load, store};
 use crate::steps::{
     Right, as_field, assign_signed, constant, constant_word, convert, immediate, operate,
-    operate_right, print_pieces, set, stays_scalar, test_value, unary,
+    operate_right, print_pieces, set, stays_scalar, unary,
 };
 use cstar_base::{Memory, Op};
-use cstar_tree::syntax::StepOp;
-use cstar_tree::typed::{StepOrder, TExpr, Typed, UnaryOp, ValueType};
+use cstar_tree::typed::{TExpr, Typed};
 use lower_comm::Out;
-use lower_comm::emit::{field, flag, here, plus, put, register};
-use lower_comm::messages::{address_of, check_grid, comm_in, goes_by_news, locate_in};
+use lower_comm::emit::{field, flag, plus, put, register};
+use lower_comm::messages::{address_of, comm_in, goes_by_news, locate_in};
 use lower_comm::names::Names;
 use lower_comm::operators::{assign_op, promoted_signed};
 use paris_code::{Field, Instr, Konst, Unit};
 use std::alloc::Global;
 
-/// A fresh register or field for a value of the type.
-fn fresh(ty: ValueType, u: &mut Unit) -> Result<Out, Memory> {
-    match ty.shape {
-        Some(set) => Ok(Out::Field(field(u, set)?)),
-        None => Ok(Out::Scalar(register(u)?)),
-    }
-}
-
 /// The value of a parallel expression in a field, that of a promoted scalar too.
 #[cycle(value)]
+#[tactic(auto, unfolding(crate::specs::Values::spread_of, crate::specs::Values::spread_by, lower_comm::specs::Drafts::then_make))]
 pub fn spread(
     alloc: Global,
     t: &Typed,
@@ -36,7 +38,9 @@ pub fn spread(
     e: &TExpr,
     shape: u16,
     u: &mut Unit,
-) -> Result<Out, Memory> {
+) -> Result<Out, Memory>
+    ensures draft { IfOk result (λ out. spread_of t.now (layout names.now) e.now shape (draft u.old) ≡ Makes out (draft u.new)) }
+{
     if stays_scalar(e) {
         let dest = field(u, shape)?;
         Ok(Out::Field(spread_to(alloc, t, names, e, dest, u)?))
@@ -47,6 +51,7 @@ pub fn spread(
 
 /// The value of a parallel operand in a field; that of a promoted scalar is spread into `dest`.
 #[cycle(value)]
+#[tactic(auto, unfolding(crate::specs::Values::spread_into, lower_comm::specs::Drafts::then_make))]
 fn spread_to(
     alloc: Global,
     t: &Typed,
@@ -54,7 +59,9 @@ fn spread_to(
     e: &TExpr,
     dest: Field,
     u: &mut Unit,
-) -> Result<Field, Memory> {
+) -> Result<Field, Memory>
+    ensures draft { IfOk result (λ f. spread_into (value_of t.now (layout names.now) e.now) e.now dest (draft u.old) ≡ Makes f (draft u.new)) }
+{
     match constant_word(e) {
         Some(word) => {
             let value = Konst::Imm(word);
@@ -70,6 +77,7 @@ fn spread_to(
 
 /// The right operand of a parallel operation: a constant that the instruction takes has no code.
 #[cycle(value)]
+#[tactic(auto, unfolding(crate::specs::Values::right_by, lower_comm::specs::Drafts::then_make, lower_comm::specs::Drafts::from))]
 fn right_operand(
     alloc: Global,
     t: &Typed,
@@ -77,31 +85,38 @@ fn right_operand(
     op: Op,
     e: &TExpr,
     u: &mut Unit,
-) -> Result<Right, Memory> {
+) -> Result<Right, Memory>
+    ensures draft { IfOk result (λ right. right_by (value_of t.now (layout names.now) e.now) op e.now (draft u.old) ≡ Makes right (draft u.new)) }
+{
     match immediate(op, e) {
         Some(word) => Ok(Right::Word(Konst::Imm(word))),
-        None => match value(alloc, t, names, e, u)? {
-            Out::Field(field) => Ok(Right::Field(field)),
-            Out::Scalar(register) => Ok(Right::Word(Konst::Reg(register))),
-            Out::Nothing => Err(Memory),
-        },
+        None => {
+            let v = value(alloc, t, names, e, u)?;
+            right_value(v)
+        }
     }
 }
 
 /// The value of an expression. That of a promoted scalar stays in its register.
 #[cycle(value)]
+#[tactic(auto, unfolding(crate::specs::Values::value_of, crate::specs::Values::spread_of, lower_comm::specs::Drafts::then_make, lower_comm::specs::Drafts::in_register))]
 pub fn value(
     alloc: Global,
     t: &Typed,
     names: &Names,
     e: &TExpr,
     u: &mut Unit,
-) -> Result<Out, Memory> {
+) -> Result<Out, Memory>
+    ensures draft { IfOk result (λ out. value_of t.now (layout names.now) e.now (draft u.old) ≡ Makes out (draft u.new)) }
+{
     match e {
-        TExpr::Number { value, .. }
-        | TExpr::PositionsOf { value, .. }
-        | TExpr::RankOf { value, .. }
-        | TExpr::DimOf { value, .. } => constant(*value, u),
+        TExpr::Number { value, .. } => constant(*value, u),
+        TExpr::PositionsOf { value, .. } => constant(*value, u),
+        TExpr::RankOf { value, .. } => constant(*value, u),
+        TExpr::DimOf { value, .. } => constant(*value, u),
+        TExpr::Dot { ty, axis } => coordinate(ty.shape, *axis, u),
+        TExpr::Pcoord { ty, axis } => coordinate(ty.shape, *axis, u),
+        TExpr::GetChar { .. } => next_byte(u),
         TExpr::Brackets { inner, .. } => value(alloc, t, names, inner, u),
         TExpr::Promote { operand, .. } => value(alloc, t, names, operand, u),
         TExpr::Convert { ty, operand } => {
@@ -110,69 +125,35 @@ pub fn value(
         }
         TExpr::Casts { elems, operand, .. } => {
             let v = value(alloc, t, names, operand, u)?;
-            let r = v.register()?;
-            for kind in elems.iter().rev() {
-                put(
-                    u,
-                    Instr::FrontConvert {
-                        dest: r,
-                        source: r,
-                        kind: *kind,
-                    },
-                )?;
-            }
+            cast_all(elems.as_slice(), v.register()?, u)?;
             Ok(v)
         }
         TExpr::ParallelCast { ty, operand } => {
             let v = spread(alloc, t, names, operand, ty.shape.unwrap_or(0), u)?;
             convert(v, ty.elem, u)
         }
-        TExpr::Dot { ty, axis } | TExpr::Pcoord { ty, axis } => {
-            let dest = field(u, ty.shape.unwrap_or(0))?;
-            put(u, Instr::MyNewsCoordinate { dest, axis: *axis })?;
-            Ok(Out::Field(dest))
-        }
-        TExpr::GetChar { .. } => {
-            let dest = register(u)?;
-            put(u, Instr::FrontGetByte { dest })?;
-            Ok(Out::Scalar(dest))
-        }
-        TExpr::LeftIndex { ty, .. } if goes_by_news(e) => {
-            let dest = fresh(*ty, u)?;
-            check_grid(alloc, e, u)?;
-            comm_in(t, names, e, Out::Nothing, &[], dest, u)
-        }
-        TExpr::Variable { .. } | TExpr::Element { .. } | TExpr::LeftIndex { .. } => {
-            let dest = fresh(e.ty(), u)?;
-            let spot = spot(alloc, t, names, e, u)?;
-            load(t, names, e, spot, dest, u)?;
-            Ok(dest)
-        }
         TExpr::Binary { .. } | TExpr::Unary { .. } => operator(alloc, t, names, e, u),
         TExpr::LogicalOr { .. } | TExpr::LogicalAnd { .. } | TExpr::Choice { .. } => {
             chosen(alloc, t, names, e, u)
         }
-        TExpr::Assign { .. } | TExpr::Step { .. } => assignment(alloc, t, names, e, u),
-        TExpr::Reduce { .. }
-        | TExpr::Scan { .. }
-        | TExpr::Enumerate { .. }
-        | TExpr::Call { .. }
-        | TExpr::Printf { .. } => called(alloc, t, names, e, u),
+        TExpr::Variable { .. } | TExpr::Element { .. } => reference(alloc, t, names, e, u),
+        TExpr::LeftIndex { .. } => indexed(alloc, t, names, e, u),
+        TExpr::Assign { .. } => assignment(alloc, t, names, e, u),
+        TExpr::Step { .. } | TExpr::Reduce { .. } | TExpr::Scan { .. } | TExpr::Enumerate { .. } =>
+            { message(alloc, t, names, e, u) }
+        TExpr::Call { .. } | TExpr::Printf { .. } => called(alloc, t, names, e, u),
     }
 }
 
 /// A unary or binary operator.
 #[cycle(value)]
-fn operator(
-    alloc: Global,
-    t: &Typed,
-    names: &Names,
-    e: &TExpr,
-    u: &mut Unit,
-) -> Result<Out, Memory> {
+#[tactic(auto, unfolding(crate::specs::Values::value_of, crate::specs::Values::unary_by, crate::specs::Values::binary_at, lower_comm::specs::Drafts::then_make, lower_comm::specs::Drafts::in_register))]
+fn operator(alloc: Global, t: &Typed, names: &Names, e: &TExpr, u: &mut Unit) -> Result<Out, Memory>
+    ensures draft { IfOk result (λ out. value_of t.now (layout names.now) e.now (draft u.old) ≡ Makes out (draft u.new)) }
+{
     match e {
         TExpr::Unary { ty, op, operand } => {
-            if *op == UnaryOp::Plus {
+            if is_plus(*op) {
                 return value(alloc, t, names, operand, u);
             }
             let dest = fresh(*ty, u)?;
@@ -187,22 +168,22 @@ fn operator(
             left,
             right,
         } => {
-            let dest = fresh(*ty, u)?;
             let signed = promoted_signed(left.ty().elem);
-            match dest {
+            match fresh(*ty, u)? {
                 Out::Scalar(r) => {
                     let a = value(alloc, t, names, left, u)?.register()?;
                     let b = value(alloc, t, names, right, u)?.register()?;
                     operate(*op, signed, *place, r, a, b, u)?;
+                    Ok(Out::Scalar(r))
                 }
                 Out::Field(f) => {
                     let a = spread_to(alloc, t, names, left, f, u)?;
                     let b = right_operand(alloc, t, names, *op, right, u)?;
                     operate_right(*op, signed, *place, f, a, b, f, u)?;
+                    Ok(Out::Field(f))
                 }
-                Out::Nothing => return Err(Memory),
+                Out::Nothing => Err(Memory),
             }
-            Ok(dest)
         }
         _ => Err(Memory),
     }
@@ -210,9 +191,16 @@ fn operator(
 
 /// An operator that chooses which of its operands are evaluated, and where.
 #[cycle(value)]
-fn chosen(alloc: Global, t: &Typed, names: &Names, e: &TExpr, u: &mut Unit) -> Result<Out, Memory> {
+#[tactic(auto, unfolding(crate::specs::Values::value_of, crate::specs::Values::logical_by, crate::specs::Values::choice_by, crate::specs::Values::scalar_logical_of, crate::specs::Values::parallel_logical_of, crate::specs::Values::scalar_choice_of, crate::specs::Values::parallel_choice_of, lower_comm::specs::Drafts::then_make))]
+fn chosen(alloc: Global, t: &Typed, names: &Names, e: &TExpr, u: &mut Unit) -> Result<Out, Memory>
+    ensures draft { IfOk result (λ out. value_of t.now (layout names.now) e.now (draft u.old) ≡ Makes out (draft u.new)) }
+{
     match e {
-        TExpr::LogicalOr { ty, .. } | TExpr::LogicalAnd { ty, .. } => match ty.shape {
+        TExpr::LogicalOr { ty, .. } => match ty.shape {
+            None => scalar_logical(alloc, t, names, e, u),
+            Some(set) => parallel_logical(alloc, t, names, e, set, u),
+        },
+        TExpr::LogicalAnd { ty, .. } => match ty.shape {
             None => scalar_logical(alloc, t, names, e, u),
             Some(set) => parallel_logical(alloc, t, names, e, set, u),
         },
@@ -220,72 +208,50 @@ fn chosen(alloc: Global, t: &Typed, names: &Names, e: &TExpr, u: &mut Unit) -> R
             let dest = fresh(*ty, u)?;
             if stays_scalar(test) {
                 scalar_choice(alloc, t, names, e, dest, u)?;
+                Ok(dest)
             } else {
                 parallel_choice(alloc, t, names, e, dest, u)?;
+                Ok(dest)
             }
-            Ok(dest)
         }
         _ => Err(Memory),
     }
 }
 
-/// Jumps where the left operand of `&&` is zero, or that of `||` is not.
-fn jump_if_decided(is_or: bool, test: u32, target: u32, u: &mut Unit) -> Result<(), Memory> {
-    if is_or {
-        put(u, Instr::FrontJumpNonzero { test, target })
-    } else {
-        put(u, Instr::FrontJumpZero { test, target })
-    }
-}
-
-/// Narrows the context to where the left operand of `&&` is not zero, or that of `||` is.
-fn narrow(is_or: bool, source: Field, u: &mut Unit) -> Result<(), Memory> {
-    put(u, Instr::NeZero { source })?;
-    if is_or {
-        put(u, Instr::LogandcContextWithTest { set: source.set })
-    } else {
-        put(u, Instr::LogandContextWithTest { set: source.set })
-    }
-}
-
-/// `&&` and `||` of scalars: the result begins as what a decided left operand gives.
+/// `&&` and `||` of scalars.
 #[cycle(value)]
+#[tactic(auto, unfolding(crate::specs::Values::scalar_logical_of, crate::specs::Values::scalar_logical_by, lower_comm::specs::Drafts::then_make))]
 fn scalar_logical(
     alloc: Global,
     t: &Typed,
     names: &Names,
     e: &TExpr,
     u: &mut Unit,
-) -> Result<Out, Memory> {
-    let (TExpr::LogicalOr { left, right, .. } | TExpr::LogicalAnd { left, right, .. }) = e else {
-        return Err(Memory);
-    };
-    let is_or = matches!(e, TExpr::LogicalOr { .. });
-    let dest = register(u)?;
-    put(
-        u,
-        Instr::FrontConst {
-            dest,
-            value: u32::from(is_or),
-        },
-    )?;
-    let a = value(alloc, t, names, left, u)?.register()?;
-    let end = plus(plus(here(u)?, length(t, names, right)?)?, 3)?;
-    jump_if_decided(is_or, a, end, u)?;
-    let b = value(alloc, t, names, right, u)?.register()?;
-    jump_if_decided(is_or, b, end, u)?;
-    put(
-        u,
-        Instr::FrontConst {
-            dest,
-            value: u32::from(!is_or),
-        },
-    )?;
-    Ok(Out::Scalar(dest))
+) -> Result<Out, Memory>
+    ensures draft { IfOk result (λ out. scalar_logical_of t.now (layout names.now) e.now (draft u.old) ≡ Makes out (draft u.new)) }
+{
+    match e {
+        TExpr::LogicalOr { left, right, .. } => {
+            let dest = begin_logical(true, u)?;
+            let a = value(alloc, t, names, left, u)?;
+            let end = decide(true, a, length(t, names, right)?, 3, u)?;
+            let b = value(alloc, t, names, right, u)?;
+            end_logical(true, dest, b, end, u)
+        }
+        TExpr::LogicalAnd { left, right, .. } => {
+            let dest = begin_logical(false, u)?;
+            let a = value(alloc, t, names, left, u)?;
+            let end = decide(false, a, length(t, names, right)?, 3, u)?;
+            let b = value(alloc, t, names, right, u)?;
+            end_logical(false, dest, b, end, u)
+        }
+        _ => Err(Memory),
+    }
 }
 
 /// `&&` and `||` with a parallel operand.
 #[cycle(value)]
+#[tactic(auto, unfolding(crate::specs::Values::parallel_logical_of, crate::specs::Values::parallel_logical_by, crate::specs::Values::decided_by, crate::specs::Values::limited_by, lower_comm::specs::Drafts::then_make))]
 fn parallel_logical(
     alloc: Global,
     t: &Typed,
@@ -293,51 +259,59 @@ fn parallel_logical(
     e: &TExpr,
     set: u16,
     u: &mut Unit,
-) -> Result<Out, Memory> {
-    let (TExpr::LogicalOr { left, right, .. } | TExpr::LogicalAnd { left, right, .. }) = e else {
-        return Err(Memory);
-    };
-    let is_or = matches!(e, TExpr::LogicalOr { .. });
+) -> Result<Out, Memory>
+    ensures draft { IfOk result (λ out. parallel_logical_of t.now (layout names.now) e.now set (draft u.old) ≡ Makes out (draft u.new)) }
+{
     let dest = field(u, set)?;
     let saved = flag(u, set)?;
-    put(
-        u,
-        Instr::MoveConstant {
-            dest,
-            value: Konst::Imm(u32::from(is_or)),
-        },
-    )?;
-    let a = value(alloc, t, names, left, u)?;
-    if stays_scalar(left) {
-        let end = plus(plus(here(u)?, length(t, names, right)?)?, 4)?;
-        jump_if_decided(is_or, a.register()?, end, u)?;
-        let b = value(alloc, t, names, right, u)?.field()?;
-        put(u, Instr::NeZero { source: b })?;
-        test_value(dest, u)?;
-        return Ok(Out::Field(dest));
+    match e {
+        TExpr::LogicalOr { left, right, .. } => {
+            let value_decided = Konst::Imm(1);
+            put(
+                u,
+                Instr::MoveConstant {
+                    dest,
+                    value: value_decided,
+                },
+            )?;
+            let a = value(alloc, t, names, left, u)?;
+            if stays_scalar(left) {
+                decide(true, a, length(t, names, right)?, 4, u)?;
+                let b = value(alloc, t, names, right, u)?;
+                test_nonzero(dest, b, u)
+            } else {
+                limit(true, saved, a, u)?;
+                let b = value(alloc, t, names, right, u)?;
+                end_parallel(true, dest, saved, stays_scalar(right), b, u)
+            }
+        }
+        TExpr::LogicalAnd { left, right, .. } => {
+            let value_decided = Konst::Imm(0);
+            put(
+                u,
+                Instr::MoveConstant {
+                    dest,
+                    value: value_decided,
+                },
+            )?;
+            let a = value(alloc, t, names, left, u)?;
+            if stays_scalar(left) {
+                decide(false, a, length(t, names, right)?, 4, u)?;
+                let b = value(alloc, t, names, right, u)?;
+                test_nonzero(dest, b, u)
+            } else {
+                limit(false, saved, a, u)?;
+                let b = value(alloc, t, names, right, u)?;
+                end_parallel(false, dest, saved, stays_scalar(right), b, u)
+            }
+        }
+        _ => Err(Memory),
     }
-    put(u, Instr::StoreContext { dest: saved })?;
-    narrow(is_or, a.field()?, u)?;
-    let b = value(alloc, t, names, right, u)?;
-    if stays_scalar(right) {
-        let end = plus(here(u)?, 2)?;
-        jump_if_decided(is_or, b.register()?, end, u)?;
-    } else {
-        narrow(is_or, b.field()?, u)?;
-    }
-    put(
-        u,
-        Instr::MoveConstant {
-            dest,
-            value: Konst::Imm(u32::from(!is_or)),
-        },
-    )?;
-    put(u, Instr::LoadContext { source: saved })?;
-    Ok(Out::Field(dest))
 }
 
 /// `?:` with a scalar condition: one of the two is evaluated.
 #[cycle(value)]
+#[tactic(auto, unfolding(crate::specs::Values::scalar_choice_of, crate::specs::Values::scalar_choice_by, lower_comm::specs::Drafts::then_make))]
 fn scalar_choice(
     alloc: Global,
     t: &Typed,
@@ -345,7 +319,9 @@ fn scalar_choice(
     e: &TExpr,
     dest: Out,
     u: &mut Unit,
-) -> Result<(), Memory> {
+) -> Result<(), Memory>
+    ensures draft { OnOk result (scalar_choice_of t.now (layout names.now) e.now dest (draft u.old) ≡ Makes dest (draft u.new)) }
+{
     let TExpr::Choice {
         test,
         then,
@@ -355,25 +331,19 @@ fn scalar_choice(
     else {
         return Err(Memory);
     };
-    let test = value(alloc, t, names, test, u)?.register()?;
-    let other = plus(plus(here(u)?, length(t, names, then)?)?, 3)?;
-    put(
-        u,
-        Instr::FrontJumpZero {
-            test,
-            target: other,
-        },
-    )?;
+    let c = value(alloc, t, names, test, u)?;
+    let other = decide(false, c, length(t, names, then)?, 3, u)?;
     let a = value(alloc, t, names, then, u)?;
     set(dest, a, u)?;
-    let end = plus(plus(other, length(t, names, otherwise)?)?, 1)?;
-    put(u, Instr::FrontJump { target: end })?;
+    let target = plus(plus(other, length(t, names, otherwise)?)?, 1)?;
+    put(u, Instr::FrontJump { target })?;
     let b = value(alloc, t, names, otherwise, u)?;
     set(dest, b, u)
 }
 
 /// `?:` with a parallel condition: both are evaluated, each where it counts.
 #[cycle(value)]
+#[tactic(auto, unfolding(crate::specs::Values::parallel_choice_of, crate::specs::Values::parallel_choice_by, lower_comm::specs::Drafts::then_make, lower_comm::specs::Drafts::in_field))]
 fn parallel_choice(
     alloc: Global,
     t: &Typed,
@@ -381,7 +351,9 @@ fn parallel_choice(
     e: &TExpr,
     dest: Out,
     u: &mut Unit,
-) -> Result<(), Memory> {
+) -> Result<(), Memory>
+    ensures draft { OnOk result (parallel_choice_of t.now (layout names.now) e.now dest (draft u.old) ≡ Makes dest (draft u.new)) }
+{
     let TExpr::Choice {
         test,
         then,
@@ -391,22 +363,73 @@ fn parallel_choice(
     else {
         return Err(Memory);
     };
-    let saved = flag(u, dest.field()?.set)?;
-    let condition = value(alloc, t, names, test, u)?.field()?;
-    put(u, Instr::StoreContext { dest: saved })?;
-    narrow(false, condition, u)?;
+    let shape = dest.field()?.set;
+    let saved = flag(u, shape)?;
+    let c = value(alloc, t, names, test, u)?;
+    let condition = limit(false, saved, c, u)?;
     let a = value(alloc, t, names, then, u)?;
     set(dest, a, u)?;
-    put(u, Instr::LoadContext { source: saved })?;
-    narrow(true, condition, u)?;
+    turn_over(saved, condition, u)?;
     let b = value(alloc, t, names, otherwise, u)?;
     set(dest, b, u)?;
     put(u, Instr::LoadContext { source: saved })
 }
 
+/// A variable or an element of an array.
+#[cycle(value)]
+#[tactic(auto, unfolding(crate::specs::Values::value_of, crate::specs::Values::spot_of, crate::specs::Values::read_by, lower_comm::specs::Drafts::then_make))]
+fn reference(
+    alloc: Global,
+    t: &Typed,
+    names: &Names,
+    e: &TExpr,
+    u: &mut Unit,
+) -> Result<Out, Memory>
+    ensures draft { IfOk result (λ out. value_of t.now (layout names.now) e.now (draft u.old) ≡ Makes out (draft u.new)) }
+{
+    match e {
+        TExpr::Variable { ty, .. } => {
+            let dest = fresh(*ty, u)?;
+            let spot = spot(alloc, t, names, e, u)?;
+            load(t, names, e, spot, dest, u)?;
+            Ok(dest)
+        }
+        TExpr::Element { ty, .. } => {
+            let dest = fresh(*ty, u)?;
+            let spot = spot(alloc, t, names, e, u)?;
+            load(t, names, e, spot, dest, u)?;
+            Ok(dest)
+        }
+        _ => Err(Memory),
+    }
+}
+
+/// A get, or a read of one element.
+#[cycle(value)]
+#[tactic(auto, using(crate::proofs::Lists::value_of_left_index), unfolding(crate::specs::Values::read_by, lower_comm::specs::Drafts::then_make))]
+fn indexed(alloc: Global, t: &Typed, names: &Names, e: &TExpr, u: &mut Unit) -> Result<Out, Memory>
+    ensures draft { IfOk result (λ out. value_of t.now (layout names.now) e.now (draft u.old) ≡ Makes out (draft u.new)) }
+{
+    match e {
+        TExpr::LeftIndex { ty, .. } => {
+            if goes_by_news(e) {
+                return by_news(alloc, t, names, e, *ty, u);
+            }
+            let dest = fresh(*ty, u)?;
+            let spot = spot(alloc, t, names, e, u)?;
+            load(t, names, e, spot, dest, u)?;
+            Ok(dest)
+        }
+        _ => Err(Memory),
+    }
+}
+
 /// Locates a target or a reference: its indexes, their range check, and the address.
 #[cycle(value)]
-fn spot(alloc: Global, t: &Typed, names: &Names, e: &TExpr, u: &mut Unit) -> Result<Spot, Memory> {
+#[tactic(auto, unfolding(crate::specs::Values::spot_of, crate::specs::Values::element_spot, crate::specs::Spots::variable_spot, lower_comm::specs::Drafts::then_make, lower_comm::specs::Drafts::in_register))]
+fn spot(alloc: Global, t: &Typed, names: &Names, e: &TExpr, u: &mut Unit) -> Result<Spot, Memory>
+    ensures draft { IfOk result (λ there. spot_of t.now (layout names.now) e.now (draft u.old) ≡ Makes there (draft u.new)) }
+{
     match e {
         TExpr::Brackets { inner, .. } => spot(alloc, t, names, inner, u),
         TExpr::Variable { ty, variable } => match ty.shape {
@@ -424,192 +447,196 @@ fn spot(alloc: Global, t: &Typed, names: &Names, e: &TExpr, u: &mut Unit) -> Res
             check_index(alloc, t, names, *array, set, *place, index, u)?;
             Ok(Spot::Element(*array, index))
         }
+        TExpr::LeftIndex { .. } => indexed_spot(alloc, t, names, e, u),
+        _ => Err(Memory),
+    }
+}
+
+/// Locates a left index.
+#[cycle(value)]
+#[tactic(auto, using(crate::proofs::Lists::spot_of_left_index), unfolding(crate::specs::Values::indexed_spot, lower_comm::specs::Drafts::then_make))]
+fn indexed_spot(
+    alloc: Global,
+    t: &Typed,
+    names: &Names,
+    e: &TExpr,
+    u: &mut Unit,
+) -> Result<Spot, Memory>
+    ensures draft { IfOk result (λ there. spot_of t.now (layout names.now) e.now (draft u.old) ≡ Makes there (draft u.new)) }
+{
+    match e {
         TExpr::LeftIndex { indexes, .. } => {
             let at = address_of(e, u)?;
-            let mut parts = Vec::new(alloc);
-            for index in indexes {
-                let part = value(alloc, t, names, index, u)?;
-                parts.push(part)?;
-            }
+            let parts = values(alloc, t, names, indexes.as_slice(), u)?;
             Ok(Spot::Indexed(locate_in(alloc, e, parts.as_slice(), at, u)?))
         }
         _ => Err(Memory),
     }
 }
 
-/// An assignment or a step.
+/// The values of a list of expressions, in the order of the text.
 #[cycle(value)]
+#[tactic(auto, unfolding(crate::specs::Values::values_in, lower_comm::specs::Drafts::then_make))]
+fn values(
+    alloc: Global,
+    t: &Typed,
+    names: &Names,
+    es: &[TExpr],
+    u: &mut Unit,
+) -> Result<Vec<Out>, Memory>
+    ensures draft { IfOk result (λ outs. values_in t.now (layout names.now) es.now [] (draft u.old) ≡ Makes outs.items (draft u.new)) }
+{
+    let mut outs = Vec::new(alloc);
+    for e in es {
+        let v = value(alloc, t, names, e, u)?;
+        outs.push(v)?;
+    }
+    Ok(outs)
+}
+
+/// An assignment.
+#[cycle(value)]
+#[tactic(auto, unfolding(crate::specs::Values::value_of, crate::specs::Values::spread_of, crate::specs::Values::assign_by, crate::specs::Values::sent_by, crate::specs::Values::assigned_by, crate::specs::Values::plainly_set_by, crate::specs::Values::set_by, crate::specs::Values::compound_of, lower_comm::specs::Drafts::then_make))]
 fn assignment(
     alloc: Global,
     t: &Typed,
     names: &Names,
     e: &TExpr,
     u: &mut Unit,
-) -> Result<Out, Memory> {
-    match e {
-        TExpr::Assign {
-            op,
-            place,
-            target,
-            value: right,
-            ..
-        } => {
-            let target_ty = target.ty();
-            match (target_ty.shape, assign_op(*op)) {
-                (Some(set), _) if is_send(target) => {
-                    let spot = spot(alloc, t, names, target, u)?;
-                    let v = spread(alloc, t, names, right, set, u)?;
-                    store(t, names, e, spot, v, u)?;
-                    Ok(Out::Nothing)
-                }
-                (Some(set), None) => {
-                    let spot = spot(alloc, t, names, target, u)?;
-                    let v = spread(alloc, t, names, right, set, u)?;
-                    store(t, names, e, spot, v, u)?;
-                    Ok(v)
-                }
-                (None, None) => {
-                    let spot = spot(alloc, t, names, target, u)?;
-                    let v = value(alloc, t, names, right, u)?;
-                    store(t, names, e, spot, v, u)?;
-                    Ok(v)
-                }
-                (Some(set), Some(op)) => {
-                    let dest = field(u, set)?;
-                    let spare = field(u, set)?;
-                    let spot = spot(alloc, t, names, target, u)?;
-                    let v = right_operand(alloc, t, names, op, right, u)?;
-                    load(t, names, target, spot, Out::Field(dest), u)?;
-                    let signed = assign_signed(op, target_ty.elem, right.ty().elem);
-                    operate_right(op, signed, *place, dest, dest, v, spare, u)?;
-                    convert(Out::Field(dest), target_ty.elem, u)?;
-                    store(t, names, e, spot, Out::Field(dest), u)?;
-                    Ok(Out::Field(dest))
-                }
-                (None, Some(op)) => {
-                    let dest = register(u)?;
-                    let spot = spot(alloc, t, names, target, u)?;
-                    let v = value(alloc, t, names, right, u)?;
-                    if stays_scalar(right) {
-                        load(t, names, target, spot, Out::Scalar(dest), u)?;
-                        let signed = assign_signed(op, target_ty.elem, right.ty().elem);
-                        operate(op, signed, *place, dest, dest, v.register()?, u)?;
-                        convert(Out::Scalar(dest), target_ty.elem, u)?;
-                    } else {
-                        let old = register(u)?;
-                        load(t, names, target, spot, Out::Scalar(old), u)?;
-                        let parts = [v, Out::Scalar(old)];
-                        comm_in(t, names, e, Out::Nothing, &parts, Out::Scalar(dest), u)?;
-                    }
-                    store(t, names, e, spot, Out::Scalar(dest), u)?;
-                    Ok(Out::Scalar(dest))
-                }
-            }
-        }
-        TExpr::Step { .. } => step(alloc, t, names, e, u),
-        _ => Err(Memory),
-    }
-}
-
-/// Whether an assignment to the target is a send.
-pub fn is_send(target: &TExpr) -> bool {
-    match bare(target) {
-        TExpr::LeftIndex { ty, .. } => ty.shape.is_some(),
-        _ => false,
-    }
-}
-
-/// `++` and `--`: the value before it, and the value behind it in a second register or field.
-#[cycle(value)]
-fn step(alloc: Global, t: &Typed, names: &Names, e: &TExpr, u: &mut Unit) -> Result<Out, Memory> {
-    let TExpr::Step {
+) -> Result<Out, Memory>
+    ensures draft { IfOk result (λ out. value_of t.now (layout names.now) e.now (draft u.old) ≡ Makes out (draft u.new)) }
+{
+    let TExpr::Assign {
         op,
-        order,
         target,
+        value: right,
+        ..
+    } = e
+    else {
+        return Err(Memory);
+    };
+    let shape = target.ty().shape;
+    if is_send(target) {
+        let spot = spot(alloc, t, names, target, u)?;
+        let v = spread(alloc, t, names, right, shape.unwrap_or(0), u)?;
+        store(t, names, e, spot, v, u)?;
+        return Ok(Out::Nothing);
+    }
+    match (assign_op(*op), shape) {
+        (None, Some(set)) => {
+            let spot = spot(alloc, t, names, target, u)?;
+            let v = spread(alloc, t, names, right, set, u)?;
+            store(t, names, e, spot, v, u)?;
+            Ok(v)
+        }
+        (None, None) => {
+            let spot = spot(alloc, t, names, target, u)?;
+            let v = value(alloc, t, names, right, u)?;
+            store(t, names, e, spot, v, u)?;
+            Ok(v)
+        }
+        (Some(op), _) => compound(alloc, t, names, e, op, u),
+    }
+}
+
+/// An assignment with an operator.
+#[cycle(value)]
+#[tactic(auto, unfolding(crate::specs::Values::compound_of, crate::specs::Values::updated_by, lower_comm::specs::Drafts::then_make))]
+fn compound(
+    alloc: Global,
+    t: &Typed,
+    names: &Names,
+    e: &TExpr,
+    op: Op,
+    u: &mut Unit,
+) -> Result<Out, Memory>
+    ensures draft { IfOk result (λ out. compound_of t.now (layout names.now) e.now op (draft u.old) ≡ Makes out (draft u.new)) }
+{
+    let TExpr::Assign {
+        place,
+        target,
+        value: right,
         ..
     } = e
     else {
         return Err(Memory);
     };
     let ty = target.ty();
-    let result = fresh(ty, u)?;
-    let second = fresh(ty, u)?;
-    let spot = spot(alloc, t, names, target, u)?;
-    let (old, new) = match *order {
-        StepOrder::Prefix => (second, result),
-        StepOrder::Postfix => (result, second),
-    };
-    load(t, names, target, spot, old, u)?;
-    step_once(*op, old, new, u)?;
-    convert(new, ty.elem, u)?;
-    store(t, names, e, spot, new, u)?;
-    Ok(result)
-}
-
-/// One more or one less.
-fn step_once(op: StepOp, old: Out, new: Out, u: &mut Unit) -> Result<(), Memory> {
-    let op = match op {
-        StepOp::Increment => paris_code::Operation::SAdd,
-        StepOp::Decrement => paris_code::Operation::SSubtract,
-    };
-    match new {
-        Out::Scalar(dest) => {
-            put(u, Instr::FrontConst { dest, value: 1 })?;
-            put(
-                u,
-                Instr::FrontOperate {
-                    op,
-                    dest,
-                    left: old.register()?,
-                    right: dest,
-                },
+    let signed = assign_signed(op, ty.elem, right.ty().elem);
+    match ty.shape {
+        Some(set) => {
+            let dest = field(u, set)?;
+            let spare = field(u, set)?;
+            let spot = spot(alloc, t, names, target, u)?;
+            let v = right_operand(alloc, t, names, op, right, u)?;
+            update_field(
+                t, names, e, op, signed, *place, target, dest, spare, spot, v, u,
             )
         }
-        Out::Field(dest) => {
-            let right = Konst::Imm(1);
-            put(
-                u,
-                Instr::OperateConstant {
-                    op,
-                    dest,
-                    left: old.field()?,
-                    right,
-                },
-            )
+        None => {
+            let dest = register(u)?;
+            let spot = spot(alloc, t, names, target, u)?;
+            let v = value(alloc, t, names, right, u)?;
+            if stays_scalar(right) {
+                update_register(t, names, e, op, signed, *place, target, dest, spot, v, u)
+            } else {
+                fold_into_register(t, names, e, target, dest, spot, v, u)
+            }
         }
-        Out::Nothing => Err(Memory),
     }
 }
 
-/// A reduction, a scan, an enumeration, a call or `printf`.
+/// A step, a reduction, a scan or an enumeration.
 #[cycle(value)]
-fn called(alloc: Global, t: &Typed, names: &Names, e: &TExpr, u: &mut Unit) -> Result<Out, Memory> {
+#[tactic(auto, unfolding(crate::specs::Values::value_of, crate::specs::Values::step_by, crate::specs::Values::message_by, lower_comm::specs::Drafts::then_make))]
+fn message(alloc: Global, t: &Typed, names: &Names, e: &TExpr, u: &mut Unit) -> Result<Out, Memory>
+    ensures draft { IfOk result (λ out. value_of t.now (layout names.now) e.now (draft u.old) ≡ Makes out (draft u.new)) }
+{
     match e {
-        TExpr::Reduce { ty, operand, .. }
-        | TExpr::Scan {
-            ty,
-            source: operand,
+        TExpr::Step {
+            op,
+            order,
+            target,
             ..
         } => {
+            let ty = target.ty();
+            let outcome = fresh(ty, u)?;
+            let second = fresh(ty, u)?;
+            let spot = spot(alloc, t, names, target, u)?;
+            step_in(t, names, e, *op, *order, target, spot, outcome, second, u)
+        }
+        TExpr::Reduce { ty, operand, .. } => {
             let dest = fresh(*ty, u)?;
             let v = value(alloc, t, names, operand, u)?;
+            comm_in(t, names, e, Out::Nothing, &[v], dest, u)
+        }
+        TExpr::Scan { ty, source, .. } => {
+            let dest = fresh(*ty, u)?;
+            let v = value(alloc, t, names, source, u)?;
             comm_in(t, names, e, Out::Nothing, &[v], dest, u)
         }
         TExpr::Enumerate { ty, .. } => {
             let dest = fresh(*ty, u)?;
             comm_in(t, names, e, Out::Nothing, &[], dest, u)
         }
+        _ => Err(Memory),
+    }
+}
+
+/// A call or `printf`, behind the values of its arguments.
+#[cycle(value)]
+#[tactic(auto, using(crate::proofs::Lists::value_of_call, crate::proofs::Lists::value_of_printf), unfolding(lower_comm::specs::Drafts::then_make))]
+fn called(alloc: Global, t: &Typed, names: &Names, e: &TExpr, u: &mut Unit) -> Result<Out, Memory>
+    ensures draft { IfOk result (λ out. value_of t.now (layout names.now) e.now (draft u.old) ≡ Makes out (draft u.new)) }
+{
+    match e {
         TExpr::Call {
             ty,
             instance,
             arguments,
         } => {
             let dest = fresh(*ty, u)?;
-            let mut outs = Vec::new(alloc);
-            for argument in arguments {
-                let v = value(alloc, t, names, argument, u)?;
-                outs.push(v)?;
-            }
+            let outs = values(alloc, t, names, arguments.as_slice(), u)?;
             crate::frames::enter(t, names, *instance, outs.as_slice(), dest, u)
         }
         TExpr::Printf {
@@ -617,11 +644,7 @@ fn called(alloc: Global, t: &Typed, names: &Names, e: &TExpr, u: &mut Unit) -> R
             arguments,
             ..
         } => {
-            let mut outs = Vec::new(alloc);
-            for argument in arguments {
-                let v = value(alloc, t, names, argument, u)?;
-                outs.push(v)?;
-            }
+            let outs = values(alloc, t, names, arguments.as_slice(), u)?;
             print_pieces(alloc, pieces.as_slice(), outs.as_slice(), u)?;
             Ok(Out::Nothing)
         }

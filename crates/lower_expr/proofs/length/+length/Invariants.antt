@@ -1,0 +1,8 @@
+use Rattle.std.proofs.Common.{◌≡◌, ◌+◌, drop}
+use Rattle.lower_comm.specs.Layouts.{layout}
+use Rattle.lower_expr.specs.Lengths.{lengths_in}
+use Rattle.lower_expr.proofs.length.+length.Given as goal
+
+abbrev pub invariant-lengths-loop-e : goal.invariant-lengths-loop-e
+invariant-lengths-loop-e l =
+    l.sum + lengths_in l.t (layout l.names) (drop l.e-index l.es) ≡ lengths_in l.t (layout l.names) l.es

@@ -1,0 +1,236 @@
+-- How many instructions an expression compiles to. Jumps are written once, since the lengths of
+-- what they pass over are known beforehand.
+use Rattle.std.specs.Prelude.{ℕ, ◌+◌, ◌-◌, Bool, true, false, ◌==◌, ◌&&◌, ◌||◌, if◌then◌else◌, List, [], ◌∷◌, length, slice_get, Option, Some, None, is_none, is_some}
+use Rattle.cstar_base.specs.declared.elem.Elem.{Elem}
+use Rattle.cstar_base.specs.declared.operators.Op.{Op}
+use Rattle.cstar_base.specs.Operators.{divides}
+use Rattle.cstar_tree.specs.declared.syntax.AssignOp.{AssignOp}
+use Rattle.cstar_tree.specs.declared.syntax.AssignOp.TheVariants as A
+use Rattle.cstar_tree.specs.declared.syntax.ReduceOp.{ReduceOp}
+use Rattle.cstar_tree.specs.declared.syntax.ReduceOp.TheVariants as Rd
+use Rattle.cstar_tree.specs.declared.typed.Instance.{Instance}
+use Rattle.cstar_tree.specs.declared.typed.TExpr.{TExpr, Row_of-TExpr, end_of-TExpr, more_of-TExpr, items-the_row-TExpr}
+use Rattle.cstar_tree.specs.declared.typed.TExpr as T
+use Rattle.cstar_tree.specs.declared.typed.Typed.{Typed}
+use Rattle.cstar_tree.specs.declared.typed.UnaryOp.{UnaryOp}
+use Rattle.cstar_tree.specs.declared.typed.UnaryOp.TheVariants as Un
+use Rattle.cstar_tree.specs.declared.typed.VarInfo.{VarInfo}
+use Rattle.cstar_tree.specs.Typed.{type_of}
+use Rattle.lower_comm.specs.declared.news.NewsStep.{NewsStep}
+use Rattle.lower_comm.specs.Layouts.{Layout, elements_of}
+use Rattle.lower_comm.specs.News.{step_of, goes_by_news}
+use Rattle.lower_comm.specs.Operators.{assign_op_of}
+use Rattle.lower_expr.specs.Steps.{is_kept, word_of, relates, word_taken}
+
+-- a conversion in place
+unfoldable pub conversion_length : Bool → Elem → ℕ
+conversion_length scalar elem =
+    if elem.bits == 32 then 0 else (if scalar then 1 else (if elem.bits == 1 then 3 else 2))
+
+-- an operator before its operand
+unfoldable pub unary_length : UnaryOp → Bool → ℕ
+unary_length Un.Plus scalar = 0
+unary_length Un.Minus scalar = 1
+unary_length Un.Complement scalar = 1
+unary_length Un.Not scalar = if scalar then 2 else 3
+
+-- a binary operator, with the check of its divisor
+unfoldable pub operate_length : Op → Bool → ℕ
+operate_length op scalar =
+    if divides op then 2 else (if scalar then 1 else (if relates op then 3 else 1))
+
+-- `&&` or `||` beside its operands
+unfoldable pub logical_length : Bool → Bool → Bool → ℕ
+logical_length scalar left_kept right_kept =
+    if scalar then 4 else (if left_kept then 5 else (if right_kept then 7 else 8))
+
+-- `?:` beside its operands
+unfoldable pub choice_length : Bool → ℕ
+choice_length kept = if kept then 4 else 9
+
+-- an expression of this length, with its value in a field
+unfoldable pub spread_length : ℕ → TExpr → ℕ
+spread_length n e = elim (word_of e) [ Some _ ↦ 1 | None ↦ n + (if is_kept e then 1 else 0) ]
+
+-- the right operand of a parallel operation, and the operation
+unfoldable pub spare_length : Op → Bool → ℕ
+spare_length op kept = if kept && (relates op || divides op) then 1 else 0
+
+unfoldable pub right_length : ℕ → Op → TExpr → ℕ
+right_length n op e = elim (word_taken op e) [
+  | Some _ ↦ 1
+  | None ↦ n + (operate_length op false + spare_length op (is_kept e))
+]
+
+-- a binary operator and its operands, by their lengths
+unfoldable pub binary_length : Bool → Op → ℕ → TExpr → ℕ → TExpr → ℕ
+binary_length scalar op n left m right =
+    if scalar then (n + m) + operate_length op true else spread_length n left + right_length m op right
+
+-- the moves of a get by NEWS, one for each axis with a step
+unfoldable pub news_move : Option NewsStep → ℕ
+news_move None = 0
+news_move (Some step) = if step.by == 0 then 0 else 1
+
+unfoldable pub is_checked : Option NewsStep → Bool
+is_checked None = false
+is_checked (Some step) = step.checked
+
+unfoldable pub news_moves : ℕ → ℕ → List TExpr → ℕ
+news_moves of axis [] = 0
+news_moves of axis (e ∷ rest) = news_move (step_of of axis e) + news_moves of (axis + 1) rest
+
+unfoldable pub news_checked : ℕ → ℕ → List TExpr → Bool
+news_checked of axis [] = false
+news_checked of axis (e ∷ rest) = is_checked (step_of of axis e) || news_checked of (axis + 1) rest
+
+-- a get by NEWS: its check, its moves, and the move of what was got
+unfoldable pub news_length : ℕ → List TExpr → ℕ
+news_length of indexes = (news_moves of 0 indexes + 1) + (if news_checked of 0 indexes then 1 else 0)
+
+-- a target without the brackets around it
+unfoldable pub bare : TExpr → TExpr
+bare (T.Brackets' ty p inner) = bare inner
+bare e = e
+
+-- is an assignment to the target a send
+unfoldable pub is_sent : TExpr → Bool
+is_sent (T.LeftIndex' ty place p indexes x of) = is_some ty.shape
+is_sent _ = false
+
+unfoldable pub is_send : TExpr → Bool
+is_send target = is_sent (bare target)
+
+-- four instructions for each element
+unfoldable pub four_times : ℕ → ℕ
+four_times n = (n + n) + (n + n)
+
+-- a read through a left index: of every position, or of one
+unfoldable pub read_length : Option ℕ → ℕ
+read_length (Some _) = 2
+read_length None = 1
+
+-- what reads a located place, and what writes it; a send is counted with its assignment
+unfoldable pub load_length_of : Typed → Layout → TExpr → ℕ
+load_length_of t l (T.Element' ty place array p index) = four_times (elements_of t l array)
+load_length_of t l (T.LeftIndex' ty place p indexes x of) = read_length ty.shape
+load_length_of t l _ = 1
+
+unfoldable pub store_length_of : Typed → Layout → TExpr → ℕ
+store_length_of t l (T.Element' ty place array p index) = four_times (elements_of t l array)
+store_length_of t l _ = 1
+
+unfoldable pub load_length : Typed → Layout → TExpr → ℕ
+load_length t l target = load_length_of t l (bare target)
+
+unfoldable pub store_length : Typed → Layout → TExpr → ℕ
+store_length t l target = store_length_of t l (bare target)
+
+-- the send itself: without a combiner the value is cut first, and a difference is a sum of negatives
+unfoldable pub send_length : AssignOp → ℕ
+send_length A.Set = 2
+send_length A.Sub = 2
+send_length _ = 1
+
+-- an assignment, by the lengths of its target and of its value
+unfoldable pub set_length : Bool → ℕ → ℕ → TExpr → ℕ
+set_length scalar stored n e = stored + (if scalar then n else spread_length n e)
+
+unfoldable pub compound_length : Bool → Elem → ℕ → Op → ℕ → TExpr → ℕ
+compound_length true elem both op n e =
+    if is_kept e then (both + (n + operate_length op true)) + conversion_length true elem else (both + n) + 3
+compound_length false elem both op n e = (both + right_length n op e) + conversion_length false elem
+
+unfoldable pub assign_length : Typed → Layout → AssignOp → TExpr → ℕ → ℕ → TExpr → ℕ
+assign_length t l op target there n e =
+    if is_send target then (there + spread_length n e) + send_length op
+    else elim (assign_op_of op) [
+      | None ↦ set_length (is_none (type_of target).shape) (there + store_length t l target) n e
+      | Some o ↦ compound_length (is_none (type_of target).shape) (type_of target).elem
+          ((there + store_length t l target) + load_length t l target) o n e
+    ]
+
+unfoldable pub step_once_length : Bool → ℕ
+step_once_length scalar = if scalar then 2 else 1
+
+-- a step, by the length of its target
+unfoldable pub step_length : Typed → Layout → TExpr → ℕ → ℕ
+step_length t l target there =
+    (there + (step_once_length (is_none (type_of target).shape)
+    + conversion_length (is_none (type_of target).shape) (type_of target).elem))
+    + (load_length t l target + store_length t l target)
+
+-- a unary reduction beside its operand
+unfoldable pub reduce_length : ReduceOp → ℕ
+reduce_length Rd.Sub = 2
+reduce_length _ = 1
+
+-- a call beside its arguments: zeroing and copying, the turn, the call, and the result
+unfoldable pub params_length : List VarInfo → ℕ → ℕ → ℕ
+params_length [] given sum = sum
+params_length (param ∷ rest) given sum =
+    if given == 0 then sum else params_length rest (given - 1) (sum + (if is_some param.shape then 2 else 1))
+
+unfoldable pub call_length : Option Instance → ℕ → ℕ
+call_length None given = 0
+call_length (Some callee) given = params_length callee.params.items given (if is_some callee.result then 4 else 2)
+
+unfoldable mutual
+  -- the value of an expression
+  pub length_of : Typed → Layout → TExpr → ℕ
+  length_of t l (T.Assign' ty place op p target q value) =
+      assign_length t l op target (spot_length_of t l target) (length_of t l value) value
+  length_of t l (T.Choice' ty p test q first r second) =
+      (length_of t l test + (length_of t l first + length_of t l second)) + choice_length (is_kept test)
+  length_of t l (T.LogicalOr' ty p left q right) =
+      (length_of t l left + length_of t l right) + logical_length (is_none ty.shape) (is_kept left) (is_kept right)
+  length_of t l (T.LogicalAnd' ty p left q right) =
+      (length_of t l left + length_of t l right) + logical_length (is_none ty.shape) (is_kept left) (is_kept right)
+  length_of t l (T.Binary' ty place op p left q right) =
+      binary_length (is_none ty.shape) op (length_of t l left) left (length_of t l right) right
+  length_of t l (T.Unary' ty op p operand) = length_of t l operand + unary_length op (is_kept operand)
+  length_of t l (T.Step' ty op order p target) = step_length t l target (spot_length_of t l target)
+  length_of t l (T.Reduce' ty op p operand) = length_of t l operand + reduce_length op
+  length_of t l (T.Casts' ty elems p operand) = length_of t l operand + length elems.items
+  length_of t l (T.ParallelCast' ty p operand) = spread_length (length_of t l operand) operand + conversion_length false ty.elem
+  length_of t l (T.Convert' ty p operand) = length_of t l operand + conversion_length (is_kept operand) ty.elem
+  length_of t l (T.Promote' ty p operand) = length_of t l operand
+  length_of t l (T.Variable ty x) = 1
+  length_of t l (T.Element' ty place array p index) = (length_of t l index + 5) + four_times (elements_of t l array)
+  length_of t l (T.Number ty value) = 1
+  length_of t l (T.Dot ty axis) = 1
+  length_of t l (T.Brackets' ty p inner) = length_of t l inner
+  length_of t l (T.Call' ty instance p arguments) =
+      call_length (slice_get t.instances.items instance) (length (items-the_row-TExpr _ arguments)) + lengths_of t l arguments
+  length_of t l (T.LeftIndex' ty place p indexes x of) =
+      if goes_by_news (T.LeftIndex' ty place p indexes x of) then news_length of (items-the_row-TExpr _ indexes)
+      else (2 + lengths_of t l indexes) + read_length ty.shape
+  length_of t l (T.Pcoord ty axis) = 1
+  length_of t l (T.PositionsOf ty shape value) = 1
+  length_of t l (T.RankOf ty shape value) = 1
+  length_of t l (T.DimOf ty shape axis value) = 1
+  length_of t l (T.Scan' ty p source axis combiner direction mode bit _) = length_of t l source + 1
+  length_of t l (T.Enumerate ty axis direction _ mode bit) = 2
+  length_of t l (T.Printf' ty pieces p arguments) = length pieces.items + lengths_of t l arguments
+  length_of t l (T.GetChar ty) = 1
+
+  -- what locates a target or a reference
+  pub spot_length_of : Typed → Layout → TExpr → ℕ
+  spot_length_of t l (T.Brackets' ty p inner) = spot_length_of t l inner
+  spot_length_of t l (T.Element' ty place array p index) = length_of t l index + 5
+  spot_length_of t l (T.LeftIndex' ty place p indexes x of) = 2 + lengths_of t l indexes
+  spot_length_of t l _ = 0
+
+  -- a list of expressions
+  pub lengths_of : {n : _} → Typed → Layout → Row_of-TExpr n → ℕ
+  lengths_of t l end_of-TExpr = 0
+  lengths_of t l (more_of-TExpr e rest) = length_of t l e + lengths_of t l rest
+
+-- the same of a list as it stands in memory
+unfoldable pub lengths_in : Typed → Layout → List TExpr → ℕ
+lengths_in t l [] = 0
+lengths_in t l (e ∷ rest) = length_of t l e + lengths_in t l rest
+
+-- the value of an expression in a field
+unfoldable pub spread_length_of : Typed → Layout → TExpr → ℕ
+spread_length_of t l e = spread_length (length_of t l e) e

@@ -1,0 +1,105 @@
+//! The code of an expression that has no parts, and what is taken before its parts.
+
+ghost use Rattle.std.specs.Prelude.{◌≡◌, Some, IfOk, OnOk};
+ghost use Rattle.lower_comm.specs.Drafts.{Makes, draft};
+ghost use Rattle.lower_comm.specs.Layouts.{layout};
+ghost use Rattle.lower_expr.specs.Values.{fresh_for, right_given, coordinate_in, byte_in, casts_put, is_plus, news_by};
+
+use crate::steps::Right;
+use cstar_base::{Elem, Memory};
+use cstar_tree::typed::{TExpr, Typed, UnaryOp, ValueType};
+use lower_comm::Out;
+use lower_comm::emit::{field, put, register};
+use lower_comm::messages::{check_grid, comm_in};
+use lower_comm::names::Names;
+use paris_code::{Instr, Konst, Unit};
+use std::alloc::Global;
+
+/// A fresh register or field for a value of the type.
+#[tactic(auto, unfolding(crate::specs::Values::fresh_for, lower_comm::specs::Drafts::then_make))]
+pub fn fresh(ty: ValueType, u: &mut Unit) -> Result<Out, Memory>
+    ensures draft { IfOk result (λ out. fresh_for ty.shape (draft u.old) ≡ Makes out (draft u.new)) }
+{
+    match ty.shape {
+        Some(set) => Ok(Out::Field(field(u, set)?)),
+        None => Ok(Out::Scalar(register(u)?)),
+    }
+}
+
+/// A value as a right operand.
+#[tactic(auto, unfolding(crate::specs::Values::right_given))]
+pub fn right_value(v: Out) -> Result<Right, Memory>
+    ensures draft { IfOk result (λ right. right_given v ≡ Some right) }
+{
+    match v {
+        Out::Field(field) => Ok(Right::Field(field)),
+        Out::Scalar(register) => Ok(Right::Word(Konst::Reg(register))),
+        Out::Nothing => Err(Memory),
+    }
+}
+
+/// The own coordinate along an axis.
+#[tactic(auto, unfolding(crate::specs::Values::coordinate_in, lower_comm::specs::Drafts::then_make))]
+pub fn coordinate(shape: Option<u16>, axis: u32, u: &mut Unit) -> Result<Out, Memory>
+    ensures draft { IfOk result (λ out. coordinate_in shape axis (draft u.old) ≡ Makes out (draft u.new)) }
+{
+    let dest = field(u, shape.unwrap_or(0))?;
+    put(u, Instr::MyNewsCoordinate { dest, axis })?;
+    Ok(Out::Field(dest))
+}
+
+/// The next byte of the input.
+#[tactic(auto, unfolding(crate::specs::Values::byte_in, lower_comm::specs::Drafts::then_make))]
+pub fn next_byte(u: &mut Unit) -> Result<Out, Memory>
+    ensures draft { IfOk result (λ out. byte_in (draft u.old) ≡ Makes out (draft u.new)) }
+{
+    let dest = register(u)?;
+    put(u, Instr::FrontGetByte { dest })?;
+    Ok(Out::Scalar(dest))
+}
+
+/// A chain of casts in place, the innermost first.
+#[tactic(auto, unfolding(crate::specs::Values::casts_put))]
+pub fn cast_all(elems: &[Elem], register: u32, u: &mut Unit) -> Result<(), Memory>
+    ensures draft { OnOk result (casts_put elems.now register (draft u.old) ≡ draft u.new) }
+{
+    match elems {
+        [] => Ok(()),
+        [kind, inner @ ..] => {
+            cast_all(inner, register, u)?;
+            put(
+                u,
+                Instr::FrontConvert {
+                    dest: register,
+                    source: register,
+                    kind: *kind,
+                },
+            )
+        }
+    }
+}
+
+/// Whether the operator is `+`, which has no code.
+#[tactic(auto, unfolding(crate::specs::Values::is_plus))]
+pub fn is_plus(op: UnaryOp) -> bool
+    ensures { result ≡ is_plus op }
+{
+    matches!(op, UnaryOp::Plus)
+}
+
+/// A get that goes by NEWS.
+#[tactic(auto, unfolding(crate::specs::Values::news_by, lower_comm::specs::Drafts::then_make))]
+pub fn by_news(
+    alloc: Global,
+    t: &Typed,
+    names: &Names,
+    e: &TExpr,
+    ty: ValueType,
+    u: &mut Unit,
+) -> Result<Out, Memory>
+    ensures draft { IfOk result (λ out. news_by t.now (layout names.now) e.now ty (draft u.old) ≡ Makes out (draft u.new)) }
+{
+    let dest = fresh(ty, u)?;
+    check_grid(alloc, e, u)?;
+    comm_in(t, names, e, Out::Nothing, &[], dest, u)
+}
