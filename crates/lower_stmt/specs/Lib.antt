@@ -1,0 +1,4 @@
+pub mod Frames
+pub mod Lengths
+pub mod Statements
+pub mod Variables
