@@ -1,1 +1,4 @@
+pub mod ClearedFields
 pub mod LengthRows
+pub mod LoadedContexts
+pub mod StatementRows

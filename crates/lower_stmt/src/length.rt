@@ -144,16 +144,17 @@ pub fn part_length(t: &Typed, names: &Names, part: &Option<TExpr>) -> Result<u32
 }
 
 /// The variables of a block: each becomes zero, and then takes its initialiser.
-#[tactic(auto, unfolding(crate::specs::Lengths::locals_length_of))]
+#[tactic(auto, using(std::proofs::lemmas::List::drop_more), unfolding(crate::specs::Lengths::locals_length_of))]
 fn locals_length(t: &Typed, names: &Names, locals: &[LocalVar]) -> Result<u32, Memory>
     ensures { IfOk result (λ n. n ≡ locals_length_of t.now (layout names.now) locals.now) }
 {
-    let Some((local, rest)) = locals.split_first() else {
-        return Ok(0);
-    };
-    let zeroed = clear_length(&local.info);
-    let stored = initial_length(t, names, &local.initial)?;
-    plus(plus(zeroed, stored)?, locals_length(t, names, rest)?)
+    let mut sum = 0;
+    for local in locals {
+        let zeroed = clear_length(&local.info);
+        let stored = initial_length(t, names, &local.initial)?;
+        sum = plus(sum, plus(zeroed, stored)?)?;
+    }
+    Ok(sum)
 }
 
 /// A variable that becomes zero.

@@ -201,12 +201,12 @@ pub fn leave(is_main: bool, u: &mut Unit) -> Result<(), Memory>
 }
 
 /// Loads the newest saved contexts, so many of them, the newest first.
-#[tactic(auto, unfolding(crate::specs::Statements::restored))]
+#[tactic(auto, using(crate::proofs::LoadedContexts::loaded_more), unfolding(crate::specs::Statements::restored, crate::specs::Statements::loaded))]
 fn load_contexts(contexts: &[Field], newest: u32, u: &mut Unit) -> Result<(), Memory>
     ensures draft { OnOk result (restored contexts.now newest (draft u.old) ≡ draft u.new) }
 {
-    for source in contexts.iter().rev().take(newest as usize) {
-        put(u, Instr::LoadContext { source: *source })?;
+    for source in contexts.iter().copied().rev().take(newest as usize) {
+        put(u, Instr::LoadContext { source })?;
     }
     Ok(())
 }

@@ -34,7 +34,7 @@ pub fn declare(
 }
 
 /// All become zero.
-#[tactic(auto, unfolding(crate::specs::Variables::all_cleared, lower_comm::specs::Drafts::then_make))]
+#[tactic(auto, using(std::proofs::lemmas::List::drop_more), unfolding(crate::specs::Variables::all_cleared, lower_comm::specs::Drafts::then_make))]
 fn clear_all(names: &Names, locals: &[LocalVar], first: u32, u: &mut Unit) -> Result<(), Memory>
     ensures draft { OnOk result (all_cleared (layout names.now) locals.now first (draft u.old) ≡ Makes tt (draft u.new)) }
 {
@@ -47,7 +47,7 @@ fn clear_all(names: &Names, locals: &[LocalVar], first: u32, u: &mut Unit) -> Re
 }
 
 /// The initialisers.
-#[tactic(auto, unfolding(crate::specs::Variables::all_initialised, lower_comm::specs::Drafts::then_make))]
+#[tactic(auto, using(std::proofs::lemmas::List::drop_more), unfolding(crate::specs::Variables::all_initialised, lower_comm::specs::Drafts::then_make))]
 fn initialise_all(
     alloc: Global,
     t: &Typed,
@@ -129,7 +129,7 @@ fn begin_home(u: &mut Unit) -> Result<(), Memory>
 }
 
 /// Fresh entries, which become zero at every position.
-#[tactic(auto, unfolding(crate::specs::Variables::cleared_fields, lower_comm::specs::Drafts::then_make))]
+#[tactic(auto, using(crate::proofs::ClearedFields::cleared_step), unfolding(crate::specs::Variables::cleared_fields))]
 fn clear_fields(entries: u32, set: u16, len: u8, u: &mut Unit) -> Result<(), Memory>
     ensures draft { OnOk result (cleared_fields entries set len (draft u.old) ≡ Makes tt (draft u.new)) }
 {
