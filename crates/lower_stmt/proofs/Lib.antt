@@ -1,4 +1,4 @@
 pub mod ClearedFields
 pub mod LengthRows
-pub mod LoadedContexts
+pub mod RestoredContexts
 pub mod StatementRows

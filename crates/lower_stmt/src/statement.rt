@@ -201,14 +201,18 @@ pub fn leave(is_main: bool, u: &mut Unit) -> Result<(), Memory>
 }
 
 /// Loads the newest saved contexts, so many of them, the newest first.
-#[tactic(auto, using(crate::proofs::LoadedContexts::loaded_more), unfolding(crate::specs::Statements::restored, crate::specs::Statements::loaded))]
+#[tactic(auto, using(crate::proofs::RestoredContexts::restored_none, crate::proofs::RestoredContexts::restored_outermost, crate::proofs::RestoredContexts::restored_more))]
 fn load_contexts(contexts: &[Field], newest: u32, u: &mut Unit) -> Result<(), Memory>
     ensures draft { OnOk result (restored contexts.now newest (draft u.old) ≡ draft u.new) }
 {
-    for source in contexts.iter().copied().rev().take(newest as usize) {
-        put(u, Instr::LoadContext { source })?;
+    if newest == 0 {
+        return Ok(());
     }
-    Ok(())
+    let Some((source, older)) = contexts.split_last() else {
+        return Ok(());
+    };
+    put(u, Instr::LoadContext { source: *source })?;
+    load_contexts(older, newest - 1, u)
 }
 
 /// The value of `return`, if there is one, becomes the result.
