@@ -4,4 +4,4 @@ pub mod ElementFinals
 pub mod LengthRows
 pub mod RestoredContexts
 pub mod StatementRows
-pub mod UnitSlots
+pub mod UnitsPushed

@@ -97,15 +97,17 @@ pub record Named : Type 0 where
 unfoldable pub named : U.Unit → Named
 named u = record { name = u.name; content = draft u }
 
+-- a unit of this name, and those that come behind it
+unfoldable pub joined : Made (Unit {0}) → List ℕ → (Draft → List Named) → List Named
+joined (Makes _ d) name rest = record { name = name; content = d } ∷ rest d
+joined Fails name rest = []
+
 -- The units of instances, from a number and a register on. The first is `main`. The registers of
 -- a unit begin behind those of the one before.
 unfoldable pub units_of : Typed → List Instance → ℕ → ℕ → List Named
 units_of t [] number regs = []
 units_of t (instance ∷ instances) number regs =
-    elim (unit_of t (layout_of t number) (number == 0) regs instance) [
-      | Makes _ d ↦ record { name = instance.name; content = d } ∷ units_of t instances (number + 1) d.regs
-      | Fails ↦ []
-    ]
+    joined (unit_of t (layout_of t number) (number == 0) regs instance) instance.name (λ d. units_of t instances (number + 1) d.regs)
 
 -- the first register behind units
 unfoldable pub slots_behind : ℕ → List Named → ℕ

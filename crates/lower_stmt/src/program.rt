@@ -15,7 +15,7 @@ use paris_code::{Field, Final, Instr, Konst, Owner, Program, ShapeBits, Unit};
 use std::alloc::Global;
 
 /// The program that means what the typed program does, over virtual fields.
-#[tactic(auto, using(std::proofs::lemmas::List::drop_more, crate::proofs::UnitSlots::slots_more), unfolding(crate::specs::Programs::units_of, crate::specs::Programs::named, lower_comm::specs::Layouts::layout))]
+#[tactic(auto, unfolding(crate::specs::Programs::units_of))]
 pub fn lower(alloc: Global, t: &Typed) -> Result<Program, Memory>
     ensures units { IfOk result (λ program. map named program.units.items ≡ units_of t.now t.now.instances.items 0 (layout_of t.now 0).end) }
     ensures slots { IfOk result (λ program. program.slots ≡ slots_behind (layout_of t.now 0).end (map named program.units.items)) }
@@ -82,7 +82,17 @@ fn lower_unit(
         &mut unit,
     )?;
     leave(is_main, &mut unit)?;
-    Ok(unit)
+    Ok(called(unit, instance.name.copied(alloc)?))
+}
+
+/// The unit with this name, as it had already: what its steps say is of its content alone.
+#[tactic(auto, unfolding(lower_comm::specs::Drafts::draft))]
+fn called(mut unit: Unit, name: Word) -> Unit
+    ensures name { result.name ≡ name }
+    ensures draft { draft result ≡ draft unit }
+{
+    unit.name = name;
+    unit
 }
 
 /// A unit that has nothing yet.
@@ -267,7 +277,7 @@ fn finals(alloc: Global, t: &Typed) -> Result<Vec<Final>, Memory>
 }
 
 /// The elements of a variable, where it is parallel.
-#[tactic(auto, unfolding(crate::specs::Programs::variable_finals))]
+#[tactic(auto, unfolding(crate::specs::Programs::variable_finals, lower_comm::specs::Layouts::entries_of))]
 fn add_finals(alloc: Global, info: &VarInfo, finals: &mut Vec<Final>) -> Result<(), Memory>
     ensures items { OnOk result (finals.new.items ≡ finals.old.items ++ variable_finals info.now (length finals.old.items)) }
     ensures count { OnOk result (length finals.new.items ≡ length finals.old.items + entries_of info.now) }
@@ -279,7 +289,7 @@ fn add_finals(alloc: Global, info: &VarInfo, finals: &mut Vec<Final>) -> Result<
 }
 
 /// The elements of a parallel variable.
-#[tactic(auto, using(crate::proofs::ElementFinals::finals_step), unfolding(crate::specs::Programs::element_finals, crate::specs::Programs::final_of))]
+#[tactic(auto, unfolding(crate::specs::Programs::element_finals))]
 fn add_elements(
     alloc: Global,
     info: &VarInfo,
