@@ -9,7 +9,7 @@ use Rattle.paris_code.specs.declared.operands.Field.{Field}
 use Rattle.lower_comm.specs.Drafts.{Draft, Made, Makes, Fails, then_make}
 use Rattle.lower_comm.specs.Layouts.{Layout}
 use Rattle.lower_stmt.specs.declared.statement.Frame.{Frame}
-use Rattle.lower_stmt.specs.Statements.{statement_of, statements_of, else_of, otherwise_of}
+use Rattle.lower_stmt.specs.Statements.{statement_of, statements_of}
 use Rattle.lower_stmt.specs.Variables.{declared}
 
 -- statements in a list, one behind the other
@@ -42,4 +42,4 @@ block_code t l locals statements f contexts n d =
     let row = row_of (S.Block locals statements) in
     same_next (declared t l locals.items n d) _ _
     (λ m after. as_list t l f contexts row.0 row.1 m after
-      ∙ ap (λ xs. listed t l xs f contexts m after) (items_hidden-the_row-TStmt-0 statements))
+    ∙ ap (λ xs. listed t l xs f contexts m after) (items_hidden-the_row-TStmt-0 statements))

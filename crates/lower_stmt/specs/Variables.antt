@@ -1,7 +1,6 @@
 -- The variables of a block.
-use Rattle.std.specs.Prelude.{ℕ, zero, suc, ◌+◌, List, [], ◌∷◌, ◌++◌, length, Option, Some, None}
+use Rattle.std.specs.Prelude.{ℕ, zero, suc, ◌+◌, List, [], ◌∷◌, ◌++◌, length, Some, None}
 use Rattle.cstar_tree.specs.declared.typed.LocalVar.{LocalVar}
-use Rattle.cstar_tree.specs.declared.typed.TExpr.{TExpr}
 use Rattle.cstar_tree.specs.declared.typed.Typed.{Typed}
 use Rattle.cstar_tree.specs.declared.typed.VarInfo.{VarInfo}
 use Rattle.cstar_tree.specs.declared.typed.Variable.TheVariants as V
@@ -51,7 +50,7 @@ initialised t l local n d =
     elim local.initial [
       | None ↦ Makes tt d
       | Some e ↦ then_make (value_of t l e d) (λ v between. then_make (variable_of t l local.info n between)
-        (λ dest after. then_make (put_value dest v after) (λ _ stored. Makes tt stored)))
+          (λ dest after. then_make (put_value dest v after) (λ _ stored. Makes tt stored)))
     ]
 
 -- the initialisers of a block, in order

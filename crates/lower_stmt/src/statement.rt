@@ -144,13 +144,7 @@ pub fn statement(
 
 /// An expression whose value is not used.
 #[tactic(auto, unfolding(crate::specs::Statements::part_of, lower_comm::specs::Drafts::then_make))]
-fn evaluate(
-    alloc: Global,
-    t: &Typed,
-    names: &Names,
-    e: &TExpr,
-    u: &mut Unit,
-) -> Result<(), Memory>
+fn evaluate(alloc: Global, t: &Typed, names: &Names, e: &TExpr, u: &mut Unit) -> Result<(), Memory>
     ensures draft { OnOk result (part_of t.now (layout names.now) (Some e.now) (draft u.old) ≡ Makes tt (draft u.new)) }
 {
     value(alloc, t, names, e, u)?;

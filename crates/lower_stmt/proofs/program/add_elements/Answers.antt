@@ -1,4 +1,4 @@
-use Rattle.std.proofs.Common.{◌≡◌, ◌<◌, ◌∙◌, arith}
+use Rattle.std.proofs.Common.{◌<◌, ◌∙◌, arith}
 use Rattle.std.proofs.lemmas.Grind.{common_steps}
 use Rattle.lower_comm.specs.Layouts.{entries_of}
 use Rattle.lower_stmt.proofs.ElementFinals.{final_is, one_more_final}
@@ -10,8 +10,8 @@ loop-element-preserved c =
     let items = c.in_ok-push.ensures.items in
     record {
       items =
-        one_more_final c.args.info.now c.args.set (entries_of c.args.info.now) c.loop-element.element c.loop-element.finals.items c.push.new.self.items _ below items
-        (final_is c.args.info.now c.args.set c.loop-element.element _ _ _ c.in_ok-name.ensures (grind (arith, common_steps)))
-        ∙ c.loop-element.invariant.items;
+          one_more_final c.args.info.now c.args.set (entries_of c.args.info.now) c.loop-element.element c.loop-element.finals.items c.push.new.self.items _ below items
+          (final_is c.args.info.now c.args.set c.loop-element.element _ _ _ c.in_ok-name.ensures (grind (arith, common_steps)))
+          ∙ c.loop-element.invariant.items;
       count = grind (arith, common_steps);
     }

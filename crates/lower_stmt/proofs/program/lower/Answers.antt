@@ -1,9 +1,9 @@
-use Rattle.std.proofs.Common.{◌≡◌, ℕ, ◌+◌, ◌<◌, ◌==◌, List, ◌∷◌, drop, length, ap, arith}
+use Rattle.std.proofs.Common.{◌≡◌, ◌+◌, ◌<◌, ◌==◌, drop, length, ap, arith}
 use Rattle.std.proofs.lemmas.Grind.{common_steps}
 use Rattle.std.proofs.lemmas.List.{at_drop_more}
 use Rattle.lower_comm.specs.Drafts.{Makes, draft}
 use Rattle.lower_comm.specs.Layouts.{Layout, layout, layout_of}
-use Rattle.lower_stmt.specs.Programs.{named, slots_behind, unit_of, units_of}
+use Rattle.lower_stmt.specs.Programs.{slots_behind, unit_of, units_of}
 use Rattle.lower_stmt.proofs.UnitsPushed.{first_unit, one_more_unit, slots_more}
 use Rattle.lower_stmt.proofs.program.lower.Goals as goal
 
@@ -21,20 +21,20 @@ loop-number-preserved c =
     let seen : layout c.enter.new.self ≡ layout_of c.args.t.now c.loop-number.number = c.in_ok-enter.ensures known.0 known.1 in
     let below : c.loop-number.number < length c.deref-instance-items.result.now = omega arith in
     let more =
-      at_drop_more (λ instances. units_of c.args.t.now instances c.loop-number.number c.loop-number.slots) c.deref-instance-items.result.now
-      c.loop-number.number c.instance-item.result below
+    at_drop_more (λ instances. units_of c.args.t.now instances c.loop-number.number c.loop-number.slots) c.deref-instance-items.result.now
+    c.loop-number.number c.instance-item.result below
     in
     let made : unit_of c.args.t.now (layout_of c.args.t.now c.loop-number.number) (c.loop-number.number == 0) c.loop-number.slots c.instance-item.result
-        ≡ Makes tt (draft c.in_ok-unit.unit)
-      = rw (← seen) c.in_ok-unit.ensures.draft
+    ≡ Makes tt (draft c.in_ok-unit.unit)
+    = rw (← seen) c.in_ok-unit.ensures.draft
     in
     let first =
-      first_unit c.args.t.now c.instance-item.result (drop (c.loop-number.number + 1) c.deref-instance-items.result.now) c.loop-number.number
-      c.loop-number.slots c.in_ok-unit.unit c.in_ok-unit.ensures.name made
+    first_unit c.args.t.now c.instance-item.result (drop (c.loop-number.number + 1) c.deref-instance-items.result.now) c.loop-number.number
+    c.loop-number.slots c.in_ok-unit.unit c.in_ok-unit.ensures.name made
     in
     let pushed =
-      one_more_unit c.loop-number.units.items c.in_ok-unit.unit
-      (units_of c.args.t.now (drop (c.loop-number.number + 1) c.deref-instance-items.result.now) (c.loop-number.number + 1) c.in_ok-unit.unit.regs)
+    one_more_unit c.loop-number.units.items c.in_ok-unit.unit
+    (units_of c.args.t.now (drop (c.loop-number.number + 1) c.deref-instance-items.result.now) (c.loop-number.number + 1) c.in_ok-unit.unit.regs)
     in
     let slots = slots_more (layout_of c.args.t.now 0).end c.loop-number.units.items c.in_ok-unit.unit in
     let items = c.in_ok-push.ensures.items in

@@ -9,7 +9,7 @@ abbrev pub invariant-loop-number : goal.invariant-loop-number
 invariant-loop-number l = record {
   known : (k : ℕ) × (layout l.names ≡ layout_of l.t k);
   units :
-    map named l.units.items ++ units_of l.t (drop l.number l.t.instances.items) l.number l.slots
-    ≡ units_of l.t l.t.instances.items 0 (layout_of l.t 0).end;
+      map named l.units.items ++ units_of l.t (drop l.number l.t.instances.items) l.number l.slots
+      ≡ units_of l.t l.t.instances.items 0 (layout_of l.t 0).end;
   slots : l.slots ≡ slots_behind (layout_of l.t 0).end (map named l.units.items);
 }

@@ -1,4 +1,4 @@
-use Rattle.std.proofs.Common.{◌≡◌, ◌<◌, length, drop, refl, arith}
+use Rattle.std.proofs.Common.{◌<◌, length, refl, arith}
 use Rattle.std.proofs.lemmas.Grind.{common_steps}
 use Rattle.std.proofs.lemmas.List.{at_drop_more}
 use Rattle.lower_comm.specs.Drafts.{draft, then_make}
@@ -10,8 +10,8 @@ pub statement-loop-inner-init : goal.statement-loop-inner-init
 unfolding then_make
 statement-loop-inner-init t c =
     let code =
-      block_code c.args.t.now (layout c.args.names.now) c.in-Block.locals c.in-Block.statements c.args.f c.args.p.now.contexts.items
-      c.args.p.now.declared (draft c.args.u.now)
+    block_code c.args.t.now (layout c.args.names.now) c.in-Block.locals c.in-Block.statements c.args.f c.args.p.now.contexts.items
+    c.args.p.now.declared (draft c.args.u.now)
     in
     record { whole = grind (arith, common_steps, code); same = refl }
 
@@ -20,9 +20,9 @@ unfolding listed then_make
 statement-loop-inner-preserved t c =
     let below : c.loop-inner.inner-index < length c.deref-inner-items.result.now = omega arith in
     let more =
-      at_drop_more
-      (λ statements. listed c.args.t.now (layout c.args.names.now) statements c.args.f c.loop-inner.p.contexts.items c.loop-inner.p.declared (draft c.loop-inner.u))
-      c.deref-inner-items.result.now c.loop-inner.inner-index c.inner-item.result below
+    at_drop_more
+    (λ statements. listed c.args.t.now (layout c.args.names.now) statements c.args.f c.loop-inner.p.contexts.items c.loop-inner.p.declared (draft c.loop-inner.u))
+    c.deref-inner-items.result.now c.loop-inner.inner-index c.inner-item.result below
     in
     let item = c.inner-item.is in
     record { whole = grind (arith, common_steps, more, item); same = grind (arith, common_steps) }
