@@ -1,7 +1,11 @@
 //! How many instructions a statement compiles to.
 
+ghost use Rattle.std.specs.Prelude.{◌≡◌, IfOk};
+ghost use Rattle.lower_comm.specs.Layouts.{layout};
+ghost use Rattle.lower_stmt.specs.Lengths.{one_more, at_loop, part_length_of, clear_length_of, initial_length_of, locals_length_of, statement_length_of};
+
 use cstar_base::Memory;
-use cstar_tree::typed::{LocalVar, TExpr, TStmt, Typed};
+use cstar_tree::typed::{LocalVar, TExpr, TStmt, Typed, VarInfo};
 use lower_comm::emit::plus;
 use lower_comm::names::{Names, entries_of};
 use lower_expr::length::length;
@@ -16,7 +20,10 @@ pub struct Saved {
 
 impl Saved {
     /// One more context is saved.
-    pub fn one_more(self) -> Result<Saved, Memory> {
+    #[tactic(auto, unfolding(crate::specs::Lengths::one_more))]
+    pub fn one_more(self) -> Result<Saved, Memory>
+        ensures { IfOk result (λ saved. saved ≡ one_more self) }
+    {
         Ok(Saved {
             in_loop: plus(self.in_loop, 1)?,
             in_all: plus(self.in_all, 1)?,
@@ -24,7 +31,10 @@ impl Saved {
     }
 
     /// At the start of a loop.
-    pub fn at_loop(self) -> Saved {
+    #[tactic(auto, unfolding(crate::specs::Lengths::at_loop))]
+    pub fn at_loop(self) -> Saved
+        ensures { result ≡ at_loop self }
+    {
         Saved {
             in_loop: 0,
             in_all: self.in_all,
@@ -33,13 +43,16 @@ impl Saved {
 }
 
 /// The instructions of a statement of a function that has a result or none.
+#[tactic(auto, unfolding(crate::specs::Lengths::statement_length_of, crate::specs::Lengths::statements_length_of, crate::specs::Lengths::else_length_of, crate::specs::Lengths::storing_length))]
 pub fn statement_length(
     t: &Typed,
     names: &Names,
     s: &TStmt,
     has_result: bool,
     saved: Saved,
-) -> Result<u32, Memory> {
+) -> Result<u32, Memory>
+    ensures { IfOk result (λ n. n ≡ statement_length_of t.now (layout names.now) has_result saved s.now) }
+{
     match s {
         TStmt::Block { locals, statements } => {
             let mut sum = locals_length(t, names, locals.as_slice())?;
@@ -120,7 +133,10 @@ pub fn statement_length(
 }
 
 /// An optional part of a `for`.
-pub fn part_length(t: &Typed, names: &Names, part: &Option<TExpr>) -> Result<u32, Memory> {
+#[tactic(auto, unfolding(crate::specs::Lengths::part_length_of))]
+pub fn part_length(t: &Typed, names: &Names, part: &Option<TExpr>) -> Result<u32, Memory>
+    ensures { IfOk result (λ n. n ≡ part_length_of t.now (layout names.now) part.now) }
+{
     match part {
         Some(e) => length(t, names, e),
         None => Ok(0),
@@ -128,18 +144,37 @@ pub fn part_length(t: &Typed, names: &Names, part: &Option<TExpr>) -> Result<u32
 }
 
 /// The variables of a block: each becomes zero, and then takes its initialiser.
-fn locals_length(t: &Typed, names: &Names, locals: &[LocalVar]) -> Result<u32, Memory> {
+#[tactic(auto, using(std::proofs::lemmas::List::drop_more), unfolding(crate::specs::Lengths::locals_length_of))]
+fn locals_length(t: &Typed, names: &Names, locals: &[LocalVar]) -> Result<u32, Memory>
+    ensures { IfOk result (λ n. n ≡ locals_length_of t.now (layout names.now) locals.now) }
+{
     let mut sum = 0;
     for local in locals {
-        let zeroed = if local.info.shape.is_some() {
-            entries_of(&local.info)
-        } else {
-            1
-        };
-        sum = plus(sum, zeroed)?;
-        if let Some(e) = &local.initial {
-            sum = plus(plus(sum, length(t, names, e)?)?, 1)?;
-        }
+        let zeroed = clear_length(&local.info);
+        let stored = initial_length(t, names, &local.initial)?;
+        sum = plus(sum, plus(zeroed, stored)?)?;
     }
     Ok(sum)
+}
+
+/// A variable that becomes zero.
+#[tactic(auto, unfolding(crate::specs::Lengths::clear_length_of))]
+fn clear_length(info: &VarInfo) -> u32
+    ensures { result ≡ clear_length_of info.now }
+{
+    match info.shape {
+        None => 1,
+        Some(_) => entries_of(info),
+    }
+}
+
+/// The initialiser of a variable.
+#[tactic(auto, unfolding(crate::specs::Lengths::initial_length_of))]
+fn initial_length(t: &Typed, names: &Names, initial: &Option<TExpr>) -> Result<u32, Memory>
+    ensures { IfOk result (λ n. n ≡ initial_length_of t.now (layout names.now) initial.now) }
+{
+    match initial {
+        Some(e) => plus(length(t, names, e)?, 1),
+        None => Ok(0),
+    }
 }

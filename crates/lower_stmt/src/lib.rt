@@ -4,5 +4,6 @@
 pub mod length;
 mod program;
 pub mod statement;
+mod variables;
 
 pub use program::lower;

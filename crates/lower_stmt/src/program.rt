@@ -1,41 +1,48 @@
 //! A program from a typed program: one unit for each instance.
 
+ghost use Rattle.std.specs.Prelude.{◌≡◌, ◌+◌, ◌-◌, ◌++◌, length, map, IfOk, OnOk};
+ghost use Rattle.lower_comm.specs.Drafts.{Makes, draft};
+ghost use Rattle.lower_comm.specs.Layouts.{layout, layout_of, entries_of};
+ghost use Rattle.lower_stmt.specs.Programs.{begun, blank, digits_of, elements_begun, element_finals, final_name_of, finals_of, last_digit, named, outcome_of, own_field_of, own_fields_of, own_result_of, slots_behind, space, spaces_of, start_value_of, start_values_of, unit_of, units_of, variable_finals};
+
 use crate::length::Saved;
 use crate::statement::{Frame, Outcome, Progress, leave, statement};
 use cstar_base::{Memory, Word};
 use cstar_tree::typed::{Instance, Typed, VarInfo, Variable};
 use lower_comm::emit::{entry, plus, put};
-use lower_comm::names::{Names, entries_of};
+use lower_comm::names::{Names, count, entries_of};
 use paris_code::{Field, Final, Instr, Konst, Owner, Program, ShapeBits, Unit};
 use std::alloc::Global;
 
 /// The program that means what the typed program does, over virtual fields.
-pub fn lower(alloc: Global, t: &Typed) -> Result<Program, Memory> {
+#[tactic(auto, unfolding(crate::specs::Programs::units_of))]
+pub fn lower(alloc: Global, t: &Typed) -> Result<Program, Memory>
+    ensures units { IfOk result (λ program. map named program.units.items ≡ units_of t.now t.now.instances.items 0 (layout_of t.now 0).end) }
+    ensures slots { IfOk result (λ program. program.slots ≡ slots_behind (layout_of t.now 0).end (map named program.units.items)) }
+    ensures depth { IfOk result (λ program. program.depth ≡ length t.now.instances.items - 1) }
+    ensures shapes { IfOk result (λ program. map space program.shapes.items ≡ spaces_of t.now.shapes.items t.now.need.items) }
+    ensures finals { IfOk result (λ program. program.finals.items ≡ finals_of t.now.vars.items 0) }
+{
     let mut names = Names::of(alloc, t)?;
     let mut units: Vec<Unit> = Vec::new(alloc);
     let mut slots = names.end;
-    let mut depth = 0;
-    let mut number = 0usize;
-    for instance in &t.instances {
+    for (number, instance) in t.instances.iter().enumerate() {
         names.enter(t, number)?;
         let unit = lower_unit(alloc, t, &names, instance, number == 0, slots)?;
         slots = unit.regs;
         units.push(unit)?;
-        if number > 0 {
-            depth = plus(depth, 1)?;
-        }
-        number = number.saturating_add(1);
     }
     Ok(Program {
         shapes: shapes(alloc, t)?,
         slots,
-        depth,
+        depth: count(t.instances.len().saturating_sub(1))?,
         units,
         finals: finals(alloc, t)?,
     })
 }
 
 /// The unit of an instance, whose registers begin at `regs`.
+#[tactic(auto, unfolding(crate::specs::Programs::unit_of, crate::specs::Programs::body_frame, lower_comm::specs::Drafts::then_make))]
 fn lower_unit(
     alloc: Global,
     t: &Typed,
@@ -43,36 +50,21 @@ fn lower_unit(
     instance: &Instance,
     is_main: bool,
     regs: u32,
-) -> Result<Unit, Memory> {
-    let mut unit = Unit {
-        name: instance.name.copied(alloc)?,
-        regs,
-        homes: Vec::new(alloc),
-        fields: Vec::new(alloc),
-        code: Vec::new(alloc),
-    };
-    for param in &instance.params {
-        own_field(param, &mut unit)?;
-    }
-    let mut outcome = Outcome::Nothing;
-    if let Some(result) = &instance.result {
-        own_field(result, &mut unit)?;
-        outcome = if result.shape.is_some() {
-            Outcome::Parallel
-        } else {
-            Outcome::Scalar
-        };
-    }
-    if is_main {
-        start_values(t, names, &mut unit)?;
-    }
+) -> Result<Unit, Memory>
+    ensures name { IfOk result (λ unit. unit.name ≡ instance.now.name) }
+    ensures draft { IfOk result (λ unit. unit_of t.now (layout names.now) is_main regs instance.now ≡ Makes tt (draft unit)) }
+{
+    let mut unit = blank(alloc, &instance.name, regs)?;
+    own_fields(instance.params.as_slice(), &mut unit)?;
+    own_result(&instance.result, &mut unit)?;
+    begin(t, names, is_main, &mut unit)?;
     let mut progress = Progress {
         contexts: Vec::new(alloc),
         declared: 0,
     };
     let frame = Frame {
         is_main,
-        outcome,
+        outcome: outcome(&instance.result),
         after: 0,
         next: 0,
         saved: Saved {
@@ -90,62 +82,163 @@ fn lower_unit(
         &mut unit,
     )?;
     leave(is_main, &mut unit)?;
-    Ok(unit)
+    Ok(called(unit, instance.name.copied(alloc)?))
 }
 
-/// The entry of a parallel parameter or result.
-fn own_field(info: &VarInfo, u: &mut Unit) -> Result<(), Memory> {
-    if let Some(shape) = info.shape {
-        entry(u, shape, info.elem.bits, Owner::Own)?;
+/// The unit with this name, as it had already: what its steps say is of its content alone.
+#[tactic(auto, unfolding(lower_comm::specs::Drafts::draft))]
+fn called(mut unit: Unit, name: Word) -> Unit
+    ensures name { result.name ≡ name }
+    ensures draft { draft result ≡ draft unit }
+{
+    unit.name = name;
+    unit
+}
+
+/// A unit that has nothing yet.
+#[tactic(auto, unfolding(crate::specs::Programs::blank, lower_comm::specs::Drafts::draft))]
+fn blank(alloc: Global, name: &Word, regs: u32) -> Result<Unit, Memory>
+    ensures name { IfOk result (λ unit. unit.name ≡ name.now) }
+    ensures draft { IfOk result (λ unit. draft unit ≡ blank regs) }
+{
+    Ok(Unit {
+        name: name.copied(alloc)?,
+        regs,
+        homes: Vec::new(alloc),
+        fields: Vec::new(alloc),
+        code: Vec::new(alloc),
+    })
+}
+
+/// The entries of parallel parameters.
+#[tactic(auto, using(std::proofs::lemmas::List::drop_more), unfolding(crate::specs::Programs::own_fields_of, lower_comm::specs::Drafts::then_make))]
+fn own_fields(params: &[VarInfo], u: &mut Unit) -> Result<(), Memory>
+    ensures draft { OnOk result (own_fields_of params.now (draft u.old) ≡ Makes tt (draft u.new)) }
+{
+    for param in params {
+        own_field(param, u)?;
     }
     Ok(())
 }
 
-/// The variables of the file that do not begin as zero. At the start every position is active.
-fn start_values(t: &Typed, names: &Names, u: &mut Unit) -> Result<(), Memory> {
-    let mut number = 0;
-    for info in &t.vars {
-        if info.start != 0 {
-            start_value(t, names, info, number, u)?;
+/// The entry of a parallel result.
+#[tactic(auto, unfolding(crate::specs::Programs::own_result_of))]
+fn own_result(info: &Option<VarInfo>, u: &mut Unit) -> Result<(), Memory>
+    ensures draft { OnOk result (own_result_of info.now (draft u.old) ≡ Makes tt (draft u.new)) }
+{
+    match info {
+        Some(info) => own_field(info, u),
+        None => Ok(()),
+    }
+}
+
+/// The entry of a parallel parameter or result.
+#[tactic(auto, unfolding(crate::specs::Programs::own_field_of, lower_comm::specs::Drafts::then_make))]
+fn own_field(info: &VarInfo, u: &mut Unit) -> Result<(), Memory>
+    ensures draft { OnOk result (own_field_of info.now (draft u.old) ≡ Makes tt (draft u.new)) }
+{
+    match info.shape {
+        Some(shape) => {
+            entry(u, shape, info.elem.bits, Owner::Own)?;
+            Ok(())
         }
+        None => Ok(()),
+    }
+}
+
+/// What a function with such a result gives back.
+#[tactic(auto, unfolding(crate::specs::Programs::outcome_of))]
+fn outcome(info: &Option<VarInfo>) -> Outcome
+    ensures { result ≡ outcome_of info.now }
+{
+    match info {
+        None => Outcome::Nothing,
+        Some(info) => match info.shape {
+            None => Outcome::Scalar,
+            Some(_) => Outcome::Parallel,
+        },
+    }
+}
+
+/// `main` begins with the values of the file's variables. At the start every position is active.
+#[tactic(auto, unfolding(crate::specs::Programs::begun))]
+fn begin(t: &Typed, names: &Names, is_main: bool, u: &mut Unit) -> Result<(), Memory>
+    ensures draft { OnOk result (begun t.now (layout names.now) is_main (draft u.old) ≡ Makes tt (draft u.new)) }
+{
+    if is_main {
+        start_values(t, names, u)
+    } else {
+        Ok(())
+    }
+}
+
+/// The variables of the file that do not begin as zero.
+#[tactic(auto, using(std::proofs::lemmas::List::drop_more), unfolding(crate::specs::Programs::start_values_of, lower_comm::specs::Drafts::then_make))]
+fn start_values(t: &Typed, names: &Names, u: &mut Unit) -> Result<(), Memory>
+    ensures draft { OnOk result (start_values_of t.now (layout names.now) t.now.vars.items 0 (draft u.old) ≡ Makes tt (draft u.new)) }
+{
+    let mut number = 0;
+    for info in t.vars.as_slice() {
+        start_value(t, names, info, number, u)?;
         number = plus(number, 1)?;
     }
     Ok(())
 }
 
+/// A variable of the file becomes what it begins as, unless that is zero.
+#[tactic(auto, unfolding(crate::specs::Programs::start_value_of, crate::specs::Programs::scalar_begun))]
 fn start_value(
     t: &Typed,
     names: &Names,
     info: &VarInfo,
     number: u32,
     u: &mut Unit,
-) -> Result<(), Memory> {
-    let variable = Variable::File(number);
-    if info.shape.is_none() {
-        let dest = names.register(variable)?;
-        put(
-            u,
-            Instr::FrontConst {
-                dest,
-                value: info.start,
-            },
-        )?;
-        return put(
-            u,
-            Instr::FrontConvert {
-                dest,
-                source: dest,
-                kind: info.elem,
-            },
-        );
+) -> Result<(), Memory>
+    ensures draft { OnOk result (start_value_of t.now (layout names.now) info.now number (draft u.old) ≡ Makes tt (draft u.new)) }
+{
+    if info.start == 0 {
+        return Ok(());
     }
-    for element in 0..entries_of(info) {
-        let dest = names.field(t, variable, element, u)?;
+    if info.shape.is_some() {
+        return begin_elements(t, names, number, info.start, entries_of(info), u);
+    }
+    let dest = names.register(Variable::File(number))?;
+    put(
+        u,
+        Instr::FrontConst {
+            dest,
+            value: info.start,
+        },
+    )?;
+    put(
+        u,
+        Instr::FrontConvert {
+            dest,
+            source: dest,
+            kind: info.elem,
+        },
+    )
+}
+
+/// The elements of a variable of the file take a value.
+#[tactic(auto, using(crate::proofs::BegunElements::begun_step), unfolding(crate::specs::Programs::elements_begun))]
+fn begin_elements(
+    t: &Typed,
+    names: &Names,
+    number: u32,
+    value: u32,
+    elements: u32,
+    u: &mut Unit,
+) -> Result<(), Memory>
+    ensures draft { OnOk result (elements_begun t.now (layout names.now) number value elements 0 (draft u.old) ≡ Makes tt (draft u.new)) }
+{
+    for element in 0..elements {
+        let dest = names.field(t, Variable::File(number), element, u)?;
         put(
             u,
             Instr::MoveConstant {
                 dest,
-                value: Konst::Imm(info.start),
+                value: Konst::Imm(value),
             },
         )?;
     }
@@ -153,9 +246,15 @@ fn start_value(
 }
 
 /// The sets: the extents of each shape, and its room.
-fn shapes(alloc: Global, t: &Typed) -> Result<Vec<ShapeBits>, Memory> {
+#[tactic(auto, using(std::proofs::lemmas::List::drop_more), unfolding(crate::specs::Programs::spaces_of, crate::specs::Programs::space))]
+fn shapes(alloc: Global, t: &Typed) -> Result<Vec<ShapeBits>, Memory>
+    ensures { IfOk result (λ shapes. map space shapes.items ≡ spaces_of t.now.shapes.items t.now.need.items) }
+{
     let mut shapes = Vec::new(alloc);
-    for (shape, need) in t.shapes.iter().zip(t.need.iter()) {
+    for (number, shape) in t.shapes.iter().enumerate() {
+        let Some(need) = t.need.get(number) else {
+            return Ok(shapes);
+        };
         let extents = Vec::from_slice(alloc, shape.extents.as_slice())?;
         shapes.push(ShapeBits {
             extents,
@@ -166,46 +265,89 @@ fn shapes(alloc: Global, t: &Typed) -> Result<Vec<ShapeBits>, Memory> {
 }
 
 /// The parallel variables of the file, an array as its elements, with their numbers.
-fn finals(alloc: Global, t: &Typed) -> Result<Vec<Final>, Memory> {
+#[tactic(auto, using(std::proofs::lemmas::List::drop_more), unfolding(crate::specs::Programs::finals_of))]
+fn finals(alloc: Global, t: &Typed) -> Result<Vec<Final>, Memory>
+    ensures { IfOk result (λ finals. finals.items ≡ finals_of t.now.vars.items 0) }
+{
     let mut finals = Vec::new(alloc);
-    let mut number = 0;
-    for info in &t.vars {
-        if let Some(set) = info.shape {
-            for element in 0..entries_of(info) {
-                let name = final_name(alloc, info, element)?;
-                let field = Field {
-                    set,
-                    offset: number,
-                    len: info.elem.bits,
-                };
-                finals.push(Final {
-                    name,
-                    elem: info.elem,
-                    field,
-                })?;
-                number = plus(number, 1)?;
-            }
-        }
+    for info in t.vars.as_slice() {
+        add_finals(alloc, info, &mut finals)?;
     }
     Ok(finals)
 }
 
+/// The elements of a variable, where it is parallel.
+#[tactic(auto, unfolding(crate::specs::Programs::variable_finals, lower_comm::specs::Layouts::entries_of))]
+fn add_finals(alloc: Global, info: &VarInfo, finals: &mut Vec<Final>) -> Result<(), Memory>
+    ensures items { OnOk result (finals.new.items ≡ finals.old.items ++ variable_finals info.now (length finals.old.items)) }
+    ensures count { OnOk result (length finals.new.items ≡ length finals.old.items + entries_of info.now) }
+{
+    match info.shape {
+        None => Ok(()),
+        Some(set) => add_elements(alloc, info, set, finals),
+    }
+}
+
+/// The elements of a parallel variable.
+#[tactic(auto, unfolding(crate::specs::Programs::element_finals))]
+fn add_elements(
+    alloc: Global,
+    info: &VarInfo,
+    set: u16,
+    finals: &mut Vec<Final>,
+) -> Result<(), Memory>
+    ensures items { OnOk result (finals.new.items ≡ finals.old.items ++ element_finals info.now set (entries_of info.now) 0 (length finals.old.items)) }
+    ensures count { OnOk result (length finals.new.items ≡ length finals.old.items + entries_of info.now) }
+{
+    for element in 0..entries_of(info) {
+        let name = final_name(alloc, info, element)?;
+        let field = Field {
+            set,
+            offset: count(finals.len())?,
+            len: info.elem.bits,
+        };
+        finals.push(Final {
+            name,
+            elem: info.elem,
+            field,
+        })?;
+    }
+    Ok(())
+}
+
 /// The name of a variable, and for an element of an array its number in square brackets.
-fn final_name(alloc: Global, info: &VarInfo, element: u32) -> Result<Word, Memory> {
+#[tactic(auto, unfolding(crate::specs::Programs::final_name_of))]
+fn final_name(alloc: Global, info: &VarInfo, element: u32) -> Result<Word, Memory>
+    ensures { IfOk result (λ name. name ≡ final_name_of info.now element) }
+{
     if info.array.is_none() {
         return info.name.copied(alloc);
     }
     let mut bytes = Vec::from_slice(alloc, info.name.bytes())?;
     bytes.push(b'[')?;
-    if element >= 10 {
-        bytes.push(digit(element / 10))?;
-    }
-    bytes.push(digit(element))?;
+    push_digits(element, &mut bytes)?;
     bytes.push(b']')?;
     Ok(Word::of(bytes))
 }
 
+/// The number of an element, of at most two digits.
+#[tactic(auto, unfolding(crate::specs::Programs::digits_of))]
+fn push_digits(element: u32, bytes: &mut Vec<u8>) -> Result<(), Memory>
+    ensures { OnOk result (bytes.new.items ≡ bytes.old.items ++ digits_of element) }
+{
+    if element < 10 {
+        bytes.push(digit(element))?;
+        return Ok(());
+    }
+    bytes.push(digit(element / 10))?;
+    bytes.push(digit(element))?;
+    Ok(())
+}
+
 /// The last digit of a number, as a character.
-fn digit(n: u32) -> u8 {
+#[tactic(auto, unfolding(crate::specs::Programs::last_digit))]
+fn digit(n: u32) -> u8
+    ensures { result ≡ last_digit n }
+{
     b'0' + (n % 10) as u8
 }

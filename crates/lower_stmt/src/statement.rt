@@ -2,16 +2,24 @@
 //! to the turn that the loop's body begins with. A jump out of `where` and `everywhere` first loads
 //! the contexts that they saved, the innermost first, so that the outermost one stays.
 
+ghost use Rattle.std.specs.Prelude.{◌≡◌, ◌++◌, [], ◌∷◌, IfOk, OnOk, Some};
+ghost use Rattle.lower_comm.specs.Drafts.{Makes, draft};
+ghost use Rattle.lower_comm.specs.Layouts.{layout};
+ghost use Rattle.lower_stmt.specs.Frames.{has_result, in_loop, in_context, with_end};
+ghost use Rattle.lower_stmt.specs.Lengths.{at_loop, statement_length_of};
+ghost use Rattle.lower_stmt.specs.Statements.{closing, condition_of, given_back, jump_back_of, narrowed, part_of, restored, returned, statement_of, stored_result, turned, widened};
+
 use crate::length::{Saved, part_length, statement_length};
+use crate::variables::declare;
 use cstar_base::Memory;
-use cstar_tree::typed::{LocalVar, TExpr, TStmt, Typed, VarInfo, Variable};
+use cstar_tree::typed::{TExpr, TStmt, Typed};
 use lower_comm::Out;
-use lower_comm::emit::{entry, flag, here, plus, put};
-use lower_comm::names::{Names, entries_of, own_entry};
+use lower_comm::emit::{flag, here, plus, put};
+use lower_comm::names::{Names, own_entry};
 use lower_expr::length::length;
 use lower_expr::steps::set;
 use lower_expr::value::value;
-use paris_code::{Field, Instr, Owner, Unit};
+use paris_code::{Field, Instr, Unit};
 use std::alloc::Global;
 
 /// What a function gives back.
@@ -35,12 +43,21 @@ pub struct Frame {
 }
 
 impl Frame {
-    fn has_result(self) -> bool {
-        self.outcome != Outcome::Nothing
+    #[tactic(auto, unfolding(crate::specs::Frames::has_result))]
+    fn has_result(self) -> bool
+        ensures { result ≡ has_result self }
+    {
+        match self.outcome {
+            Outcome::Nothing => false,
+            Outcome::Scalar | Outcome::Parallel => true,
+        }
     }
 
     /// In the body of a loop.
-    fn in_loop(self, next: u32, after: u32) -> Frame {
+    #[tactic(auto, unfolding(crate::specs::Frames::in_loop))]
+    fn in_loop(self, next: u32, after: u32) -> Frame
+        ensures { result ≡ in_loop next after self }
+    {
         Frame {
             is_main: self.is_main,
             outcome: self.outcome,
@@ -51,7 +68,10 @@ impl Frame {
     }
 
     /// Where one more context is saved.
-    fn in_context(self) -> Result<Frame, Memory> {
+    #[tactic(auto, unfolding(crate::specs::Frames::in_context))]
+    fn in_context(self) -> Result<Frame, Memory>
+        ensures { IfOk result (λ f. f ≡ in_context self) }
+    {
         Ok(Frame {
             is_main: self.is_main,
             outcome: self.outcome,
@@ -72,6 +92,7 @@ pub struct Progress {
 
 /// Appends the code of a statement.
 #[cycle(statement)]
+#[tactic(auto, unfolding(crate::specs::Statements::statement_of, crate::specs::Statements::part_of, lower_comm::specs::Drafts::then_make))]
 pub fn statement(
     alloc: Global,
     t: &Typed,
@@ -80,10 +101,13 @@ pub fn statement(
     f: Frame,
     p: &mut Progress,
     u: &mut Unit,
-) -> Result<(), Memory> {
+) -> Result<(), Memory>
+    ensures draft { OnOk result (statement_of t.now (layout names.now) s.now f p.old.contexts.items p.old.declared (draft u.old) ≡ Makes p.new.declared (draft u.new)) }
+    ensures contexts { OnOk result (p.new.contexts.items ≡ p.old.contexts.items) }
+{
     match s {
         TStmt::Block { locals, statements } => {
-            declare(alloc, t, names, locals.as_slice(), p, u)?;
+            p.declared = declare(alloc, t, names, locals.as_slice(), p.declared, u)?;
             for inner in statements {
                 statement(alloc, t, names, inner, f, p, u)?;
             }
@@ -96,52 +120,73 @@ pub fn statement(
             repeat(alloc, t, names, s, f, p, u)
         }
         TStmt::Break => {
-            load_contexts(p, f.saved.in_loop, u)?;
+            load_contexts(p.contexts.as_slice(), f.saved.in_loop, u)?;
             put(u, Instr::FrontJump { target: f.after })
         }
         TStmt::Continue => {
-            load_contexts(p, f.saved.in_loop, u)?;
+            load_contexts(p.contexts.as_slice(), f.saved.in_loop, u)?;
             put(u, Instr::FrontJump { target: f.next })
         }
         TStmt::Return(e) => {
-            if let Some(e) = e {
-                give_back(alloc, t, names, e, f.outcome, u)?;
-            }
-            load_contexts(p, f.saved.in_all, u)?;
+            return_value(alloc, t, names, e, f.outcome, u)?;
+            load_contexts(p.contexts.as_slice(), f.saved.in_all, u)?;
             leave(f.is_main, u)
         }
         TStmt::With { body, .. } => statement(alloc, t, names, body, f, p, u),
-        TStmt::Everywhere { .. } | TStmt::Where { .. } => {
-            in_context(alloc, t, names, s, f, p, u)
+        TStmt::Everywhere { shape, body } => {
+            let saved = flag(u, *shape)?;
+            widen(*shape, saved, u)?;
+            within(alloc, t, names, body, f, saved, p, u)
         }
+        TStmt::Where { .. } => narrow_and_run(alloc, t, names, s, f, p, u),
     }
 }
 
 /// An expression whose value is not used.
-fn evaluate(
-    alloc: Global,
-    t: &Typed,
-    names: &Names,
-    e: &TExpr,
-    u: &mut Unit,
-) -> Result<(), Memory> {
+#[tactic(auto, unfolding(crate::specs::Statements::part_of, lower_comm::specs::Drafts::then_make))]
+fn evaluate(alloc: Global, t: &Typed, names: &Names, e: &TExpr, u: &mut Unit) -> Result<(), Memory>
+    ensures draft { OnOk result (part_of t.now (layout names.now) (Some e.now) (draft u.old) ≡ Makes tt (draft u.new)) }
+{
     value(alloc, t, names, e, u)?;
     Ok(())
 }
 
+/// An optional part of a `for`.
+#[tactic(auto, unfolding(crate::specs::Statements::part_of))]
+fn evaluate_part(
+    alloc: Global,
+    t: &Typed,
+    names: &Names,
+    part: &Option<TExpr>,
+    u: &mut Unit,
+) -> Result<(), Memory>
+    ensures draft { OnOk result (part_of t.now (layout names.now) part.now (draft u.old) ≡ Makes tt (draft u.new)) }
+{
+    match part {
+        Some(e) => evaluate(alloc, t, names, e, u),
+        None => Ok(()),
+    }
+}
+
 /// The value of a condition, in a register.
+#[tactic(auto, unfolding(crate::specs::Statements::condition_of, lower_comm::specs::Drafts::then_make, lower_comm::specs::Drafts::in_register))]
 fn condition(
     alloc: Global,
     t: &Typed,
     names: &Names,
     e: &TExpr,
     u: &mut Unit,
-) -> Result<u32, Memory> {
+) -> Result<u32, Memory>
+    ensures draft { IfOk result (λ r. condition_of t.now (layout names.now) e.now (draft u.old) ≡ Makes r (draft u.new)) }
+{
     value(alloc, t, names, e, u)?.register()
 }
 
 /// The end of a function, and that of `main`.
-pub fn leave(is_main: bool, u: &mut Unit) -> Result<(), Memory> {
+#[tactic(auto, unfolding(crate::specs::Frames::with_end))]
+pub fn leave(is_main: bool, u: &mut Unit) -> Result<(), Memory>
+    ensures draft { OnOk result (with_end is_main (draft u.old) ≡ draft u.new) }
+{
     if is_main {
         put(u, Instr::FrontHalt)
     } else {
@@ -150,19 +195,40 @@ pub fn leave(is_main: bool, u: &mut Unit) -> Result<(), Memory> {
 }
 
 /// Loads the newest saved contexts, so many of them, the newest first.
-fn load_contexts(p: &Progress, newest: u32, u: &mut Unit) -> Result<(), Memory> {
-    let mut left = newest;
-    for source in p.contexts.iter().rev() {
-        if left == 0 {
-            return Ok(());
-        }
-        left -= 1;
-        put(u, Instr::LoadContext { source: *source })?;
+#[tactic(auto, using(crate::proofs::RestoredContexts::restored_none, crate::proofs::RestoredContexts::restored_outermost, crate::proofs::RestoredContexts::restored_more))]
+fn load_contexts(contexts: &[Field], newest: u32, u: &mut Unit) -> Result<(), Memory>
+    ensures draft { OnOk result (restored contexts.now newest (draft u.old) ≡ draft u.new) }
+{
+    if newest == 0 {
+        return Ok(());
     }
-    Ok(())
+    let Some((source, older)) = contexts.split_last() else {
+        return Ok(());
+    };
+    put(u, Instr::LoadContext { source: *source })?;
+    load_contexts(older, newest - 1, u)
+}
+
+/// The value of `return`, if there is one, becomes the result.
+#[tactic(auto, unfolding(crate::specs::Statements::returned))]
+fn return_value(
+    alloc: Global,
+    t: &Typed,
+    names: &Names,
+    e: &Option<TExpr>,
+    outcome: Outcome,
+    u: &mut Unit,
+) -> Result<(), Memory>
+    ensures draft { OnOk result (returned t.now (layout names.now) e.now outcome (draft u.old) ≡ Makes tt (draft u.new)) }
+{
+    match e {
+        Some(e) => give_back(alloc, t, names, e, outcome, u),
+        None => Ok(()),
+    }
 }
 
 /// The returned value becomes the result, that of a field at the active positions.
+#[tactic(auto, unfolding(crate::specs::Statements::given_back, lower_comm::specs::Drafts::then_make))]
 fn give_back(
     alloc: Global,
     t: &Typed,
@@ -170,8 +236,18 @@ fn give_back(
     e: &TExpr,
     outcome: Outcome,
     u: &mut Unit,
-) -> Result<(), Memory> {
+) -> Result<(), Memory>
+    ensures draft { OnOk result (given_back t.now (layout names.now) e.now outcome (draft u.old) ≡ Makes tt (draft u.new)) }
+{
     let v = value(alloc, t, names, e, u)?;
+    store_result(names, outcome, v, u)
+}
+
+/// A value becomes the function's result.
+#[tactic(auto, unfolding(crate::specs::Statements::stored_result, lower_comm::specs::Drafts::then_make, lower_comm::specs::Layouts::layout))]
+fn store_result(names: &Names, outcome: Outcome, v: Out, u: &mut Unit) -> Result<(), Memory>
+    ensures draft { OnOk result (stored_result (layout names.now) outcome v (draft u.old) ≡ Makes tt (draft u.new)) }
+{
     match outcome {
         Outcome::Nothing => Ok(()),
         Outcome::Scalar => set(Out::Scalar(names.result_register()?), v, u),
@@ -182,65 +258,9 @@ fn give_back(
     }
 }
 
-/// The variables of a block: all become zero, and then the initialisers run in order.
-fn declare(
-    alloc: Global,
-    t: &Typed,
-    names: &Names,
-    locals: &[LocalVar],
-    p: &mut Progress,
-    u: &mut Unit,
-) -> Result<(), Memory> {
-    let first = p.declared;
-    for local in locals {
-        clear(names, &local.info, p.declared, u)?;
-        p.declared = plus(p.declared, 1)?;
-    }
-    let mut number = first;
-    for local in locals {
-        if let Some(e) = &local.initial {
-            let v = value(alloc, t, names, e, u)?;
-            let dest = variable(t, names, &local.info, number, u)?;
-            set(dest, v, u)?;
-        }
-        number = plus(number, 1)?;
-    }
-    Ok(())
-}
-
-/// Where a variable of a block is.
-fn variable(
-    t: &Typed,
-    names: &Names,
-    info: &VarInfo,
-    number: u32,
-    u: &mut Unit,
-) -> Result<Out, Memory> {
-    match info.shape {
-        None => Ok(Out::Scalar(names.register(Variable::Local(number))?)),
-        Some(_) => Ok(Out::Field(names.field(t, Variable::Local(number), 0, u)?)),
-    }
-}
-
-/// A variable of a block becomes zero, at every position; a parallel one gets its entries here.
-fn clear(names: &Names, info: &VarInfo, number: u32, u: &mut Unit) -> Result<(), Memory> {
-    let Some(shape) = info.shape else {
-        let dest = names.register(Variable::Local(number))?;
-        return put(u, Instr::FrontConst { dest, value: 0 });
-    };
-    let Ok(home) = u32::try_from(u.fields.len()) else {
-        return Err(Memory);
-    };
-    u.homes.push(home)?;
-    for _ in 0..entries_of(info) {
-        let dest = entry(u, shape, info.elem.bits, Owner::Own)?;
-        put(u, Instr::MoveZeroAlways { dest })?;
-    }
-    Ok(())
-}
-
 /// `if`.
 #[cycle(statement)]
+#[tactic(auto, unfolding(crate::specs::Statements::statement_of, crate::specs::Statements::else_of, crate::specs::Statements::past, lower_comm::specs::Drafts::then_make))]
 fn branch(
     alloc: Global,
     t: &Typed,
@@ -249,7 +269,10 @@ fn branch(
     f: Frame,
     p: &mut Progress,
     u: &mut Unit,
-) -> Result<(), Memory> {
+) -> Result<(), Memory>
+    ensures draft { OnOk result (statement_of t.now (layout names.now) s.now f p.old.contexts.items p.old.declared (draft u.old) ≡ Makes p.new.declared (draft u.new)) }
+    ensures contexts { OnOk result (p.new.contexts.items ≡ p.old.contexts.items) }
+{
     let TStmt::If {
         test,
         then,
@@ -284,6 +307,7 @@ fn branch(
 
 /// A loop.
 #[cycle(statement)]
+#[tactic(auto, unfolding(crate::specs::Statements::statement_of, crate::specs::Statements::jump_back_of, lower_comm::specs::Drafts::then_make))]
 fn repeat(
     alloc: Global,
     t: &Typed,
@@ -292,17 +316,14 @@ fn repeat(
     f: Frame,
     p: &mut Progress,
     u: &mut Unit,
-) -> Result<(), Memory> {
+) -> Result<(), Memory>
+    ensures draft { OnOk result (statement_of t.now (layout names.now) s.now f p.old.contexts.items p.old.declared (draft u.old) ≡ Makes p.new.declared (draft u.new)) }
+    ensures contexts { OnOk result (p.new.contexts.items ≡ p.old.contexts.items) }
+{
     match s {
         TStmt::While { test, body } => {
             let turn = plus(here(u)?, 1)?;
-            let length_of_body = statement_length(
-                t,
-                names,
-                body,
-                f.has_result(),
-                f.saved.at_loop(),
-            )?;
+            let length_of_body = body_length(t, names, body, f)?;
             let next = plus(plus(turn, length_of_body)?, 1)?;
             let after = plus(plus(next, length(t, names, test)?)?, 1)?;
             put(u, Instr::FrontJump { target: next })?;
@@ -313,13 +334,7 @@ fn repeat(
         }
         TStmt::Do { body, test } => {
             let turn = here(u)?;
-            let length_of_body = statement_length(
-                t,
-                names,
-                body,
-                f.has_result(),
-                f.saved.at_loop(),
-            )?;
+            let length_of_body = body_length(t, names, body, f)?;
             let next = plus(plus(turn, length_of_body)?, 1)?;
             let after = plus(plus(next, length(t, names, test)?)?, 1)?;
             put(u, Instr::FrontTurn)?;
@@ -333,33 +348,31 @@ fn repeat(
             step,
             body,
         } => {
-            if let Some(first) = first {
-                evaluate(alloc, t, names, first, u)?;
-            }
+            evaluate_part(alloc, t, names, first, u)?;
             let turn = plus(here(u)?, 1)?;
-            let length_of_body = statement_length(
-                t,
-                names,
-                body,
-                f.has_result(),
-                f.saved.at_loop(),
-            )?;
+            let length_of_body = body_length(t, names, body, f)?;
             let next = plus(plus(turn, length_of_body)?, 1)?;
             let tested = plus(next, part_length(t, names, step)?)?;
             let after = plus(plus(tested, part_length(t, names, test)?)?, 1)?;
             put(u, Instr::FrontJump { target: tested })?;
             put(u, Instr::FrontTurn)?;
             statement(alloc, t, names, body, f.in_loop(next, after), p, u)?;
-            if let Some(step) = step {
-                evaluate(alloc, t, names, step, u)?;
-            }
+            evaluate_part(alloc, t, names, step, u)?;
             jump_back(alloc, t, names, test, turn, u)
         }
         _ => Err(Memory),
     }
 }
 
+/// The instructions of a loop's body.
+fn body_length(t: &Typed, names: &Names, body: &TStmt, f: Frame) -> Result<u32, Memory>
+    ensures { IfOk result (λ n. n ≡ statement_length_of t.now (layout names.now) (has_result f) (at_loop f.saved) body.now) }
+{
+    statement_length(t, names, body, f.has_result(), f.saved.at_loop())
+}
+
 /// The end of a `for`: back to its turn, if its condition is there and not zero, or always.
+#[tactic(auto, unfolding(crate::specs::Statements::jump_back_of, lower_comm::specs::Drafts::then_make))]
 fn jump_back(
     alloc: Global,
     t: &Typed,
@@ -367,7 +380,9 @@ fn jump_back(
     test: &Option<TExpr>,
     turn: u32,
     u: &mut Unit,
-) -> Result<(), Memory> {
+) -> Result<(), Memory>
+    ensures draft { OnOk result (jump_back_of t.now (layout names.now) test.now turn (draft u.old) ≡ Makes tt (draft u.new)) }
+{
     match test {
         Some(test) => {
             let test = condition(alloc, t, names, test, u)?;
@@ -377,9 +392,10 @@ fn jump_back(
     }
 }
 
-/// `everywhere` and `where`.
+/// `where`.
 #[cycle(statement)]
-fn in_context(
+#[tactic(auto, unfolding(crate::specs::Statements::statement_of, crate::specs::Statements::otherwise_of, lower_comm::specs::Drafts::then_make, lower_comm::specs::Drafts::in_field))]
+fn narrow_and_run(
     alloc: Global,
     t: &Typed,
     names: &Names,
@@ -387,42 +403,80 @@ fn in_context(
     f: Frame,
     p: &mut Progress,
     u: &mut Unit,
-) -> Result<(), Memory> {
-    match s {
-        TStmt::Everywhere { shape, body } => {
-            let saved = flag(u, *shape)?;
-            put(u, Instr::StoreContext { dest: saved })?;
-            put(u, Instr::SetContext { set: *shape })?;
-            p.contexts.push(saved)?;
-            statement(alloc, t, names, body, f.in_context()?, p, u)?;
-            p.contexts.pop();
-            put(u, Instr::LoadContext { source: saved })
+) -> Result<(), Memory>
+    ensures draft { OnOk result (statement_of t.now (layout names.now) s.now f p.old.contexts.items p.old.declared (draft u.old) ≡ Makes p.new.declared (draft u.new)) }
+    ensures contexts { OnOk result (p.new.contexts.items ≡ p.old.contexts.items) }
+{
+    let TStmt::Where {
+        shape,
+        test,
+        then,
+        otherwise,
+    } = s
+    else {
+        return Err(Memory);
+    };
+    let saved = flag(u, *shape)?;
+    let holds = flag(u, *shape)?;
+    let source = value(alloc, t, names, test, u)?.field()?;
+    narrow(*shape, saved, holds, source, u)?;
+    within(alloc, t, names, then, f, saved, p, u)?;
+    match otherwise {
+        None => Ok(()),
+        Some(other) => {
+            turn_over(*shape, holds, u)?;
+            within(alloc, t, names, other, f, saved, p, u)
         }
-        TStmt::Where {
-            shape,
-            test,
-            then,
-            otherwise,
-        } => {
-            let saved = flag(u, *shape)?;
-            let holds = flag(u, *shape)?;
-            let source = value(alloc, t, names, test, u)?.field()?;
-            put(u, Instr::StoreContext { dest: saved })?;
-            put(u, Instr::NeZero { source })?;
-            put(u, Instr::StoreTest { dest: holds })?;
-            put(u, Instr::LogandContextWithTest { set: *shape })?;
-            p.contexts.push(saved)?;
-            statement(alloc, t, names, then, f.in_context()?, p, u)?;
-            put(u, Instr::LoadContext { source: saved })?;
-            if let Some(other) = otherwise {
-                put(u, Instr::LoadTest { source: holds })?;
-                put(u, Instr::LogandcContextWithTest { set: *shape })?;
-                statement(alloc, t, names, other, f.in_context()?, p, u)?;
-                put(u, Instr::LoadContext { source: saved })?;
-            }
-            p.contexts.pop();
-            Ok(())
-        }
-        _ => Err(Memory),
     }
+}
+
+/// A statement where one more context is saved, which is loaded behind it.
+#[cycle(statement)]
+#[tactic(auto, unfolding(crate::specs::Statements::closing, lower_comm::specs::Drafts::then_make))]
+fn within(
+    alloc: Global,
+    t: &Typed,
+    names: &Names,
+    s: &TStmt,
+    f: Frame,
+    saved: Field,
+    p: &mut Progress,
+    u: &mut Unit,
+) -> Result<(), Memory>
+    ensures draft { OnOk result (closing saved (statement_of t.now (layout names.now) s.now (in_context f) (p.old.contexts.items ++ saved ∷ []) p.old.declared (draft u.old)) ≡ Makes p.new.declared (draft u.new)) }
+    ensures contexts { OnOk result (p.new.contexts.items ≡ p.old.contexts.items) }
+{
+    p.contexts.push(saved)?;
+    statement(alloc, t, names, s, f.in_context()?, p, u)?;
+    p.contexts.pop();
+    put(u, Instr::LoadContext { source: saved })
+}
+
+/// Saves the context of a shape, and makes all its positions active.
+#[tactic(auto, unfolding(crate::specs::Statements::widened))]
+fn widen(set: u16, saved: Field, u: &mut Unit) -> Result<(), Memory>
+    ensures draft { OnOk result (widened set saved (draft u.old) ≡ draft u.new) }
+{
+    put(u, Instr::StoreContext { dest: saved })?;
+    put(u, Instr::SetContext { set })
+}
+
+/// Saves the context of a shape, and leaves active where the value is not zero.
+#[tactic(auto, unfolding(crate::specs::Statements::narrowed))]
+fn narrow(set: u16, saved: Field, holds: Field, source: Field, u: &mut Unit) -> Result<(), Memory>
+    ensures draft { OnOk result (narrowed set saved holds source (draft u.old) ≡ draft u.new) }
+{
+    put(u, Instr::StoreContext { dest: saved })?;
+    put(u, Instr::NeZero { source })?;
+    put(u, Instr::StoreTest { dest: holds })?;
+    put(u, Instr::LogandContextWithTest { set })
+}
+
+/// Leaves active where the value was zero.
+#[tactic(auto, unfolding(crate::specs::Statements::turned))]
+fn turn_over(set: u16, holds: Field, u: &mut Unit) -> Result<(), Memory>
+    ensures draft { OnOk result (turned set holds (draft u.old) ≡ draft u.new) }
+{
+    put(u, Instr::LoadTest { source: holds })?;
+    put(u, Instr::LogandcContextWithTest { set })
 }

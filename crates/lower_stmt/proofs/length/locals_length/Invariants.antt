@@ -1,0 +1,9 @@
+use Rattle.std.proofs.Common.{◌≡◌, ◌+◌, drop}
+use Rattle.lower_comm.specs.Layouts.{layout}
+use Rattle.lower_stmt.specs.Lengths.{locals_length_of}
+use Rattle.lower_stmt.proofs.length.locals_length.Given as goal
+
+-- what was counted so far, and the variables that are left, are the whole
+abbrev pub invariant-loop-local : goal.invariant-loop-local
+invariant-loop-local l =
+    l.sum + locals_length_of l.t (layout l.names) (drop l.local-index l.locals) ≡ locals_length_of l.t (layout l.names) l.locals

@@ -1,0 +1,11 @@
+use Rattle.std.proofs.Common.{◌≡◌, ◌-◌}
+use Rattle.lower_comm.specs.Drafts.{draft}
+use Rattle.lower_comm.specs.Layouts.{layout}
+use Rattle.lower_stmt.specs.Programs.{elements_begun}
+use Rattle.lower_stmt.proofs.program.begin_elements.Given as goal
+
+-- the elements that are left, from here on, give the whole
+abbrev pub invariant-loop-element : goal.invariant-loop-element
+invariant-loop-element l =
+    elements_begun l.t (layout l.names) l.fn.number l.value (l.elements - l.element) l.element (draft l.u)
+    ≡ elements_begun l.t (layout l.names) l.fn.number l.value l.elements 0 (draft l.fn.u)

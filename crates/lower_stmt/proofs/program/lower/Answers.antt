@@ -1,0 +1,47 @@
+use Rattle.std.proofs.Common.{◌≡◌, ◌+◌, ◌<◌, ◌==◌, drop, length, ap, arith}
+use Rattle.std.proofs.lemmas.Grind.{common_steps}
+use Rattle.std.proofs.lemmas.List.{at_drop_more}
+use Rattle.lower_comm.specs.Drafts.{Makes, draft}
+use Rattle.lower_comm.specs.Layouts.{Layout, layout, layout_of}
+use Rattle.lower_stmt.specs.Programs.{slots_behind, unit_of, units_of}
+use Rattle.lower_stmt.proofs.UnitsPushed.{first_unit, one_more_unit, slots_more}
+use Rattle.lower_stmt.proofs.program.lower.Goals as goal
+
+pub loop-number-init : goal.loop-number-init
+unfolding layout slots_behind
+loop-number-init c =
+    let same : layout c.in_ok-names.names ≡ layout_of c.args.t.now 0 = c.in_ok-names.ensures in
+    let end : c.in_ok-names.names.end ≡ (layout_of c.args.t.now 0).end = ap (λ (l : Layout). l.end) same in
+    let none = c.new-units.ensures.items in
+    record { known = (0, same); units = grind (arith, common_steps, end, none); slots = grind (arith, common_steps, end, none) }
+
+pub loop-number-preserved : goal.loop-number-preserved
+loop-number-preserved c =
+    let known = c.loop-number.invariant.known in
+    let seen : layout c.enter.new.self ≡ layout_of c.args.t.now c.loop-number.number = c.in_ok-enter.ensures known.0 known.1 in
+    let below : c.loop-number.number < length c.deref-instance-items.result.now = omega arith in
+    let more =
+    at_drop_more (λ instances. units_of c.args.t.now instances c.loop-number.number c.loop-number.slots) c.deref-instance-items.result.now
+    c.loop-number.number c.instance-item.result below
+    in
+    let made : unit_of c.args.t.now (layout_of c.args.t.now c.loop-number.number) (c.loop-number.number == 0) c.loop-number.slots c.instance-item.result
+    ≡ Makes tt (draft c.in_ok-unit.unit)
+    = rw (← seen) c.in_ok-unit.ensures.draft
+    in
+    let first =
+    first_unit c.args.t.now c.instance-item.result (drop (c.loop-number.number + 1) c.deref-instance-items.result.now) c.loop-number.number
+    c.loop-number.slots c.in_ok-unit.unit c.in_ok-unit.ensures.name made
+    in
+    let pushed =
+    one_more_unit c.loop-number.units.items c.in_ok-unit.unit
+    (units_of c.args.t.now (drop (c.loop-number.number + 1) c.deref-instance-items.result.now) (c.loop-number.number + 1) c.in_ok-unit.unit.regs)
+    in
+    let slots = slots_more (layout_of c.args.t.now 0).end c.loop-number.units.items c.in_ok-unit.unit in
+    let items = c.in_ok-push.ensures.items in
+    let item = c.instance-item.is in
+    let so_far = c.loop-number.invariant.units in
+    record {
+      known = (c.loop-number.number, seen);
+      units = cc (more, first, pushed, items, item, so_far);
+      slots = cc (slots, items);
+    }

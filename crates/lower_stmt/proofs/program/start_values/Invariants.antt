@@ -1,0 +1,11 @@
+use Rattle.std.proofs.Common.{◌≡◌, drop}
+use Rattle.lower_comm.specs.Drafts.{draft}
+use Rattle.lower_comm.specs.Layouts.{layout}
+use Rattle.lower_stmt.specs.Programs.{start_values_of}
+use Rattle.lower_stmt.proofs.program.start_values.Given as goal
+
+-- the variables that are left, from here on, give the whole
+abbrev pub invariant-loop-info : goal.invariant-loop-info
+invariant-loop-info l =
+    start_values_of l.t (layout l.names) (drop l.info-index l.info-items) l.number (draft l.u)
+    ≡ start_values_of l.t (layout l.names) l.info-items 0 (draft l.fn.u)

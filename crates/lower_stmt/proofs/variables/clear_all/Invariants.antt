@@ -1,0 +1,11 @@
+use Rattle.std.proofs.Common.{◌≡◌, drop}
+use Rattle.lower_comm.specs.Drafts.{draft}
+use Rattle.lower_comm.specs.Layouts.{layout}
+use Rattle.lower_stmt.specs.Variables.{all_cleared}
+use Rattle.lower_stmt.proofs.variables.clear_all.Given as goal
+
+-- the variables that are left, from here on, give the whole
+abbrev pub invariant-loop-local : goal.invariant-loop-local
+invariant-loop-local l =
+    all_cleared (layout l.names) (drop l.local-index l.locals) l.number (draft l.u)
+    ≡ all_cleared (layout l.names) l.locals l.first (draft l.fn.u)

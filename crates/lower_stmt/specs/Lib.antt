@@ -1,0 +1,5 @@
+pub mod Frames
+pub mod Lengths
+pub mod Programs
+pub mod Statements
+pub mod Variables

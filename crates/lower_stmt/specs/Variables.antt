@@ -1,0 +1,65 @@
+-- The variables of a block.
+use Rattle.std.specs.Prelude.{ℕ, zero, suc, ◌+◌, List, [], ◌∷◌, ◌++◌, length, Some, None}
+use Rattle.cstar_tree.specs.declared.typed.LocalVar.{LocalVar}
+use Rattle.cstar_tree.specs.declared.typed.Typed.{Typed}
+use Rattle.cstar_tree.specs.declared.typed.VarInfo.{VarInfo}
+use Rattle.cstar_tree.specs.declared.typed.Variable.TheVariants as V
+use Rattle.paris_code.specs.declared.instr.Instr.TheVariants as I
+use Rattle.paris_code.specs.declared.program.Owner.TheVariants as W
+use Rattle.lower_comm.specs.declared.emit.Out.{Out}
+use Rattle.lower_comm.specs.declared.emit.Out.TheVariants as O
+use Rattle.lower_comm.specs.Drafts.{Draft, Made, Makes, then_make, with_instr, an_entry}
+use Rattle.lower_comm.specs.Layouts.{Layout, entries_of, register_of, field_of}
+use Rattle.lower_expr.specs.Steps.{put_value}
+use Rattle.lower_expr.specs.Values.{value_of}
+
+-- so many fresh fields of a shape, each of which becomes zero at every position
+unfoldable pub cleared_fields : ℕ → ℕ → ℕ → Draft → Made (Unit {0})
+cleared_fields zero set len d = Makes tt d
+cleared_fields (suc n) set len d =
+    then_make (an_entry set len W.Own d) (λ dest after. cleared_fields n set len (with_instr (I.MoveZeroAlways dest) after))
+
+-- the next parallel variable of the blocks has its first field here
+unfoldable pub with_home : Draft → Draft
+with_home d = record d { homes = d.homes ++ length d.fields ∷ [] }
+
+-- the variable of this number becomes zero, at every position
+unfoldable pub cleared : Layout → VarInfo → ℕ → Draft → Made (Unit {0})
+cleared l info n d =
+    elim info.shape [
+      | None ↦ Makes tt (with_instr (I.FrontConst (register_of l (V.Local n)) 0) d)
+      | Some s ↦ cleared_fields (entries_of info) s info.elem.bits (with_home d)
+    ]
+
+-- all variables of a block, from a number on
+unfoldable pub all_cleared : Layout → List LocalVar → ℕ → Draft → Made (Unit {0})
+all_cleared l [] n d = Makes tt d
+all_cleared l (local ∷ locals) n d = then_make (cleared l local.info n d) (λ _ after. all_cleared l locals (n + 1) after)
+
+-- where a variable is
+unfoldable pub variable_of : Typed → Layout → VarInfo → ℕ → Draft → Made Out
+variable_of t l info n d =
+    elim info.shape [
+      | None ↦ Makes (O.Scalar (register_of l (V.Local n))) d
+      | Some s ↦ then_make (field_of t l (V.Local n) 0 d) (λ field after. Makes (O.Field field) after)
+    ]
+
+-- its initialiser, if it has one, stored in it
+unfoldable pub initialised : Typed → Layout → LocalVar → ℕ → Draft → Made (Unit {0})
+initialised t l local n d =
+    elim local.initial [
+      | None ↦ Makes tt d
+      | Some e ↦ then_make (value_of t l e d) (λ v between. then_make (variable_of t l local.info n between)
+          (λ dest after. then_make (put_value dest v after) (λ _ stored. Makes tt stored)))
+    ]
+
+-- the initialisers of a block, in order
+unfoldable pub all_initialised : Typed → Layout → List LocalVar → ℕ → Draft → Made (Unit {0})
+all_initialised t l [] n d = Makes tt d
+all_initialised t l (local ∷ locals) n d = then_make (initialised t l local n d) (λ _ after. all_initialised t l locals (n + 1) after)
+
+-- the variables of a block: all become zero, and then the initialisers run; it answers the number
+-- of the variable that is declared next
+unfoldable pub declared : Typed → Layout → List LocalVar → ℕ → Draft → Made ℕ
+declared t l locals n d =
+    then_make (all_cleared l locals n d) (λ _ between. then_make (all_initialised t l locals n between) (λ _ after. Makes (n + length locals) after))

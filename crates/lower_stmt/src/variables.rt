@@ -1,0 +1,141 @@
+//! The variables of a block.
+
+ghost use Rattle.std.specs.Prelude.{◌≡◌, IfOk, OnOk};
+ghost use Rattle.lower_comm.specs.Drafts.{Makes, draft};
+ghost use Rattle.lower_comm.specs.Layouts.{layout};
+ghost use Rattle.lower_stmt.specs.Variables.{all_cleared, all_initialised, cleared, cleared_fields, declared, initialised, variable_of, with_home};
+
+use cstar_base::Memory;
+use cstar_tree::typed::{LocalVar, Typed, VarInfo, Variable};
+use lower_comm::Out;
+use lower_comm::emit::{entry, plus, put};
+use lower_comm::names::{Names, count, entries_of};
+use lower_expr::steps::set;
+use lower_expr::value::value;
+use paris_code::{Instr, Owner, Unit};
+use std::alloc::Global;
+
+/// The variables of a block, from a number on: all become zero, and then the initialisers run in
+/// order. Answers the number of the variable that is declared next.
+#[tactic(auto, unfolding(crate::specs::Variables::declared, lower_comm::specs::Drafts::then_make))]
+pub fn declare(
+    alloc: Global,
+    t: &Typed,
+    names: &Names,
+    locals: &[LocalVar],
+    first: u32,
+    u: &mut Unit,
+) -> Result<u32, Memory>
+    ensures draft { IfOk result (λ n. declared t.now (layout names.now) locals.now first (draft u.old) ≡ Makes n (draft u.new)) }
+{
+    clear_all(names, locals, first, u)?;
+    initialise_all(alloc, t, names, locals, first, u)?;
+    plus(first, count(locals.len())?)
+}
+
+/// All become zero.
+#[tactic(auto, using(std::proofs::lemmas::List::drop_more), unfolding(crate::specs::Variables::all_cleared, lower_comm::specs::Drafts::then_make))]
+fn clear_all(names: &Names, locals: &[LocalVar], first: u32, u: &mut Unit) -> Result<(), Memory>
+    ensures draft { OnOk result (all_cleared (layout names.now) locals.now first (draft u.old) ≡ Makes tt (draft u.new)) }
+{
+    let mut number = first;
+    for local in locals {
+        clear(names, &local.info, number, u)?;
+        number = plus(number, 1)?;
+    }
+    Ok(())
+}
+
+/// The initialisers.
+#[tactic(auto, using(std::proofs::lemmas::List::drop_more), unfolding(crate::specs::Variables::all_initialised, lower_comm::specs::Drafts::then_make))]
+fn initialise_all(
+    alloc: Global,
+    t: &Typed,
+    names: &Names,
+    locals: &[LocalVar],
+    first: u32,
+    u: &mut Unit,
+) -> Result<(), Memory>
+    ensures draft { OnOk result (all_initialised t.now (layout names.now) locals.now first (draft u.old) ≡ Makes tt (draft u.new)) }
+{
+    let mut number = first;
+    for local in locals {
+        initialise(alloc, t, names, local, number, u)?;
+        number = plus(number, 1)?;
+    }
+    Ok(())
+}
+
+/// The initialiser of a variable, if it has one.
+#[tactic(auto, unfolding(crate::specs::Variables::initialised, lower_comm::specs::Drafts::then_make))]
+fn initialise(
+    alloc: Global,
+    t: &Typed,
+    names: &Names,
+    local: &LocalVar,
+    number: u32,
+    u: &mut Unit,
+) -> Result<(), Memory>
+    ensures draft { OnOk result (initialised t.now (layout names.now) local.now number (draft u.old) ≡ Makes tt (draft u.new)) }
+{
+    match &local.initial {
+        None => Ok(()),
+        Some(e) => {
+            let v = value(alloc, t, names, e, u)?;
+            let dest = variable(t, names, &local.info, number, u)?;
+            set(dest, v, u)
+        }
+    }
+}
+
+/// Where a variable of a block is.
+#[tactic(auto, unfolding(crate::specs::Variables::variable_of, lower_comm::specs::Drafts::then_make))]
+fn variable(
+    t: &Typed,
+    names: &Names,
+    info: &VarInfo,
+    number: u32,
+    u: &mut Unit,
+) -> Result<Out, Memory>
+    ensures draft { IfOk result (λ out. variable_of t.now (layout names.now) info.now number (draft u.old) ≡ Makes out (draft u.new)) }
+{
+    match info.shape {
+        None => Ok(Out::Scalar(names.register(Variable::Local(number))?)),
+        Some(_) => Ok(Out::Field(names.field(t, Variable::Local(number), 0, u)?)),
+    }
+}
+
+/// A variable of a block becomes zero, at every position; a parallel one gets its entries here.
+#[tactic(auto, unfolding(crate::specs::Variables::cleared))]
+fn clear(names: &Names, info: &VarInfo, number: u32, u: &mut Unit) -> Result<(), Memory>
+    ensures draft { OnOk result (cleared (layout names.now) info.now number (draft u.old) ≡ Makes tt (draft u.new)) }
+{
+    let Some(shape) = info.shape else {
+        let dest = names.register(Variable::Local(number))?;
+        return put(u, Instr::FrontConst { dest, value: 0 });
+    };
+    begin_home(u)?;
+    clear_fields(entries_of(info), shape, info.elem.bits, u)
+}
+
+/// The next parallel variable of the blocks has its first entry here.
+#[tactic(auto, unfolding(crate::specs::Variables::with_home, lower_comm::specs::Drafts::draft))]
+fn begin_home(u: &mut Unit) -> Result<(), Memory>
+    ensures draft { OnOk result (with_home (draft u.old) ≡ draft u.new) }
+{
+    let home = count(u.fields.len())?;
+    u.homes.push(home)?;
+    Ok(())
+}
+
+/// Fresh entries, which become zero at every position.
+#[tactic(auto, using(crate::proofs::ClearedFields::cleared_step), unfolding(crate::specs::Variables::cleared_fields))]
+fn clear_fields(entries: u32, set: u16, len: u8, u: &mut Unit) -> Result<(), Memory>
+    ensures draft { OnOk result (cleared_fields entries set len (draft u.old) ≡ Makes tt (draft u.new)) }
+{
+    for _ in 0..entries {
+        let dest = entry(u, set, len, Owner::Own)?;
+        put(u, Instr::MoveZeroAlways { dest })?;
+    }
+    Ok(())
+}
