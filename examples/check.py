@@ -1,7 +1,7 @@
 #!/usr/bin/env python3
-"""Compares the examples with the copies that the gate runs. With --copy the copies are made anew, and
-with --binary CSTAR each example is run by that command and its output compared. The page of faults lies
-in the crate alone (docs/faults.md is a link to it)."""
+"""Compares the examples and the page of faults with the copies that the gate runs. With --copy the
+copies are made anew, and with --binary CSTAR each example is run by that command and its output
+compared."""
 import argparse
 import pathlib
 import re
@@ -10,7 +10,7 @@ import sys
 
 HERE = pathlib.Path(__file__).resolve().parent
 CRATE = HERE.parent / "crates" / "example_runs"
-PAGE = CRATE / "data" / "faults.md"
+PAGE = HERE.parent / "docs" / "faults.md"
 
 
 def wanted_files():
