@@ -1,5 +1,5 @@
 -- The lengths and the code of lists of expressions, as they stand in memory.
-use Rattle.std.proofs.Common.{◌≡◌, ℕ, ◌+◌, List, [], ◌∷◌, ◌++◌, length, slice_get, Vec, Option, Bool, refl, sym, ap, ◌∙◌, subst, if◌then◌else◌, is_some}
+use Rattle.std.proofs.Common.{◌≡◌, ℕ, ◌+◌, List, [], ◌∷◌, ◌++◌, length, slice_get, Vec, refl, ap, ◌∙◌, if◌then◌else◌}
 use Rattle.std.specs.declared.alloc.Global.{Global}
 use mathlib.Core.Former.{Count}
 use Rattle.cstar_base.specs.declared.operators.Place.{Place}
@@ -14,12 +14,11 @@ use Rattle.lower_comm.specs.Drafts.{Draft, Made, Makes, Fails, then_make}
 use Rattle.lower_comm.specs.Layouts.{Layout}
 use Rattle.lower_comm.specs.Messages.{address, located}
 use Rattle.lower_comm.specs.News.{goes_by_news}
-use Rattle.lower_expr.specs.declared.spots.Spot.{Spot}
 use Rattle.lower_expr.specs.declared.spots.Spot.TheVariants as S
 use Rattle.lower_expr.specs.Frames.{called}
 use Rattle.lower_expr.specs.Lengths.{length_of, spot_length_of, lengths_of, lengths_in, call_length, news_length, read_length}
 use Rattle.lower_expr.specs.Steps.{pieces_printed}
-use Rattle.lower_expr.specs.Values.{Codes, fresh_for, indexed_spot, news_by, read_by, value_of, spot_of, values_of, values_in}
+use Rattle.lower_expr.specs.Values.{fresh_for, indexed_spot, news_by, read_by, value_of, spot_of, values_of, values_in}
 
 -- the row that a list stands in
 abbrev row_of : TExpr → (n : Count) × Row_of-TExpr n

@@ -1,7 +1,6 @@
 -- The code of a call: the called instance's result and parallel parameters become zero, the
 -- parameters take the arguments, a turn is spent, and the result is copied back.
 use Rattle.std.specs.Prelude.{ℕ, ◌+◌, List, [], ◌∷◌, slice_get, Option, Some, None}
-use Rattle.cstar_tree.specs.declared.typed.Instance.{Instance}
 use Rattle.cstar_tree.specs.declared.typed.Typed.{Typed}
 use Rattle.cstar_tree.specs.declared.typed.VarInfo.{VarInfo}
 use Rattle.paris_code.specs.declared.instr.Instr.TheVariants as I
@@ -9,7 +8,7 @@ use Rattle.paris_code.specs.declared.operands.Field.{Field}
 use Rattle.paris_code.specs.declared.program.Owner.TheVariants as W
 use Rattle.lower_comm.specs.declared.emit.Out.{Out}
 use Rattle.lower_comm.specs.declared.emit.Out.TheVariants as O
-use Rattle.lower_comm.specs.Drafts.{Draft, Made, Makes, Fails, then_make, from, with_instr, an_entry, in_register, in_field}
+use Rattle.lower_comm.specs.Drafts.{Draft, Made, Makes, then_make, from, with_instr, an_entry, in_register, in_field}
 use Rattle.lower_comm.specs.Layouts.{Layout}
 use Rattle.lower_expr.specs.Steps.{put_value, put_in_field}
 

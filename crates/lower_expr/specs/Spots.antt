@@ -1,8 +1,7 @@
 -- What can be assigned to: a variable, an element of an array, or a left-indexed variable. What
 -- reads and writes it, once its index is evaluated and checked.
-use Rattle.std.specs.Prelude.{ℕ, zero, suc, ◌+◌, ◌-◌, ◌^◌, Bool, true, false, List, [], ◌∷◌, map, slice_get, Option, Some, None}
+use Rattle.std.specs.Prelude.{ℕ, zero, suc, ◌+◌, ◌-◌, ◌^◌, Bool, true, List, [], ◌∷◌, map, slice_get, Some, None}
 use Rattle.cstar_base.specs.declared.operators.Place.{Place}
-use Rattle.cstar_tree.specs.declared.typed.ShapeInfo.{ShapeInfo}
 use Rattle.cstar_tree.specs.declared.typed.TExpr.{TExpr}
 use Rattle.cstar_tree.specs.declared.typed.Typed.{Typed}
 use Rattle.cstar_tree.specs.declared.typed.ValueType.{ValueType}
@@ -14,7 +13,7 @@ use Rattle.paris_code.specs.declared.operands.Field.{Field}
 use Rattle.paris_code.specs.declared.operands.RegisterCoordinate.{RegisterCoordinate}
 use Rattle.lower_comm.specs.declared.emit.Out.{Out}
 use Rattle.lower_comm.specs.declared.emit.Out.TheVariants as O
-use Rattle.lower_comm.specs.Drafts.{Draft, Made, Makes, Fails, FrontChecksTarget, then_make, from, here, with_step, with_instr, a_register, in_register, in_field}
+use Rattle.lower_comm.specs.Drafts.{Draft, Made, Makes, FrontChecksTarget, then_make, from, here, with_step, with_instr, a_register, in_register, in_field}
 use Rattle.lower_comm.specs.Layouts.{Layout, elements_of, register_of, field_of}
 use Rattle.lower_comm.specs.Messages.{communicated}
 use Rattle.lower_expr.specs.declared.spots.Spot.{Spot}

@@ -1,5 +1,5 @@
 -- Short stretches of code over values that stand in registers and fields already.
-use Rattle.std.specs.Prelude.{ℕ, Bool, true, false, not, ◌==◌, ◌&&◌, ◌-◌, nat_lt, if◌then◌else◌, List, [], ◌∷◌, Option, Some, None, is_none, slice_get}
+use Rattle.std.specs.Prelude.{ℕ, Bool, true, false, not, ◌==◌, ◌&&◌, ◌-◌, nat_lt, if◌then◌else◌, List, [], ◌∷◌, Option, Some, None, is_none}
 use Rattle.cstar_base.specs.declared.elem.Elem.{Elem}
 use Rattle.cstar_base.specs.declared.operators.Op.{Op}
 use Rattle.cstar_base.specs.declared.operators.Op.TheVariants as P
@@ -30,7 +30,7 @@ use Rattle.lower_comm.specs.declared.emit.Out.{Out}
 use Rattle.lower_comm.specs.declared.emit.Out.TheVariants as O
 use Rattle.lower_comm.specs.declared.operators.Machine.{Machine}
 use Rattle.lower_comm.specs.declared.operators.Machine.TheVariants as M
-use Rattle.lower_comm.specs.Drafts.{Draft, Made, Makes, Fails, then_make, with_instr, a_register, a_flag, in_register, in_field, from}
+use Rattle.lower_comm.specs.Drafts.{Draft, Made, Makes, Fails, then_make, with_instr, a_register, a_flag, in_register, in_field}
 use Rattle.lower_comm.specs.Operators.{machine_of, is_signed}
 use Rattle.lower_expr.specs.declared.steps.Right.{Right}
 use Rattle.lower_expr.specs.declared.steps.Right.TheVariants as R
