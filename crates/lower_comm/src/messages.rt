@@ -76,6 +76,24 @@ pub fn comm_in(
             store(t, names, target, processor, parts, u)
         }
         TExpr::Reduce { op, operand, .. } => reduce(*op, operand.ty().elem, parts, into, u),
+        TExpr::Scan { .. } | TExpr::Enumerate { .. } => along_axis(t, names, e, parts, into, u),
+        _ => Err(Memory),
+    }
+}
+
+/// The code of a scan or of an enumeration.
+#[tactic(auto, unfolding(crate::specs::Messages::communicated, crate::specs::Messages::part_field, crate::specs::Drafts::then_make))]
+fn along_axis(
+    t: &Typed,
+    names: &Names,
+    e: &TExpr,
+    parts: &[Out],
+    into: Out,
+    u: &mut Unit,
+) -> Result<Out, Memory>
+    ensures draft { IfOk result (λ out. communicated t.now (layout names.now) e.now O.Nothing parts.now into (draft u.old) ≡ Makes out (draft u.new)) }
+{
+    match e {
         TExpr::Scan {
             source,
             axis,

@@ -1,5 +1,5 @@
 -- A whole program: what each unit, each set and each final variable is.
-use Rattle.std.specs.Prelude.{ℕ, zero, suc, ◌+◌, ◌/◌, ◌%◌, ◌==◌, Bool, true, false, List, [], ◌∷◌, ◌++◌, Option, Some, None, if◌then◌else◌, nat_lt}
+use Rattle.std.specs.Prelude.{ℕ, zero, suc, ◌+◌, ◌==◌, Bool, true, false, List, [], ◌∷◌, ◌++◌, Option, Some, None, if◌then◌else◌, decimal}
 use Rattle.cstar_tree.specs.declared.typed.Instance.{Instance}
 use Rattle.cstar_tree.specs.declared.typed.ShapeInfo.{ShapeInfo}
 use Rattle.cstar_tree.specs.declared.typed.Typed.{Typed}
@@ -128,17 +128,9 @@ spaces_of [] needs = []
 spaces_of (shape ∷ shapes) [] = []
 spaces_of (shape ∷ shapes) (need ∷ needs) = record { extents = shape.extents.items; bits = need } ∷ spaces_of shapes needs
 
--- the last digit of a number, as a character
-unfoldable pub last_digit : ℕ → ℕ
-last_digit n = 48 + n % 10
-
--- the number of an element, of at most two digits
-unfoldable pub digits_of : ℕ → List ℕ
-digits_of n = if nat_lt n 10 then last_digit n ∷ [] else last_digit (n / 10) ∷ last_digit n ∷ []
-
 -- the name of a variable, and for an element of an array its number in square brackets
 unfoldable pub final_name_of : VarInfo → ℕ → List ℕ
-final_name_of info element = elim info.array [ None ↦ info.name | Some n ↦ info.name ++ 91 ∷ [] ++ digits_of element ++ 93 ∷ [] ]
+final_name_of info element = elim info.array [ None ↦ info.name | Some n ↦ info.name ++ 91 ∷ [] ++ decimal element ++ 93 ∷ [] ]
 
 unfoldable pub final_of : VarInfo → ℕ → ℕ → ℕ → Final
 final_of info set element number = record {

@@ -3,12 +3,13 @@
 ghost use Rattle.std.specs.Prelude.{◌≡◌, ◌+◌, ◌-◌, ◌++◌, length, map, IfOk, OnOk};
 ghost use Rattle.lower_comm.specs.Drafts.{Makes, draft};
 ghost use Rattle.lower_comm.specs.Layouts.{layout, layout_of, entries_of};
-ghost use Rattle.lower_stmt.specs.Programs.{begun, blank, digits_of, elements_begun, element_finals, final_name_of, finals_of, last_digit, named, outcome_of, own_field_of, own_fields_of, own_result_of, slots_behind, space, spaces_of, start_value_of, start_values_of, unit_of, units_of, variable_finals};
+ghost use Rattle.lower_stmt.specs.Programs.{begun, blank, elements_begun, element_finals, final_name_of, finals_of, named, outcome_of, own_field_of, own_fields_of, own_result_of, slots_behind, space, spaces_of, start_value_of, start_values_of, unit_of, units_of, variable_finals};
 
 use crate::length::Saved;
 use crate::statement::{Frame, Outcome, Progress, leave, statement};
 use cstar_base::{Memory, Word};
 use cstar_tree::typed::{Instance, Typed, VarInfo, Variable};
+use itoa::Buffer;
 use lower_comm::emit::{entry, plus, put};
 use lower_comm::names::{Names, count, entries_of};
 use paris_code::{Field, Final, Instr, Konst, Owner, Program, ShapeBits, Unit};
@@ -325,29 +326,8 @@ fn final_name(alloc: Global, info: &VarInfo, element: u32) -> Result<Word, Memor
     }
     let mut bytes = Vec::from_slice(alloc, info.name.bytes())?;
     bytes.push(b'[')?;
-    push_digits(element, &mut bytes)?;
+    let mut digits = Buffer::new();
+    bytes.extend_from_slice(digits.format(element).as_bytes())?;
     bytes.push(b']')?;
     Ok(Word::of(bytes))
-}
-
-/// The number of an element, of at most two digits.
-#[tactic(auto, unfolding(crate::specs::Programs::digits_of))]
-fn push_digits(element: u32, bytes: &mut Vec<u8>) -> Result<(), Memory>
-    ensures { OnOk result (bytes.new.items ≡ bytes.old.items ++ digits_of element) }
-{
-    if element < 10 {
-        bytes.push(digit(element))?;
-        return Ok(());
-    }
-    bytes.push(digit(element / 10))?;
-    bytes.push(digit(element))?;
-    Ok(())
-}
-
-/// The last digit of a number, as a character.
-#[tactic(auto, unfolding(crate::specs::Programs::last_digit))]
-fn digit(n: u32) -> u8
-    ensures { result ≡ last_digit n }
-{
-    b'0' + (n % 10) as u8
 }
