@@ -8,7 +8,7 @@ use std::thread::Threads;
 /// The greatest number of bytes that a test's output takes.
 const ROOM: u32 = 4096;
 
-/// What the outside does besides holding `a.cs`: the bytes of the input, and which of its calls
+/// What the outside does besides holding the file: the bytes of the input, and which of its calls
 /// fail, counted from 1.
 #[derive(Clone, Copy)]
 pub struct Outside<'a> {
@@ -47,14 +47,26 @@ fn strings(alloc: Global, words: &[&str]) -> Result<Vec<String>, Memory> {
     Ok(all)
 }
 
+/// A shelf that holds the text under both names: `a.paris` is what tests call a listing.
 fn shelf_with(alloc: Global, text: &[u8], failing: &[u64]) -> Result<MemShelf, Memory> {
-    let name = Word::of(Vec::from_slice(alloc, b"a.cs")?);
+    let source = Word::of(Vec::from_slice(alloc, b"a.cs")?);
+    let listing = Word::of(Vec::from_slice(alloc, b"a.paris")?);
     let mut files = Vec::new(alloc);
-    files.push((name, Vec::from_slice(alloc, text)?))?;
+    files.push((source, Vec::from_slice(alloc, text)?))?;
+    files.push((listing, Vec::from_slice(alloc, text)?))?;
     Ok(MemShelf::new(files, Vec::from_slice(alloc, failing)?))
 }
 
-/// The command on these words, where `a.cs` has this text.
+fn output(alloc: Global, failing: &[u64], keep: u32) -> Result<MemSink, Memory> {
+    let failing = Vec::from_slice(alloc, failing)?;
+    if keep == 0 {
+        MemSink::new(alloc, ROOM, failing)
+    } else {
+        MemSink::partial(alloc, ROOM, failing, keep)
+    }
+}
+
+/// The command on these words, where `a.cs` and `a.paris` have this text.
 pub fn command<R: Threads + Sync>(
     rt: &R,
     alloc: Global,
@@ -68,8 +80,7 @@ pub fn command<R: Threads + Sync>(
         Vec::from_slice(alloc, outside.input)?,
         Vec::from_slice(alloc, outside.source)?,
     );
-    let failing = Vec::from_slice(alloc, outside.out)?;
-    let mut out = MemSink::partial(alloc, ROOM, failing, outside.keep)?;
+    let mut out = output(alloc, outside.out, outside.keep)?;
     let mut err = MemSink::new(alloc, ROOM, Vec::from_slice(alloc, outside.err)?)?;
     let status = cstar_top::cstar(
         rt,

@@ -12,7 +12,15 @@ struct Command {
     status: u8,
 }
 
-static COMMANDS: [Command; 33] = [
+static COMMANDS: [Command; 36] = [
+    Command {
+        words: "a.cs",
+        text: "shape [1048576]S;\nint:S a, c, d, e, f, g, h, i, j, k, l, m, n, o, p, q, r, s, t, u, v, w, x, y, z, A, B, C, D, E, F;\nbool:S G, H, I, J, K, L, M, N, O, P, Q, R, T, U, V, W, X, Y, Z, aa, ab, ac, ad, ae, af, ag, ah, ai, aj, ak;\nmain() { }",
+        input: "",
+        out: "",
+        err: "",
+        status: 0,
+    },
     Command {
         words: "--mode check a.cs",
         text: "shape [1048576]S;\nint:S a, c, d, e, f, g, h, i, j, k, l, m, n, o, p, q, r, s, t, u, v, w, x, y, z, A, B, C, D, E, F;\nbool:S G, H, I, J, K, L, M, N, O, P, Q, R, T, U, V, W, X, Y, Z, aa, ab, ac, ad, ae, af, ag, ah, ai, aj, ak;\nmain() { }",
@@ -126,11 +134,27 @@ static COMMANDS: [Command; 33] = [
         status: 4,
     },
     Command {
+        words: "--turns 3 a.cs",
+        text: "main() { while (1) printf(\"a\"); }",
+        input: "",
+        out: "aaa",
+        err: "stopped after 3 turns\n",
+        status: 4,
+    },
+    Command {
         words: "--turns=3 a.cs",
         text: "main() { while (1) printf(\"a\"); }",
         input: "",
         out: "aaa",
         err: "stopped after 3 turns\n",
+        status: 4,
+    },
+    Command {
+        words: "--turns 5 a.cs",
+        text: "main() { while (1) printf(\"a\"); }",
+        input: "",
+        out: "aaaaa",
+        err: "stopped after 5 turns\n",
         status: 4,
     },
     Command {

@@ -2,8 +2,13 @@
 
 use crate::bench::{Outside, SOUND, command};
 
-static FIRST: &str =
-    "shape [8]S;\nint:S v;\nmain() { with (S) { v = 3; v = v + v; printf(\"%d\\n\", += v); } }\n";
+const FIRST: &str =
+    "shape [8]S;\nint:S v;\nmain() { with (S) { v = 3; v = v + v; printf(\"%d\\n\", += v); } }";
+
+const SUM: &str =
+    "#include <stdio.h>\nshape [2][32768]ShapeA;\nint:ShapeA p1, p2, p3;\nint sum = 0;\nmain()\n{\nwith (ShapeA) {\np1 = 1;\np2 = 2;\np3 = p1 + p2;\nsum += p3;\nprintf(\"The sum is %d.\\n\", sum);\n}\n}\n";
+
+const THREE_PUTS: &str = "main() { printf(\"a\"); printf(\"b\"); printf(\"c\"); }";
 
 #[test]
 fn a_failed_put_is_a_write_fault(rt: HostRuntime) {
@@ -69,7 +74,6 @@ fn a_failed_input_is_an_input_fault(rt: HostRuntime) {
 
 #[test]
 fn a_failed_put_leaves_the_bytes_before_it(rt: HostRuntime) {
-    let text = b"main() { printf(\"a\"); printf(\"b\"); printf(\"c\"); }";
     for call in 1..=10u64 {
         for keep in 0..2u32 {
             let outside = Outside {
@@ -77,10 +81,15 @@ fn a_failed_put_leaves_the_bytes_before_it(rt: HostRuntime) {
                 keep,
                 ..SOUND
             };
+            let text = THREE_PUTS.as_bytes();
             let Ok(done) = command(&rt, rt.alloc(), &["a.cs"], text, outside) else {
                 panic!(rt; "no memory");
             };
             assert!(rt; b"abc".starts_with(done.out.taken()), "call {call}");
+            assert!(rt;
+                call > 1 || done.out.taken().len() <= keep as usize,
+                "keep {keep}"
+            );
             assert!(rt;
                 done.status == 6 || done.out.taken() == b"abc".as_slice(),
                 "call {call}"
@@ -92,31 +101,42 @@ fn a_failed_put_leaves_the_bytes_before_it(rt: HostRuntime) {
     }
 }
 
+/// Files, and what they print.
+static FETCHED: [(&str, &str); 3] = [
+    (FIRST, "48\n"),
+    (SUM, "The sum is 196608.\n"),
+    (THREE_PUTS, "abc"),
+];
+
 #[test]
 fn a_failed_fetch_cannot_read(rt: HostRuntime) {
-    let outside = Outside {
-        shelf: &[1],
-        ..SOUND
-    };
-    let Ok(done) = command(&rt, rt.alloc(), &["a.cs"], FIRST.as_bytes(), outside) else {
-        panic!(rt; "no memory");
-    };
-    assert_eq!(rt; done.status, 5);
-    assert_eq!(rt; done.out.taken(), b"".as_slice());
-    assert_eq!(rt; done.err.taken(), b"cannot read a.cs\n".as_slice());
+    for (text, _out) in &FETCHED {
+        let outside = Outside {
+            shelf: &[1],
+            ..SOUND
+        };
+        let Ok(done) = command(&rt, rt.alloc(), &["a.cs"], text.as_bytes(), outside) else {
+            panic!(rt; "no memory");
+        };
+        assert_eq!(rt; done.status, 5);
+        assert_eq!(rt; done.out.taken(), b"".as_slice());
+        assert_eq!(rt; done.err.taken(), b"cannot read a.cs\n".as_slice());
+    }
 }
 
 #[test]
 fn a_file_is_fetched_once(rt: HostRuntime) {
-    let outside = Outside {
-        shelf: &[2],
-        ..SOUND
-    };
-    let Ok(done) = command(&rt, rt.alloc(), &["a.cs"], FIRST.as_bytes(), outside) else {
-        panic!(rt; "no memory");
-    };
-    assert_eq!(rt; done.status, 0);
-    assert_eq!(rt; done.out.taken(), b"48\n".as_slice());
+    for (text, out) in &FETCHED {
+        let outside = Outside {
+            shelf: &[2],
+            ..SOUND
+        };
+        let Ok(done) = command(&rt, rt.alloc(), &["a.cs"], text.as_bytes(), outside) else {
+            panic!(rt; "no memory");
+        };
+        assert_eq!(rt; done.status, 0);
+        assert_eq!(rt; done.out.taken(), out.as_bytes());
+    }
 }
 
 #[test]

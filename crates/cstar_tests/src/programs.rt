@@ -7,9 +7,9 @@ struct Row {
     out: &'static str,
 }
 
-static ROWS: [Row; 26] = [
+static ROWS: [Row; 27] = [
     Row {
-        text: "shape [8]S;\nint:S v;\nmain() { with (S) { v = 3; v = v + v; printf(\"%d\\n\", += v); } }\n",
+        text: "shape [8]S;\nint:S v;\nmain() { with (S) { v = 3; v = v + v; printf(\"%d\\n\", += v); } }",
         out: "48\n",
     },
     Row {
@@ -23,6 +23,10 @@ static ROWS: [Row; 26] = [
     Row {
         text: "shape [1048576]S;\nint:S v;\nmain() { with (S) { v = 1; printf(\"%d\\n\", += v); } }",
         out: "1048576\n",
+    },
+    Row {
+        text: "shape [4]S;\nshape [8]T;\nint f()\n{\n    int:current a[dimof(current, 0)];\n    int i;\n    for (i = 0; i < dimof(current, 0); i++)\n        a[i] = i;\n    return += a[dimof(current, 0) - 1];\n}\nmain() { with (S) printf(\"%d \", f()); with (T) printf(\"%d\", f()); }",
+        out: "12 56",
     },
     Row {
         text: "main() { }",

@@ -414,7 +414,7 @@ CM_scan_with_s_add_1L 1:32:32 1:0:32 a1 down none - in => 6 5 3 15 11 6",
 CM_s_rem_3_1L 0:16:8 0:0:8 0:8:8 => 0 0 -1
 0:24:1 = 0 0 1
 CM_load_context 0:24:1
-X_check_divisor 7,8 0:8:8
+X_check_divisor 5,6 0:8:8
 CM_set_context s0
 X_check_divisor 7,8 0:8:8",
         err: "a.cs:7:8: F2 DivZero at position 0\n",
