@@ -1,5 +1,6 @@
 pub mod Placed
 pub mod Places
 pub mod Sweep
+pub mod Lent
 pub mod Named
 pub mod Files

@@ -4,6 +4,7 @@
 mod chains;
 mod fields;
 mod finals;
+mod lent;
 mod offsets;
 mod owns;
 mod places;

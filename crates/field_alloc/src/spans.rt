@@ -1,16 +1,17 @@
-//! The span of each entry of a unit: from the first instruction that names it to the last one. That
-//! of another unit's entry goes on to the call of that unit. A span that a loop's stretch cuts takes
-//! in the whole stretch, since what stands in the entry then has to last from one round to the next.
+//! The span of each entry of a unit: from the first instruction that names it to the last one. A span
+//! that a loop's stretch cuts takes in the whole stretch, since what stands in the entry then has to
+//! last from one round to the next.
 
 ghost use Rattle.std.specs.Prelude.{◌≡◌, ◌⊎◌, ℕ, ◌<◌, ◌≤◌, false, IfOk, length, OnOk, Some, true};
-ghost use Rattle.std.specs.List.{slice_get, slice_index_or};
+ghost use Rattle.std.specs.List.{slice_index_or};
 ghost use Rattle.paris_code.specs.Spans.{IsNamedAt};
+ghost use Rattle.field_alloc.specs.Lent.{HasFlag};
 ghost use Rattle.field_alloc.specs.Sweep.{Holds};
 ghost use Rattle.field_alloc.specs.Named.{HeldAt, HeldBy, IsInUseAt};
 
 use crate::fields::named;
 use cstar_base::Memory;
-use paris_code::{Field, Instr, Owner, Unit, Virtual};
+use paris_code::{Field, Instr, Unit};
 use std::alloc::Global;
 
 /// The instructions from `first` to `last`.
@@ -60,7 +61,7 @@ fn in_use_all(
     loops: &[Span],
 ) -> Result<Vec<Option<Span>>, Memory>
     ensures length { IfOk result (λ spans. length spans.items ≡ length named.now) }
-    ensures held { IfOk result (λ spans. (entry at : ℕ) → entry < length named.now → Holds whole at → (slice_get lent.now entry ≡ Some true) ⊎ HeldAt named.now entry at → HeldAt spans.items entry at) }
+    ensures held { IfOk result (λ spans. (entry at : ℕ) → entry < length named.now → Holds whole at → HasFlag lent.now entry ⊎ HeldAt named.now entry at → HeldAt spans.items entry at) }
 {
     let mut spans = Vec::new(alloc);
     for span in named {
@@ -72,7 +73,7 @@ fn in_use_all(
 
 /// Whether the flag of this number is set.
 fn flag_at(flags: &[bool], number: usize) -> bool
-    ensures { slice_get flags.now number ≡ Some true → result ≡ true }
+    ensures { result ≡ slice_index_or flags.now number false }
 {
     match flags.get(number) {
         Some(flag) => *flag,
@@ -143,7 +144,6 @@ fn name_all(alloc: Global, unit: &Unit, spans: &mut Vec<Option<Span>>) -> Result
 {
     let mut loops = Vec::new(alloc);
     let mut fields = Vec::new(alloc);
-    let mut call = None;
     let mut left = unit.code.len();
     while left > 0 {
         left -= 1;
@@ -151,13 +151,10 @@ fn name_all(alloc: Global, unit: &Unit, spans: &mut Vec<Option<Span>>) -> Result
             return Err(Memory);
         };
         let instr = &unit.code[left];
-        if let Instr::FrontCall { .. } = instr {
-            call = Some(at);
-        }
         note_stretch(instr, at, &mut loops)?;
         fields.clear();
         named(instr, &mut fields)?;
-        name_fields(fields.as_slice(), unit.fields.as_slice(), at, call, spans);
+        name_fields(fields.as_slice(), at, spans);
     }
     Ok(loops)
 }
@@ -176,23 +173,15 @@ fn note_stretch(instr: &Instr, at: u32, loops: &mut Vec<Span>) -> Result<(), Mem
 }
 
 /// The spans with one more instruction, which names these fields.
-fn name_fields(
-    named: &[Field],
-    entries: &[Virtual],
-    at: u32,
-    call: Option<u32>,
-    spans: &mut Vec<Option<Span>>,
-)
-    requires { length spans.old.items ≡ length entries.now }
+fn name_fields(named: &[Field], at: u32, spans: &mut Vec<Option<Span>>)
     ensures length { length spans.new.items ≡ length spans.old.items }
     ensures kept { (entry other : ℕ) → at ≤ other → HeldAt spans.old.items entry other → HeldAt spans.new.items entry other }
-    ensures named { (k entry : ℕ) (field : Field) → k < length named.now → slice_index_or named.now k field ≡ field → field.offset ≡ entry → entry < length entries.now → HeldAt spans.new.items entry at }
+    ensures named { (k entry : ℕ) (field : Field) → k < length named.now → slice_index_or named.now k field ≡ field → field.offset ≡ entry → entry < length spans.old.items → HeldAt spans.new.items entry at }
 {
     for field in named {
         let number = field.offset as usize;
-        if number < entries.len() {
-            let owner = entries[number].owner;
-            spans[number] = Some(widened(spans[number], at, call, owner));
+        if number < spans.len() {
+            spans[number] = Some(widened(spans[number], at));
         }
     }
 }
@@ -206,18 +195,15 @@ fn target_of(i: &Instr) -> Option<u32> {
     }
 }
 
-/// The span with one more instruction before it. Another unit's entry lasts to the next call.
-fn widened(span: Option<Span>, at: u32, call: Option<u32>, owner: Owner) -> Span
+/// The span with one more instruction before it.
+fn widened(span: Option<Span>, at: u32) -> Span
     ensures kept { (other : ℕ) → at ≤ other → HeldBy span other → Holds result other }
     ensures here { Holds result at }
 {
-    let mut last = match span {
+    let last = match span {
         Some(s) => s.last.max(at),
         None => at,
     };
-    if let Owner::Of { .. } = owner {
-        last = last.max(call.unwrap_or(at));
-    }
     Span { first: at, last }
 }
 
