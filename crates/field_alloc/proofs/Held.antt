@@ -11,20 +11,17 @@ use Rattle.paris_code.specs.declared.program.Unit.{Unit as CodeUnit}
 use Rattle.paris_code.specs.declared.program.Virtual.{Virtual}
 use Rattle.paris_code.specs.Spans.{IsNamedAt, StandsAt, fields_of}
 use Rattle.field_alloc.specs.declared.spans.Span.{Span}
+use Rattle.field_alloc.specs.Lasting.{HaveStretches, LastsBy, LastsThrough}
 use Rattle.field_alloc.specs.Lent.{AreLentFlags, HasFlag, IsLentBy}
-use Rattle.field_alloc.specs.Named.{AreAllBehind, AreCallsApart, AreLifted, AreUnitApart, IsBased, IsUnitAbove, IsUnitUnder, HeldAt, HeldBy, IsInUseAt, IsBetween, IsUsedAt}
+use Rattle.field_alloc.specs.Named.{AreAllBehind, AreCallsApart, AreLifted, AreUnitApart, IsBased, IsUnitAbove, IsUnitUnder, HeldAt, HeldBy, IsInUseAt, IsUsedAt}
 use Rattle.field_alloc.specs.Places.{items_of}
 use Rattle.field_alloc.specs.Sweep.{AreBelow, AreStacked, Holds, IsInSet, KeepsOthers}
+use Rattle.field_alloc.proofs.Closed.{lasts_by}
 use Rattle.field_alloc.proofs.Sweeps.{below_or_at}
 
 pub held_span : (o : Option Span) (at : ℕ) → HeldBy o at → (a : Span) × (o ≡ Some a) × Holds a at
 held_span None at h = absurd h
 held_span (Some a) at h = (a, refl, h)
-
-pub held_between : (o : Option Span) (first last at : ℕ) → HeldBy o first → HeldBy o last → first ≤ at → at ≤ last → HeldBy o at
-held_between None first last at h k low high = absurd h
-held_between (Some a) first last at h k low high =
-    (let e : a.first ≤ at = omega (arith, h.0) in e, let e : at ≤ a.last = omega (arith, k.1) in e)
 
 own_entry : ℕ → ℕ → Virtual
 own_entry set len = record { set = set; len = len; owner = O.Own }
@@ -56,7 +53,7 @@ flagged_use : (units : List CodeUnit) (flags : List (List Bool)) (number : ℕ) 
 flagged_use units flags number unit are is entry at within h =
     ⊎_elim
     (λ (l : IsLentBy units number entry). inl (are.lent number entry unit is within l))
-    (λ (b : IsBetween unit entry at). inr b)
+    (λ (b : LastsThrough unit entry at). inr b)
     h
 
 pub flagged_apart : (units : List CodeUnit) (flags : List (List Bool)) (number : ℕ) (unit : CodeUnit) (sets : ℕ) (starts : List ℕ) → AreLentFlags units flags → slice_get units number ≡ Some unit → AreUnitApart unit (IsInUseAt unit (slice_index_or flags number [])) sets starts → AreUnitApart unit (IsUsedAt units number unit) sets starts
@@ -122,23 +119,22 @@ named_here unit instr at fields spans stands are names entry in_fields h =
     any.4 in_fields
 
 -- one more span
-pub held_more : (named spans : List (Option Span)) (lent : List Bool) (whole : Span) (i : ℕ) (span : Option Span) → length spans ≡ i → ((at : ℕ) → Holds whole at → HasFlag lent i ⊎ HeldAt named i at → HeldBy span at) → ((entry at : ℕ) → entry < i → Holds whole at → HasFlag lent entry ⊎ HeldAt named entry at → HeldAt spans entry at) → (entry at : ℕ) → entry < i + 1 → Holds whole at → HasFlag lent entry ⊎ HeldAt named entry at → HeldAt (spans ++ span ∷ []) entry at
-held_more named spans lent whole i span long here old entry at lt in_whole used =
+pub held_more : (named spans : List (Option Span)) (lent : List Bool) (loops : List Span) (whole : Span) (i : ℕ) (span : Option Span) → length spans ≡ i → ((at : ℕ) → Holds whole at → HasFlag lent i ⊎ LastsBy loops (slice_index_or named i None) at → HeldBy span at) → ((entry at : ℕ) → entry < i → Holds whole at → HasFlag lent entry ⊎ LastsBy loops (slice_index_or named entry None) at → HeldAt spans entry at) → (entry at : ℕ) → entry < i + 1 → Holds whole at → HasFlag lent entry ⊎ LastsBy loops (slice_index_or named entry None) at → HeldAt (spans ++ span ∷ []) entry at
+held_more named spans lent loops whole i span long here old entry at lt in_whole used =
     ⊎_elim
     (λ (x : entry < i). subst (λ (o : Option Span). HeldBy o at) (sym (get_or_append_left spans (span ∷ []) None entry (omega arith))) (old entry at x in_whole used))
     (λ (x : entry ≡ i).
     subst (λ (o : Option Span). HeldBy o at) (sym (get_or_push spans span None entry (long ∙ sym x)))
-    (here at in_whole (subst (λ k. HasFlag lent k ⊎ HeldAt named k at) x used)))
+    (here at in_whole (subst (λ k. HasFlag lent k ⊎ LastsBy loops (slice_index_or named k None) at) x used)))
     (below_or_at entry i lt)
 
 -- the spans hold the instructions at which the entries are in use
-pub held_in_use : (unit : CodeUnit) (lent : List Bool) (named spans : List (Option Span)) (whole : Span) → ((entry at : ℕ) → entry < length named → Holds whole at → HasFlag lent entry ⊎ HeldAt named entry at → HeldAt spans entry at) → length named ≡ length unit.fields.items → ((entry at : ℕ) → entry < length unit.fields.items → IsNamedAt unit entry at → HeldAt named entry at) → ((at : ℕ) → at < length unit.code.items → Holds whole at) → (entry at : ℕ) → entry < length unit.fields.items → at < length unit.code.items → IsInUseAt unit lent entry at → HeldAt spans entry at
-held_in_use unit lent named spans whole held long names in_whole entry at in_fields in_code used =
+pub held_in_use : (unit : CodeUnit) (lent : List Bool) (named spans : List (Option Span)) (loops : List Span) (whole : Span) → ((entry at : ℕ) → entry < length named → Holds whole at → HasFlag lent entry ⊎ LastsBy loops (slice_index_or named entry None) at → HeldAt spans entry at) → length named ≡ length unit.fields.items → ((entry at : ℕ) → entry < length unit.fields.items → IsNamedAt unit entry at → HeldAt named entry at) → HaveStretches unit loops → ((at : ℕ) → at < length unit.code.items → Holds whole at) → (entry at : ℕ) → entry < length unit.fields.items → at < length unit.code.items → IsInUseAt unit lent entry at → HeldAt spans entry at
+held_in_use unit lent named spans loops whole held long names have in_whole entry at in_fields in_code used =
     held entry at (omega arith) (in_whole at in_code)
     (⊎_elim
     (λ (e : HasFlag lent entry). inl e)
-    (λ (b : IsBetween unit entry at).
-    inr (held_between (slice_index_or named entry None) b.0 b.1.0 at (names entry b.0 in_fields b.1.1) (names entry b.1.0 in_fields b.1.2) b.1.3 b.1.4))
+    (λ (l : LastsThrough unit entry at). inr (lasts_by unit entry at loops (slice_index_or named entry None) (λ place is. names entry place in_fields is) have l))
     used)
 
 pub below_kept : (fields : List Virtual) (spans : List (Option Span)) (s set number : ℕ) (before starts : List ℕ) (top : ℕ) → KeepsOthers fields set before starts → s ≢ set → AreBelow fields spans s number before top → AreBelow fields spans s number starts top

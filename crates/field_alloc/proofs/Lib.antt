@@ -1,3 +1,4 @@
+pub mod Closed
 pub mod FileBits
 pub mod Held
 pub mod Marks

@@ -6,8 +6,8 @@ use Rattle.paris_code.specs.declared.instr.Instr.TheVariants as I
 use Rattle.paris_code.specs.declared.program.Unit.{Unit as CodeUnit}
 use Rattle.paris_code.specs.declared.program.Virtual.{Virtual}
 use Rattle.paris_code.specs.Proper.{IsOwn}
-use Rattle.paris_code.specs.Spans.{IsNamedAt}
 use Rattle.field_alloc.specs.declared.spans.Span.{Span}
+use Rattle.field_alloc.specs.Lasting.{LastsThrough}
 use Rattle.field_alloc.specs.Lent.{HasFlag, IsLentBy}
 use Rattle.field_alloc.specs.Sweep.{Holds}
 
@@ -20,18 +20,13 @@ HeldBy (Some span) at = Holds span at
 abbrev pub HeldAt : List (Option Span) → ℕ → ℕ → Type 0
 HeldAt spans entry at = HeldBy (slice_index_or spans entry None) at
 
--- the instruction is between two that name the entry, or one of these
-abbrev pub IsBetween : CodeUnit → ℕ → ℕ → Type 0
-IsBetween unit entry at =
-    (first : ℕ) × ((last : ℕ) × IsNamedAt unit entry first × IsNamedAt unit entry last × (first ≤ at) × (at ≤ last))
-
--- the flag of the entry is set, and so it is in use throughout, or the instruction is between two that name it
+-- the flag of the entry is set, and so it is in use throughout, or it lasts through the instruction
 abbrev pub IsInUseAt : CodeUnit → List Bool → ℕ → ℕ → Type 0
-IsInUseAt unit lent entry at = HasFlag lent entry ⊎ IsBetween unit entry at
+IsInUseAt unit lent entry at = HasFlag lent entry ⊎ LastsThrough unit entry at
 
 -- the same of an entry that one of these units lends
 abbrev pub IsUsedAt : List CodeUnit → ℕ → CodeUnit → ℕ → ℕ → Type 0
-IsUsedAt units number unit entry at = IsLentBy units number entry ⊎ IsBetween unit entry at
+IsUsedAt units number unit entry at = IsLentBy units number entry ⊎ LastsThrough unit entry at
 
 -- two runs of bits have none in common
 abbrev pub AreApart : ℕ → ℕ → ℕ → ℕ → Type 0

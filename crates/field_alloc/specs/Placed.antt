@@ -15,7 +15,8 @@ use Rattle.paris_code.specs.declared.program.Unit.{Unit as CodeUnit}
 use Rattle.paris_code.specs.declared.program.Virtual.{Virtual}
 use Rattle.paris_code.specs.Proper.{IsUnit, IsEntry, IsLent, IsOwn}
 use Rattle.field_alloc.specs.Files.{AreFilesStacked}
-use Rattle.field_alloc.specs.Named.{AreApart, IsBetween}
+use Rattle.field_alloc.specs.Lasting.{LastsThrough}
+use Rattle.field_alloc.specs.Named.{AreApart}
 
 -- the field at the bits of its entry
 abbrev pub moved : List ℕ → Field → Field
@@ -103,9 +104,10 @@ IsPlacedFinal last over =
 abbrev pub begins : List (List ℕ) → ℕ → ℕ → ℕ
 begins places number entry = slice_index (slice_index_or places number []) entry
 
--- an entry is lent, and so in use throughout its unit, or the instruction is between two that name it
+-- an entry is lent, and so in use throughout its unit, or each span in which it is in use holds the
+-- instruction: those between two that name it do, and with a loop that it does not lie within the whole loop
 abbrev pub IsUsed : Program → ℕ → CodeUnit → ℕ → ℕ → Type 0
-IsUsed program number unit entry at = IsLent program number entry ⊎ IsBetween unit entry at
+IsUsed program number unit entry at = IsLent program number entry ⊎ LastsThrough unit entry at
 
 -- A program, and the same over bits. An entry that stands for another unit's own one is at the bits
 -- of that, and one that stands for a field of the file at the bits that the final has. Two own

@@ -1,6 +1,6 @@
 //! Which entries are lent: an entry of some unit stands for them.
 
-ghost use Rattle.std.specs.Prelude.{◌≡◌, [], IfOk, map};
+ghost use Rattle.std.specs.Prelude.{◌≡◌, [], false, IfOk, map};
 ghost use Rattle.std.specs.List.{slice_index_or};
 ghost use Rattle.paris_code.specs.declared.program.Owner.TheVariants as O;
 ghost use Rattle.field_alloc.specs.Lent.{AreLentFlags, AreMarked, AreUnmarked, StandFor, flags_of};
@@ -70,5 +70,15 @@ pub fn flags_at(flags: &[Vec<bool>], number: usize) -> &[bool]
     match flags.get(number) {
         Some(row) => row.as_slice(),
         None => &[],
+    }
+}
+
+/// Whether the flag of this number is set; not behind the last.
+pub fn flag_at(flags: &[bool], number: usize) -> bool
+    ensures { result ≡ slice_index_or flags.now number false }
+{
+    match flags.get(number) {
+        Some(flag) => *flag,
+        None => false,
     }
 }

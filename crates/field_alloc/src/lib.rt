@@ -10,5 +10,6 @@ mod owns;
 mod places;
 mod placing;
 mod spans;
+mod stretches;
 
 pub use placing::place;

@@ -5,6 +5,7 @@ use Rattle.std.specs.List.{slice_index_or}
 use Rattle.paris_code.specs.declared.operands.Field.{Field}
 use Rattle.paris_code.specs.Spans.{IsNamedAt, StandsAt, fields_of}
 use Rattle.field_alloc.specs.Named.{HeldAt}
+use Rattle.field_alloc.proofs.Closed.{stretches_more}
 use Rattle.field_alloc.proofs.Held.{named_here}
 use Rattle.field_alloc.proofs.spans.name_all.Goals as goal
 
@@ -32,4 +33,5 @@ loop-left-preserved c =
           subst (λ k. HeldAt spans entry k) (sym same)
           (named_here unit instr here fields spans stands fields_are names entry in_fields (subst (λ k. IsNamedAt unit entry k) same is_named)))
           (cases_lt here at);
+      stretches = λ stretch is low. stretches_more unit instr here c.loop-left.left c.loop-left.loops.items c.note_stretch.new.loops.items stands (omega arith) c.loop-left.invariant.stretches c.in_ok-note_stretch.ensures.kept c.in_ok-note_stretch.ensures.noted stretch is (omega arith);
     }
