@@ -1,8 +1,8 @@
 -- Own entries of a unit that are in use at one instruction are apart.
-use Rattle.std.proofs.Common.{◌≡◌, ◌≢◌, ◌⊎◌, ℕ, ◌+◌, ◌<◌, ◌≤◌, List, [], ◌∷◌, ◌++◌, Bool, true, Option, Some, None, Vec, Global, length, map, inl, inr, ⊎_elim, refl, sym, ap, ◌∙◌, subst, arith}
+use Rattle.std.proofs.Common.{◌≡◌, ◌≢◌, ◌⊎◌, ℕ, ◌+◌, ◌<◌, ◌≤◌, List, [], ◌∷◌, ◌++◌, Bool, Option, Some, None, Vec, Global, length, map, inl, inr, ⊎_elim, refl, sym, ap, ◌∙◌, subst, arith}
 use Rattle.std.proofs.lemmas.Bool.{cases_lt}
 use Rattle.std.proofs.lemmas.List.{get_or_append_left, get_or_push, length-map, map-append}
-use Rattle.std.proofs.lemmas.Option.{none-some, same_Some, slice_get_within}
+use Rattle.std.proofs.lemmas.Option.{same_Some, slice_get_within}
 use Rattle.std.specs.List.{slice_get, slice_index, slice_index_or}
 use Rattle.paris_code.specs.declared.instr.Instr.{Instr}
 use Rattle.paris_code.specs.declared.operands.Field.{Field}
@@ -11,19 +11,17 @@ use Rattle.paris_code.specs.declared.program.Unit.{Unit as CodeUnit}
 use Rattle.paris_code.specs.declared.program.Virtual.{Virtual}
 use Rattle.paris_code.specs.Spans.{IsNamedAt, StandsAt, fields_of}
 use Rattle.field_alloc.specs.declared.spans.Span.{Span}
-use Rattle.field_alloc.specs.Named.{AreAllBehind, AreCallsApart, AreLifted, AreUnitApart, IsBased, IsUnitAbove, IsUnitUnder, HeldAt, HeldBy, IsInUseAt, IsBetween}
+use Rattle.field_alloc.specs.Lasting.{HaveStretches, LastsBy, LastsThrough}
+use Rattle.field_alloc.specs.Lent.{AreLentFlags, HasFlag, IsLentBy}
+use Rattle.field_alloc.specs.Named.{AreAllBehind, AreCallsApart, AreLifted, AreUnitApart, IsBased, IsUnitAbove, IsUnitUnder, HeldAt, HeldBy, IsInUseAt, IsUsedAt}
 use Rattle.field_alloc.specs.Places.{items_of}
 use Rattle.field_alloc.specs.Sweep.{AreBelow, AreStacked, Holds, IsInSet, KeepsOthers}
+use Rattle.field_alloc.proofs.Closed.{lasts_by}
 use Rattle.field_alloc.proofs.Sweeps.{below_or_at}
 
 pub held_span : (o : Option Span) (at : ℕ) → HeldBy o at → (a : Span) × (o ≡ Some a) × Holds a at
 held_span None at h = absurd h
 held_span (Some a) at h = (a, refl, h)
-
-pub held_between : (o : Option Span) (first last at : ℕ) → HeldBy o first → HeldBy o last → first ≤ at → at ≤ last → HeldBy o at
-held_between None first last at h k low high = absurd h
-held_between (Some a) first last at h k low high =
-    (let e : a.first ≤ at = omega (arith, h.0) in e, let e : at ≤ a.last = omega (arith, k.1) in e)
 
 own_entry : ℕ → ℕ → Virtual
 own_entry set len = record { set = set; len = len; owner = O.Own }
@@ -36,7 +34,7 @@ stacked_kept fields spans size s set number before starts keeps away old lower u
     let u = old lower upper len over at a b lt up p q in_code held held_too in
     omega arith
 
-pub unit_apart : (unit : CodeUnit) (lent : List Bool) (spans : List (Option Span)) (sets : ℕ) (starts : List ℕ) → ((entry at : ℕ) → entry < length unit.fields.items → at < length unit.code.items → IsInUseAt unit lent entry at → HeldAt spans entry at) → ((s : ℕ) → s < sets → AreStacked unit.fields.items spans (length unit.code.items) s (length unit.fields.items) starts) → AreUnitApart unit lent sets starts
+pub unit_apart : (unit : CodeUnit) (lent : List Bool) (spans : List (Option Span)) (sets : ℕ) (starts : List ℕ) → ((entry at : ℕ) → entry < length unit.fields.items → at < length unit.code.items → IsInUseAt unit lent entry at → HeldAt spans entry at) → ((s : ℕ) → s < sets → AreStacked unit.fields.items spans (length unit.code.items) s (length unit.fields.items) starts) → AreUnitApart unit (IsInUseAt unit lent) sets starts
 unfolding own_entry
 unit_apart unit lent spans sets starts held stacked one other set len over at differ in_sets is_one is_other in_code used used_too =
     let one_in = slice_get_within unit.fields.items one (own_entry set len) is_one in
@@ -50,20 +48,30 @@ unit_apart unit lent spans sets starts held stacked one other set len over at di
     (λ (x : other ≤ one). inr (stacked set in_sets other one over len at b.0 a.0 (omega arith) one_in q p in_code b.2 a.2))
     (cases_lt one other)
 
-unlent_use : (unit : CodeUnit) (lent : List Bool) (entry at : ℕ) → IsInUseAt unit [] entry at → IsInUseAt unit lent entry at
-unlent_use unit lent entry at h =
+-- what the flags say of a unit, its own entries being in use as they say
+flagged_use : (units : List CodeUnit) (flags : List (List Bool)) (number : ℕ) (unit : CodeUnit) → AreLentFlags units flags → slice_get units number ≡ Some unit → (entry at : ℕ) → entry < length unit.fields.items → IsUsedAt units number unit entry at → IsInUseAt unit (slice_index_or flags number []) entry at
+flagged_use units flags number unit are is entry at within h =
     ⊎_elim
-    (λ (e : slice_get {X = Bool} [] entry ≡ Some true). absurd (none-some true e))
-    (λ (b : IsBetween unit entry at). inr b)
+    (λ (l : IsLentBy units number entry). inl (are.lent number entry unit is within l))
+    (λ (b : LastsThrough unit entry at). inr b)
     h
 
-pub unlent : (unit : CodeUnit) (lent : List Bool) (sets : ℕ) (starts : List ℕ) → AreUnitApart unit lent sets starts → AreUnitApart unit [] sets starts
-unlent unit lent sets starts h one other set len over at differ in_sets is_one is_other in_code used used_too =
-    h one other set len over at differ in_sets is_one is_other in_code (unlent_use unit lent one at used) (unlent_use unit lent other at used_too)
-
-pub lifted_apart : (unit : CodeUnit) (lent : List Bool) (sets : ℕ) (base starts places : List ℕ) → AreLifted unit.fields.items base starts places → AreUnitApart unit lent sets starts → AreUnitApart unit lent sets places
+pub flagged_apart : (units : List CodeUnit) (flags : List (List Bool)) (number : ℕ) (unit : CodeUnit) (sets : ℕ) (starts : List ℕ) → AreLentFlags units flags → slice_get units number ≡ Some unit → AreUnitApart unit (IsInUseAt unit (slice_index_or flags number [])) sets starts → AreUnitApart unit (IsUsedAt units number unit) sets starts
 unfolding own_entry
-lifted_apart unit lent sets base starts places lifted h one other set len over at differ in_sets is_one is_other in_code used used_too =
+flagged_apart units flags number unit sets starts are is h one other set len over at differ in_sets is_one is_other in_code used used_too =
+    let one_in = slice_get_within unit.fields.items one (own_entry set len) is_one in
+    let other_in = slice_get_within unit.fields.items other (own_entry set over) is_other in
+    h one other set len over at differ in_sets is_one is_other in_code (flagged_use units flags number unit are is one at one_in used) (flagged_use units flags number unit are is other at other_in used_too)
+
+pub flagged_under : (units : List CodeUnit) (flags : List (List Bool)) (number : ℕ) (unit : CodeUnit) (sets : ℕ) (starts ends : List ℕ) → AreLentFlags units flags → slice_get units number ≡ Some unit → IsUnitUnder unit (IsInUseAt unit (slice_index_or flags number [])) sets starts ends → IsUnitUnder unit (IsUsedAt units number unit) sets starts ends
+unfolding own_entry
+flagged_under units flags number unit sets starts ends are is h entry set len at in_sets is_entry in_code used =
+    let within = slice_get_within unit.fields.items entry (own_entry set len) is_entry in
+    h entry set len at in_sets is_entry in_code (flagged_use units flags number unit are is entry at within used)
+
+pub lifted_apart : (unit : CodeUnit) (InUse : ℕ → ℕ → Type 0) (sets : ℕ) (base starts places : List ℕ) → AreLifted unit.fields.items base starts places → AreUnitApart unit InUse sets starts → AreUnitApart unit InUse sets places
+unfolding own_entry
+lifted_apart unit InUse sets base starts places lifted h one other set len over at differ in_sets is_one is_other in_code used used_too =
     let e = lifted one (own_entry set len) is_one in
     let f = lifted other (own_entry set over) is_other in
     ⊎_elim
@@ -82,14 +90,15 @@ row_last rows v k long =
     ap (λ (l : List (List ℕ)). slice_index_or l k []) (map-append items_of rows (v ∷ []))
     ∙ get_or_push (map items_of rows) v.items [] k (length-map rows items_of ∙ long)
 
-pub all_rows_more : (P : CodeUnit → List ℕ → Type 0) (units : List CodeUnit) (rows : List (Vec ℕ Global)) (v : Vec ℕ Global) (i : ℕ) (u : CodeUnit) → length rows ≡ i → slice_get units i ≡ Some u → ((number : ℕ) (unit : CodeUnit) → number < i → slice_get units number ≡ Some unit → P unit (slice_index_or (map items_of rows) number [])) → P u v.items → (number : ℕ) (unit : CodeUnit) → number < i + 1 → slice_get units number ≡ Some unit → P unit (slice_index_or (map items_of (rows ++ v ∷ [])) number [])
+pub all_rows_more : (P : ℕ → CodeUnit → List ℕ → Type 0) (units : List CodeUnit) (rows : List (Vec ℕ Global)) (v : Vec ℕ Global) (i : ℕ) (u : CodeUnit) → length rows ≡ i → slice_get units i ≡ Some u → ((number : ℕ) (unit : CodeUnit) → number < i → slice_get units number ≡ Some unit → P number unit (slice_index_or (map items_of rows) number [])) → P i u v.items → (number : ℕ) (unit : CodeUnit) → number < i + 1 → slice_get units number ≡ Some unit → P number unit (slice_index_or (map items_of (rows ++ v ∷ [])) number [])
 all_rows_more P units rows v i u long is_u old new number unit lt is_unit =
     ⊎_elim
-    (λ (x : number < i). subst (λ (l : List ℕ). P unit l) (sym (rows_more rows v number (omega arith))) (old number unit x is_unit))
+    (λ (x : number < i). subst (λ (l : List ℕ). P number unit l) (sym (rows_more rows v number (omega arith))) (old number unit x is_unit))
     (λ (x : number ≡ i).
     let same : u ≡ unit = same_Some u unit (sym is_u ∙ ap (slice_get units) (sym x) ∙ is_unit) in
-    subst (λ (l : List ℕ). P unit l) (sym (row_last rows v number (long ∙ sym x)))
-    (subst (λ (w : CodeUnit). P w v.items) same new))
+    subst (λ (l : List ℕ). P number unit l) (sym (row_last rows v number (long ∙ sym x)))
+    (subst (λ k. P k unit v.items) (sym x)
+    (subst (λ (w : CodeUnit). P i w v.items) same new)))
     (below_or_at number i lt)
 
 pub lifted_above : (unit : CodeUnit) (ends base starts places : List ℕ) → AreLifted unit.fields.items base starts places → ((set : ℕ) → set < length ends → slice_index ends set ≤ slice_index base set) → IsUnitAbove ends unit places
@@ -110,23 +119,22 @@ named_here unit instr at fields spans stands are names entry in_fields h =
     any.4 in_fields
 
 -- one more span
-pub held_more : (named spans : List (Option Span)) (lent : List Bool) (whole : Span) (i : ℕ) (span : Option Span) → length spans ≡ i → ((at : ℕ) → Holds whole at → (slice_get lent i ≡ Some true) ⊎ HeldAt named i at → HeldBy span at) → ((entry at : ℕ) → entry < i → Holds whole at → (slice_get lent entry ≡ Some true) ⊎ HeldAt named entry at → HeldAt spans entry at) → (entry at : ℕ) → entry < i + 1 → Holds whole at → (slice_get lent entry ≡ Some true) ⊎ HeldAt named entry at → HeldAt (spans ++ span ∷ []) entry at
-held_more named spans lent whole i span long here old entry at lt in_whole used =
+pub held_more : (named spans : List (Option Span)) (lent : List Bool) (loops : List Span) (whole : Span) (i : ℕ) (span : Option Span) → length spans ≡ i → ((at : ℕ) → Holds whole at → HasFlag lent i ⊎ LastsBy loops (slice_index_or named i None) at → HeldBy span at) → ((entry at : ℕ) → entry < i → Holds whole at → HasFlag lent entry ⊎ LastsBy loops (slice_index_or named entry None) at → HeldAt spans entry at) → (entry at : ℕ) → entry < i + 1 → Holds whole at → HasFlag lent entry ⊎ LastsBy loops (slice_index_or named entry None) at → HeldAt (spans ++ span ∷ []) entry at
+held_more named spans lent loops whole i span long here old entry at lt in_whole used =
     ⊎_elim
     (λ (x : entry < i). subst (λ (o : Option Span). HeldBy o at) (sym (get_or_append_left spans (span ∷ []) None entry (omega arith))) (old entry at x in_whole used))
     (λ (x : entry ≡ i).
     subst (λ (o : Option Span). HeldBy o at) (sym (get_or_push spans span None entry (long ∙ sym x)))
-    (here at in_whole (subst (λ k. (slice_get lent k ≡ Some true) ⊎ HeldAt named k at) x used)))
+    (here at in_whole (subst (λ k. HasFlag lent k ⊎ LastsBy loops (slice_index_or named k None) at) x used)))
     (below_or_at entry i lt)
 
 -- the spans hold the instructions at which the entries are in use
-pub held_in_use : (unit : CodeUnit) (lent : List Bool) (named spans : List (Option Span)) (whole : Span) → ((entry at : ℕ) → entry < length named → Holds whole at → (slice_get lent entry ≡ Some true) ⊎ HeldAt named entry at → HeldAt spans entry at) → length named ≡ length unit.fields.items → ((entry at : ℕ) → entry < length unit.fields.items → IsNamedAt unit entry at → HeldAt named entry at) → ((at : ℕ) → at < length unit.code.items → Holds whole at) → (entry at : ℕ) → entry < length unit.fields.items → at < length unit.code.items → IsInUseAt unit lent entry at → HeldAt spans entry at
-held_in_use unit lent named spans whole held long names in_whole entry at in_fields in_code used =
+pub held_in_use : (unit : CodeUnit) (lent : List Bool) (named spans : List (Option Span)) (loops : List Span) (whole : Span) → ((entry at : ℕ) → entry < length named → Holds whole at → HasFlag lent entry ⊎ LastsBy loops (slice_index_or named entry None) at → HeldAt spans entry at) → length named ≡ length unit.fields.items → ((entry at : ℕ) → entry < length unit.fields.items → IsNamedAt unit entry at → HeldAt named entry at) → HaveStretches unit loops → ((at : ℕ) → at < length unit.code.items → Holds whole at) → (entry at : ℕ) → entry < length unit.fields.items → at < length unit.code.items → IsInUseAt unit lent entry at → HeldAt spans entry at
+held_in_use unit lent named spans loops whole held long names have in_whole entry at in_fields in_code used =
     held entry at (omega arith) (in_whole at in_code)
     (⊎_elim
-    (λ (e : slice_get lent entry ≡ Some true). inl e)
-    (λ (b : IsBetween unit entry at).
-    inr (held_between (slice_index_or named entry None) b.0 b.1.0 at (names entry b.0 in_fields b.1.1) (names entry b.1.0 in_fields b.1.2) b.1.3 b.1.4))
+    (λ (e : HasFlag lent entry). inl e)
+    (λ (l : LastsThrough unit entry at). inr (lasts_by unit entry at loops (slice_index_or named entry None) (λ place is. names entry place in_fields is) have l))
     used)
 
 pub below_kept : (fields : List Virtual) (spans : List (Option Span)) (s set number : ℕ) (before starts : List ℕ) (top : ℕ) → KeepsOthers fields set before starts → s ≢ set → AreBelow fields spans s number before top → AreBelow fields spans s number starts top
@@ -136,17 +144,13 @@ below_kept fields spans s set number before starts top keeps away old entry len 
     let u = old entry len a lt p in
     omega arith
 
-pub unit_under : (unit : CodeUnit) (lent : List Bool) (spans : List (Option Span)) (sets : ℕ) (starts ends : List ℕ) → ((entry at : ℕ) → entry < length unit.fields.items → at < length unit.code.items → IsInUseAt unit lent entry at → HeldAt spans entry at) → ((s : ℕ) → s < sets → AreBelow unit.fields.items spans s (length unit.fields.items) starts (slice_index ends s)) → IsUnitUnder unit lent sets starts ends
+pub unit_under : (unit : CodeUnit) (lent : List Bool) (spans : List (Option Span)) (sets : ℕ) (starts ends : List ℕ) → ((entry at : ℕ) → entry < length unit.fields.items → at < length unit.code.items → IsInUseAt unit lent entry at → HeldAt spans entry at) → ((s : ℕ) → s < sets → AreBelow unit.fields.items spans s (length unit.fields.items) starts (slice_index ends s)) → IsUnitUnder unit (IsInUseAt unit lent) sets starts ends
 unfolding own_entry
 unit_under unit lent spans sets starts ends held below entry set len at in_sets is_entry in_code used =
     let within = slice_get_within unit.fields.items entry (own_entry set len) is_entry in
     let a = held_span (slice_index_or spans entry None) at (held entry at within in_code used) in
     let p : IsInSet unit.fields.items spans set entry len a.0 = record { entry_is = is_entry; span_is = a.1 } in
     below set in_sets entry len a.0 within p
-
-pub unlent_under : (unit : CodeUnit) (lent : List Bool) (sets : ℕ) (starts ends : List ℕ) → IsUnitUnder unit lent sets starts ends → IsUnitUnder unit [] sets starts ends
-unlent_under unit lent sets starts ends h entry set len at in_sets is_entry in_code used =
-    h entry set len at in_sets is_entry in_code (unlent_use unit lent entry at used)
 
 -- the same for two rows at once
 pub all_pairs_more : (P : ℕ → CodeUnit → List ℕ → List ℕ → Type 0) (units : List CodeUnit) (rows others : List (Vec ℕ Global)) (v w : Vec ℕ Global) (i : ℕ) (u : CodeUnit) → length rows ≡ i → length others ≡ i → slice_get units i ≡ Some u → ((number : ℕ) (unit : CodeUnit) → number < i → slice_get units number ≡ Some unit → P number unit (slice_index_or (map items_of rows) number []) (slice_index_or (map items_of others) number [])) → P i u v.items w.items → (number : ℕ) (unit : CodeUnit) → number < i + 1 → slice_get units number ≡ Some unit → P number unit (slice_index_or (map items_of (rows ++ v ∷ [])) number []) (slice_index_or (map items_of (others ++ w ∷ [])) number [])
@@ -163,19 +167,19 @@ all_pairs_more P units rows others v w i u long long_too is_u old new number uni
     (subst (λ (z : CodeUnit). P i z v.items w.items) same new))))
     (below_or_at number i lt)
 
-pub lifted_based : (unit : CodeUnit) (sets : ℕ) (base starts places tops : List ℕ) → AreLifted unit.fields.items base starts places → IsUnitUnder unit [] sets starts tops → IsBased unit sets tops places base
+pub lifted_based : (unit : CodeUnit) (InUse : ℕ → ℕ → Type 0) (sets : ℕ) (base starts places tops : List ℕ) → AreLifted unit.fields.items base starts places → IsUnitUnder unit InUse sets starts tops → IsBased unit InUse sets tops places base
 unfolding own_entry
-lifted_based unit sets base starts places tops lifted under = record {
+lifted_based unit InUse sets base starts places tops lifted under = record {
   under = λ entry set len at in_sets is_entry in_code named.
       let e = lifted entry (own_entry set len) is_entry in
-      let u = under entry set len at in_sets is_entry in_code (inr named) in
+      let u = under entry set len at in_sets is_entry in_code named in
       omega arith;
   above = λ entry set len is_entry.
       let e = lifted entry (own_entry set len) is_entry in
       omega arith;
 }
 
-pub calls_apart : (units : List CodeUnit) (sets : ℕ) (bases tops places : List (List ℕ)) → AreAllBehind units sets bases tops → ((number : ℕ) (unit : CodeUnit) → slice_get units number ≡ Some unit → IsBased unit sets (slice_index_or tops number []) (slice_index_or places number []) (slice_index_or bases number [])) → AreCallsApart units sets places
+pub calls_apart : (units : List CodeUnit) (sets : ℕ) (bases tops places : List (List ℕ)) → AreAllBehind units sets bases tops → ((number : ℕ) (unit : CodeUnit) → slice_get units number ≡ Some unit → IsBased unit (IsUsedAt units number unit) sets (slice_index_or tops number []) (slice_index_or places number []) (slice_index_or bases number [])) → AreCallsApart units sets places
 calls_apart units sets bases tops places behind based caller called at entry other set len over used unit owner is_unit is_call is_owner in_sets is_entry is_other in_code named =
     let u = (based caller unit is_unit).under entry set len used in_sets is_entry in_code named in
     let b = behind caller unit is_unit at called is_call set in_sets in

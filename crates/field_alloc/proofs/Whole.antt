@@ -1,5 +1,5 @@
 -- A program is placed where its units are, at the places that their entries' owners have.
-use Rattle.std.proofs.Common.{◌≡◌, ℕ, ◌+◌, ◌<◌, List, [], length, inr, sym, ap, ◌∙◌, subst, arith}
+use Rattle.std.proofs.Common.{◌≡◌, ℕ, ◌+◌, ◌<◌, List, [], length, sym, ap, ◌∙◌, subst, arith}
 use Rattle.std.specs.List.{AllZip, slice_index, slice_index_or}
 use Rattle.paris_code.specs.declared.program.Final.{Final}
 use Rattle.paris_code.specs.declared.program.Owner.{Owner}
@@ -46,7 +46,7 @@ is_placed before after own places are units finals_are own_apart ends sets own_a
           let f = begins_by_owner finals own before number other unit (record { set = set; len = over; owner = O.Own }) is_unit is_other in
           subst (λ n. AreApart n len (begins rows number other) over) (sym e)
           (subst (λ n. AreApart (slice_index (slice_index_or own number []) one) len n over) (sym f)
-          (own_apart number unit is_unit one other set len over at differ in_sets is_one is_other in_code (inr named) (inr named_too)));
+          (own_apart number unit is_unit one other set len over at differ in_sets is_one is_other in_code named named_too));
       finals_apart = subst (λ n. AreFilesStacked n finals) sets files_stacked;
       files_apart = λ number entry file set len unit last is_unit is_entry in_sets is_last same.
           let own_entry : Virtual = record { set = set; len = len; owner = O.Own } in

@@ -1,13 +1,14 @@
 -- At which instructions of a unit an entry is in use.
-use Rattle.std.specs.Prelude.{◌≡◌, ◌≢◌, ◌⊎◌, ℕ, ◌+◌, ◌<◌, ◌≤◌, List, [], Bool, true, Option, Some, None, length}
+use Rattle.std.specs.Prelude.{◌≡◌, ◌≢◌, ◌⊎◌, ℕ, ◌+◌, ◌<◌, ◌≤◌, List, [], Bool, Option, Some, None, length}
 use Rattle.std.specs.List.{slice_get, slice_index, slice_index_or}
 use Rattle.paris_code.specs.declared.instr.Instr.{Instr}
 use Rattle.paris_code.specs.declared.instr.Instr.TheVariants as I
 use Rattle.paris_code.specs.declared.program.Unit.{Unit as CodeUnit}
 use Rattle.paris_code.specs.declared.program.Virtual.{Virtual}
 use Rattle.paris_code.specs.Proper.{IsOwn}
-use Rattle.paris_code.specs.Spans.{IsNamedAt}
 use Rattle.field_alloc.specs.declared.spans.Span.{Span}
+use Rattle.field_alloc.specs.Lasting.{LastsThrough}
+use Rattle.field_alloc.specs.Lent.{HasFlag, IsLentBy}
 use Rattle.field_alloc.specs.Sweep.{Holds}
 
 -- a span, if there is one, holds an instruction
@@ -19,28 +20,27 @@ HeldBy (Some span) at = Holds span at
 abbrev pub HeldAt : List (Option Span) → ℕ → ℕ → Type 0
 HeldAt spans entry at = HeldBy (slice_index_or spans entry None) at
 
--- the instruction is between two that name the entry, or one of these
-abbrev pub IsBetween : CodeUnit → ℕ → ℕ → Type 0
-IsBetween unit entry at =
-    (first : ℕ) × ((last : ℕ) × IsNamedAt unit entry first × IsNamedAt unit entry last × (first ≤ at) × (at ≤ last))
-
--- the entry is lent, and so in use throughout, or the instruction is between two that name it
+-- the flag of the entry is set, and so it is in use throughout, or it lasts through the instruction
 abbrev pub IsInUseAt : CodeUnit → List Bool → ℕ → ℕ → Type 0
-IsInUseAt unit lent entry at = (slice_get lent entry ≡ Some true) ⊎ IsBetween unit entry at
+IsInUseAt unit lent entry at = HasFlag lent entry ⊎ LastsThrough unit entry at
+
+-- the same of an entry that one of these units lends
+abbrev pub IsUsedAt : List CodeUnit → ℕ → CodeUnit → ℕ → ℕ → Type 0
+IsUsedAt units number unit entry at = IsLentBy units number entry ⊎ LastsThrough unit entry at
 
 -- two runs of bits have none in common
 abbrev pub AreApart : ℕ → ℕ → ℕ → ℕ → Type 0
 AreApart start len other over = (start + len ≤ other) ⊎ (other + over ≤ start)
 
 -- own entries of a unit in one of so many sets that are in use at one instruction are apart
-abbrev pub AreUnitApart : CodeUnit → List Bool → ℕ → List ℕ → Type 0
-AreUnitApart unit lent sets starts =
-    (one other set len over at : ℕ) → one ≢ other → set < sets → IsOwn unit one set len → IsOwn unit other set over → at < length unit.code.items → IsInUseAt unit lent one at → IsInUseAt unit lent other at → AreApart (slice_index starts one) len (slice_index starts other) over
+abbrev pub AreUnitApart : CodeUnit → (ℕ → ℕ → Type 0) → ℕ → List ℕ → Type 0
+AreUnitApart unit InUse sets starts =
+    (one other set len over at : ℕ) → one ≢ other → set < sets → IsOwn unit one set len → IsOwn unit other set over → at < length unit.code.items → InUse one at → InUse other at → AreApart (slice_index starts one) len (slice_index starts other) over
 
--- the own entries of all units are, where no entry is lent
+-- the own entries of all units are
 abbrev pub AreAllApart : List CodeUnit → ℕ → List (List ℕ) → Type 0
 AreAllApart units sets starts =
-    (number : ℕ) (unit : CodeUnit) → slice_get units number ≡ Some unit → AreUnitApart unit [] sets (slice_index_or starts number [])
+    (number : ℕ) (unit : CodeUnit) → slice_get units number ≡ Some unit → AreUnitApart unit (IsUsedAt units number unit) sets (slice_index_or starts number [])
 
 -- entries stand by the starts, behind where their set's bits begin
 abbrev pub AreLifted : List Virtual → List ℕ → List ℕ → List ℕ → Type 0
@@ -57,14 +57,14 @@ AreAllAbove units ends places =
     (number : ℕ) (unit : CodeUnit) → slice_get units number ≡ Some unit → IsUnitAbove ends unit (slice_index_or places number [])
 
 -- own entries of a unit that are in use end within the end of their set
-abbrev pub IsUnitUnder : CodeUnit → List Bool → ℕ → List ℕ → List ℕ → Type 0
-IsUnitUnder unit lent sets starts ends =
-    (entry set len at : ℕ) → set < sets → IsOwn unit entry set len → at < length unit.code.items → IsInUseAt unit lent entry at → slice_index starts entry + len ≤ slice_index ends set
+abbrev pub IsUnitUnder : CodeUnit → (ℕ → ℕ → Type 0) → ℕ → List ℕ → List ℕ → Type 0
+IsUnitUnder unit InUse sets starts ends =
+    (entry set len at : ℕ) → set < sets → IsOwn unit entry set len → at < length unit.code.items → InUse entry at → slice_index starts entry + len ≤ slice_index ends set
 
--- those of all units do, where no entry is lent
+-- those of all units do
 abbrev pub AreAllUnder : List CodeUnit → ℕ → List (List ℕ) → List (List ℕ) → Type 0
 AreAllUnder units sets starts ends =
-    (number : ℕ) (unit : CodeUnit) → slice_get units number ≡ Some unit → IsUnitUnder unit [] sets (slice_index_or starts number []) (slice_index_or ends number [])
+    (number : ℕ) (unit : CodeUnit) → slice_get units number ≡ Some unit → IsUnitUnder unit (IsUsedAt units number unit) sets (slice_index_or starts number []) (slice_index_or ends number [])
 
 -- in each set the bits of one unit end, `tops` above their base, where those of another begin or before
 abbrev pub IsBehind : ℕ → List ℕ → List ℕ → List ℕ → Type 0
@@ -81,11 +81,11 @@ AreAllBehind units sets bases tops =
     (number : ℕ) (unit : CodeUnit) → slice_get units number ≡ Some unit → AreCallsBehind unit.code.items sets (slice_index_or bases number []) (slice_index_or tops number []) bases
 
 -- where own entries in use of a unit end, and own entries begin, by its base and tops of each set
-pub record IsBased (unit : CodeUnit) (sets : ℕ) (tops places base : List ℕ) : Type 0 where
-  pub under : (entry set len at : ℕ) → set < sets → IsOwn unit entry set len → at < length unit.code.items → IsBetween unit entry at → slice_index places entry + len ≤ slice_index base set + slice_index tops set
+pub record IsBased (unit : CodeUnit) (InUse : ℕ → ℕ → Type 0) (sets : ℕ) (tops places base : List ℕ) : Type 0 where
+  pub under : (entry set len at : ℕ) → set < sets → IsOwn unit entry set len → at < length unit.code.items → InUse entry at → slice_index places entry + len ≤ slice_index base set + slice_index tops set
   pub above : (entry set len : ℕ) → IsOwn unit entry set len → slice_index base set ≤ slice_index places entry
 
 -- an own entry of a unit that is in use ends where all own entries of a called unit begin, or before
 abbrev pub AreCallsApart : List CodeUnit → ℕ → List (List ℕ) → Type 0
 AreCallsApart units sets places =
-    (caller called at entry other set len over used : ℕ) (unit owner : CodeUnit) → slice_get units caller ≡ Some unit → slice_get unit.code.items at ≡ Some (I.FrontCall called) → slice_get units called ≡ Some owner → set < sets → IsOwn unit entry set len → IsOwn owner other set over → used < length unit.code.items → IsBetween unit entry used → slice_index (slice_index_or places caller []) entry + len ≤ slice_index (slice_index_or places called []) other
+    (caller called at entry other set len over used : ℕ) (unit owner : CodeUnit) → slice_get units caller ≡ Some unit → slice_get unit.code.items at ≡ Some (I.FrontCall called) → slice_get units called ≡ Some owner → set < sets → IsOwn unit entry set len → IsOwn owner other set over → used < length unit.code.items → IsUsedAt units caller unit entry used → slice_index (slice_index_or places caller []) entry + len ≤ slice_index (slice_index_or places called []) other

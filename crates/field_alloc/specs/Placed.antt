@@ -1,6 +1,6 @@
 -- What placing makes of a program: each field stands at the bits of its entry, and all else is as it
 -- was. `places` are the bits at which the entries of a unit begin, in the order of the entries.
-use Rattle.std.specs.Prelude.{◌≡◌, ◌≢◌, ℕ, ◌+◌, ◌<◌, ◌≤◌, List, [], ◌∷◌, length, map, Option, Some, None}
+use Rattle.std.specs.Prelude.{◌≡◌, ◌≢◌, ◌⊎◌, ℕ, ◌+◌, ◌<◌, ◌≤◌, List, [], ◌∷◌, length, map, Option, Some, None}
 use Rattle.std.specs.List.{AllZip, slice_get, slice_index, slice_index_or}
 use Rattle.paris_code.specs.declared.operands.Coordinate.{Coordinate}
 use Rattle.paris_code.specs.declared.operands.Coordinate.TheVariants as C
@@ -13,9 +13,10 @@ use Rattle.paris_code.specs.declared.program.Owner.TheVariants as O
 use Rattle.paris_code.specs.declared.program.Program.{Program}
 use Rattle.paris_code.specs.declared.program.Unit.{Unit as CodeUnit}
 use Rattle.paris_code.specs.declared.program.Virtual.{Virtual}
-use Rattle.paris_code.specs.Proper.{IsUnit, IsEntry, IsOwn}
+use Rattle.paris_code.specs.Proper.{IsUnit, IsEntry, IsLent, IsOwn}
 use Rattle.field_alloc.specs.Files.{AreFilesStacked}
-use Rattle.field_alloc.specs.Named.{AreApart, IsBetween}
+use Rattle.field_alloc.specs.Lasting.{LastsThrough}
+use Rattle.field_alloc.specs.Named.{AreApart}
 
 -- the field at the bits of its entry
 abbrev pub moved : List ℕ → Field → Field
@@ -103,18 +104,23 @@ IsPlacedFinal last over =
 abbrev pub begins : List (List ℕ) → ℕ → ℕ → ℕ
 begins places number entry = slice_index (slice_index_or places number []) entry
 
+-- an entry is lent, and so in use throughout its unit, or each span in which it is in use holds the
+-- instruction: those between two that name it do, and with a loop that it does not lie within the whole loop
+abbrev pub IsUsed : Program → ℕ → CodeUnit → ℕ → ℕ → Type 0
+IsUsed program number unit entry at = IsLent program number entry ⊎ LastsThrough unit entry at
+
 -- A program, and the same over bits. An entry that stands for another unit's own one is at the bits
 -- of that, and one that stands for a field of the file at the bits that the final has. Two own
--- entries have no bit in common if some instruction is between two that name the one, and between two
--- that name the other. The file's fields are apart from each other, and below all own entries; and
--- those of a unit that are named are below all own entries of the units that it calls.
+-- entries have no bit in common if both are in use at some instruction. The file's fields are apart
+-- from each other, and below all own entries; and those of a unit that are in use are below all own
+-- entries of the units that it calls.
 pub record IsPlaced (before after : Program) : Type 0 where
   pub places : List (List ℕ)
   pub units : ArePlacedUnits places 0 before.units.items after.units.items
   pub borrowed : (number entry other index : ℕ) (unit owner : CodeUnit) (virtual own : Virtual) → IsUnit before number unit → IsEntry unit entry virtual → virtual.owner ≡ O.Of other index → IsUnit before other owner → IsEntry owner index own → own.owner ≡ O.Own → begins places number entry ≡ begins places other index
   pub files : (number entry file : ℕ) (unit : CodeUnit) (virtual : Virtual) (last : Final) → IsUnit before number unit → IsEntry unit entry virtual → virtual.owner ≡ O.File file → slice_get after.finals.items file ≡ Some last → begins places number entry ≡ last.field.offset
   pub finals : AllZip IsPlacedFinal before.finals.items after.finals.items
-  pub apart : (number one other set len over at : ℕ) (unit : CodeUnit) → IsUnit before number unit → one ≢ other → set < length before.shapes.items → IsOwn unit one set len → IsOwn unit other set over → at < length unit.code.items → IsBetween unit one at → IsBetween unit other at → AreApart (begins places number one) len (begins places number other) over
+  pub apart : (number one other set len over at : ℕ) (unit : CodeUnit) → IsUnit before number unit → one ≢ other → set < length before.shapes.items → IsOwn unit one set len → IsOwn unit other set over → at < length unit.code.items → IsUsed before number unit one at → IsUsed before number unit other at → AreApart (begins places number one) len (begins places number other) over
   pub finals_apart : AreFilesStacked (length before.shapes.items) after.finals.items
   pub files_apart : (number entry file set len : ℕ) (unit : CodeUnit) (last : Final) → IsUnit before number unit → IsOwn unit entry set len → set < length before.shapes.items → slice_get after.finals.items file ≡ Some last → last.field.set ≡ set → last.field.offset + last.field.len ≤ begins places number entry
-  pub calls_apart : (caller called at entry other set len over used : ℕ) (unit owner : CodeUnit) → IsUnit before caller unit → slice_get unit.code.items at ≡ Some (I.FrontCall called) → IsUnit before called owner → set < length before.shapes.items → IsOwn unit entry set len → IsOwn owner other set over → used < length unit.code.items → IsBetween unit entry used → begins places caller entry + len ≤ begins places called other
+  pub calls_apart : (caller called at entry other set len over used : ℕ) (unit owner : CodeUnit) → IsUnit before caller unit → slice_get unit.code.items at ≡ Some (I.FrontCall called) → IsUnit before called owner → set < length before.shapes.items → IsOwn unit entry set len → IsOwn owner other set over → used < length unit.code.items → IsUsed before caller unit entry used → begins places caller entry + len ≤ begins places called other

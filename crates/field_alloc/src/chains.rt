@@ -4,6 +4,7 @@
 ghost use Rattle.std.specs.Prelude.{ℕ, ◌<◌, ◌≤◌, IfOk, length};
 ghost use Rattle.std.specs.List.{slice_index};
 
+use crate::places::number_at;
 use cstar_base::Memory;
 use paris_code::{Instr, Unit};
 use std::alloc::Global;
@@ -18,13 +19,11 @@ pub struct Bases {
 
 impl Bases {
     fn at(&self, unit: usize, set: usize) -> u32 {
-        match self
-            .list
-            .get(unit.saturating_mul(self.sets).saturating_add(set))
-        {
-            Some(base) => *base,
-            None => 0,
-        }
+        number_at(self.list.as_slice(), self.number(unit, set))
+    }
+
+    fn number(&self, unit: usize, set: usize) -> usize {
+        unit.saturating_mul(self.sets).saturating_add(set)
     }
 
     /// Where the unit's bits of each set begin: behind the file's fields, which end there.
@@ -43,7 +42,7 @@ impl Bases {
 
     /// No lower than this.
     fn raise(&mut self, unit: usize, set: usize, base: u32) {
-        let number = unit.saturating_mul(self.sets).saturating_add(set);
+        let number = self.number(unit, set);
         if number < self.list.len() && set < self.sets {
             if self.list[number] < base {
                 self.list[number] = base;
@@ -52,8 +51,10 @@ impl Bases {
     }
 }
 
-/// The bases of all units, whose own bits reach up to `tops`. Calls have no cycle, so each unit comes
-/// once all its callers have.
+/// The bases of all units, whose own bits reach up to `tops`. Each unit comes once all its callers
+/// have, so those on a cycle of calls get none. There is no clause here: `are_all_behind` verifies
+/// the bases, and its clause is what the proof of the places stands on. Out of memory also where a
+/// base is 2^32 or more.
 pub fn bases_of(
     alloc: Global,
     units: &[Unit],

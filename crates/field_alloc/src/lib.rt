@@ -4,10 +4,12 @@
 mod chains;
 mod fields;
 mod finals;
+mod lent;
 mod offsets;
 mod owns;
 mod places;
 mod placing;
 mod spans;
+mod stretches;
 
 pub use placing::place;

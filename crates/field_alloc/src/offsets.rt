@@ -3,7 +3,7 @@
 
 ghost use Rattle.std.specs.Prelude.{◌≡◌, ℕ, ◌+◌, ◌-◌, ◌^◌, ◌<◌, ◌≤◌, List, length, IfOk, OnOk};
 ghost use Rattle.std.specs.List.{slice_index};
-ghost use Rattle.field_alloc.specs.Named.{AreUnitApart, IsUnitUnder};
+ghost use Rattle.field_alloc.specs.Named.{AreUnitApart, IsInUseAt, IsUnitUnder};
 ghost use Rattle.field_alloc.specs.Sweep.{AreBelow, AreHeights, AreStacked, Holds, IsSwept, KeepsOthers};
 
 use crate::places::number_at;
@@ -22,8 +22,8 @@ pub struct Offsets {
 /// The offsets of a unit's entries in so many sets. An entry that another unit names, as `lent`
 /// says, lasts through the whole unit.
 pub fn offsets_of(alloc: Global, unit: &Unit, lent: &[bool], sets: usize) -> Result<Offsets, Memory>
-    ensures apart { IfOk result (λ o. AreUnitApart unit.now lent.now sets o.starts.items) }
-    ensures under { IfOk result (λ o. IsUnitUnder unit.now lent.now sets o.starts.items o.ends.items) }
+    ensures apart { IfOk result (λ o. AreUnitApart unit.now (IsInUseAt unit.now lent.now) sets o.starts.items) }
+    ensures under { IfOk result (λ o. IsUnitUnder unit.now (IsInUseAt unit.now lent.now) sets o.starts.items o.ends.items) }
 {
     let spans = spans_of(alloc, unit, lent)?;
     let Ok(length) = u32::try_from(unit.code.len()) else {

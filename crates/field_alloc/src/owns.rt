@@ -2,13 +2,15 @@
 
 ghost use Rattle.std.specs.Prelude.{◌≡◌, IfOk, length, map, true};
 ghost use Rattle.field_alloc.specs.Named.{AreAllAbove, AreAllApart, AreAllBehind, AreAllUnder, AreCallsApart, AreCallsBehind, AreLifted, IsBehind};
+ghost use Rattle.field_alloc.specs.Lent.{AreLentFlags, flags_of};
 ghost use Rattle.field_alloc.specs.Places.{items_of};
 
 use crate::chains::bases_of;
+use crate::lent::{flags_at, lent_entries};
 use crate::offsets::offsets_of;
 use crate::places::{number_at, row};
 use cstar_base::Memory;
-use paris_code::{Instr, Owner, Unit, Virtual};
+use paris_code::{Instr, Unit, Virtual};
 use std::alloc::Global;
 
 /// For each unit, the bits at which its own entries begin. What `ends` says of each set is taken. Out
@@ -44,7 +46,7 @@ pub fn own_places(alloc: Global, units: &[Unit], ends: &[u32]) -> Result<Vec<Vec
 }
 
 /// For each unit, where its own entries begin, counted from where its own bits do; their greatest
-/// ends are put into `tops`.
+/// ends are put into `tops`. Those that `lent` says are lent last through their unit.
 fn starts_of_units(
     alloc: Global,
     units: &[Unit],
@@ -52,17 +54,14 @@ fn starts_of_units(
     sets: usize,
     tops: &mut Vec<Vec<u32>>,
 ) -> Result<Vec<Vec<u32>>, Memory>
-    requires { length tops.old.items ≡ 0 }
+    requires lent { AreLentFlags units.now (map flags_of lent.now) }
+    requires tops { length tops.old.items ≡ 0 }
     ensures apart { IfOk result (λ v. AreAllApart units.now sets (map items_of v.items)) }
     ensures under { IfOk result (λ v. AreAllUnder units.now sets (map items_of v.items) (map items_of tops.new.items)) }
 {
     let mut starts = Vec::new(alloc);
     for unit in units {
-        let lent = match lent.get(starts.len()) {
-            Some(entries) => entries.as_slice(),
-            None => &[],
-        };
-        let own = offsets_of(alloc, unit, lent, sets)?;
+        let own = offsets_of(alloc, unit, flags_at(lent, starts.len()), sets)?;
         starts.push(own.starts)?;
         tops.push(own.ends)?;
     }
@@ -139,33 +138,4 @@ fn is_behind(base: &[u32], tops: &[u32], called: &[u32], sets: usize) -> bool
         }
     }
     true
-}
-
-/// For each unit and entry, whether an entry of a calling unit stands for it.
-fn lent_entries(alloc: Global, units: &[Unit]) -> Result<Vec<Vec<bool>>, Memory> {
-    let mut lent = Vec::new(alloc);
-    for unit in units {
-        let mut entries = Vec::new(alloc);
-        for _ in &unit.fields {
-            entries.push(false)?;
-        }
-        lent.push(entries)?;
-    }
-    for unit in units {
-        for entry in &unit.fields {
-            if let Owner::Of { unit: owner, index } = entry.owner {
-                mark(&mut lent, owner as usize, index as usize);
-            }
-        }
-    }
-    Ok(lent)
-}
-
-fn mark(lent: &mut Vec<Vec<bool>>, unit: usize, index: usize) {
-    if unit < lent.len() {
-        let entries = &mut lent[unit];
-        if index < entries.len() {
-            entries[index] = true;
-        }
-    }
 }

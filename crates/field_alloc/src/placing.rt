@@ -14,7 +14,8 @@ use paris_code::{Instr, Program, Unit};
 use std::alloc::Global;
 
 /// The program over bits. Fields that live at one time are apart, and an entry of another unit has
-/// that unit's bits.
+/// that unit's bits. Out of memory also where a bit would be at an offset from 2^32 on, where a unit
+/// has 2^32 instructions or more, and where the calls have a cycle.
 pub fn place(alloc: Global, p: Program) -> Result<Program, Memory>
     ensures placed { IfOk result (λ q. IsPlaced p q) }
     ensures shapes { IfOk result (λ q. q.shapes ≡ p.shapes) }
@@ -105,8 +106,8 @@ mod tests {
     }
 
     // a value that is folded into a register
-    fn use_entry(code: &mut Vec<Instr>, number: u32) -> Result<(), Memory> {
-        let value = Konst::Imm(1);
+    fn use_entry(code: &mut Vec<Instr>, number: u32, value: u32) -> Result<(), Memory> {
+        let value = Konst::Imm(value);
         let dest = of_entry(number);
         code.push(Instr::MoveConstant { dest, value })?;
         code.push(Instr::Global {
@@ -126,8 +127,8 @@ mod tests {
         };
         let fields = Vec::from_array(alloc, [entry, entry])?;
         let mut code = Vec::new(alloc);
-        use_entry(&mut code, 0)?;
-        use_entry(&mut code, 1)?;
+        use_entry(&mut code, 0, 1)?;
+        use_entry(&mut code, 1, 2)?;
         code.push(Instr::FrontHalt)?;
         let mut units = Vec::new(alloc);
         units.push(Unit {

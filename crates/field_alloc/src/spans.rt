@@ -1,16 +1,20 @@
-//! The span of each entry of a unit: from the first instruction that names it to the last one. That
-//! of another unit's entry goes on to the call of that unit. A span that a loop's stretch cuts takes
-//! in the whole stretch, since what stands in the entry then has to last from one round to the next.
+//! The span of each entry of a unit: from the first instruction that names it to the last one. A span
+//! that a loop's stretch cuts takes in the whole stretch, since what stands in the entry then has to
+//! last from one round to the next.
 
-ghost use Rattle.std.specs.Prelude.{◌≡◌, ◌⊎◌, ℕ, ◌<◌, ◌≤◌, false, IfOk, length, OnOk, Some, true};
-ghost use Rattle.std.specs.List.{slice_get, slice_index_or};
+ghost use Rattle.std.specs.Prelude.{◌≡◌, ◌⊎◌, ℕ, ◌<◌, ◌≤◌, false, IfOk, length, None, OnOk, Some, true};
+ghost use Rattle.std.specs.List.{slice_index_or};
 ghost use Rattle.paris_code.specs.Spans.{IsNamedAt};
+ghost use Rattle.field_alloc.specs.Lasting.{AreBehindEnds, HaveStretches, LastsBy};
+ghost use Rattle.field_alloc.specs.Lent.{HasFlag};
 ghost use Rattle.field_alloc.specs.Sweep.{Holds};
 ghost use Rattle.field_alloc.specs.Named.{HeldAt, HeldBy, IsInUseAt};
 
 use crate::fields::named;
+use crate::lent::flag_at;
+use crate::stretches::{behind_ends, is_straight, lasting, note_stretch};
 use cstar_base::Memory;
-use paris_code::{Field, Instr, Owner, Unit, Virtual};
+use paris_code::{Field, Unit};
 use std::alloc::Global;
 
 /// The instructions from `first` to `last`.
@@ -38,13 +42,13 @@ pub fn spans_of(alloc: Global, unit: &Unit, lent: &[bool]) -> Result<Vec<Option<
         named.push(None)?;
     }
     let loops = name_all(alloc, unit, &mut named)?;
-    let ends = ends_before(alloc, unit.code.len(), loops.as_slice())?;
+    let behind = behind_ends(alloc, unit.code.len(), loops.as_slice())?;
     let spans = in_use_all(
         alloc,
         named.as_slice(),
         lent,
         whole,
-        ends.as_slice(),
+        behind.as_slice(),
         loops.as_slice(),
     )?;
     Ok(spans)
@@ -56,28 +60,19 @@ fn in_use_all(
     named: &[Option<Span>],
     lent: &[bool],
     whole: Span,
-    ends: &[u32],
+    behind: &[usize],
     loops: &[Span],
 ) -> Result<Vec<Option<Span>>, Memory>
+    requires { AreBehindEnds loops.now behind.now }
     ensures length { IfOk result (λ spans. length spans.items ≡ length named.now) }
-    ensures held { IfOk result (λ spans. (entry at : ℕ) → entry < length named.now → Holds whole at → (slice_get lent.now entry ≡ Some true) ⊎ HeldAt named.now entry at → HeldAt spans.items entry at) }
+    ensures held { IfOk result (λ spans. (entry at : ℕ) → entry < length named.now → Holds whole at → HasFlag lent.now entry ⊎ LastsBy loops.now (slice_index_or named.now entry None) at → HeldAt spans.items entry at) }
 {
     let mut spans = Vec::new(alloc);
     for span in named {
         let is_lent = flag_at(lent, spans.len());
-        spans.push(in_use(*span, is_lent, whole, ends, loops))?;
+        spans.push(in_use(*span, is_lent, whole, behind, loops))?;
     }
     Ok(spans)
-}
-
-/// Whether the flag of this number is set.
-fn flag_at(flags: &[bool], number: usize) -> bool
-    ensures { slice_get flags.now number ≡ Some true → result ≡ true }
-{
-    match flags.get(number) {
-        Some(flag) => *flag,
-        None => false,
-    }
 }
 
 /// The span with the stretches that it meets, or the whole one.
@@ -85,54 +80,22 @@ fn in_use(
     span: Option<Span>,
     is_lent: bool,
     whole: Span,
-    ends: &[u32],
+    behind: &[usize],
     loops: &[Span],
 ) -> Option<Span>
+    requires { AreBehindEnds loops.now behind.now }
     ensures lent { is_lent ≡ true → result ≡ Some whole }
-    ensures held { is_lent ≡ false → (at : ℕ) → HeldBy span at → HeldBy result at }
+    ensures held { is_lent ≡ false → (at : ℕ) → LastsBy loops.now span at → HeldBy result at }
 {
     if is_lent {
         return Some(whole);
     }
     let span = span?;
-    if is_straight(span, ends) {
+    if is_straight(span, behind) {
         Some(span)
     } else {
         Some(lasting(span, loops))
     }
-}
-
-/// For each instruction, how many ends of stretches are at the instructions before it.
-fn ends_before(alloc: Global, length: usize, loops: &[Span]) -> Result<Vec<u32>, Memory> {
-    let mut ends = Vec::new(alloc);
-    for _ in 0..length.saturating_add(1) {
-        ends.push(0u32)?;
-    }
-    for stretch in loops {
-        one_more(&mut ends, stretch.first);
-        one_more(&mut ends, stretch.last);
-    }
-    let mut sum = 0u32;
-    for number in ends.iter_mut() {
-        let here = *number;
-        *number = sum;
-        sum = sum.saturating_add(here);
-    }
-    Ok(ends)
-}
-
-fn one_more(ends: &mut Vec<u32>, at: u32) {
-    let at = at as usize;
-    if at < ends.len() {
-        ends[at] = ends[at].saturating_add(1);
-    }
-}
-
-/// Whether no stretch begins or ends in the span, so that each one that meets it contains it.
-fn is_straight(span: Span, ends: &[u32]) -> bool {
-    let first = ends.get(span.first as usize).copied();
-    let behind = ends.get(span.last.saturating_add(1) as usize).copied();
-    first.is_some() && first == behind
 }
 
 /// Goes through the code from its end, and answers the stretches of the jumps back.
@@ -140,10 +103,10 @@ fn name_all(alloc: Global, unit: &Unit, spans: &mut Vec<Option<Span>>) -> Result
     requires { length spans.old.items ≡ length unit.now.fields.items }
     ensures length { OnOk result (length spans.new.items ≡ length spans.old.items) }
     ensures named { OnOk result ((entry at : ℕ) → entry < length unit.now.fields.items → IsNamedAt unit.now entry at → HeldAt spans.new.items entry at) }
+    ensures stretches { IfOk result (λ loops. HaveStretches unit.now loops.items) }
 {
     let mut loops = Vec::new(alloc);
     let mut fields = Vec::new(alloc);
-    let mut call = None;
     let mut left = unit.code.len();
     while left > 0 {
         left -= 1;
@@ -151,104 +114,36 @@ fn name_all(alloc: Global, unit: &Unit, spans: &mut Vec<Option<Span>>) -> Result
             return Err(Memory);
         };
         let instr = &unit.code[left];
-        if let Instr::FrontCall { .. } = instr {
-            call = Some(at);
-        }
         note_stretch(instr, at, &mut loops)?;
         fields.clear();
         named(instr, &mut fields)?;
-        name_fields(fields.as_slice(), unit.fields.as_slice(), at, call, spans);
+        name_fields(fields.as_slice(), at, spans);
     }
     Ok(loops)
 }
 
-/// The stretch of the jump, if it is one that does not lead forward.
-fn note_stretch(instr: &Instr, at: u32, loops: &mut Vec<Span>) -> Result<(), Memory> {
-    if let Some(target) = target_of(instr) {
-        if target <= at {
-            loops.push(Span {
-                first: target,
-                last: at,
-            })?;
-        }
-    }
-    Ok(())
-}
-
 /// The spans with one more instruction, which names these fields.
-fn name_fields(
-    named: &[Field],
-    entries: &[Virtual],
-    at: u32,
-    call: Option<u32>,
-    spans: &mut Vec<Option<Span>>,
-)
-    requires { length spans.old.items ≡ length entries.now }
+fn name_fields(named: &[Field], at: u32, spans: &mut Vec<Option<Span>>)
     ensures length { length spans.new.items ≡ length spans.old.items }
     ensures kept { (entry other : ℕ) → at ≤ other → HeldAt spans.old.items entry other → HeldAt spans.new.items entry other }
-    ensures named { (k entry : ℕ) (field : Field) → k < length named.now → slice_index_or named.now k field ≡ field → field.offset ≡ entry → entry < length entries.now → HeldAt spans.new.items entry at }
+    ensures named { (k entry : ℕ) (field : Field) → k < length named.now → slice_index_or named.now k field ≡ field → field.offset ≡ entry → entry < length spans.old.items → HeldAt spans.new.items entry at }
 {
     for field in named {
         let number = field.offset as usize;
-        if number < entries.len() {
-            let owner = entries[number].owner;
-            spans[number] = Some(widened(spans[number], at, call, owner));
+        if number < spans.len() {
+            spans[number] = Some(widened(spans[number], at));
         }
     }
 }
 
-fn target_of(i: &Instr) -> Option<u32> {
-    match i {
-        Instr::FrontJump { target }
-        | Instr::FrontJumpZero { target, .. }
-        | Instr::FrontJumpNonzero { target, .. } => Some(*target),
-        _ => None,
-    }
-}
-
-/// The span with one more instruction before it. Another unit's entry lasts to the next call.
-fn widened(span: Option<Span>, at: u32, call: Option<u32>, owner: Owner) -> Span
+/// The span with one more instruction before it.
+fn widened(span: Option<Span>, at: u32) -> Span
     ensures kept { (other : ℕ) → at ≤ other → HeldBy span other → Holds result other }
     ensures here { Holds result at }
 {
-    let mut last = match span {
+    let last = match span {
         Some(s) => s.last.max(at),
         None => at,
     };
-    if let Owner::Of { .. } = owner {
-        last = last.max(call.unwrap_or(at));
-    }
     Span { first: at, last }
-}
-
-/// The span with each loop's stretch that it meets, unless it lies inside that stretch.
-fn lasting(span: Span, loops: &[Span]) -> Span
-    ensures { (at : ℕ) → Holds span at → Holds result at }
-{
-    let mut wide = span;
-    for _ in 0..loops.len() {
-        let next = wider(wide, loops);
-        if next == wide {
-            return wide;
-        }
-        wide = next;
-    }
-    wide
-}
-
-fn wider(span: Span, loops: &[Span]) -> Span
-    ensures { (at : ℕ) → Holds span at → Holds result at }
-{
-    let mut wide = span;
-    for stretch in loops {
-        let meets = stretch.first <= wide.last && wide.first <= stretch.last;
-        let inside = stretch.first <= wide.first && wide.last <= stretch.last;
-        if meets && !inside {
-            wide = Span {
-                first: wide.first.min(stretch.first),
-                last: wide.last.max(stretch.last),
-            };
-        }
-    }
-    wide
 }

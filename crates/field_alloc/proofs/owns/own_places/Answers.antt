@@ -3,7 +3,7 @@ use Rattle.std.proofs.lemmas.List.{length_push}
 use Rattle.std.proofs.lemmas.Option.{slice_get_read, slice_get_within}
 use Rattle.std.specs.List.{slice_index, slice_index_or}
 use Rattle.paris_code.specs.declared.program.Virtual.{Virtual}
-use Rattle.field_alloc.specs.Named.{AreAllBehind, AreLifted, AreUnitApart, IsBased, IsUnitAbove, IsUnitUnder}
+use Rattle.field_alloc.specs.Named.{AreAllBehind, AreLifted, AreUnitApart, IsBased, IsUnitAbove, IsUnitUnder, IsUsedAt}
 use Rattle.field_alloc.specs.Places.{items_of}
 use Rattle.field_alloc.proofs.Held.{all_pairs_more, all_rows_more, calls_apart, lifted_above, lifted_apart, lifted_based}
 use Rattle.field_alloc.proofs.owns.own_places.Goals as goal
@@ -25,32 +25,32 @@ loop-unit-preserved c =
     c.row-in-loop-unit.ensures
     ∙ ap (λ (l : List (Vec ℕ Global)). slice_index_or (map items_of l) c.len-number.result []) c.as_slice-in-loop-unit-3.ensures.value
     ∙ ap (λ k. slice_index_or (map items_of starts) k []) number_is in
-    let here = subst (λ (l : List ℕ). AreUnitApart u [] sets l) (sym row_is) (c.in_ok-starts.ensures.apart i u is_u) in
+    let here = subst (λ (l : List ℕ). AreUnitApart u (IsUsedAt units i u) sets l) (sym row_is) (c.in_ok-starts.ensures.apart i u is_u) in
     let lifted = subst (λ (es : List Virtual). AreLifted es base row v.items) c.as_slice-in-loop-unit.ensures.value c.in_ok-own.ensures in
-    let new = lifted_apart u [] sets base row v.items lifted here in
+    let new = lifted_apart u (IsUsedAt units i u) sets base row v.items lifted here in
     let base_is = c.as_slice-in-loop-unit-2.ensures.value in
     let higher = subst (λ (l : List ℕ). (set : ℕ) → set < sets → slice_index c.args.ends.now set ≤ slice_index l set) (sym base_is) c.in_ok-base.ensures in
     let newer = lifted_above u c.args.ends.now base row v.items lifted higher in
     let tops = c.starts_of_units.new.tops.items in
-    let lower = subst (λ (l : List ℕ). IsUnitUnder u [] sets l (slice_index_or (map items_of tops) i [])) (sym row_is) (c.in_ok-starts.ensures.under i u is_u) in
-    let newest = subst (λ (l : List ℕ). IsBased u sets (slice_index_or (map items_of tops) i []) v.items l) base_is (lifted_based u sets base row v.items (slice_index_or (map items_of tops) i []) lifted lower) in
+    let lower = subst (λ (l : List ℕ). IsUnitUnder u (IsUsedAt units i u) sets l (slice_index_or (map items_of tops) i [])) (sym row_is) (c.in_ok-starts.ensures.under i u is_u) in
+    let newest = subst (λ (l : List ℕ). IsBased u (IsUsedAt units i u) sets (slice_index_or (map items_of tops) i []) v.items l) base_is (lifted_based u (IsUsedAt units i u) sets base row v.items (slice_index_or (map items_of tops) i []) lifted lower) in
     record {
       long = ap length c.in_ok-push.ensures.items ∙ length_push rows v ∙ ap (λ n. n + 1) c.loop-unit.invariant.long;
       apart = λ number unit lt is.
-          subst (λ (l : List (Vec ℕ Global)). AreUnitApart unit [] sets (slice_index_or (map items_of l) number []))
+          subst (λ (l : List (Vec ℕ Global)). AreUnitApart unit (IsUsedAt units number unit) sets (slice_index_or (map items_of l) number []))
           (sym {A = List (Vec ℕ Global)} c.in_ok-push.ensures.items)
-          (all_rows_more (λ w l. AreUnitApart w [] sets l) units rows v i u c.loop-unit.invariant.long is_u c.loop-unit.invariant.apart new number unit lt is);
+          (all_rows_more (λ n w l. AreUnitApart w (IsUsedAt units n w) sets l) units rows v i u c.loop-unit.invariant.long is_u c.loop-unit.invariant.apart new number unit lt is);
       above = λ number unit lt is.
           subst (λ (l : List (Vec ℕ Global)). IsUnitAbove c.args.ends.now unit (slice_index_or (map items_of l) number []))
           (sym {A = List (Vec ℕ Global)} c.in_ok-push.ensures.items)
-          (all_rows_more (λ w l. IsUnitAbove c.args.ends.now w l) units rows v i u c.loop-unit.invariant.long is_u c.loop-unit.invariant.above newer number unit lt is);
+          (all_rows_more (λ n w l. IsUnitAbove c.args.ends.now w l) units rows v i u c.loop-unit.invariant.long is_u c.loop-unit.invariant.above newer number unit lt is);
       bases_long = ap length c.in_ok-push-2.ensures.items ∙ length_push c.loop-unit.bases.items c.in_ok-base.base ∙ ap (λ n. n + 1) c.loop-unit.invariant.bases_long;
       based = λ number unit lt is.
-          subst (λ (l : List (Vec ℕ Global)). IsBased unit sets (slice_index_or (map items_of tops) number []) (slice_index_or (map items_of l) number []) (slice_index_or (map items_of c.push-in-loop-unit.new.self.items) number []))
+          subst (λ (l : List (Vec ℕ Global)). IsBased unit (IsUsedAt units number unit) sets (slice_index_or (map items_of tops) number []) (slice_index_or (map items_of l) number []) (slice_index_or (map items_of c.push-in-loop-unit.new.self.items) number []))
           (sym {A = List (Vec ℕ Global)} c.in_ok-push.ensures.items)
-          (subst (λ (l : List (Vec ℕ Global)). IsBased unit sets (slice_index_or (map items_of tops) number []) (slice_index_or (map items_of (rows ++ v ∷ [])) number []) (slice_index_or (map items_of l) number []))
+          (subst (λ (l : List (Vec ℕ Global)). IsBased unit (IsUsedAt units number unit) sets (slice_index_or (map items_of tops) number []) (slice_index_or (map items_of (rows ++ v ∷ [])) number []) (slice_index_or (map items_of l) number []))
           (sym {A = List (Vec ℕ Global)} c.in_ok-push-2.ensures.items)
-          (all_pairs_more (λ n w l m. IsBased w sets (slice_index_or (map items_of tops) n []) l m) units rows c.loop-unit.bases.items v c.in_ok-base.base i u c.loop-unit.invariant.long c.loop-unit.invariant.bases_long is_u c.loop-unit.invariant.based
+          (all_pairs_more (λ n w l m. IsBased w (IsUsedAt units n w) sets (slice_index_or (map items_of tops) n []) l m) units rows c.loop-unit.bases.items v c.in_ok-base.base i u c.loop-unit.invariant.long c.loop-unit.invariant.bases_long is_u c.loop-unit.invariant.based
           newest number unit lt is));
     }
 

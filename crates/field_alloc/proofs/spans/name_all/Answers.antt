@@ -3,9 +3,9 @@ use Rattle.std.proofs.lemmas.Bool.{cases_lt}
 use Rattle.std.proofs.lemmas.Option.{slice_get_read}
 use Rattle.std.specs.List.{slice_index_or}
 use Rattle.paris_code.specs.declared.operands.Field.{Field}
-use Rattle.paris_code.specs.declared.program.Virtual.{Virtual}
 use Rattle.paris_code.specs.Spans.{IsNamedAt, StandsAt, fields_of}
 use Rattle.field_alloc.specs.Named.{HeldAt}
+use Rattle.field_alloc.proofs.Closed.{stretches_more}
 use Rattle.field_alloc.proofs.Held.{named_here}
 use Rattle.field_alloc.proofs.spans.name_all.Goals as goal
 
@@ -20,7 +20,8 @@ loop-left-preserved c =
     let in_code : c.loop-left.left - 1 < length unit.code.items = omega arith in
     let stands = subst (λ k. StandsAt unit k instr) (sym at_is) (slice_get_read unit.code.items (length unit.code.items) (c.loop-left.left - 1) instr refl in_code c.index-instr.ensures) in
     let fields_are = c.as_slice.ensures.value ∙ c.in_ok-named.ensures ∙ ap (λ (l : List Field). l ++ fields_of instr) c.clear.ensures.items in
-    let names = subst (λ (es : List Virtual). (k entry : ℕ) (field : Field) → k < length fields → slice_index_or fields k field ≡ field → field.offset ≡ entry → entry < length es → HeldAt spans entry here) c.as_slice-in-loop-left.ensures.value c.name_fields.ensures.named in
+    let long : length c.loop-left.spans.items ≡ length unit.fields.items = c.loop-left.invariant.long ∙ c.requires in
+    let names = subst (λ n. (k entry : ℕ) (field : Field) → k < length fields → slice_index_or fields k field ≡ field → field.offset ≡ entry → entry < n → HeldAt spans entry here) long c.name_fields.ensures.named in
     record {
       within = omega arith;
       long = c.name_fields.ensures.length ∙ c.loop-left.invariant.long;
@@ -32,4 +33,5 @@ loop-left-preserved c =
           subst (λ k. HeldAt spans entry k) (sym same)
           (named_here unit instr here fields spans stands fields_are names entry in_fields (subst (λ k. IsNamedAt unit entry k) same is_named)))
           (cases_lt here at);
+      stretches = λ stretch is low. stretches_more unit instr here c.loop-left.left c.loop-left.loops.items c.note_stretch.new.loops.items stands (omega arith) c.loop-left.invariant.stretches c.in_ok-note_stretch.ensures.kept c.in_ok-note_stretch.ensures.noted stretch is (omega arith);
     }

@@ -8,5 +8,5 @@ abbrev pub invariant-loop-field : goal.invariant-loop-field
 invariant-loop-field l = record {
   long : length l.spans.items ≡ length l.initial.spans.items;
   kept : (entry other : ℕ) → l.at ≤ other → HeldAt l.initial.spans.items entry other → HeldAt l.spans.items entry other;
-  named : (k entry : ℕ) (field : Field) → k < l.field-index → slice_index_or l.named k field ≡ field → field.offset ≡ entry → entry < length l.entries → HeldAt l.spans.items entry l.at;
+  named : (k entry : ℕ) (field : Field) → k < l.field-index → slice_index_or l.named k field ≡ field → field.offset ≡ entry → entry < length l.initial.spans.items → HeldAt l.spans.items entry l.at;
 }
