@@ -14,7 +14,8 @@ use paris_code::{Instr, Unit, Virtual};
 use std::alloc::Global;
 
 /// For each unit, the bits at which its own entries begin. What `ends` says of each set is taken. Out
-/// of memory also where the calls have a cycle, which those of a compiled program have not.
+/// of memory also where a bit would be 2^32 or more, and where a unit whose own entries have bits calls
+/// itself through others, which none of a compiled program does.
 pub fn own_places(alloc: Global, units: &[Unit], ends: &[u32]) -> Result<Vec<Vec<u32>>, Memory>
     ensures apart { IfOk result (λ v. AreAllApart units.now (length ends.now) (map items_of v.items)) }
     ensures above { IfOk result (λ v. AreAllAbove units.now ends.now (map items_of v.items)) }

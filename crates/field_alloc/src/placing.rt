@@ -14,8 +14,9 @@ use paris_code::{Instr, Program, Unit};
 use std::alloc::Global;
 
 /// The program over bits. Fields that live at one time are apart, and an entry of another unit has
-/// that unit's bits. Out of memory also where a bit would be at an offset from 2^32 on, where a unit
-/// has 2^32 instructions or more, and where the calls have a cycle.
+/// that unit's bits. Out of memory also where an entry would begin or end at a bit from 2^32 on, where
+/// a unit has 2^32 instructions or more, and where a unit whose own entries have bits calls itself
+/// through others, which none of a compiled program does.
 pub fn place(alloc: Global, p: Program) -> Result<Program, Memory>
     ensures placed { IfOk result (λ q. IsPlaced p q) }
     ensures shapes { IfOk result (λ q. q.shapes ≡ p.shapes) }
