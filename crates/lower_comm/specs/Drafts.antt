@@ -33,16 +33,23 @@ step (I.FrontMakeAddress dest set coordinates) = FrontMakesAddress dest set coor
 step (I.FrontCheckTarget set place coordinates) = FrontChecksTarget set place coordinates.items
 step instr = Plain instr
 
--- What a unit has so far: its code, how many registers are taken, the entries of its fields, and
--- the first entry of each parallel variable that its blocks have declared.
+-- What a unit has so far: its name, its code, how many registers are taken, the entries of its
+-- fields, and the first entry of each parallel variable that its blocks have declared.
 pub record Draft : Type 0 where
+  pub name : List ℕ
   pub code : List Step
   pub regs : ℕ
   pub fields : List Virtual
   pub homes : List ℕ
 
 unfoldable pub draft : Unit → Draft
-draft u = record { code = map step u.code.items; regs = u.regs; fields = u.fields.items; homes = u.homes.items }
+draft u = record {
+  name = u.name;
+  code = map step u.code.items;
+  regs = u.regs;
+  fields = u.fields.items;
+  homes = u.homes.items;
+}
 
 -- what a piece of code answers, with the draft behind it; no tree that is typed gives `Fails`
 pub data Made (A : Type 0) : Type 0 where
@@ -86,6 +93,11 @@ a_field set d = an_entry set 32 W.Own d
 
 abbrev pub a_flag : ℕ → Draft → Made Field
 a_flag set d = an_entry set 1 W.Own d
+
+-- a fresh field for a value of a shape, or a fresh register for a scalar one
+unfoldable pub fresh_for : Option ℕ → Draft → Made Out
+fresh_for None d = then_make (a_register d) (λ r after. Makes (O.Scalar r) after)
+fresh_for (Some set) d = then_make (a_field set d) (λ f after. Makes (O.Field f) after)
 
 -- the register that holds a value, and the field that does
 unfoldable pub in_register : {B : Type 0} → Out → (ℕ → Made B) → Made B

@@ -27,18 +27,10 @@ use Rattle.lower_comm.specs.declared.emit.Out.TheVariants as O
 use Rattle.lower_comm.specs.declared.gets.Hop.{Hop}
 use Rattle.lower_comm.specs.declared.messages.Line.{Line}
 use Rattle.lower_comm.specs.declared.news.NewsStep.{NewsStep}
-use Rattle.lower_comm.specs.Drafts.{Draft, Made, Makes, Fails, then_make, from, with_instr, with_step, a_register, a_field, an_entry, in_register, in_field, ChecksGrid, ChecksTarget, MakesAddress, FrontChecksTarget, FrontMakesAddress}
+use Rattle.lower_comm.specs.Drafts.{Draft, Made, Makes, Fails, then_make, from, with_instr, with_step, a_register, a_field, an_entry, fresh_for, in_register, in_field, ChecksGrid, ChecksTarget, MakesAddress, FrontChecksTarget, FrontMakesAddress}
 use Rattle.lower_comm.specs.Layouts.{Layout, field_of, first_named, layout_of}
 use Rattle.lower_comm.specs.News.{step_of}
 use Rattle.lower_comm.specs.Operators.{operation_of, assign_op_of, fold_of, reduce_op_of, scan_fold_of, is_signed}
-
--- where the address of a left index goes: a fresh field, or a fresh register where it is scalar
-unfoldable pub address : TExpr → Draft → Made Out
-address e d =
-    elim (type_of e).shape [
-      | None ↦ then_make (a_register d) (λ r after. Makes (O.Scalar r) after)
-      | Some set ↦ then_make (a_field set d) (λ f after. Makes (O.Field f) after)
-    ]
 
 -- the register of a scalar index, and the coordinate of a parallel one
 unfoldable pub index_register : Out → ℕ
@@ -245,7 +237,7 @@ communicated t l e at parts into d =
 -- a left index with the values of its indexes; a get by NEWS has none
 unfoldable pub reached : TExpr → List Out → Draft → Made Out
 reached e [] d = checked_grid e d
-reached e (out ∷ outs) d = then_make (address e d) (λ at after. located e (out ∷ outs) at after)
+reached e (out ∷ outs) d = then_make (fresh_for (type_of e).shape d) (λ at after. located e (out ∷ outs) at after)
 
 -- one communication, as the first instance of this name sees the variables
 unfoldable pub communicated_by : Typed → List ℕ → TExpr → Out → List Out → Out → Draft → Made Out

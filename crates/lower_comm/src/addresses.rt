@@ -2,10 +2,9 @@
 
 ghost use Rattle.std.specs.Prelude.{◌≡◌, ◌++◌, IfOk, OnOk, map};
 ghost use Rattle.lower_comm.specs.Drafts.{Makes, draft};
-ghost use Rattle.lower_comm.specs.Messages.{address, index_register, index_coordinate, signed_registers, signed_coordinates, front_located, each_located, located, checked_part, grid_steps, with_grid_check, checked_grid};
+ghost use Rattle.lower_comm.specs.Messages.{index_register, index_coordinate, signed_registers, signed_coordinates, front_located, each_located, located, checked_part, grid_steps, with_grid_check, checked_grid};
 
-use crate::emit::{Out, field, put, register};
-use crate::names::count;
+use crate::emit::{Out, count, put};
 use crate::news::{NewsStep, step_of};
 use crate::operators::promoted_signed;
 use cstar_base::{Memory, Place};
@@ -14,17 +13,6 @@ use paris_code::{
     Coordinate, Field, GridStep, Instr, Konst, RegisterCoordinate, SignedCoordinate, Unit,
 };
 use std::alloc::Global;
-
-/// Where the address of a left index goes: a fresh field or a fresh register.
-#[tactic(auto, unfolding(crate::specs::Messages::address, crate::specs::Drafts::then_make))]
-pub fn address_of(e: &TExpr, u: &mut Unit) -> Result<Out, Memory>
-    ensures draft { IfOk result (λ out. address e.now (draft u.old) ≡ Makes out (draft u.new)) }
-{
-    match e.ty().shape {
-        Some(set) => Ok(Out::Field(field(u, set)?)),
-        None => Ok(Out::Scalar(register(u)?)),
-    }
-}
 
 /// The range check of a left index, and the making of its address at `at`.
 #[tactic(auto, unfolding(crate::specs::Messages::located, crate::specs::Messages::located_at))]
@@ -126,25 +114,16 @@ fn each_locate(
 }
 
 /// The registers of scalar indexes.
+#[tactic(auto, unfolding(crate::specs::Messages::index_register))]
 fn registers(alloc: Global, indexes: &[Out]) -> Result<Vec<u32>, Memory>
     ensures { IfOk result (λ registers. registers.items ≡ map index_register indexes.now) }
 {
     let mut registers = Vec::new(alloc);
     for index in indexes {
-        let register = index_register(*index)?;
+        let register = index.register()?;
         registers.push(register)?;
     }
     Ok(registers)
-}
-
-#[tactic(auto, unfolding(crate::specs::Messages::index_register))]
-fn index_register(index: Out) -> Result<u32, Memory>
-    ensures { IfOk result (λ r. r ≡ index_register index) }
-{
-    match index {
-        Out::Scalar(register) => Ok(register),
-        Out::Field(_) | Out::Nothing => Err(Memory),
-    }
 }
 
 /// The coordinates of parallel indexes.

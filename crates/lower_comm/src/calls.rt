@@ -5,15 +5,17 @@ ghost use Rattle.lower_comm.specs.Drafts.{Makes, draft};
 ghost use Rattle.lower_comm.specs.Messages.{reached, communicated_by};
 ghost use Rattle.lower_comm.specs.News.{goes_by_news};
 
-use crate::emit::Out;
-use crate::messages::{address_of, check_grid, comm_in, goes_by_news, locate_in};
+use crate::emit::{Out, fresh};
+use crate::messages::{check_grid, comm_in, goes_by_news, locate_in};
 use crate::names::{Names, named};
 use cstar_base::Memory;
 use cstar_tree::typed::{TExpr, Typed};
 use paris_code::Unit;
 use std::alloc::Global;
 
-/// Whether the get goes by NEWS. Every other get, and every send, goes by the router.
+/// Whether the get `e` goes by NEWS: it is a parallel left index, each of whose indexes is a step
+/// along its own axis. Every other get, and every send, goes by the router; the answer is false for
+/// an expression that is no left index, or a scalar one.
 pub fn by_news(_t: &Typed, e: &TExpr) -> bool
     ensures { result ≡ goes_by_news e.now }
 {
@@ -23,10 +25,13 @@ pub fn by_news(_t: &Typed, e: &TExpr) -> bool
 /// Appends the range check of the left-indexed reference `e` and the making of its address, and
 /// answers the field or the register of the address. The indexes have one value for each axis, but
 /// for a get that goes by NEWS: there they are empty, and the answer is `Nothing`.
+///
+/// `Memory` comes where memory ends, where a number of a register, a field or an axis would be 2^32
+/// or more, and where `e` with these indexes is not what typing makes.
 #[tactic(auto, unfolding(crate::specs::Messages::reached, crate::specs::Drafts::then_make))]
 pub fn locate(
     alloc: Global,
-    t: &Typed,
+    _t: &Typed,
     e: &TExpr,
     indexes: &[Out],
     u: &mut Unit,
@@ -36,15 +41,23 @@ pub fn locate(
     match indexes {
         [] => check_grid(alloc, e, u),
         [_, ..] => {
-            let at = address_of(e, u)?;
+            let at = fresh(e.ty(), u)?;
             locate_in(alloc, e, indexes, at, u)
         }
     }
 }
 
-/// Appends the code of one communication, whose parts are in `parts`: a read or a store through the
-/// left index that was located at `at`, a reduction, a scan or an enumeration. `into` takes its
-/// result.
+/// Appends the code of one communication, and answers where its result is: in `into`, or nowhere.
+/// The numbering of the variables is that of the first instance with the unit's name.
+///
+/// - A read through the left index that was located at `at`: no parts.
+/// - An assignment or a step through one: the value that is stored or sent. It has no result.
+/// - `s op= e` with a parallel `e` and a scalar `s`: the operand, then the old value of `s`.
+/// - A reduction or a scan: the operand. An enumeration: no parts.
+///
+/// `at` is `Nothing` for all but the first two, and for a read that goes by NEWS. `Memory` comes
+/// where memory ends, where a number of a register, a field or an axis would be 2^32 or more, where
+/// no instance has the unit's name, and where `e` with these parts is not what typing makes.
 #[tactic(auto, unfolding(crate::specs::Messages::communicated_by, crate::specs::Drafts::from))]
 pub fn comm(
     alloc: Global,

@@ -3,9 +3,10 @@
 ghost use Rattle.std.specs.Prelude.{◌≡◌, ◌+◌, IfOk, OnOk};
 ghost use Rattle.paris_code.specs.declared.program.Owner.TheVariants as W;
 ghost use Rattle.lower_comm.specs.declared.emit.Out.TheVariants as O;
-ghost use Rattle.lower_comm.specs.Drafts.{Makes, draft, here, with_instr, a_register, an_entry};
+ghost use Rattle.lower_comm.specs.Drafts.{Makes, draft, here, with_instr, a_register, an_entry, fresh_for};
 
 use cstar_base::Memory;
+use cstar_tree::typed::ValueType;
 use paris_code::{Field, Instr, Owner, Unit, Virtual};
 
 /// Where a lowered expression has its value: in a register, in a field, or nowhere. A value of at
@@ -26,15 +27,12 @@ pub fn put(u: &mut Unit, instr: Instr) -> Result<(), Memory>
     Ok(())
 }
 
-/// The place of the next instruction.
+/// The place of the next instruction, counted from the start of the unit.
 #[tactic(auto, unfolding(crate::specs::Drafts::draft, crate::specs::Drafts::here))]
 pub fn here(u: &Unit) -> Result<u32, Memory>
     ensures { IfOk result (λ n. n ≡ here (draft u.now)) }
 {
-    match u32::try_from(u.code.len()) {
-        Ok(place) => Ok(place),
-        Err(_) => Err(Memory),
-    }
+    count(u.code.len())
 }
 
 /// A fresh register.
@@ -47,19 +45,17 @@ pub fn register(u: &mut Unit) -> Result<u32, Memory>
     Ok(fresh)
 }
 
-/// One more entry of the unit's fields, as a field of its whole length.
+/// One more entry of the unit's fields, of `len` bits, as a field of its whole length.
 #[tactic(auto, unfolding(crate::specs::Drafts::draft, crate::specs::Drafts::an_entry))]
 pub fn entry(u: &mut Unit, set: u16, len: u8, owner: Owner) -> Result<Field, Memory>
     ensures draft { IfOk result (λ f. an_entry set len owner (draft u.old) ≡ Makes f (draft u.new)) }
 {
-    let Ok(offset) = u32::try_from(u.fields.len()) else {
-        return Err(Memory);
-    };
+    let offset = count(u.fields.len())?;
     u.fields.push(Virtual { set, len, owner })?;
     Ok(Field { set, offset, len })
 }
 
-/// A fresh field for a value.
+/// A fresh field of 32 bits, for a value.
 pub fn field(u: &mut Unit, set: u16) -> Result<Field, Memory>
     ensures draft { IfOk result (λ f. an_entry set 32 W.Own (draft u.old) ≡ Makes f (draft u.new)) }
 {
@@ -73,7 +69,28 @@ pub fn flag(u: &mut Unit, set: u16) -> Result<Field, Memory>
     entry(u, set, 1, Owner::Own)
 }
 
-/// The sum, as long as it is below 2^32.
+/// A fresh field for a value of the type, or a fresh register where it is scalar.
+#[tactic(auto, unfolding(crate::specs::Drafts::fresh_for, crate::specs::Drafts::then_make))]
+pub fn fresh(ty: ValueType, u: &mut Unit) -> Result<Out, Memory>
+    ensures draft { IfOk result (λ out. fresh_for ty.shape (draft u.old) ≡ Makes out (draft u.new)) }
+{
+    match ty.shape {
+        Some(set) => Ok(Out::Field(field(u, set)?)),
+        None => Ok(Out::Scalar(register(u)?)),
+    }
+}
+
+/// A length as a number of 32 bits. `Memory` from 2^32 on.
+pub fn count(n: usize) -> Result<u32, Memory>
+    ensures { IfOk result (λ c. c ≡ n) }
+{
+    match u32::try_from(n) {
+        Ok(count) => Ok(count),
+        Err(_) => Err(Memory),
+    }
+}
+
+/// The sum of two numbers. `Memory` where it is 2^32 or more.
 pub fn plus(a: u32, b: u32) -> Result<u32, Memory>
     ensures { IfOk result (λ n. n ≡ a + b) }
 {
@@ -84,7 +101,7 @@ pub fn plus(a: u32, b: u32) -> Result<u32, Memory>
 }
 
 impl Out {
-    /// The register, where there is one.
+    /// The register. `Memory` where the value stands in none.
     pub fn register(self) -> Result<u32, Memory>
         ensures { IfOk result (λ r. self ≡ O.Scalar r) }
     {
@@ -94,7 +111,7 @@ impl Out {
         }
     }
 
-    /// The field, where there is one.
+    /// The field. `Memory` where the value stands in none.
     pub fn field(self) -> Result<Field, Memory>
         ensures { IfOk result (λ f. self ≡ O.Field f) }
     {

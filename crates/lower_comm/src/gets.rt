@@ -4,8 +4,7 @@ ghost use Rattle.std.specs.Prelude.{◌≡◌, IfOk};
 ghost use Rattle.lower_comm.specs.Drafts.{Makes, draft};
 ghost use Rattle.lower_comm.specs.Messages.{along, stepwise, gotten_by_steps, read_at};
 
-use crate::emit::{Out, entry, put};
-use crate::names::count;
+use crate::emit::{Out, count, entry, put};
 use crate::news::{NewsStep, step_of};
 use cstar_base::{Elem, Memory};
 use cstar_tree::typed::TExpr;
@@ -63,11 +62,14 @@ pub fn read(
     }
 }
 
-/// The fields of a get by NEWS: where its values are, where they go next, and a third one.
+/// The fields of a get by NEWS, all of as many bits as the variable that it reads.
 #[derive(Clone, Copy)]
 pub struct Hop {
+    /// Where the values are: at first the variable itself.
     pub source: Field,
+    /// Where they go next.
     pub next: Field,
+    /// Where they go behind that.
     pub spare: Field,
 }
 

@@ -7,8 +7,8 @@ ghost use Rattle.lower_comm.specs.Layouts.{layout};
 ghost use Rattle.lower_comm.specs.Messages.{folded_onto, negated_by, reduced, indexed, indexed_field, stored, sent_value, sent_to, sent, assigned, scanned, segment_field, enumerated, communicated};
 ghost use Rattle.lower_comm.specs.News.{goes_by_news};
 
-pub use crate::addresses::{address_of, check_grid, locate_in};
-use crate::emit::{Out, field, put, register};
+pub use crate::addresses::{check_grid, locate_in};
+use crate::emit::{Out, entry, field, put, register};
 use crate::gets::read;
 use crate::names::Names;
 use crate::news::all_go_by_news;
@@ -82,7 +82,7 @@ pub fn comm_in(
 }
 
 /// The code of a scan or of an enumeration.
-#[tactic(auto, unfolding(crate::specs::Messages::communicated, crate::specs::Messages::part_field, crate::specs::Drafts::then_make))]
+#[tactic(auto, unfolding(crate::specs::Messages::communicated, crate::specs::Messages::part_field, crate::specs::Drafts::from, crate::specs::Drafts::in_field, crate::specs::Drafts::then_make))]
 fn along_axis(
     t: &Typed,
     names: &Names,
@@ -333,7 +333,7 @@ fn send_to(
     ensures draft { IfOk result (λ out. sent_to op signed kind dest address value (draft u.old) ≡ Makes out (draft u.new)) }
 {
     let Some(op) = op else {
-        let source = crate::emit::entry(u, value.set, dest.len, Owner::Own)?;
+        let source = entry(u, value.set, dest.len, Owner::Own)?;
         put(
             u,
             Instr::Move {

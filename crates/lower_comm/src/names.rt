@@ -1,6 +1,8 @@
-//! Where the variables of a typed program are. Scalars have the first registers: those of the file,
-//! and behind them, for each function, its parameters, its result and the variables of its blocks.
-//! Instances of one function share these, as a function is never called while it runs.
+//! Where the variables of a typed program are. Their registers are the first ones: those of the file,
+//! and behind them, for each function, those of its parameters, its result and the variables of its
+//! blocks. A parallel variable has a number of a register too, which no code uses: it stands in a
+//! field for each of its elements. Instances of one function share their registers, as a function is
+//! never called while it runs.
 
 ghost use Rattle.std.specs.Prelude.{◌≡◌, ℕ, ◌+◌, ◌++◌, length, map, fold, IfOk, OnOk};
 ghost use Rattle.cstar_tree.specs.declared.typed.LocalVar.{LocalVar};
@@ -9,17 +11,20 @@ ghost use Rattle.lower_comm.specs.Drafts.{Makes, draft, from, an_entry};
 ghost use Rattle.paris_code.specs.declared.program.Owner.TheVariants as W;
 ghost use Rattle.lower_comm.specs.Layouts.{layout, entries_of, elements_of, result_register, register_of, own_field, field_of, first_fields, behind, param_entries, variables_of, numbered, nothing_numbered, with_local, first_named, earlier_base, with_instance, registers_of, entered, layout_of};
 
-use crate::emit::plus;
+pub use crate::emit::count;
+use crate::emit::{entry, plus};
 use cstar_base::Memory;
 use cstar_tree::typed::{Instance, LocalVar, TStmt, Typed, VarInfo, Variable};
 use paris_code::{Field, Owner, Unit};
 use std::alloc::Global;
 
-/// A parallel variable of a block: its number among those of its instance, and how many entries it
-/// has, which is 1 where it is no array. A scalar variable has no entries.
+/// A variable of a block, scalar or parallel.
 #[derive(Clone, Copy)]
 pub struct LocalName {
+    /// How many parallel variables the blocks of its instance declare before it.
     pub home: u32,
+    /// How many fields it has: one for each element of an array, 1 where it is no array, and none
+    /// where it is scalar.
     pub entries: u32,
 }
 
@@ -38,10 +43,8 @@ pub struct Names {
     pub params: Vec<u32>,
     /// The number of the result's entry.
     pub outcome: u32,
-    /// The variables of this instance's blocks.
+    /// The variables of this instance's blocks, the scalar ones too.
     pub locals: Vec<LocalName>,
-    /// How many parallel ones are among them.
-    pub homes: u32,
 }
 
 impl Names {
@@ -61,7 +64,6 @@ impl Names {
             params: Vec::new(alloc),
             outcome: 0,
             locals: Vec::new(alloc),
-            homes: 0,
         };
         names.see_as(t, 0)?;
         Ok(names)
@@ -89,8 +91,8 @@ impl Names {
         self.params.clear();
         self.outcome = number_params(&instance.params, &mut self.params)?;
         self.locals.clear();
-        self.homes = 0;
-        number_locals(&instance.body, &mut self.locals, &mut self.homes)
+        let mut homes = 0;
+        number_locals(&instance.body, &mut self.locals, &mut homes)
     }
 
     /// The register of a scalar variable.
@@ -209,7 +211,7 @@ fn file_entry(u: &mut Unit, info: &VarInfo, number: u32) -> Result<Field, Memory
     ensures draft { IfOk result (λ f. from info.now.shape (λ set. an_entry set info.now.elem.bits (W.File number) (draft u.old)) ≡ Makes f (draft u.new)) }
 {
     match info.shape {
-        Some(set) => crate::emit::entry(u, set, info.elem.bits, Owner::File(number)),
+        Some(set) => entry(u, set, info.elem.bits, Owner::File(number)),
         None => Err(Memory),
     }
 }
@@ -226,16 +228,6 @@ pub fn own_entry(u: &Unit, index: u32) -> Result<Field, Memory>
             len: entry.len,
         }),
         None => Err(Memory),
-    }
-}
-
-/// A length as a number of 32 bits.
-pub fn count(n: usize) -> Result<u32, Memory>
-    ensures { IfOk result (λ c. c ≡ n) }
-{
-    match u32::try_from(n) {
-        Ok(count) => Ok(count),
-        Err(_) => Err(Memory),
     }
 }
 

@@ -8,10 +8,13 @@ use cstar_base::{Elem, Op};
 use cstar_tree::typed::TExpr;
 use source_meaning::constant;
 
-/// How a get moves along one axis. A checked step may lead out of the grid; an unchecked one wraps.
+/// How a get moves along one axis.
 #[derive(Clone, Copy, PartialEq, Eq)]
 pub struct NewsStep {
+    /// How many positions away the value comes from: a number from -2^20 to 2^20, as its 32 bits in
+    /// two's complement.
     pub by: u32,
+    /// Whether the step may lead out of the grid. A step that is not checked wraps, or is 0.
     pub checked: bool,
 }
 

@@ -9,16 +9,17 @@ use Rattle.cstar_tree.specs.declared.typed.TExpr as T
 use Rattle.cstar_tree.specs.declared.typed.Typed.{Typed}
 use Rattle.cstar_tree.specs.declared.typed.ValueType.{ValueType}
 use Rattle.cstar_tree.specs.declared.typed.Variable.{Variable}
+use Rattle.cstar_tree.specs.Typed.{type_of}
 use Rattle.lower_comm.specs.declared.emit.Out.{Out}
-use Rattle.lower_comm.specs.Drafts.{Draft, Made, Makes, Fails, then_make}
+use Rattle.lower_comm.specs.Drafts.{Draft, Made, Makes, Fails, then_make, fresh_for}
 use Rattle.lower_comm.specs.Layouts.{Layout}
-use Rattle.lower_comm.specs.Messages.{address, located}
+use Rattle.lower_comm.specs.Messages.{located}
 use Rattle.lower_comm.specs.News.{goes_by_news}
 use Rattle.lower_expr.specs.declared.spots.Spot.TheVariants as S
 use Rattle.lower_expr.specs.Frames.{called}
 use Rattle.lower_expr.specs.Lengths.{length_of, spot_length_of, lengths_of, lengths_in, call_length, news_length, read_length}
 use Rattle.lower_expr.specs.Steps.{pieces_printed}
-use Rattle.lower_expr.specs.Values.{fresh_for, indexed_spot, news_by, read_by, value_of, spot_of, values_of, values_in}
+use Rattle.lower_expr.specs.Values.{indexed_spot, news_by, read_by, value_of, spot_of, values_of, values_in}
 
 -- the row that a list stands in
 abbrev row_of : TExpr → (n : Count) × Row_of-TExpr n
@@ -125,7 +126,7 @@ unfolding spot_of indexed_spot
 spot_of_left_index t l ty place indexes x of d =
     let e = T.LeftIndex ty place indexes x of in
     let row = row_of e in
-    same_behind (address e d)
+    same_behind (fresh_for (type_of e).shape d)
     (λ at begun. then_make (values_of t l row.1 [] begun) (λ parts between. then_make (located e parts at between) (λ out after. Makes (S.Indexed out) after)))
     (λ at begun. then_make (values_in t l indexes.items [] begun) (λ parts between. then_make (located e parts at between) (λ out after. Makes (S.Indexed out) after)))
     (λ at begun. ap (λ (m : Made (List Out)). then_make m (λ parts between. then_make (located e parts at between) (λ out after. Makes (S.Indexed out) after)))

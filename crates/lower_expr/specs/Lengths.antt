@@ -230,7 +230,3 @@ unfoldable mutual
 unfoldable pub lengths_in : Typed → Layout → List TExpr → ℕ
 lengths_in t l [] = 0
 lengths_in t l (e ∷ rest) = length_of t l e + lengths_in t l rest
-
--- the value of an expression in a field
-unfoldable pub spread_length_of : Typed → Layout → TExpr → ℕ
-spread_length_of t l e = spread_length (length_of t l e) e

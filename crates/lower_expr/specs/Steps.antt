@@ -157,16 +157,16 @@ in_a_field (O.Field f) spare d = Makes f d
 in_a_field (O.Scalar r) spare d = Makes spare (with_instr (I.MoveConstant spare (K.Reg r)) d)
 in_a_field O.Nothing spare d = Fails
 
--- a unary operator on a register, and on a field
+-- a unary operator other than `+` on a register, and on a field
 unfoldable pub register_negated : UnaryOp → ℕ → ℕ → Draft → Made Out
-register_negated Un.Plus dest source d = Makes (O.Scalar dest) (with_instr (I.FrontMove dest source) d)
+register_negated Un.Plus dest source d = Fails
 register_negated Un.Minus dest source d = Makes (O.Scalar dest) (with_instr (I.FrontNegate dest source) d)
 register_negated Un.Complement dest source d = Makes (O.Scalar dest) (with_instr (I.FrontLognot dest source) d)
 register_negated Un.Not dest source d =
     Makes (O.Scalar dest) (with_instr (I.FrontCompare C.UEq dest source dest) (with_instr (I.FrontConst dest 0) d))
 
 unfoldable pub field_negated : UnaryOp → Field → Field → Draft → Made Out
-field_negated Un.Plus dest source d = Makes (O.Field dest) (with_instr (I.Move true dest source) d)
+field_negated Un.Plus dest source d = Fails
 field_negated Un.Minus dest source d = Makes (O.Field dest) (with_instr (I.Negate dest source) d)
 field_negated Un.Complement dest source d = Makes (O.Field dest) (with_instr (I.Lognot dest source) d)
 field_negated Un.Not dest source d = put_test dest (with_instr (I.EqZero source) d)

@@ -26,9 +26,9 @@ use Rattle.paris_code.specs.declared.operands.Operation.{Operation}
 use Rattle.paris_code.specs.declared.operands.Operation.TheVariants as Act
 use Rattle.lower_comm.specs.declared.emit.Out.{Out}
 use Rattle.lower_comm.specs.declared.emit.Out.TheVariants as O
-use Rattle.lower_comm.specs.Drafts.{Draft, Made, Makes, Fails, then_make, from, here, with_instr, a_register, a_field, a_flag, in_register, in_field}
+use Rattle.lower_comm.specs.Drafts.{Draft, Made, Makes, Fails, then_make, from, here, with_instr, a_register, a_field, a_flag, fresh_for, in_register, in_field}
 use Rattle.lower_comm.specs.Layouts.{Layout, first_named, layout_of}
-use Rattle.lower_comm.specs.Messages.{address, located, checked_grid, communicated}
+use Rattle.lower_comm.specs.Messages.{located, checked_grid, communicated}
 use Rattle.lower_comm.specs.News.{goes_by_news}
 use Rattle.lower_comm.specs.Operators.{assign_op_of, is_signed}
 use Rattle.lower_expr.specs.declared.spots.Spot.{Spot}
@@ -46,11 +46,6 @@ Code = Draft → Made Out
 
 abbrev pub Codes : Type 0
 Codes = List Out → Draft → Made (List Out)
-
--- a fresh register or field for a value of the type
-unfoldable pub fresh_for : Option ℕ → Draft → Made Out
-fresh_for None d = then_make (a_register d) (λ r after. Makes (O.Scalar r) after)
-fresh_for (Some set) d = then_make (a_field set d) (λ f after. Makes (O.Field f) after)
 
 -- A parallel operand in a field: a promoted constant is written to the field that is given, and so
 -- is a promoted scalar behind its own code.
@@ -132,17 +127,14 @@ unfoldable pub limited : Bool → Field → Out → Draft → Made Field
 limited is_or saved v d = in_field v (λ a. Makes a (narrowed_by is_or a (with_instr (I.StoreContext saved) d)))
 
 -- `&&` and `||` of scalars: the result begins as what a decided left operand gives
-unfoldable pub logical_begun : Bool → Draft → Made ℕ
-logical_begun is_or d = then_make (a_register d) (λ dest after. Makes dest (with_instr (I.FrontConst dest (from_bool is_or)) after))
-
 unfoldable pub logical_ended : Bool → ℕ → Out → ℕ → Draft → Made Out
 logical_ended is_or dest w end d =
     in_register w (λ b. Makes (O.Scalar dest) (with_instr (I.FrontConst dest (from_bool (not is_or))) (jump_if_decided is_or b end d)))
 
 unfoldable pub scalar_logical_by : Bool → Code → Code → ℕ → Draft → Made Out
 scalar_logical_by is_or first second n d =
-    then_make (logical_begun is_or d) (λ dest begun. then_make (first begun) (λ v between.
-    then_make (decided is_or v n 3 between) (λ end next. then_make (second next) (λ w after. logical_ended is_or dest w end after))))
+    then_make (constant_in (from_bool is_or) d) (λ out begun. in_register out (λ dest. then_make (first begun) (λ v between.
+    then_make (decided is_or v n 3 between) (λ end next. then_make (second next) (λ w after. logical_ended is_or dest w end after)))))
 
 -- `&&` and `||` with a parallel right operand, behind a scalar left one: a jump
 unfoldable pub nonzero_tested : Field → Out → Draft → Made Out
@@ -211,7 +203,7 @@ element_spot t l ty place array index d =
 
 unfoldable pub indexed_spot : TExpr → Codes → Draft → Made Spot
 indexed_spot e indexes d =
-    then_make (address e d) (λ at begun. then_make (indexes [] begun) (λ parts between.
+    then_make (fresh_for (type_of e).shape d) (λ at begun. then_make (indexes [] begun) (λ parts between.
     then_make (located e parts at between) (λ out after. Makes (S.Indexed out) after)))
 
 -- the value at a spot
@@ -386,20 +378,21 @@ unfoldable pub values_in : Typed → Layout → List TExpr → List Out → Draf
 values_in t l [] outs d = Makes outs d
 values_in t l (e ∷ rest) outs d = then_make (value_of t l e d) (λ v after. values_in t l rest (outs ++ v ∷ []) after)
 
--- `&&` and `||` of scalars, and with a parallel operand; `?:` into this register or field
-unfoldable pub scalar_logical_of : Typed → Layout → TExpr → Draft → Made Out
-scalar_logical_of t l (T.LogicalOr' ty p left q right) d =
-    scalar_logical_by true (value_of t l left) (value_of t l right) (length_of t l right) d
-scalar_logical_of t l (T.LogicalAnd' ty p left q right) d =
-    scalar_logical_by false (value_of t l left) (value_of t l right) (length_of t l right) d
-scalar_logical_of t l _ d = Fails
+-- `||`, or else `&&`, of the operands of either: of scalars, and with a parallel operand; `?:` into
+-- this register or field
+unfoldable pub scalar_logical_of : Typed → Layout → Bool → TExpr → Draft → Made Out
+scalar_logical_of t l is_or (T.LogicalOr' ty p left q right) d =
+    scalar_logical_by is_or (value_of t l left) (value_of t l right) (length_of t l right) d
+scalar_logical_of t l is_or (T.LogicalAnd' ty p left q right) d =
+    scalar_logical_by is_or (value_of t l left) (value_of t l right) (length_of t l right) d
+scalar_logical_of t l is_or _ d = Fails
 
-unfoldable pub parallel_logical_of : Typed → Layout → TExpr → ℕ → Draft → Made Out
-parallel_logical_of t l (T.LogicalOr' ty p left q right) set d =
-    parallel_logical_by true set (value_of t l left) (is_kept left) (value_of t l right) (is_kept right) (length_of t l right) d
-parallel_logical_of t l (T.LogicalAnd' ty p left q right) set d =
-    parallel_logical_by false set (value_of t l left) (is_kept left) (value_of t l right) (is_kept right) (length_of t l right) d
-parallel_logical_of t l _ set d = Fails
+unfoldable pub parallel_logical_of : Typed → Layout → Bool → TExpr → ℕ → Draft → Made Out
+parallel_logical_of t l is_or (T.LogicalOr' ty p left q right) set d =
+    parallel_logical_by is_or set (value_of t l left) (is_kept left) (value_of t l right) (is_kept right) (length_of t l right) d
+parallel_logical_of t l is_or (T.LogicalAnd' ty p left q right) set d =
+    parallel_logical_by is_or set (value_of t l left) (is_kept left) (value_of t l right) (is_kept right) (length_of t l right) d
+parallel_logical_of t l is_or _ set d = Fails
 
 unfoldable pub scalar_choice_of : Typed → Layout → TExpr → Out → Draft → Made Out
 scalar_choice_of t l (T.Choice' ty p test q first r second) dest d =

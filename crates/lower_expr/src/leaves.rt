@@ -3,28 +3,17 @@
 ghost use Rattle.std.specs.Prelude.{◌≡◌, Some, IfOk, OnOk};
 ghost use Rattle.lower_comm.specs.Drafts.{Makes, draft};
 ghost use Rattle.lower_comm.specs.Layouts.{layout};
-ghost use Rattle.lower_expr.specs.Values.{fresh_for, right_given, coordinate_in, byte_in, casts_put, is_plus, news_by};
+ghost use Rattle.lower_expr.specs.Values.{right_given, coordinate_in, byte_in, casts_put, is_plus, news_by};
 
 use crate::steps::Right;
 use cstar_base::{Elem, Memory};
 use cstar_tree::typed::{TExpr, Typed, UnaryOp, ValueType};
 use lower_comm::Out;
-use lower_comm::emit::{field, put, register};
+use lower_comm::emit::{field, fresh, put, register};
 use lower_comm::messages::{check_grid, comm_in};
 use lower_comm::names::Names;
 use paris_code::{Instr, Konst, Unit};
 use std::alloc::Global;
-
-/// A fresh register or field for a value of the type.
-#[tactic(auto, unfolding(crate::specs::Values::fresh_for, lower_comm::specs::Drafts::then_make))]
-pub fn fresh(ty: ValueType, u: &mut Unit) -> Result<Out, Memory>
-    ensures draft { IfOk result (λ out. fresh_for ty.shape (draft u.old) ≡ Makes out (draft u.new)) }
-{
-    match ty.shape {
-        Some(set) => Ok(Out::Field(field(u, set)?)),
-        None => Ok(Out::Scalar(register(u)?)),
-    }
-}
 
 /// A value as a right operand.
 #[tactic(auto, unfolding(crate::specs::Values::right_given))]

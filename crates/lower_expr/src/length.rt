@@ -4,7 +4,7 @@
 ghost use Rattle.std.specs.Prelude.{◌≡◌, IfOk, length, slice_get};
 ghost use Rattle.lower_comm.specs.Layouts.{layout};
 ghost use Rattle.lower_expr.specs.Steps.{is_kept};
-ghost use Rattle.lower_expr.specs.Lengths.{conversion_length, unary_length, operate_length, logical_length, spread_length, right_length, binary_length, spare_length, choice_length, step_once_length, params_length, news_move, is_checked, news_length, read_length, four_times, load_length, store_length, send_length, set_length, compound_length, assign_length, step_length, reduce_length, call_length, length_of, spot_length_of, lengths_in, spread_length_of};
+ghost use Rattle.lower_expr.specs.Lengths.{conversion_length, unary_length, operate_length, logical_length, spread_length, right_length, binary_length, spare_length, choice_length, step_once_length, params_length, news_move, is_checked, news_length, read_length, four_times, load_length, store_length, send_length, set_length, compound_length, assign_length, step_length, reduce_length, call_length, length_of, spot_length_of, lengths_in};
 
 use crate::assign::is_send;
 use crate::spots::bare;
@@ -12,9 +12,9 @@ use crate::steps::{constant_word, immediate, is_relation, stays_scalar};
 use cstar_base::{Elem, Memory, Op};
 use cstar_tree::syntax::{AssignOp, ReduceOp};
 use cstar_tree::typed::{TExpr, Typed, UnaryOp, VarInfo};
-use lower_comm::emit::plus;
+use lower_comm::emit::{count, plus};
 use lower_comm::messages::goes_by_news;
-use lower_comm::names::{Names, count};
+use lower_comm::names::Names;
 use lower_comm::news::{NewsStep, step_of};
 use lower_comm::operators::{assign_op, divides};
 
@@ -34,8 +34,9 @@ pub fn length(t: &Typed, names: &Names, e: &TExpr) -> Result<u32, Memory>
         | TExpr::GetChar { .. }
         | TExpr::Variable { .. } => Ok(1),
         TExpr::Enumerate { .. } => Ok(2),
-        TExpr::Brackets { inner, .. } => length(t, names, inner),
-        TExpr::Promote { operand, .. } => length(t, names, operand),
+        TExpr::Brackets { inner: operand, .. } | TExpr::Promote { operand, .. } => {
+            length(t, names, operand)
+        }
         TExpr::Convert { ty, operand } => {
             let n = length(t, names, operand)?;
             plus(n, conversion(stays_scalar(operand), ty.elem))
@@ -205,14 +206,6 @@ fn indexed_length(t: &Typed, names: &Names, e: &TExpr) -> Result<u32, Memory>
         TExpr::LeftIndex { indexes, .. } => plus(2, lengths(t, names, indexes.as_slice())?),
         _ => Err(Memory),
     }
-}
-
-/// The instructions of a value in a field: what `spread` appends.
-#[tactic(auto, unfolding(crate::specs::Lengths::spread_length_of))]
-pub fn spread_length(t: &Typed, names: &Names, e: &TExpr) -> Result<u32, Memory>
-    ensures { IfOk result (λ n. n ≡ spread_length_of t.now (layout names.now) e.now) }
-{
-    spread_by(length(t, names, e)?, e)
 }
 
 /// An expression of this length, with its value in a field.

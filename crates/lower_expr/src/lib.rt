@@ -3,11 +3,11 @@
 
 mod assign;
 mod calls;
-pub mod frames;
+mod frames;
 mod leaves;
 pub mod length;
 mod logical;
-pub mod spots;
+mod spots;
 pub mod steps;
 pub mod value;
 

@@ -2,12 +2,12 @@
 
 ghost use Rattle.std.specs.Prelude.{◌≡◌, IfOk, OnOk};
 ghost use Rattle.lower_comm.specs.Drafts.{Makes, draft};
-ghost use Rattle.lower_expr.specs.Values.{jump_if_decided, narrowed_by, decided, limited, logical_begun, logical_ended, nonzero_tested, narrowed_again, parallel_ended, turned_over};
+ghost use Rattle.lower_expr.specs.Values.{jump_if_decided, narrowed_by, decided, limited, logical_ended, nonzero_tested, narrowed_again, parallel_ended, turned_over};
 
 use crate::steps::test_value;
 use cstar_base::Memory;
 use lower_comm::Out;
-use lower_comm::emit::{here, plus, put, register};
+use lower_comm::emit::{here, plus, put};
 use paris_code::{Field, Instr, Konst, Unit};
 
 /// Jumps where the left operand of `&&` is zero, or that of `||` is not.
@@ -56,17 +56,6 @@ pub fn limit(is_or: bool, saved: Field, v: Out, u: &mut Unit) -> Result<Field, M
     put(u, Instr::StoreContext { dest: saved })?;
     narrow(is_or, source, u)?;
     Ok(source)
-}
-
-/// The result of `&&` or `||` of scalars begins as what a decided left operand gives.
-#[tactic(auto, unfolding(crate::specs::Values::logical_begun, lower_comm::specs::Drafts::then_make))]
-pub fn begin_logical(is_or: bool, u: &mut Unit) -> Result<u32, Memory>
-    ensures draft { IfOk result (λ dest. logical_begun is_or (draft u.old) ≡ Makes dest (draft u.new)) }
-{
-    let dest = register(u)?;
-    let value = u32::from(is_or);
-    put(u, Instr::FrontConst { dest, value })?;
-    Ok(dest)
 }
 
 /// The right operand decides the result of `&&` or `||` of scalars.

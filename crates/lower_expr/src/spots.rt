@@ -41,7 +41,8 @@ pub fn bare(target: &TExpr) -> &TExpr
     }
 }
 
-/// The value that the spot has, into a fresh register or field.
+/// The value that the spot has becomes that of `dest`, a register or a field. `target` is what was
+/// located there.
 #[tactic(auto, unfolding(crate::specs::Spots::loaded, lower_comm::specs::Drafts::then_make, lower_comm::specs::Drafts::in_register, lower_comm::specs::Drafts::in_field))]
 pub fn load(
     t: &Typed,
@@ -93,7 +94,8 @@ fn load_elements(
     Ok(())
 }
 
-/// A value becomes that of the spot, at the active positions. `e` is the assignment.
+/// A value becomes that of the spot, at the active positions. `e` is the assignment or the step whose
+/// target was located there.
 #[tactic(auto, unfolding(crate::specs::Spots::stored, lower_comm::specs::Drafts::then_make))]
 pub fn store(
     t: &Typed,

@@ -112,7 +112,7 @@ pub fn convert(v: Out, elem: Elem, u: &mut Unit) -> Result<Out, Memory>
 /// The conversion of a field of 32 bits, in place: to `bool` by a test, to another narrow type by
 /// shifting its bits to the top and back.
 #[tactic(auto, unfolding(crate::specs::Steps::field_converted, crate::specs::Steps::shifted_back))]
-pub fn convert_field(f: Field, elem: Elem, u: &mut Unit) -> Result<(), Memory>
+fn convert_field(f: Field, elem: Elem, u: &mut Unit) -> Result<(), Memory>
     ensures draft { OnOk result (field_converted f elem (draft u.old) ≡ Makes (O.Field f) (draft u.new)) }
 {
     if elem.bits == 1 {
@@ -374,7 +374,7 @@ pub fn as_field(v: Out, spare: Field, u: &mut Unit) -> Result<Field, Memory>
     }
 }
 
-/// A unary operator other than `+`.
+/// A unary operator other than `+`, which has no code: `Memory` for that one.
 #[tactic(auto, unfolding(crate::specs::Steps::negated, lower_comm::specs::Drafts::in_register, lower_comm::specs::Drafts::in_field))]
 pub fn unary(op: UnaryOp, dest: Out, v: Out, u: &mut Unit) -> Result<(), Memory>
     ensures draft { OnOk result (negated op dest v (draft u.old) ≡ Makes dest (draft u.new)) }
@@ -397,7 +397,7 @@ fn unary_register(op: UnaryOp, dest: u32, source: u32, u: &mut Unit) -> Result<(
     ensures draft { OnOk result (register_negated op dest source (draft u.old) ≡ Makes (O.Scalar dest) (draft u.new)) }
 {
     match op {
-        UnaryOp::Plus => put(u, Instr::FrontMove { dest, source }),
+        UnaryOp::Plus => Err(Memory),
         UnaryOp::Minus => put(u, Instr::FrontNegate { dest, source }),
         UnaryOp::Complement => put(u, Instr::FrontLognot { dest, source }),
         UnaryOp::Not => {
@@ -420,14 +420,7 @@ fn unary_field(op: UnaryOp, dest: Field, source: Field, u: &mut Unit) -> Result<
     ensures draft { OnOk result (field_negated op dest source (draft u.old) ≡ Makes (O.Field dest) (draft u.new)) }
 {
     match op {
-        UnaryOp::Plus => put(
-            u,
-            Instr::Move {
-                signed: true,
-                dest,
-                source,
-            },
-        ),
+        UnaryOp::Plus => Err(Memory),
         UnaryOp::Minus => put(u, Instr::Negate { dest, source }),
         UnaryOp::Complement => put(u, Instr::Lognot { dest, source }),
         UnaryOp::Not => {

@@ -5,24 +5,22 @@
 ghost use Rattle.std.specs.Prelude.{◌≡◌, [], IfOk, OnOk};
 ghost use Rattle.lower_comm.specs.Drafts.{Makes, draft};
 ghost use Rattle.lower_comm.specs.Layouts.{layout};
-ghost use Rattle.lower_expr.specs.Values.{spread_into, right_by, scalar_logical_of, parallel_logical_of, scalar_choice_of, parallel_choice_of, value_of, spot_of, values_in, compound_of, spread_of};
+ghost use Rattle.lower_expr.specs.Values.{spread_into, right_by, scalar_logical_of, parallel_logical_of, scalar_choice_of, parallel_choice_of, value_of, spot_of, read_by, values_in, compound_of, spread_of};
 
 use crate::assign::{fold_into_register, is_send, step_in, update_field, update_register};
-use crate::leaves::{by_news, cast_all, coordinate, fresh, is_plus, next_byte, right_value};
+use crate::leaves::{by_news, cast_all, coordinate, is_plus, next_byte, right_value};
 use crate::length::length;
-use crate::logical::{
-    begin_logical, decide, end_logical, end_parallel, limit, test_nonzero, turn_over,
-};
+use crate::logical::{decide, end_logical, end_parallel, limit, test_nonzero, turn_over};
 use crate::spots::{Spot, check_index, load, store};
 use crate::steps::{
     Right, as_field, assign_signed, constant, constant_word, convert, immediate, operate,
     operate_right, print_pieces, set, stays_scalar, unary,
 };
 use cstar_base::{Memory, Op};
-use cstar_tree::typed::{TExpr, Typed};
+use cstar_tree::typed::{TExpr, Typed, ValueType};
 use lower_comm::Out;
-use lower_comm::emit::{field, flag, plus, put, register};
-use lower_comm::messages::{address_of, comm_in, goes_by_news, locate_in};
+use lower_comm::emit::{field, flag, fresh, plus, put, register};
+use lower_comm::messages::{comm_in, goes_by_news, locate_in};
 use lower_comm::names::Names;
 use lower_comm::operators::{assign_op, promoted_signed};
 use paris_code::{Field, Instr, Konst, Unit};
@@ -68,10 +66,7 @@ fn spread_to(
             put(u, Instr::MoveConstant { dest, value })?;
             Ok(dest)
         }
-        None => {
-            let v = value(alloc, t, names, e, u)?;
-            as_field(v, dest, u)
-        }
+        None => as_field(value(alloc, t, names, e, u)?, dest, u),
     }
 }
 
@@ -90,16 +85,13 @@ fn right_operand(
 {
     match immediate(op, e) {
         Some(word) => Ok(Right::Word(Konst::Imm(word))),
-        None => {
-            let v = value(alloc, t, names, e, u)?;
-            right_value(v)
-        }
+        None => right_value(value(alloc, t, names, e, u)?),
     }
 }
 
 /// The value of an expression. That of a promoted scalar stays in its register.
 #[cycle(value)]
-#[tactic(auto, unfolding(crate::specs::Values::value_of, crate::specs::Values::spread_of, lower_comm::specs::Drafts::then_make, lower_comm::specs::Drafts::in_register))]
+#[tactic(auto, unfolding(crate::specs::Values::value_of, crate::specs::Values::spot_of, crate::specs::Values::spread_of, lower_comm::specs::Drafts::then_make, lower_comm::specs::Drafts::in_register))]
 pub fn value(
     alloc: Global,
     t: &Typed,
@@ -110,15 +102,15 @@ pub fn value(
     ensures draft { IfOk result (λ out. value_of t.now (layout names.now) e.now (draft u.old) ≡ Makes out (draft u.new)) }
 {
     match e {
-        TExpr::Number { value, .. } => constant(*value, u),
-        TExpr::PositionsOf { value, .. } => constant(*value, u),
-        TExpr::RankOf { value, .. } => constant(*value, u),
-        TExpr::DimOf { value, .. } => constant(*value, u),
-        TExpr::Dot { ty, axis } => coordinate(ty.shape, *axis, u),
-        TExpr::Pcoord { ty, axis } => coordinate(ty.shape, *axis, u),
+        TExpr::Number { value, .. }
+        | TExpr::PositionsOf { value, .. }
+        | TExpr::RankOf { value, .. }
+        | TExpr::DimOf { value, .. } => constant(*value, u),
+        TExpr::Dot { ty, axis } | TExpr::Pcoord { ty, axis } => coordinate(ty.shape, *axis, u),
         TExpr::GetChar { .. } => next_byte(u),
-        TExpr::Brackets { inner, .. } => value(alloc, t, names, inner, u),
-        TExpr::Promote { operand, .. } => value(alloc, t, names, operand, u),
+        TExpr::Brackets { inner: operand, .. } | TExpr::Promote { operand, .. } => {
+            value(alloc, t, names, operand, u)
+        }
         TExpr::Convert { ty, operand } => {
             let v = value(alloc, t, names, operand, u)?;
             convert(v, ty.elem, u)
@@ -136,7 +128,9 @@ pub fn value(
         TExpr::LogicalOr { .. } | TExpr::LogicalAnd { .. } | TExpr::Choice { .. } => {
             chosen(alloc, t, names, e, u)
         }
-        TExpr::Variable { .. } | TExpr::Element { .. } => reference(alloc, t, names, e, u),
+        TExpr::Variable { ty, .. } | TExpr::Element { ty, .. } => {
+            read(alloc, t, names, e, *ty, u)
+        }
         TExpr::LeftIndex { .. } => indexed(alloc, t, names, e, u),
         TExpr::Assign { .. } => assignment(alloc, t, names, e, u),
         TExpr::Step { .. } | TExpr::Reduce { .. } | TExpr::Scan { .. } | TExpr::Enumerate { .. } =>
@@ -197,112 +191,80 @@ fn chosen(alloc: Global, t: &Typed, names: &Names, e: &TExpr, u: &mut Unit) -> R
 {
     match e {
         TExpr::LogicalOr { ty, .. } => match ty.shape {
-            None => scalar_logical(alloc, t, names, e, u),
-            Some(set) => parallel_logical(alloc, t, names, e, set, u),
+            None => scalar_logical(alloc, t, names, true, e, u),
+            Some(set) => parallel_logical(alloc, t, names, true, e, set, u),
         },
         TExpr::LogicalAnd { ty, .. } => match ty.shape {
-            None => scalar_logical(alloc, t, names, e, u),
-            Some(set) => parallel_logical(alloc, t, names, e, set, u),
+            None => scalar_logical(alloc, t, names, false, e, u),
+            Some(set) => parallel_logical(alloc, t, names, false, e, set, u),
         },
         TExpr::Choice { ty, test, .. } => {
             let dest = fresh(*ty, u)?;
             if stays_scalar(test) {
                 scalar_choice(alloc, t, names, e, dest, u)?;
-                Ok(dest)
             } else {
                 parallel_choice(alloc, t, names, e, dest, u)?;
-                Ok(dest)
             }
+            Ok(dest)
         }
         _ => Err(Memory),
     }
 }
 
-/// `&&` and `||` of scalars.
+/// `||`, or else `&&`, of scalars. The result begins as what a decided left operand gives.
 #[cycle(value)]
-#[tactic(auto, unfolding(crate::specs::Values::scalar_logical_of, crate::specs::Values::scalar_logical_by, lower_comm::specs::Drafts::then_make))]
+#[tactic(auto, unfolding(crate::specs::Values::scalar_logical_of, crate::specs::Values::scalar_logical_by, lower_comm::specs::Drafts::then_make, lower_comm::specs::Drafts::in_register))]
 fn scalar_logical(
     alloc: Global,
     t: &Typed,
     names: &Names,
+    is_or: bool,
     e: &TExpr,
     u: &mut Unit,
 ) -> Result<Out, Memory>
-    ensures draft { IfOk result (λ out. scalar_logical_of t.now (layout names.now) e.now (draft u.old) ≡ Makes out (draft u.new)) }
+    ensures draft { IfOk result (λ out. scalar_logical_of t.now (layout names.now) is_or e.now (draft u.old) ≡ Makes out (draft u.new)) }
 {
     match e {
-        TExpr::LogicalOr { left, right, .. } => {
-            let dest = begin_logical(true, u)?;
+        TExpr::LogicalOr { left, right, .. } | TExpr::LogicalAnd { left, right, .. } => {
+            let dest = constant(u32::from(is_or), u)?.register()?;
             let a = value(alloc, t, names, left, u)?;
-            let end = decide(true, a, length(t, names, right)?, 3, u)?;
+            let end = decide(is_or, a, length(t, names, right)?, 3, u)?;
             let b = value(alloc, t, names, right, u)?;
-            end_logical(true, dest, b, end, u)
-        }
-        TExpr::LogicalAnd { left, right, .. } => {
-            let dest = begin_logical(false, u)?;
-            let a = value(alloc, t, names, left, u)?;
-            let end = decide(false, a, length(t, names, right)?, 3, u)?;
-            let b = value(alloc, t, names, right, u)?;
-            end_logical(false, dest, b, end, u)
+            end_logical(is_or, dest, b, end, u)
         }
         _ => Err(Memory),
     }
 }
 
-/// `&&` and `||` with a parallel operand.
+/// `||`, or else `&&`, with a parallel operand.
 #[cycle(value)]
 #[tactic(auto, unfolding(crate::specs::Values::parallel_logical_of, crate::specs::Values::parallel_logical_by, crate::specs::Values::decided_by, crate::specs::Values::limited_by, lower_comm::specs::Drafts::then_make))]
 fn parallel_logical(
     alloc: Global,
     t: &Typed,
     names: &Names,
+    is_or: bool,
     e: &TExpr,
     set: u16,
     u: &mut Unit,
 ) -> Result<Out, Memory>
-    ensures draft { IfOk result (λ out. parallel_logical_of t.now (layout names.now) e.now set (draft u.old) ≡ Makes out (draft u.new)) }
+    ensures draft { IfOk result (λ out. parallel_logical_of t.now (layout names.now) is_or e.now set (draft u.old) ≡ Makes out (draft u.new)) }
 {
     let dest = field(u, set)?;
     let saved = flag(u, set)?;
     match e {
-        TExpr::LogicalOr { left, right, .. } => {
-            let value_decided = Konst::Imm(1);
-            put(
-                u,
-                Instr::MoveConstant {
-                    dest,
-                    value: value_decided,
-                },
-            )?;
+        TExpr::LogicalOr { left, right, .. } | TExpr::LogicalAnd { left, right, .. } => {
+            let word = Konst::Imm(u32::from(is_or));
+            put(u, Instr::MoveConstant { dest, value: word })?;
             let a = value(alloc, t, names, left, u)?;
             if stays_scalar(left) {
-                decide(true, a, length(t, names, right)?, 4, u)?;
+                decide(is_or, a, length(t, names, right)?, 4, u)?;
                 let b = value(alloc, t, names, right, u)?;
                 test_nonzero(dest, b, u)
             } else {
-                limit(true, saved, a, u)?;
+                limit(is_or, saved, a, u)?;
                 let b = value(alloc, t, names, right, u)?;
-                end_parallel(true, dest, saved, stays_scalar(right), b, u)
-            }
-        }
-        TExpr::LogicalAnd { left, right, .. } => {
-            let value_decided = Konst::Imm(0);
-            put(
-                u,
-                Instr::MoveConstant {
-                    dest,
-                    value: value_decided,
-                },
-            )?;
-            let a = value(alloc, t, names, left, u)?;
-            if stays_scalar(left) {
-                decide(false, a, length(t, names, right)?, 4, u)?;
-                let b = value(alloc, t, names, right, u)?;
-                test_nonzero(dest, b, u)
-            } else {
-                limit(false, saved, a, u)?;
-                let b = value(alloc, t, names, right, u)?;
-                end_parallel(false, dest, saved, stays_scalar(right), b, u)
+                end_parallel(is_or, dest, saved, stays_scalar(right), b, u)
             }
         }
         _ => Err(Memory),
@@ -363,8 +325,7 @@ fn parallel_choice(
     else {
         return Err(Memory);
     };
-    let shape = dest.field()?.set;
-    let saved = flag(u, shape)?;
+    let saved = flag(u, dest.field()?.set)?;
     let c = value(alloc, t, names, test, u)?;
     let condition = limit(false, saved, c, u)?;
     let a = value(alloc, t, names, then, u)?;
@@ -375,50 +336,38 @@ fn parallel_choice(
     put(u, Instr::LoadContext { source: saved })
 }
 
-/// A variable or an element of an array.
+/// The value of a variable, of an element of an array, or through a left index.
 #[cycle(value)]
-#[tactic(auto, unfolding(crate::specs::Values::value_of, crate::specs::Values::spot_of, crate::specs::Values::read_by, lower_comm::specs::Drafts::then_make))]
-fn reference(
+#[tactic(auto, unfolding(crate::specs::Values::read_by, lower_comm::specs::Drafts::then_make))]
+fn read(
     alloc: Global,
     t: &Typed,
     names: &Names,
     e: &TExpr,
+    ty: ValueType,
     u: &mut Unit,
 ) -> Result<Out, Memory>
-    ensures draft { IfOk result (λ out. value_of t.now (layout names.now) e.now (draft u.old) ≡ Makes out (draft u.new)) }
+    ensures draft { IfOk result (λ out. read_by t.now (layout names.now) e.now ty (spot_of t.now (layout names.now) e.now) (draft u.old) ≡ Makes out (draft u.new)) }
 {
-    match e {
-        TExpr::Variable { ty, .. } => {
-            let dest = fresh(*ty, u)?;
-            let spot = spot(alloc, t, names, e, u)?;
-            load(t, names, e, spot, dest, u)?;
-            Ok(dest)
-        }
-        TExpr::Element { ty, .. } => {
-            let dest = fresh(*ty, u)?;
-            let spot = spot(alloc, t, names, e, u)?;
-            load(t, names, e, spot, dest, u)?;
-            Ok(dest)
-        }
-        _ => Err(Memory),
-    }
+    let dest = fresh(ty, u)?;
+    let spot = spot(alloc, t, names, e, u)?;
+    load(t, names, e, spot, dest, u)?;
+    Ok(dest)
 }
 
 /// A get, or a read of one element.
 #[cycle(value)]
-#[tactic(auto, using(crate::proofs::Lists::value_of_left_index), unfolding(crate::specs::Values::read_by, lower_comm::specs::Drafts::then_make))]
+#[tactic(auto, using(crate::proofs::Lists::value_of_left_index))]
 fn indexed(alloc: Global, t: &Typed, names: &Names, e: &TExpr, u: &mut Unit) -> Result<Out, Memory>
     ensures draft { IfOk result (λ out. value_of t.now (layout names.now) e.now (draft u.old) ≡ Makes out (draft u.new)) }
 {
     match e {
         TExpr::LeftIndex { ty, .. } => {
             if goes_by_news(e) {
-                return by_news(alloc, t, names, e, *ty, u);
+                by_news(alloc, t, names, e, *ty, u)
+            } else {
+                read(alloc, t, names, e, *ty, u)
             }
-            let dest = fresh(*ty, u)?;
-            let spot = spot(alloc, t, names, e, u)?;
-            load(t, names, e, spot, dest, u)?;
-            Ok(dest)
         }
         _ => Err(Memory),
     }
@@ -466,7 +415,7 @@ fn indexed_spot(
 {
     match e {
         TExpr::LeftIndex { indexes, .. } => {
-            let at = address_of(e, u)?;
+            let at = fresh(e.ty(), u)?;
             let parts = values(alloc, t, names, indexes.as_slice(), u)?;
             Ok(Spot::Indexed(locate_in(alloc, e, parts.as_slice(), at, u)?))
         }
@@ -523,15 +472,12 @@ fn assignment(
         return Ok(Out::Nothing);
     }
     match (assign_op(*op), shape) {
-        (None, Some(set)) => {
+        (None, shape) => {
             let spot = spot(alloc, t, names, target, u)?;
-            let v = spread(alloc, t, names, right, set, u)?;
-            store(t, names, e, spot, v, u)?;
-            Ok(v)
-        }
-        (None, None) => {
-            let spot = spot(alloc, t, names, target, u)?;
-            let v = value(alloc, t, names, right, u)?;
+            let v = match shape {
+                Some(set) => spread(alloc, t, names, right, set, u)?,
+                None => value(alloc, t, names, right, u)?,
+            };
             store(t, names, e, spot, v, u)?;
             Ok(v)
         }
@@ -605,12 +551,12 @@ fn message(alloc: Global, t: &Typed, names: &Names, e: &TExpr, u: &mut Unit) -> 
             let spot = spot(alloc, t, names, target, u)?;
             step_in(t, names, e, *op, *order, target, spot, outcome, second, u)
         }
-        TExpr::Reduce { ty, operand, .. } => {
-            let dest = fresh(*ty, u)?;
-            let v = value(alloc, t, names, operand, u)?;
-            comm_in(t, names, e, Out::Nothing, &[v], dest, u)
+        TExpr::Reduce {
+            ty,
+            operand: source,
+            ..
         }
-        TExpr::Scan { ty, source, .. } => {
+        | TExpr::Scan { ty, source, .. } => {
             let dest = fresh(*ty, u)?;
             let v = value(alloc, t, names, source, u)?;
             comm_in(t, names, e, Out::Nothing, &[v], dest, u)
