@@ -147,3 +147,10 @@ unfoldable mutual
   otherwise_of t l None' f contexts shape saved holds n d = Makes n d
   otherwise_of t l (Some' p s) f contexts shape saved holds n d =
       closing saved (statement_of t l s (in_context f) (contexts ++ saved ∷ []) n (turned shape holds d))
+
+-- the turns of a loop that begins here, whose body is followed by its condition, at a place
+unfoldable pub turns_of : Typed → Layout → TStmt → TExpr → ℕ → Frame → List Field → ℕ → Draft → Made ℕ
+turns_of t l body test next f contexts n d =
+    let after = next + length_of t l test + 1 in
+    then_make (statement_of t l body (in_loop next after f) contexts n (with_instr I.FrontTurn d))
+    (λ m behind. then_make (jump_back_of t l (Some test) (here d) behind) (λ _ end. Makes m end))

@@ -43,7 +43,8 @@ impl Saved {
 }
 
 /// The instructions of a statement of a function that has a result or none.
-#[tactic(auto, unfolding(crate::specs::Lengths::statement_length_of, crate::specs::Lengths::statements_length_of, crate::specs::Lengths::else_length_of, crate::specs::Lengths::storing_length))]
+#[cycle(statement_length)]
+#[tactic(auto, unfolding(crate::specs::Lengths::statement_length_of, crate::specs::Lengths::statements_length_of, crate::specs::Lengths::storing_length))]
 pub fn statement_length(
     t: &Typed,
     names: &Names,
@@ -64,22 +65,7 @@ pub fn statement_length(
         }
         TStmt::Expression(e) => length(t, names, e),
         TStmt::Empty => Ok(0),
-        TStmt::If {
-            test,
-            then,
-            otherwise,
-        } => {
-            let test = length(t, names, test)?;
-            let then = statement_length(t, names, then, has_result, saved)?;
-            let sum = plus(plus(test, then)?, 1)?;
-            match otherwise {
-                Some(other) => {
-                    let other = statement_length(t, names, other, has_result, saved)?;
-                    plus(plus(sum, other)?, 1)
-                }
-                None => Ok(sum),
-            }
-        }
+        TStmt::If { .. } => if_length(t, names, s, has_result, saved),
         TStmt::While { test, body } => {
             let body = statement_length(t, names, body, has_result, saved.at_loop())?;
             plus(plus(length(t, names, test)?, body)?, 3)
@@ -111,24 +97,75 @@ pub fn statement_length(
             let body = statement_length(t, names, body, has_result, saved.one_more()?)?;
             plus(body, 3)
         }
-        TStmt::Where {
-            test,
-            then,
-            otherwise,
-            ..
-        } => {
-            let test = length(t, names, test)?;
-            let then = statement_length(t, names, then, has_result, saved.one_more()?)?;
-            let sum = plus(plus(test, then)?, 5)?;
-            match otherwise {
-                Some(other) => {
-                    let more = saved.one_more()?;
-                    let other = statement_length(t, names, other, has_result, more)?;
-                    plus(plus(sum, other)?, 3)
-                }
-                None => Ok(sum),
-            }
+        TStmt::Where { .. } => where_length(t, names, s, has_result, saved),
+    }
+}
+
+/// The instructions of an `if`: those of its parts, the jump behind its test, and the one in front of
+/// what `else` has.
+#[cycle(statement_length)]
+#[tactic(auto, unfolding(crate::specs::Lengths::statement_length_of, crate::specs::Lengths::else_length_of))]
+fn if_length(
+    t: &Typed,
+    names: &Names,
+    s: &TStmt,
+    has_result: bool,
+    saved: Saved,
+) -> Result<u32, Memory>
+    ensures { IfOk result (λ n. n ≡ statement_length_of t.now (layout names.now) has_result saved s.now) }
+{
+    let TStmt::If {
+        test,
+        then,
+        otherwise,
+    } = s
+    else {
+        return Err(Memory);
+    };
+    let test = length(t, names, test)?;
+    let then = statement_length(t, names, then, has_result, saved)?;
+    let sum = plus(plus(test, then)?, 1)?;
+    match otherwise {
+        Some(other) => {
+            let other = statement_length(t, names, other, has_result, saved)?;
+            plus(plus(sum, other)?, 1)
         }
+        None => Ok(sum),
+    }
+}
+
+/// The instructions of a `where`: those of its parts, four that narrow the context and one that loads
+/// the saved one, and three around what `else` has.
+#[cycle(statement_length)]
+#[tactic(auto, unfolding(crate::specs::Lengths::statement_length_of, crate::specs::Lengths::else_length_of))]
+fn where_length(
+    t: &Typed,
+    names: &Names,
+    s: &TStmt,
+    has_result: bool,
+    saved: Saved,
+) -> Result<u32, Memory>
+    ensures { IfOk result (λ n. n ≡ statement_length_of t.now (layout names.now) has_result saved s.now) }
+{
+    let TStmt::Where {
+        test,
+        then,
+        otherwise,
+        ..
+    } = s
+    else {
+        return Err(Memory);
+    };
+    let more = saved.one_more()?;
+    let test = length(t, names, test)?;
+    let then = statement_length(t, names, then, has_result, more)?;
+    let sum = plus(plus(test, then)?, 5)?;
+    match otherwise {
+        Some(other) => {
+            let other = statement_length(t, names, other, has_result, more)?;
+            plus(plus(sum, other)?, 3)
+        }
+        None => Ok(sum),
     }
 }
 

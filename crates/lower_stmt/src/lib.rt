@@ -1,9 +1,9 @@
 //! The lowering of statements and programs.
 #![tactic(auto)]
 
-pub mod length;
+mod length;
 mod program;
-pub mod statement;
+mod statement;
 mod variables;
 
 pub use program::lower;

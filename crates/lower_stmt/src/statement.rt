@@ -2,12 +2,12 @@
 //! to the turn that the loop's body begins with. A jump out of `where` and `everywhere` first loads
 //! the contexts that they saved, the innermost first, so that the outermost one stays.
 
-ghost use Rattle.std.specs.Prelude.{◌≡◌, ◌++◌, [], ◌∷◌, IfOk, OnOk, Some};
+ghost use Rattle.std.specs.Prelude.{◌≡◌, ◌+◌, ◌++◌, [], ◌∷◌, IfOk, OnOk, Some};
 ghost use Rattle.lower_comm.specs.Drafts.{Makes, draft};
 ghost use Rattle.lower_comm.specs.Layouts.{layout};
 ghost use Rattle.lower_stmt.specs.Frames.{has_result, in_loop, in_context, with_end};
 ghost use Rattle.lower_stmt.specs.Lengths.{at_loop, statement_length_of};
-ghost use Rattle.lower_stmt.specs.Statements.{closing, condition_of, given_back, jump_back_of, narrowed, part_of, restored, returned, statement_of, stored_result, turned, widened};
+ghost use Rattle.lower_stmt.specs.Statements.{closing, condition_of, given_back, jump_back_of, narrowed, part_of, restored, returned, statement_of, stored_result, turned, turns_of, widened};
 
 use crate::length::{Saved, part_length, statement_length};
 use crate::variables::declare;
@@ -35,9 +35,11 @@ pub enum Outcome {
 pub struct Frame {
     pub is_main: bool,
     pub outcome: Outcome,
-    /// Behind the innermost loop.
+    /// The place behind the innermost loop, where `break` goes on, from the start of the unit; 0
+    /// outside a loop.
     pub after: u32,
-    /// Behind the body of the innermost loop.
+    /// The place behind the body of the innermost loop, where `continue` goes on, from the start of
+    /// the unit; 0 outside a loop.
     pub next: u32,
     pub saved: Saved,
 }
@@ -305,9 +307,9 @@ fn branch(
     }
 }
 
-/// A loop.
+/// A loop. A `while` and a `for` begin with a jump to their test; a `do` does not.
 #[cycle(statement)]
-#[tactic(auto, unfolding(crate::specs::Statements::statement_of, crate::specs::Statements::jump_back_of, lower_comm::specs::Drafts::then_make))]
+#[tactic(auto, using(crate::proofs::LoopPlaces::here_more), unfolding(crate::specs::Statements::statement_of, crate::specs::Statements::turns_of, crate::specs::Statements::jump_back_of, lower_comm::specs::Drafts::then_make))]
 fn repeat(
     alloc: Global,
     t: &Typed,
@@ -323,24 +325,14 @@ fn repeat(
     match s {
         TStmt::While { test, body } => {
             let turn = plus(here(u)?, 1)?;
-            let length_of_body = body_length(t, names, body, f)?;
-            let next = plus(plus(turn, length_of_body)?, 1)?;
-            let after = plus(plus(next, length(t, names, test)?)?, 1)?;
+            let next = behind_body(t, names, body, f, turn)?;
             put(u, Instr::FrontJump { target: next })?;
-            put(u, Instr::FrontTurn)?;
-            statement(alloc, t, names, body, f.in_loop(next, after), p, u)?;
-            let test = condition(alloc, t, names, test, u)?;
-            put(u, Instr::FrontJumpNonzero { test, target: turn })
+            turns(alloc, t, names, body, test, next, f, p, u)
         }
         TStmt::Do { body, test } => {
             let turn = here(u)?;
-            let length_of_body = body_length(t, names, body, f)?;
-            let next = plus(plus(turn, length_of_body)?, 1)?;
-            let after = plus(plus(next, length(t, names, test)?)?, 1)?;
-            put(u, Instr::FrontTurn)?;
-            statement(alloc, t, names, body, f.in_loop(next, after), p, u)?;
-            let test = condition(alloc, t, names, test, u)?;
-            put(u, Instr::FrontJumpNonzero { test, target: turn })
+            let next = behind_body(t, names, body, f, turn)?;
+            turns(alloc, t, names, body, test, next, f, p, u)
         }
         TStmt::For {
             first,
@@ -350,8 +342,7 @@ fn repeat(
         } => {
             evaluate_part(alloc, t, names, first, u)?;
             let turn = plus(here(u)?, 1)?;
-            let length_of_body = body_length(t, names, body, f)?;
-            let next = plus(plus(turn, length_of_body)?, 1)?;
+            let next = behind_body(t, names, body, f, turn)?;
             let tested = plus(next, part_length(t, names, step)?)?;
             let after = plus(plus(tested, part_length(t, names, test)?)?, 1)?;
             put(u, Instr::FrontJump { target: tested })?;
@@ -364,11 +355,37 @@ fn repeat(
     }
 }
 
-/// The instructions of a loop's body.
-fn body_length(t: &Typed, names: &Names, body: &TStmt, f: Frame) -> Result<u32, Memory>
-    ensures { IfOk result (λ n. n ≡ statement_length_of t.now (layout names.now) (has_result f) (at_loop f.saved) body.now) }
+/// The turns of a `while` or a `do`, whose body begins here and whose test is at `next`.
+#[cycle(statement)]
+#[tactic(auto, unfolding(crate::specs::Statements::turns_of, crate::specs::Statements::jump_back_of, lower_comm::specs::Drafts::then_make))]
+fn turns(
+    alloc: Global,
+    t: &Typed,
+    names: &Names,
+    body: &TStmt,
+    test: &TExpr,
+    next: u32,
+    f: Frame,
+    p: &mut Progress,
+    u: &mut Unit,
+) -> Result<(), Memory>
+    ensures draft { OnOk result (turns_of t.now (layout names.now) body.now test.now next f p.old.contexts.items p.old.declared (draft u.old) ≡ Makes p.new.declared (draft u.new)) }
+    ensures contexts { OnOk result (p.new.contexts.items ≡ p.old.contexts.items) }
 {
-    statement_length(t, names, body, f.has_result(), f.saved.at_loop())
+    let turn = here(u)?;
+    let after = plus(plus(next, length(t, names, test)?)?, 1)?;
+    put(u, Instr::FrontTurn)?;
+    statement(alloc, t, names, body, f.in_loop(next, after), p, u)?;
+    let test = condition(alloc, t, names, test, u)?;
+    put(u, Instr::FrontJumpNonzero { test, target: turn })
+}
+
+/// The place behind the body of a loop whose turn is at `turn`.
+fn behind_body(t: &Typed, names: &Names, body: &TStmt, f: Frame, turn: u32) -> Result<u32, Memory>
+    ensures { IfOk result (λ n. n ≡ turn + statement_length_of t.now (layout names.now) (has_result f) (at_loop f.saved) body.now + 1) }
+{
+    let length = statement_length(t, names, body, f.has_result(), f.saved.at_loop())?;
+    plus(plus(turn, length)?, 1)
 }
 
 /// The end of a `for`: back to its turn, if its condition is there and not zero, or always.

@@ -5,17 +5,17 @@ use Rattle.lower_comm.specs.Layouts.{layout}
 use Rattle.lower_stmt.proofs.LengthRows.{listed_length, block_length}
 use Rattle.lower_stmt.proofs.length.+statement_length.Goals as goal
 
-pub loop-inner-init : goal.loop-inner-init
-loop-inner-init t c = grind (arith, common_steps, block_length c.args.t.now (layout c.args.names.now) c.args.has_result c.args.saved c.in-Block.locals c.in-Block.statements)
+pub statement_length-loop-inner-init : goal.statement_length-loop-inner-init
+statement_length-loop-inner-init t c = grind (arith, common_steps, block_length c.args.t.now (layout c.args.names.now) c.args.has_result c.args.saved c.in-Block.locals c.in-Block.statements)
 
-pub loop-inner-preserved : goal.loop-inner-preserved
+pub statement_length-loop-inner-preserved : goal.statement_length-loop-inner-preserved
 unfolding listed_length
-loop-inner-preserved t c =
+statement_length-loop-inner-preserved t c =
     let below : c.loop-inner.inner-index < length c.deref-inner-items.result.now = omega arith in
     let more = at_drop_more (listed_length c.args.t.now (layout c.args.names.now) c.args.has_result c.args.saved) c.deref-inner-items.result.now c.loop-inner.inner-index c.inner-item.result below in
     let item = c.inner-item.is in
     grind (arith, common_steps, more, item)
 
-pub returns-after-loop-inner : goal.returns-after-loop-inner
+pub statement_length-returns-after-loop-inner : goal.statement_length-returns-after-loop-inner
 unfolding listed_length
-returns-after-loop-inner t c = grind (arith, common_steps)
+statement_length-returns-after-loop-inner t c = grind (arith, common_steps)
