@@ -1,8 +1,10 @@
 pub mod Answers
+pub mod Compiled
 pub mod Courses
 pub mod Faults
 pub mod Listings
 pub mod Modes
+pub mod Refusals
 pub mod Reported
 pub mod Reports
 pub mod Runs

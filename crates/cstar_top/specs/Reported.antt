@@ -7,6 +7,7 @@ use Rattle.paris_code.specs.declared.program.Image.{Image}
 use Rattle.paris_code.specs.Listing.{listing}
 use Rattle.paris_code.specs.Sound.{IsSound}
 use Rattle.cstar_top.specs.declared.answer.Answer.{Answer}
+use Rattle.cstar_top.specs.Compiled.{IsOfProgram}
 use Rattle.cstar_top.specs.Courses.{Reports, ReportsPart}
 use Rattle.cstar_top.specs.Modes.{AsksFor}
 
@@ -24,10 +25,11 @@ AsksToRun words = (mode : Mode) × AsksFor mode words × (runs_image mode ≡ tr
 abbrev pub IsWhole : ℕ → Type 0
 IsWhole status = (status ≡ 0) ⊎ ((status ≡ 1) ⊎ ((status ≡ 4) ⊎ (status ≡ 7)))
 
--- an image of a text of no more than 2^20 bytes keeps the image rules, and in mode asm the text is its listing
+-- An image of a text of no more than 2^20 bytes keeps the image rules. In mode asm the text is its
+-- listing, and else the image is what the compiler makes of a typed program.
 abbrev pub IsImageOf : Mode → List ℕ → Image → Type 0
 IsImageOf M.Asm text image = (length text ≤ 1048576) × IsSound image × (listing image ≡ text)
-IsImageOf _ text image = (length text ≤ 1048576) × IsSound image
+IsImageOf _ text image = (length text ≤ 1048576) × IsSound image × IsOfProgram image
 
 -- a sink took the report of an image of the text
 abbrev pub ReportsText : {O : Type 0} → (O → List ℕ → Type 0) → O → O → Option (List ℕ) → Option (List ℕ) → Options → List ℕ → Answer → Type 0

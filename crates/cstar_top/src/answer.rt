@@ -1,3 +1,5 @@
+//! What a command comes to, and its status.
+
 ghost use Rattle.std.specs.Prelude.{◌≡◌};
 ghost use Rattle.cstar_top.specs.Answers.{status_of};
 

@@ -1,11 +1,13 @@
 //! From a listing to a checked image.
 
-ghost use Rattle.std.specs.Prelude.{◌≡◌, ◌≤◌, IfOk, length};
+ghost use Rattle.std.specs.Prelude.{◌≡◌, ◌<◌, ◌≤◌, Err, IfOk, length};
 ghost use Rattle.paris_code.specs.Listing.{listing};
+ghost use Rattle.cstar_top.specs.declared.compile.NoImage.TheVariants as N;
+ghost use Rattle.cstar_top.specs.Refusals.{file_start};
 
-use crate::compile::{FILE_LIMIT, FILE_START, MOST_NUMBERED, NoImage, refused, too_long};
+use crate::compile::{FILE_LIMIT, FILE_START, NoImage, refused, too_long, verified};
 use cstar_base::Place;
-use image_check::{CheckErr, Sound, verify};
+use image_check::{CheckErr, Sound};
 use paris_asm::{AsmFault, read};
 use paris_code::{Image, ShapeBits};
 use std::alloc::Global;
@@ -32,6 +34,7 @@ const MOST_SLOTS: u32 = 67_108_864;
 pub fn assembled(alloc: Global, text: &[u8]) -> Result<Sound, NoImage>
     ensures listed { IfOk result (λ sound. listing sound ≡ text.now) }
     ensures within { IfOk result (λ sound. length text.now ≤ FILE_LIMIT) }
+    ensures too_long { FILE_LIMIT < length text.now → result ≡ Err (N.Refused 30 file_start) }
 {
     if text.len() > FILE_LIMIT as usize {
         return Err(too_long());
@@ -64,15 +67,12 @@ fn bits_of(shapes: &[ShapeBits]) -> u64 {
     total
 }
 
-/// The image with the proof that it keeps the image rules. Units or instructions past the numbers of
-/// 32 bits count as want of memory.
+/// The image with the proof that it keeps the image rules. A broken rule is refused at the line of
+/// its instruction.
 fn checked(alloc: Global, image: Image) -> Result<Sound, NoImage>
     ensures { IfOk result (λ sound. sound ≡ image) }
 {
-    if image.units.len() > MOST_NUMBERED || image.code.len() > MOST_NUMBERED {
-        return Err(NoImage::Memory);
-    }
-    match verify(alloc, image) {
+    match verified(alloc, image) {
         Ok(sound) => Ok(sound),
         Err(CheckErr::Bad { rule, at, image }) => {
             let place = Place {

@@ -1,4 +1,10 @@
-ghost use Rattle.std.specs.Prelude.{◌≤◌, IfOk, length, vec_len};
+//! From the text of a file to a checked image, or to its first fault.
+
+ghost use Rattle.std.specs.Prelude.{◌≡◌, ◌<◌, ◌≤◌, Err, IfOk, length, vec_len};
+ghost use Rattle.cstar_tree.specs.IsTyped.{IsTyped};
+ghost use Rattle.cstar_top.specs.declared.compile.NoImage.TheVariants as N;
+ghost use Rattle.cstar_top.specs.Compiled.{IsCompiled};
+ghost use Rattle.cstar_top.specs.Refusals.{file_start};
 
 use cstar_base::{Memory, Place};
 use cstar_lexer::{LexFault, lex};
@@ -23,8 +29,9 @@ const DEPTH: u8 = 27;
 const TOO_LONG: u8 = 30;
 
 /// How many units, and how many instructions, 32 bits can number.
-pub const MOST_NUMBERED: usize = u32::MAX as usize;
+const MOST_NUMBERED: usize = u32::MAX as usize;
 
+/// Where a fault of a whole file is told.
 pub const FILE_START: Place = Place { line: 1, col: 1 };
 
 /// Why there is no image of a file: it is refused for the fault of this number at this place, or
@@ -51,7 +58,9 @@ impl From<Memory> for NoImage {
 /// The typed program of a file's text. The first fault is that of the length, then of the words of
 /// the text, of the grammar, of the types, each over the whole file.
 pub fn accepted(alloc: Global, text: &[u8]) -> Result<TypedText, NoImage>
-    ensures { IfOk result (λ program. length text.now ≤ FILE_LIMIT) }
+    ensures within { IfOk result (λ program. length text.now ≤ FILE_LIMIT) }
+    ensures typed { IfOk result (λ program. IsTyped program.typed) }
+    ensures too_long { FILE_LIMIT < length text.now → result ≡ Err (N.Refused 30 file_start) }
 {
     if text.len() > FILE_LIMIT as usize {
         return Err(too_long());
@@ -64,22 +73,47 @@ pub fn accepted(alloc: Global, text: &[u8]) -> Result<TypedText, NoImage>
     })
 }
 
-/// The checked image of a typed program.
-pub fn compile(alloc: Global, typed: &Typed) -> Result<Sound, NoImage> {
-    sound_of(alloc, image_of(alloc, typed)?)
+/// The checked image of a typed program. That every image of the compiler keeps the image rules is
+/// not proved yet; one that did not would be refused as a form that is not built.
+pub fn compile(alloc: Global, typed: &Typed) -> Result<Sound, NoImage>
+    ensures { IfOk result (λ sound. IsCompiled typed.now sound) }
+{
+    match verified(alloc, image_of(alloc, typed)?) {
+        Ok(sound) => Ok(sound),
+        Err(CheckErr::Bad { .. }) => Err(not_built()),
+        Err(CheckErr::Memory { .. }) => Err(NoImage::Memory),
+    }
+}
+
+/// The image with the proof that it keeps the image rules, or its first fault. Units or instructions
+/// past the numbers of 32 bits count as want of memory.
+pub fn verified(alloc: Global, image: Image) -> Result<Sound, CheckErr>
+    ensures { IfOk result (λ sound. sound ≡ image) }
+{
+    if image.units.len() > MOST_NUMBERED || image.code.len() > MOST_NUMBERED {
+        return Err(CheckErr::Memory { image });
+    }
+    verify(alloc, image)
 }
 
 /// The refusal of a file that is too long.
-pub fn too_long() -> NoImage {
+pub fn too_long() -> NoImage
+    ensures { result ≡ N.Refused 30 file_start }
+{
     refused(TOO_LONG, FILE_START)
 }
 
 /// The refusal of a form that is not built yet.
-pub fn not_built() -> NoImage {
+pub fn not_built() -> NoImage
+    ensures { result ≡ N.Refused 0 file_start }
+{
     refused(NOT_BUILT, FILE_START)
 }
 
-pub fn refused(number: u8, place: Place) -> NoImage {
+/// The refusal of a file for the fault of this number at this place.
+pub fn refused(number: u8, place: Place) -> NoImage
+    ensures { result ≡ N.Refused number place }
+{
     NoImage::Refused { number, place }
 }
 
@@ -113,7 +147,9 @@ fn place_of(tokens: &Tokens, number: u32) -> Place {
     }
 }
 
-fn typed_of(alloc: Global, tree: &Tree) -> Result<Typed, NoImage> {
+fn typed_of(alloc: Global, tree: &Tree) -> Result<Typed, NoImage>
+    ensures { IfOk result IsTyped }
+{
     match check(alloc, tree) {
         Ok(typed) => Ok(typed),
         Err(TypeFault::Fault { number, place }) => Err(refused(number, place)),
@@ -121,22 +157,11 @@ fn typed_of(alloc: Global, tree: &Tree) -> Result<Typed, NoImage> {
     }
 }
 
-fn image_of(alloc: Global, typed: &Typed) -> Result<Image, NoImage> {
+/// The image of a typed program.
+fn image_of(alloc: Global, typed: &Typed) -> Result<Image, NoImage>
+    ensures { IfOk result (λ image. IsCompiled typed.now image) }
+{
     let program = lower_stmt::lower(alloc, typed)?;
     let placed = field_alloc::place(alloc, program)?;
     Ok(cstar_link::link(alloc, placed)?)
-}
-
-/// The image with the proof that it meets the image rules. That every image of the compiler meets
-/// them is not proved yet; one that did not would be refused as a form that is not built. Units or
-/// instructions past the numbers of 32 bits count as want of memory.
-fn sound_of(alloc: Global, image: Image) -> Result<Sound, NoImage> {
-    if image.units.len() > MOST_NUMBERED || image.code.len() > MOST_NUMBERED {
-        return Err(NoImage::Memory);
-    }
-    match verify(alloc, image) {
-        Ok(sound) => Ok(sound),
-        Err(CheckErr::Bad { .. }) => Err(not_built()),
-        Err(CheckErr::Memory { .. }) => Err(NoImage::Memory),
-    }
 }

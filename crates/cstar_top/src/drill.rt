@@ -1,3 +1,5 @@
+//! Mode drill: a program of a seed, run on no input, and a line on what it came to.
+
 ghost use Rattle.std.specs.Prelude.{◌≡◌, ◌≢◌};
 ghost use Rattle.cstar_io.specs.Faults.{RisesBy};
 ghost use Rattle.cstar_top.specs.declared.answer.Answer.TheVariants as A;

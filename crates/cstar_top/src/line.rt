@@ -1,3 +1,5 @@
+//! The line that an answer puts on the error output.
+
 ghost use Rattle.std.specs.Prelude.{◌≡◌, ◌<◌, ◌≤◌, IfOk, OnOk, ◌++◌, List, ℕ, decimal, codes};
 ghost use Rattle.cstar_top.specs.Answers.{line_of, at_place, at_position};
 ghost use Rattle.cstar_top.specs.Faults.{refusal_text, fault_text};

@@ -1,10 +1,11 @@
+//! A run of an image, and the listing, the final values and the count that go with it.
+
 ghost use Rattle.std.specs.Prelude.{◌≡◌, ◌≢◌, ◌++◌, ◌||◌, true, false, codes, decimal};
 ghost use Rattle.cstar_io.specs.Faults.{RisesBy};
 ghost use Rattle.cstar_io.specs.Output.{Takes, TakesNothing, TakesPrefix};
 ghost use Rattle.cstar_top.specs.declared.answer.Answer.TheVariants as A;
 ghost use Rattle.cstar_top.specs.Answers.{status_of};
 ghost use Rattle.cstar_top.specs.Courses.{Reports, ReportsPart, answer_to_end, closing, closing_text, steps_line, where_asked};
-ghost use Rattle.cstar_top.specs.Listings.{TakesListing, TakesPartOfListing};
 ghost use Rattle.cstar_top.specs.Runs.{IsEndOfRun};
 ghost use Rattle.final_values.specs.Finals.{finals_text};
 ghost use Rattle.paris_code.specs.Listing.{listing};
@@ -232,8 +233,8 @@ fn put_number<O: Sink>(steps: u64, out: &mut O) -> Result<(), Failed>
 
 /// Puts the listing of an image.
 pub fn list_image<O: Sink>(sound: &Sound, out: &mut O) -> Answer
-    ensures listed { status_of result ≢ 6 → TakesListing O.agrees out.old out.new }
-    ensures part { TakesPartOfListing O.agrees out.old out.new }
+    ensures listed { status_of result ≢ 6 → Takes O.agrees out.old out.new (listing sound.now) }
+    ensures part { TakesPrefix O.agrees out.old out.new (listing sound.now) }
     ensures end { IsEndOfRun result }
     ensures own { status_of result ≢ 6 → result ≡ A.Done }
     ensures write_fault { status_of result ≡ 6 → RisesBy (O.faults out.old) (O.faults out.new) }

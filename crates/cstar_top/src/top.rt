@@ -1,4 +1,6 @@
-ghost use Rattle.std.specs.Prelude.{◌≡◌, ◌≢◌, ◌≤◌, ℕ, List, true, false, ◌⊎◌, map, length, codes, IfOk};
+//! The command: its words, its file, and what they come to.
+
+ghost use Rattle.std.specs.Prelude.{◌≡◌, ◌≢◌, ◌<◌, ◌≤◌, ℕ, List, true, false, ◌⊎◌, Err, map, length, codes, IfOk};
 ghost use Rattle.std.specs.String.{string_bytes};
 ghost use Rattle.cstar_io.specs.Faults.{RisesBy};
 ghost use Rattle.cstar_io.specs.Output.{Takes, TakesNothing, TakesPrefix};
@@ -6,12 +8,15 @@ ghost use Rattle.cstar_words.specs.declared.options.Mode.TheVariants as M;
 ghost use Rattle.cstar_words.specs.Reading.{Reads, is_command, rows_in};
 ghost use Rattle.cstar_top.specs.declared.answer.Answer.{Answer};
 ghost use Rattle.cstar_top.specs.declared.answer.Answer.TheVariants as A;
+ghost use Rattle.cstar_top.specs.declared.compile.NoImage.TheVariants as N;
 ghost use Rattle.cstar_top.specs.Answers.{line_of, status_of, usage_line};
+ghost use Rattle.cstar_top.specs.Compiled.{IsOfProgram};
 ghost use Rattle.cstar_top.specs.Listings.{IsListing, TakesListing, TakesPartOfListing};
 ghost use Rattle.paris_code.specs.Listing.{listing};
 ghost use Rattle.cstar_top.specs.Modes.{AsksFor, HasBudget, LeavesInput, budget, leaves_input, named};
 ghost use Rattle.cstar_words.specs.declared.options.Options.{Options};
 ghost use Rattle.cstar_top.specs.Reported.{AsksToRun, Holds, IsWhole, ReportsText, ReportsTextPart, runs_image};
+ghost use Rattle.cstar_top.specs.Refusals.{AsksToRead, HoldsLong, RefusesLong, answer_to_none, file_start, reads_text};
 ghost use Rattle.cstar_top.specs.Reports.{CannotFetch, PutsAnswer, PutsPartOfAnswer};
 
 use crate::answer::Answer;
@@ -42,6 +47,8 @@ fn answer<S: Shelf, I: Source, O: Sink>(
     ensures refused { status_of result ≡ 3 → (out.new ≡ out.old) × (input.new ≡ input.old) }
     ensures unreadable { status_of result ≡ 5 → (result ≡ A.CannotRead) × (out.new ≡ out.old) × (input.new ≡ input.old)
         × CannotFetch S.faults S.last_failed shelf.old shelf.new options.now.file.now }
+    ensures too_long { reads_text options.now.mode ≡ true → HoldsLong S.tells S.file shelf.old options.now.file.now
+        → (result ≡ A.Refused 30 file_start) ⊎ ((status_of result ≡ 5) ⊎ (status_of result ≡ 8)) }
     ensures stopped { status_of result ≡ 4 → result ≡ A.Stopped (budget options.now.mode options.now.turns) }
     ensures listed { options.now.mode ≡ M.List → status_of result ≡ 0 → TakesListing O.agrees out.old out.new }
     ensures part { options.now.mode ≡ M.List → TakesPartOfListing O.agrees out.old out.new }
@@ -73,7 +80,8 @@ fn answer<S: Shelf, I: Source, O: Sink>(
 
 /// The greatest length of a file.
 fn limit(mode: Mode) -> u32
-    ensures { runs_image mode ≡ true → result ≡ 1048576 }
+    ensures run { runs_image mode ≡ true → result ≡ 1048576 }
+    ensures text { reads_text mode ≡ true → result ≡ 1048576 }
 {
     match mode {
         Mode::Resume => POINT_LIMIT,
@@ -92,6 +100,7 @@ fn answer_to<I: Source, O: Sink>(
     ensures named { status_of result ≢ 2 }
     ensures readable { status_of result ≢ 5 }
     ensures refused { status_of result ≡ 3 → (out.new ≡ out.old) × (input.new ≡ input.old) }
+    ensures too_long { reads_text options.now.mode ≡ true → 1048576 < length text.now → result ≡ A.Refused 30 file_start }
     ensures stopped { status_of result ≡ 4 → (options.now.mode ≢ M.Drill) × (result ≡ A.Stopped options.now.turns) }
     ensures listed { options.now.mode ≡ M.List → status_of result ≡ 0 → TakesListing O.agrees out.old out.new }
     ensures part { options.now.mode ≡ M.List → TakesPartOfListing O.agrees out.old out.new }
@@ -135,14 +144,19 @@ fn answer_to<I: Source, O: Sink>(
 }
 
 /// The image of a program.
-fn compiled(alloc: Global, text: &[u8]) -> Result<Sound, NoImage> {
+fn compiled(alloc: Global, text: &[u8]) -> Result<Sound, NoImage>
+    ensures compiled { IfOk result (λ sound. IsOfProgram sound) }
+    ensures too_long { FILE_LIMIT < length text.now → result ≡ Err (N.Refused 30 file_start) }
+{
     let program = accepted(alloc, text)?;
     compile(alloc, &program.typed)
 }
 
 /// The image of a program that is to be run. A run that is to be saved is not built yet.
 fn runnable(alloc: Global, options: &Options, text: &[u8]) -> Result<Sound, NoImage>
-    ensures { IfOk result (λ sound. length text.now ≤ FILE_LIMIT) }
+    ensures compiled { IfOk result (λ sound. IsOfProgram sound) }
+    ensures within { IfOk result (λ sound. length text.now ≤ FILE_LIMIT) }
+    ensures too_long { FILE_LIMIT < length text.now → result ≡ Err (N.Refused 30 file_start) }
 {
     let program = accepted(alloc, text)?;
     if options.save.is_some() {
@@ -155,6 +169,7 @@ fn runnable(alloc: Global, options: &Options, text: &[u8]) -> Result<Sound, NoIm
 fn runnable_listing(alloc: Global, options: &Options, text: &[u8]) -> Result<Sound, NoImage>
     ensures listed { IfOk result (λ sound. listing sound ≡ text.now) }
     ensures within { IfOk result (λ sound. length text.now ≤ FILE_LIMIT) }
+    ensures too_long { FILE_LIMIT < length text.now → result ≡ Err (N.Refused 30 file_start) }
 {
     let sound = assembled(alloc, text)?;
     if options.save.is_some() {
@@ -163,8 +178,10 @@ fn runnable_listing(alloc: Global, options: &Options, text: &[u8]) -> Result<Sou
     Ok(sound)
 }
 
+/// The answer where there is no image.
 fn refusal(no_image: NoImage) -> Answer
-    ensures { (status_of result ≡ 3) ⊎ (status_of result ≡ 8) }
+    ensures own { result ≡ answer_to_none no_image }
+    ensures status { (status_of result ≡ 3) ⊎ (status_of result ≡ 8) }
 {
     match no_image {
         NoImage::Refused { number, place } => Answer::Refused { number, place },
@@ -181,6 +198,8 @@ fn refusal(no_image: NoImage) -> Answer
 /// - 5 the shelf failed to fetch the file;
 /// - 6 an output failed, and nothing more was put; 7 the input failed;
 /// - 8 there was no memory.
+///
+/// This edition runs on one thread: `rt`, `gate` and the option `--workers` have no effect yet.
 #[tactic(auto, unfolding(crate::specs::Answers::line_of))]
 pub fn cstar<R: Threads + Sync, S: Shelf, I: Source, O: Sink, E: Sink, G: Gate + Sync>(
     rt: &R,
@@ -197,6 +216,9 @@ pub fn cstar<R: Threads + Sync, S: Shelf, I: Source, O: Sink, E: Sink, G: Gate +
     ensures usage { result ≡ 2 → (is_command (map string_bytes words.now) ≡ false)
         × (out.new ≡ out.old) × (input.new ≡ input.old) × Takes E.agrees err.old err.new usage_line }
     ensures refused { result ≡ 3 → (out.new ≡ out.old) × (input.new ≡ input.old) }
+    ensures too_long { is_command (map string_bytes words.now) ≡ true → AsksToRead (map string_bytes words.now)
+        → HoldsLong S.tells S.file shelf.old (named (map string_bytes words.now))
+        → RefusesLong E.agrees err.old err.new (named (map string_bytes words.now)) result }
     ensures stopped { result ≡ 4 → (turns : ℕ) × HasBudget (map string_bytes words.now) turns
         × Takes E.agrees err.old err.new (line_of (named (map string_bytes words.now)) (A.Stopped turns)) }
     ensures unreadable { result ≡ 5 → (out.new ≡ out.old) × (input.new ≡ input.old)

@@ -6,7 +6,16 @@ use Rattle.cstar_top.specs.Reported.{IsImageOf}
 use Rattle.cstar_top.proofs.top.answer_to.Goals as goal
 
 pub returns-in-Ok-compiled-clause-listed : goal.returns-in-Ok-compiled-clause-listed
-returns-in-Ok-compiled-clause-listed g c asks none = c.list_image.ensures.listed (λ six. omega arith)
+returns-in-Ok-compiled-clause-listed g c asks none =
+    let image = c.in-Ok-compiled.sound in
+    let sound : IsSound image = subst (λ (i : Image). IsSound i) c.sound-in-Ok-compiled.view_is c.sound-in-Ok-compiled.invariant.0 in
+    (image, sound, c.in-Ok-compiled.ensures.compiled, c.list_image.ensures.listed (λ six. omega arith))
+
+pub returns-in-Ok-compiled-clause-part : goal.returns-in-Ok-compiled-clause-part
+returns-in-Ok-compiled-clause-part g c asks =
+    let image = c.in-Ok-compiled.sound in
+    let sound : IsSound image = subst (λ (i : Image). IsSound i) c.sound-in-Ok-compiled.view_is c.sound-in-Ok-compiled.invariant.0 in
+    inr (image, sound, c.in-Ok-compiled.ensures.compiled, c.list_image.ensures.part)
 
 pub returns-in-Ok-runnable_listing-clause-assembled : goal.returns-in-Ok-runnable_listing-clause-assembled
 returns-in-Ok-runnable_listing-clause-assembled g c asks other more =
@@ -32,12 +41,12 @@ pub returns-in-Ok-clause-report : goal.returns-in-Ok-clause-report
 returns-in-Ok-clause-report g c runs three six eight =
     let image = c.in-Ok.sound in
     let sound : IsSound image = subst (λ (i : Image). IsSound i) c.sound.view_is c.sound.invariant.0 in
-    let is = subst (λ (mode : Mode). IsImageOf mode c.args.text.now image) (sym c.in-Run.is) (c.in-Ok.ensures, sound) in
+    let is = subst (λ (mode : Mode). IsImageOf mode c.args.text.now image) (sym c.in-Run.is) (c.in-Ok.ensures.within, sound, c.in-Ok.ensures.compiled) in
     (image, is, c.run_image.ensures.report six eight)
 
 pub returns-in-Ok-clause-part_of_report : goal.returns-in-Ok-clause-part_of_report
 returns-in-Ok-clause-part_of_report g c runs =
     let image = c.in-Ok.sound in
     let sound : IsSound image = subst (λ (i : Image). IsSound i) c.sound.view_is c.sound.invariant.0 in
-    let is = subst (λ (mode : Mode). IsImageOf mode c.args.text.now image) (sym c.in-Run.is) (c.in-Ok.ensures, sound) in
+    let is = subst (λ (mode : Mode). IsImageOf mode c.args.text.now image) (sym c.in-Run.is) (c.in-Ok.ensures.within, sound, c.in-Ok.ensures.compiled) in
     inr (image, is, c.run_image.ensures.part)

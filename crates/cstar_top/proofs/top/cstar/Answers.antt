@@ -6,9 +6,11 @@ use Rattle.cstar_top.specs.declared.answer.Answer.{Answer}
 use Rattle.cstar_top.specs.declared.answer.Answer.TheVariants as A
 use Rattle.cstar_top.specs.Answers.{line_of, status_of, usage_line}
 use Rattle.cstar_top.specs.Modes.{budget, leaves_input, named}
+use Rattle.cstar_top.specs.Refusals.{HoldsLong, RefusesLong, reads_text}
 use Rattle.cstar_top.specs.Reported.{runs_image}
 use Rattle.cstar_top.proofs.Lines.{part_of_either, status_is}
 use Rattle.cstar_top.proofs.Listings.{nothing_taken}
+use Rattle.cstar_top.proofs.Refusals.{refused_long}
 use Rattle.cstar_top.proofs.Reported.{calm_is, whole_is, whole_not}
 use Rattle.cstar_top.proofs.top.cstar.Goals as goal
 
@@ -99,3 +101,14 @@ pub returns-in-Ok-clause-calm : goal.returns-in-Ok-clause-calm
 returns-in-Ok-clause-calm g c below =
     let same = calm_is c.report.result (status_of c.answer-answer.result) below c.report.ensures.status in
     (c.answer-answer.ensures.input_count (λ six. omega arith) (λ seven. omega arith), c.answer-answer.ensures.shelf_count (λ five. omega arith))
+
+pub returns-in-Ok-clause-too_long : goal.returns-in-Ok-clause-too_long
+returns-in-Ok-clause-too_long g c command asks long =
+    let words = map string_bytes c.args.words.now in
+    let options = c.in-Ok.options in
+    let name = named_is words options c.in-Ok.ensures.reads in
+    let mode = ap reads_text (mode_is words options asks.0 c.in-Ok.ensures.reads asks.1) ∙ asks.2 in
+    let told = subst (λ (file : List ℕ). HoldsLong g.S.Shelf.tells g.S.Shelf.file c.args.shelf.now file) name long in
+    let refused = c.answer-answer.ensures.too_long mode told in
+    subst (λ (file : List ℕ). RefusesLong g.E.Sink.agrees c.args.err.now c.report.new.err file c.report.result) (c.as_bytes.ensures.value ∙ sym name)
+    (refused_long g.E.Sink.agrees c.args.err.now c.report.new.err c.as_bytes.result.now c.report.result c.answer-answer.result refused c.report.ensures.status c.report.ensures.own)

@@ -1,0 +1,29 @@
+-- What the command says of a file that is too long.
+use Rattle.std.proofs.Common.{◌≡◌, ◌≢◌, ◌<◌, ◌∙◌, ℕ, ◌+◌, List, [], length, take, Option, Some, ◌⊎◌, inl, inr, ap, sym, subst, arith}
+use Rattle.std.proofs.lemmas.List.{length-take-le}
+use Rattle.std.specs.Prelude.{option_map, unwrap_or}
+use Rattle.cstar_io.specs.Output.{Takes}
+use Rattle.cstar_top.specs.declared.answer.Answer.{Answer}
+use Rattle.cstar_top.specs.declared.answer.Answer.TheVariants as A
+use Rattle.cstar_top.specs.Answers.{line_of, status_of}
+use Rattle.cstar_top.specs.Refusals.{RefusesLong, file_start}
+
+-- the report of the answer to a file that is too long, or that could not be read
+pub refused_long : {E : Type 0} (agrees : E → List ℕ → Type 0) (s t : E) (file : List ℕ) (r : ℕ) (answer : Answer) → (answer ≡ A.Refused 30 file_start) ⊎ ((status_of answer ≡ 5) ⊎ (status_of answer ≡ 8)) → (r ≡ status_of answer) ⊎ ((r ≡ 6) ⊎ (r ≡ 8)) → (r ≡ status_of answer → r ≢ 6 → r ≢ 8 → Takes agrees s t (line_of file answer)) → RefusesLong agrees s t file r
+refused_long agrees s t file r answer is (inr (inl six)) own = inr (inr (inl six))
+refused_long agrees s t file r answer is (inr (inr eight)) own = inr (inr (inr eight))
+refused_long agrees s t file r answer (inr (inl five)) (inl same) own = inr (inl (same ∙ five))
+refused_long agrees s t file r answer (inr (inr eight)) (inl same) own = inr (inr (inr (same ∙ eight)))
+refused_long agrees s t file r answer (inl long) (inl same) own =
+    let three : r ≡ 3 = same ∙ ap status_of long in
+    inl (three, subst (λ (a : Answer). Takes agrees s t (line_of file a)) long (own same (λ six. omega arith) (λ eight. omega arith)))
+
+-- what is fetched of a text that is too long is too long
+pub cut_is_long : (limit : ℕ) (held : Option (List ℕ)) (text bytes other : List ℕ) → limit ≡ 1048576 → held ≡ Some text → option_map (take (limit + 1)) held ≡ Some bytes → 1048576 < length text → other ≡ bytes → 1048576 < length other
+cut_is_long limit held text bytes other at is cut long same =
+    let told : option_map (take (limit + 1)) (Some text) ≡ Some bytes = subst (λ (h : Option (List ℕ)). option_map (take (limit + 1)) h ≡ Some bytes) is cut in
+    let taken : take (limit + 1) text ≡ bytes = ap (λ (o : Option (List ℕ)). unwrap_or o []) told in
+    let size : length (take (limit + 1) text) ≡ limit + 1 = length-take-le (limit + 1) text (omega arith) in
+    let count : length bytes ≡ limit + 1 = sym (ap (λ (xs : List ℕ). length xs) taken) ∙ size in
+    let all : length other ≡ length bytes = ap (λ (xs : List ℕ). length xs) same in
+    omega arith
