@@ -24,17 +24,17 @@ fn words<R: Env + AllocGlobal>(rt: &R) -> io::Result<Vec<String>> {
     Ok(args.collect(rt.alloc())?)
 }
 
-/// The status of the command on these words. Where both the input and the output are terminals,
-/// output is sent on at once.
+/// The status of the command on these words. Where the input is a terminal, output is sent on at
+/// once.
 fn status<R, I, O, E>(rt: &R, words: &[String], input: I, out: O, err: E) -> u8
 where
     R: Files + AllocGlobal + Threads + Sync,
     I: Read + IsTerminal + Drop,
-    O: Write + IsTerminal + Drop,
+    O: Write + Drop,
     E: Write + Drop,
 {
     let alloc = rt.alloc();
-    let is_dialogue = input.is_terminal() && out.is_terminal();
+    let is_typed = input.is_terminal();
     let (Ok(mut input), Ok(out), Ok(mut err)) = (
         RealSource::new(alloc, input),
         RealSink::new(alloc, out),
@@ -42,7 +42,7 @@ where
     ) else {
         return NO_MEMORY;
     };
-    let mut out = Prompt::new(out, is_dialogue);
+    let mut out = Prompt::new(out, is_typed);
     let mut shelf = RealShelf::new(rt, alloc);
     cstar_top::cstar(
         rt, alloc, words, &mut shelf, &mut input, &mut out, &mut err, &Open,

@@ -1,13 +1,11 @@
-//! The output towards a person who types the input.
-
 ghost use Rattle.std.specs.Prelude.{◌≡◌, OnOk, OnErr};
 ghost use Rattle.cstar_io.specs.Faults.{RisesBy};
 ghost use Rattle.cstar_io.specs.Output.{Takes, TakesPrefix, TakesNothing};
 
 use cstar_io::{Failed, Sink};
 
-/// A sink that sends on what it is given at once, where a person reads the output and types the
-/// input: so a prompt is seen before an answer to it is waited for.
+/// A sink that sends on what it is given at once, where a person types the input: so a prompt is
+/// seen before an answer to it is waited for.
 #[derive(Drop)]
 pub struct Prompt<S: Sink> {
     sink: S,
@@ -15,7 +13,6 @@ pub struct Prompt<S: Sink> {
 }
 
 impl<S: Sink> Prompt<S> {
-    /// The output over this sink, which sends on each piece at once or lets the sink gather.
     pub fn new(sink: S, at_once: bool) -> Prompt<S>
     where
         S: Drop,
