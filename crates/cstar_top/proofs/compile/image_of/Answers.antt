@@ -8,7 +8,7 @@ returns c =
     record {
       before = c.in_ok-program.program;
       after = c.in_ok-placed.placed;
-      lowered = record { free = _; units = lowered.units; slots = lowered.slots; depth = lowered.depth; shapes = lowered.shapes; finals = lowered.finals };
+      lowered = record { units = lowered.units; slots = lowered.slots; depth = lowered.depth; shapes = lowered.shapes; finals = lowered.finals };
       placed = record { placed = placed.placed; shapes = placed.shapes; slots = placed.slots; depth = placed.depth };
       linked = record { code = linked.code; units = linked.units; shapes = linked.shapes; slots = linked.slots; depth = linked.depth; finals = linked.finals };
     }
