@@ -1,5 +1,5 @@
 -- A whole program: what each unit, each set and each final variable is.
-use Rattle.std.specs.Prelude.{ℕ, zero, suc, ◌+◌, ◌==◌, Bool, true, false, List, [], ◌∷◌, ◌++◌, Option, Some, None, if◌then◌else◌, decimal}
+use Rattle.std.specs.Prelude.{ℕ, zero, suc, ◌+◌, ◌==◌, Bool, true, false, List, [], ◌∷◌, ◌++◌, length, Option, Some, None, if◌then◌else◌, decimal}
 use Rattle.cstar_tree.specs.declared.typed.Instance.{Instance}
 use Rattle.cstar_tree.specs.declared.typed.ShapeInfo.{ShapeInfo}
 use Rattle.cstar_tree.specs.declared.typed.Typed.{Typed}
@@ -10,8 +10,7 @@ use Rattle.paris_code.specs.declared.operands.Konst.TheVariants as K
 use Rattle.paris_code.specs.declared.program.Final.{Final}
 use Rattle.paris_code.specs.declared.program.Owner.TheVariants as W
 use Rattle.paris_code.specs.declared.program.ShapeBits.{ShapeBits}
-use Rattle.paris_code.specs.declared.program.Unit as U
-use Rattle.lower_comm.specs.Drafts.{Draft, draft, Made, Makes, Fails, then_make, with_instr, an_entry}
+use Rattle.lower_comm.specs.Drafts.{Draft, Made, Makes, Fails, then_make, with_instr, an_entry}
 use Rattle.lower_comm.specs.Layouts.{Layout, layout_of, entries_of, register_of, field_of}
 use Rattle.lower_stmt.specs.declared.statement.Frame.{Frame}
 use Rattle.lower_stmt.specs.declared.statement.Outcome.{Outcome}
@@ -19,9 +18,9 @@ use Rattle.lower_stmt.specs.declared.statement.Outcome.TheVariants as R
 use Rattle.lower_stmt.specs.Frames.{with_end}
 use Rattle.lower_stmt.specs.Statements.{statement_of}
 
--- a unit that has nothing yet, whose registers begin here
-unfoldable pub blank : ℕ → Draft
-blank regs = record { code = []; regs = regs; fields = []; homes = [] }
+-- a unit that has nothing yet but its name, whose registers begin here
+unfoldable pub blank : List ℕ → ℕ → Draft
+blank name regs = record { name = name; code = []; regs = regs; fields = []; homes = [] }
 
 -- a parallel parameter or result has a field of its own
 unfoldable pub own_field_of : VarInfo → Draft → Made (Unit {0})
@@ -85,34 +84,31 @@ body_frame is_main instance = record {
 -- the unit of an instance
 unfoldable pub unit_of : Typed → Layout → Bool → ℕ → Instance → Made (Unit {0})
 unit_of t l is_main regs instance =
-    then_make (own_fields_of instance.params.items (blank regs)) (λ _ d. then_make (own_result_of instance.result d)
+    then_make (own_fields_of instance.params.items (blank instance.name regs)) (λ _ d. then_make (own_result_of instance.result d)
     (λ _ ready. then_make (begun t l is_main ready) (λ _ start. then_make (statement_of t l instance.body (body_frame is_main instance) [] 0 start)
     (λ _ end. Makes tt (with_end is_main end)))))
 
--- a unit by its name
-pub record Named : Type 0 where
-  pub name : List ℕ
-  pub content : Draft
-
-unfoldable pub named : U.Unit → Named
-named u = record { name = u.name; content = draft u }
-
--- a unit of this name, and those that come behind it
-unfoldable pub joined : Made (Unit {0}) → List ℕ → (Draft → List Named) → List Named
-joined (Makes _ d) name rest = record { name = name; content = d } ∷ rest d
-joined Fails name rest = []
+-- a unit, and those that come behind it
+unfoldable pub joined : Made (Unit {0}) → (Draft → List Draft) → List Draft
+joined (Makes _ d) rest = d ∷ rest d
+joined Fails rest = []
 
 -- The units of instances, from a number and a register on. The first is `main`. The registers of
 -- a unit begin behind those of the one before.
-unfoldable pub units_of : Typed → List Instance → ℕ → ℕ → List Named
+unfoldable pub units_of : Typed → List Instance → ℕ → ℕ → List Draft
 units_of t [] number regs = []
 units_of t (instance ∷ instances) number regs =
-    joined (unit_of t (layout_of t number) (number == 0) regs instance) instance.name (λ d. units_of t instances (number + 1) d.regs)
+    joined (unit_of t (layout_of t number) (number == 0) regs instance) (λ d. units_of t instances (number + 1) d.regs)
 
 -- the first register behind units
-unfoldable pub slots_behind : ℕ → List Named → ℕ
+unfoldable pub slots_behind : ℕ → List Draft → ℕ
 slots_behind regs [] = regs
-slots_behind regs (u ∷ units) = slots_behind u.content.regs units
+slots_behind regs (u ∷ units) = slots_behind u.regs units
+
+-- how many instructions units have together
+unfoldable pub instructions_in : List Draft → ℕ
+instructions_in [] = 0
+instructions_in (u ∷ units) = length u.code + instructions_in units
 
 -- a set: the extents of its shape, and the bits of each processor
 pub record Space : Type 0 where

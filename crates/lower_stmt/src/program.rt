@@ -3,34 +3,43 @@
 ghost use Rattle.std.specs.Prelude.{◌≡◌, ◌+◌, ◌-◌, ◌++◌, length, map, IfOk, OnOk};
 ghost use Rattle.lower_comm.specs.Drafts.{Makes, draft};
 ghost use Rattle.lower_comm.specs.Layouts.{layout, layout_of, entries_of};
-ghost use Rattle.lower_stmt.specs.Programs.{begun, blank, elements_begun, element_finals, final_name_of, finals_of, named, outcome_of, own_field_of, own_fields_of, own_result_of, slots_behind, space, spaces_of, start_value_of, start_values_of, unit_of, units_of, variable_finals};
+ghost use Rattle.lower_stmt.specs.Programs.{begun, blank, elements_begun, element_finals, final_name_of, finals_of, outcome_of, own_field_of, own_fields_of, own_result_of, slots_behind, space, spaces_of, start_value_of, start_values_of, unit_of, units_of, variable_finals};
 
 use crate::length::Saved;
 use crate::statement::{Frame, Outcome, Progress, leave, statement};
 use cstar_base::{Memory, Word};
 use cstar_tree::typed::{Instance, Typed, VarInfo, Variable};
 use itoa::Buffer;
-use lower_comm::emit::{entry, plus, put};
-use lower_comm::names::{Names, count, entries_of};
+use lower_comm::emit::{count, entry, plus, put};
+use lower_comm::names::{Names, entries_of};
 use paris_code::{Field, Final, Instr, Konst, Owner, Program, ShapeBits, Unit};
 use std::alloc::Global;
 
-/// The program that means what the typed program does, over virtual fields.
+/// The program over virtual fields that `specs/Programs` describes: a unit for each instance, `main`
+/// first, whose registers begin behind those of the unit before it; for each shape a set, of as many
+/// bits as the typed program needs there; and as finals the parallel variables of the file.
+///
+/// `Memory` comes where memory ends, where a count, the place that a jump leads to, or the number of
+/// a register or a field would be 2^32 or more, where all units have as many instructions together,
+/// and where the tree is not what typing makes, as one with a shape whose need is not known.
 #[tactic(auto, unfolding(crate::specs::Programs::units_of))]
 pub fn lower(alloc: Global, t: &Typed) -> Result<Program, Memory>
-    ensures units { IfOk result (λ program. map named program.units.items ≡ units_of t.now t.now.instances.items 0 (layout_of t.now 0).end) }
-    ensures slots { IfOk result (λ program. program.slots ≡ slots_behind (layout_of t.now 0).end (map named program.units.items)) }
+    ensures units { IfOk result (λ program. map draft program.units.items ≡ units_of t.now t.now.instances.items 0 (layout_of t.now 0).end) }
+    ensures slots { IfOk result (λ program. program.slots ≡ slots_behind (layout_of t.now 0).end (map draft program.units.items)) }
     ensures depth { IfOk result (λ program. program.depth ≡ length t.now.instances.items - 1) }
     ensures shapes { IfOk result (λ program. map space program.shapes.items ≡ spaces_of t.now.shapes.items t.now.need.items) }
+    ensures each_shape { IfOk result (λ program. length program.shapes.items ≡ length t.now.shapes.items) }
     ensures finals { IfOk result (λ program. program.finals.items ≡ finals_of t.now.vars.items 0) }
 {
     let mut names = Names::of(alloc, t)?;
     let mut units: Vec<Unit> = Vec::new(alloc);
     let mut slots = names.end;
+    let mut instructions = 0;
     for (number, instance) in t.instances.iter().enumerate() {
         names.enter(t, number)?;
         let unit = lower_unit(alloc, t, &names, instance, number == 0, slots)?;
         slots = unit.regs;
+        instructions = plus(instructions, count(unit.code.len())?)?;
         units.push(unit)?;
     }
     Ok(Program {
@@ -52,7 +61,6 @@ fn lower_unit(
     is_main: bool,
     regs: u32,
 ) -> Result<Unit, Memory>
-    ensures name { IfOk result (λ unit. unit.name ≡ instance.now.name) }
     ensures draft { IfOk result (λ unit. unit_of t.now (layout names.now) is_main regs instance.now ≡ Makes tt (draft unit)) }
 {
     let mut unit = blank(alloc, &instance.name, regs)?;
@@ -83,24 +91,13 @@ fn lower_unit(
         &mut unit,
     )?;
     leave(is_main, &mut unit)?;
-    Ok(called(unit, instance.name.copied(alloc)?))
+    Ok(unit)
 }
 
-/// The unit with this name, as it had already: what its steps say is of its content alone.
-#[tactic(auto, unfolding(lower_comm::specs::Drafts::draft))]
-fn called(mut unit: Unit, name: Word) -> Unit
-    ensures name { result.name ≡ name }
-    ensures draft { draft result ≡ draft unit }
-{
-    unit.name = name;
-    unit
-}
-
-/// A unit that has nothing yet.
+/// A unit that has nothing yet but its name.
 #[tactic(auto, unfolding(crate::specs::Programs::blank, lower_comm::specs::Drafts::draft))]
 fn blank(alloc: Global, name: &Word, regs: u32) -> Result<Unit, Memory>
-    ensures name { IfOk result (λ unit. unit.name ≡ name.now) }
-    ensures draft { IfOk result (λ unit. draft unit ≡ blank regs) }
+    ensures draft { IfOk result (λ unit. draft unit ≡ blank name.now regs) }
 {
     Ok(Unit {
         name: name.copied(alloc)?,
@@ -246,15 +243,17 @@ fn begin_elements(
     Ok(())
 }
 
-/// The sets: the extents of each shape, and its room.
+/// The sets: the extents of each shape, and its room in bits. `Memory` where the room of a shape is
+/// not known.
 #[tactic(auto, using(std::proofs::lemmas::List::drop_more), unfolding(crate::specs::Programs::spaces_of, crate::specs::Programs::space))]
 fn shapes(alloc: Global, t: &Typed) -> Result<Vec<ShapeBits>, Memory>
-    ensures { IfOk result (λ shapes. map space shapes.items ≡ spaces_of t.now.shapes.items t.now.need.items) }
+    ensures spaces { IfOk result (λ shapes. map space shapes.items ≡ spaces_of t.now.shapes.items t.now.need.items) }
+    ensures count { IfOk result (λ shapes. length shapes.items ≡ length t.now.shapes.items) }
 {
     let mut shapes = Vec::new(alloc);
     for (number, shape) in t.shapes.iter().enumerate() {
         let Some(need) = t.need.get(number) else {
-            return Ok(shapes);
+            return Err(Memory);
         };
         let extents = Vec::from_slice(alloc, shape.extents.as_slice())?;
         shapes.push(ShapeBits {

@@ -3,17 +3,17 @@ use Rattle.std.proofs.lemmas.Grind.{common_steps}
 use Rattle.std.proofs.lemmas.List.{at_drop_more}
 use Rattle.lower_comm.specs.Drafts.{Makes, draft}
 use Rattle.lower_comm.specs.Layouts.{Layout, layout, layout_of}
-use Rattle.lower_stmt.specs.Programs.{slots_behind, unit_of, units_of}
-use Rattle.lower_stmt.proofs.UnitsPushed.{first_unit, one_more_unit, slots_more}
+use Rattle.lower_stmt.specs.Programs.{instructions_in, slots_behind, unit_of, units_of}
+use Rattle.lower_stmt.proofs.UnitsPushed.{first_unit, instructions_more, one_more_unit, slots_more}
 use Rattle.lower_stmt.proofs.program.lower.Goals as goal
 
 pub loop-number-init : goal.loop-number-init
-unfolding layout slots_behind
+unfolding layout slots_behind instructions_in
 loop-number-init c =
     let same : layout c.in_ok-names.names ≡ layout_of c.args.t.now 0 = c.in_ok-names.ensures in
     let end : c.in_ok-names.names.end ≡ (layout_of c.args.t.now 0).end = ap (λ (l : Layout). l.end) same in
     let none = c.new-units.ensures.items in
-    record { known = (0, same); units = grind (arith, common_steps, end, none); slots = grind (arith, common_steps, end, none) }
+    record { known = (0, same); units = grind (arith, common_steps, end, none); slots = grind (arith, common_steps, end, none); instructions = grind (arith, common_steps, none) }
 
 pub loop-number-preserved : goal.loop-number-preserved
 loop-number-preserved c =
@@ -30,13 +30,14 @@ loop-number-preserved c =
     in
     let first =
     first_unit c.args.t.now c.instance-item.result (drop (c.loop-number.number + 1) c.deref-instance-items.result.now) c.loop-number.number
-    c.loop-number.slots c.in_ok-unit.unit c.in_ok-unit.ensures.name made
+    c.loop-number.slots c.in_ok-unit.unit made
     in
     let pushed =
     one_more_unit c.loop-number.units.items c.in_ok-unit.unit
     (units_of c.args.t.now (drop (c.loop-number.number + 1) c.deref-instance-items.result.now) (c.loop-number.number + 1) c.in_ok-unit.unit.regs)
     in
     let slots = slots_more (layout_of c.args.t.now 0).end c.loop-number.units.items c.in_ok-unit.unit in
+    let instructions = instructions_more c.loop-number.units.items c.in_ok-unit.unit in
     let items = c.in_ok-push.ensures.items in
     let item = c.instance-item.is in
     let so_far = c.loop-number.invariant.units in
@@ -44,4 +45,5 @@ loop-number-preserved c =
       known = (c.loop-number.number, seen);
       units = cc (more, first, pushed, items, item, so_far);
       slots = cc (slots, items);
+      instructions = grind (arith, common_steps, instructions, items);
     }
