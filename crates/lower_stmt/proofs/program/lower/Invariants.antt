@@ -1,4 +1,4 @@
-use Rattle.std.proofs.Common.{◌≡◌, ℕ, ◌++◌, drop, map}
+use Rattle.std.proofs.Common.{◌≡◌, ℕ, ◌<◌, ◌^◌, ◌++◌, drop, map}
 use Rattle.lower_comm.specs.Drafts.{draft}
 use Rattle.lower_comm.specs.Layouts.{layout, layout_of}
 use Rattle.lower_stmt.specs.Programs.{instructions_in, slots_behind, units_of}
@@ -14,4 +14,5 @@ invariant-loop-number l = record {
       ≡ units_of l.t l.t.instances.items 0 (layout_of l.t 0).end;
   slots : l.slots ≡ slots_behind (layout_of l.t 0).end (map draft l.units.items);
   instructions : l.instructions ≡ instructions_in (map draft l.units.items);
+  numbered : l.instructions < 2 ^ 32;
 }
