@@ -41,14 +41,6 @@ claimed_pass v n last next number done p t is_claim =
     })
     t
 
-pub missed_pass : (v : View) (n : ℕ) (last : Option Held) (next number : Option ℕ) (done : ℕ) → IsPass v last next number done → IsTold (claimed_view n v) → claims_of v.slots ≤ n
-    → IsPass (claimed_view n v) last next (Some n) done
-missed_pass v n last next number done p t no_claim =
-    let e : with_miss n v.worker ≡ drawn (claims_of v.slots) n v.worker = sym (cond-false (nat_lt n (claims_of v.slots)) _ _ (le-ltb n (claims_of v.slots) no_claim)) in
-    subst (λ (w : Worker). IsTold (view_with v w) → IsPass (view_with v w) last next (Some n) done) e
-    (λ told. record { live = p.live; last_is = p.last_is; next_is = p.next_is; number_is = refl; done_is = p.done_is; told = told })
-    t
-
 pub delivered_pass : (v : View) (h : Held) (i : ℕ) (last : Option Held) (next number : Option ℕ) (done : ℕ) → IsPass v last next number done → v.worker.last ≡ Some h → next_in v.slots h ≡ Some i
     → IsTold (view_with v (passed_to i v.worker))
     → IsPass (view_with v (passed_to i v.worker)) (Some (held h.claim (i + 1 - 512 * h.claim))) (next_in v.slots (held h.claim (i + 1 - 512 * h.claim))) number (done + done_claim v.slots h.claim (i + 1 - 512 * h.claim))
@@ -90,12 +82,6 @@ given_told v t =
       fits = (let f = t.fits in omega arith);
       whole = λ all missed. absurd (omega arith);
     }
-
-pub kept_pass : (v : View) (last : Option Held) (next number : Option ℕ) (done : ℕ) → IsPass v last next number done → IsPass (kept_view v) last next number done
-kept_pass v last next number done p = record { live = p.live; last_is = p.last_is; next_is = p.next_is; number_is = p.number_is; done_is = p.done_is; told = kept_told v p.told }
-
-pub given_pass : (v : View) (last : Option Held) (next number : Option ℕ) (done : ℕ) → IsPass v last next number done → IsPass (given_view v) None None None 0
-given_pass v last next number done p = record { live = refl; last_is = refl; next_is = refl; number_is = refl; done_is = refl; told = given_told v p.told }
 
 pub both_pass : (v w : View) (last last' : Option Held) (next next' number number' : Option ℕ) (done done' : ℕ) → IsPass v last next number done → IsPass w last' next' number' done' → plan_of w ≡ plan_of v → IsTold (both_view v w)
     → IsPass (both_view v w) last next number (done + done')

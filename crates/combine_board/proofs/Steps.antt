@@ -20,13 +20,6 @@ use Rattle.combine_board.specs.Rule.{plan_of, view_with, shown, Alike, Holds, fi
 use Rattle.combine_board.proofs.Views.{map-set, map-push, view_within, worker_shown, alike_set, alike_push, first-set, rest-set, first-set_rest, rest-set_rest, rest-get}
 use Rattle.combine_board.proofs.Told.{told_of}
 
-abbrev slots_of : Plan → List (Option Message)
-slots_of a = a.slots
-
--- the next number is at most 2 ^ 63
-next_small : (a : Plan) (s : TableState ℕ View) → Holds a s → slice_index s.words 0 ≤ 2 ^ 63
-next_small a s h = let d = h.kept.drawn in omega arith
-
 -- one is left to draw, so the next number is below 2 ^ 63
 next_below : (a : Plan) (s : TableState ℕ View) (id : ℕ) (v : View) → Holds a s → get_elem? s.views id ≡ some v → 0 < v.worker.draws → slice_index s.words 0 < 2 ^ 63
 next_below a s id v h at left =

@@ -41,28 +41,12 @@ map_length : (f : Held → Held) (o : Option Held) (others : List Held) → leng
 map_length f None others = refl
 map_length f (Some h) others = refl
 
-pub passed_length : (i : ℕ) (v : Worker) → length (held_by (passed_to i v)) ≡ length (held_by v)
-passed_length i v = map_length (λ x. held x.claim (i + 1 - 512 * x.claim)) v.last v.others
-
 all_done : (os : List (Option Message)) (o : Option Held) (others : List Held) → option_and_then (next_in os) o ≡ None → AllDone os others → AllDone os (option_to_list o ++ others)
 all_done os None others e done = done
 all_done os (Some h) others e done = All-cons (λ x. next_in os x ≡ None) h others e done
 
-pub done_when_none : (os : List (Option Message)) (v : Worker) → ahead_of os v ≡ None → AllDone os v.others → AllDone os (held_by v)
-done_when_none os v e done = all_done os v.last v.others e done
-
-pub drawn_claim : (claims n : ℕ) (v : Worker) → n < claims → drawn claims n v ≡ with_claim n v
-drawn_claim claims n v h = cond-true (nat_lt n claims) _ _ (lt-ltb n claims h)
-
 pub drawn_miss : (claims n : ℕ) (v : Worker) → claims ≤ n → drawn claims n v ≡ with_miss n v
 drawn_miss claims n v h = cond-false (nat_lt n claims) _ _ (le-ltb n claims h)
-
-pub finished_at_miss : (os : List (Option Message)) (n draws : ℕ) (v : Worker) → AllDone os (held_by v) → v.misses ≡ 0 → length (held_by v) + v.draws ≡ draws → 0 < v.draws → claims_of os ≤ n
-    → WholeHoldsEvery os (drawn (claims_of os) n v) → IsFinished os draws (drawn (claims_of os) n v)
-finished_at_miss os n draws v done none all left past whole =
-    subst (λ (w : Worker). WholeHoldsEvery os w → IsFinished os draws w) (sym (drawn_miss (claims_of os) n v past))
-    (λ whole'. record { done = done; missed = omega arith; all = omega arith; whole = whole' })
-    whole
 
 pub both_finished : (os : List (Option Message)) (d e : ℕ) (v u : Worker) → IsFinished os d v → IsFinished os e u → WholeHoldsEvery os (both_parts v u) → IsFinished os (d + e) (both_parts v u)
 both_finished os d e v u f g whole =

@@ -99,6 +99,3 @@ first_message_here i (Some m) os e = refl
 pub first_message_not_here : (i : ℕ) (o : Option Message) (os : List (Option Message)) → is_some o ≡ false → first_message i (o ∷ os) ≡ first_message (i + 1) os
 first_message_not_here i None os e = ap (λ (n : ℕ). first_message n os) (sym (add-one i))
 first_message_not_here i (Some m) os e = absurd (cc)
-
-pub first_message-end : (os : List (Option Message)) (i to : ℕ) → to ≤ i → first_message i (take (to - i) (drop i os)) ≡ None
-first_message-end os i to h = ap (λ (n : ℕ). first_message i (take n (drop i os))) (let e : to - i ≡ 0 = omega arith in e)

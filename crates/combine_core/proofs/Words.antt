@@ -45,10 +45,6 @@ residue_negsuc : (n : ℕ) → n < 2 ^ 32 → residue 32 (negsuc n) ≡ 2 ^ 32 -
 unfolding residue
 residue_negsuc n h = ap (λ (x : ℕ). 2 ^ 32 - 1 - x) (mod-eq_of_lt h)
 
-unsigned_is : (a : ℕ) → operand 32 true a ≡ pos a
-unfolding operand number_of
-unsigned_is a = refl
-
 -- of two numbers, the first where the test passes
 picked : (b : Bool) (x y : ℤ) (a v : ℕ) → residue 32 x ≡ a → residue 32 y ≡ v → residue 32 (cond b x y) ≡ cond b a v
 picked true x y a v p q = p

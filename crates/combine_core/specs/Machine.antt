@@ -95,9 +95,6 @@ can_happen s (Claim w) = (worker_at s w).live && nat_lt 0 (worker_at s w).draws
 can_happen s (Deliver w i) = (worker_at s w).live && is_number i (ahead_of s.slots (worker_at s w))
 can_happen s (Join a b) = ((worker_at s a).live && (worker_at s b).live) && not (a == b)
 
-abbrev pub with_worker : State → ℕ → Worker → State
-with_worker s w v = record { kind = s.kind; slots = s.slots; home = s.home; next = s.next; cells = s.cells; workers = slice_set s.workers w v }
-
 -- what each event does, where it can happen
 abbrev pub split : State → ℕ → State
 split s w = record { kind = s.kind; slots = s.slots; home = s.home; next = s.next; cells = s.cells; workers = slice_set s.workers w (kept_part (worker_at s w)) ++ given_part (worker_at s w) ∷ [] }
