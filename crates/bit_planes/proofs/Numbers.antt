@@ -4,7 +4,7 @@ use Rattle.std.specs.Int.{bit_at}
 use Rattle.std.proofs.Math.ListN.{set, length-set}
 use Rattle.std.proofs.lemmas.List.{get_or-set_same, get_or-set_other}
 use Rattle.std.proofs.lemmas.Bool.{cases_lt, cases_eq}
-use Rattle.bit_planes.proofs.Words.{bit_at-cut, bit_at-shr}
+use Rattle.cstar_base.proofs.BitCuts.{bit_at-cut, bit_at-shr}
 use Rattle.bit_planes.proofs.Planes.{plane-set_same, plane-set_other, number_is, low_bits}
 use Rattle.std.proofs.lemmas.Nat.Bits.{bit_at_cat_low, bit_at_cat_high}
 use Rattle.bit_planes.specs.Bits.{bit}

@@ -1,11 +1,12 @@
 -- Planes in a list, and the numbers that stand across them.
-use Rattle.std.proofs.Common.{◌≡◌, ◌≢◌, ℕ, suc, zero, ◌+◌, ◌*◌, ◌/◌, ◌%◌, ◌^◌, ◌<◌, ◌≤◌, List, length, [], get_or, refl, sym, ◌∙◌, ap, inl, inr, ◌⊎◌, add_comm, arith}
+use Rattle.std.proofs.Common.{◌≡◌, ◌≢◌, ℕ, suc, zero, ◌+◌, ◌-◌, ◌*◌, ◌/◌, ◌%◌, ◌^◌, ◌<◌, ◌≤◌, List, length, [], get_or, refl, sym, ◌∙◌, ap, inl, inr, ◌⊎◌, add_comm, arith}
 use Rattle.std.proofs.Math.Nat.{mul_comm, mod-le, pow-suc, pow-le-pow_right}
 use Rattle.std.proofs.Math.Numerals.{one-add, add-one}
 use Rattle.std.proofs.lemmas.Nat.{mod-pow-add, pow_pos, mod_below, shl_whole, mul-le}
-use Rattle.std.proofs.lemmas.Nat.Bits.{same_from_bits_below, bit_at_above}
+use Rattle.std.proofs.lemmas.Nat.Bits.{same_from_bits_below, bit_at_above, bit_at_cat_low, bit_at_cat_high}
 use Rattle.std.proofs.lemmas.Bool.{cases_lt}
-use Rattle.bit_planes.proofs.Words.{bit_at-cut, bit-lt}
+use Rattle.cstar_base.proofs.BitCuts.{bit_at-cut}
+use Rattle.bit_planes.proofs.Words.{bit-lt}
 use Rattle.std.specs.Int.{bit_at}
 use Rattle.std.proofs.Math.ListN.{set}
 use Rattle.std.proofs.lemmas.List.{get_or-set_same, get_or-set_other, get_or_read}
@@ -96,3 +97,20 @@ number_written offset n row v old new done = record {
   other_planes = done.other_planes;
   other_rows = done.other_rows;
 }
+
+-- the bits of the number in a lane are those of its planes
+pub number-bits : (planes : List Plane) (offset n i j : ℕ) → j < n → bit_at (number planes offset n i) j ≡ bit (plane_at planes (offset + j)) i
+unfolding number
+number-bits planes offset zero i j h = absurd (omega arith)
+number-bits planes offset (suc n) i j h =
+    let b : ℕ = bit (plane_at planes (offset + n)) i in
+    let low : ℕ = number planes offset n i in
+    let turned : low + 2 ^ n * b ≡ b * 2 ^ n + low = omega (arith, mul_comm (2 ^ n) b) in
+    ap (λ m. bit_at m j) turned ∙ elim (cases_lt j n) [
+      | inl l ↦ bit_at_cat_low b n low j l ∙ number-bits planes offset n i j l
+      | inr g ↦
+          let e : j ≡ n = omega arith in
+          let z : j - n ≡ 0 = omega arith in
+          bit_at_cat_high b n low j (number-lt planes offset n i) g ∙ ap (bit_at b) z
+          ∙ (let k : bit_at b 0 ≡ b = omega (arith, bit-lt (plane_at planes (offset + n)) i) in k) ∙ ap (λ m. bit (plane_at planes (offset + m)) i) (sym e)
+    ]

@@ -8,6 +8,7 @@ use Rattle.std.proofs.lemmas.Simd.{get_or-zip2, Each1-get_or, get_or-replicate}
 use Rattle.std.proofs.lemmas.Nat.Bits.{bit_at_not, bit_at_above, bit_at_ones, bit_at-zero, bit_at_cat_low, bit_at_cat_high}
 use Rattle.std.proofs.lemmas.Nat.{shr-shr, div-add-mod', pow_pos}
 use Rattle.std.proofs.lemmas.Bool.{cases_lt, cases_eq, lt-ltb, le-ltb}
+use Rattle.cstar_base.proofs.BitCuts.{bit_at-shr}
 use Rattle.bit_planes.specs.Bits.{bit}
 
 pub bit-lt : (plane : List ℕ) (i : ℕ) → bit plane i < 2
@@ -42,18 +43,11 @@ bit-opposite a la fits i h =
     ap (λ n. bit_at n (i % 64)) (get_or-map (bit_not w64) a (i / 64) 0 0 (omega arith))
     ∙ bit_at_not w64 (get_or a (i / 64) 0) (i % 64) (word_fits a la fits (i / 64) (omega arith)) (omega arith)
 
--- a bit of a number that is cut to k bits
-pub bit_at-cut : (x k j : ℕ) → j < k → bit_at (x % 2 ^ k) j ≡ bit_at x j
-bit_at-cut x k j h = sym (bit_at_cat_low (x / 2 ^ k) k (x % 2 ^ k) j h) ∙ ap (λ n. bit_at n j) (div-add-mod' x (2 ^ k))
-
 pub bit_at-shl_low : (x k j : ℕ) → j < k → bit_at (x * 2 ^ k) j ≡ 0
 bit_at-shl_low x k j h = ap (λ n. bit_at n j) (let e : x * 2 ^ k ≡ x * 2 ^ k + 0 = omega arith in e) ∙ bit_at_cat_low x k 0 j h ∙ bit_at-zero j
 
 pub bit_at-shl_high : (x k j : ℕ) → 0 < 2 ^ k → k ≤ j → bit_at (x * 2 ^ k) j ≡ bit_at x (j - k)
 bit_at-shl_high x k j p h = ap (λ n. bit_at n j) (let e : x * 2 ^ k ≡ x * 2 ^ k + 0 = omega arith in e) ∙ bit_at_cat_high x k 0 j p h
-
-pub bit_at-shr : (x k j : ℕ) → bit_at (x / 2 ^ k) j ≡ bit_at x (k + j)
-bit_at-shr x k j = ap (λ n. n % 2) (shr-shr x k j)
 
 pub bit-moved_up : (a : List ℕ) (k : ℕ) → length a ≡ 8 → k < 64 → (i : ℕ) → i < 512
     → bit (zip2 (λ x s. x * 2 ^ s % 2 ^ 64) a (replicate 8 k)) i ≡ cond (nat_lt (i % 64) k) 0 (bit a (i - k))

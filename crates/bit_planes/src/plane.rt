@@ -77,6 +77,38 @@ pub fn repeated(one: bool) -> u64x8
     u64x8::splat(if one { u64::MAX } else { 0 })
 }
 
+/// The word of the lanes from 64 times `word` on, with 1 in those below `count`.
+#[inline(always)]
+fn first_of_word(count: u32, word: u32) -> u64
+    requires { word < 8 }
+    ensures { (j : ℕ) → j < 64 → bit_at result j ≡ (if nat_lt (64 * word + j) count then 1 else 0) }
+{
+    let from = 64 * word;
+    if count <= from {
+        0
+    } else if count - from < 64 {
+        (1 << (count - from)) - 1
+    } else {
+        u64::MAX
+    }
+}
+
+/// The plane that holds 1 in the first `count` lanes, and 0 in all others.
+pub fn first_lanes(count: u32) -> u64x8
+    ensures { (i : ℕ) → i < 512 → bit result i ≡ (if nat_lt i count then 1 else 0) }
+{
+    u64x8::from_array([
+        first_of_word(count, 0),
+        first_of_word(count, 1),
+        first_of_word(count, 2),
+        first_of_word(count, 3),
+        first_of_word(count, 4),
+        first_of_word(count, 5),
+        first_of_word(count, 6),
+        first_of_word(count, 7),
+    ])
+}
+
 /// The plane whose eight words are all this one.
 #[inline(always)]
 pub(crate) fn each_word(word: u64) -> u64x8

@@ -1,3 +1,4 @@
+pub mod BitCuts
 pub mod ConversionLaws
 pub mod FoldLaws
 pub mod NumberLaws

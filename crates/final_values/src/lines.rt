@@ -3,7 +3,7 @@ ghost use Rattle.std.specs.Fmt.{signed_decimal};
 ghost use Rattle.cstar_base.specs.Numbers.{number_of, residue};
 ghost use Rattle.vp_sets.specs.Positions.{position_count};
 ghost use Rattle.paris_code.specs.Shapes.{extents_at, shapes_of};
-ghost use Rattle.phase_gate.specs.Apply.{LiesIn};
+ghost use Rattle.phase_meaning.specs.Apply.{LiesIn};
 ghost use Rattle.paris_text.specs.Puts.{Puts};
 ghost use Rattle.final_values.specs.Finals.{finals_text, values_line, values_text};
 

@@ -8,30 +8,14 @@ use Rattle.std.proofs.lemmas.Bool.{cases_lt, cases_eq}
 use Rattle.bit_planes.specs.declared.plane.Plane.{Plane}
 use Rattle.bit_planes.specs.Bits.{bit}
 use Rattle.bit_planes.specs.Planes.{plane_at, number}
-use Rattle.bit_planes.proofs.Words.{bit-lt, bit_at-cut}
-use Rattle.bit_planes.proofs.Planes.{number_is, number-lt}
+use Rattle.cstar_base.proofs.BitCuts.{bit_at-cut}
+use Rattle.bit_planes.proofs.Words.{bit-lt}
+use Rattle.bit_planes.proofs.Planes.{number_is, number-lt, number-bits}
 use Rattle.lane_kernels.specs.declared.target.Target.{Target}
 use Rattle.lane_kernels.specs.declared.target.Operand.{Operand}
 use Rattle.lane_kernels.specs.declared.target.Operand.TheVariants.{Field, Constant}
 use Rattle.lane_kernels.specs.Changes.{Writes}
 use Rattle.lane_kernels.specs.Kernels.{operand_bit, operand_of, IsReadable, IsFieldReadable, IsWithin, Becomes}
-
--- the bits of the number in a lane are those of its planes
-pub number-bits : (planes : List Plane) (offset n i j : ℕ) → j < n → bit_at (number planes offset n i) j ≡ bit (plane_at planes (offset + j)) i
-unfolding number
-number-bits planes offset zero i j h = absurd (omega arith)
-number-bits planes offset (suc n) i j h =
-    let b : ℕ = bit (plane_at planes (offset + n)) i in
-    let low : ℕ = number planes offset n i in
-    let turned : low + 2 ^ n * b ≡ b * 2 ^ n + low = omega (arith, mul_comm (2 ^ n) b) in
-    ap (λ m. bit_at m j) turned ∙ elim (cases_lt j n) [
-      | inl l ↦ bit_at_cat_low b n low j l ∙ number-bits planes offset n i j l
-      | inr g ↦
-          let e : j ≡ n = omega arith in
-          let z : j - n ≡ 0 = omega arith in
-          bit_at_cat_high b n low j (number-lt planes offset n i) g ∙ ap (bit_at b) z
-          ∙ (let k : bit_at b 0 ≡ b = omega (arith, bit-lt (plane_at planes (offset + n)) i) in k) ∙ ap (λ m. bit (plane_at planes (offset + m)) i) (sym e)
-    ]
 
 pub operand_of-lt : (a : Operand) (planes : List Plane) (n i : ℕ) → operand_of a planes n i < 2 ^ n
 operand_of-lt (Field offset) planes n i = number-lt planes offset n i

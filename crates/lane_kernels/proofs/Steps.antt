@@ -4,8 +4,9 @@ use Rattle.std.specs.Int.{bit_at}
 use Rattle.bit_planes.specs.declared.plane.Plane.{Plane}
 use Rattle.bit_planes.specs.Bits.{bit}
 use Rattle.bit_planes.specs.Planes.{plane_at, number}
-use Rattle.bit_planes.proofs.Words.{bit_at-shr, bit_at-shl_low, bit_at-shl_high}
-use Rattle.bit_planes.proofs.Planes.{number-lt}
+use Rattle.cstar_base.proofs.BitCuts.{bit_at-shr}
+use Rattle.bit_planes.proofs.Words.{bit_at-shl_low, bit_at-shl_high}
+use Rattle.bit_planes.proofs.Planes.{number-lt, number-bits}
 use Rattle.std.proofs.lemmas.Nat.{pow_pos}
 use Rattle.std.proofs.lemmas.Bool.{cases_lt, lt-ltb, le-ltb}
 use Rattle.lane_kernels.specs.declared.target.Target.{Target}
@@ -16,7 +17,7 @@ use Rattle.lane_kernels.specs.Gates.{gate_bit, gate_of}
 use Rattle.lane_kernels.specs.Numbers.{complement_of, extended}
 use Rattle.lane_kernels.specs.Kernels.{operand_bit, operand_of, IsReadable, IsFieldReadable, IsReadableDown, Becomes}
 use Rattle.lane_kernels.proofs.Arithmetic.{gate_bits, gate_of-lt, cond_bits, cond-lt, complement_bits, extended_bits, mod_small}
-use Rattle.lane_kernels.proofs.Lifted.{Becoming, one_up, one_down, all_written, same_change, operand_kept, operand_of-lt, operand_bit_is, number-bits}
+use Rattle.lane_kernels.proofs.Lifted.{Becoming, one_up, one_down, all_written, same_change, operand_kept, operand_of-lt, operand_bit_is}
 
 -- the numbers are written, and they have no more bits than the target
 pub all_small : (to : Target) (n : ℕ) (numbers : ℕ → ℕ) (old new : List Plane) → n ≡ to.len → ((i : ℕ) → numbers i < 2 ^ to.len) → Becoming to 0 n numbers old new → Becomes to numbers old new

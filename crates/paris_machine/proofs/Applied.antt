@@ -11,7 +11,7 @@ use Rattle.paris_code.specs.Shapes.{SetShape, shapes_of}
 use Rattle.paris_code.specs.Sound.{KeepsRules}
 use Rattle.paris_code.specs.Units.{IsAt}
 use Rattle.front_end.specs.Front.{State}
-use Rattle.phase_gate.specs.Apply.{CanApply}
+use Rattle.phase_meaning.specs.Apply.{CanApply}
 use Rattle.paris_machine.specs.Asked.{IsAsked}
 
 -- one instruction stands at a place

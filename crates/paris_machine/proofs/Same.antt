@@ -19,8 +19,8 @@ use Rattle.paris_code.specs.Scalar.{computed, any_register_outside}
 use Rattle.paris_code.specs.Shapes.{SetShape, shapes_of, extents_at}
 use Rattle.paris_code.specs.Sound.{IsSound, KeepsRules}
 use Rattle.paris_code.specs.Units.{IsAt}
-use Rattle.phase_gate.specs.Apply.{CanApply}
-use Rattle.phase_gate.proofs.Alike.{alike}
+use Rattle.phase_meaning.specs.Apply.{CanApply}
+use Rattle.phase_meaning.proofs.Alike.{alike}
 use Rattle.paris_machine.specs.declared.outcome.End.{End as RunEnd}
 use Rattle.paris_machine.specs.declared.outcome.End.TheVariants as E
 use Rattle.paris_machine.specs.Runs.{SameState, SameNext, ComesTo, Runs, before}

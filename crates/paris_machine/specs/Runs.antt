@@ -8,7 +8,7 @@ use Rattle.paris_code.specs.Memory.{BitMemory, SameBits}
 use Rattle.paris_code.specs.Shapes.{SetShape, shapes_of}
 use Rattle.paris_code.specs.Units.{IsAt}
 use Rattle.cstar_io.specs.Output.{Takes, TakesPrefix}
-use Rattle.phase_gate.specs.Apply.{is_send}
+use Rattle.phase_meaning.specs.Apply.{is_send}
 use Rattle.front_end.specs.declared.kept.Kept.{Kept}
 use Rattle.front_end.specs.Front.{State, joined, answered_from}
 use Rattle.paris_machine.specs.Ends.{input_broke_in}

@@ -6,7 +6,7 @@ ghost use Rattle.paris_code.specs.Code.{Fault, fault_at, opening};
 ghost use Rattle.paris_code.specs.Shapes.{shapes_of};
 ghost use Rattle.paris_code.specs.Sound.{KeepsRules};
 ghost use Rattle.paris_code.specs.Units.{IsAt};
-ghost use Rattle.phase_gate.specs.Apply.{is_check};
+ghost use Rattle.phase_meaning.specs.Apply.{is_check};
 ghost use Rattle.front_end.specs.declared.kept.Kept.{Kept};
 ghost use Rattle.front_end.specs.Front.{state_of, Fits, joined};
 ghost use Rattle.front_end.specs.Kept.{KeptFits};

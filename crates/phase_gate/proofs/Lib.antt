@@ -1,16 +1,3 @@
-pub mod Addresses
-pub mod Alike
-pub mod FieldLemmas
-pub mod Lines
-pub mod Locality
 pub mod Memories
-pub mod Partly
-pub mod Operations
-pub mod Replies
-pub mod Rising
 pub mod RowBits
-pub mod Runs
-pub mod Senders
-pub mod Stepwise
-pub mod Tests
-pub mod Widths
+pub mod RowSets

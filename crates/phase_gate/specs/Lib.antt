@@ -1,6 +1,3 @@
-pub mod Apply
-pub mod Gathered
 pub mod Rows
 pub mod Scans
 pub mod Sends
-pub mod Shifts

@@ -4,14 +4,13 @@ ghost use Rattle.std.specs.Prelude.{◌≡◌, ◌<◌, length, true, false, Non
 ghost use Rattle.paris_code.specs.Elementwise.{is_elementwise, destination, writes_always, elementwise};
 ghost use Rattle.paris_code.specs.Fetching.{at_one, of_named, of_neighbour, word_of_one};
 ghost use Rattle.paris_code.specs.Meaning.{after, reply_of};
-ghost use Rattle.phase_gate.specs.Gathered.{gathered};
+ghost use Rattle.phase_meaning.specs.Gathered.{gathered};
 ghost use Rattle.paris_code.specs.Memory.{SameBits, bit_run, context_run, test_run};
 ghost use Rattle.paris_code.specs.Writes.{written};
 ghost use Rattle.paris_code.specs.Operands.{result_of};
 ghost use Rattle.paris_code.specs.Shapes.{rank_at};
-ghost use Rattle.phase_gate.specs.Apply.{CanApply, IsRun, LiesIn, active_set, is_fetch};
+ghost use Rattle.phase_meaning.specs.Apply.{CanApply, IsRun, LiesIn, active_set, is_fetch};
 
-use crate::arith::signed;
 use crate::elements::konst;
 use crate::phases::Phases;
 use crate::row_phases::RowPhases;
@@ -19,6 +18,7 @@ use crate::scans::Scan;
 use crate::sends::Send;
 use cstar_base::Winner;
 use paris_code::{Field, Instr, Reply};
+use phase_meaning::arith::signed;
 
 /// A flag, as the run of its one bit.
 fn flag(set: u16, offset: u32) -> Field
@@ -50,7 +50,7 @@ impl RowPhases {
         flag(set, self.rows(set).bits + 1)
     }
 
-    #[tactic(auto, using(crate::proofs::FieldLemmas::lies))]
+    #[tactic(auto, using(phase_meaning::proofs::FieldLemmas::lies))]
     /// Where an elementwise instruction writes, and whether it does so at all processors.
     fn written_by(&self, instr: &Instr, args: &[u32]) -> Option<(Field, bool)>
         requires { CanApply (sets_of self.now) instr.now args.now }
@@ -127,7 +127,7 @@ impl RowPhases {
     }
 
     /// The source of one processor, or 0 if there is none.
-    #[tactic(auto, unfolding(paris_code::specs::Fetching::word_of_one), using(crate::proofs::Tests::less, crate::proofs::Tests::not_less))]
+    #[tactic(auto, unfolding(paris_code::specs::Fetching::word_of_one), using(phase_meaning::proofs::Tests::less, phase_meaning::proofs::Tests::not_less))]
     fn read_one(&self, read_signed: bool, processor: u32, source: Field) -> u32
         requires { LiesIn (sets_of self.now) source }
         ensures { result ≡ word_of_one (sets_of self.now) (memory_of self.now) read_signed source processor }
@@ -151,7 +151,7 @@ impl RowPhases {
     }
 
     /// The value of an instruction that has a result register.
-    #[tactic(auto, using(crate::proofs::FieldLemmas::lies))]
+    #[tactic(auto, using(phase_meaning::proofs::FieldLemmas::lies))]
     fn value_of(&self, instr: &Instr, args: &[u32]) -> Option<u32>
         requires { CanApply (sets_of self.now) instr.now args.now }
         ensures { MatchOption result (result_of instr.now ≡ None) (λ v. IsSome (result_of instr.now) × (reply_of (sets_of self.now) instr.now args.now (memory_of self.now) ≡ Reply.Value v)) }
@@ -170,7 +170,7 @@ impl RowPhases {
     }
 
     /// Does an instruction that moves values between processors.
-    #[tactic(auto, using(crate::proofs::FieldLemmas::lies))]
+    #[tactic(auto, using(phase_meaning::proofs::FieldLemmas::lies))]
     fn communicate(&mut self, instr: &Instr, args: &[u32])
         requires can { CanApply (sets_of self.old) instr.now args.now }
         requires other { is_elementwise instr.now ≡ false }
@@ -203,7 +203,7 @@ impl RowPhases {
     }
 
     /// Does a scan or a send.
-    #[tactic(auto, using(crate::proofs::FieldLemmas::lies))]
+    #[tactic(auto, using(phase_meaning::proofs::FieldLemmas::lies))]
     fn scan_or_send(&mut self, instr: &Instr, args: &[u32])
         requires can { CanApply (sets_of self.old) instr.now args.now }
         requires other { (is_elementwise instr.now ≡ false) × (is_fetch instr.now ≡ false) }

@@ -9,12 +9,12 @@ ghost use Rattle.paris_code.specs.Memory.{field_number, is_active, processors};
 ghost use Rattle.paris_code.specs.Orders.{least_below};
 ghost use Rattle.paris_code.specs.Operands.{coordinate_of};
 ghost use Rattle.paris_code.specs.RuleSet.{IsAxis, axis_of};
-ghost use Rattle.phase_gate.specs.Apply.{CanApply, IsCoordinateAt, IsPosition, LiesIn, ReplyFits, is_check};
+ghost use Rattle.phase_meaning.specs.Apply.{CanApply, IsCoordinateAt, IsPosition, LiesIn, ReplyFits, is_check};
 
-use crate::arith::{signed, whole};
 use crate::elements::{behind, next};
 use crate::row_phases::RowPhases;
 use paris_code::{Coordinate, Field, GridStep, Instr, Konst, Reply, SignedCoordinate};
+use phase_meaning::arith::{signed, whole};
 
 /// The arguments behind those that a step takes.
 fn behind_step(step: Konst, args: &[u32]) -> &[u32]
@@ -168,7 +168,7 @@ impl RowPhases {
     }
 
     /// The reply to an instruction that checks; none to another.
-    #[tactic(auto, using(crate::proofs::FieldLemmas::lies, crate::proofs::FieldLemmas::own_exists))]
+    #[tactic(auto, using(phase_meaning::proofs::FieldLemmas::lies, phase_meaning::proofs::FieldLemmas::own_exists))]
     pub(crate) fn check(&self, instr: &Instr, args: &[u32]) -> Option<Reply>
         requires { CanApply (sets_of self.now) instr.now args.now }
         ensures checks { MatchOption result (is_check instr.now ≡ false) (λ reply. is_check instr.now ≡ true) }

@@ -7,8 +7,8 @@ ghost use Rattle.paris_code.specs.Memory.{SameBits, field_number, processors};
 ghost use Rattle.paris_code.specs.Writes.{written};
 ghost use Rattle.vp_sets.specs.Positions.{position_count, shifted};
 ghost use Rattle.paris_code.specs.Shapes.{bits_at, extents_at, rank_at};
-ghost use Rattle.phase_gate.specs.Apply.{IsPosition, LiesIn};
-ghost use Rattle.phase_gate.specs.Gathered.{in_kind};
+ghost use Rattle.phase_meaning.specs.Apply.{IsPosition, LiesIn};
+ghost use Rattle.phase_meaning.specs.Gathered.{in_kind};
 
 use crate::row_phases::RowPhases;
 use cstar_base::Elem;
@@ -28,7 +28,7 @@ fn in_kind(kind: Option<Elem>, word: u32) -> u32
 
 impl RowPhases {
     ghost use Rattle.phase_gate.specs.Rows.{sets_of, memory_of, room_of};
-    ghost use Rattle.phase_gate.specs.Gathered.{held, word_if};
+    ghost use Rattle.phase_meaning.specs.Gathered.{held, word_if};
 
     /// Writes the words that are held for a set's processors to a field of these.
     pub(crate) fn write_gathered(&mut self, dest: Field, kind: Option<Elem>)
@@ -86,7 +86,7 @@ impl RowPhases {
     }
 
     /// The number in a field of a processor, and 0 if there is no such processor.
-    #[tactic(auto, unfolding(paris_code::specs::Fetching::number_or_zero), using(crate::proofs::Tests::less, crate::proofs::Tests::not_less))]
+    #[tactic(auto, unfolding(paris_code::specs::Fetching::number_or_zero), using(phase_meaning::proofs::Tests::less, phase_meaning::proofs::Tests::not_less))]
     pub(crate) fn field_or_zero(&self, source: Field, processor: u32) -> u32
         requires { LiesIn (sets_of self.now) source }
         ensures value { result ≡ number_or_zero (sets_of self.now) (memory_of self.now) source processor }

@@ -5,11 +5,11 @@ ghost use Rattle.vp_sets.specs.Positions.{position_count, number_at};
 ghost use Rattle.paris_code.specs.Arguments.{konst_number, coordinate_number, coordinate_numbers, behind_coordinate};
 ghost use Rattle.paris_code.specs.Elementwise.{element, destination};
 ghost use Rattle.paris_code.specs.Operands.{registers_of_konst};
-ghost use Rattle.phase_gate.specs.Apply.{CanApply, IsPosition, IsCoordinateAt, active_set};
+ghost use Rattle.phase_meaning.specs.Apply.{CanApply, IsPosition, IsCoordinateAt, active_set};
 
-use crate::arith::{holds, mask, operate};
 use crate::row_phases::RowPhases;
 use paris_code::{Coordinate, Instr, Konst};
+use phase_meaning::arith::{holds, mask, operate};
 
 /// The number of an operand, of which the argument is the register's value.
 pub(crate) fn konst(k: Konst, args: &[u32]) -> u32
@@ -80,7 +80,7 @@ impl RowPhases {
     }
 
     /// What an elementwise instruction gives its destination at a processor.
-    #[tactic(auto, using(crate::proofs::FieldLemmas::lies, crate::proofs::FieldLemmas::same_positions, crate::proofs::FieldLemmas::coordinates_at))]
+    #[tactic(auto, using(phase_meaning::proofs::FieldLemmas::lies, phase_meaning::proofs::FieldLemmas::same_positions, phase_meaning::proofs::FieldLemmas::coordinates_at))]
     pub(crate) fn element(&self, instr: &Instr, args: &[u32], position: u32) -> u32
         requires can { CanApply (sets_of self.now) instr.now args.now }
         requires position { IsPosition (sets_of self.now) (active_set instr.now) position }

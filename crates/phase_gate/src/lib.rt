@@ -3,7 +3,6 @@
 #![tactic(auto)]
 
 mod apply;
-mod arith;
 mod checks;
 mod communication;
 mod elements;

@@ -5,7 +5,7 @@ ghost use Rattle.paris_code.specs.Meaning.{Means};
 ghost use Rattle.paris_code.specs.Memory.{BitMemory, SameBits, bit_run, field_number};
 ghost use Rattle.paris_code.specs.Shapes.{SetShape, bits_at};
 ghost use Rattle.paris_code.specs.Writes.{written};
-ghost use Rattle.phase_gate.specs.Apply.{CanApply, IsPosition, LiesIn, ReplyFits};
+ghost use Rattle.phase_meaning.specs.Apply.{CanApply, IsPosition, LiesIn, ReplyFits};
 
 use cstar_base::Winner;
 use paris_code::{Field, Instr, Reply};

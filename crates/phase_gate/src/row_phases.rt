@@ -5,16 +5,16 @@ ghost use Rattle.paris_code.specs.Memory.{SameBits, fresh_memory, field_number, 
 ghost use Rattle.paris_code.specs.Writes.{written};
 ghost use Rattle.vp_sets.specs.Positions.{position_count};
 ghost use Rattle.paris_code.specs.Shapes.{bits_at, extents_at};
-ghost use Rattle.phase_gate.specs.Apply.{IsPosition, LiesIn};
+ghost use Rattle.phase_meaning.specs.Apply.{IsPosition, LiesIn};
 ghost use Rattle.paris_code.specs.Sound.{IsShape};
 ghost use Rattle.paris_code.specs.Shapes.{shape_of, shapes_of};
 ghost use Rattle.phase_gate.specs.Rows.{IsFresh};
 
-use crate::arith::extended;
 use crate::rows::Rows;
 use cstar_base::{Memory, Winner};
 use image_check::Sound;
 use paris_code::{Field, ShapeBits};
+use phase_meaning::arith::extended;
 use std::alloc::Global;
 use vp_sets::Geometry;
 
@@ -41,7 +41,7 @@ fn rows_of(alloc: Global, shape: &ShapeBits) -> Result<Rows, Memory>
 impl RowPhases {
     ghost use Rattle.phase_gate.specs.Rows.{shape_of_rows, sets_of, memory_of, row_bit, room_of, room_word};
 
-    #[tactic(auto, using(crate::proofs::FieldLemmas::shape_kept))]
+    #[tactic(auto, using(phase_meaning::proofs::FieldLemmas::shape_kept))]
     /// New phases for an image: all fields and test flags 0, all context flags 1, and of colliding
     /// senders the one with the greatest number wins.
     pub fn new(alloc: Global, sound: &Sound) -> Result<RowPhases, Memory>
@@ -120,7 +120,7 @@ impl RowPhases {
     }
 
     /// Writes a number, modulo 2 to the length, to a run of bits of a processor.
-    #[tactic(auto, using(crate::proofs::FieldLemmas::same_sets))]
+    #[tactic(auto, using(crate::proofs::RowSets::same_sets))]
     pub(crate) fn write(&mut self, run: Field, position: u32, n: u32)
         requires position { IsPosition (sets_of self.old) run.set position }
         requires len { (1 ≤ run.len) × (run.len ≤ 32) }
@@ -141,7 +141,7 @@ impl RowPhases {
     }
 
     /// Holds a word for a processor, or none.
-    #[tactic(auto, using(crate::proofs::FieldLemmas::same_sets))]
+    #[tactic(auto, using(crate::proofs::RowSets::same_sets))]
     pub(crate) fn gather(&mut self, set: u16, position: u32, word: Option<u32>)
         requires { IsPosition (sets_of self.old) set position }
         ensures sets { sets_of self.new ≡ sets_of self.old }

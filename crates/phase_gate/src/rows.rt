@@ -6,8 +6,8 @@ ghost use Rattle.std.specs.Int.{bit_at};
 ghost use Rattle.vp_sets.specs.Positions.{position_count};
 ghost use Rattle.paris_code.specs.Memory.{run_number};
 
-use crate::arith::mask;
 use cstar_base::Memory;
+use phase_meaning::arith::mask;
 use std::alloc::Global;
 use vp_sets::Geometry;
 

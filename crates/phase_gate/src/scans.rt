@@ -6,8 +6,8 @@ ghost use Rattle.paris_code.specs.Fetching.{at_active};
 ghost use Rattle.paris_code.specs.Scanning.{bit_is_one, parts, own_step, steps_before, scanned};
 ghost use Rattle.paris_code.specs.Writes.{written};
 ghost use Rattle.paris_code.specs.Shapes.{extents_at};
-ghost use Rattle.phase_gate.specs.Apply.{IsPosition, LiesIn};
-ghost use Rattle.phase_gate.specs.Gathered.{word_if};
+ghost use Rattle.phase_meaning.specs.Apply.{IsPosition, LiesIn};
+ghost use Rattle.phase_meaning.specs.Gathered.{word_if};
 
 use crate::row_phases::RowPhases;
 use cstar_base::numbers::{fold_step, identity};
@@ -40,7 +40,8 @@ fn nth(direction: Direction, count: u32, n: u32) -> u32
 
 impl RowPhases {
     ghost use Rattle.phase_gate.specs.Rows.{sets_of, memory_of, room_of};
-    ghost use Rattle.phase_gate.specs.Scans.{ScanFits, scan_of, before_at, IsPrevious};
+    ghost use Rattle.phase_gate.specs.Scans.{ScanFits, scan_of};
+    ghost use Rattle.phase_meaning.specs.Scans.{before_at, IsPrevious};
 
     /// Whether the bit that parts the segments is 1 at a position.
     fn is_marked(&self, bit: Option<Field>, position: u32) -> bool

@@ -5,7 +5,7 @@ ghost use Rattle.std.specs.Bool.{then_some};
 ghost use Rattle.paris_code.specs.Memory.{SameBits, processors};
 ghost use Rattle.paris_code.specs.Sending.{sends_to, winning_sender, message_or_zero, combined, overwriting, combining};
 ghost use Rattle.paris_code.specs.Writes.{written};
-ghost use Rattle.phase_gate.specs.Apply.{IsPosition};
+ghost use Rattle.phase_meaning.specs.Apply.{IsPosition};
 
 use crate::row_phases::RowPhases;
 use cstar_base::numbers::fold_step;
@@ -21,7 +21,7 @@ pub(crate) struct Send {
     pub(crate) source: Field,
 }
 
-ghost use Rattle.phase_gate.specs.Sends.{kept};
+ghost use Rattle.phase_meaning.specs.Sends.{kept};
 
 /// Which message stays where one of a sender with a greater number comes to an earlier one.
 fn kept(winner: Winner, earlier: Option<u32>, message: u32) -> u32

@@ -1,7 +1,7 @@
 use Rattle.std.proofs.Common.{sym, subst}
 use Rattle.paris_code.specs.Memory.{BitMemory, SameBits}
 use Rattle.phase_gate.specs.Rows.{sets_of, memory_of}
-use Rattle.phase_gate.proofs.Replies.{plain, answered, checked, quiet, same_bits}
+use Rattle.phase_meaning.proofs.Replies.{plain, answered, checked, quiet, same_bits}
 use Rattle.phase_gate.proofs.apply.RowPhasesPhases.apply.Goals as goal
 
 pub returns-in-Some-written_by-clause-meaning : goal.returns-in-Some-written_by-clause-meaning

@@ -1,6 +1,6 @@
 use Rattle.std.proofs.Common.{ℕ, ◌∙◌, eqb, ap}
 use Rattle.phase_gate.specs.Rows.{row_bit}
-use Rattle.phase_gate.proofs.RowBits.{run_number_one}
+use Rattle.phase_meaning.proofs.RunBits.{run_number_one}
 use Rattle.phase_gate.proofs.apply.RowPhasesPhases.bit.Goals as goal
 
 pub returns : goal.returns

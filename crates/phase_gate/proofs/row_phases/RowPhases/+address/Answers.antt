@@ -1,6 +1,6 @@
 use Rattle.std.proofs.Common.{◌+◌, ◌*◌, ◌%◌, ◌^◌, subst}
 use Rattle.phase_gate.specs.Rows.{memory_of}
-use Rattle.phase_gate.proofs.Addresses.{Goes, goes_end, goes_on}
+use Rattle.phase_meaning.proofs.Addresses.{Goes, goes_end, goes_on}
 use Rattle.phase_gate.proofs.row_phases.RowPhases.+address.Goals as goal
 
 pub returns-in-Some-Some : goal.returns-in-Some-Some

@@ -9,8 +9,8 @@ use Rattle.paris_code.specs.Shapes.{extents_at}
 use Rattle.paris_code.specs.declared.instr.Instr.{Instr}
 use Rattle.paris_code.specs.Meaning.{bad_or_nothing, reply_of}
 use Rattle.phase_gate.specs.Rows.{sets_of, memory_of}
-use Rattle.phase_gate.specs.Apply.{CanApply, IsCoordinateAt}
-use Rattle.phase_gate.proofs.FieldLemmas.{checked_at, own_exists}
+use Rattle.phase_meaning.specs.Apply.{CanApply, IsCoordinateAt}
+use Rattle.phase_meaning.proofs.FieldLemmas.{checked_at, own_exists}
 use Rattle.phase_gate.proofs.row_phases.RowPhases.check.Goals as goal
 
 pub returns-in-CheckDivisor-clause-least : goal.returns-in-CheckDivisor-clause-least

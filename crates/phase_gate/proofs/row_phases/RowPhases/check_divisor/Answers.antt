@@ -1,7 +1,7 @@
 use Rattle.std.proofs.Common.{ℕ, Bool, ◌&&◌, ◌∙◌, eqb, sym, ap, arith}
 use Rattle.paris_code.specs.Memory.{is_active, field_number, processors}
 use Rattle.phase_gate.specs.Rows.{sets_of, memory_of}
-use Rattle.phase_gate.proofs.Rising.{least_none, least_some}
+use Rattle.phase_meaning.proofs.Rising.{least_none, least_some}
 use Rattle.phase_gate.proofs.row_phases.RowPhases.check_divisor.Goals as goal
 
 pub returns-then-is_active-zero : goal.returns-then-is_active-zero

@@ -3,7 +3,7 @@ use Rattle.paris_code.specs.Checking.{any_leaves}
 use Rattle.paris_code.specs.Memory.{is_active, processors}
 use Rattle.paris_code.specs.Shapes.{extents_at}
 use Rattle.phase_gate.specs.Rows.{sets_of, memory_of}
-use Rattle.phase_gate.proofs.Rising.{least_none, least_some}
+use Rattle.phase_meaning.proofs.Rising.{least_none, least_some}
 use Rattle.phase_gate.proofs.row_phases.RowPhases.check_grid.Goals as goal
 
 pub returns-then-is_active-leaves : goal.returns-then-is_active-leaves

@@ -3,7 +3,7 @@ use Rattle.paris_code.specs.Checking.{any_outside}
 use Rattle.paris_code.specs.Memory.{is_active, processors}
 use Rattle.paris_code.specs.Shapes.{extents_at}
 use Rattle.phase_gate.specs.Rows.{sets_of, memory_of}
-use Rattle.phase_gate.proofs.Rising.{least_none, least_some}
+use Rattle.phase_meaning.proofs.Rising.{least_none, least_some}
 use Rattle.phase_gate.proofs.row_phases.RowPhases.check_target.Goals as goal
 
 pub any_outside-outside-requires : goal.any_outside-outside-requires

@@ -4,14 +4,14 @@ use Rattle.paris_code.specs.declared.instr.Instr.{Instr}
 use Rattle.paris_code.specs.declared.instr.Instr.TheVariants as I
 use Rattle.paris_code.specs.declared.operands.Field.{Field}
 use Rattle.paris_code.specs.declared.operands.Konst.{Konst}
-use Rattle.phase_gate.specs.Apply.{is_fetch}
+use Rattle.phase_meaning.specs.Apply.{is_fetch}
 use Rattle.paris_code.specs.Arguments.{konst_number}
 use Rattle.paris_code.specs.Fetching.{at_one, of_neighbour}
 use Rattle.paris_code.specs.Meaning.{after}
 use Rattle.paris_code.specs.Memory.{SameBits}
 use Rattle.paris_code.specs.Writes.{written}
 use Rattle.phase_gate.specs.declared.row_phases.RowPhases.{RowPhases}
-use Rattle.phase_gate.specs.Gathered.{gathered}
+use Rattle.phase_meaning.specs.Gathered.{gathered}
 use Rattle.phase_gate.specs.Rows.{sets_of, memory_of}
 use Rattle.phase_gate.proofs.row_phases.RowPhases.communicate.Goals as goal
 

@@ -3,8 +3,8 @@ use Rattle.paris_code.specs.Elementwise.{elementwise}
 use Rattle.paris_code.specs.Memory.{processors}
 use Rattle.phase_gate.specs.declared.row_phases.RowPhases.{RowPhases}
 use Rattle.phase_gate.specs.Rows.{sets_of, memory_of}
-use Rattle.phase_gate.proofs.Stepwise.{wrote_more, skipped_more}
-use Rattle.phase_gate.proofs.Partly.{PartlyWritten, part_none, part_all}
+use Rattle.phase_meaning.proofs.Stepwise.{wrote_more, skipped_more}
+use Rattle.phase_meaning.proofs.Partly.{PartlyWritten, part_none, part_all}
 use Rattle.phase_gate.proofs.row_phases.RowPhases.do_elementwise.Goals as goal
 use Rattle.phase_gate.proofs.row_phases.RowPhases.do_elementwise.Goals.{then-takes, else-takes}
 

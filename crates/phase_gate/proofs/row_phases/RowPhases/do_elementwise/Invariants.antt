@@ -1,7 +1,7 @@
 use Rattle.std.proofs.Common.{◌≡◌}
 use Rattle.paris_code.specs.Elementwise.{elementwise}
 use Rattle.phase_gate.specs.Rows.{sets_of, memory_of}
-use Rattle.phase_gate.proofs.Partly.{PartlyWritten}
+use Rattle.phase_meaning.proofs.Partly.{PartlyWritten}
 use Rattle.phase_gate.proofs.row_phases.RowPhases.do_elementwise.Given as goal
 
 abbrev pub invariant-positions : goal.invariant-positions

@@ -2,9 +2,9 @@ use Rattle.std.proofs.Common.{false, None, ◌∙◌, refl, sym, ap, arith}
 use Rattle.std.specs.Bool.{then_some}
 use Rattle.paris_code.specs.Fetching.{of_named}
 use Rattle.paris_code.specs.Memory.{is_active, processors}
-use Rattle.phase_gate.specs.Gathered.{gathered}
+use Rattle.phase_meaning.specs.Gathered.{gathered}
 use Rattle.phase_gate.specs.Rows.{sets_of, memory_of, room_of}
-use Rattle.phase_gate.proofs.Stepwise.{held_words}
+use Rattle.phase_meaning.proofs.Stepwise.{held_words}
 use Rattle.phase_gate.proofs.row_phases.RowPhases.do_get.Goals as goal
 
 pub returns-clause-memory : goal.returns-clause-memory

@@ -5,7 +5,7 @@ use Rattle.paris_code.specs.Memory.{is_active, processors}
 use Rattle.paris_code.specs.Scanning.{scanned}
 use Rattle.phase_gate.specs.Rows.{sets_of, memory_of, room_of}
 use Rattle.phase_gate.specs.Scans.{scan_of}
-use Rattle.phase_gate.proofs.Stepwise.{held_words}
+use Rattle.phase_meaning.proofs.Stepwise.{held_words}
 use Rattle.phase_gate.proofs.row_phases.RowPhases.do_scan.Goals as goal
 
 pub returns-clause-memory : goal.returns-clause-memory

@@ -5,9 +5,9 @@ use Rattle.vp_sets.specs.Positions.{shifted}
 use Rattle.paris_code.specs.Fetching.{of_neighbour}
 use Rattle.paris_code.specs.Memory.{field_number, is_active, processors}
 use Rattle.paris_code.specs.Shapes.{extents_at}
-use Rattle.phase_gate.specs.Gathered.{gathered}
+use Rattle.phase_meaning.specs.Gathered.{gathered}
 use Rattle.phase_gate.specs.Rows.{sets_of, memory_of, room_of}
-use Rattle.phase_gate.proofs.Stepwise.{held_words}
+use Rattle.phase_meaning.proofs.Stepwise.{held_words}
 use Rattle.phase_gate.proofs.row_phases.RowPhases.do_shift.Goals as goal
 
 pub returns-clause-memory : goal.returns-clause-memory

@@ -11,11 +11,11 @@ use Rattle.paris_code.specs.Elementwise.{element, destination}
 use Rattle.paris_code.specs.Memory.{whole_number, field_number}
 use Rattle.paris_code.specs.Operators.{operator_of}
 use Rattle.paris_code.specs.Shapes.{extents_at}
-use Rattle.phase_gate.specs.Apply.{CanApply}
+use Rattle.phase_meaning.specs.Apply.{CanApply}
 use Rattle.phase_gate.specs.Rows.{sets_of, memory_of}
 use Rattle.phase_gate.specs.declared.row_phases.RowPhases.{RowPhases}
-use Rattle.phase_gate.proofs.FieldLemmas.{lies}
-use Rattle.phase_gate.proofs.Widths.{residue_within, complement_cut, negative_cut, cut_cut}
+use Rattle.phase_meaning.proofs.FieldLemmas.{lies}
+use Rattle.phase_meaning.proofs.Widths.{residue_within, complement_cut, negative_cut, cut_cut}
 use Rattle.phase_gate.proofs.row_phases.RowPhases.element.Goals as goal
 
 -- a word has the lowest bits of what the instruction gives

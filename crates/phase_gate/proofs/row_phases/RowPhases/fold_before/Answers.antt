@@ -2,8 +2,9 @@ use Rattle.std.proofs.Common.{◌≡◌, ◌∙◌, sym, ap}
 use Rattle.std.specs.Prelude.{unwrap_or}
 use Rattle.cstar_base.specs.Folds.{fold_once, identity_of}
 use Rattle.phase_gate.specs.Rows.{sets_of, memory_of}
-use Rattle.phase_gate.specs.Scans.{scan_of, before_at}
-use Rattle.phase_gate.proofs.Runs.{folds, first_fold, begun_fold, more_fold, same_fold}
+use Rattle.phase_gate.specs.Scans.{scan_of}
+use Rattle.phase_meaning.specs.Scans.{before_at}
+use Rattle.phase_meaning.proofs.Runs.{folds, first_fold, begun_fold, more_fold, same_fold}
 use Rattle.phase_gate.proofs.row_phases.RowPhases.fold_before.Goals as goal
 
 pub returns-in_default : goal.returns-in_default

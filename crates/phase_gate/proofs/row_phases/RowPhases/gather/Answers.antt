@@ -5,7 +5,7 @@ use Rattle.std.proofs.lemmas.Bool.{cases_eq}
 use Rattle.std.proofs.lemmas.List.{length-map}
 use Rattle.paris_code.specs.Memory.{BitMemory}
 use Rattle.phase_gate.specs.Rows.{row_bit, room_word, memory_of, room_of, no_bits, no_words, shape_of_rows}
-use Rattle.phase_gate.proofs.Memories.{entry, entry_new, entry_other}
+use Rattle.phase_meaning.proofs.Entries.{entry, entry_new, entry_other}
 use Rattle.phase_gate.proofs.row_phases.RowPhases.gather.Goals as goal
 
 pub returns-clause-memory : goal.returns-clause-memory

@@ -7,7 +7,7 @@ use Rattle.paris_code.specs.Operators.{combiner_of}
 use Rattle.paris_code.specs.Sending.{sends_to, winning_sender, combined}
 use Rattle.phase_gate.specs.declared.row_phases.RowPhases.{RowPhases}
 use Rattle.phase_gate.specs.Rows.{sets_of, memory_of, room_of}
-use Rattle.phase_gate.proofs.Senders.{folded, folded_none, folds_more, folds_same}
+use Rattle.phase_meaning.proofs.Senders.{folded, folded_none, folds_more, folds_same}
 use Rattle.phase_gate.proofs.row_phases.RowPhases.gather_combined.Goals as goal
 use Rattle.phase_gate.proofs.row_phases.RowPhases.gather_combined.Goals.{in-Some, in_default}
 

@@ -5,7 +5,7 @@ use Rattle.paris_code.specs.Memory.{processors, field_number, whole_number}
 use Rattle.paris_code.specs.Operators.{combiner_of}
 use Rattle.paris_code.specs.Sending.{sends_to}
 use Rattle.phase_gate.specs.Rows.{sets_of, memory_of, room_of}
-use Rattle.phase_gate.proofs.Senders.{folded}
+use Rattle.phase_meaning.proofs.Senders.{folded}
 use Rattle.phase_gate.proofs.row_phases.RowPhases.gather_combined.Given as goal
 
 abbrev pub invariant-senders : goal.invariant-senders

@@ -4,8 +4,9 @@ use Rattle.paris_code.specs.Memory.{BitMemory, processors}
 use Rattle.paris_code.specs.Scanning.{steps_before}
 use Rattle.paris_code.specs.Shapes.{SetShape}
 use Rattle.phase_gate.specs.Rows.{sets_of, memory_of, room_of}
-use Rattle.phase_gate.specs.Scans.{scan_of, before_at}
-use Rattle.phase_gate.proofs.Lines.{steps_below, steps_twice, earlier}
+use Rattle.phase_gate.specs.Scans.{scan_of}
+use Rattle.phase_meaning.specs.Scans.{before_at}
+use Rattle.phase_meaning.proofs.Lines.{steps_below, steps_twice, earlier}
 use Rattle.phase_gate.proofs.row_phases.RowPhases.gather_folds.Goals as goal
 
 pub positions-init : goal.positions-init

@@ -4,7 +4,7 @@ use Rattle.paris_code.specs.Fetching.{of_named, number_or_zero}
 use Rattle.paris_code.specs.Memory.{BitMemory, field_number}
 use Rattle.paris_code.specs.Shapes.{SetShape}
 use Rattle.std.proofs.Common.{List}
-use Rattle.phase_gate.specs.Gathered.{word_if}
+use Rattle.phase_meaning.specs.Gathered.{word_if}
 use Rattle.phase_gate.specs.Rows.{sets_of, memory_of, room_of}
 use Rattle.phase_gate.proofs.row_phases.RowPhases.gather_named.Goals as goal
 

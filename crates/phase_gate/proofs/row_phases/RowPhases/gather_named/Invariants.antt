@@ -1,6 +1,6 @@
 use Rattle.std.proofs.Common.{◌≡◌, ℕ, ◌<◌, false}
 use Rattle.paris_code.specs.Fetching.{of_named}
-use Rattle.phase_gate.specs.Gathered.{word_if}
+use Rattle.phase_meaning.specs.Gathered.{word_if}
 use Rattle.phase_gate.specs.Rows.{sets_of, memory_of, room_of}
 use Rattle.phase_gate.proofs.row_phases.RowPhases.gather_named.Given as goal
 

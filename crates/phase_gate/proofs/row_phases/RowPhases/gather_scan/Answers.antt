@@ -4,9 +4,10 @@ use Rattle.std.proofs.lemmas.Bool.{cases_eq}
 use Rattle.paris_code.specs.Memory.{BitMemory, processors}
 use Rattle.paris_code.specs.Scanning.{scanned}
 use Rattle.paris_code.specs.Shapes.{SetShape}
-use Rattle.phase_gate.specs.Gathered.{word_if}
+use Rattle.phase_meaning.specs.Gathered.{word_if}
 use Rattle.phase_gate.specs.Rows.{sets_of, memory_of, room_of}
-use Rattle.phase_gate.specs.Scans.{scan_of, before_at}
+use Rattle.phase_gate.specs.Scans.{scan_of}
+use Rattle.phase_meaning.specs.Scans.{before_at}
 use Rattle.phase_gate.proofs.row_phases.RowPhases.gather_scan.Goals as goal
 
 pub positions-init : goal.positions-init

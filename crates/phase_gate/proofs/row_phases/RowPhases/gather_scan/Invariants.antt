@@ -1,9 +1,10 @@
 use Rattle.std.proofs.Common.{◌≡◌, ℕ, ◌<◌, ◌≤◌, false, Some}
 use Rattle.paris_code.specs.Memory.{processors}
 use Rattle.paris_code.specs.Scanning.{scanned}
-use Rattle.phase_gate.specs.Gathered.{word_if}
+use Rattle.phase_meaning.specs.Gathered.{word_if}
 use Rattle.phase_gate.specs.Rows.{sets_of, memory_of, room_of}
-use Rattle.phase_gate.specs.Scans.{scan_of, before_at}
+use Rattle.phase_gate.specs.Scans.{scan_of}
+use Rattle.phase_meaning.specs.Scans.{before_at}
 use Rattle.phase_gate.proofs.row_phases.RowPhases.gather_scan.Given as goal
 
 abbrev pub invariant-positions : goal.invariant-positions

@@ -2,7 +2,7 @@ use Rattle.std.proofs.Common.{◌≡◌, ℕ, ◌<◌}
 use Rattle.vp_sets.specs.Positions.{shifted}
 use Rattle.paris_code.specs.Memory.{field_number}
 use Rattle.paris_code.specs.Shapes.{extents_at}
-use Rattle.phase_gate.specs.Gathered.{word_if}
+use Rattle.phase_meaning.specs.Gathered.{word_if}
 use Rattle.phase_gate.specs.Rows.{sets_of, memory_of, room_of}
 use Rattle.phase_gate.proofs.row_phases.RowPhases.gather_shift.Given as goal
 

@@ -4,8 +4,8 @@ use Rattle.paris_code.specs.Memory.{BitMemory, field_number, processors}
 use Rattle.paris_code.specs.Sending.{sends_to, winning_sender}
 use Rattle.phase_gate.specs.declared.row_phases.RowPhases.{RowPhases}
 use Rattle.phase_gate.specs.Rows.{sets_of, memory_of, room_of}
-use Rattle.phase_gate.specs.Sends.{kept}
-use Rattle.phase_gate.proofs.Senders.{mail, mail_none, winners_more, winners_same}
+use Rattle.phase_meaning.specs.Sends.{kept}
+use Rattle.phase_meaning.proofs.Senders.{mail, mail_none, winners_more, winners_same}
 use Rattle.phase_gate.proofs.row_phases.RowPhases.gather_winners.Goals as goal
 use Rattle.phase_gate.proofs.row_phases.RowPhases.gather_winners.Goals.{in-Some, in_default}
 

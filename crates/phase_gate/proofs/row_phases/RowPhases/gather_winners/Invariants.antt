@@ -2,7 +2,7 @@ use Rattle.std.proofs.Common.{◌≡◌, ℕ, ◌<◌}
 use Rattle.paris_code.specs.Memory.{processors}
 use Rattle.paris_code.specs.Sending.{sends_to}
 use Rattle.phase_gate.specs.Rows.{sets_of, memory_of, room_of}
-use Rattle.phase_gate.proofs.Senders.{mail}
+use Rattle.phase_meaning.proofs.Senders.{mail}
 use Rattle.phase_gate.proofs.row_phases.RowPhases.gather_winners.Given as goal
 
 abbrev pub invariant-senders : goal.invariant-senders

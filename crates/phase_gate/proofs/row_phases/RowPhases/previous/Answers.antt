@@ -4,8 +4,9 @@ use Rattle.std.proofs.lemmas.Int.{ints}
 use Rattle.cstar_base.specs.declared.operators.Direction.{Direction}
 use Rattle.vp_sets.specs.Positions.{position_count, coordinate}
 use Rattle.vp_sets.proofs.PositionLaws.{geometry_parts}
-use Rattle.phase_gate.specs.Scans.{scan_of, IsPrevious}
-use Rattle.phase_gate.proofs.Lines.{Backs, moved_is, previous_is, first_up, first_down}
+use Rattle.phase_gate.specs.Scans.{scan_of}
+use Rattle.phase_meaning.specs.Scans.{IsPrevious}
+use Rattle.phase_meaning.proofs.Lines.{Backs, moved_is, previous_is, first_up, first_down}
 use Rattle.phase_gate.proofs.row_phases.RowPhases.previous.Goals as goal
 
 pub returns-in-Upward : goal.returns-in-Upward

@@ -5,7 +5,7 @@ use Rattle.paris_code.specs.Memory.{is_active, field_number, processors}
 use Rattle.paris_code.specs.Operators.{combiner_of}
 use Rattle.paris_code.specs.Orders.{fold_below}
 use Rattle.phase_gate.specs.Rows.{sets_of, memory_of}
-use Rattle.phase_gate.proofs.Rising.{fold_none, fold_one, fold_skip}
+use Rattle.phase_meaning.proofs.Rising.{fold_none, fold_one, fold_skip}
 use Rattle.phase_gate.proofs.row_phases.RowPhases.reduce.Goals as goal
 use Rattle.phase_gate.proofs.row_phases.RowPhases.reduce.Goals.{then-is_active, else-is_active}
 

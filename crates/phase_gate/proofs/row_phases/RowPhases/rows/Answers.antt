@@ -1,7 +1,7 @@
 use Rattle.std.proofs.Common.{map, get_or, ap, ◌∙◌, arith}
 use Rattle.std.proofs.lemmas.List.{length-map}
 use Rattle.phase_gate.specs.Rows.{row_bit, room_word, memory_of, room_of, no_bits, no_words, shape_of_rows}
-use Rattle.phase_gate.proofs.Memories.{entry}
+use Rattle.phase_meaning.proofs.Entries.{entry}
 use Rattle.phase_gate.proofs.row_phases.RowPhases.rows.Goals as goal
 
 pub returns-clause-cells : goal.returns-clause-cells

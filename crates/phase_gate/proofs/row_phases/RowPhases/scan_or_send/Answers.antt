@@ -11,10 +11,10 @@ use Rattle.paris_code.specs.Elementwise.{is_elementwise}
 use Rattle.paris_code.specs.Meaning.{after}
 use Rattle.paris_code.specs.Memory.{BitMemory, SameBits}
 use Rattle.paris_code.specs.Shapes.{SetShape}
-use Rattle.phase_gate.specs.Apply.{CanApply, is_fetch}
+use Rattle.phase_meaning.specs.Apply.{CanApply, is_fetch}
 use Rattle.phase_gate.specs.Rows.{sets_of, memory_of}
-use Rattle.phase_gate.proofs.FieldLemmas.{scan_lies}
-use Rattle.phase_gate.proofs.Replies.{same_bits}
+use Rattle.phase_meaning.proofs.FieldLemmas.{scan_lies}
+use Rattle.phase_meaning.proofs.Replies.{same_bits}
 use Rattle.phase_gate.proofs.row_phases.RowPhases.scan_or_send.Goals as goal
 
 pub returns-in-SendWithOverwrite-clause-memory : goal.returns-in-SendWithOverwrite-clause-memory

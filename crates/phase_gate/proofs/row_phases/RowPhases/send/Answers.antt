@@ -1,7 +1,7 @@
 use Rattle.std.proofs.Common.{Some, refl}
 use Rattle.paris_code.specs.Sending.{combined, combining}
 use Rattle.phase_gate.specs.Rows.{sets_of, memory_of, room_of}
-use Rattle.phase_gate.proofs.Stepwise.{held_words}
+use Rattle.phase_meaning.proofs.Stepwise.{held_words}
 use Rattle.phase_gate.proofs.row_phases.RowPhases.send.Goals as goal
 
 pub returns-clause-memory : goal.returns-clause-memory

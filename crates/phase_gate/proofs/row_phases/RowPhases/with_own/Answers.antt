@@ -5,7 +5,8 @@ use Rattle.paris_code.specs.Memory.{field_number}
 use Rattle.paris_code.specs.Operators.{combiner_of}
 use Rattle.paris_code.specs.Scanning.{scanned, with_own}
 use Rattle.phase_gate.specs.Rows.{sets_of, memory_of}
-use Rattle.phase_gate.specs.Scans.{scan_of, before_at}
+use Rattle.phase_gate.specs.Scans.{scan_of}
+use Rattle.phase_meaning.specs.Scans.{before_at}
 use Rattle.phase_gate.proofs.row_phases.RowPhases.with_own.Goals as goal
 
 pub returns-in-Exclusive : goal.returns-in-Exclusive

@@ -5,8 +5,9 @@ use Rattle.std.proofs.lemmas.List.{length-map}
 use Rattle.paris_code.specs.Shapes.{bits_at}
 use Rattle.paris_code.specs.Writes.{written}
 use Rattle.phase_gate.specs.Rows.{row_bit, room_word, memory_of, room_of, no_bits, no_words, shape_of_rows, sets_of}
-use Rattle.phase_gate.proofs.FieldLemmas.{bits_of_rows}
-use Rattle.phase_gate.proofs.Memories.{entry, entry_new, entry_other, set_written}
+use Rattle.phase_gate.proofs.RowSets.{bits_of_rows}
+use Rattle.phase_meaning.proofs.Entries.{entry, entry_new, entry_other}
+use Rattle.phase_meaning.proofs.RunWrites.{set_written}
 use Rattle.phase_gate.proofs.row_phases.RowPhases.write.Goals as goal
 
 pub returns-clause-bits : goal.returns-clause-bits
@@ -23,8 +24,8 @@ returns-clause-bits c =
     record {
       bits = λ s p i in_sets in_set bound.
           ap (λ k. get_or (map row_bit (set sets k new)) s no_bits p i) c.from.ensures
-          ∙ set_written (map row_bit sets) (map row_bit (set sets run.set new)) no_bits run c.args.position c.args.n (bits_at (sets_of c.args.self.now) run.set + 2)
-          (λ j n. entry_other row_bit sets run.set new no_bits j n)
+          ∙ set_written (λ k. get_or (map row_bit sets) k no_bits) (λ k. get_or (map row_bit (set sets run.set new)) k no_bits) run c.args.position c.args.n (bits_at (sets_of c.args.self.now) run.set + 2)
+          (λ j q b n. ap (λ bits. bits q b) (entry_other row_bit sets run.set new no_bits j n))
           (λ j l h. ap (λ bits. bits c.args.position j) here ∙ c.set_number.ensures.inside j l h)
           (λ q j b apart. ap (λ bits. bits q j) here ∙ c.set_number.ensures.outside q j (omega arith) apart ∙ ap (λ bits. bits q j) old)
           s p i (λ e. subst (λ k. i < bits_at (sets_of c.args.self.now) k + 2) e bound);

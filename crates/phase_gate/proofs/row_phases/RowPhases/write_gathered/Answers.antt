@@ -3,10 +3,10 @@ use Rattle.paris_code.specs.Fetching.{at_one}
 use Rattle.paris_code.specs.Memory.{SameBits}
 use Rattle.paris_code.specs.Writes.{written}
 use Rattle.phase_gate.specs.declared.row_phases.RowPhases.{RowPhases}
-use Rattle.phase_gate.specs.Gathered.{held}
+use Rattle.phase_meaning.specs.Gathered.{held}
 use Rattle.phase_gate.specs.Rows.{sets_of, memory_of, room_of}
-use Rattle.phase_gate.proofs.Stepwise.{held_more, held_skip}
-use Rattle.phase_gate.proofs.Partly.{PartlyWritten, part_none, part_all}
+use Rattle.phase_meaning.proofs.Stepwise.{held_more, held_skip}
+use Rattle.phase_meaning.proofs.Partly.{PartlyWritten, part_none, part_all}
 use Rattle.phase_gate.proofs.row_phases.RowPhases.write_gathered.Goals as goal
 use Rattle.phase_gate.proofs.row_phases.RowPhases.write_gathered.Goals.{in-Some, in_default}
 

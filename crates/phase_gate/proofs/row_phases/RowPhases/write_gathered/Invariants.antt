@@ -1,7 +1,7 @@
 use Rattle.std.proofs.Common.{◌≡◌}
-use Rattle.phase_gate.specs.Gathered.{held}
+use Rattle.phase_meaning.specs.Gathered.{held}
 use Rattle.phase_gate.specs.Rows.{sets_of, memory_of, room_of}
-use Rattle.phase_gate.proofs.Partly.{PartlyWritten}
+use Rattle.phase_meaning.proofs.Partly.{PartlyWritten}
 use Rattle.phase_gate.proofs.row_phases.RowPhases.write_gathered.Given as goal
 
 abbrev pub invariant-positions : goal.invariant-positions

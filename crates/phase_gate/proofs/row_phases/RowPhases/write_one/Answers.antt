@@ -2,7 +2,7 @@ use Rattle.std.proofs.Common.{arith}
 use Rattle.std.proofs.lemmas.Bool.{ne_eqb}
 use Rattle.paris_code.specs.Fetching.{at_one}
 use Rattle.phase_gate.specs.Rows.{sets_of, memory_of}
-use Rattle.phase_gate.proofs.Partly.{none_written}
+use Rattle.phase_meaning.proofs.Partly.{none_written}
 use Rattle.phase_gate.proofs.row_phases.RowPhases.write_one.Goals as goal
 
 pub returns-else-processor-positions-clause-memory : goal.returns-else-processor-positions-clause-memory

@@ -3,7 +3,8 @@ use Rattle.std.specs.Int.{bit_at}
 use Rattle.std.proofs.lemmas.Nat.{and_mask, mod_below, pow_pos}
 use Rattle.std.proofs.lemmas.Bool.{cases_lt, cases_eq}
 use Rattle.phase_gate.specs.Rows.{row_bit}
-use Rattle.phase_gate.proofs.RowBits.{replaced, replaces, changed_inside, changed_outside, bit_at-cut}
+use Rattle.phase_gate.proofs.RowBits.{replaced, replaces, changed_inside, changed_outside}
+use Rattle.cstar_base.proofs.BitCuts.{bit_at-cut}
 use Rattle.phase_gate.proofs.rows.Rows.set_number.Goals as goal
 use Rattle.phase_gate.proofs.rows.Rows.set_number.Goals.{After-from}
 

@@ -1,6 +1,6 @@
 use Rattle.std.proofs.Common.{◌+◌, ◌∙◌, eqb, ap}
 use Rattle.phase_gate.specs.Rows.{row_bit}
-use Rattle.phase_gate.proofs.RowBits.{run_number_one}
+use Rattle.phase_meaning.proofs.RunBits.{run_number_one}
 use Rattle.phase_gate.proofs.rows.Rows.test.Goals as goal
 
 pub returns : goal.returns

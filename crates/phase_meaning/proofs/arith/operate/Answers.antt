@@ -2,8 +2,8 @@ use Rattle.std.proofs.Common.{◌^◌, ◌%◌, not, ap, ◌∙◌}
 use Rattle.std.specs.Option.{unwrap_or}
 use Rattle.cstar_base.specs.Operators.{operate}
 use Rattle.paris_code.specs.Operators.{operator_of}
-use Rattle.phase_gate.proofs.Operations.{word, operated}
-use Rattle.phase_gate.proofs.arith.operate.Goals as goal
+use Rattle.phase_meaning.proofs.Operations.{word, operated}
+use Rattle.phase_meaning.proofs.arith.operate.Goals as goal
 
 pub returns : goal.returns
 returns c =

@@ -1,6 +1,6 @@
 use Rattle.std.proofs.Common.{◌+◌, ◌-◌, ap, sym, ◌∙◌, arith}
-use Rattle.phase_gate.proofs.Operations.{word, word_lower, word_upper, word_plain}
-use Rattle.phase_gate.proofs.arith.extended.Goals as goal
+use Rattle.phase_meaning.proofs.Operations.{word, word_lower, word_upper, word_plain}
+use Rattle.phase_meaning.proofs.arith.extended.Goals as goal
 
 pub returns-then-not-signed : goal.returns-then-not-signed
 returns-then-not-signed c = word_plain c.args.len c.args.signed c.args.n c.requires.len.1 c.requires.number c.if-not-signed.true

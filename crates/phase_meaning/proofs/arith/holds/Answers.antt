@@ -3,8 +3,8 @@ use Rattle.std.specs.Int.{from_bool}
 use Rattle.std.specs.Option.{option_eq}
 use Rattle.cstar_base.specs.Operators.{operate}
 use Rattle.paris_code.specs.Operators.{comparison_of}
-use Rattle.phase_gate.proofs.Operations.{word, compared}
-use Rattle.phase_gate.proofs.arith.holds.Goals as goal
+use Rattle.phase_meaning.proofs.Operations.{word, compared}
+use Rattle.phase_meaning.proofs.arith.holds.Goals as goal
 
 pub returns : goal.returns
 returns c =

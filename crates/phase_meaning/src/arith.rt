@@ -5,14 +5,14 @@ ghost use Rattle.std.specs.Int.{from_bool};
 ghost use Rattle.cstar_base.specs.Numbers.{residue, number_of};
 ghost use Rattle.cstar_base.specs.Operators.{outcome};
 ghost use Rattle.paris_code.specs.Operators.{operator_of, comparison_of};
-ghost use Rattle.phase_gate.specs.Shifts.{is_shift};
+ghost use Rattle.phase_meaning.specs.Shifts.{is_shift};
 
 use cstar_base::Elem;
 use cstar_base::numbers::{op, value};
 use paris_code::{Compare, Operation};
 
 /// The lowest `len` bits, all 1.
-pub(crate) fn mask(len: u8) -> u32
+pub fn mask(len: u8) -> u32
     requires { (1 ≤ len) × (len ≤ 32) }
     ensures { result ≡ 2 ^ len - 1 }
 {
@@ -20,7 +20,7 @@ pub(crate) fn mask(len: u8) -> u32
 }
 
 /// The number of a field of `len` bits as a word: in two's complement where it is signed.
-pub(crate) fn extended(signed: bool, len: u8, n: u32) -> u32
+pub fn extended(signed: bool, len: u8, n: u32) -> u32
     requires len { (1 ≤ len) × (len ≤ 32) }
     requires number { n < 2 ^ len }
     ensures { result ≡ residue 32 (number_of len signed n) }
@@ -57,7 +57,7 @@ fn right_word(operation: Operation, len: u8, b: u32) -> u32
 }
 
 /// The operation on two fields of `len` bits. A division by 0 gives 0.
-pub(crate) fn operate(operation: Operation, len: u8, a: u32, b: u32) -> u32
+pub fn operate(operation: Operation, len: u8, a: u32, b: u32) -> u32
     requires len { (1 ≤ len) × (len ≤ 32) }
     requires left { a < 2 ^ len }
     requires right { b < 2 ^ len }
@@ -69,7 +69,7 @@ pub(crate) fn operate(operation: Operation, len: u8, a: u32, b: u32) -> u32
 }
 
 /// Whether the relation holds of two fields of `len` bits.
-pub(crate) fn holds(relation: Compare, len: u8, a: u32, b: u32) -> bool
+pub fn holds(relation: Compare, len: u8, a: u32, b: u32) -> bool
     requires len { (1 ≤ len) × (len ≤ 32) }
     requires left { a < 2 ^ len }
     requires right { b < 2 ^ len }
@@ -82,7 +82,7 @@ pub(crate) fn holds(relation: Compare, len: u8, a: u32, b: u32) -> bool
 }
 
 /// The whole number that a word stands for.
-pub(crate) fn whole(signed: bool, w: u32) -> i64
+pub fn whole(signed: bool, w: u32) -> i64
     ensures { result ≡ number_of 32 signed w }
 {
     if signed {
@@ -94,7 +94,7 @@ pub(crate) fn whole(signed: bool, w: u32) -> i64
 
 /// The number that a word stands for in two's complement.
 #[tactic(auto, unfolding(cstar_base::specs::Numbers::least_of, cstar_base::specs::Numbers::greatest_of))]
-pub(crate) fn signed(w: u32) -> i32
+pub fn signed(w: u32) -> i32
     ensures { result ≡ number_of 32 true w }
 {
     value(Elem::INT, w) as i32

@@ -6,8 +6,8 @@ use Rattle.paris_code.specs.Fetching.{at_one}
 use Rattle.paris_code.specs.Memory.{BitMemory, SameBits, processors}
 use Rattle.paris_code.specs.Shapes.{SetShape}
 use Rattle.paris_code.specs.Writes.{Write, covers, written}
-use Rattle.phase_gate.proofs.RowBits.{bit_at-cut}
-use Rattle.phase_gate.proofs.Locality.{AgreeAt}
+use Rattle.cstar_base.proofs.BitCuts.{bit_at-cut}
+use Rattle.phase_meaning.proofs.Locality.{AgreeAt}
 
 -- the part of a write at the positions below k
 abbrev pub part : ℕ → Write → Write

@@ -1,8 +1,5 @@
 -- What the image rules on fields give the phases.
-use Rattle.std.proofs.Common.{◌≡◌, ℕ, Option, Some, None, zero, suc, [], ◌∷◌, ◌<◌, List, length, subst, map, slice_set, get_or, All, sym, ap, ◌∙◌, refl, true, lit≤, arith}
-use Rattle.std.proofs.Math.Seq.{map-set_same}
-use Rattle.phase_gate.specs.declared.rows.Rows.{Rows}
-use Rattle.phase_gate.specs.Rows.{shape_of_rows}
+use Rattle.std.proofs.Common.{◌≡◌, ℕ, Option, Some, None, zero, suc, [], ◌∷◌, ◌<◌, List, length, subst, map, get_or, All, sym, ap, ◌∙◌, refl, true, lit≤, arith}
 use Rattle.paris_code.specs.declared.operands.Field.{Field}
 use Rattle.std.proofs.lemmas.List.{get_or-map, length-map}
 use Rattle.paris_code.specs.declared.operands.Coordinate.{Coordinate}
@@ -16,7 +13,7 @@ use Rattle.cstar_base.specs.declared.operators.Inclusion.{Inclusion}
 use Rattle.cstar_base.specs.declared.operators.SegmentMode.{SegmentMode}
 use Rattle.cstar_base.specs.declared.operators.SegmentMode.TheVariants as M
 use Rattle.paris_code.specs.declared.operands.Reduction.{Reduction}
-use Rattle.paris_code.specs.Shapes.{SetShape, no_shape, shape_of, bits_at, rank_at}
+use Rattle.paris_code.specs.Shapes.{SetShape, no_shape, shape_of, rank_at}
 use Rattle.paris_code.specs.declared.instr.Instr.{Instr}
 use Rattle.paris_code.specs.declared.instr.Instr.TheVariants as I
 use Rattle.paris_code.specs.Checking.{set_or_later, set_of_coordinates}
@@ -26,7 +23,7 @@ use Rattle.paris_code.specs.Sound.{IsShape}
 use Rattle.paris_code.specs.RuleField.{Fits, CoordinateFits, ScanBitFits}
 use Rattle.paris_code.specs.RuleOperands.{IsWith, CoordinateIsWith, AreTogether, BitIsWith}
 use Rattle.paris_code.specs.RuleSet.{FieldExists, CoordinateExists, BitExists}
-use Rattle.phase_gate.specs.Apply.{IsPosition, LiesIn, IsCoordinateAt, CanApply, IsRun, active_set, looked_at}
+use Rattle.phase_meaning.specs.Apply.{IsPosition, LiesIn, IsCoordinateAt, CanApply, IsRun, active_set, looked_at}
 
 -- a field that fits and whose set exists lies in its set
 pub lies : (shapes : List SetShape) (f : Field) → Fits shapes f → FieldExists shapes f → LiesIn shapes f
@@ -37,10 +34,6 @@ pub same_positions : (shapes : List SetShape) (f other : Field) (position : ℕ)
 same_positions shapes f other position exists other_exists with at =
     let family : ℕ → Type 0 = λ set. IsPosition shapes set position in
     subst family (with exists other_exists) at
-
--- a set whose rows keep their shape
-pub same_sets : (sets : List Rows) (set : ℕ) (rows old : Rows) → shape_of_rows rows ≡ shape_of_rows (get_or sets set old) → map shape_of_rows (slice_set sets set rows) ≡ map shape_of_rows sets
-same_sets sets set rows old same = map-set_same shape_of_rows sets set rows old same
 
 coordinate_at : (shapes : List SetShape) (slots : ℕ) (d : Field) (position : ℕ) (c : Coordinate) → FieldExists shapes d → IsPosition shapes d.set position → CoordinateFits shapes slots c → CoordinateExists shapes c → CoordinateIsWith shapes d c → IsCoordinateAt shapes position c
 coordinate_at shapes slots d position (C.Field f) exists at fits there with = (lies shapes f fits there, same_positions shapes d f position exists there with at)
@@ -56,10 +49,6 @@ shape_kept shapes k shape all within is =
     let family : SetShape → Type 0 = λ s. IsShape s in
     let at : ShapeBits → Type 0 = λ s. IsShape (shape_of s) in
     subst at (sym is) (subst family (get_or-map shape_of shapes k shape no_shape within) (all k no_shape (rw length-map within)))
-
--- the bits of a set are those of its rows
-pub bits_of_rows : (sets : List Rows) (set : ℕ) (rows : Rows) → set < length sets → rows ≡ get_or sets set rows → rows.bits ≡ bits_at (map shape_of_rows sets) set
-bits_of_rows sets set rows within is = ap (λ r. r.bits) is ∙ ap (λ s. s.bits) (sym (get_or-map shape_of_rows sets set rows no_shape within))
 
 -- the destination of an elementwise instruction is a run of the set that does it
 abbrev Runs : List SetShape → Instr → Type 0

@@ -1,6 +1,6 @@
 use Rattle.std.proofs.Common.{◌≡◌, ◌-◌, ◌^◌, ◌/◌, ◌∙◌, ap, arith}
 use Rattle.std.proofs.lemmas.Nat.Bits.{ones_shr}
-use Rattle.phase_gate.proofs.arith.mask.Goals as goal
+use Rattle.phase_meaning.proofs.arith.mask.Goals as goal
 
 pub returns : goal.returns
 returns c =

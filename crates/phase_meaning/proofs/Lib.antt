@@ -1,0 +1,17 @@
+pub mod Addresses
+pub mod Alike
+pub mod Entries
+pub mod FieldLemmas
+pub mod Lines
+pub mod Locality
+pub mod Operations
+pub mod Partly
+pub mod Replies
+pub mod Rising
+pub mod RunBits
+pub mod RunWrites
+pub mod Runs
+pub mod Senders
+pub mod Stepwise
+pub mod Tests
+pub mod Widths

@@ -1,0 +1,5 @@
+pub mod Apply
+pub mod Gathered
+pub mod Scans
+pub mod Sends
+pub mod Shifts
