@@ -1,12 +1,12 @@
 -- Numbers as rows of bits: how words hold them, and how they are read.
-use Rattle.std.proofs.Common.{◌≡◌, ◌≢◌, ℕ, suc, zero, ◌+◌, ◌-◌, ◌*◌, ◌/◌, ◌%◌, ◌^◌, ◌<◌, ◌≤◌, List, [], ◌∷◌, length, get_or, sym, ◌∙◌, ap, inl, inr, zero-add, arith}
+use Rattle.std.proofs.Common.{◌≡◌, ◌≢◌, ℕ, suc, zero, ◌+◌, ◌-◌, ◌*◌, ◌/◌, ◌%◌, ◌^◌, ◌<◌, ◌≤◌, List, [], ◌∷◌, length, get_or, min, cond, nat_lt, sym, ◌∙◌, ap, inl, inr, zero-add, arith}
 use Rattle.std.specs.Int.{bit_at}
 use Rattle.std.proofs.Math.ListN.{set, length-set}
 use Rattle.std.proofs.lemmas.List.{get_or-set_same, get_or-set_other}
-use Rattle.std.proofs.lemmas.Bool.{cases_lt, cases_eq}
+use Rattle.std.proofs.lemmas.Bool.{cases_lt, cases_eq, lt-ltb, le-ltb}
 use Rattle.cstar_base.proofs.BitCuts.{bit_at-cut, bit_at-shr}
 use Rattle.bit_planes.proofs.Planes.{plane-set_same, plane-set_other, number_is, low_bits}
-use Rattle.std.proofs.lemmas.Nat.Bits.{bit_at_cat_low, bit_at_cat_high}
+use Rattle.std.proofs.lemmas.Nat.Bits.{bit_at_cat_low, bit_at_cat_high, bit_at_ones, bit_at_ones_above}
 use Rattle.bit_planes.specs.Bits.{bit}
 use Rattle.bit_planes.specs.Planes.{plane_at, number}
 use Rattle.bit_planes.specs.Steps.{Transposed}
@@ -42,6 +42,18 @@ row_bits v fits row rb a b c d e g h k p0 p1 p2 p3 p4 p5 p6 p7 i ib =
       | inr g ↦ bit_at_cat_high (get_or v (row + 64 * (i / 64) + 32) 0) 32 (get_or v (row + 64 * (i / 64)) 0) (i % 64) (fits (row + 64 * (i / 64)) (omega arith)) g
           ∙ ap (λ n. bit_at (get_or v n 0) (i % 64 - 32)) (let e : row + 64 * (i / 64) + 32 ≡ i - i % 32 + row = omega arith in e)
           ∙ ap (λ j. bit_at (get_or v (i - i % 32 + row) 0) j) (let e : i % 64 - 32 ≡ i % 32 = omega arith in e)
+    ]
+
+-- a plane whose words have 1 in the lanes below a count
+pub first_bits : (count a b c d e g h k : ℕ) → let ones : ℕ → ℕ = λ w. 2 ^ min 64 (count - 64 * w) - 1 in
+    a ≡ ones 0 → b ≡ ones 1 → c ≡ ones 2 → d ≡ ones 3 → e ≡ ones 4 → g ≡ ones 5 → h ≡ ones 6 → k ≡ ones 7
+    → (i : ℕ) → i < 512 → bit (a ∷ b ∷ c ∷ d ∷ e ∷ g ∷ h ∷ k ∷ []) i ≡ cond (nat_lt i count) 1 0
+unfolding bit
+first_bits count a b c d e g h k p0 p1 p2 p3 p4 p5 p6 p7 i ib =
+    ap (λ n. bit_at n (i % 64)) (eight (λ w. 2 ^ min 64 (count - 64 * w) - 1) a b c d e g h k p0 p1 p2 p3 p4 p5 p6 p7 (i / 64) (omega arith))
+    ∙ elim (cases_lt i count) [
+      | inl l ↦ bit_at_ones (min 64 (count - 64 * (i / 64))) (i % 64) (omega arith) ∙ sym (ap (λ t. cond t 1 0) (lt-ltb i count l))
+      | inr g ↦ bit_at_ones_above (min 64 (count - 64 * (i / 64))) (i % 64) (omega arith) ∙ sym (ap (λ t. cond t 1 0) (le-ltb i count g))
     ]
 
 -- the half of a word of the plane that holds number k

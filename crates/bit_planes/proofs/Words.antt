@@ -8,7 +8,7 @@ use Rattle.std.proofs.lemmas.Simd.{get_or-zip2, Each1-get_or, get_or-replicate}
 use Rattle.std.proofs.lemmas.Nat.Bits.{bit_at_not, bit_at_above, bit_at_ones, bit_at-zero, bit_at_cat_low, bit_at_cat_high}
 use Rattle.std.proofs.lemmas.Nat.{shr-shr, div-add-mod', pow_pos}
 use Rattle.std.proofs.lemmas.Bool.{cases_lt, cases_eq, lt-ltb, le-ltb}
-use Rattle.cstar_base.proofs.BitCuts.{bit_at-shr}
+use Rattle.cstar_base.proofs.BitCuts.{bit_at-cut, bit_at-shr}
 use Rattle.bit_planes.specs.Bits.{bit}
 
 pub bit-lt : (plane : List ℕ) (i : ℕ) → bit plane i < 2

@@ -1,4 +1,4 @@
-ghost use Rattle.std.specs.Prelude.{◌≡◌, ◌≢◌, ℕ, ◌<◌, ◌+◌, ◌*◌, ◌-◌, ◌/◌, ◌%◌, min, max, if◌then◌else◌, nat_lt};
+ghost use Rattle.std.specs.Prelude.{◌≡◌, ◌≢◌, ℕ, ◌<◌, ◌+◌, ◌*◌, ◌-◌, ◌/◌, ◌%◌, ◌^◌, min, max, if◌then◌else◌, nat_lt};
 ghost use Rattle.std.specs.Int.{bit_at};
 ghost use Rattle.bit_planes.specs.Bits.{bit};
 
@@ -81,7 +81,7 @@ pub fn repeated(one: bool) -> u64x8
 #[inline(always)]
 fn first_of_word(count: u32, word: u32) -> u64
     requires { word < 8 }
-    ensures { (j : ℕ) → j < 64 → bit_at result j ≡ (if nat_lt (64 * word + j) count then 1 else 0) }
+    ensures { result ≡ 2 ^ min 64 (count - 64 * word) - 1 }
 {
     let from = 64 * word;
     if count <= from {

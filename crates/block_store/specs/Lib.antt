@@ -1,0 +1,4 @@
+pub mod Fresh
+pub mod Phases
+pub mod Planes
+pub mod Stored
