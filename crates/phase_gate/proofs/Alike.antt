@@ -5,8 +5,9 @@ use Rattle.std.specs.Int.{bit_at, int_rem_euclid}
 use Rattle.std.proofs.Math.Nat.{mod-lt}
 use Rattle.std.proofs.lemmas.Bool.{cases_eq, cases_Bool, ne_eqb, ltb-true}
 use Rattle.std.proofs.lemmas.List.Elements.{All-head, All-tail}
+use Rattle.vp_sets.specs.Lines.{steps_before}
 use Rattle.vp_sets.specs.Positions.{position_count, are_positive, coordinate, moved, shifted}
-use Rattle.vp_sets.proofs.PositionLaws.{step_of, extent_positive, geometry_parts}
+use Rattle.vp_sets.proofs.PositionLaws.{step_of, extent_positive, geometry_parts, coordinate_by_stride}
 use Rattle.cstar_base.specs.declared.operators.Winner.{Winner}
 use Rattle.cstar_base.specs.declared.operators.Winner.TheVariants as W
 use Rattle.cstar_base.specs.declared.operators.Direction.{Direction}
@@ -31,7 +32,7 @@ use Rattle.paris_code.specs.Meaning.{after, reply_of, bad_or_nothing}
 use Rattle.paris_code.specs.Memory.{BitMemory, SameBits, field_number, whole_number, is_active, processors}
 use Rattle.paris_code.specs.Operands.{coordinate_of}
 use Rattle.paris_code.specs.Operators.{combiner_of}
-use Rattle.paris_code.specs.Orders.{fold_below, least_below, greatest_below, or_else, any_of}
+use Rattle.cstar_base.specs.Orders.{fold_below, least_below, greatest_below, or_else, any_of}
 use Rattle.paris_code.specs.Scanning.{ScanOf, own_step, on_line, bit_is_one, parts, parts_behind, fold_before, with_own, scanned}
 use Rattle.paris_code.specs.Sending.{sends_to, winner_of, winning_sender, message_or_zero, word_kind, combined}
 use Rattle.paris_code.specs.Shapes.{SetShape, no_shape, extents_at}
@@ -40,6 +41,7 @@ use Rattle.paris_code.specs.Writes.{covers, written}
 use Rattle.phase_gate.specs.Apply.{CanApply, IsCoordinateAt, LiesIn, looked_at}
 use Rattle.phase_gate.proofs.FieldLemmas.{lies, destination_runs, checked_at, own_exists, scan_lies}
 use Rattle.phase_gate.proofs.Locality.{AgreeAt, field_same, active_same, element_same}
+use Rattle.phase_gate.proofs.Lines.{steps_below}
 use Rattle.phase_gate.proofs.Replies.{plain}
 use Rattle.phase_gate.proofs.Runs.{fold_same, any_same}
 
@@ -52,6 +54,9 @@ shifted_below : (xs : List ℕ) (n axis : ℕ) (k : ℤ) → are_positive xs ≡
 unfolding shifted moved
 shifted_below xs n axis k positive within there =
     (step_of xs n axis (coordinate xs n axis) (moved (slice_index xs axis) (coordinate xs n axis) k) (position_count (drop (suc axis) xs)) positive within there refl refl (rem_below _ (slice_index xs axis) (extent_positive xs axis positive there))).bound
+
+coordinate_below : (xs : List ℕ) (n axis : ℕ) → are_positive xs ≡ true → axis < length xs → coordinate xs n axis < slice_index xs axis
+coordinate_below xs n axis positive there = rw (coordinate_by_stride xs n axis there) (mod-lt _ (extent_positive xs axis positive there))
 
 -- choices of the same
 least_same : (f g : ℕ → Bool) (n : ℕ) → ((k : ℕ) → k < n → f k ≡ g k) → least_below f n ≡ least_below g n
@@ -223,33 +228,41 @@ module _ (shapes : List SetShape) (m n : BitMemory) (same : SameBits shapes m n)
   parts_alike M.SegmentBit bit direction set q r act now h bq br e =
       ap (λ x. parts M.SegmentBit direction x (bit_is_one m bit r) act) (bit_alike bit set q h bq) ∙ ap (λ y. parts M.SegmentBit direction (bit_is_one n bit q) y act) (bit_alike bit set r h br) ∙ ap (λ z. parts M.SegmentBit direction (bit_is_one n bit q) (bit_is_one n bit r) z) e
 
-  line_below : (scan : ScanOf) (p k : ℕ) → LiesIn shapes scan.source → scan.axis < length (extents_at shapes scan.source.set) → p < processors shapes scan.source.set → on_line (extents_at shapes scan.source.set) scan p k < processors shapes scan.source.set
+  line_below : (scan : ScanOf) (p k : ℕ) → LiesIn shapes scan.source → scan.axis < length (extents_at shapes scan.source.set) → p < processors shapes scan.source.set → k < slice_index (extents_at shapes scan.source.set) scan.axis → on_line (extents_at shapes scan.source.set) scan p k < processors shapes scan.source.set
   unfolding on_line
-  line_below scan p k within there b = shifted_below (extents_at shapes scan.source.set) p scan.axis _ (grids scan.source.set within.0) b there
+  line_below scan p k within there b on =
+      let extents : List ℕ = extents_at shapes scan.source.set in
+      (step_of extents p scan.axis (coordinate extents p scan.axis) (steps_before scan.direction (slice_index extents scan.axis) k) (position_count (drop (suc scan.axis) extents)) (grids scan.source.set within.0) b there refl refl (steps_below scan.direction (slice_index extents scan.axis) k on)).bound
 
-  behind_alike : (scan : ScanOf) (p k : ℕ) → LiesIn shapes scan.source → scan.axis < length (extents_at shapes scan.source.set) → IfSome (looked_at scan.mode scan.bit) (λ f. LiesIn shapes f × (f.set ≡ scan.source.set)) → p < processors shapes scan.source.set
+  behind_alike : (scan : ScanOf) (p k : ℕ) → LiesIn shapes scan.source → scan.axis < length (extents_at shapes scan.source.set) → IfSome (looked_at scan.mode scan.bit) (λ f. LiesIn shapes f × (f.set ≡ scan.source.set)) → p < processors shapes scan.source.set → k + 1 < slice_index (extents_at shapes scan.source.set) scan.axis
       → parts_behind shapes m scan p k ≡ parts_behind shapes n scan p k
   unfolding parts_behind
-  behind_alike scan p k within there bit b =
-      parts_alike scan.mode scan.bit scan.direction scan.source.set (on_line (extents_at shapes scan.source.set) scan p k) (on_line (extents_at shapes scan.source.set) scan p (k + 1)) _ _ bit (line_below scan p k within there b) (line_below scan p (k + 1) within there b)
-      (active_alike scan.source.set (on_line (extents_at shapes scan.source.set) scan p (k + 1)) within.0 (line_below scan p (k + 1) within there b))
+  behind_alike scan p k within there bit b on =
+      parts_alike scan.mode scan.bit scan.direction scan.source.set (on_line (extents_at shapes scan.source.set) scan p k) (on_line (extents_at shapes scan.source.set) scan p (k + 1)) _ _ bit (line_below scan p k within there b (omega arith)) (line_below scan p (k + 1) within there b on)
+      (active_alike scan.source.set (on_line (extents_at shapes scan.source.set) scan p (k + 1)) within.0 (line_below scan p (k + 1) within there b on))
 
-  before_alike : (scan : ScanOf) (p own : ℕ) → LiesIn shapes scan.source → scan.axis < length (extents_at shapes scan.source.set) → IfSome (looked_at scan.mode scan.bit) (λ f. LiesIn shapes f × (f.set ≡ scan.source.set)) → p < processors shapes scan.source.set
+  before_alike : (scan : ScanOf) (p own : ℕ) → LiesIn shapes scan.source → scan.axis < length (extents_at shapes scan.source.set) → IfSome (looked_at scan.mode scan.bit) (λ f. LiesIn shapes f × (f.set ≡ scan.source.set)) → p < processors shapes scan.source.set → own < slice_index (extents_at shapes scan.source.set) scan.axis
       → fold_before shapes m scan p own ≡ fold_before shapes n scan p own
   unfolding fold_before
-  before_alike scan p own within there bit b =
+  before_alike scan p own within there bit b on =
       let extents : List ℕ = extents_at shapes scan.source.set in
       fold_same _ _ _ _ _ _ own
-      (λ k _. ap (λ t. t && not (any_of (λ j. parts_behind shapes m scan p j) k (own - k))) (active_alike scan.source.set (on_line extents scan p k) within.0 (line_below scan p k within there b))
-      ∙ ap (λ t. is_active shapes n scan.source.set (on_line extents scan p k) && not t) (any_same _ _ k (own - k) (λ j _. behind_alike scan p j within there bit b)))
-      (λ k _. field_alike scan.source (on_line extents scan p k) within (line_below scan p k within there b))
+      (λ k h. ap (λ t. t && not (any_of (λ j. parts_behind shapes m scan p j) k (own - k))) (active_alike scan.source.set (on_line extents scan p k) within.0 (line_below scan p k within there b (omega arith)))
+      ∙ ap (λ t. is_active shapes n scan.source.set (on_line extents scan p k) && not t) (any_same _ _ k (own - k) (λ j before. behind_alike scan p j within there bit b (omega arith))))
+      (λ k h. field_alike scan.source (on_line extents scan p k) within (line_below scan p k within there b (omega arith)))
+
+  own_step_below : (scan : ScanOf) (p : ℕ) → LiesIn shapes scan.source → scan.axis < length (extents_at shapes scan.source.set) → p < processors shapes scan.source.set → own_step (extents_at shapes scan.source.set) scan p < slice_index (extents_at shapes scan.source.set) scan.axis
+  unfolding own_step
+  own_step_below scan p within there b =
+      let extents : List ℕ = extents_at shapes scan.source.set in
+      steps_below scan.direction (slice_index extents scan.axis) (coordinate extents p scan.axis) (coordinate_below extents p scan.axis (grids scan.source.set within.0) there)
 
   scanned_alike : (scan : ScanOf) (p : ℕ) → LiesIn shapes scan.source → scan.axis < length (extents_at shapes scan.source.set) → IfSome (looked_at scan.mode scan.bit) (λ f. LiesIn shapes f × (f.set ≡ scan.source.set)) → p < processors shapes scan.source.set
       → scanned shapes m scan p ≡ scanned shapes n scan p
   unfolding scanned
   scanned_alike scan p within there bit b =
       ap (λ v. with_own scan.inclusion (λ total. fold_once (combiner_of scan.combiner).0 (combiner_of scan.combiner).1 total v) (fold_before shapes m scan p (own_step (extents_at shapes scan.source.set) scan p))) (field_alike scan.source p within b)
-      ∙ ap (λ r. with_own scan.inclusion (λ total. fold_once (combiner_of scan.combiner).0 (combiner_of scan.combiner).1 total (field_number n scan.source p)) r) (before_alike scan p (own_step (extents_at shapes scan.source.set) scan p) within there bit b)
+      ∙ ap (λ r. with_own scan.inclusion (λ total. fold_once (combiner_of scan.combiner).0 (combiner_of scan.combiner).1 total (field_number n scan.source p)) r) (before_alike scan p (own_step (extents_at shapes scan.source.set) scan p) within there bit b (own_step_below scan p within there b))
 
   -- the memory behind an instruction
   elements_alike : (instr : Instr) (args : List ℕ) → CanApply shapes instr args → is_elementwise instr ≡ true → SameBits shapes (after shapes instr args m) (after shapes instr args n)

@@ -6,9 +6,10 @@ use Rattle.std.proofs.lemmas.List.{get_or-set_same, set-set, set-get_or}
 use Rattle.std.proofs.Math.Nat.{mod-eq_of_lt}
 use Rattle.cstar_base.specs.declared.operators.Direction.{Direction}
 use Rattle.cstar_base.specs.declared.operators.Direction.TheVariants as D
+use Rattle.vp_sets.specs.Lines.{steps_before}
 use Rattle.vp_sets.specs.Positions.{position_count, are_positive, coordinates, coordinate, number_at, moved, shifted}
 use Rattle.vp_sets.proofs.PositionLaws.{number_of_coordinates, length-coordinates, number_after_set, count_positive, later_positive}
-use Rattle.paris_code.specs.Scanning.{ScanOf, steps_before, own_step, on_line}
+use Rattle.paris_code.specs.Scanning.{ScanOf, own_step, on_line}
 use Rattle.phase_gate.specs.Scans.{IsPrevious}
 
 -- a coordinate that is moved
@@ -44,19 +45,11 @@ in_order D.Upward own there stride count p q positive p_in q_in is back = omega 
 in_order D.Downward own there stride count p q positive p_in q_in is back = omega (arith, ap (λ n. n * stride) back, add-mul own 1 stride)
 
 module _ (extents : List ℕ) (scan : ScanOf) (positive : are_positive extents ≡ true) (axis : scan.axis < length extents) where
-  on_line_is : (p k : ℕ) → k < slice_index extents scan.axis
-      → on_line extents scan p k ≡ number_at extents (slice_set (coordinates extents p) scan.axis (steps_before scan.direction (slice_index extents scan.axis) k))
-  unfolding on_line shifted
-  on_line_is p k b =
-      ap (λ t. number_at extents (slice_set (coordinates extents p) scan.axis t))
-      (moved_is (slice_index extents scan.axis) (coordinate extents p scan.axis) (steps_before scan.direction (slice_index extents scan.axis) k) _ (omega (arith, ints)) (steps_below scan.direction (slice_index extents scan.axis) k b))
-
   -- the own step leads to the position itself
   there_is : (p : ℕ) → p < position_count extents → coordinate extents p scan.axis < slice_index extents scan.axis → on_line extents scan p (own_step extents scan p) ≡ p
-  unfolding own_step coordinate
+  unfolding own_step on_line coordinate
   there_is p b inside =
-      on_line_is p (steps_before scan.direction (slice_index extents scan.axis) (coordinate extents p scan.axis)) (steps_below scan.direction (slice_index extents scan.axis) (coordinate extents p scan.axis) inside)
-      ∙ ap (λ t. number_at extents (slice_set (coordinates extents p) scan.axis t)) (steps_twice scan.direction (slice_index extents scan.axis) (coordinate extents p scan.axis) inside)
+      ap (λ t. number_at extents (slice_set (coordinates extents p) scan.axis t)) (steps_twice scan.direction (slice_index extents scan.axis) (coordinate extents p scan.axis) inside)
       ∙ ap (number_at extents) (set-get_or (coordinates extents p) scan.axis 0) ∙ number_of_coordinates extents p positive b
 
   -- the neighbour against the scan's direction
@@ -64,7 +57,7 @@ module _ (extents : List ℕ) (scan : ScanOf) (positive : are_positive extents �
       → there < slice_index extents scan.axis → Backs scan.direction (coordinate extents p scan.axis) there → moved (slice_index extents scan.axis) (coordinate extents p scan.axis) k ≡ there
       → q ≡ shifted extents p scan.axis k → coordinates extents q ≡ slice_set (coordinates extents p) scan.axis (moved (slice_index extents scan.axis) (coordinate extents p scan.axis) k)
       → IsPrevious extents scan p q
-  unfolding own_step shifted coordinate
+  unfolding own_step on_line shifted coordinate
   previous_is p q there k p_in q_in inside b back goes is coords =
       let extent = slice_index extents scan.axis in
       let own = coordinate extents p scan.axis in
@@ -79,10 +72,8 @@ module _ (extents : List ℕ) (scan : ScanOf) (positive : are_positive extents �
         there = there_is p p_in inside;
         here = there_is q q_in (omega (arith, at, b));
         line = λ j h.
-            on_line_is q j h
-            ∙ ap (λ cs. number_at extents (slice_set cs scan.axis (steps_before scan.direction extent j))) all
-            ∙ ap (number_at extents) (set-set (coordinates extents p) scan.axis there (steps_before scan.direction extent j))
-            ∙ sym (on_line_is p j h);
+            ap (λ cs. number_at extents (slice_set cs scan.axis (steps_before scan.direction extent j))) all
+            ∙ ap (number_at extents) (set-set (coordinates extents p) scan.axis there (steps_before scan.direction extent j));
         before = in_order scan.direction own there stride (position_count extents) p q (count_positive (drop (suc scan.axis) extents) (later_positive (suc scan.axis) extents positive)) p_in q_in
             (omega (arith, number, number_after_set extents (coordinates extents p) scan.axis there axis long, number_of_coordinates extents p positive p_in)) back;
       }

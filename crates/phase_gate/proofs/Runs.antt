@@ -5,7 +5,7 @@ use Rattle.std.proofs.Math.Numerals.{add-one}
 use Rattle.cstar_base.specs.Folds.{fold_once, identity_of}
 use Rattle.paris_code.specs.Memory.{BitMemory, field_number, is_active}
 use Rattle.paris_code.specs.Operators.{combiner_of}
-use Rattle.paris_code.specs.Orders.{fold_below, any_of}
+use Rattle.cstar_base.specs.Orders.{fold_below, any_of}
 use Rattle.paris_code.specs.Scanning.{ScanOf, own_step, on_line, bit_is_one, parts, parts_behind, fold_before}
 use Rattle.paris_code.specs.Shapes.{SetShape, extents_at}
 use Rattle.phase_gate.specs.Scans.{before_at, IsPrevious}

@@ -8,7 +8,7 @@ use Rattle.cstar_base.specs.declared.operators.Winner.{Winner}
 use Rattle.cstar_base.specs.declared.operators.Winner.TheVariants as W
 use Rattle.paris_code.specs.declared.operands.Field.{Field}
 use Rattle.paris_code.specs.Memory.{BitMemory, field_number}
-use Rattle.paris_code.specs.Orders.{fold_below, least_below, greatest_below, or_else}
+use Rattle.cstar_base.specs.Orders.{fold_below, least_below, greatest_below, or_else}
 use Rattle.paris_code.specs.Sending.{winner_of, message_or_zero, sends_to}
 use Rattle.paris_code.specs.Shapes.{SetShape}
 use Rattle.phase_gate.specs.Sends.{kept}

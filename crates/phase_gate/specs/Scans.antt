@@ -2,7 +2,7 @@
 use Rattle.std.specs.Prelude.{◌≡◌, ℕ, ◌+◌, ◌<◌, List, IfSome, slice_index}
 use Rattle.vp_sets.specs.Positions.{position_count}
 use Rattle.paris_code.specs.Memory.{BitMemory}
-use Rattle.paris_code.specs.Scanning.{ScanOf, steps_before, own_step, on_line, fold_before}
+use Rattle.paris_code.specs.Scanning.{ScanOf, own_step, on_line, fold_before}
 use Rattle.paris_code.specs.Shapes.{SetShape, extents_at, rank_at}
 use Rattle.phase_gate.specs.declared.scans.Scan.{Scan}
 use Rattle.phase_gate.specs.Apply.{LiesIn, looked_at}
