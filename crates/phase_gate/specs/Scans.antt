@@ -1,5 +1,6 @@
 -- When the plain phases can scan, and the neighbours on a line.
 use Rattle.std.specs.Prelude.{◌≡◌, ℕ, ◌+◌, ◌<◌, List, IfSome, slice_index}
+use Rattle.vp_sets.specs.Lines.{steps_before}
 use Rattle.vp_sets.specs.Positions.{position_count}
 use Rattle.paris_code.specs.Memory.{BitMemory}
 use Rattle.paris_code.specs.Scanning.{ScanOf, own_step, on_line, fold_before}
