@@ -2,4 +2,6 @@ pub mod Errors
 pub mod Folds
 pub mod Kinds
 pub mod Numbers
+pub mod Numerals
 pub mod Operators
+pub mod Orders

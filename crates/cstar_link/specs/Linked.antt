@@ -1,7 +1,9 @@
--- What linking makes of the units of a program.
-use Rattle.std.specs.Prelude.{ℕ, ◌+◌, List, [], ◌∷◌, ◌++◌, length, map}
+-- What linking makes of a program.
+use Rattle.std.specs.Prelude.{◌≡◌, ℕ, ◌+◌, List, [], ◌∷◌, ◌++◌, length, map}
 use Rattle.paris_code.specs.declared.program.Unit.{Unit}
 use Rattle.paris_code.specs.declared.program.Entry.{Entry}
+use Rattle.paris_code.specs.declared.program.Image.{Image}
+use Rattle.paris_code.specs.declared.program.Program.{Program}
 use Rattle.paris_code.specs.declared.instr.Instr.{Instr}
 use Rattle.paris_code.specs.declared.instr.Instr.TheVariants as I
 
@@ -21,3 +23,12 @@ code_from start (u ∷ us) = map (moved_by start) u.code.items ++ code_from (sta
 unfoldable pub entries_from : ℕ → List Unit → List Entry
 entries_from start [] = []
 entries_from start (u ∷ us) = record { name = u.name; start = start } ∷ entries_from (start + length u.code.items) us
+
+-- an image has the units of a program as one list of code, and all else is as it was
+pub record IsLinked (p : Program) (image : Image) : Type 0 where
+  pub code : image.code.items ≡ code_from 0 p.units.items
+  pub units : image.units.items ≡ entries_from 0 p.units.items
+  pub shapes : image.shapes ≡ p.shapes
+  pub slots : image.slots ≡ p.slots
+  pub depth : image.depth ≡ p.depth
+  pub finals : image.finals ≡ p.finals

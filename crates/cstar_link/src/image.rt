@@ -1,7 +1,7 @@
 //! One list of code for all units.
 
 ghost use Rattle.std.specs.Prelude.{◌≡◌, [], ◌∷◌, ◌++◌, map, length, OnOk, IfOk};
-ghost use Rattle.cstar_link.specs.Linked.{moved_by, code_from, entries_from};
+ghost use Rattle.cstar_link.specs.Linked.{moved_by, IsLinked};
 
 use crate::target::moved;
 use cstar_base::Memory;
@@ -11,12 +11,7 @@ use std::alloc::Global;
 /// The image of a placed program: its units' code in one list, with each jump target moved by where
 /// its unit begins.
 pub fn link(alloc: Global, p: Program) -> Result<Image, Memory>
-    ensures code { IfOk result (λ i. i.code.items ≡ code_from 0 p.units.items) }
-    ensures units { IfOk result (λ i. i.units.items ≡ entries_from 0 p.units.items) }
-    ensures shapes { IfOk result (λ i. i.shapes ≡ p.shapes) }
-    ensures slots { IfOk result (λ i. i.slots ≡ p.slots) }
-    ensures depth { IfOk result (λ i. i.depth ≡ p.depth) }
-    ensures finals { IfOk result (λ i. i.finals ≡ p.finals) }
+    ensures { IfOk result (λ image. IsLinked p image) }
 {
     let Program {
         shapes,

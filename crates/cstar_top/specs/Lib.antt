@@ -1,5 +1,4 @@
 pub mod Answers
-pub mod Compiled
 pub mod Courses
 pub mod Faults
 pub mod Listings

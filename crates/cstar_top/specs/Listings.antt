@@ -4,7 +4,7 @@ use Rattle.cstar_io.specs.Output.{Takes, TakesPrefix, TakesNothing}
 use Rattle.paris_code.specs.declared.program.Image.{Image}
 use Rattle.paris_code.specs.Listing.{listing}
 use Rattle.paris_code.specs.Sound.{IsSound}
-use Rattle.cstar_top.specs.Compiled.{IsOfProgram}
+use Rattle.cstar_compile.specs.Compiled.{IsOfProgram}
 
 -- a sink takes the listing of some image that keeps the image rules and that the compiler makes of a typed program
 abbrev pub TakesListing : {O : Type 0} → (O → List ℕ → Type 0) → O → O → Type 0

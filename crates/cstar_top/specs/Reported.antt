@@ -7,7 +7,7 @@ use Rattle.paris_code.specs.declared.program.Image.{Image}
 use Rattle.paris_code.specs.Listing.{listing}
 use Rattle.paris_code.specs.Sound.{IsSound}
 use Rattle.cstar_top.specs.declared.answer.Answer.{Answer}
-use Rattle.cstar_top.specs.Compiled.{IsOfProgram}
+use Rattle.cstar_compile.specs.Compiled.{IsOfProgram}
 use Rattle.cstar_top.specs.Courses.{Reports, ReportsPart}
 use Rattle.cstar_top.specs.Modes.{AsksFor}
 

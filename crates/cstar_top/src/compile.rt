@@ -3,10 +3,11 @@
 ghost use Rattle.std.specs.Prelude.{◌≡◌, ◌<◌, ◌≤◌, Err, IfOk, length, vec_len};
 ghost use Rattle.cstar_tree.specs.IsTyped.{IsTyped};
 ghost use Rattle.cstar_top.specs.declared.compile.NoImage.TheVariants as N;
-ghost use Rattle.cstar_top.specs.Compiled.{IsCompiled};
+ghost use Rattle.cstar_compile.specs.Compiled.{IsCompiled};
 ghost use Rattle.cstar_top.specs.Refusals.{file_start};
 
 use cstar_base::{Memory, Place};
+use cstar_compile::image_of;
 use cstar_lexer::{LexFault, lex};
 use cstar_parser::{ParseFault, parse};
 use cstar_tree::syntax::Tree;
@@ -155,13 +156,4 @@ fn typed_of(alloc: Global, tree: &Tree) -> Result<Typed, NoImage>
         Err(TypeFault::Fault { number, place }) => Err(refused(number, place)),
         Err(TypeFault::Memory) => Err(NoImage::Memory),
     }
-}
-
-/// The image of a typed program.
-fn image_of(alloc: Global, typed: &Typed) -> Result<Image, NoImage>
-    ensures { IfOk result (λ image. IsCompiled typed.now image) }
-{
-    let program = lower_stmt::lower(alloc, typed)?;
-    let placed = field_alloc::place(alloc, program)?;
-    Ok(cstar_link::link(alloc, placed)?)
 }

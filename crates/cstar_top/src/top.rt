@@ -10,7 +10,7 @@ ghost use Rattle.cstar_top.specs.declared.answer.Answer.{Answer};
 ghost use Rattle.cstar_top.specs.declared.answer.Answer.TheVariants as A;
 ghost use Rattle.cstar_top.specs.declared.compile.NoImage.TheVariants as N;
 ghost use Rattle.cstar_top.specs.Answers.{line_of, status_of, usage_line};
-ghost use Rattle.cstar_top.specs.Compiled.{IsOfProgram};
+ghost use Rattle.cstar_compile.specs.Compiled.{IsOfProgram};
 ghost use Rattle.cstar_top.specs.Listings.{IsListing, TakesListing, TakesPartOfListing};
 ghost use Rattle.paris_code.specs.Listing.{listing};
 ghost use Rattle.cstar_top.specs.Modes.{AsksFor, HasBudget, LeavesInput, budget, leaves_input, named};

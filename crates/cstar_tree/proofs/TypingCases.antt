@@ -8,7 +8,7 @@ use Rattle.cstar_base.specs.Numbers.{converted as converted_word}
 use Rattle.cstar_base.specs.Operators.{operate, divides}
 use Rattle.cstar_tree.specs.declared.syntax.AssignOp.TheVariants as A
 use Rattle.cstar_tree.specs.declared.syntax.BinaryOp.TheVariants as B
-use Rattle.cstar_tree.specs.declared.typed.Format.TheVariants as F
+use Rattle.cstar_base.specs.declared.formats.NumberFormat.TheVariants as F
 use Rattle.cstar_tree.specs.declared.typed.Piece.TheVariants as C
 use Rattle.cstar_tree.specs.Constants.{Constant, an_int, axis_among, cast_to, chosen, combined, operated, product, selected, with_both}
 use Rattle.cstar_tree.specs.Conversions.{common, int, promoted, unsigned}

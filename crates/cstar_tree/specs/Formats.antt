@@ -1,12 +1,12 @@
 -- The text of `printf`, cut into pieces.
 use Rattle.std.specs.Prelude.{ℕ, ◌+◌, ◌==◌, List, [], ◌∷◌, ◌++◌, Option, Some, None, if◌then◌else◌}
-use Rattle.cstar_tree.specs.declared.typed.Format.{Format}
-use Rattle.cstar_tree.specs.declared.typed.Format.TheVariants as F
+use Rattle.cstar_base.specs.declared.formats.NumberFormat.{NumberFormat}
+use Rattle.cstar_base.specs.declared.formats.NumberFormat.TheVariants as F
 use Rattle.cstar_tree.specs.declared.typed.Piece.{Piece}
 use Rattle.cstar_tree.specs.declared.typed.Piece.TheVariants as P
 
 -- the conversion that the byte behind a `%` names: `d`, `u`, `x`, `o` or `c`
-unfoldable pub format_of : ℕ → Option Format
+unfoldable pub format_of : ℕ → Option NumberFormat
 format_of b =
     if b == 100 then Some F.Signed
     else if b == 117 then Some F.Unsigned
@@ -21,7 +21,7 @@ run [] = []
 run (b ∷ bs) = P.Bytes (b ∷ bs) ∷ []
 
 -- the pieces behind a conversion
-abbrev pub behind : List ℕ → Option Format → Option (List Piece) → Option (List Piece)
+abbrev pub behind : List ℕ → Option NumberFormat → Option (List Piece) → Option (List Piece)
 behind bytes None rest = None
 behind bytes (Some format) None = None
 behind bytes (Some format) (Some rest) = Some (run bytes ++ P.Argument format ∷ rest)

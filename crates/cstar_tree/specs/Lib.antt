@@ -29,3 +29,4 @@ pub mod SyntaxParts
 pub mod Typed
 pub mod TypedParts
 pub mod Types
+pub mod Variables

@@ -4,7 +4,9 @@ ghost use Rattle.std.specs.Prelude.{◌≡◌};
 ghost use Rattle.cstar_tree.specs.Typed.{type_of};
 
 use crate::syntax::{AssignOp, ReduceOp, StepOp};
-use cstar_base::{Combiner, Direction, Elem, Inclusion, Op, Place, SegmentMode, Word};
+use cstar_base::{
+    Combiner, Direction, Elem, Inclusion, NumberFormat, Op, Place, SegmentMode, Word,
+};
 
 /// A typed program. Instance 0 is `main`; the others are numbered as a walk from it in text order
 /// first meets them. `need` is the room of each shape, in bits for each position.
@@ -300,21 +302,12 @@ pub enum StepOrder {
     Postfix,
 }
 
-/// A piece of what `printf` prints: bytes as they are, or the next argument.
+/// A piece of what `printf` prints: bytes as they are, or the next argument, by `%d`, `%u`, `%x`,
+/// `%o` or `%c`.
 #[derive(Drop)]
 pub enum Piece {
     Bytes(Word),
-    Argument(Format),
-}
-
-/// `%d`, `%u`, `%x`, `%o` and `%c`.
-#[derive(Clone, Copy, PartialEq, Eq)]
-pub enum Format {
-    Signed,
-    Unsigned,
-    Hexadecimal,
-    Octal,
-    Character,
+    Argument(NumberFormat),
 }
 
 impl TExpr {

@@ -5,3 +5,4 @@ pub mod Lasting
 pub mod Lent
 pub mod Named
 pub mod Files
+pub mod OverBits

@@ -2,7 +2,8 @@
 
 ghost use Rattle.std.specs.Prelude.{◌≡◌, IfOk, map};
 ghost use Rattle.std.specs.List.{AllZip};
-ghost use Rattle.field_alloc.specs.Placed.{ArePlacedUnits, IsPlaced, IsPlacedInstr, IsPlacedUnit};
+ghost use Rattle.field_alloc.specs.OverBits.{IsOverBits};
+ghost use Rattle.field_alloc.specs.Placed.{ArePlacedUnits, IsPlacedInstr, IsPlacedUnit};
 ghost use Rattle.field_alloc.specs.Places.{items_of};
 
 use crate::fields::placed;
@@ -18,10 +19,7 @@ use std::alloc::Global;
 /// a unit has 2^32 instructions or more, and where a unit whose own entries have bits calls itself
 /// through others, which none of a compiled program does.
 pub fn place(alloc: Global, p: Program) -> Result<Program, Memory>
-    ensures placed { IfOk result (λ q. IsPlaced p q) }
-    ensures shapes { IfOk result (λ q. q.shapes ≡ p.shapes) }
-    ensures slots { IfOk result (λ q. q.slots ≡ p.slots) }
-    ensures depth { IfOk result (λ q. q.depth ≡ p.depth) }
+    ensures { IfOk result (λ q. IsOverBits p q) }
 {
     let Program {
         shapes,

@@ -10,7 +10,7 @@ use Rattle.paris_code.specs.declared.instr.Instr.{Instr}
 use Rattle.paris_code.specs.declared.instr.Instr.TheVariants as I
 use Rattle.vp_sets.specs.Positions.{position_count, number_at}
 use Rattle.cstar_base.specs.Numbers.{number_of}
-use Rattle.paris_code.specs.declared.operands.NumberFormat.{NumberFormat}
+use Rattle.cstar_base.specs.declared.formats.NumberFormat.{NumberFormat}
 use Rattle.paris_code.specs.declared.operands.RegisterCoordinate.{RegisterCoordinate}
 use Rattle.paris_code.specs.Checking.{is_outside}
 use Rattle.paris_code.specs.Operands.{register_of}
@@ -18,7 +18,7 @@ use Rattle.paris_code.specs.declared.program.Image.{Image}
 use Rattle.paris_code.specs.Code.{CodeState, Rest, Mark, End, Broken, Next, Goes, Ends, Fault, Stopped, Done, step, begun, begun_at, applied, controlled, set_or, arguments_at, given}
 use Rattle.paris_code.specs.Kinds.{is_parallel}
 use Rattle.paris_code.specs.Memory.{BitMemory}
-use Rattle.paris_code.specs.Numerals.{printed}
+use Rattle.cstar_base.specs.Numerals.{word_text}
 use Rattle.paris_code.specs.Operands.{result_of}
 use Rattle.paris_code.specs.Scalar.{computed, any_register_outside, is_read_signed}
 use Rattle.paris_code.specs.Shapes.{shapes_of}
@@ -106,7 +106,7 @@ pub asks_put : (image : Image) (bytes : List ℕ) (old : State) → IsControl im
     → AsksFor image old (A.Literal old.at) (record old { at = old.at + 1 })
 asks_put image bytes old is ready = (bytes, refl, is.0, ready, begins_control image (I.FrontPutBytes bytes) old is)
 
-pub asks_digits : (image : Image) (format : NumberFormat) (x : ℕ) (old : State) (ask : Ask) → IsControl image old (I.FrontPut format x) → old.wanted ≡ None → Prints ask (printed format (slice_index old.registers x))
+pub asks_digits : (image : Image) (format : NumberFormat) (x : ℕ) (old : State) (ask : Ask) → IsControl image old (I.FrontPut format x) → old.wanted ≡ None → Prints ask (word_text format (slice_index old.registers x))
     → AsksFor image old ask (record old { at = old.at + 1 })
 asks_digits image format x old (A.Digits text len) is ready prints =
     (prints.0, ready, λ m i o. begins_control image (I.FrontPut format x) old is m i o ∙ ap (λ bytes. Goes (joined (record old { at = old.at + 1 }) m i (o ++ bytes))) (sym prints.1))

@@ -2,12 +2,11 @@
 
 ghost use Rattle.std.specs.Prelude.{◌≡◌, ◌+◌, ◌<◌, ◌≤◌, ◌^◌, ◌++◌, ◌∷◌, [], true, length, take};
 ghost use Rattle.cstar_base.specs.Numbers.{number_of};
-ghost use Rattle.paris_code.specs.Numerals.{digit_of, numeral_in, printed};
+ghost use Rattle.cstar_base.specs.Numerals.{digit_of, numeral_in, word_text};
 
-use cstar_base::Elem;
 use cstar_base::numbers::value;
+use cstar_base::{Elem, NumberFormat};
 use itoa::Buffer;
-use paris_code::NumberFormat;
 
 /// A text of at most 11 bytes in a room for them.
 #[derive(Clone, Copy)]
@@ -57,7 +56,7 @@ impl Numeral {
 }
 
 /// The number in a base, at no more than so many places.
-#[tactic(auto, unfolding(paris_code::specs::Numerals::numeral_in))]
+#[tactic(auto, unfolding(cstar_base::specs::Numerals::numeral_in))]
 fn in_base(base: u32, places: u8, n: u32) -> Numeral
     requires base { (2 ≤ base) × (base ≤ 16) }
     requires places { (1 ≤ places) × (places ≤ 11) }
@@ -81,9 +80,9 @@ pub fn signed(w: u32) -> i32
 }
 
 /// The text of a register.
-#[tactic(auto, unfolding(paris_code::specs::Numerals::printed))]
+#[tactic(auto, unfolding(cstar_base::specs::Numerals::word_text))]
 pub fn print(format: NumberFormat, w: u32) -> Numeral
-    ensures { take result.len result.text ≡ printed format w }
+    ensures { take result.len result.text ≡ word_text format w }
 {
     let mut buffer = Buffer::new();
     match format {

@@ -4,7 +4,7 @@ ghost use Rattle.paris_code.specs.RuleTarget.{GoesOn};
 ghost use Rattle.paris_code.specs.Units.{IsAt, IsInUnitOf, unit_of, start_at};
 ghost use Rattle.paris_code.specs.Code.{arguments_at};
 ghost use Rattle.paris_code.specs.Kinds.{is_parallel};
-ghost use Rattle.paris_code.specs.Numerals.{printed};
+ghost use Rattle.cstar_base.specs.Numerals.{word_text};
 ghost use Rattle.paris_code.specs.Operands.{result_of};
 ghost use Rattle.paris_code.specs.Scalar.{computed};
 ghost use Rattle.paris_code.specs.Shapes.{shapes_of};
@@ -15,9 +15,9 @@ use crate::compute::result_register;
 use crate::front::Front;
 use crate::numerals;
 use crate::numerals::Numeral;
-use cstar_base::Place;
+use cstar_base::{NumberFormat, Place};
 use image_check::Sound;
-use paris_code::{Instr, NumberFormat};
+use paris_code::Instr;
 
 /// The instruction at an index of the code.
 fn instr_at(sound: &Sound, at: u32) -> &Instr
@@ -200,7 +200,7 @@ impl Front {
         requires slot { source < sound.now.slots }
         ensures fits { Fits sound.now (state_of self.new) }
         ensures state { state_of self.new ≡ record (state_of self.old) { at = self.old.at + 1 } }
-        ensures asks { Prints result (printed format (slice_index self.old.registers.items source)) }
+        ensures asks { Prints result (word_text format (slice_index self.old.registers.items source)) }
     {
         let Numeral { text, len } = numerals::print(format, self.register(source));
         self.go_on(sound);

@@ -1,10 +1,9 @@
 //! Images by hand, with the rule and the place that their refusals name.
 
 use super::{CheckErr, verify};
-use cstar_base::{Direction, Elem, Inclusion, Memory, Place, SegmentMode, Word};
+use cstar_base::{Direction, Elem, Inclusion, Memory, NumberFormat, Place, SegmentMode, Word};
 use paris_code::{
-    Coordinate, Entry, Field, Final, GridStep, Image, Instr, Konst, NumberFormat, Reduction,
-    ShapeBits,
+    Coordinate, Entry, Field, Final, GridStep, Image, Instr, Konst, Reduction, ShapeBits,
 };
 use std::alloc::Global;
 use std::test::Fail;

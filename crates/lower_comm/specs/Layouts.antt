@@ -1,16 +1,12 @@
 -- Where the variables of a typed program are, as one of its instances sees it.
-use Rattle.std.specs.Prelude.{ℕ, ◌+◌, ◌==◌, if◌then◌else◌, List, [], ◌∷◌, ◌++◌, length, map, fold, slice_get, Option, Some, None}
+use Rattle.std.specs.Prelude.{ℕ, ◌+◌, ◌==◌, if◌then◌else◌, List, [], ◌∷◌, ◌++◌, length, fold, slice_get, Option, Some, None}
 use Rattle.std.specs.Cmp.Lexicographic.{pointwise}
 use Rattle.cstar_tree.specs.declared.typed.Instance.{Instance}
-use Rattle.cstar_tree.specs.declared.typed.LocalVar.{LocalVar}
-use Rattle.cstar_tree.specs.declared.typed.TStmt.{TStmt}
-use Rattle.cstar_tree.specs.declared.typed.TStmt.TheFolds.{fold-TStmt}
-use Rattle.cstar_tree.specs.declared.typed.TStmt.TheOpen.{TStmt-F}
 use Rattle.cstar_tree.specs.declared.typed.Typed.{Typed}
 use Rattle.cstar_tree.specs.declared.typed.VarInfo.{VarInfo}
 use Rattle.cstar_tree.specs.declared.typed.Variable.{Variable}
 use Rattle.cstar_tree.specs.declared.typed.Variable.TheVariants as V
-use Rattle.cstar_tree.specs.TypedParts.{concat, statements_of}
+use Rattle.cstar_tree.specs.Variables.{variables_of}
 use Rattle.paris_code.specs.declared.operands.Field.{Field}
 use Rattle.paris_code.specs.declared.program.Owner.TheVariants as W
 use Rattle.lower_comm.specs.declared.names.LocalName.{LocalName}
@@ -87,17 +83,6 @@ behind next info = elim info.shape [ None ↦ next | Some _ ↦ next + 1 ]
 unfoldable pub param_entries : ℕ → List VarInfo → List ℕ
 param_entries next [] = []
 param_entries next (info ∷ infos) = next ∷ param_entries (behind next info) infos
-
--- the variables of a statement's blocks, in the order of the text
-unfoldable pub declared_by : {A : Type 0} → TStmt-F A → List VarInfo
-declared_by (TStmt-F.Block locals statements) = map (λ (local : LocalVar). local.info) locals.items
-declared_by _ = []
-
-unfoldable pub variables_step : TStmt-F (List VarInfo) → List VarInfo
-variables_step node = declared_by node ++ concat (statements_of node)
-
-abbrev pub variables_of : TStmt → List VarInfo
-variables_of = fold-TStmt (List VarInfo) variables_step
 
 -- the variables of blocks that are numbered so far, and how many of them are parallel
 pub record Numbering : Type 0 where

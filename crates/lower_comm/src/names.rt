@@ -9,7 +9,8 @@ ghost use Rattle.cstar_tree.specs.declared.typed.LocalVar.{LocalVar};
 ghost use Rattle.cstar_tree.specs.TypedParts.{concat};
 ghost use Rattle.lower_comm.specs.Drafts.{Makes, draft, from, an_entry};
 ghost use Rattle.paris_code.specs.declared.program.Owner.TheVariants as W;
-ghost use Rattle.lower_comm.specs.Layouts.{layout, entries_of, elements_of, result_register, register_of, own_field, field_of, first_fields, behind, param_entries, variables_of, numbered, nothing_numbered, with_local, first_named, earlier_base, with_instance, registers_of, entered, layout_of};
+ghost use Rattle.cstar_tree.specs.Variables.{variables_of};
+ghost use Rattle.lower_comm.specs.Layouts.{layout, entries_of, elements_of, result_register, register_of, own_field, field_of, first_fields, behind, param_entries, numbered, nothing_numbered, with_local, first_named, earlier_base, with_instance, registers_of, entered, layout_of};
 
 pub use crate::emit::count;
 use crate::emit::{entry, plus};
@@ -327,7 +328,7 @@ fn behind(next: u32, info: &VarInfo) -> Result<u32, Memory>
 
 /// Numbers the variables of a statement's blocks, in the order of the text.
 #[cycle(locals)]
-#[tactic(auto, using(crate::proofs::Numbering::numbered_append, crate::proofs::Numbering::numbered_none), unfolding(crate::specs::Layouts::variables_step, crate::specs::Layouts::declared_by, crate::specs::Layouts::numbered, cstar_tree::specs::TypedParts::concat))]
+#[tactic(auto, using(crate::proofs::Numbering::numbered_append, crate::proofs::Numbering::numbered_none), unfolding(cstar_tree::specs::Variables::variables_step, cstar_tree::specs::Variables::declared_by, crate::specs::Layouts::numbered, cstar_tree::specs::TypedParts::concat))]
 fn number_locals(s: &TStmt, locals: &mut Vec<LocalName>, homes: &mut u32) -> Result<(), Memory>
     ensures { OnOk result (numbered (variables_of s.now) (record { locals = locals.old.items; homes = homes.old })
         ≡ record { locals = locals.new.items; homes = homes.new }) }

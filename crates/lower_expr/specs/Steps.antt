@@ -6,8 +6,6 @@ use Rattle.cstar_base.specs.declared.operators.Op.TheVariants as P
 use Rattle.cstar_base.specs.declared.operators.Place.{Place}
 use Rattle.cstar_base.specs.Numbers.{converted}
 use Rattle.cstar_base.specs.Operators.{divides}
-use Rattle.cstar_tree.specs.declared.typed.Format.{Format}
-use Rattle.cstar_tree.specs.declared.typed.Format.TheVariants as F
 use Rattle.cstar_tree.specs.declared.typed.Piece.{Piece}
 use Rattle.cstar_tree.specs.declared.typed.Piece.TheVariants as Pc
 use Rattle.cstar_tree.specs.declared.typed.TExpr.{TExpr}
@@ -20,8 +18,6 @@ use Rattle.paris_code.specs.declared.operands.Compare.TheVariants as C
 use Rattle.paris_code.specs.declared.operands.Field.{Field}
 use Rattle.paris_code.specs.declared.operands.Konst.{Konst}
 use Rattle.paris_code.specs.declared.operands.Konst.TheVariants as K
-use Rattle.paris_code.specs.declared.operands.NumberFormat.{NumberFormat}
-use Rattle.paris_code.specs.declared.operands.NumberFormat.TheVariants as N
 use Rattle.paris_code.specs.declared.operands.Operation.{Operation}
 use Rattle.paris_code.specs.declared.operands.Operation.TheVariants as Act
 use Rattle.source_meaning.specs.Constants.{constant_of, then_value}
@@ -176,21 +172,13 @@ negated op (O.Scalar dest) v d = in_register v (λ source. register_negated op d
 negated op (O.Field dest) v d = in_field v (λ source. field_negated op dest source d)
 negated op O.Nothing v d = Fails
 
--- how a number is printed
-unfoldable pub format_of : Format → NumberFormat
-format_of F.Signed = N.Signed
-format_of F.Unsigned = N.Unsigned
-format_of F.Hexadecimal = N.Hexadecimal
-format_of F.Octal = N.Octal
-format_of F.Character = N.Character
-
 -- the pieces of a text, each conversion with the next value
 unfoldable pub pieces_printed : List Piece → List Out → Draft → Made Out
 pieces_printed [] values d = Makes O.Nothing d
 pieces_printed (Pc.Bytes bytes ∷ rest) values d = pieces_printed rest values (with_instr (I.FrontPutBytes bytes) d)
 pieces_printed (Pc.Argument format ∷ rest) [] d = Fails
 pieces_printed (Pc.Argument format ∷ rest) (v ∷ values) d =
-    in_register v (λ source. pieces_printed rest values (with_instr (I.FrontPut (format_of format) source) d))
+    in_register v (λ source. pieces_printed rest values (with_instr (I.FrontPut format source) d))
 
 -- how the operator of a compound assignment reads its operands: a shift as the target is, and every
 -- other operator as the value is, which has the common type

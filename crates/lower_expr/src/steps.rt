@@ -3,14 +3,14 @@
 ghost use Rattle.std.specs.Prelude.{◌≡◌, IfOk, OnOk};
 ghost use Rattle.lower_comm.specs.declared.emit.Out.TheVariants as O;
 ghost use Rattle.lower_comm.specs.Drafts.{Makes, draft};
-ghost use Rattle.lower_expr.specs.Steps.{is_kept, word_of, relates, word_taken, constant_in, put_test, field_converted, converted_in_place, put_in_field, put_value, operated, fields_operated, right_operated, takes_word, in_a_field, register_negated, field_negated, negated, format_of, pieces_printed, assigned_signed};
+ghost use Rattle.lower_expr.specs.Steps.{is_kept, word_of, relates, word_taken, constant_in, put_test, field_converted, converted_in_place, put_in_field, put_value, operated, fields_operated, right_operated, takes_word, in_a_field, register_negated, field_negated, negated, pieces_printed, assigned_signed};
 
 use cstar_base::{Elem, Memory, Op, Place, numbers};
-use cstar_tree::typed::{Format, Piece, TExpr, UnaryOp};
+use cstar_tree::typed::{Piece, TExpr, UnaryOp};
 use lower_comm::Out;
 use lower_comm::emit::{flag, put};
 use lower_comm::operators::{Machine, divides, machine_op, promoted_signed};
-use paris_code::{Field, Instr, Konst, NumberFormat, Operation, Unit};
+use paris_code::{Field, Instr, Konst, Operation, Unit};
 use source_meaning::constant as constant_value;
 use std::alloc::Global;
 
@@ -455,7 +455,7 @@ pub fn print_pieces(
                 put(
                     u,
                     Instr::FrontPut {
-                        format: number_format(*format),
+                        format: *format,
                         source,
                     },
                 )?;
@@ -464,19 +464,6 @@ pub fn print_pieces(
         }
     }
     Ok(())
-}
-
-#[tactic(auto, unfolding(crate::specs::Steps::format_of))]
-fn number_format(format: Format) -> NumberFormat
-    ensures { result ≡ format_of format }
-{
-    match format {
-        Format::Signed => NumberFormat::Signed,
-        Format::Unsigned => NumberFormat::Unsigned,
-        Format::Hexadecimal => NumberFormat::Hexadecimal,
-        Format::Octal => NumberFormat::Octal,
-        Format::Character => NumberFormat::Character,
-    }
 }
 
 /// Whether the operator of a compound assignment reads its operands signed: a shift has the type of

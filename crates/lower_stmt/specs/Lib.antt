@@ -1,5 +1,6 @@
 pub mod Frames
 pub mod Lengths
+pub mod Lowered
 pub mod Programs
 pub mod Statements
 pub mod Variables

@@ -3,6 +3,7 @@
 ghost use Rattle.std.specs.Prelude.{◌≡◌, ◌<◌, ◌+◌, ◌-◌, ◌^◌, ◌++◌, length, map, IfOk, OnOk};
 ghost use Rattle.lower_comm.specs.Drafts.{Makes, draft};
 ghost use Rattle.lower_comm.specs.Layouts.{layout, layout_of, entries_of};
+ghost use Rattle.lower_stmt.specs.Lowered.{IsLowered};
 ghost use Rattle.lower_stmt.specs.Programs.{begun, blank, elements_begun, element_finals, final_name_of, finals_of, instructions_in, outcome_of, own_field_of, own_fields_of, own_result_of, slots_behind, space, spaces_of, start_value_of, start_values_of, unit_of, units_of, variable_finals};
 
 use crate::length::Saved;
@@ -24,13 +25,9 @@ use std::alloc::Global;
 /// and where the tree is not what typing makes, as one with a shape whose need is not known.
 #[tactic(auto, unfolding(crate::specs::Programs::units_of))]
 pub fn lower(alloc: Global, t: &Typed) -> Result<Program, Memory>
-    ensures units { IfOk result (λ program. map draft program.units.items ≡ units_of t.now t.now.instances.items 0 (layout_of t.now 0).end) }
-    ensures slots { IfOk result (λ program. program.slots ≡ slots_behind (layout_of t.now 0).end (map draft program.units.items)) }
+    ensures lowered { IfOk result (λ program. IsLowered t.now program) }
     ensures numbered { IfOk result (λ program. instructions_in (map draft program.units.items) < 2 ^ 32) }
-    ensures depth { IfOk result (λ program. program.depth ≡ length t.now.instances.items - 1) }
-    ensures shapes { IfOk result (λ program. map space program.shapes.items ≡ spaces_of t.now.shapes.items t.now.need.items) }
     ensures each_shape { IfOk result (λ program. length program.shapes.items ≡ length t.now.shapes.items) }
-    ensures finals { IfOk result (λ program. program.finals.items ≡ finals_of t.now.vars.items 0) }
 {
     let mut names = Names::of(alloc, t)?;
     let mut units: Vec<Unit> = Vec::new(alloc);

@@ -2,7 +2,8 @@
 
 use crate::names::{format, operation, reduction, relation};
 use crate::words::Stop;
-use paris_code::{Compare, NumberFormat, Operation, Reduction};
+use cstar_base::NumberFormat;
+use paris_code::{Compare, Operation, Reduction};
 
 /// What a name says of an instruction.
 #[derive(Clone, Copy)]

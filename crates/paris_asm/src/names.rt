@@ -1,7 +1,8 @@
 //! The names of operations, relations, reductions and formats.
 
 use crate::words::Stop;
-use paris_code::{Compare, NumberFormat, Operation, Reduction};
+use cstar_base::NumberFormat;
+use paris_code::{Compare, Operation, Reduction};
 
 /// A value with its name.
 struct Named<T> {
@@ -216,7 +217,7 @@ static FORMATS: [Named<NumberFormat>; 5] = [
 ];
 
 /// The format of this letter.
-pub fn format(name: &[u8]) -> Result<NumberFormat, Stop> {
+pub fn format(name: &[u8]) -> Result<Stop> {
     for named in &FORMATS {
         if named.name.as_bytes() == name {
             return Ok(named.value);

@@ -11,7 +11,7 @@ use Rattle.paris_code.specs.declared.instr.Instr.TheVariants as I
 use Rattle.paris_code.specs.Arguments.{konst_number, behind_konst, coordinate_whole, behind_coordinate}
 use Rattle.paris_code.specs.Memory.{BitMemory, field_number, is_active, processors}
 use Rattle.paris_code.specs.Operands.{coordinate_of, konst_of}
-use Rattle.paris_code.specs.Orders.{least_below}
+use Rattle.cstar_base.specs.Orders.{least_below}
 use Rattle.paris_code.specs.RuleSet.{axis_of}
 use Rattle.paris_code.specs.Shapes.{SetShape, extents_at}
 

@@ -10,7 +10,7 @@ use Rattle.paris_code.specs.declared.program.Reply.TheVariants as R
 use Rattle.paris_code.specs.Kinds.{is_parallel}
 use Rattle.paris_code.specs.Meaning.{after, reply_of}
 use Rattle.paris_code.specs.Memory.{BitMemory}
-use Rattle.paris_code.specs.Numerals.{printed}
+use Rattle.cstar_base.specs.Numerals.{word_text}
 use Rattle.paris_code.specs.Operands.{arguments_of, result_of}
 use Rattle.paris_code.specs.Scalar.{computed, any_register_outside}
 use Rattle.paris_code.specs.Shapes.{SetShape, shapes_of, extents_at}
@@ -98,7 +98,7 @@ controlled image I.FrontTurn s = turned s
 controlled image (I.FrontCall unit) s = Goes (called image unit s)
 controlled image I.FrontReturn s = Goes (returned s)
 controlled image (I.FrontPutBytes bytes) s = Goes (with_printed bytes s)
-controlled image (I.FrontPut format x) s = Goes (with_printed (printed format (slice_index s.registers x)) s)
+controlled image (I.FrontPut format x) s = Goes (with_printed (word_text format (slice_index s.registers x)) s)
 controlled image (I.FrontGetByte r) s = given r s s.input.bytes s.input.mark
 controlled image _ s = Ends Done s
 

@@ -15,7 +15,7 @@ use Rattle.paris_code.specs.declared.program.Image.{Image}
 use Rattle.paris_code.specs.Code.{CodeState, Mark, End, Broken, Stopped, InputBroken, Goes, Ends, begun, called, onward}
 use Rattle.paris_code.specs.Fetching.{of_named, global_fold}
 use Rattle.paris_code.specs.Memory.{BitMemory, is_active}
-use Rattle.paris_code.specs.Orders.{least_below}
+use Rattle.cstar_base.specs.Orders.{least_below}
 use Rattle.paris_code.specs.Scanning.{ScanOf, scanned}
 use Rattle.paris_code.specs.Sending.{winning_sender}
 use Rattle.paris_code.specs.Shapes.{SetShape}

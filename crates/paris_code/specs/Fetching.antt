@@ -8,7 +8,7 @@ use Rattle.paris_code.specs.declared.operands.Field.{Field}
 use Rattle.paris_code.specs.declared.operands.Reduction.{Reduction}
 use Rattle.paris_code.specs.Memory.{BitMemory, field_number, whole_number, is_active, processors}
 use Rattle.paris_code.specs.Operators.{combiner_of}
-use Rattle.paris_code.specs.Orders.{fold_below}
+use Rattle.cstar_base.specs.Orders.{fold_below}
 use Rattle.paris_code.specs.Shapes.{SetShape, extents_at}
 use Rattle.paris_code.specs.Writes.{Write}
 

@@ -9,10 +9,8 @@ pub mod Listing
 pub mod Meaning
 pub mod Memory
 pub mod Mnemonics
-pub mod Numerals
 pub mod Operands
 pub mod Operators
-pub mod Orders
 pub mod Plain
 pub mod Proper
 pub mod RuleBackEdge

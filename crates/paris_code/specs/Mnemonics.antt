@@ -7,8 +7,8 @@ use Rattle.paris_code.specs.declared.operands.Compare.{Compare}
 use Rattle.paris_code.specs.declared.operands.Compare.TheVariants as R
 use Rattle.paris_code.specs.declared.operands.Reduction.{Reduction}
 use Rattle.paris_code.specs.declared.operands.Reduction.TheVariants as F
-use Rattle.paris_code.specs.declared.operands.NumberFormat.{NumberFormat}
-use Rattle.paris_code.specs.declared.operands.NumberFormat.TheVariants as N
+use Rattle.cstar_base.specs.declared.formats.NumberFormat.{NumberFormat}
+use Rattle.cstar_base.specs.declared.formats.NumberFormat.TheVariants as N
 use Rattle.paris_code.specs.declared.instr.Instr.{Instr}
 use Rattle.paris_code.specs.declared.instr.Instr.TheVariants as I
 

@@ -1,7 +1,8 @@
 -- The scans: at each active position the fold of the active positions of its line and segment that
 -- stand before it in the scan's direction, its own among them or not.
-use Rattle.std.specs.Prelude.{ℕ, pos, Bool, false, ◌+◌, ◌-◌, ◌-ℤ◌, ◌==◌, ◌&&◌, not, List, slice_index, Option, Some, None}
-use Rattle.vp_sets.specs.Positions.{coordinate, shifted}
+use Rattle.std.specs.Prelude.{ℕ, Bool, false, ◌+◌, ◌-◌, ◌==◌, ◌&&◌, not, List, slice_index, Option, Some, None}
+use Rattle.vp_sets.specs.Lines.{steps_before}
+use Rattle.vp_sets.specs.Positions.{coordinate, with_coordinate}
 use Rattle.cstar_base.specs.declared.operators.Direction.{Direction}
 use Rattle.cstar_base.specs.declared.operators.Direction.TheVariants as D
 use Rattle.cstar_base.specs.declared.operators.Inclusion.{Inclusion}
@@ -13,7 +14,7 @@ use Rattle.paris_code.specs.declared.operands.Field.{Field}
 use Rattle.paris_code.specs.declared.operands.Reduction.{Reduction}
 use Rattle.paris_code.specs.Memory.{BitMemory, field_number, is_active}
 use Rattle.paris_code.specs.Operators.{combiner_of}
-use Rattle.paris_code.specs.Orders.{fold_below, any_of}
+use Rattle.cstar_base.specs.Orders.{fold_below, any_of}
 use Rattle.paris_code.specs.Shapes.{SetShape, extents_at}
 
 -- what a scan is of
@@ -28,16 +29,12 @@ pub record ScanOf : Type 0 where
 
 -- how many steps of its line lie before a position in the scan's direction, and the position of its
 -- line with so many
-abbrev pub steps_before : Direction → ℕ → ℕ → ℕ
-steps_before D.Upward extent own = own
-steps_before D.Downward extent own = extent - 1 - own
-
 unfoldable pub own_step : List ℕ → ScanOf → ℕ → ℕ
 own_step extents scan p = steps_before scan.direction (slice_index extents scan.axis) (coordinate extents p scan.axis)
 
 unfoldable pub on_line : List ℕ → ScanOf → ℕ → ℕ → ℕ
 on_line extents scan p step =
-    shifted extents p scan.axis (pos (steps_before scan.direction (slice_index extents scan.axis) step) -ℤ pos (coordinate extents p scan.axis))
+    with_coordinate extents p scan.axis (steps_before scan.direction (slice_index extents scan.axis) step)
 
 -- the bit that parts the segments is 1 at a position
 abbrev pub bit_is_one : BitMemory → Option Field → ℕ → Bool

@@ -4,10 +4,10 @@ ghost use Rattle.std.specs.Prelude.{◌≡◌};
 ghost use Rattle.paris_code.specs.Kinds.{is_parallel};
 
 use crate::operands::{
-    Compare, Coordinate, Field, GridStep, Konst, NumberFormat, Operation, Reduction,
-    RegisterCoordinate, SignedCoordinate,
+    Compare, Coordinate, Field, GridStep, Konst, Operation, Reduction, RegisterCoordinate,
+    SignedCoordinate,
 };
-use cstar_base::{Direction, Elem, Inclusion, Place, SegmentMode, Word};
+use cstar_base::{Direction, Elem, Inclusion, NumberFormat, Place, SegmentMode, Word};
 
 /// An instruction. The operands stand in the order of the listing. An instruction on fields acts
 /// at the active processors alone, unless its name says `Always`; the front end's instructions,

@@ -8,7 +8,7 @@ mod program;
 
 pub use instr::Instr;
 pub use operands::{
-    Compare, Coordinate, Field, GridStep, Konst, NumberFormat, Operation, Reduction,
-    RegisterCoordinate, SignedCoordinate,
+    Compare, Coordinate, Field, GridStep, Konst, Operation, Reduction, RegisterCoordinate,
+    SignedCoordinate,
 };
 pub use program::{Entry, Final, Image, Owner, Program, Reply, ShapeBits, Unit, Virtual};

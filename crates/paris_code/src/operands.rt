@@ -169,14 +169,3 @@ impl Reduction {
         }
     }
 }
-
-/// How a register is printed: in signed or unsigned decimal, in lower-case hexadecimal, in octal,
-/// or as the byte that its number is modulo 256.
-#[derive(Clone, Copy, PartialEq, Eq)]
-pub enum NumberFormat {
-    Signed,
-    Unsigned,
-    Hexadecimal,
-    Octal,
-    Character,
-}

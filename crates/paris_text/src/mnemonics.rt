@@ -3,7 +3,8 @@
 ghost use Rattle.std.specs.Prelude.{◌≡◌, ◌++◌};
 ghost use Rattle.paris_code.specs.Mnemonics.{sign_name, operation_name, relation_name, reduction_name, format_name, mnemonic_of};
 
-use paris_code::{Compare, Instr, NumberFormat, Operation, Reduction};
+use cstar_base::NumberFormat;
+use paris_code::{Compare, Instr, Operation, Reduction};
 
 /// A name in three parts, of which the middle one says what is done.
 #[derive(Clone, Copy)]

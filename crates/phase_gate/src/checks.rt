@@ -6,7 +6,7 @@ ghost use Rattle.paris_code.specs.Checking.{any_outside, any_leaves, is_outside,
 ghost use Rattle.paris_code.specs.Shapes.{extents_at};
 ghost use Rattle.paris_code.specs.Meaning.{bad_or_nothing, reply_of};
 ghost use Rattle.paris_code.specs.Memory.{field_number, is_active, processors};
-ghost use Rattle.paris_code.specs.Orders.{least_below};
+ghost use Rattle.cstar_base.specs.Orders.{least_below};
 ghost use Rattle.paris_code.specs.Operands.{coordinate_of};
 ghost use Rattle.paris_code.specs.RuleSet.{IsAxis, axis_of};
 ghost use Rattle.phase_meaning.specs.Apply.{CanApply, IsCoordinateAt, IsPosition, LiesIn, ReplyFits, is_check};

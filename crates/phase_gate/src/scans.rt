@@ -3,7 +3,8 @@
 ghost use Rattle.std.specs.Prelude.{ℕ, ◌≡◌, ◌<◌, false, Some, IfSome, MatchOption};
 ghost use Rattle.paris_code.specs.Memory.{SameBits, processors, is_active};
 ghost use Rattle.paris_code.specs.Fetching.{at_active};
-ghost use Rattle.paris_code.specs.Scanning.{bit_is_one, parts, own_step, steps_before, scanned};
+ghost use Rattle.paris_code.specs.Scanning.{bit_is_one, parts, own_step, scanned};
+ghost use Rattle.vp_sets.specs.Lines.{steps_before};
 ghost use Rattle.paris_code.specs.Writes.{written};
 ghost use Rattle.paris_code.specs.Shapes.{extents_at};
 ghost use Rattle.phase_meaning.specs.Apply.{IsPosition, LiesIn};

@@ -1,8 +1,9 @@
 -- The neighbours on a line, and the fold of what stands before one of them.
 use Rattle.std.specs.Prelude.{◌≡◌, ℕ, ◌+◌, ◌<◌, List, slice_index}
+use Rattle.vp_sets.specs.Lines.{steps_before}
 use Rattle.vp_sets.specs.Positions.{position_count}
 use Rattle.paris_code.specs.Memory.{BitMemory}
-use Rattle.paris_code.specs.Scanning.{ScanOf, steps_before, own_step, on_line, fold_before}
+use Rattle.paris_code.specs.Scanning.{ScanOf, own_step, on_line, fold_before}
 use Rattle.paris_code.specs.Shapes.{SetShape, extents_at}
 
 -- the fold of the positions before one

@@ -3,7 +3,6 @@ pub mod Examples
 pub mod Expressions
 pub mod Gets
 pub mod Narrowing
-pub mod Orders
 pub mod Printing
 pub mod Programs
 pub mod Reductions

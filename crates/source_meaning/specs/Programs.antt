@@ -7,8 +7,9 @@ use Rattle.cstar_tree.specs.declared.typed.Typed.{Typed}
 use Rattle.cstar_tree.specs.declared.typed.VarInfo.{VarInfo}
 use Rattle.cstar_tree.specs.declared.typed.Variable.{Variable}
 use Rattle.cstar_tree.specs.declared.typed.Variable.TheVariants as V
+use Rattle.cstar_tree.specs.Variables.{variables_of}
 use Rattle.source_meaning.specs.State.{State, Rest, Early, Outcome, Gives, Ends, Stopped, then_do, spend_turn}
-use Rattle.source_meaning.specs.Statements.{Leaving, Returned, executed, variables_of}
+use Rattle.source_meaning.specs.Statements.{Leaving, Returned, executed}
 use Rattle.source_meaning.specs.Values.{Value, Nothing, number, at, each, Active, Scope}
 
 -- what a call of an instance does with the values of its arguments

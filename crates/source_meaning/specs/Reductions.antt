@@ -11,7 +11,7 @@ use Rattle.cstar_tree.specs.declared.syntax.AssignOp.{AssignOp}
 use Rattle.cstar_tree.specs.declared.syntax.AssignOp.TheVariants as A
 use Rattle.cstar_tree.specs.declared.syntax.ReduceOp.{ReduceOp}
 use Rattle.cstar_tree.specs.declared.syntax.ReduceOp.TheVariants as R
-use Rattle.source_meaning.specs.Orders.{fold_below}
+use Rattle.cstar_base.specs.Orders.{fold_below}
 
 -- `int`, the type in which narrower ones are operands
 abbrev pub int_type : Elem

@@ -1,7 +1,8 @@
 -- Scans: at each active position the fold of the active positions of its line and segment, in the
 -- scan's direction, up to its own or before it.
-use Rattle.std.specs.Prelude.{ℕ, Bool, false, not, ◌+◌, ◌-◌, ◌==◌, ◌&&◌, List, slice_index, slice_set, Option, Some, None}
-use Rattle.vp_sets.specs.Positions.{coordinate, coordinates, number_at}
+use Rattle.std.specs.Prelude.{ℕ, Bool, false, not, ◌+◌, ◌-◌, ◌==◌, ◌&&◌, List, slice_index, Option, Some, None}
+use Rattle.vp_sets.specs.Lines.{steps_before}
+use Rattle.vp_sets.specs.Positions.{coordinate, with_coordinate}
 use Rattle.cstar_base.specs.declared.operators.Combiner.{Combiner}
 use Rattle.cstar_base.specs.declared.operators.Direction.{Direction}
 use Rattle.cstar_base.specs.declared.operators.Direction.TheVariants as D
@@ -11,7 +12,7 @@ use Rattle.cstar_base.specs.declared.operators.SegmentMode.{SegmentMode}
 use Rattle.cstar_base.specs.declared.operators.SegmentMode.TheVariants as M
 use Rattle.cstar_base.specs.Folds.{fold_once, identity_of}
 use Rattle.cstar_tree.specs.declared.typed.Variable.{Variable}
-use Rattle.source_meaning.specs.Orders.{fold_below, any_of}
+use Rattle.cstar_base.specs.Orders.{fold_below, any_of}
 use Rattle.source_meaning.specs.State.{State}
 
 -- What a scan is of: the extents of its shape, which positions are active, the combiner at a type,
@@ -33,8 +34,8 @@ bit_at st None p = false
 bit_at st (Some x) p = st.parallel x 0 p == 1
 
 -- the position of the line of p that has a coordinate on the axis
-unfoldable pub on_line : Scan → ℕ → ℕ → ℕ
-on_line scan p k = number_at scan.extents (slice_set (coordinates scan.extents p) scan.axis k)
+abbrev pub on_line : Scan → ℕ → ℕ → ℕ
+on_line scan p k = with_coordinate scan.extents p scan.axis k
 
 -- Does a segment begin at a position: nowhere, or at each whose bit is 1, active or not, or at each
 -- active one whose bit is 1.
@@ -48,12 +49,6 @@ unfoldable pub is_parted : SegmentMode → Direction → (ℕ → Bool) → ℕ 
 is_parted mode D.Upward begins_at k own = any_of begins_at (k + 1) (own - k)
 is_parted M.StartBit D.Downward begins_at k own = any_of begins_at own (k - own)
 is_parted _ D.Downward begins_at k own = any_of begins_at (own + 1) (k - own)
-
--- how many coordinates of a line lie before one in the scan's direction, and the coordinate before
--- which so many lie
-unfoldable pub steps_before : Direction → ℕ → ℕ → ℕ
-steps_before D.Upward extent k = k
-steps_before D.Downward extent k = extent - 1 - k
 
 -- does the coordinate at a step of the line of p count for the position p
 unfoldable pub counts_for : Scan → ℕ → ℕ → Bool

@@ -6,7 +6,7 @@ use Rattle.cstar_base.specs.declared.operators.Winner.TheVariants as W
 use Rattle.cstar_tree.specs.declared.syntax.AssignOp.{AssignOp}
 use Rattle.cstar_tree.specs.declared.syntax.AssignOp.TheVariants as A
 use Rattle.cstar_tree.specs.declared.typed.Variable.{Variable}
-use Rattle.source_meaning.specs.Orders.{least_below, greatest_below, any_of}
+use Rattle.cstar_base.specs.Orders.{least_below, greatest_below, any_of}
 use Rattle.source_meaning.specs.Reductions.{folded_into}
 use Rattle.source_meaning.specs.State.{State, with_positions}
 

@@ -1,14 +1,14 @@
 -- The meaning of statements. The active sets are not part of the state, so behind a part, and
 -- behind a jump out of it, they are what they were before. The current shape stands in the types of
 -- the tree.
-use Rattle.std.specs.Prelude.{ℕ, zero, suc, Bool, true, false, ◌+◌, List, [], ◌∷◌, ◌++◌, length, map, Option, Some, None, if◌then◌else◌}
+use Rattle.std.specs.Prelude.{ℕ, zero, suc, Bool, true, false, ◌+◌, List, [], ◌∷◌, length, Option, Some, None, if◌then◌else◌}
 use Rattle.cstar_tree.specs.declared.typed.LocalVar.{LocalVar}
 use Rattle.cstar_tree.specs.declared.typed.TExpr.{TExpr}
 use Rattle.cstar_tree.specs.declared.typed.TStmt.{TStmt, Row_of-TStmt, end_of-TStmt, more_of-TStmt, Held-TStmt-If-2, None', Some'}
 use Rattle.cstar_tree.specs.declared.typed.TStmt as S
-use Rattle.cstar_tree.specs.declared.typed.VarInfo.{VarInfo}
 use Rattle.cstar_tree.specs.declared.typed.Variable.TheVariants as V
 use Rattle.cstar_tree.specs.Typed.{type_of}
+use Rattle.cstar_tree.specs.Variables.{variables_of}
 use Rattle.source_meaning.specs.Expressions.{evaluated}
 use Rattle.source_meaning.specs.Narrowing.{where_nonzero, where_zero, widened}
 use Rattle.source_meaning.specs.State.{State, Outcome, Gives, Ends, Stopped, then_do, spend_turn, zeroed}
@@ -78,28 +78,7 @@ initialised scope active n [] st = Gives Onward st
 initialised scope active n (local ∷ locals) st =
     then_go (initialised_one scope active (variable_target local.info.shape (V.Local n) 0) local.initial st) (initialised scope active (n + 1) locals)
 
--- the variables that the blocks of a statement declare, in order
-unfoldable mutual
-  pub variables_of : TStmt → List VarInfo
-  variables_of (S.Block' locals p statements) = map (λ local. local.info) locals.items ++ variables_in statements
-  variables_of (S.If' test p first second) = variables_of first ++ variables_else second
-  variables_of (S.While' test p body) = variables_of body
-  variables_of (S.Do' p body test) = variables_of body
-  variables_of (S.For' first test step p body) = variables_of body
-  variables_of (S.With' shape p body) = variables_of body
-  variables_of (S.Everywhere' shape p body) = variables_of body
-  variables_of (S.Where' shape test p first second) = variables_of first ++ variables_else second
-  variables_of _ = []
-
-  pub variables_in : {n : _} → Row_of-TStmt n → List VarInfo
-  variables_in end_of-TStmt = []
-  variables_in (more_of-TStmt s rest) = variables_of s ++ variables_in rest
-
-  pub variables_else : Held-TStmt-If-2 → List VarInfo
-  variables_else None' = []
-  variables_else (Some' p s) = variables_of s
-
--- how many they are
+-- how many variables the blocks of a statement declare
 unfoldable pub declared : TStmt → ℕ
 declared s = length (variables_of s)
 

@@ -10,7 +10,7 @@ use Rattle.cstar_tree.specs.declared.typed.UnaryOp.{UnaryOp}
 use Rattle.cstar_tree.specs.declared.typed.UnaryOp.TheVariants as U
 use Rattle.cstar_tree.specs.declared.typed.ValueType.{ValueType}
 use Rattle.cstar_tree.specs.declared.typed.Variable.{Variable}
-use Rattle.source_meaning.specs.Orders.{least_below}
+use Rattle.cstar_base.specs.Orders.{least_below}
 use Rattle.source_meaning.specs.State.{State, Outcome, Ends, Cause, Fault}
 
 -- the value of an expression: a number, a number for each active position, or no value

@@ -46,6 +46,10 @@ are_inside [] (c ∷ cs) = false
 are_inside (x ∷ xs) [] = false
 are_inside (x ∷ xs) (c ∷ cs) = nat_lt c x && are_inside xs cs
 
+-- the position whose coordinate on the axis is c, and whose others are those of n
+abbrev pub with_coordinate : List ℕ → ℕ → ℕ → ℕ → ℕ
+with_coordinate extents n axis c = number_at extents (slice_set (coordinates extents n) axis c)
+
 -- a coordinate moved by k, round the ends of its axis
 unfoldable pub moved : ℕ → ℕ → ℤ → ℕ
 moved extent own k = unsigned_abs (int_rem_euclid (pos own +ℤ k) (pos extent))
@@ -53,5 +57,4 @@ moved extent own k = unsigned_abs (int_rem_euclid (pos own +ℤ k) (pos extent))
 -- the position whose coordinate on the axis is moved by k, and whose others are those of n
 unfoldable pub shifted : List ℕ → ℕ → ℕ → ℤ → ℕ
 shifted extents n axis k =
-    let there = moved (slice_index extents axis) (coordinate extents n axis) k in
-    number_at extents (slice_set (coordinates extents n) axis there)
+    with_coordinate extents n axis (moved (slice_index extents axis) (coordinate extents n axis) k)

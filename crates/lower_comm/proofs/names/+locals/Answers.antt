@@ -1,7 +1,7 @@
 use Rattle.std.proofs.Common.{◌≡◌, ◌++◌, map, ap, ◌∙◌, arith, rules}
 use Rattle.cstar_tree.specs.declared.typed.LocalVar.{LocalVar}
 use Rattle.cstar_tree.specs.TypedParts.{concat}
-use Rattle.lower_comm.specs.Layouts.{variables_of}
+use Rattle.cstar_tree.specs.Variables.{variables_of}
 use Rattle.lower_comm.proofs.Numbering.{each_step, each_done, variables_block, numbered_append}
 use Rattle.lower_comm.proofs.names.+locals.Goals as goal
 

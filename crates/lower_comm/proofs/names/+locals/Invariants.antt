@@ -1,6 +1,7 @@
 use Rattle.std.proofs.Common.{◌≡◌, map, drop}
 use Rattle.cstar_tree.specs.TypedParts.{concat}
-use Rattle.lower_comm.specs.Layouts.{Numbering, numbered, variables_of}
+use Rattle.cstar_tree.specs.Variables.{variables_of}
+use Rattle.lower_comm.specs.Layouts.{Numbering, numbered}
 use Rattle.lower_comm.proofs.names.+locals.Given as goal
 
 abbrev pub invariant-number_each-loop-statement : goal.invariant-number_each-loop-statement

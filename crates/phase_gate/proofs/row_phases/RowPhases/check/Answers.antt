@@ -4,7 +4,7 @@ use Rattle.paris_code.specs.declared.operands.SignedCoordinate.{SignedCoordinate
 use Rattle.paris_code.specs.Checking.{any_leaves, any_outside, set_of_coordinates}
 use Rattle.paris_code.specs.Operands.{coordinate_of}
 use Rattle.paris_code.specs.Memory.{is_active, processors}
-use Rattle.paris_code.specs.Orders.{least_below}
+use Rattle.cstar_base.specs.Orders.{least_below}
 use Rattle.paris_code.specs.Shapes.{extents_at}
 use Rattle.paris_code.specs.declared.instr.Instr.{Instr}
 use Rattle.paris_code.specs.Meaning.{bad_or_nothing, reply_of}

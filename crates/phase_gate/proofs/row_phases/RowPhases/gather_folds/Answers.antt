@@ -1,7 +1,7 @@
 use Rattle.std.proofs.Common.{◌≡◌, ◌<◌, List, Some, ◌∙◌, sym, ap, inl, inr, refl, arith}
 use Rattle.std.proofs.lemmas.Bool.{cases_eq}
 use Rattle.paris_code.specs.Memory.{BitMemory, processors}
-use Rattle.paris_code.specs.Scanning.{steps_before}
+use Rattle.vp_sets.specs.Lines.{steps_before}
 use Rattle.paris_code.specs.Shapes.{SetShape}
 use Rattle.phase_gate.specs.Rows.{sets_of, memory_of, room_of}
 use Rattle.phase_gate.specs.Scans.{scan_of}

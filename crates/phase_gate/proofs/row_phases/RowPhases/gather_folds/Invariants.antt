@@ -1,6 +1,6 @@
 use Rattle.std.proofs.Common.{◌≡◌, ℕ, ◌<◌, Some}
 use Rattle.paris_code.specs.Memory.{processors}
-use Rattle.paris_code.specs.Scanning.{steps_before}
+use Rattle.vp_sets.specs.Lines.{steps_before}
 use Rattle.phase_gate.specs.Rows.{sets_of, memory_of, room_of}
 use Rattle.phase_gate.specs.Scans.{scan_of}
 use Rattle.phase_meaning.specs.Scans.{before_at}

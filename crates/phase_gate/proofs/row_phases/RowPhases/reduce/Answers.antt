@@ -3,7 +3,7 @@ use Rattle.cstar_base.specs.Folds.{fold_once, identity_of}
 use Rattle.paris_code.specs.Fetching.{global_fold}
 use Rattle.paris_code.specs.Memory.{is_active, field_number, processors}
 use Rattle.paris_code.specs.Operators.{combiner_of}
-use Rattle.paris_code.specs.Orders.{fold_below}
+use Rattle.cstar_base.specs.Orders.{fold_below}
 use Rattle.phase_gate.specs.Rows.{sets_of, memory_of}
 use Rattle.phase_meaning.proofs.Rising.{fold_none, fold_one, fold_skip}
 use Rattle.phase_gate.proofs.row_phases.RowPhases.reduce.Goals as goal

@@ -2,7 +2,7 @@ use Rattle.std.proofs.Common.{◌≡◌}
 use Rattle.cstar_base.specs.Folds.{fold_once, identity_of}
 use Rattle.paris_code.specs.Memory.{is_active, field_number}
 use Rattle.paris_code.specs.Operators.{combiner_of}
-use Rattle.paris_code.specs.Orders.{fold_below}
+use Rattle.cstar_base.specs.Orders.{fold_below}
 use Rattle.phase_gate.specs.Rows.{sets_of, memory_of}
 use Rattle.phase_gate.proofs.row_phases.RowPhases.reduce.Given as goal
 

@@ -1,4 +1,4 @@
--- Folds and first places over numbered processors, in rising order.
+-- Folds and first places over numbers, in rising order.
 use Rattle.std.specs.Prelude.{ℕ, zero, suc, Bool, ◌+◌, ◌||◌, false, if◌then◌else◌, Option, Some, None}
 
 -- the values of the numbers below n that pass, folded in rising order
@@ -8,11 +8,12 @@ fold_below step passes value start (suc n) =
     let rest = fold_below step passes value start n in
     if passes n then step rest (value n) else rest
 
--- the least, and the greatest, of the numbers below n that pass
+-- the first of two, or else the second
 abbrev pub or_else : Option ℕ → Option ℕ → Option ℕ
 or_else (Some k) other = Some k
 or_else None other = other
 
+-- the least, and the greatest, of the numbers below n that pass
 unfoldable pub least_below : (ℕ → Bool) → ℕ → Option ℕ
 least_below passes zero = None
 least_below passes (suc n) = or_else (least_below passes n) (if passes n then Some n else None)
