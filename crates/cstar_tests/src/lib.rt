@@ -1,4 +1,4 @@
-//! Tests over all layers that need more than rows of text: an outside that fails, every byte and every
+//! Tests that need more than rows of text: an outside that fails, every byte and every
 //! beginning of a program, tokens, and a listing of an image that breaks rules. Rows of programs,
 //! listings and commands stand in `row_runs`.
 #![tactic(auto)]
@@ -11,5 +11,7 @@ mod bench;
 mod failures;
 #[cfg(test)]
 mod listings;
+#[cfg(test)]
+mod numbers;
 #[cfg(test)]
 mod tokens;
