@@ -94,23 +94,3 @@ pub fn command<R: Threads + Sync>(
     );
     Ok(Done { status, out, err })
 }
-
-/// The command on these words, divided by blanks, where `a.cs` has this text.
-pub fn line<R: Threads + Sync>(
-    rt: &R,
-    alloc: Global,
-    words: &str,
-    text: &str,
-    outside: Outside,
-) -> Result<Done, Memory> {
-    let mut divided = Vec::new(alloc);
-    for word in words.split_whitespace() {
-        divided.push(word)?;
-    }
-    command(rt, alloc, divided.as_slice(), text.as_bytes(), outside)
-}
-
-/// The command on `a.cs` with this text.
-pub fn program<R: Threads + Sync>(rt: &R, alloc: Global, text: &str) -> Result<Done, Memory> {
-    command(rt, alloc, &["a.cs"], text.as_bytes(), SOUND)
-}

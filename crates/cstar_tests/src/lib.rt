@@ -1,31 +1,17 @@
-//! Tests over all layers: the top call on programs in memory, with an outside that may fail.
+//! Tests that need more than rows of text: an outside that fails, every byte and every
+//! beginning of a program, tokens, and a listing of an image that breaks rules. Rows of programs,
+//! listings and commands stand in `row_runs`.
 #![tactic(auto)]
 
-#[cfg(test)]
-mod asm;
 #[cfg(test)]
 mod bad_input;
 #[cfg(test)]
 mod bench;
 #[cfg(test)]
-mod big_input;
-#[cfg(test)]
-mod commands;
-#[cfg(test)]
 mod failures;
-#[cfg(test)]
-mod frames;
-#[cfg(test)]
-mod grammar;
-#[cfg(test)]
-mod instructions;
 #[cfg(test)]
 mod listings;
 #[cfg(test)]
-mod programs;
+mod numbers;
 #[cfg(test)]
 mod tokens;
-#[cfg(test)]
-mod trials;
-#[cfg(test)]
-mod words;

@@ -1,4 +1,4 @@
-//! Listings written by hand.
+//! A listing with each instruction and each form of operand is read and printed back.
 
 use cstar_io::MemSink;
 use paris_asm::{AsmFault, read};
@@ -162,21 +162,6 @@ static WHOLE: &str = "\
 142 FE_halt
 ";
 
-static BAD: [(&str, u32); 12] = [
-    ("", 1),
-    (".slots 01\n", 1),
-    (".slots 1\n.depth 0", 2),
-    (".slots 1\n", 2),
-    (".slots 1\n.depth 0\n0 FE_halt \n", 3),
-    (".slots 1\n.depth 0\n1 FE_halt\n", 3),
-    (".slots 1\n.depth 0\n.unit 0 2f 0\n", 3),
-    (".slots 1\n.depth 0\n.final a[01] s32 0:0:32\n", 3),
-    (".slots 01\n.depth 0\nx\n", 1),
-    (".shape 0  32\n.slots 1\n.depth 0\n", 1),
-    (".slots 4294967296\n.depth 0\n", 1),
-    (".slots 1\n.depth 0\n0 FE_put_bytes xA0\n", 3),
-];
-
 /// Reads a listing of a test, which is short.
 fn read_text(alloc: Global, text: &str) -> Result<Image, AsmFault> {
     let bytes = text.as_bytes();
@@ -199,16 +184,5 @@ fn is_same(alloc: Global, text: &str) -> Result<bool, Fail> {
 fn listings_are_read_back(rt: HostRuntime) -> Result<(), Fail> {
     assert!(rt; is_same(rt.alloc(), WHOLE)?);
     assert!(rt; is_same(rt.alloc(), ".slots 0\n.depth 0\n")?);
-    Ok(())
-}
-
-#[test]
-fn the_first_line_that_is_none_is_answered(rt: HostRuntime) -> Result<(), Fail> {
-    for (text, wanted) in &BAD {
-        match read_text(rt.alloc(), text) {
-            Err(AsmFault::Line { line }) => assert_eq!(rt; line, *wanted, "{text}"),
-            _ => assert!(rt; false, "{text}"),
-        }
-    }
     Ok(())
 }

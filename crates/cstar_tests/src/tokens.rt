@@ -1,4 +1,4 @@
-//! Texts with each of their tokens, and texts that are refused for their words.
+//! Texts with each of their tokens.
 
 use cstar_lexer::{LexFault, lex};
 use cstar_tree::token::{Kind, Mark, Tokens};
@@ -109,34 +109,6 @@ fn texts_have_these_tokens(rt: HostRuntime) {
         assert_eq!(rt; tokens.list.len(), wanted.len(), "{text}");
         for (token, wanted) in tokens.list.iter().zip(wanted.iter()) {
             assert!(rt; is_wanted(&token.kind, wanted), "{text}");
-        }
-    }
-}
-
-/// Texts with the number of their fault and the column of its place on the first line.
-static REFUSED: [(&str, u8, u32); 6] = [
-    ("089", 1, 2),
-    ("1.", 1, 2),
-    ("4294967296", 3, 1),
-    ("x = 1.5;", 1, 6),
-    ("a <? 0400000000008", 3, 6),
-    ("a /*/", 2, 3),
-];
-
-#[test]
-fn texts_are_refused_for_their_words(rt: HostRuntime) {
-    for (text, number, column) in &REFUSED {
-        match tokens_of(rt.alloc(), text) {
-            Err(
-                LexFault::Fault {
-                    number: found,
-                    place,
-                },
-            ) => {
-                assert_eq!(rt; found, *number, "{text}");
-                assert_eq!(rt; (place.line, place.col), (1, *column), "{text}");
-            }
-            _ => panic!(rt; "{text}"),
         }
     }
 }

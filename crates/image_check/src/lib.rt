@@ -18,6 +18,3 @@ mod units;
 
 pub use fault::CheckErr;
 pub use sound::{Sound, verify};
-
-#[cfg(test)]
-mod tests;

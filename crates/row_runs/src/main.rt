@@ -1,0 +1,122 @@
+//! Runs the rows of pages and compares what each command puts and gives with what the row says. Each
+//! word names a page.
+#![tactic(auto)]
+
+mod bytes;
+mod row;
+
+use crate::row::{Row, rows_of};
+use cstar_base::{Memory, Word};
+use cstar_io::{MemShelf, MemSink, MemSource, Open, RealShelf, Shelf, ShelfErr};
+use std::alloc::Global;
+use std::rt::{Env, Files};
+use std::thread::Threads;
+use std::{env, io};
+
+/// The greatest number of bytes of a page.
+const PAGE: u32 = 1_048_576;
+
+/// The greatest number of bytes of an output.
+const ROOM: u32 = 65_536;
+
+/// A shelf that holds the text under both names: `a.paris` is what rows call a listing.
+fn shelf_with(alloc: Global, text: &[u8]) -> Result<MemShelf, Memory> {
+    let source = Word::of(Vec::from_slice(alloc, b"a.cs")?);
+    let listing = Word::of(Vec::from_slice(alloc, b"a.paris")?);
+    let mut files = Vec::new(alloc);
+    files.push((source, Vec::from_slice(alloc, text)?))?;
+    files.push((listing, Vec::from_slice(alloc, text)?))?;
+    Ok(MemShelf::new(files, Vec::new(alloc)))
+}
+
+/// Whether a command, its words divided by blanks, does on a row's file and input what the row says.
+fn is_kept<R: Threads + Sync>(
+    rt: &R,
+    alloc: Global,
+    row: &Row,
+    command: &str,
+) -> Result<bool, Memory> {
+    let mut words = Vec::new(alloc);
+    for word in command.split_whitespace() {
+        words.push(String::from_str(alloc, word)?)?;
+    }
+    let mut shelf = shelf_with(alloc, row.file.as_slice())?;
+    let mut input = MemSource::new(
+        Vec::from_slice(alloc, row.input.as_slice())?,
+        Vec::new(alloc),
+    );
+    let mut out = MemSink::new(alloc, ROOM, Vec::new(alloc))?;
+    let mut err = MemSink::new(alloc, ROOM, Vec::new(alloc))?;
+    let status = cstar_top::cstar(
+        rt,
+        alloc,
+        words.as_slice(),
+        &mut shelf,
+        &mut input,
+        &mut out,
+        &mut err,
+        &Open,
+    );
+    Ok(
+        status == row.status
+            && out.taken() == row.out.as_slice()
+            && err.taken() == row.err.as_slice(),
+    )
+}
+
+/// A line for each command of the rows that does something else, and one that counts the others.
+fn report<R: Threads + Sync>(
+    rt: &R,
+    alloc: Global,
+    page: &str,
+    rows: &[Row],
+) -> Result<Vec<String>, Memory> {
+    let mut lines = Vec::new(alloc);
+    let mut kept = 0u32;
+    for row in rows {
+        for command in &row.commands {
+            if is_kept(rt, alloc, row, command.as_str())? {
+                kept = kept.saturating_add(1);
+            } else {
+                let name = row.name.as_str();
+                let command = command.as_str();
+                lines.push(format!(in alloc; "{page}: {name}: NOT as expected: {command}")?)?;
+            }
+        }
+    }
+    lines.push(format!(in alloc; "{page}: {kept} as expected")?)?;
+    Ok(lines)
+}
+
+/// The lines on a page, which is none where it cannot be read or is no text.
+fn lines_on<R>(rt: &R, page: &str) -> Result<Vec<String>, Memory>
+where
+    R: Files + AllocGlobal + Threads + Sync,
+{
+    let alloc = rt.alloc();
+    let bytes = match RealShelf::new(rt, alloc).fetch(page, PAGE) {
+        Ok(bytes) => bytes,
+        Err(ShelfErr::Failed) => Vec::new(alloc),
+        Err(ShelfErr::Memory) => return Err(Memory),
+    };
+    let rows = match str::from_utf8(bytes.as_slice()) {
+        Ok(text) => rows_of(alloc, text)?,
+        Err(_) => Vec::new(alloc),
+    };
+    report(rt, alloc, page, rows.as_slice())
+}
+
+fn main(rt: HostRuntime) -> io::Result<()> {
+    let mut words = env::args(&rt)?;
+    let _program = words.next();
+    for page in words {
+        let Ok(lines) = lines_on(&rt, page.as_str()) else {
+            println!(rt; "{page}: out of memory")?;
+            continue;
+        };
+        for line in &lines {
+            println!(rt; "{line}")?;
+        }
+    }
+    Ok(())
+}
