@@ -13,7 +13,7 @@ use Rattle.paris_code.specs.Spans.{IsNamedAt, StandsAt, fields_of}
 use Rattle.field_alloc.specs.declared.spans.Span.{Span}
 use Rattle.field_alloc.specs.Lasting.{HaveStretches, LastsBy, LastsThrough}
 use Rattle.field_alloc.specs.Lent.{AreLentFlags, HasFlag, IsLentBy}
-use Rattle.field_alloc.specs.Named.{AreAllBehind, AreCallsApart, AreLifted, AreUnitApart, IsBased, IsUnitAbove, IsUnitUnder, HeldAt, HeldBy, IsInUseAt, IsUsedAt}
+use Rattle.field_alloc.specs.Named.{AreLifted, AreUnitApart, IsBased, IsUnitAbove, IsUnitUnder, HeldAt, HeldBy, IsInUseAt, IsUsedAt}
 use Rattle.field_alloc.specs.Places.{items_of}
 use Rattle.field_alloc.specs.Sweep.{AreBelow, AreStacked, Holds, IsInSet, KeepsOthers}
 use Rattle.field_alloc.proofs.Closed.{lasts_by}
@@ -178,10 +178,3 @@ lifted_based unit InUse sets base starts places tops lifted under = record {
       let e = lifted entry (own_entry set len) is_entry in
       omega arith;
 }
-
-pub calls_apart : (units : List CodeUnit) (sets : ℕ) (bases tops places : List (List ℕ)) → AreAllBehind units sets bases tops → ((number : ℕ) (unit : CodeUnit) → slice_get units number ≡ Some unit → IsBased unit (IsUsedAt units number unit) sets (slice_index_or tops number []) (slice_index_or places number []) (slice_index_or bases number [])) → AreCallsApart units sets places
-calls_apart units sets bases tops places behind based caller called at entry other set len over used unit owner is_unit is_call is_owner in_sets is_entry is_other in_code named =
-    let u = (based caller unit is_unit).under entry set len used in_sets is_entry in_code named in
-    let b = behind caller unit is_unit at called is_call set in_sets in
-    let a = (based called owner is_owner).above other set over is_other in
-    omega arith

@@ -1,3 +1,4 @@
+pub mod Chained
 pub mod Closed
 pub mod FileBits
 pub mod Held

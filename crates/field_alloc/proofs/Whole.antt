@@ -9,7 +9,7 @@ use Rattle.paris_code.specs.declared.program.Unit.{Unit as CodeUnit}
 use Rattle.paris_code.specs.declared.program.Virtual.{Virtual}
 use Rattle.paris_code.specs.Proper.{IsUnit, IsEntry}
 use Rattle.field_alloc.specs.Placed.{ArePlacedUnits, IsPlaced, IsPlacedFinal, begins}
-use Rattle.field_alloc.specs.Named.{AreAllAbove, AreAllApart, AreApart, AreCallsApart}
+use Rattle.field_alloc.specs.Named.{AreAllAbove, AreAllApart, AreApart, AreStackedUnits}
 use Rattle.field_alloc.specs.Files.{AreFilesStacked, AreFilesUnder}
 use Rattle.field_alloc.specs.Places.{begin_of, final_offset, units_from}
 use Rattle.field_alloc.proofs.Rows.{entry_begins, unit_begins}
@@ -24,8 +24,8 @@ begins_by_owner finals own program number entry unit virtual is_unit is_entry =
     ∙ ap (λ k. begin_of finals own k (0 + entry) virtual.owner) n
     ∙ ap (λ k. begin_of finals own number k virtual.owner) e
 
-pub is_placed : (before after : Program) (own places : List (List ℕ)) → places ≡ units_from after.finals.items own 0 before.units.items → ArePlacedUnits places 0 before.units.items after.units.items → AllZip IsPlacedFinal before.finals.items after.finals.items → AreAllApart before.units.items (length before.shapes.items) own → (ends : List ℕ) → length ends ≡ length before.shapes.items → AreAllAbove before.units.items ends own → AreFilesUnder after.finals.items ends → AreFilesStacked (length ends) after.finals.items → AreCallsApart before.units.items (length ends) own → IsPlaced before after
-is_placed before after own places are units finals_are own_apart ends sets own_above files_under files_stacked calls =
+pub is_placed : (before after : Program) (own places : List (List ℕ)) → places ≡ units_from after.finals.items own 0 before.units.items → ArePlacedUnits places 0 before.units.items after.units.items → AllZip IsPlacedFinal before.finals.items after.finals.items → AreAllApart before.units.items (length before.shapes.items) own → (ends : List ℕ) → length ends ≡ length before.shapes.items → AreAllAbove before.units.items ends own → AreFilesUnder after.finals.items ends → AreFilesStacked (length ends) after.finals.items → AreStackedUnits before.units.items (length ends) own → IsPlaced before after
+is_placed before after own places are units finals_are own_apart ends sets own_above files_under files_stacked stacked =
     let finals = after.finals.items in
     let rows = units_from finals own 0 before.units.items in
     record {
@@ -57,9 +57,17 @@ is_placed before after own places are units finals_are own_apart ends sets own_a
           let h = own_above number unit is_unit entry own_entry is_entry in_ends in
           let q = ap (slice_index ends) same in
           omega arith;
-      calls_apart = λ caller called at entry other set len over used unit owner is_unit is_call is_owner in_sets is_entry is_other in_code named.
-          let e = begins_by_owner finals own before caller entry unit (record { set = set; len = len; owner = O.Own }) is_unit is_entry in
-          let f = begins_by_owner finals own before called other owner (record { set = set; len = over; owner = O.Own }) is_owner is_other in
-          let u = calls caller called at entry other set len over used unit owner is_unit is_call is_owner (omega arith) is_entry is_other in_code named in
+      bases = stacked.bases;
+      tops = stacked.tops;
+      under = λ number entry set len at unit is_unit in_sets is_entry in_code named.
+          let e = begins_by_owner finals own before number entry unit (record { set = set; len = len; owner = O.Own }) is_unit is_entry in
+          let u = (stacked.based number unit is_unit).under entry set len at (omega arith) is_entry in_code named in
+          omega arith;
+      above = λ number entry set len unit is_unit in_sets is_entry.
+          let e = begins_by_owner finals own before number entry unit (record { set = set; len = len; owner = O.Own }) is_unit is_entry in
+          let u = (stacked.based number unit is_unit).above entry set len is_entry in
+          omega arith;
+      behind = λ caller called at set unit is_unit is_call in_sets.
+          let b = stacked.behind caller unit is_unit at called is_call set (omega arith) in
           omega arith;
     }

@@ -85,7 +85,10 @@ pub record IsBased (unit : CodeUnit) (InUse : ℕ → ℕ → Type 0) (sets : �
   pub under : (entry set len at : ℕ) → set < sets → IsOwn unit entry set len → at < length unit.code.items → InUse entry at → slice_index places entry + len ≤ slice_index base set + slice_index tops set
   pub above : (entry set len : ℕ) → IsOwn unit entry set len → slice_index base set ≤ slice_index places entry
 
--- an own entry of a unit that is in use ends where all own entries of a called unit begin, or before
-abbrev pub AreCallsApart : List CodeUnit → ℕ → List (List ℕ) → Type 0
-AreCallsApart units sets places =
-    (caller called at entry other set len over used : ℕ) (unit owner : CodeUnit) → slice_get units caller ≡ Some unit → slice_get unit.code.items at ≡ Some (I.FrontCall called) → slice_get units called ≡ Some owner → set < sets → IsOwn unit entry set len → IsOwn owner other set over → used < length unit.code.items → IsUsedAt units caller unit entry used → slice_index (slice_index_or places caller []) entry + len ≤ slice_index (slice_index_or places called []) other
+-- There are bases and tops of all units such that own entries in use lie from their unit's base up to
+-- its tops behind that, and the base of each unit that the unit calls is not below those.
+pub record AreStackedUnits (units : List CodeUnit) (sets : ℕ) (places : List (List ℕ)) : Type 0 where
+  pub bases : List (List ℕ)
+  pub tops : List (List ℕ)
+  pub behind : AreAllBehind units sets bases tops
+  pub based : (number : ℕ) (unit : CodeUnit) → slice_get units number ≡ Some unit → IsBased unit (IsUsedAt units number unit) sets (slice_index_or tops number []) (slice_index_or places number []) (slice_index_or bases number [])

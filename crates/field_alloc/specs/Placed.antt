@@ -13,7 +13,8 @@ use Rattle.paris_code.specs.declared.program.Owner.TheVariants as O
 use Rattle.paris_code.specs.declared.program.Program.{Program}
 use Rattle.paris_code.specs.declared.program.Unit.{Unit as CodeUnit}
 use Rattle.paris_code.specs.declared.program.Virtual.{Virtual}
-use Rattle.paris_code.specs.Proper.{IsUnit, IsEntry, IsLent, IsOwn}
+use Rattle.paris_code.specs.Proper.{EndsWith, IsCallChain, IsUnit, IsEntry, IsLent, IsOwn}
+use Rattle.paris_code.specs.Spans.{StandsAt}
 use Rattle.field_alloc.specs.Files.{AreFilesStacked}
 use Rattle.field_alloc.specs.Lasting.{LastsThrough}
 use Rattle.field_alloc.specs.Named.{AreApart}
@@ -109,11 +110,16 @@ begins places number entry = slice_index (slice_index_or places number []) entry
 abbrev pub IsUsed : Program → ℕ → CodeUnit → ℕ → ℕ → Type 0
 IsUsed program number unit entry at = IsLent program number entry ⊎ LastsThrough unit entry at
 
+-- what a list of each unit's numbers has for a set
+abbrev pub of_set : List (List ℕ) → ℕ → ℕ → ℕ
+of_set rows number set = slice_index (slice_index_or rows number []) set
+
 -- A program, and the same over bits. An entry that stands for another unit's own one is at the bits
 -- of that, and one that stands for a field of the file at the bits that the final has. Two own
 -- entries have no bit in common if both are in use at some instruction. The file's fields are apart
--- from each other, and below all own entries; and those of a unit that are in use are below all own
--- entries of the units that it calls.
+-- from each other, and below all own entries. In each set the own entries of a unit begin at its base
+-- or behind, those in use end at its top above the base or before, and there or behind is the base of
+-- each unit that it calls.
 pub record IsPlaced (before after : Program) : Type 0 where
   pub places : List (List ℕ)
   pub units : ArePlacedUnits places 0 before.units.items after.units.items
@@ -123,4 +129,15 @@ pub record IsPlaced (before after : Program) : Type 0 where
   pub apart : (number one other set len over at : ℕ) (unit : CodeUnit) → IsUnit before number unit → one ≢ other → set < length before.shapes.items → IsOwn unit one set len → IsOwn unit other set over → at < length unit.code.items → IsUsed before number unit one at → IsUsed before number unit other at → AreApart (begins places number one) len (begins places number other) over
   pub finals_apart : AreFilesStacked (length before.shapes.items) after.finals.items
   pub files_apart : (number entry file set len : ℕ) (unit : CodeUnit) (last : Final) → IsUnit before number unit → IsOwn unit entry set len → set < length before.shapes.items → slice_get after.finals.items file ≡ Some last → last.field.set ≡ set → last.field.offset + last.field.len ≤ begins places number entry
-  pub calls_apart : (caller called at entry other set len over used : ℕ) (unit owner : CodeUnit) → IsUnit before caller unit → slice_get unit.code.items at ≡ Some (I.FrontCall called) → IsUnit before called owner → set < length before.shapes.items → IsOwn unit entry set len → IsOwn owner other set over → used < length unit.code.items → IsUsed before caller unit entry used → begins places caller entry + len ≤ begins places called other
+  pub bases : List (List ℕ)
+  pub tops : List (List ℕ)
+  pub above : (number entry set len : ℕ) (unit : CodeUnit) → IsUnit before number unit → set < length before.shapes.items → IsOwn unit entry set len → of_set bases number set ≤ begins places number entry
+  pub under : (number entry set len at : ℕ) (unit : CodeUnit) → IsUnit before number unit → set < length before.shapes.items → IsOwn unit entry set len → at < length unit.code.items → IsUsed before number unit entry at → begins places number entry + len ≤ of_set bases number set + of_set tops number set
+  pub behind : (caller called at set : ℕ) (unit : CodeUnit) → IsUnit before caller unit → StandsAt unit at (I.FrontCall called) → set < length before.shapes.items → of_set bases caller set + of_set tops caller set ≤ of_set bases called set
+
+-- own entries of a unit that are in use end where all own entries of the last unit of each chain of
+-- calls begin, or before
+abbrev pub AreCallersBelow : Program → List (List ℕ) → Type 0
+AreCallersBelow program places =
+    (caller next last : ℕ) (chain : List ℕ) (unit owner : CodeUnit) → IsCallChain program (caller ∷ (next ∷ chain)) → EndsWith last (next ∷ chain) → IsUnit program caller unit → IsUnit program last owner
+    → (entry other set len over used : ℕ) → set < length program.shapes.items → IsOwn unit entry set len → IsOwn owner other set over → used < length unit.code.items → IsUsed program caller unit entry used → begins places caller entry + len ≤ begins places last other

@@ -4,6 +4,7 @@
 mod chains;
 mod fields;
 mod finals;
+pub mod laws;
 mod lent;
 mod offsets;
 mod owns;

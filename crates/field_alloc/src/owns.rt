@@ -1,7 +1,7 @@
 //! The bits of each unit's own entries.
 
 ghost use Rattle.std.specs.Prelude.{◌≡◌, IfOk, length, map, true};
-ghost use Rattle.field_alloc.specs.Named.{AreAllAbove, AreAllApart, AreAllBehind, AreAllUnder, AreCallsApart, AreCallsBehind, AreLifted, IsBehind};
+ghost use Rattle.field_alloc.specs.Named.{AreAllAbove, AreAllApart, AreAllBehind, AreAllUnder, AreCallsBehind, AreLifted, AreStackedUnits, IsBehind};
 ghost use Rattle.field_alloc.specs.Lent.{AreLentFlags, flags_of};
 ghost use Rattle.field_alloc.specs.Places.{items_of};
 
@@ -19,7 +19,7 @@ use std::alloc::Global;
 pub fn own_places(alloc: Global, units: &[Unit], ends: &[u32]) -> Result<Vec<Vec<u32>>, Memory>
     ensures apart { IfOk result (λ v. AreAllApart units.now (length ends.now) (map items_of v.items)) }
     ensures above { IfOk result (λ v. AreAllAbove units.now ends.now (map items_of v.items)) }
-    ensures calls { IfOk result (λ v. AreCallsApart units.now (length ends.now) (map items_of v.items)) }
+    ensures stacked { IfOk result (λ v. AreStackedUnits units.now (length ends.now) (map items_of v.items)) }
 {
     let lent = lent_entries(alloc, units)?;
     let mut tops = Vec::new(alloc);

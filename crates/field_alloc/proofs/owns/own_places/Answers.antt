@@ -5,7 +5,7 @@ use Rattle.std.specs.List.{slice_index, slice_index_or}
 use Rattle.paris_code.specs.declared.program.Virtual.{Virtual}
 use Rattle.field_alloc.specs.Named.{AreAllBehind, AreLifted, AreUnitApart, IsBased, IsUnitAbove, IsUnitUnder, IsUsedAt}
 use Rattle.field_alloc.specs.Places.{items_of}
-use Rattle.field_alloc.proofs.Held.{all_pairs_more, all_rows_more, calls_apart, lifted_above, lifted_apart, lifted_based}
+use Rattle.field_alloc.proofs.Held.{all_pairs_more, all_rows_more, lifted_above, lifted_apart, lifted_based}
 use Rattle.field_alloc.proofs.owns.own_places.Goals as goal
 
 pub loop-unit-preserved : goal.loop-unit-preserved
@@ -72,8 +72,12 @@ returns-then-are_all_behind c =
       above = λ number unit is.
           let within = slice_get_within units number unit is in
           c.loop-unit.invariant.above number unit (omega arith) is;
-      calls = calls_apart units sets (map items_of bases) (map items_of tops) (map items_of places) behind
-          (λ number unit is.
-          let within = slice_get_within units number unit is in
-          c.loop-unit.invariant.based number unit (omega arith) is);
+      stacked = record {
+        bases = map items_of bases;
+        tops = map items_of tops;
+        behind = behind;
+        based = λ number unit is.
+            let within = slice_get_within units number unit is in
+            c.loop-unit.invariant.based number unit (omega arith) is;
+      };
     }

@@ -1,7 +1,7 @@
 use Rattle.std.proofs.Common.{◌≡◌, ℕ, List, length, map, ap, sym, ◌∙◌, subst, arith}
 use Rattle.paris_code.specs.declared.program.Final.{Final}
 use Rattle.paris_code.specs.declared.program.Unit.{Unit as CodeUnit}
-use Rattle.field_alloc.specs.Named.{AreAllAbove, AreAllApart, AreCallsApart}
+use Rattle.field_alloc.specs.Named.{AreAllAbove, AreAllApart, AreStackedUnits}
 use Rattle.field_alloc.specs.Places.{items_of, units_from}
 use Rattle.field_alloc.proofs.Whole.{is_placed}
 use Rattle.field_alloc.proofs.placing.place.Goals as goal
@@ -27,8 +27,8 @@ returns-clause-placed c =
     let above =
     subst (λ (es : List ℕ). AreAllAbove before es (map items_of own)) c.as_slice-2.ensures.value
     (subst (λ (us : List CodeUnit). AreAllAbove us c.as_slice-2.result.now (map items_of own)) c.as_slice.ensures.value c.in_ok-own.ensures.above) in
-    let calls =
-    subst (λ (es : List ℕ). AreCallsApart before (length es) (map items_of own)) c.as_slice-2.ensures.value
-    (subst (λ (us : List CodeUnit). AreCallsApart us (length c.as_slice-2.result.now) (map items_of own)) c.as_slice.ensures.value c.in_ok-own.ensures.calls) in
+    let stacked =
+    subst (λ (es : List ℕ). AreStackedUnits before (length es) (map items_of own)) c.as_slice-2.ensures.value
+    (subst (λ (us : List CodeUnit). AreStackedUnits us (length c.as_slice-2.result.now) (map items_of own)) c.as_slice.ensures.value c.in_ok-own.ensures.stacked) in
     is_placed _ _ (map items_of own) (map items_of places) are (rw c.as_slice-6.ensures.value at c.in_ok-units.ensures) c.in_ok-finals.ensures.kept apart
-    ends ends_are above c.in_ok-finals.ensures.under c.in_ok-finals.ensures.stacked calls
+    ends ends_are above c.in_ok-finals.ensures.under c.in_ok-finals.ensures.stacked stacked
