@@ -2,6 +2,7 @@ pub mod Arguments
 pub mod Checking
 pub mod Code
 pub mod Elementwise
+pub mod Ends
 pub mod Examples
 pub mod Fetching
 pub mod Kinds

@@ -1,6 +1,6 @@
 -- Programs that can be placed: which entries of a unit's fields live together, how high they reach,
 -- and what a program over virtual fields keeps.
-use Rattle.std.specs.Prelude.{◌≡◌, ◌≢◌, ℕ, ◌+◌, ◌<◌, ◌≤◌, ◌⊎◌, ◌==◌, if◌then◌else◌, List, [], ◌∷◌, length, sum_by, All, Some}
+use Rattle.std.specs.Prelude.{◌≡◌, ◌≢◌, ℕ, ◌+◌, ◌<◌, ◌≤◌, ◌⊎◌, ◌==◌, if◌then◌else◌, List, [], ◌∷◌, length, sum_by, All, Option, Some, None}
 use Rattle.std.specs.List.{slice_get}
 use Rattle.paris_code.specs.declared.operands.Field.{Field}
 use Rattle.paris_code.specs.declared.instr.Instr.{Instr}
@@ -11,7 +11,7 @@ use Rattle.paris_code.specs.declared.program.Owner.TheVariants as O
 use Rattle.paris_code.specs.declared.program.Program.{Program}
 use Rattle.paris_code.specs.declared.program.Unit.{Unit as CodeUnit}
 use Rattle.paris_code.specs.declared.program.Virtual.{Virtual}
-use Rattle.paris_code.specs.Spans.{fields_of, StandsAt, Span, Holds, Meet, IsSpan}
+use Rattle.paris_code.specs.Spans.{fields_of, AreInUseTogether, StandsAt, Span, Holds, Meet, IsSpan}
 
 -- a unit of the program, and an entry of it
 abbrev pub IsUnit : Program → ℕ → CodeUnit → Type 0
@@ -28,26 +28,35 @@ abbrev pub IsLent : Program → ℕ → ℕ → Type 0
 IsLent program number entry =
     (other : ℕ) × ((unit : CodeUnit) × ((index : ℕ) × ((virtual : Virtual) × IsUnit program other unit × IsEntry unit index virtual × (virtual.owner ≡ O.Of number entry))))
 
--- two entries of a unit live together: one of them is lent, or their spans meet
+-- two entries of a unit live together: one of them is lent, or they are in use together
 abbrev pub LiveTogether : Program → ℕ → CodeUnit → ℕ → ℕ → Type 0
 LiveTogether program number unit one other =
-    IsLent program number one ⊎ (IsLent program number other
-    ⊎ ((a : Span) × ((b : Span) × IsSpan unit one O.Own a × IsSpan unit other O.Own b × Meet a b)))
+    IsLent program number one ⊎ (IsLent program number other ⊎ AreInUseTogether unit one other)
 
--- an earlier entry of the same unit and set with bits of its own, which lives together with one
+-- an earlier entry of the same unit and set with bits of its own, which lives together with one: the
+-- one stands above it
 abbrev pub IsBelow : Program → ℕ → CodeUnit → ℕ → ℕ → ℕ → Type 0
 IsBelow program number unit set entry other =
     (other < entry) × ((len : ℕ) × IsOwn unit other set len) × LiveTogether program number unit other entry
 
--- the ends of a unit's own entries: each is as long as it is above the greatest end of those below
-pub record AreEnds (program : Program) (number : ℕ) (unit : CodeUnit) (ends : ℕ → ℕ) : Type 0 where
-  pub above : (entry set len other : ℕ) → IsOwn unit entry set len → IsBelow program number unit set entry other → ends other + len ≤ ends entry
-  pub exact : (entry set len : ℕ) → IsOwn unit entry set len → (ends entry ≡ len) ⊎ ((other : ℕ) × IsBelow program number unit set entry other × (ends entry ≡ ends other + len))
+-- entries of a unit, the highest first, each of which stands above the next
+abbrev pub IsStack : Program → ℕ → CodeUnit → ℕ → List ℕ → Type 0
+IsStack program number unit set [] = Unit {0}
+IsStack program number unit set (entry ∷ []) = Unit {0}
+IsStack program number unit set (entry ∷ (other ∷ entries)) = IsBelow program number unit set entry other × IsStack program number unit set (other ∷ entries)
 
--- none of a unit's entries of a set ends above this
-abbrev pub EndWithin : Program → ℕ → ℕ → ℕ → Type 0
-EndWithin program set number top =
-    (unit : CodeUnit) (ends : ℕ → ℕ) → IsUnit program number unit → AreEnds program number unit ends → (entry len : ℕ) → IsOwn unit entry set len → ends entry ≤ top
+abbrev pub length_or_none : Option Virtual → ℕ
+length_or_none None = 0
+length_or_none (Some virtual) = virtual.len
+
+-- how many bits an entry has
+abbrev pub length_of : CodeUnit → ℕ → ℕ
+length_of unit entry = length_or_none (slice_get unit.fields.items entry)
+
+-- no stack of a unit's own entries of a set is higher than this
+abbrev pub StacksWithin : Program → ℕ → ℕ → ℕ → Type 0
+StacksWithin program set number top =
+    (unit : CodeUnit) (entry len : ℕ) (entries : List ℕ) → IsUnit program number unit → IsOwn unit entry set len → IsStack program number unit set (entry ∷ entries) → sum_by (length_of unit) (entry ∷ entries) ≤ top
 
 -- a unit calls another
 abbrev pub Calls : Program → ℕ → ℕ → Type 0
@@ -64,10 +73,10 @@ abbrev pub bits_in : ℕ → Final → ℕ
 bits_in set last = if last.field.set == set then last.field.len else 0
 
 -- the height of a set is within this: the file's fields, and above them the units of each chain of
--- calls, of which each reaches as high as its tops say
+-- calls, of which each is as high as its stacks are at most
 abbrev pub HeightWithin : Program → ℕ → ℕ → Type 0
 HeightWithin program set most =
-    (tops : ℕ → ℕ) × ((number : ℕ) → EndWithin program set number (tops number))
+    (tops : ℕ → ℕ) × ((number : ℕ) → StacksWithin program set number (tops number))
     × ((chain : List ℕ) → IsCallChain program chain → sum_by (bits_in set) program.finals.items + sum_by tops chain ≤ most)
 
 -- an entry has the set and the length of what it names: the file's field, or an own entry
@@ -100,13 +109,28 @@ EndsWith last [] = ⊥
 EndsWith last (x ∷ []) = x ≡ last
 EndsWith last (x ∷ (y ∷ ys)) = EndsWith last (y ∷ ys)
 
--- what each unit keeps; the borrowed entries of two units do not live together, each lives round a
--- call of its unit alone, and each call stands within the spans of all entries that it lends
+-- the sets that an instruction names itself, not by a field
+abbrev pub sets_of : Instr → List ℕ
+sets_of (I.MakeAddress d set coordinates) = set ∷ []
+sets_of (I.SetContext set) = set ∷ []
+sets_of (I.LogandContextWithTest set) = set ∷ []
+sets_of (I.LogandcContextWithTest set) = set ∷ []
+sets_of (I.CheckTarget set place coordinates) = set ∷ []
+sets_of (I.CheckGrid set place steps) = set ∷ []
+sets_of (I.FrontMakeAddress r set registers) = set ∷ []
+sets_of (I.FrontCheckTarget set place registers) = set ∷ []
+sets_of _ = []
+
+-- what each unit keeps; each borrowed entry is named, so that it has a span, those of two units do
+-- not live together, each lives round a call of its unit alone, and each call stands within the spans
+-- of all entries that it lends
 pub record IsProperUnit (program : Program) (unit : CodeUnit) : Type 0 where
   pub names : (at : ℕ) (instr : Instr) → StandsAt unit at instr → All (NamesEntry unit) (fields_of instr)
+  pub named_sets : (at : ℕ) (instr : Instr) → StandsAt unit at instr → All (λ set. set < length program.shapes.items) (sets_of instr)
   pub sets : All (λ virtual. set_of virtual < length program.shapes.items) unit.fields.items
   pub owners : All (λ virtual. OwnerFits program virtual (owner_of virtual)) unit.fields.items
   pub calls : (at called : ℕ) → StandsAt unit at (I.FrontCall called) → called < length program.units.items
+  pub borrowed : (entry other index : ℕ) (virtual : Virtual) → IsEntry unit entry virtual → virtual.owner ≡ O.Of other index → (span : Span) × IsBorrowed unit entry other index span
   pub apart : (one other u v i j : ℕ) (a b : Span) → IsBorrowed unit one u i a → IsBorrowed unit other v j b → u ≢ v → Meet a b → ⊥
   pub round_call : (entry other index : ℕ) (span : Span) → IsBorrowed unit entry other index span → (at : ℕ) × StandsAt unit at (I.FrontCall other) × Holds span at
   pub no_other_call : (entry other index at called : ℕ) (span : Span) → IsBorrowed unit entry other index span → StandsAt unit at (I.FrontCall called) → Holds span at → called ≡ other

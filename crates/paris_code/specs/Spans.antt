@@ -107,3 +107,10 @@ pub record IsSpan (unit : CodeUnit) (entry : ℕ) (owner : Owner) (span : Span) 
   pub somewhere : (at : ℕ) × IsNamedAt unit entry at
   pub in_use : IsInUse unit entry owner span
   pub least : (other : Span) → IsInUse unit entry owner other → LiesWithin span other
+
+-- both entries are named, and wherever the one is in use and wherever the other is, these meet; so
+-- it is of the least of them
+abbrev pub AreInUseTogether : CodeUnit → ℕ → ℕ → Type 0
+AreInUseTogether unit one other =
+    ((at : ℕ) × IsNamedAt unit one at) × ((at : ℕ) × IsNamedAt unit other at)
+    × ((a b : Span) → IsInUse unit one O.Own a → IsInUse unit other O.Own b → Meet a b)

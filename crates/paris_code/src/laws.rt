@@ -1,6 +1,9 @@
-//! Small computed cases of the instructions' meaning, which readers find here by name.
+//! Small computed cases of the instructions' meaning, and laws of the definitions, which readers find
+//! here by name.
 
 ghost use Rattle.paris_code.specs.declared.program.Image.{Image};
+ghost use Rattle.paris_code.specs.declared.program.Program.{Program};
+ghost use Rattle.paris_code.specs.Ends.{EndsAreStacks, HeightsHoldEntries};
 ghost use Rattle.paris_code.specs.Examples.{Remainders, WideShifts, Communication, FrontSteps};
 ghost use Rattle.paris_code.specs.Memory.{BitMemory};
 
@@ -23,4 +26,15 @@ pub fn communication()
 /// A turn with none left, a call and its return, and reads behind the last byte of the input.
 pub fn front_steps()
     ensures { (image : Image) (memory : BitMemory) → FrontSteps image memory }
+{}
+
+/// The ends of a unit's own entries, each above the greatest end of those below, are the heights of
+/// the highest stacks.
+pub fn ends_are_stacks()
+    ensures { (program : Program) → EndsAreStacks program }
+{}
+
+/// A bound on the height of a set says of each own entry that it is no longer.
+pub fn heights_hold_entries()
+    ensures { (program : Program) → HeightsHoldEntries program }
 {}
