@@ -3,12 +3,14 @@
 #![tactic(auto)]
 
 mod elem;
+mod faults;
 mod lists;
 mod memory;
 pub mod numbers;
 mod operators;
 
 pub use elem::Elem;
+pub use faults::{Fault, RunFault};
 pub use lists::{Numbers, Word};
 pub use memory::Memory;
 pub use operators::{Combiner, Direction, Inclusion, Op, Place, SegmentMode, Winner};
