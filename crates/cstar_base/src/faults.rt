@@ -154,8 +154,9 @@ impl Fault {
 
     /// The fault that has a number.
     pub fn numbered(number: u8) -> Fault
-        requires { (f : Fault) × number_of f ≡ number }
-        ensures { number_of result ≡ number }
+        requires { (fault : Fault) × number_of fault ≡ number }
+        ensures number { number_of result ≡ number }
+        ensures only { (fault : Fault) → number_of fault ≡ number → result ≡ fault }
     {
         match number {
             0 => Fault::NotBuilt,
@@ -234,8 +235,9 @@ impl RunFault {
 
     /// The fault of a run that has a number.
     pub fn numbered(number: u8) -> RunFault
-        requires { (f : RunFault) × run_number_of f ≡ number }
-        ensures { run_number_of result ≡ number }
+        requires { (fault : RunFault) × run_number_of fault ≡ number }
+        ensures number { run_number_of result ≡ number }
+        ensures only { (fault : RunFault) → run_number_of fault ≡ number → result ≡ fault }
     {
         if number == 1 {
             RunFault::Index
