@@ -1,4 +1,5 @@
 pub mod Errors
+pub mod Faults
 pub mod Folds
 pub mod Kinds
 pub mod Numbers

@@ -3,6 +3,7 @@
 #![tactic(auto)]
 
 mod elem;
+mod faults;
 mod formats;
 mod lists;
 mod memory;
@@ -10,6 +11,7 @@ pub mod numbers;
 mod operators;
 
 pub use elem::Elem;
+pub use faults::{Fault, RunFault};
 pub use formats::NumberFormat;
 pub use lists::{Numbers, Word};
 pub use memory::Memory;

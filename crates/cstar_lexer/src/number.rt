@@ -4,7 +4,8 @@ ghost use Rattle.std.specs.Prelude.{◌≡◌, ◌≤◌, ◌<◌, ◌^◌, ◌+
 ghost use Rattle.cstar_lexer.specs.Pieces.{IsDigit};
 
 use crate::bytes::{begins_name, byte_or_zero, digit_value, tail};
-use crate::fault::{Defect, Flaw};
+use crate::flaw::Flaw;
+use cstar_base::Fault;
 
 /// The value from which on a constant is too large.
 const WIDE: u64 = 1 << 32;
@@ -132,14 +133,14 @@ pub fn read_number(rest: &[u8]) -> Result<(Number, usize), Flaw>
     let constant = read_constant(rest);
     let Some(number) = constant.number() else {
         return Err(Flaw {
-            defect: Defect::Wide,
+            fault: Fault::Wide,
             offset: 0,
         });
     };
     let length = constant.length;
     match rest.get(length) {
         Some(byte) if begins_name(*byte) || byte.is_ascii_digit() || *byte == b'.' => Err(Flaw {
-            defect: Defect::BadByte,
+            fault: Fault::BadByte,
             offset: length,
         }),
         _ => Ok((number, length)),

@@ -1,8 +1,10 @@
--- The faults of typing that stand in an expression, each with its number and its place. A fault
+-- The faults of typing that stand in an expression, each with its place. A fault
 -- stands at a node only where the parts of the node have types; at a name whatever else is faulty.
 use Rattle.std.specs.Prelude.{◌≡◌, ℕ, ℤ, true, false, List, [], ◌∷◌, length, slice_get, Option, Some, None, Box, Vec}
 use Rattle.std.specs.declared.alloc.Global.{Global}
 use Rattle.cstar_base.specs.declared.elem.Elem.{Elem}
+use Rattle.cstar_base.specs.declared.faults.Fault.{Fault}
+use Rattle.cstar_base.specs.declared.faults.Fault.TheVariants as F
 use Rattle.cstar_base.specs.declared.operators.Combiner.{Combiner}
 use Rattle.cstar_base.specs.declared.operators.Direction.{Direction}
 use Rattle.cstar_base.specs.declared.operators.Inclusion.{Inclusion}
@@ -114,9 +116,9 @@ pub data IsStep : Place → Expr → Expr → Type 0 where
   behind : {p : Place} {op : StepOp} (operand : Box Expr Global) → IsStep p operand.value (E.Postfix p op operand)
 
 -- a value whose shape is not the current one: there is none, or it is another
-pub data IsAway : Option ℕ → ℕ → ℕ → Type 0 where
-  no_current : {s : ℕ} → IsAway None s 10
-  other : {c s : ℕ} → (c ≡ s → ⊥) → IsAway (Some c) s 11
+pub data IsAway : Option ℕ → ℕ → Fault → Type 0 where
+  no_current : {s : ℕ} → IsAway None s F.NoShape
+  other : {c s : ℕ} → (c ≡ s → ⊥) → IsAway (Some c) s F.OtherShape
 
 -- the place of the innermost of casts, or else this one
 abbrev pub last_place : List Cast → Place → Place
@@ -135,52 +137,52 @@ parameters_of here placed f = parameter_types (callee here placed f) 0 placed.fu
 abbrev pub result_of : Here → Placed → ℕ → Option ValueType
 result_of here placed f = result_known (returns_of (callee here placed f) placed.function.result)
 
--- a fault with this number stands at this place, at a node or at a name of it
-pub data FaultAt (program : Program) (here : Here) : Expr → ℕ → Place → Type 0 where
+-- this fault stands at this place, at a node or at a name of it
+pub data FaultAt (program : Program) (here : Here) : Expr → Fault → Place → Type 0 where
   -- names
-  unknown : {e : Expr} {kind : Kind} {n : Name} → Uses e kind n → meaning here n.word ≡ None → FaultAt program here e 7 n.place
-  wrong_kind : {e : Expr} {kind : Kind} {n : Name} {m : Meaning} → Uses e kind n → meaning here n.word ≡ Some m → (kind_of m ≡ kind → ⊥) → FaultAt program here e 8 n.place
-  no_bits : {e : Expr} {mode : SegmentMode} {n : Name} {v : Variable} {ty : VariableType} → NamesBit e mode (Some n) → IsVariable here n v ty → ((s : ℕ) → HoldsBits ty s → ⊥) → FaultAt program here e 8 n.place
-  no_current : {e : Expr} {p : Place} → NamesShape e (R.Current p) → here.current ≡ None → FaultAt program here e 10 p
-  bits_away : {e : Expr} {mode : SegmentMode} {n : Name} {v : Variable} {ty : VariableType} {s : ℕ} → NamesBit e mode (Some n) → IsVariable here n v ty → HoldsBits ty s → (here.current ≡ Some s → ⊥) → FaultAt program here e 11 n.place
-  array_alone : {n : Name} {v : Variable} {ty : ValueType} {length : ℕ} → IsVariable here n v (record { value = ty; array = Some length }) → FaultAt program here (E.Name n) 32 n.place
-  array_indexed : {p : Place} (indexes : Vec Expr Global) {n : Name} {v : Variable} {ty : ValueType} {length : ℕ} → IsVariable here n v (record { value = ty; array = Some length }) → FaultAt program here (E.LeftIndex p indexes n) 32 n.place
-  no_array : {bracket : Place} {index : Box Expr Global} {n : Name} {v : Variable} {ty : ValueType} → IsVariable here n v (record { value = ty; array = None }) → FaultAt program here (E.Element n bracket index) 32 n.place
+  unknown : {e : Expr} {kind : Kind} {n : Name} → Uses e kind n → meaning here n.word ≡ None → FaultAt program here e F.Unknown n.place
+  wrong_kind : {e : Expr} {kind : Kind} {n : Name} {m : Meaning} → Uses e kind n → meaning here n.word ≡ Some m → (kind_of m ≡ kind → ⊥) → FaultAt program here e F.WrongKind n.place
+  no_bits : {e : Expr} {mode : SegmentMode} {n : Name} {v : Variable} {ty : VariableType} → NamesBit e mode (Some n) → IsVariable here n v ty → ((s : ℕ) → HoldsBits ty s → ⊥) → FaultAt program here e F.WrongKind n.place
+  no_current : {e : Expr} {p : Place} → NamesShape e (R.Current p) → here.current ≡ None → FaultAt program here e F.NoShape p
+  bits_away : {e : Expr} {mode : SegmentMode} {n : Name} {v : Variable} {ty : VariableType} {s : ℕ} → NamesBit e mode (Some n) → IsVariable here n v ty → HoldsBits ty s → (here.current ≡ Some s → ⊥) → FaultAt program here e F.OtherShape n.place
+  array_alone : {n : Name} {v : Variable} {ty : ValueType} {length : ℕ} → IsVariable here n v (record { value = ty; array = Some length }) → FaultAt program here (E.Name n) F.ArrayUse n.place
+  array_indexed : {p : Place} (indexes : Vec Expr Global) {n : Name} {v : Variable} {ty : ValueType} {length : ℕ} → IsVariable here n v (record { value = ty; array = Some length }) → FaultAt program here (E.LeftIndex p indexes n) F.ArrayUse n.place
+  no_array : {bracket : Place} {index : Box Expr Global} {n : Name} {v : Variable} {ty : ValueType} → IsVariable here n v (record { value = ty; array = None }) → FaultAt program here (E.Element n bracket index) F.ArrayUse n.place
   -- whole parallel values away from their shape
-  variable_away : {n : Name} {v : Variable} {elem : Elem} {s number : ℕ} → IsVariable here n v (record { value = parallel elem s; array = None }) → IsAway here.current s number → FaultAt program here (E.Name n) number n.place
-  element_away : {n : Name} {bracket : Place} {v : Variable} {elem : Elem} {s length number : ℕ} {i : TExpr} (index : Box Expr Global) → IsVariable here n v (record { value = parallel elem s; array = Some length }) → Types program (part here) index.value i true → (type_of i).shape ≡ None → IsAway here.current s number → FaultAt program here (E.Element n bracket index) number n.place
-  cast_away : {p : Place} {written : TypeName} {elem : Elem} {s number : ℕ} (operand : Box Expr Global) → written_type here written ≡ Some (parallel elem s) → HasValue program (part here) operand.value → IsAway here.current s number → FaultAt program here (E.ParallelCast p written operand) number p
-  intrinsic_alone : {e : Expr} {mode : SegmentMode} {bit : Option Name} → IsReady program here e mode bit → here.current ≡ None → FaultAt program here e 10 (place_of e)
-  argument_away : {n : Name} (arguments : Vec Expr Global) {f : ℕ} {placed : Placed} {given : List TExpr} {elem : Elem} {s : ℕ} (which : ℕ) → IsCall program here n arguments.items f placed given → slice_get (parameters_of here placed f) which ≡ Some (Some (parallel elem s)) → (here.current ≡ Some s → ⊥) → FaultAt program here (E.Call n arguments) 11 n.place
-  result_away : {n : Name} (arguments : Vec Expr Global) {f : ℕ} {placed : Placed} {given : List TExpr} {elem : Elem} {s : ℕ} → IsCall program here n arguments.items f placed given → result_of here placed f ≡ Some (parallel elem s) → (here.current ≡ Some s → ⊥) → FaultAt program here (E.Call n arguments) 11 n.place
+  variable_away : {n : Name} {v : Variable} {elem : Elem} {s : ℕ} {fault : Fault} → IsVariable here n v (record { value = parallel elem s; array = None }) → IsAway here.current s fault → FaultAt program here (E.Name n) fault n.place
+  element_away : {n : Name} {bracket : Place} {v : Variable} {elem : Elem} {s length : ℕ} {fault : Fault} {i : TExpr} (index : Box Expr Global) → IsVariable here n v (record { value = parallel elem s; array = Some length }) → Types program (part here) index.value i true → (type_of i).shape ≡ None → IsAway here.current s fault → FaultAt program here (E.Element n bracket index) fault n.place
+  cast_away : {p : Place} {written : TypeName} {elem : Elem} {s : ℕ} {fault : Fault} (operand : Box Expr Global) → written_type here written ≡ Some (parallel elem s) → HasValue program (part here) operand.value → IsAway here.current s fault → FaultAt program here (E.ParallelCast p written operand) fault p
+  intrinsic_alone : {e : Expr} {mode : SegmentMode} {bit : Option Name} → IsReady program here e mode bit → here.current ≡ None → FaultAt program here e F.NoShape (place_of e)
+  argument_away : {n : Name} (arguments : Vec Expr Global) {f : ℕ} {placed : Placed} {given : List TExpr} {elem : Elem} {s : ℕ} (which : ℕ) → IsCall program here n arguments.items f placed given → slice_get (parameters_of here placed f) which ≡ Some (Some (parallel elem s)) → (here.current ≡ Some s → ⊥) → FaultAt program here (E.Call n arguments) F.OtherShape n.place
+  result_away : {n : Name} (arguments : Vec Expr Global) {f : ℕ} {placed : Placed} {given : List TExpr} {elem : Elem} {s : ℕ} → IsCall program here n arguments.items f placed given → result_of here placed f ≡ Some (parallel elem s) → (here.current ≡ Some s → ⊥) → FaultAt program here (E.Call n arguments) F.OtherShape n.place
   -- parallel values in the place of scalar ones
-  parallel_index : {n : Name} {bracket : Place} {v : Variable} {ty : ValueType} {length s : ℕ} {i : TExpr} (index : Box Expr Global) → IsVariable here n v (record { value = ty; array = Some length }) → Types program (part here) index.value i true → (type_of i).shape ≡ Some s → FaultAt program here (E.Element n bracket index) 12 bracket
-  parallel_cast : (chain : Vec Cast Global) {x : TExpr} {s : ℕ} (operand : Box Expr Global) → Types program (part here) operand.value x true → (type_of x).shape ≡ Some s → FaultAt program here (E.Casts chain operand) 12 (last_place chain.items (place_of operand.value))
-  parallel_argument : {n : Name} (arguments : Vec Expr Global) {f s : ℕ} {placed : Placed} {given : List TExpr} {elem : Elem} {a : TExpr} (which : ℕ) → IsCall program here n arguments.items f placed given → slice_get (parameters_of here placed f) which ≡ Some (Some (scalar elem)) → slice_get given which ≡ Some a → (type_of a).shape ≡ Some s → FaultAt program here (E.Call n arguments) 12 n.place
-  parallel_printed : {p : Place} {text : List ℕ} (arguments : Vec Expr Global) {given : List TExpr} {s : ℕ} {a : TExpr} (which : ℕ) → TypesEach program (part here) arguments.items given → slice_get given which ≡ Some a → (type_of a).shape ≡ Some s → FaultAt program here (E.Printf p text arguments) 12 p
-  parallel_stored : {p : Place} {op : AssignOp} {t v : TExpr} {s : ℕ} (target value : Box Expr Global) → Types program (part here) target.value t true → Types program (part here) value.value v true → target_of t ≡ Some one → (type_of t).shape ≡ None → (type_of v).shape ≡ Some s → folds op ≡ false → FaultAt program here (E.Assign p op target value) 12 p
+  parallel_index : {n : Name} {bracket : Place} {v : Variable} {ty : ValueType} {length s : ℕ} {i : TExpr} (index : Box Expr Global) → IsVariable here n v (record { value = ty; array = Some length }) → Types program (part here) index.value i true → (type_of i).shape ≡ Some s → FaultAt program here (E.Element n bracket index) F.ScalarWanted bracket
+  parallel_cast : (chain : Vec Cast Global) {x : TExpr} {s : ℕ} (operand : Box Expr Global) → Types program (part here) operand.value x true → (type_of x).shape ≡ Some s → FaultAt program here (E.Casts chain operand) F.ScalarWanted (last_place chain.items (place_of operand.value))
+  parallel_argument : {n : Name} (arguments : Vec Expr Global) {f s : ℕ} {placed : Placed} {given : List TExpr} {elem : Elem} {a : TExpr} (which : ℕ) → IsCall program here n arguments.items f placed given → slice_get (parameters_of here placed f) which ≡ Some (Some (scalar elem)) → slice_get given which ≡ Some a → (type_of a).shape ≡ Some s → FaultAt program here (E.Call n arguments) F.ScalarWanted n.place
+  parallel_printed : {p : Place} {text : List ℕ} (arguments : Vec Expr Global) {given : List TExpr} {s : ℕ} {a : TExpr} (which : ℕ) → TypesEach program (part here) arguments.items given → slice_get given which ≡ Some a → (type_of a).shape ≡ Some s → FaultAt program here (E.Printf p text arguments) F.ScalarWanted p
+  parallel_stored : {p : Place} {op : AssignOp} {t v : TExpr} {s : ℕ} (target value : Box Expr Global) → Types program (part here) target.value t true → Types program (part here) value.value v true → target_of t ≡ Some one → (type_of t).shape ≡ None → (type_of v).shape ≡ Some s → folds op ≡ false → FaultAt program here (E.Assign p op target value) F.ScalarWanted p
   -- scalar values in the place of parallel ones
-  scalar_reduced : {p : Place} {op : ReduceOp} {x : TExpr} (operand : Box Expr Global) → Types program (part here) operand.value x true → (type_of x).shape ≡ None → FaultAt program here (E.Prefix p (P.Reduce op) operand) 13 p
-  scalar_scanned : {p : Place} {combiner : Combiner} {direction : Direction} {mode : SegmentMode} {bit : Option Name} {inclusion : Inclusion} {x : TExpr} (source axis : Box Expr Global) → IsReady program here (E.Scan p source axis combiner direction mode bit inclusion) mode bit → Types program (part here) source.value x true → (type_of x).shape ≡ None → FaultAt program here (E.Scan p source axis combiner direction mode bit inclusion) 13 p
+  scalar_reduced : {p : Place} {op : ReduceOp} {x : TExpr} (operand : Box Expr Global) → Types program (part here) operand.value x true → (type_of x).shape ≡ None → FaultAt program here (E.Prefix p (P.Reduce op) operand) F.ParallelWanted p
+  scalar_scanned : {p : Place} {combiner : Combiner} {direction : Direction} {mode : SegmentMode} {bit : Option Name} {inclusion : Inclusion} {x : TExpr} (source axis : Box Expr Global) → IsReady program here (E.Scan p source axis combiner direction mode bit inclusion) mode bit → Types program (part here) source.value x true → (type_of x).shape ≡ None → FaultAt program here (E.Scan p source axis combiner direction mode bit inclusion) F.ParallelWanted p
   -- left indexes and targets
-  index_count : {p : Place} {n : Name} {v : Variable} {elem : Elem} {s : ℕ} {extents : List ℕ} {given : List TExpr} (indexes : Vec Expr Global) → IsVariable here n v (record { value = parallel elem s; array = None }) → extents_of here s ≡ Some extents → TypesIndexes program here n 0 indexes.items given → (length indexes.items ≡ length extents → ⊥) → FaultAt program here (E.LeftIndex p indexes n) 14 p
-  index_of_scalar : {p : Place} {n : Name} {v : Variable} {elem : Elem} {given : List TExpr} (indexes : Vec Expr Global) → IsVariable here n v (record { value = scalar elem; array = None }) → TypesIndexes program here n 0 indexes.items given → FaultAt program here (E.LeftIndex p indexes n) 14 p
-  dot_alone : {p : Place} → here.dot ≡ None → FaultAt program here (E.Dot p) 15 p
-  no_target : {p : Place} {op : AssignOp} {t v : TExpr} (target value : Box Expr Global) → Types program (part here) target.value t true → Types program (part here) value.value v true → target_of t ≡ None → FaultAt program here (E.Assign p op target value) 16 p
-  no_target_of_step : {p : Place} {e operand : Expr} {t : TExpr} → IsStep p operand e → Types program (part here) operand t true → target_of t ≡ None → FaultAt program here e 16 p
-  send_inside : {p q : Place} {op : AssignOp} {t v : TExpr} (target value : Box Expr Global) → Types program (part here) target.value t true → Types program (part here) value.value v true → target_of t ≡ Some (many q) → sends op ≡ true → here.whole ≡ false → FaultAt program here (E.Assign p op target value) 17 p
-  send_operator : {p q : Place} {op : AssignOp} {t : TExpr} (target value : Box Expr Global) → Types program (part here) target.value t true → target_of t ≡ Some (many q) → sends op ≡ false → FaultAt program here (E.Assign p op target value) 18 q
-  send_step : {p q : Place} {e operand : Expr} {t : TExpr} → IsStep p operand e → Types program (part here) operand t true → target_of t ≡ Some (many q) → FaultAt program here e 18 q
+  index_count : {p : Place} {n : Name} {v : Variable} {elem : Elem} {s : ℕ} {extents : List ℕ} {given : List TExpr} (indexes : Vec Expr Global) → IsVariable here n v (record { value = parallel elem s; array = None }) → extents_of here s ≡ Some extents → TypesIndexes program here n 0 indexes.items given → (length indexes.items ≡ length extents → ⊥) → FaultAt program here (E.LeftIndex p indexes n) F.IndexCount p
+  index_of_scalar : {p : Place} {n : Name} {v : Variable} {elem : Elem} {given : List TExpr} (indexes : Vec Expr Global) → IsVariable here n v (record { value = scalar elem; array = None }) → TypesIndexes program here n 0 indexes.items given → FaultAt program here (E.LeftIndex p indexes n) F.IndexCount p
+  dot_alone : {p : Place} → here.dot ≡ None → FaultAt program here (E.Dot p) F.Dot p
+  no_target : {p : Place} {op : AssignOp} {t v : TExpr} (target value : Box Expr Global) → Types program (part here) target.value t true → Types program (part here) value.value v true → target_of t ≡ None → FaultAt program here (E.Assign p op target value) F.NotAPlace p
+  no_target_of_step : {p : Place} {e operand : Expr} {t : TExpr} → IsStep p operand e → Types program (part here) operand t true → target_of t ≡ None → FaultAt program here e F.NotAPlace p
+  send_inside : {p q : Place} {op : AssignOp} {t v : TExpr} (target value : Box Expr Global) → Types program (part here) target.value t true → Types program (part here) value.value v true → target_of t ≡ Some (many q) → sends op ≡ true → here.whole ≡ false → FaultAt program here (E.Assign p op target value) F.SendValue p
+  send_operator : {p q : Place} {op : AssignOp} {t : TExpr} (target value : Box Expr Global) → Types program (part here) target.value t true → target_of t ≡ Some (many q) → sends op ≡ false → FaultAt program here (E.Assign p op target value) F.SendOperator q
+  send_step : {p q : Place} {e operand : Expr} {t : TExpr} → IsStep p operand e → Types program (part here) operand t true → target_of t ≡ Some (many q) → FaultAt program here e F.SendOperator q
   -- calls and intrinsics
-  argument_count : {n : Name} (arguments : Vec Expr Global) {f : ℕ} {placed : Placed} {given : List TExpr} → IsCall program here n arguments.items f placed given → (length given ≡ length (parameters_of here placed f) → ⊥) → FaultAt program here (E.Call n arguments) 19 n.place
-  mode_mismatch : {e : Expr} {mode : SegmentMode} {bit : Option Name} → IsReady program here e mode bit → Mismatch mode bit → FaultAt program here e 19 (place_of e)
-  axis_outside : {e axis : Expr} {mode : SegmentMode} {bit : Option Name} {number : ℤ} {s : ℕ} {extents : List ℕ} → GoesAlong e axis mode bit → IsAxis program here axis number → here.current ≡ Some s → extents_of here s ≡ Some extents → axis_among extents (Some number) ≡ None → FaultAt program here e 21 (place_of axis)
-  axis_outside_dim : {p : Place} {written : ShapeRef} {number : ℤ} {s : ℕ} {extents : List ℕ} (axis : Box Expr Global) → IsAxis program here axis.value number → shape_of here written ≡ Some s → extents_of here s ≡ Some extents → axis_among extents (Some number) ≡ None → FaultAt program here (E.DimOf p written axis) 21 (place_of axis.value)
-  recursion : {n : Name} (arguments : Vec Expr Global) {f around : ℕ} {placed : Placed} {given : List TExpr} → IsCall program here n arguments.items f placed given → here.around ≡ Some around → Leads program.calls f around → FaultAt program here (E.Call n arguments) 23 n.place
-  no_format : {p : Place} {text : List ℕ} (arguments : Vec Expr Global) {given : List TExpr} → TypesEach program (part here) arguments.items given → pieces_of text ≡ None → FaultAt program here (E.Printf p text arguments) 25 p
-  value_count : {p : Place} {text : List ℕ} (arguments : Vec Expr Global) {given : List TExpr} {pieces : List Piece} → TypesEach program (part here) arguments.items given → pieces_of text ≡ Some pieces → (conversions pieces ≡ length arguments.items → ⊥) → FaultAt program here (E.Printf p text arguments) 25 p
-  axis_no_constant : {e axis : Expr} {mode : SegmentMode} {bit : Option Name} → GoesAlong e axis mode bit → HasValue program (part here) axis → constant_number here axis ≡ None → FaultAt program here e 26 (place_of axis)
-  axis_no_constant_dim : {p : Place} {written : ShapeRef} (axis : Box Expr Global) → HasValue program (part here) axis.value → constant_number here axis.value ≡ None → FaultAt program here (E.DimOf p written axis) 26 (place_of axis.value)
+  argument_count : {n : Name} (arguments : Vec Expr Global) {f : ℕ} {placed : Placed} {given : List TExpr} → IsCall program here n arguments.items f placed given → (length given ≡ length (parameters_of here placed f) → ⊥) → FaultAt program here (E.Call n arguments) F.Arguments n.place
+  mode_mismatch : {e : Expr} {mode : SegmentMode} {bit : Option Name} → IsReady program here e mode bit → Mismatch mode bit → FaultAt program here e F.Arguments (place_of e)
+  axis_outside : {e axis : Expr} {mode : SegmentMode} {bit : Option Name} {number : ℤ} {s : ℕ} {extents : List ℕ} → GoesAlong e axis mode bit → IsAxis program here axis number → here.current ≡ Some s → extents_of here s ≡ Some extents → axis_among extents (Some number) ≡ None → FaultAt program here e F.Axis (place_of axis)
+  axis_outside_dim : {p : Place} {written : ShapeRef} {number : ℤ} {s : ℕ} {extents : List ℕ} (axis : Box Expr Global) → IsAxis program here axis.value number → shape_of here written ≡ Some s → extents_of here s ≡ Some extents → axis_among extents (Some number) ≡ None → FaultAt program here (E.DimOf p written axis) F.Axis (place_of axis.value)
+  recursion : {n : Name} (arguments : Vec Expr Global) {f around : ℕ} {placed : Placed} {given : List TExpr} → IsCall program here n arguments.items f placed given → here.around ≡ Some around → Leads program.calls f around → FaultAt program here (E.Call n arguments) F.Recursion n.place
+  no_format : {p : Place} {text : List ℕ} (arguments : Vec Expr Global) {given : List TExpr} → TypesEach program (part here) arguments.items given → pieces_of text ≡ None → FaultAt program here (E.Printf p text arguments) F.Format p
+  value_count : {p : Place} {text : List ℕ} (arguments : Vec Expr Global) {given : List TExpr} {pieces : List Piece} → TypesEach program (part here) arguments.items given → pieces_of text ≡ Some pieces → (conversions pieces ≡ length arguments.items → ⊥) → FaultAt program here (E.Printf p text arguments) F.Format p
+  axis_no_constant : {e axis : Expr} {mode : SegmentMode} {bit : Option Name} → GoesAlong e axis mode bit → HasValue program (part here) axis → constant_number here axis ≡ None → FaultAt program here e F.Constant (place_of axis)
+  axis_no_constant_dim : {p : Place} {written : ShapeRef} (axis : Box Expr Global) → HasValue program (part here) axis.value → constant_number here axis.value ≡ None → FaultAt program here (E.DimOf p written axis) F.Constant (place_of axis.value)
 
 -- A part of an expression that needs a value, with its place. What is in brackets alone needs none.
 pub data IsPart (here : Here) : Expr → Here → Expr → Type 0 where
@@ -205,13 +207,13 @@ pub data IsPart (here : Here) : Expr → Here → Expr → Type 0 where
 
 -- a fault stands in an expression: at it, in a part or in brackets, or where a part that needs a
 -- value has none
-pub data FaultIn (program : Program) : Here → Expr → ℕ → Place → Type 0 where
-  at : {here : Here} {e : Expr} {number : ℕ} {p : Place} → FaultAt program here e number p → FaultIn program here e number p
-  in_part : {here there : Here} {e x : Expr} {number : ℕ} {p : Place} → IsPart here e there x → FaultIn program there x number p → FaultIn program here e number p
-  in_brackets : {here : Here} {q p : Place} {number : ℕ} (inner : Box Expr Global) → FaultIn program here inner.value number p → FaultIn program here (E.Brackets q inner) number p
-  no_value : {here there : Here} {e x : Expr} {t : TExpr} → IsPart here e there x → Types program there x t false → FaultIn program here e 8 (place_of x)
+pub data FaultIn (program : Program) : Here → Expr → Fault → Place → Type 0 where
+  at : {here : Here} {e : Expr} {fault : Fault} {p : Place} → FaultAt program here e fault p → FaultIn program here e fault p
+  in_part : {here there : Here} {e x : Expr} {fault : Fault} {p : Place} → IsPart here e there x → FaultIn program there x fault p → FaultIn program here e fault p
+  in_brackets : {here : Here} {q p : Place} {fault : Fault} (inner : Box Expr Global) → FaultIn program here inner.value fault p → FaultIn program here (E.Brackets q inner) fault p
+  no_value : {here there : Here} {e x : Expr} {t : TExpr} → IsPart here e there x → Types program there x t false → FaultIn program here e F.WrongKind (place_of x)
 
 -- a fault stands in an expression that needs a value
-pub data ValueFaultIn (program : Program) (here : Here) (e : Expr) : ℕ → Place → Type 0 where
-  within : {number : ℕ} {p : Place} → FaultIn program here e number p → ValueFaultIn program here e number p
-  without_value : {t : TExpr} → Types program here e t false → ValueFaultIn program here e 8 (place_of e)
+pub data ValueFaultIn (program : Program) (here : Here) (e : Expr) : Fault → Place → Type 0 where
+  within : {fault : Fault} {p : Place} → FaultIn program here e fault p → ValueFaultIn program here e fault p
+  without_value : {t : TExpr} → Types program here e t false → ValueFaultIn program here e F.WrongKind (place_of e)

@@ -6,6 +6,7 @@ pub mod Declarations
 pub mod ExpressionFaults
 pub mod ExpressionTypes
 pub mod Expressions
+pub mod FaultOrder
 pub mod FileFaults
 pub mod FileScopes
 pub mod Formats

@@ -1,7 +1,7 @@
 //! Where an expression or a statement stands.
 
-use crate::faults::{Rule, Untyped, fault};
-use cstar_base::Place;
+use crate::faults::{Untyped, fault};
+use cstar_base::{Fault, Place};
 use cstar_tree::typed::ValueType;
 
 /// What a function returns. Unknown where its header has a fault.
@@ -71,7 +71,7 @@ impl Site {
     pub fn shape(self, place: Place) -> Result<u16, Untyped> {
         match self.current {
             Some(shape) => Ok(shape),
-            None => Err(fault(Rule::NoShape, place)),
+            None => Err(fault(Fault::NoShape, place)),
         }
     }
 
@@ -79,8 +79,11 @@ impl Site {
     /// one is a fault there.
     pub fn holds(self, place: Place, shape: Option<u16>) -> Result<(), Untyped> {
         match (shape, self.current) {
-            (Some(_), None) => Err(fault(Rule::NoShape, place)),
-            (Some(shape), Some(current)) if shape != current => Err(fault(Rule::OtherShape, place)),
+            (Some(_), None) => Err(fault(Fault::NoShape, place)),
+            (Some(shape), Some(current)) if shape != current => Err(fault(
+                Fault::OtherShape,
+                place,
+            )),
             _ => Ok(()),
         }
     }
