@@ -1,5 +1,5 @@
 -- Which answers come of which modes and words, and what was told of them.
-use Rattle.std.proofs.Common.{◌≡◌, ◌≢◌, ◌∙◌, ℕ, true, List, ◌⊎◌, Result, Ok, Err, IfErr, inl, inr, sym, subst, codes, refl, arith}
+use Rattle.std.proofs.Common.{◌≡◌, ◌≢◌, ℕ, true, List, ◌⊎◌, Result, Ok, Err, IfErr, inl, inr, sym, subst, codes, refl, arith}
 use Rattle.cstar_base.specs.declared.faults.Fault.{Fault}
 use Rattle.cstar_base.specs.declared.operators.Place.{Place}
 use Rattle.cstar_io.specs.Output.{Takes, TakesPrefix}
@@ -10,11 +10,10 @@ use Rattle.cstar_top.specs.declared.answer.Answer.TheVariants as A
 use Rattle.cstar_top.specs.declared.compile.NoImage.{NoImage}
 use Rattle.cstar_top.specs.declared.compile.NoImage.TheVariants as N
 use Rattle.cstar_top.specs.Answers.{line_of, status_of}
-use Rattle.cstar_top.specs.Assembled.{AnswersWhy, TellsWhy}
-use Rattle.cstar_top.specs.Modes.{AsksFor, budget_in, is_built, reads_file, runs_code, runs_image}
+use Rattle.cstar_top.specs.Assembled.{AnswersWhy}
+use Rattle.cstar_top.specs.Modes.{AsksFor, budget_in, is_built, runs_code, runs_image}
 use Rattle.cstar_top.specs.Outcomes.{CanAnswer, CanFollow}
-use Rattle.cstar_top.specs.Refusals.{CanName, NamesOnly, answer_to_none}
-use Rattle.cstar_top.specs.Reports.{PutsAnswer, PutsPartOfAnswer}
+use Rattle.cstar_top.specs.Refusals.{NamesOnly}
 use Rattle.cstar_top.specs.Runs.{IsEndOfRun}
 use Rattle.cstar_top.proofs.Lines.{memory_line}
 
@@ -30,11 +29,6 @@ can_run mode turns A.WriteFault built code image end = tt
 can_run mode turns A.InputFault built code image end = image
 can_run mode turns A.Memory built code image end = tt
 
--- and any mode a refusal that names one of its faults
-pub can_refuse : (mode : Mode) (turns : ℕ) (none : NoImage) → NamesOnly (CanName mode) none → CanAnswer mode turns (answer_to_none none)
-can_refuse mode turns (N.Refused fault place) names = names
-can_refuse mode turns N.Memory names = tt
-
 -- a refusal that names one of some faults names one of more
 pub names_more : (P Q : Fault → Type 0) (none : NoImage) → ((fault : Fault) → P fault → Q fault) → NamesOnly P none → NamesOnly Q none
 names_more P Q (N.Refused fault place) more names = more fault names
@@ -43,16 +37,6 @@ names_more P Q N.Memory more names = tt
 pub names_more_in : {A : Type 0} (P Q : Fault → Type 0) (r : Result A NoImage) → ((fault : Fault) → P fault → Q fault) → IfErr r (NamesOnly P) → IfErr r (NamesOnly Q)
 names_more_in P Q (Ok x) more names = tt
 names_more_in P Q (Err none) more names = names_more P Q none more names
-
--- a refusal that says why names what it can
-pub names_why : (Why : Fault → Place → Type 0) (Q : Fault → Type 0) (none : NoImage) → ((fault : Fault) (place : Place) → Why fault place → Q fault) → TellsWhy Why none → NamesOnly Q none
-names_why Why Q (N.Refused fault place) more tells = more fault place tells
-names_why Why Q N.Memory more tells = tt
-
--- and the answer says it too
-pub answers_why : (Why : Fault → Place → Type 0) (none : NoImage) → TellsWhy Why none → AnswersWhy Why (answer_to_none none)
-answers_why Why (N.Refused fault place) tells = tells
-answers_why Why N.Memory tells = tt
 
 -- the answer of a run refuses nothing
 pub run_answers : (Why : Fault → Place → Type 0) (turns : ℕ) (answer : Answer) → IsEndOfRun turns answer → AnswersWhy Why answer

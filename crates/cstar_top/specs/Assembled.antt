@@ -1,5 +1,5 @@
 -- Listings that are run, and why others are refused.
-use Rattle.std.specs.Prelude.{◌≡◌, ◌<◌, ◌≤◌, ◌+◌, ◌*◌, ℕ, true, false, ◌⊎◌, List, length, max, min, sum_by, if◌then◌else◌}
+use Rattle.std.specs.Prelude.{◌≡◌, ◌<◌, ◌≤◌, ◌+◌, ◌*◌, ℕ, ◌⊎◌, List, length, max, min, sum_by, if◌then◌else◌}
 use Rattle.cstar_base.specs.declared.faults.Fault.{Fault}
 use Rattle.cstar_base.specs.declared.faults.Fault.TheVariants as F
 use Rattle.cstar_base.specs.declared.operators.Place.{Place}

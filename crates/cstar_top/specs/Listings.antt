@@ -1,5 +1,5 @@
 -- What the command does with listings.
-use Rattle.std.specs.Prelude.{◌≡◌, ℕ, ◌⊎◌, List}
+use Rattle.std.specs.Prelude.{ℕ, ◌⊎◌, List}
 use Rattle.cstar_io.specs.Output.{Takes, TakesPrefix, TakesNothing}
 use Rattle.paris_code.specs.declared.program.Image.{Image}
 use Rattle.paris_code.specs.Listing.{listing}

@@ -1,6 +1,6 @@
 //! From a listing to a checked image.
 
-ghost use Rattle.std.specs.Prelude.{◌≡◌, ◌<◌, ◌≤◌, ◌⊎◌, Err, IfErr, IfOk, true, false, length, vec_len};
+ghost use Rattle.std.specs.Prelude.{◌≡◌, ◌<◌, ◌≤◌, Err, IfErr, IfOk, true, false, length};
 ghost use Rattle.cstar_base.specs.declared.faults.Fault.TheVariants as F;
 ghost use Rattle.paris_code.specs.Listing.{listing};
 ghost use Rattle.cstar_top.specs.declared.compile.NoImage.TheVariants as N;

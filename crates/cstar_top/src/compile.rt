@@ -1,6 +1,6 @@
 //! From the text of a file to a checked image, or to its first fault.
 
-ghost use Rattle.std.specs.Prelude.{◌≡◌, ◌<◌, ◌≤◌, Err, IfErr, IfOk, ◌⊎◌, ℕ, List, length, vec_len};
+ghost use Rattle.std.specs.Prelude.{◌≡◌, ◌<◌, ◌≤◌, Err, IfErr, IfOk, List, length, vec_len};
 ghost use Rattle.cstar_base.specs.declared.faults.Fault.TheVariants as F;
 ghost use Rattle.cstar_lexer.specs.Reading.{Reads};
 ghost use Rattle.cstar_tree.specs.declared.token.Token.{Token};

@@ -9,7 +9,7 @@ ghost use Rattle.cstar_words.specs.declared.options.Mode.TheVariants as M;
 ghost use Rattle.paris_code.specs.declared.program.Image.{Image};
 ghost use Rattle.paris_code.specs.Sound.{IsSound};
 ghost use Rattle.cstar_top.specs.Answers.{status_of};
-ghost use Rattle.cstar_top.specs.Drills.{IsDrillLine, IsRunLine, PutsDrill, PutsPartOfDrill, drill_line};
+ghost use Rattle.cstar_top.specs.Drills.{IsRunLine, PutsDrill, PutsPartOfDrill, drill_line};
 ghost use Rattle.cstar_top.specs.Outcomes.{CanAnswer};
 
 use crate::answer::Answer;

@@ -1,13 +1,13 @@
 //! The command: its words, its file, and what they come to.
 
-ghost use Rattle.std.specs.Prelude.{◌≡◌, ◌≢◌, ◌<◌, ◌≤◌, ℕ, List, true, false, ◌⊎◌, Err, map, length, codes, IfErr, IfOk};
+ghost use Rattle.std.specs.Prelude.{◌≡◌, ◌≢◌, ◌<◌, ◌≤◌, ℕ, List, true, false, ◌⊎◌, Err, map, length, IfErr, IfOk};
 ghost use Rattle.std.specs.String.{string_bytes};
 ghost use Rattle.cstar_base.specs.declared.faults.Fault.{Fault};
 ghost use Rattle.cstar_base.specs.declared.faults.Fault.TheVariants as F;
 ghost use Rattle.cstar_base.specs.declared.operators.Place.{Place};
 ghost use Rattle.cstar_compile.specs.Compiled.{IsOfProgram};
 ghost use Rattle.cstar_io.specs.Faults.{RisesBy};
-ghost use Rattle.cstar_io.specs.Output.{Takes, TakesNothing, TakesPrefix};
+ghost use Rattle.cstar_io.specs.Output.{Takes, TakesNothing};
 ghost use Rattle.cstar_words.specs.declared.options.Mode.TheVariants as M;
 ghost use Rattle.cstar_words.specs.declared.options.Options.{Options};
 ghost use Rattle.cstar_words.specs.Reading.{Reads, is_command, rows_in};

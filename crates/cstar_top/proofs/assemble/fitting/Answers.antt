@@ -1,4 +1,4 @@
-use Rattle.std.proofs.Common.{◌≡◌, ◌<◌, ◌≤◌, ◌⊎◌, List, inl, inr, sym, subst, refl, arith}
+use Rattle.std.proofs.Common.{◌<◌, ◌≤◌, ◌⊎◌, List, inl, inr, sym, subst, refl, arith}
 use Rattle.paris_code.specs.declared.program.ShapeBits.{ShapeBits}
 use Rattle.cstar_top.specs.declared.compile.NoImage.{NoImage}
 use Rattle.cstar_top.specs.Assembled.{FitsMachine, RefusesListing, TellsWhy, bits_of_sets}

@@ -1,4 +1,4 @@
-use Rattle.std.proofs.Common.{◌≡◌, ◌∙◌, inl, inr}
+use Rattle.std.proofs.Common.{◌∙◌, inl, inr}
 use Rattle.cstar_top.proofs.Drills.{of_text}
 use Rattle.cstar_top.proofs.drill.drill.Goals as goal
 

@@ -1,6 +1,5 @@
-use Rattle.std.proofs.Common.{◌≡◌, ◌∙◌, ℕ, ◌%◌, ◌^◌, List, [], length, drop, Option, Some, inl, inr, ap, sym, subst, refl, arith}
+use Rattle.std.proofs.Common.{◌≡◌, ◌∙◌, ℕ, List, [], drop, Option, Some, inl, inr, ap, sym, subst, refl, arith}
 use Rattle.std.proofs.lemmas.Bool.{cases_lt}
-use Rattle.std.specs.Prelude.{sum}
 use Rattle.cstar_io.specs.declared.sink.SureSink.{SureSink}
 use Rattle.cstar_io.specs.Input.{Took}
 use Rattle.paris_code.specs.Memory.{SameBits}

@@ -1,4 +1,4 @@
-use Rattle.std.proofs.Common.{◌∙◌, List, ℕ, inl, inr, map, subst, sym, ap, refl, arith, lit<}
+use Rattle.std.proofs.Common.{◌∙◌, List, ℕ, inl, inr, map, subst, sym, ap, arith, lit<}
 use Rattle.std.specs.String.{string_bytes}
 use Rattle.cstar_io.specs.Output.{Takes, TakesPrefix}
 use Rattle.cstar_top.specs.declared.answer.Answer.TheVariants as A
@@ -10,7 +10,7 @@ use Rattle.cstar_top.specs.Reported.{Holds}
 use Rattle.cstar_top.proofs.Asked.{budget_is, mode_is, named_is}
 use Rattle.cstar_top.proofs.Lines.{status_is}
 use Rattle.cstar_top.proofs.Listings.{nothing_taken}
-use Rattle.cstar_top.proofs.Outcomes.{answer_told, can_follow, memory_told, no_usage, part_told, refusal_told, told_is}
+use Rattle.cstar_top.proofs.Outcomes.{answer_told, can_follow, no_usage, part_told, refusal_told, told_is}
 use Rattle.cstar_top.proofs.Refusals.{refused_long}
 use Rattle.cstar_top.proofs.Reported.{whole_is, whole_not}
 use Rattle.cstar_top.proofs.top.cstar.Goals as goal
