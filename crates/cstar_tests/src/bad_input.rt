@@ -8,7 +8,7 @@ struct Refusal {
     err: &'static str,
 }
 
-static REFUSALS: [Refusal; 45] = [
+static REFUSALS: [Refusal; 49] = [
     Refusal {
         text: "089",
         err: "a.cs:1:2: E01 BadByte\n",
@@ -144,6 +144,22 @@ static REFUSALS: [Refusal; 45] = [
     Refusal {
         text: "int x = getchar(); main() { }",
         err: "a.cs:1:9: E26 Constant\n",
+    },
+    Refusal {
+        text: "int x = 1 + += g(1);\nint g(int:zz k) { }",
+        err: "a.cs:1:11: E26 Constant\n",
+    },
+    Refusal {
+        text: "shape [4]T, [dimof(T, g(1))]S; main() { }\nint g(int:zz k) { }",
+        err: "a.cs:1:23: E26 Constant\n",
+    },
+    Refusal {
+        text: "shape [2]main;\nint f() { return zz; }\nmain() { f(); }",
+        err: "a.cs:3:1: E06 Redeclared\n",
+    },
+    Refusal {
+        text: "int f() { return dimof(current, 7); }\nshape [0]S; main() { with (S) f(); }",
+        err: "a.cs:1:33: E21 Axis\n",
     },
     Refusal {
         text: "main() { int x; x = ((((((((((((((((((((((((((((((((((((((((((((((((((((((((((((((((((((((((((((((((((((((((((((((((((((1)))))))))))))))))))))))))))))))))))))))))))))))))))))))))))))))))))))))))))))))))))))))))))))))))))); }",

@@ -17,12 +17,12 @@ enum Answer {
 }
 
 /// The fault at a token, or at the end behind the last.
-fn fault_at(number: u8, tokens: &Tokens, token: u32) -> Answer {
+fn fault_at(fault: cstar_base::Fault, tokens: &Tokens, token: u32) -> Answer {
     let place = match tokens.list.get(token as usize) {
         Some(token) => token.place,
         None => tokens.end,
     };
-    Fault(number, place.line, place.col)
+    Fault(fault.number(), place.line, place.col)
 }
 
 /// What a text is to the lexer and the parser.
@@ -40,8 +40,8 @@ fn outcome(alloc: Global, text: &[u8]) -> Answer {
     }
     match parse(alloc, &tokens) {
         Ok(_tree) => Accepted,
-        Err(ParseFault::Syntax { token }) => fault_at(5, &tokens, token),
-        Err(ParseFault::Depth { token }) => fault_at(27, &tokens, token),
+        Err(ParseFault::Syntax { token }) => fault_at(cstar_base::Fault::Syntax, &tokens, token),
+        Err(ParseFault::Depth { token }) => fault_at(cstar_base::Fault::Depth, &tokens, token),
         Err(ParseFault::Memory) => Answer::Memory,
     }
 }
