@@ -72,9 +72,13 @@ replies_value image instr s m n v wants means = λ input output.
 
 pub replies_bad : (image : Image) (instr : Instr) (s : State) (m n : BitMemory) (position kind : ℕ) (fault : RunFault) (place : Place) → run_number_of fault ≡ kind → fault_at instr position ≡ Fault fault place (Some position) → Means (shapes_of image) instr s.args m n (R.Bad position)
     → RepliesTo image instr s m (Some (E.Fault kind place (Some position))) s n
-replies_bad image instr s m n position kind fault place number is means = (fault, number, λ input output.
-    subst (λ (r : Reply). SameNext (shapes_of image) (replied instr (joined s (after (shapes_of image) instr s.args m) input output) r) (Ends (Fault fault place (Some position)) (joined s n input output))) means.0
-    (is, record { bits = means.1; rest = refl }))
+replies_bad image instr s m n position kind fault place number is means = (
+  fault,
+  number,
+  λ input output.
+      subst (λ (r : Reply). SameNext (shapes_of image) (replied instr (joined s (after (shapes_of image) instr s.args m) input output) r) (Ends (Fault fault place (Some position)) (joined s n input output))) means.0
+      (is, record { bits = means.1; rest = refl }),
+)
 
 -- the state behind an answer
 pub answered_is : (s t : State) (v : ℕ) → IsSome s.wanted → t ≡ record s { registers = t.registers; wanted = None } → IfSome s.wanted (λ r. t.registers ≡ slice_set s.registers r v) → t ≡ answered s v

@@ -42,7 +42,10 @@ fn fault_of(instr: &Instr) -> Option<(RunFault, Place)>
     ensures fault { (position : ℕ) → IfSome result (λ f. fault_at instr.now position ≡ Fault f.0 f.1 (Some position)) }
 {
     match instr {
-        Instr::CheckTarget { place, .. } | Instr::CheckGrid { place, .. } => Some((RunFault::Index, *place)),
+        Instr::CheckTarget { place, .. } | Instr::CheckGrid { place, .. } => Some((
+            RunFault::Index,
+            *place,
+        )),
         Instr::CheckDivisor { place, .. } => Some((RunFault::DivZero, *place)),
         _ => None,
     }
