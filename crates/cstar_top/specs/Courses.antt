@@ -3,6 +3,7 @@ use Rattle.std.specs.Prelude.{◌≡◌, ℕ, Bool, true, ◌||◌, List, [], �
 use Rattle.std.specs.List.{concat}
 use Rattle.cstar_base.specs.declared.faults.RunFault.{RunFault}
 use Rattle.cstar_base.specs.declared.faults.RunFault.TheVariants as F
+use Rattle.cstar_base.specs.Faults.{run_number_of}
 use Rattle.cstar_base.specs.declared.operators.Winner.{Winner}
 use Rattle.cstar_io.specs.Input.{Took}
 use Rattle.cstar_io.specs.Output.{Takes, TakesPrefix}
@@ -45,9 +46,9 @@ IsCourse image winner turns course =
 abbrev pub Feeds : Course → Option (List ℕ) → Option (List ℕ) → Type 0
 Feeds course old new = Took old course.taken new × (course.over ≡ true → IfSome new (λ rest. rest ≡ []))
 
--- the fault of a kind: 1 for an index out of its extent, 2 for a zero divisor
+-- the fault of a run that has a number
 abbrev pub run_fault : ℕ → RunFault
-run_fault kind = if kind == 1 then F.Index else F.DivZero
+run_fault kind = if kind == run_number_of F.Index then F.Index else F.DivZero
 
 -- the answer to an end
 abbrev pub answer_to_end : ℕ → End → Answer

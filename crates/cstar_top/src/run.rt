@@ -66,11 +66,11 @@ fn put_listing<O: Sink>(sound: &Sound, options: &Options, out: &mut O) -> Result
     }
 }
 
-/// The fault of a run of this kind: 1 for an index out of its extent, 2 for a zero divisor.
+/// The fault of a run that has this number.
 pub fn run_fault(kind: u8) -> RunFault
     ensures { result ≡ run_fault kind }
 {
-    if kind == 1 {
+    if kind == RunFault::Index.number() {
         RunFault::Index
     } else {
         RunFault::DivZero
