@@ -1,10 +1,9 @@
 -- Statements, declarations and items that fit into the bounds, from their parts.
-use Rattle.std.proofs.Common.{◌≡◌, ℕ, ◌+◌, ◌≤◌, max, Bool, true, false, cond, List, [], ◌∷◌, ◌++◌, map, Option, Some, None, Vec, Box, append_assoc, arith, rules, refl, sym, ap, ◌∙◌}
+use Rattle.std.proofs.Common.{◌≡◌, ℕ, ◌+◌, ◌≤◌, max, Bool, true, false, cond, List, [], ◌∷◌, ◌++◌, map, Option, Some, None, Vec, Box, append_assoc, arith, rules, sym, ap, ◌∙◌}
 use Rattle.std.specs.declared.alloc.Global.{Global}
 use Rattle.cstar_base.specs.declared.operators.Place.{Place}
 use Rattle.cstar_tree.specs.declared.syntax.Block.{Block}
 use Rattle.cstar_tree.specs.declared.syntax.Declaration.{Declaration}
-use Rattle.cstar_tree.specs.declared.syntax.Declarator.{Declarator}
 use Rattle.cstar_tree.specs.declared.syntax.Expr.{Expr}
 use Rattle.cstar_tree.specs.declared.syntax.Function.{Function}
 use Rattle.cstar_tree.specs.declared.syntax.Item.{Item}
@@ -17,9 +16,8 @@ use Rattle.cstar_tree.specs.declared.syntax.Stmt.TheFolds.{fold-roll-Stmt, fold_
 use Rattle.cstar_tree.specs.declared.syntax.Stmt.TheOpen.{Stmt-F}
 use Rattle.cstar_tree.specs.declared.syntax.Stmt.TheVariants as rolled
 use Rattle.cstar_tree.specs.declared.syntax.Tree.{Tree}
-use Rattle.cstar_tree.specs.Bounds.{IsBounded, among, block_step, declaration_expressions, declared_expressions, declarator_expressions, in_block, in_item, in_statement, levels_in, operators_in, statement_step}
+use Rattle.cstar_tree.specs.Bounds.{IsBounded, among, block_step, declaration_expressions, declared_expressions, in_block, in_item, in_statement, levels_in, operators_in, statement_step}
 use Rattle.cstar_tree.specs.Room.{greatest}
-use Rattle.cstar_tree.specs.SyntaxParts.{initial_values}
 use Rattle.cstar_tree.specs.TypedParts.{concat, optional}
 use Rattle.cstar_parser.proofs.Fitting.{greatest_more}
 use Rattle.cstar_parser.specs.declared.heads.BranchHead.{BranchHead}

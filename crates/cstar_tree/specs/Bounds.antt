@@ -1,5 +1,5 @@
 -- How deep a tree nests, and how many operators its expressions have.
-use Rattle.std.specs.Prelude.{ℕ, ◌+◌, ◌≤◌, max, List, [], ◌++◌, map, Option, Some, None}
+use Rattle.std.specs.Prelude.{ℕ, ◌+◌, ◌≤◌, max, List, ◌++◌, map, Option, Some, None}
 use Rattle.cstar_tree.specs.declared.syntax.Block.{Block}
 use Rattle.cstar_tree.specs.declared.syntax.Declaration.{Declaration}
 use Rattle.cstar_tree.specs.declared.syntax.Declarator.{Declarator}
