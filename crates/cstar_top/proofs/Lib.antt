@@ -8,3 +8,4 @@ pub mod Listings
 pub mod Outcomes
 pub mod Refusals
 pub mod Reported
+pub mod TypingFaults

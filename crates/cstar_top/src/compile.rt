@@ -176,6 +176,7 @@ fn place_of(tokens: &Tokens, number: u32) -> Place {
     }
 }
 
+#[tactic(auto, using(crate::proofs::TypingFaults::listed_is_of_text))]
 fn typed_of(alloc: Global, tree: &Tree) -> Result<Typed, NoImage>
     ensures typed { IfOk result IsTyped }
     ensures refused { IfErr result (NamesOnly IsOfText) }
