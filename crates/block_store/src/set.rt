@@ -7,6 +7,8 @@ ghost use Rattle.bit_planes.specs.Bits.{bit};
 ghost use Rattle.vp_sets.specs.Blocks.{block_count};
 ghost use Rattle.vp_sets.specs.Positions.{position_count};
 ghost use Rattle.block_store.specs.Fresh.{IsFreshBlock, IsFreshSet};
+ghost use Rattle.bit_planes.specs.Planes.{plane_at};
+ghost use Rattle.block_store.specs.Phases.{TakesLanes};
 ghost use Rattle.block_store.specs.Planes.{block_bit, HasPlanes};
 ghost use Rattle.block_store.specs.Stored.{shape_of_plan};
 
@@ -38,6 +40,19 @@ pub fn used_lanes(geometry: &Geometry, k: u32) -> u64x8
 {
     let (start, end) = geometry.block_range(k);
     first_lanes(end - start)
+}
+
+/// The lanes of block `k` that an instruction writes: those that are active, or all that hold a
+/// position.
+pub fn taking_lanes(plan: &SetPlan, block: &Block, k: u32, always: bool) -> u64x8
+    requires block { k < block_count plan.now.geometry }
+    requires context { plan.now.bits < length block.now.planes.items }
+    ensures { TakesLanes plan.now.geometry k always (plane_at block.now.planes.items plan.now.bits) result }
+{
+    if always {
+        return used_lanes(&plan.geometry, k);
+    }
+    block.plane(plan.bits)
 }
 
 /// Room for one word of each position of a block.

@@ -1,14 +1,13 @@
 -- One bit of each kernel, on plain numbers.
-use Rattle.std.proofs.Common.{◌≡◌, ◌≢◌, ℕ, suc, zero, ◌+◌, ◌-◌, ◌*◌, ◌/◌, ◌%◌, ◌^◌, ◌<◌, ◌≤◌, ◌⊎◌, min, max, cond, nat_lt, nat_eq, Bool, true, false, refl, sym, ◌∙◌, ap, inl, inr, add_comm, arith}
+use Rattle.std.proofs.Common.{◌≡◌, ℕ, suc, zero, ◌+◌, ◌-◌, ◌*◌, ◌/◌, ◌%◌, ◌^◌, ◌<◌, ◌≤◌, min, cond, nat_lt, nat_eq, Bool, true, false, refl, sym, ◌∙◌, ap, inl, inr, add_comm, arith}
 use Rattle.std.specs.Int.{bit_at}
 use Rattle.std.proofs.Math.Nat.{mul-add-div, div-add-mod, mul_comm, mul-add, mod-eq_of_lt, add-mod_right, pow-suc}
-use Rattle.std.proofs.Math.Numerals.{one-add, add-one}
 use Rattle.std.proofs.lemmas.Nat.{mod-pow-add, shr-shr, pow_pos, mod_below}
 use Rattle.std.proofs.lemmas.Bool.{cases_lt, lt-ltb, le-ltb, eq-eqb}
 use Rattle.lane_kernels.proofs.BitTables.{less_step, equal_step}
 use Rattle.std.proofs.lemmas.Nat.{and_mask, and_le_l, or_lt, xor_lt}
 use Rattle.std.proofs.lemmas.Nat.Bits.{bit_at_and, bit_at_or, bit_at_xor, bit_at_ones, bit_at_above, bit_at_cat_low, bit_at_cat_high}
-use Rattle.std.specs.Int.Bits.{bit_and, bit_or, bit_xor, xor_add_and}
+use Rattle.std.specs.Int.Bits.{bit_and, bit_xor, xor_add_and}
 use Rattle.lane_kernels.specs.declared.gates.Gate.{Gate}
 use Rattle.lane_kernels.specs.declared.gates.Gate.TheVariants.{And, Or, Xor}
 use Rattle.lane_kernels.specs.Gates.{gate_bit, gate_of}

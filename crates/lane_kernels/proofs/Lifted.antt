@@ -1,21 +1,18 @@
 -- From one bit to numbers, and from one lane to all.
-use Rattle.std.proofs.Common.{◌≡◌, ◌≢◌, ℕ, suc, zero, ◌+◌, ◌-◌, ◌*◌, ◌/◌, ◌%◌, ◌^◌, ◌<◌, ◌≤◌, ◌⊎◌, List, length, refl, sym, ◌∙◌, ap, inl, inr, arith}
+use Rattle.std.proofs.Common.{◌≡◌, ℕ, ◌+◌, ◌%◌, ◌^◌, ◌<◌, ◌≤◌, ◌⊎◌, List, length, sym, ◌∙◌, ap, inl, inr, arith}
 use Rattle.std.specs.Int.{bit_at}
-use Rattle.std.proofs.Math.Nat.{mul_comm}
 use Rattle.std.proofs.lemmas.Nat.{mod_below, pow_pos}
-use Rattle.std.proofs.lemmas.Nat.Bits.{bit_at_cat_low, bit_at_cat_high}
 use Rattle.std.proofs.lemmas.Bool.{cases_lt, cases_eq}
 use Rattle.bit_planes.specs.declared.plane.Plane.{Plane}
 use Rattle.bit_planes.specs.Bits.{bit}
-use Rattle.bit_planes.specs.Planes.{plane_at, number}
+use Rattle.bit_planes.specs.Planes.{plane_at}
 use Rattle.cstar_base.proofs.BitCuts.{bit_at-cut}
-use Rattle.bit_planes.proofs.Words.{bit-lt}
 use Rattle.bit_planes.proofs.Planes.{number_is, number-lt, number-bits}
 use Rattle.lane_kernels.specs.declared.target.Target.{Target}
 use Rattle.lane_kernels.specs.declared.target.Operand.{Operand}
 use Rattle.lane_kernels.specs.declared.target.Operand.TheVariants.{Field, Constant}
 use Rattle.lane_kernels.specs.Changes.{Writes}
-use Rattle.lane_kernels.specs.Kernels.{operand_bit, operand_of, IsReadable, IsFieldReadable, IsWithin, Becomes}
+use Rattle.lane_kernels.specs.Kernels.{operand_bit, operand_of, IsReadable, Becomes}
 
 pub operand_of-lt : (a : Operand) (planes : List Plane) (n i : ℕ) → operand_of a planes n i < 2 ^ n
 operand_of-lt (Field offset) planes n i = number-lt planes offset n i

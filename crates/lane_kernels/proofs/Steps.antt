@@ -1,5 +1,5 @@
 -- The steps of the kernels' loops.
-use Rattle.std.proofs.Common.{◌≡◌, ℕ, ◌+◌, ◌-◌, ◌*◌, ◌/◌, ◌%◌, ◌^◌, ◌<◌, ◌≤◌, ◌⊎◌, cond, nat_lt, nat_eq, min, Bool, true, false, List, refl, sym, ◌∙◌, ap, subst, inl, inr, arith}
+use Rattle.std.proofs.Common.{◌≡◌, ℕ, ◌+◌, ◌-◌, ◌*◌, ◌/◌, ◌%◌, ◌^◌, ◌<◌, ◌≤◌, cond, nat_lt, Bool, List, sym, ◌∙◌, ap, subst, inl, inr, arith}
 use Rattle.std.specs.Int.{bit_at}
 use Rattle.bit_planes.specs.declared.plane.Plane.{Plane}
 use Rattle.bit_planes.specs.Bits.{bit}
@@ -11,13 +11,11 @@ use Rattle.std.proofs.lemmas.Nat.{pow_pos}
 use Rattle.std.proofs.lemmas.Bool.{cases_lt, lt-ltb, le-ltb}
 use Rattle.lane_kernels.specs.declared.target.Target.{Target}
 use Rattle.lane_kernels.specs.declared.target.Operand.{Operand}
-use Rattle.lane_kernels.specs.declared.gates.Gate.{Gate}
 use Rattle.lane_kernels.specs.Changes.{Writes}
-use Rattle.lane_kernels.specs.Gates.{gate_bit, gate_of}
-use Rattle.lane_kernels.specs.Numbers.{complement_of, extended}
+use Rattle.lane_kernels.specs.Numbers.{extended}
 use Rattle.lane_kernels.specs.Kernels.{operand_bit, operand_of, IsReadable, IsFieldReadable, IsReadableDown, Becomes}
-use Rattle.lane_kernels.proofs.Arithmetic.{gate_bits, gate_of-lt, cond_bits, cond-lt, complement_bits, extended_bits, mod_small}
-use Rattle.lane_kernels.proofs.Lifted.{Becoming, one_up, one_down, all_written, same_change, operand_kept, operand_of-lt, operand_bit_is}
+use Rattle.lane_kernels.proofs.Arithmetic.{extended_bits, mod_small}
+use Rattle.lane_kernels.proofs.Lifted.{Becoming, one_up, one_down, all_written, same_change, operand_kept}
 
 -- the numbers are written, and they have no more bits than the target
 pub all_small : (to : Target) (n : ℕ) (numbers : ℕ → ℕ) (old new : List Plane) → n ≡ to.len → ((i : ℕ) → numbers i < 2 ^ to.len) → Becoming to 0 n numbers old new → Becomes to numbers old new

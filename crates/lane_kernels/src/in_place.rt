@@ -3,6 +3,7 @@
 ghost use Rattle.std.specs.Prelude.{◌≡◌, ℕ, ◌<◌, ◌≤◌, ◌+◌, ◌-◌, ◌*◌, ◌/◌, ◌%◌, ◌^◌, ◌⊎◌, length, if◌then◌else◌, nat_eq, nat_lt, bit_and, bit_or, bit_xor};
 ghost use Rattle.bit_planes.specs.Bits.{bit};
 ghost use Rattle.bit_planes.specs.Planes.{number, plane_at};
+ghost use Rattle.lane_kernels.specs.Columns.{value_at};
 ghost use Rattle.lane_kernels.specs.Kernels.{operand_of, IsReadable, IsReadableDown, IsFieldReadable, HasTarget, Becomes};
 ghost use Rattle.lane_kernels.specs.Numbers.{addend, sum_of, difference_of, negative_of, complement_of, least_of, greatest_of, resized, shifted_left, shifted_right, extended};
 ghost use Rattle.lane_kernels.specs.Gates.{gate_of};
@@ -10,8 +11,8 @@ ghost use Rattle.lane_kernels.specs.Gates.{gate_of};
 use crate::compare::less;
 use crate::gates::{Gate, carry_bit, choose, sum_bit};
 use crate::target::{Operand, Target, write};
-use bit_planes::Plane;
 use bit_planes::plane::{differ, opposite, repeated};
+use bit_planes::{Lanes, Plane};
 use std::simd::prelude::*;
 
 /// The sum of both operands, or with the second and a carry inverted, their difference.
@@ -245,5 +246,30 @@ pub fn shift_left(planes: &mut [Plane], to: &Target, offset: u32, k: u32)
     for j in (0..to.len as usize).rev() {
         let value = plane_before(planes, offset, j, k);
         write(planes, to.offset as usize + j, value, to.lanes);
+    }
+}
+
+/// A plane of a column.
+#[inline(always)]
+fn plane_of(column: &Lanes, j: usize) -> u64x8
+    requires { j < 32 }
+    ensures { result ≡ plane_at column.now.planes j }
+{
+    column.planes[j].bits
+}
+
+/// The column's numbers.
+pub fn put(planes: &mut [Plane], to: &Target, column: &Lanes)
+    requires target { HasTarget to.now planes.old }
+    requires len { column.now.len ≡ to.now.len }
+    ensures { Becomes to.now (λ i. value_at column.now i) planes.old planes.new }
+{
+    for j in 0..to.len as usize {
+        write(
+            planes,
+            to.offset as usize + j,
+            plane_of(column, j),
+            to.lanes,
+        );
     }
 }

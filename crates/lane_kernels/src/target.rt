@@ -17,6 +17,18 @@ pub struct Target {
     pub ghost in_range: { (1 ≤ len) × (len ≤ 32) },
 }
 
+impl Target {
+    /// The field of `len` bits at the offset, in these lanes.
+    pub fn at(offset: u32, len: u8, lanes: u64x8) -> Target
+        requires { (1 ≤ len) × (len ≤ 32) }
+        ensures offset { result.offset ≡ offset }
+        ensures len { result.len ≡ len }
+        ensures lanes { result.lanes ≡ lanes }
+    {
+        Target { offset, len, lanes }
+    }
+}
+
 /// What a kernel reads: a field of the planes, as long as the target, or one number for all lanes,
 /// cut to the target's length.
 #[derive(Drop)]

@@ -1,6 +1,3 @@
-use Rattle.std.proofs.Common.{ℕ, ◌≡◌, ◌<◌, ◌+◌, ◌-◌, ◌*◌, ◌/◌, ◌%◌, ◌^◌, cond, nat_eq, nat_lt, refl, sym, ◌∙◌, ap, min, arith}
-use Rattle.bit_planes.specs.Bits.{bit}
-use Rattle.bit_planes.specs.Planes.{plane_at, number}
 use Rattle.lane_kernels.proofs.ColumnLemmas.{columns_have}
 use Rattle.lane_kernels.specs.Numbers.{least_of}
 use Rattle.lane_kernels.proofs.columns.min.Goals as goal

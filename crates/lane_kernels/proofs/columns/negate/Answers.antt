@@ -1,6 +1,4 @@
-use Rattle.std.proofs.Common.{ℕ, ◌≡◌, ◌<◌, ◌+◌, ◌-◌, ◌*◌, ◌/◌, ◌%◌, ◌^◌, cond, nat_eq, nat_lt, refl, sym, ◌∙◌, ap, min, arith}
-use Rattle.bit_planes.specs.Bits.{bit}
-use Rattle.bit_planes.specs.Planes.{plane_at, number}
+use Rattle.std.proofs.Common.{refl}
 use Rattle.lane_kernels.proofs.ColumnLemmas.{columns_have}
 use Rattle.lane_kernels.specs.Numbers.{negative_of}
 use Rattle.lane_kernels.proofs.columns.negate.Goals as goal

@@ -1,6 +1,5 @@
-use Rattle.std.proofs.Common.{ℕ, ◌≡◌, ◌<◌, ◌+◌, ◌-◌, ◌*◌, ◌/◌, ◌%◌, ◌^◌, cond, nat_eq, nat_lt, refl, sym, ◌∙◌, ap, min, arith}
-use Rattle.bit_planes.specs.Bits.{bit}
-use Rattle.bit_planes.specs.Planes.{plane_at, number}
+use Rattle.std.proofs.Common.{◌∙◌, ap}
+use Rattle.bit_planes.specs.Planes.{number}
 use Rattle.lane_kernels.proofs.ColumnLemmas.{column_has, first_numbers}
 use Rattle.lane_kernels.specs.Columns.{value_at}
 use Rattle.lane_kernels.specs.Numbers.{resized}

@@ -1,4 +1,4 @@
-use Rattle.std.proofs.Common.{ℕ, ap, cond, nat_eq, ◌∙◌}
+use Rattle.std.proofs.Common.{ap, cond, nat_eq, ◌∙◌}
 use Rattle.bit_planes.specs.Bits.{bit}
 use Rattle.bit_planes.proofs.Words.{bit-lt}
 use Rattle.lane_kernels.proofs.BitTables.{decided_gate}

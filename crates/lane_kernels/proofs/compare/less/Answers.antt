@@ -1,7 +1,6 @@
-use Rattle.std.proofs.Common.{ℕ, ◌≡◌, ◌<◌, ◌+◌, ◌-◌, ◌*◌, ◌/◌, ◌%◌, ◌^◌, cond, nat_eq, nat_lt, refl, sym, ◌∙◌, ap, min, arith}
+use Rattle.std.proofs.Common.{◌≡◌, ◌-◌, ◌%◌, ◌^◌, cond, nat_eq, nat_lt, refl, ◌∙◌, ap, arith}
 use Rattle.std.specs.Int.{bit_at}
 use Rattle.bit_planes.specs.Bits.{bit}
-use Rattle.bit_planes.specs.Planes.{plane_at, number}
 use Rattle.lane_kernels.specs.Kernels.{operand_of}
 use Rattle.lane_kernels.proofs.Lifted.{operand_of-lt, operand_bit_is}
 use Rattle.lane_kernels.proofs.Arithmetic.{less_none, less_more, less_result}

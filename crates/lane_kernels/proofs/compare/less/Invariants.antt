@@ -1,4 +1,4 @@
-use Rattle.std.proofs.Common.{ℕ, ◌≡◌, ◌<◌, ◌^◌, ◌%◌, cond, nat_lt, nat_eq}
+use Rattle.std.proofs.Common.{ℕ, ◌≡◌, ◌<◌, ◌^◌, ◌%◌, cond, nat_lt}
 use Rattle.bit_planes.specs.Bits.{bit}
 use Rattle.lane_kernels.specs.Kernels.{operand_of}
 use Rattle.lane_kernels.proofs.compare.less.Given as goal

@@ -1,4 +1,4 @@
-use Rattle.std.proofs.Common.{ℕ, min, max, ap, ◌∙◌, arith, ◌≡◌, ◌+◌, ◌%◌}
+use Rattle.std.proofs.Common.{min, max, ap, ◌∙◌}
 use Rattle.bit_planes.specs.Bits.{bit}
 use Rattle.bit_planes.proofs.Words.{bit-lt}
 use Rattle.lane_kernels.proofs.BitTables.{carry_gate}

@@ -1,4 +1,4 @@
-use Rattle.std.proofs.Common.{ℕ, min, ap, ◌∙◌, ◌+◌, ◌%◌}
+use Rattle.std.proofs.Common.{min, ap, ◌∙◌, ◌+◌, ◌%◌}
 use Rattle.bit_planes.specs.Bits.{bit}
 use Rattle.bit_planes.proofs.Words.{bit-lt}
 use Rattle.lane_kernels.proofs.BitTables.{choice_gate}

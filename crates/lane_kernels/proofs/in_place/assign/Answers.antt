@@ -1,6 +1,4 @@
-use Rattle.std.proofs.Common.{ℕ, ◌≡◌, ◌<◌, ◌+◌, ◌-◌, ◌*◌, ◌/◌, ◌%◌, ◌^◌, cond, nat_eq, nat_lt, refl, sym, ◌∙◌, ap, min, arith}
-use Rattle.bit_planes.specs.Bits.{bit}
-use Rattle.bit_planes.specs.Planes.{plane_at, number}
+use Rattle.std.proofs.Common.{ℕ}
 use Rattle.std.specs.Int.Bits.{bit_or, or_self}
 use Rattle.lane_kernels.specs.Kernels.{operand_of}
 use Rattle.lane_kernels.proofs.Lifted.{same_change}

@@ -1,6 +1,4 @@
-use Rattle.std.proofs.Common.{ℕ, ◌≡◌, ◌<◌, ◌+◌, ◌-◌, ◌*◌, ◌/◌, ◌%◌, ◌^◌, cond, nat_eq, nat_lt, refl, sym, ◌∙◌, ap, min, arith}
-use Rattle.bit_planes.specs.Bits.{bit}
-use Rattle.bit_planes.specs.Planes.{plane_at, number}
+use Rattle.std.proofs.Common.{◌-◌, sym, arith}
 use Rattle.lane_kernels.specs.Kernels.{operand_of}
 use Rattle.lane_kernels.proofs.Steps.{combined, all_small}
 use Rattle.lane_kernels.proofs.Lifted.{operand_of-lt}

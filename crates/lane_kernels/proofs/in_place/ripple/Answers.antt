@@ -1,9 +1,5 @@
-use Rattle.std.proofs.Common.{ℕ, ◌≡◌, ◌<◌, ◌+◌, ◌-◌, ◌*◌, ◌/◌, ◌%◌, ◌^◌, cond, nat_eq, nat_lt, refl, sym, ◌∙◌, ap, min, arith}
-use Rattle.bit_planes.specs.Bits.{bit}
-use Rattle.bit_planes.specs.Planes.{plane_at, number}
-use Rattle.lane_kernels.specs.Kernels.{operand_of}
-use Rattle.lane_kernels.proofs.Arithmetic.{added}
-use Rattle.lane_kernels.proofs.Rippling.{rippled, summed, first_carry}
+use Rattle.std.proofs.Common.{arith}
+use Rattle.lane_kernels.proofs.Rippling.{rippled, summed}
 use Rattle.lane_kernels.proofs.in_place.ripple.Goals as goal
 
 pub loop-j-preserved : goal.loop-j-preserved

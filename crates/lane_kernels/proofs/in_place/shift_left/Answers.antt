@@ -1,6 +1,5 @@
-use Rattle.std.proofs.Common.{ℕ, ◌≡◌, ◌<◌, ◌+◌, ◌-◌, ◌*◌, ◌/◌, ◌%◌, ◌^◌, cond, nat_eq, nat_lt, subst, refl, sym, ◌∙◌, ap, min, arith}
-use Rattle.bit_planes.specs.Bits.{bit}
-use Rattle.bit_planes.specs.Planes.{plane_at, number}
+use Rattle.std.proofs.Common.{◌≡◌, ◌-◌, ◌*◌, ◌^◌, subst, refl, arith}
+use Rattle.bit_planes.specs.Planes.{number}
 use Rattle.lane_kernels.proofs.Steps.{lifted}
 use Rattle.lane_kernels.proofs.Lifted.{Becoming, all_written}
 use Rattle.lane_kernels.proofs.in_place.shift_left.Goals as goal

@@ -1,0 +1,96 @@
+//! The instructions that fetch.
+
+ghost use Rattle.std.specs.Prelude.{◌≡◌, ℕ, true, ◌≤◌, length};
+ghost use Rattle.cstar_base.specs.declared.operators.Winner.{Winner};
+ghost use Rattle.paris_code.specs.Arguments.{konst_number};
+ghost use Rattle.paris_code.specs.Operands.{registers_of_konst};
+ghost use Rattle.paris_code.specs.Meaning.{Means};
+ghost use Rattle.phase_meaning.specs.Apply.{CanApply, ReplyFits};
+ghost use Rattle.block_store.specs.Stored.{shapes_in, memory_in, IsWhole, HasRoom};
+ghost use Rattle.news_grid.specs.Places.{is_fetching};
+
+use crate::fetch::{gather, shift};
+use block_store::Store;
+use cstar_io::Gate;
+use paris_code::{Instr, Konst, Reply};
+use std::thread::Threads;
+
+/// The number of an operand, of which the argument is the register's value.
+fn konst(k: Konst, args: &[u32]) -> u32
+    requires { length args.now ≡ length (registers_of_konst k) }
+    ensures { result ≡ konst_number k args.now }
+{
+    match k {
+        Konst::Imm(n) => n,
+        Konst::Reg(_) => args[0],
+    }
+}
+
+/// Does a get or a NEWS shift, by so many workers.
+pub fn run<R: Threads + Sync, G: Gate + Sync>(
+    rt: &R,
+    store: &mut Store,
+    instr: &Instr,
+    args: &[u32],
+    workers: u32,
+    gate: &G,
+) -> Reply
+    requires whole { IsWhole store.old }
+    requires room { HasRoom store.old }
+    requires can { CanApply (shapes_in store.old) instr.now args.now }
+    requires fetching { is_fetching instr.now ≡ true }
+    requires workers { (1 ≤ workers) × (workers ≤ 64) }
+    ensures whole { IsWhole store.new }
+    ensures room { HasRoom store.new }
+    ensures shapes { shapes_in store.new ≡ shapes_in store.old }
+    ensures fits { ReplyFits instr.now result }
+    ensures meaning { (w : Winner) → Means (shapes_in store.old) instr.now args.now (memory_in store.old w) (memory_in store.new w) result }
+{
+    match instr {
+        Instr::GetFromNews {
+            dest,
+            source,
+            axis,
+            by,
+        } => {
+            shift(
+                rt,
+                store,
+                *dest,
+                *source,
+                *axis,
+                konst(*by, args),
+                false,
+                workers,
+                gate,
+            );
+        }
+        Instr::GetFromNewsAlways {
+            dest,
+            source,
+            axis,
+            by,
+        } => {
+            shift(
+                rt,
+                store,
+                *dest,
+                *source,
+                *axis,
+                konst(*by, args),
+                true,
+                workers,
+                gate,
+            );
+        }
+        Instr::Get {
+            dest,
+            address,
+            source,
+        } => {
+            gather(rt, store, *dest, *address, *source, workers, gate);
+        }
+        _ => {}
+    }
+    Reply::Nothing
+}

@@ -1,0 +1,10 @@
+//! Gets and NEWS over blocks, by any number of workers.
+#![tactic(auto)]
+
+mod fetch;
+mod instruction;
+mod origin;
+mod spread;
+
+pub use fetch::{gather, shift};
+pub use instruction::run;
