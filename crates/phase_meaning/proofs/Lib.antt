@@ -1,5 +1,6 @@
 pub mod Addresses
 pub mod Alike
+pub mod Checked
 pub mod Coordinates
 pub mod Entries
 pub mod FieldLemmas

@@ -2,16 +2,17 @@
 
 ghost use Rattle.std.specs.Prelude.{◌≡◌, ◌<◌, length, All};
 ghost use Rattle.paris_code.specs.Arguments.{coordinate_whole};
-ghost use Rattle.paris_code.specs.Checking.{any_outside, any_leaves, is_outside, is_signed, set_of_coordinates};
+ghost use Rattle.paris_code.specs.Checking.{any_outside, any_leaves, checked_set, fails, is_outside, is_signed, set_of_coordinates};
 ghost use Rattle.paris_code.specs.Operands.{coordinate_of};
 ghost use Rattle.paris_code.specs.RuleSet.{axis_of};
 ghost use Rattle.vp_sets.specs.Positions.{position_count};
+ghost use Rattle.phase_meaning.specs.Apply.{CanApply, IsPosition};
 ghost use Rattle.phase_meaning.specs.Reads.{IsCoordinateIn};
 
 use crate::arith::{signed, whole};
 use crate::operands::{behind, behind_step, next};
-use crate::reading::{Readable, word};
-use paris_code::{Coordinate, GridStep, Konst, SignedCoordinate};
+use crate::reading::{Readable, field, word};
+use paris_code::{Coordinate, GridStep, Instr, Konst, SignedCoordinate};
 use vp_sets::Geometry;
 
 /// Whether a whole number is no coordinate of an axis with this extent.
@@ -23,7 +24,7 @@ fn is_outside(extent: u32, number: i64) -> bool
 }
 
 /// The set whose processors check these coordinates: that of the first field, or else the target's.
-pub fn checking_set(target: u16, list: &[SignedCoordinate]) -> u16
+fn checking_set(target: u16, list: &[SignedCoordinate]) -> u16
     ensures { result ≡ set_of_coordinates target list.now }
 {
     match list.split_first() {
@@ -52,7 +53,7 @@ fn whole_coordinate<M: Readable>(
 }
 
 /// Whether a coordinate of a processor is outside its extent.
-pub fn any_outside<M: Readable>(
+fn any_outside<M: Readable>(
     m: &M,
     extents: &[u32],
     list: &[SignedCoordinate],
@@ -72,7 +73,7 @@ pub fn any_outside<M: Readable>(
 }
 
 /// Whether a step from a position leads out of the grid.
-pub fn any_leaves(geometry: &Geometry, steps: &[GridStep], args: &[u32], position: u32) -> bool
+fn any_leaves(geometry: &Geometry, steps: &[GridStep], args: &[u32], position: u32) -> bool
     requires position { position < position_count geometry.now }
     requires axes { All (λ s. axis_of s < length geometry.now) steps.now }
     ensures { result ≡ any_leaves geometry.now steps.now args.now position }
@@ -88,5 +89,46 @@ pub fn any_leaves(geometry: &Geometry, steps: &[GridStep], args: &[u32], positio
             let here = is_outside(geometry.extent(step.axis), own + i64::from(signed(by)));
             here | any_leaves(geometry, rest, behind_step(step.step, args), position)
         }
+    }
+}
+
+/// The set whose processors a check is about; 0 for another instruction.
+pub fn checked_set(instr: &Instr) -> u16
+    ensures { result ≡ checked_set instr.now }
+{
+    match instr {
+        Instr::CheckTarget {
+            set,
+            coordinates,
+            ..
+        } => checking_set(*set, coordinates.as_slice()),
+        Instr::CheckGrid { set, .. } => *set,
+        Instr::CheckDivisor { source, .. } => source.set,
+        _ => 0,
+    }
+}
+
+/// Whether the check fails at a processor.
+#[tactic(auto, using(crate::proofs::FieldLemmas::lies))]
+pub fn fails<M: Readable>(m: &M, instr: &Instr, args: &[u32], position: u32) -> bool
+    requires can { CanApply (M.shapes m.now) instr.now args.now }
+    requires position { IsPosition (M.shapes m.now) (checked_set instr.now) position }
+    requires reads { M.reads m.now position (checked_set instr.now) }
+    ensures { result ≡ fails (M.shapes m.now) instr.now args.now (M.memory m.now) position }
+{
+    match instr {
+        Instr::CheckTarget {
+            set,
+            coordinates,
+            ..
+        } => {
+            let extents = m.geometry(*set).extents();
+            any_outside(m, extents, coordinates.as_slice(), args, position)
+        }
+        Instr::CheckGrid { set, steps, .. } => {
+            any_leaves(m.geometry(*set), steps.as_slice(), args, position)
+        }
+        Instr::CheckDivisor { source, .. } => field(m, *source, position) == 0,
+        _ => false,
     }
 }

@@ -9,6 +9,6 @@ mod elements;
 mod operands;
 mod reading;
 
-pub use checks::{any_leaves, any_outside, checking_set};
+pub use checks::{checked_set, fails};
 pub use elements::element;
 pub use reading::Readable;

@@ -1,0 +1,10 @@
+//! The elementwise instructions and the checks, over blocks of 512 positions, by any number of
+//! workers.
+#![tactic(auto)]
+
+mod everywhere;
+mod in_block;
+mod lanes;
+mod writes;
+
+pub use everywhere::run;
