@@ -84,10 +84,10 @@ destination_runs shapes (I.LogandcContextWithTest set) args can is = ((flag_runs
 destination_runs shapes _ args can is = cc
 
 -- the fields among coordinates that are checked are of the set whose processors check
-abbrev AreAllTogether : List SetShape → List SignedCoordinate → Type 0
+abbrev pub AreAllTogether : List SetShape → List SignedCoordinate → Type 0
 AreAllTogether shapes cs = All (λ c. All (λ e. AreTogether shapes (coordinate_of c) (coordinate_of e)) cs) cs
 
-of_set : (shapes : List SetShape) (target : ℕ) (cs : List SignedCoordinate) → All (λ c. CoordinateExists shapes (coordinate_of c)) cs → AreAllTogether shapes cs
+pub of_set : (shapes : List SetShape) (target : ℕ) (cs : List SignedCoordinate) → All (λ c. CoordinateExists shapes (coordinate_of c)) cs → AreAllTogether shapes cs
     → (k : ℕ) (d : SignedCoordinate) → k < length cs → (f : Field) → coordinate_of (get_or cs k d) ≡ C.Field f → f.set ≡ set_of_coordinates target cs
 of_set shapes target [] there pairs k d b f is = absurd (omega arith)
 of_set shapes target (c ∷ cs) there pairs k d b f is =

@@ -2,8 +2,7 @@
 use Rattle.std.proofs.Common.{◌≡◌, ℕ, suc, zero, ◌+◌, ◌*◌, ◌/◌, ◌%◌, ◌^◌, ◌<◌, sym, ◌∙◌, ap, arith, add_comm, mul_comm}
 use Rattle.std.specs.Int.{bit_at}
 use Rattle.std.proofs.Math.Numerals.{one-add}
-use Rattle.std.proofs.lemmas.Nat.{mod-pow-add, shr-shr, div-add-mod'}
-use Rattle.std.proofs.lemmas.Nat.Bits.{bit_at_cat_low}
+use Rattle.std.proofs.lemmas.Nat.{mod-pow-add}
 use Rattle.paris_code.specs.Memory.{run_number}
 
 -- the number of a run by its bits
