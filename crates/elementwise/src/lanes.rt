@@ -14,7 +14,7 @@ use bit_planes::Block;
 use bit_planes::plane::lane;
 use block_store::SetPlan;
 use paris_code::{Field, Instr};
-use phase_meaning::{Readable, element};
+use phase_elements::{Readable, element};
 use vp_sets::Geometry;
 
 /// A block, and what the sets of its machine are made after.

@@ -1,7 +1,5 @@
 pub mod Addresses
 pub mod Alike
-pub mod Checked
-pub mod Coordinates
 pub mod Entries
 pub mod FieldLemmas
 pub mod Lines

@@ -7,9 +7,9 @@ ghost use Rattle.paris_code.specs.Operands.{coordinate_of};
 ghost use Rattle.paris_code.specs.RuleSet.{axis_of};
 ghost use Rattle.vp_sets.specs.Positions.{position_count};
 ghost use Rattle.phase_meaning.specs.Apply.{CanApply, IsPosition};
-ghost use Rattle.phase_meaning.specs.Reads.{IsCoordinateIn};
+ghost use Rattle.phase_elements.specs.Reads.{IsCoordinateIn};
 
-use crate::arith::{signed, whole};
+use phase_meaning::arith::{signed, whole};
 use crate::operands::{behind, behind_step, next};
 use crate::reading::{Readable, field, word};
 use paris_code::{Coordinate, GridStep, Instr, Konst, SignedCoordinate};
@@ -109,7 +109,7 @@ pub fn checked_set(instr: &Instr) -> u16
 }
 
 /// Whether the check fails at a processor.
-#[tactic(auto, using(crate::proofs::FieldLemmas::lies))]
+#[tactic(auto, using(phase_meaning::proofs::FieldLemmas::lies))]
 pub fn fails<M: Readable>(m: &M, instr: &Instr, args: &[u32], position: u32) -> bool
     requires can { CanApply (M.shapes m.now) instr.now args.now }
     requires position { IsPosition (M.shapes m.now) (checked_set instr.now) position }

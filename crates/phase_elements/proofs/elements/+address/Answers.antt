@@ -1,6 +1,6 @@
 use Rattle.std.proofs.Common.{◌+◌, ◌*◌, ◌%◌, ◌^◌, subst}
 use Rattle.phase_meaning.proofs.Addresses.{Goes, goes_end, goes_on}
-use Rattle.phase_meaning.proofs.elements.+address.Goals as goal
+use Rattle.phase_elements.proofs.elements.+address.Goals as goal
 
 pub returns-in-Some-Some : goal.returns-in-Some-Some
 returns-in-Some-Some g t c =

@@ -10,7 +10,7 @@ use Rattle.paris_code.specs.RuleField.{CoordinateFits}
 use Rattle.paris_code.specs.RuleOperands.{IsWith, CoordinateIsWith}
 use Rattle.paris_code.specs.RuleSet.{FieldExists, CoordinateExists}
 use Rattle.paris_code.specs.Shapes.{SetShape}
-use Rattle.phase_meaning.specs.Reads.{IsCoordinateIn}
+use Rattle.phase_elements.specs.Reads.{IsCoordinateIn}
 use Rattle.phase_meaning.proofs.FieldLemmas.{AreAllTogether, lies, of_set}
 
 -- another field of the set of one that can be read

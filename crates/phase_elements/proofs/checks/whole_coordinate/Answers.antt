@@ -3,7 +3,7 @@ use Rattle.std.proofs.lemmas.Int.{to_z-of_z}
 use Rattle.cstar_base.specs.Numbers.{number_of}
 use Rattle.paris_code.specs.declared.operands.Coordinate.{Coordinate}
 use Rattle.paris_code.specs.Arguments.{coordinate_whole}
-use Rattle.phase_meaning.proofs.checks.whole_coordinate.Goals as goal
+use Rattle.phase_elements.proofs.checks.whole_coordinate.Goals as goal
 
 pub returns-in-Field : goal.returns-in-Field
 returns-in-Field g c =

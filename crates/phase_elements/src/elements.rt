@@ -5,9 +5,9 @@ ghost use Rattle.vp_sets.specs.Positions.{position_count, number_at};
 ghost use Rattle.paris_code.specs.Arguments.{coordinate_number, coordinate_numbers};
 ghost use Rattle.paris_code.specs.Elementwise.{element, destination};
 ghost use Rattle.phase_meaning.specs.Apply.{CanApply, IsPosition, active_set};
-ghost use Rattle.phase_meaning.specs.Reads.{IsCoordinateIn};
+ghost use Rattle.phase_elements.specs.Reads.{IsCoordinateIn};
 
-use crate::arith::{holds, mask, operate};
+use phase_meaning::arith::{holds, mask, operate};
 use crate::operands::{behind, konst, next};
 use crate::reading::{Readable, field, word};
 use paris_code::{Coordinate, Instr};
@@ -47,7 +47,7 @@ fn address<M: Readable>(
 }
 
 /// What an elementwise instruction gives its destination at a processor.
-#[tactic(auto, using(crate::proofs::FieldLemmas::lies))]
+#[tactic(auto, using(phase_meaning::proofs::FieldLemmas::lies))]
 pub fn element<M: Readable>(m: &M, instr: &Instr, args: &[u32], position: u32) -> u32
     requires can { CanApply (M.shapes m.now) instr.now args.now }
     requires position { IsPosition (M.shapes m.now) (active_set instr.now) position }

@@ -4,9 +4,9 @@ use Rattle.paris_code.specs.declared.operands.SignedCoordinate.{SignedCoordinate
 use Rattle.paris_code.specs.Checking.{checked_set}
 use Rattle.paris_code.specs.Operands.{coordinate_of}
 use Rattle.phase_meaning.specs.Apply.{CanApply}
-use Rattle.phase_meaning.specs.Reads.{IsCoordinateIn}
-use Rattle.phase_meaning.proofs.Coordinates.{checked_in}
-use Rattle.phase_meaning.proofs.checks.fails.Goals as goal
+use Rattle.phase_elements.specs.Reads.{IsCoordinateIn}
+use Rattle.phase_elements.proofs.Coordinates.{checked_in}
+use Rattle.phase_elements.proofs.checks.fails.Goals as goal
 
 pub any_outside-requires : goal.any_outside-requires
 any_outside-requires g c =

@@ -2,7 +2,7 @@ use Rattle.std.proofs.Common.{◌∙◌, ap}
 use Rattle.cstar_base.specs.Numbers.{residue, number_of}
 use Rattle.paris_code.specs.Memory.{whole_number}
 use Rattle.phase_meaning.proofs.Widths.{number_in_word}
-use Rattle.phase_meaning.proofs.reading.word.Goals as goal
+use Rattle.phase_elements.proofs.reading.word.Goals as goal
 
 pub returns-clause-value : goal.returns-clause-value
 unfolding whole_number

@@ -6,7 +6,7 @@ ghost use Rattle.paris_code.specs.Memory.{BitMemory, field_number, whole_number,
 ghost use Rattle.paris_code.specs.Shapes.{SetShape, extents_at};
 ghost use Rattle.phase_meaning.specs.Apply.{IsRun, LiesIn};
 
-use crate::arith::extended;
+use phase_meaning::arith::extended;
 use paris_code::Field;
 use vp_sets::Geometry;
 

@@ -14,8 +14,8 @@ use Rattle.paris_code.specs.Memory.{BitMemory, whole_number}
 use Rattle.paris_code.specs.Operands.{coordinate_of}
 use Rattle.paris_code.specs.Shapes.{SetShape, extents_at}
 use Rattle.phase_meaning.specs.Apply.{CanApply}
-use Rattle.phase_meaning.specs.Reads.{IsCoordinateIn}
-use Rattle.phase_meaning.proofs.Coordinates.{checked_in}
+use Rattle.phase_elements.specs.Reads.{IsCoordinateIn}
+use Rattle.phase_elements.proofs.Coordinates.{checked_in}
 use Rattle.phase_meaning.proofs.FieldLemmas.{lies}
 use Rattle.phase_meaning.proofs.Locality.{AgreeAt, field_same}
 

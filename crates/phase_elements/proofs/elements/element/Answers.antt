@@ -14,7 +14,7 @@ use Rattle.paris_code.specs.Shapes.{SetShape, extents_at}
 use Rattle.phase_meaning.specs.Apply.{CanApply}
 use Rattle.phase_meaning.proofs.FieldLemmas.{lies}
 use Rattle.phase_meaning.proofs.Widths.{residue_within, complement_cut, negative_cut, cut_cut}
-use Rattle.phase_meaning.proofs.elements.element.Goals as goal
+use Rattle.phase_elements.proofs.elements.element.Goals as goal
 
 -- a word has the lowest bits of what the instruction gives
 abbrev Gives : List SetShape → BitMemory → List ℕ → ℕ → ℕ → Instr → Type 0
