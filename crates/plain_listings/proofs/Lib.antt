@@ -2,3 +2,5 @@ pub mod Cuts
 pub mod Numbers
 pub mod OperandTexts
 pub mod Table
+pub mod Instructions
+pub mod Lines

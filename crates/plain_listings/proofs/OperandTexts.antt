@@ -454,11 +454,12 @@ abbrev pub AreSolid : List (List ℕ) → Type 0
 AreSolid [] = Unit {0}
 AreSolid (w ∷ ws) = Solid w × AreSolid ws
 
-module _ {A : Type 0} (P : A → Type 0) (text : A → List ℕ) where
-  pub all_back : (read : List ℕ → A) → ((x : A) → P x → read (text x) ≡ x) → (xs : List A) → All P xs → map read (map text xs) ≡ xs
+module _ {A B : Type 0} (P : A → Type 0) (text : A → B) where
+  pub all_back : (read : B → A) → ((x : A) → P x → read (text x) ≡ x) → (xs : List A) → All P xs → map read (map text xs) ≡ xs
   all_back read back [] h = refl
   all_back read back (x ∷ xs) h = ap₂ (λ y ys. y ∷ ys) (back x (first_of_all P x xs h)) (all_back read back xs (others_of_all P x xs h))
 
+module _ {A : Type 0} (P : A → Type 0) (text : A → List ℕ) where
   pub all_solid : ((x : A) → P x → Solid (text x)) → (xs : List A) → All P xs → AreSolid (map text xs)
   all_solid solid [] h = tt
   all_solid solid (x ∷ xs) h = (solid x (first_of_all P x xs h), all_solid solid xs (others_of_all P x xs h))

@@ -1,5 +1,5 @@
 -- What an image holds, wherever its lists are kept; and that its listing determines it.
-use Rattle.std.specs.Prelude.{◌≡◌, ℕ, ◌<◌, ◌^◌, List, map, All, Option, Some, None}
+use Rattle.std.specs.Prelude.{◌≡◌, ℕ, ◌<◌, ◌^◌, List, map, length, All, Option, Some, None}
 use Rattle.cstar_base.specs.declared.operators.Place.{Place}
 use Rattle.paris_code.specs.declared.operands.Field.{Field}
 use Rattle.paris_code.specs.declared.operands.Konst.{Konst}
@@ -141,8 +141,9 @@ FinalHasWords last = FieldHasWords last.field
 abbrev pub EntryHasWords : Entry → Type 0
 EntryHasWords entry = IsWord entry.start
 
--- the numbers of an image are those of their types, and so are the counts of its items
+-- the numbers of an image are words, and its shapes, units and instructions can be numbered by words
 pub record HasWords (image : Image) : Type 0 where
+  pub numbered : IsWord (length image.shapes.items) × IsWord (length image.units.items) × IsWord (length image.code.items)
   pub shapes : All ShapeHasWords image.shapes.items
   pub slots : IsWord image.slots
   pub depth : IsWord image.depth
