@@ -4,3 +4,4 @@ pub mod OperandTexts
 pub mod Table
 pub mod Instructions
 pub mod Lines
+pub mod Parts

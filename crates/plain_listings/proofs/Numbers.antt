@@ -23,7 +23,7 @@ digits n h = decimal_by_steps (λ m ds. only is_digit ds ≡ true) (λ m l. both
     (λ m ds l g. only_append is_digit ds ((48 + m % 10) ∷ []) g (both (is_digit (48 + m % 10)) true (digit (m % 10) (omega arith)) refl)) n (omega arith)
 
 -- a byte that is no digit is none of them
-other : (c : ℕ) → is_digit c ≡ false → (b : ℕ) → is_digit b ≡ true → lacks c b ≡ true
+pub other : (c : ℕ) → is_digit c ≡ false → (b : ℕ) → is_digit b ≡ true → lacks c b ≡ true
 other c e b h = grind (arith, nat_tests)
 
 pub without : (c n : ℕ) → is_digit c ≡ false → IsWord n → only (lacks c) (decimal n) ≡ true
@@ -33,7 +33,7 @@ without c n e h = only_weaker is_digit (lacks c) (other c e) (decimal n) (digits
 abbrev pub is_solid : ℕ → Bool
 is_solid b = nat_lt 32 b
 
-solid_digit : (b : ℕ) → is_digit b ≡ true → is_solid b ≡ true
+pub solid_digit : (b : ℕ) → is_digit b ≡ true → is_solid b ≡ true
 solid_digit b h = grind (arith, nat_tests)
 
 pub number_solid : (n : ℕ) → IsWord n → only is_solid (decimal n) ≡ true

@@ -57,6 +57,10 @@ pub marked_back : (mark n : ℕ) → IsWord n → marked_in (mark ∷ (decimal n
 unfolding marked_in
 marked_back mark n h = ap value (append-nil (decimal n)) ∙ value_back n h
 
+pub mark_back : (mark n : ℕ) → IsWord n → marked_in (mark ∷ decimal n) ≡ n
+unfolding marked_in
+mark_back mark n h = value_back n h
+
 pub marked_solid : (mark n : ℕ) → is_solid mark ≡ true → IsWord n → Solid (mark ∷ (decimal n ++ []))
 marked_solid mark n s h = both (is_solid mark) (only is_solid (decimal n ++ [])) s (nothing_behind is_solid (decimal n) (number_solid n h))
 

@@ -28,15 +28,15 @@ record Reader : Type 0 where
 abbrev row : List ℕ → (Operands → Content) → Reader
 row name reads = record { name = name; reads = reads }
 
-abbrev same_text : List ℕ → List ℕ → Bool
-same_text [] [] = true
-same_text [] (b ∷ bs) = false
-same_text (a ∷ xs) [] = false
-same_text (a ∷ xs) (b ∷ bs) = a == b && same_text xs bs
+abbrev pub spells : List ℕ → List ℕ → Bool
+spells [] [] = true
+spells [] (b ∷ bs) = false
+spells (a ∷ xs) [] = false
+spells (a ∷ xs) (b ∷ bs) = a == b && spells xs bs
 
 abbrev found : List ℕ → List Reader → Operands → Content
 found name [] ops = Plain I.FrontHalt
-found name (r ∷ rs) ops = cond (same_text name r.name) (r.reads ops) (found name rs ops)
+found name (r ∷ rs) ops = cond (spells name r.name) (r.reads ops) (found name rs ops)
 
 abbrev all_ops : List Operation
 all_ops = P.SAdd ∷ P.SSubtract ∷ P.SMultiply ∷ P.STruncate ∷ P.UTruncate ∷ P.SRem ∷ P.URem ∷ P.SMod ∷ P.SMin ∷ P.UMin ∷ P.SMax ∷ P.UMax ∷ P.Logand ∷ P.Logior ∷ P.Logxor ∷ P.UShiftLeft ∷ P.SShiftRight ∷ P.UShiftRight ∷ []
