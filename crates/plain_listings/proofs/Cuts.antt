@@ -1,5 +1,5 @@
 -- A text that is cut at each place where a byte stands.
-use Rattle.std.proofs.Common.{◌≡◌, ℕ, zero, suc, Bool, true, false, cond, not, ◌&&◌, ◌==◌, List, [], ◌∷◌, ◌++◌, eq-eqb, refl, sym, ap, ◌∙◌}
+use Rattle.std.proofs.Common.{◌≡◌, ℕ, Bool, true, false, cond, not, ◌&&◌, ◌==◌, List, [], ◌∷◌, ◌++◌, eq-eqb, refl, sym, ap, ◌∙◌}
 
 -- two tests that both pass
 pub and_left : (a b : Bool) → (a && b) ≡ true → a ≡ true

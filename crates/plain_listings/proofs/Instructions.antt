@@ -1,6 +1,6 @@
 -- What is read of the row of an instruction is what it holds, and no blank and no newline stands in
 -- its words.
-use Rattle.std.proofs.Common.{◌≡◌, ℕ, Bool, true, false, List, [], ◌∷◌, ◌++◌, map, refl, ap, ap₂, ◌∙◌}
+use Rattle.std.proofs.Common.{◌≡◌, Bool, true, false, [], ◌++◌, refl, ap, ap₂, ◌∙◌}
 use Rattle.std.specs.Prelude.{codes}
 use Rattle.paris_code.specs.declared.operands.Operation.{Operation}
 use Rattle.paris_code.specs.declared.operands.Operation.TheVariants as P
@@ -16,7 +16,7 @@ use Rattle.paris_code.specs.Mnemonics.{sign_name, operation_name, relation_name,
 use Rattle.paris_code.specs.Listing.{operands_of, register_text, coordinate_text, checked_text, checked_register_text, step_text, mode_text, bit_text, inclusion_text}
 use Rattle.plain_listings.specs.Contents.{content, IsWord, CoordinateHasWords, CheckedHasWords, RegisterHasWords, StepHasWords, InstrHasWords}
 use Rattle.plain_listings.specs.Contents.Content.{Plain, MakesAddress, ChecksTarget, ChecksGrid, FrontMakesAddress, FrontChecksTarget}
-use Rattle.plain_listings.proofs.Cuts.{only, only_append}
+use Rattle.plain_listings.proofs.Cuts.{only_append}
 use Rattle.plain_listings.proofs.Numbers.{is_solid}
 use Rattle.plain_listings.proofs.OperandTexts.{Solid, AreSolid, all_back, all_solid, field_back, konst_back, marked_back, place_back, kind_back, direction_back, mode_back, inclusion_back, bit_back, bytes_back, coordinate_back, checked_back, step_back, checked_register_back, field_solid, konst_solid, marked_solid, place_solid, kind_solid, direction_solid, mode_solid, inclusion_solid, bit_solid, bytes_solid, coordinate_solid, checked_solid, step_solid, checked_register_solid, coordinate_in, checked_in, step_in, checked_register_in, marked_in, mode_in, bit_in, inclusion_in}
 use Rattle.plain_listings.proofs.Table.{instruction_in, reads_move, reads_move_constant, reads_move_zero_always, reads_move_always, reads_my_news_coordinate, reads_make_address, reads_operate, reads_operate_constant, reads_negate, reads_lognot, reads_compare, reads_eq_zero, reads_ne_zero, reads_load_test, reads_store_test, reads_load_context, reads_store_context, reads_set_context, reads_logand_context_with_test, reads_logandc_context_with_test, reads_check_target, reads_check_grid, reads_check_divisor, reads_get_from_news, reads_get_from_news_always, reads_get, reads_send_with_overwrite, reads_send_with_combiner, reads_global, reads_scan, reads_read_from_processor, reads_write_to_processor, reads_front_const, reads_front_move, reads_front_operate, reads_front_compare, reads_front_negate, reads_front_lognot, reads_front_convert, reads_front_make_address, reads_front_check_target, reads_front_check_divisor, reads_front_jump, reads_front_jump_zero, reads_front_jump_nonzero, reads_front_turn, reads_front_call, reads_front_return, reads_front_put_bytes, reads_front_put, reads_front_get_byte, reads_front_halt}

@@ -5,3 +5,4 @@ pub mod Table
 pub mod Instructions
 pub mod Lines
 pub mod Parts
+pub mod Determined

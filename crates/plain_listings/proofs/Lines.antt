@@ -1,12 +1,11 @@
 -- Lines: rows of words that are joined by blanks and ended by newlines. What is cut at newlines and then
 -- at blanks is those rows, and behind them one without a word.
-use Rattle.std.proofs.Common.{◌≡◌, ℕ, zero, suc, ◌<◌, ◌≤◌, ◌+◌, ◌^◌, Bool, true, false, cond, ◌==◌, List, [], ◌∷◌, ◌++◌, map, length, append_assoc, append-nil, eq-eqb, refl, sym, ap, ap₂, ◌∙◌, arith}
+use Rattle.std.proofs.Common.{◌≡◌, ℕ, ◌≤◌, ◌+◌, ◌^◌, Bool, true, false, cond, ◌==◌, List, [], ◌∷◌, ◌++◌, map, length, append_assoc, append-nil, eq-eqb, refl, sym, ap, ap₂, ◌∙◌, arith}
 use Rattle.std.specs.Prelude.{flat_map, filter, All}
-use Rattle.std.proofs.lemmas.List.Concat.{flat_map-append}
 use Rattle.std.proofs.lemmas.Bool.Decides.{nat_tests}
 use Rattle.paris_code.specs.Listing.{numbered}
 use Rattle.plain_listings.specs.Contents.{IsWord}
-use Rattle.plain_listings.proofs.Cuts.{only, only_append, only_weaker, both, lacks, cut, cut_alone, cut_first}
+use Rattle.plain_listings.proofs.Cuts.{only, only_append, only_weaker, lacks, cut, cut_alone, cut_first}
 use Rattle.plain_listings.proofs.Numbers.{is_solid}
 use Rattle.plain_listings.proofs.OperandTexts.{Solid, AreSolid, first_of_all, others_of_all}
 

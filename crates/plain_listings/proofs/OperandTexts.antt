@@ -1,7 +1,7 @@
 -- The operands that texts are of: what is read of the text of an operand is that operand, and no blank
 -- and no newline stands in the text.
-use Rattle.std.proofs.Common.{◌≡◌, ℕ, zero, suc, ◌<◌, ◌≤◌, ◌+◌, ◌-◌, ◌*◌, ◌/◌, ◌%◌, ◌^◌, ◌⊎◌, Bool, true, false, cond, not, ◌&&◌, ◌||◌, ◌==◌, List, [], ◌∷◌, ◌++◌, map, append-nil, eqb-true, subst, refl, sym, ap, ap₂, ◌∙◌, inl, inr, arith, Option, Some, None}
-use Rattle.std.specs.Prelude.{decimal, nat_lt, nat_le, slice_index, slice_index_or, codes, if◌then◌else◌, flat_map, All}
+use Rattle.std.proofs.Common.{◌≡◌, ℕ, zero, suc, ◌<◌, ◌+◌, ◌*◌, ◌/◌, ◌%◌, ◌⊎◌, Bool, true, false, cond, ◌&&◌, ◌==◌, List, [], ◌∷◌, ◌++◌, map, append-nil, eqb-true, subst, refl, sym, ap, ap₂, ◌∙◌, inl, inr, arith, Option, Some, None}
+use Rattle.std.specs.Prelude.{decimal, slice_index_or, codes, if◌then◌else◌, flat_map, All}
 use Rattle.std.specs.List.{concat}
 use Rattle.std.proofs.Math.Bool.{Bool-set}
 use Rattle.std.specs.Char.{digit_value}
@@ -27,7 +27,7 @@ use Rattle.paris_code.specs.declared.operands.GridStep.{GridStep}
 use Rattle.paris_code.specs.Mnemonics.{sign_name}
 use Rattle.paris_code.specs.Listing.{field_text, konst_text, place_text, kind_text, coordinate_text, read_text, checked_text, checked_register_text, step_text, direction_text, mode_text, bit_text, inclusion_text, register_text, hex_digit, hex_text, bytes_text}
 use Rattle.plain_listings.specs.Contents.{IsWord, FieldHasWords, PlaceHasWords, KonstHasWords, CoordinateHasWords, CheckedHasWords, RegisterHasWords, StepHasWords, BitHasWords}
-use Rattle.plain_listings.proofs.Cuts.{only, only_append, only_weaker, and_left, and_right, both, lacks, cut, cut_alone, cut_first}
+use Rattle.plain_listings.proofs.Cuts.{only, only_append, and_left, and_right, both, lacks, cut, cut_alone, cut_first}
 use Rattle.plain_listings.proofs.Numbers.{value, value_back, without, is_solid, number_solid}
 
 -- a piece, and the first byte of a text
@@ -268,8 +268,8 @@ pub step_back : (s : GridStep) → StepHasWords s → step_in (step_text s) ≡ 
 unfolding step_in
 step_back s h =
     ap step_of_cut (
-      cut_first 61 (97 ∷ (decimal s.axis ++ [])) (konst_text s.step ++ []) (marked_lacks 61 97 s.axis refl (without 61 s.axis refl h.0))
-      ∙ ap (λ ws. (97 ∷ (decimal s.axis ++ [])) ∷ ws) (cut_alone 61 (konst_text s.step ++ []) (konst_lacks s.step h.1) ∙ ap (λ w. w ∷ []) (append-nil (konst_text s.step)))
+    cut_first 61 (97 ∷ (decimal s.axis ++ [])) (konst_text s.step ++ []) (marked_lacks 61 97 s.axis refl (without 61 s.axis refl h.0))
+    ∙ ap (λ ws. (97 ∷ (decimal s.axis ++ [])) ∷ ws) (cut_alone 61 (konst_text s.step ++ []) (konst_lacks s.step h.1) ∙ ap (λ w. w ∷ []) (append-nil (konst_text s.step)))
     ) ∙ step_parts s h
 
 pub step_solid : (s : GridStep) → StepHasWords s → Solid (step_text s)

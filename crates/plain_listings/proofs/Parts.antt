@@ -1,26 +1,24 @@
 -- The rows of an image: those of its shapes, its registers, its open calls, its finals, its units and
 -- its instructions, which their first words tell apart; and what is read of each.
-use Rattle.std.proofs.Common.{◌≡◌, ℕ, zero, suc, ◌<◌, ◌≤◌, ◌+◌, ◌^◌, Bool, true, false, cond, ◌&&◌, ◌==◌, List, [], ◌∷◌, ◌++◌, map, map-id, length, drop, append_assoc, append-nil, inl, inr, subst, refl, sym, ap, ap₂, ◌∙◌, arith}
+use Rattle.std.proofs.Common.{◌≡◌, ℕ, ◌<◌, Bool, true, false, cond, ◌==◌, List, [], ◌∷◌, ◌++◌, map, length, drop, append_assoc, inl, inr, subst, refl, sym, ap, ap₂, ◌∙◌, arith}
 use Rattle.std.specs.Prelude.{flat_map, All, codes, decimal}
 use Rattle.std.proofs.lemmas.Fmt.{decimal_nonempty}
-use Rattle.std.proofs.lemmas.List.Concat.{flat_map-append}
 use Rattle.std.proofs.lemmas.Bool.Decides.{nat_tests}
 use Rattle.paris_code.specs.declared.instr.Instr.{Instr}
 use Rattle.paris_code.specs.declared.program.Entry.{Entry}
 use Rattle.paris_code.specs.declared.program.Final.{Final}
-use Rattle.paris_code.specs.declared.program.Image.{Image}
 use Rattle.paris_code.specs.declared.program.ShapeBits.{ShapeBits}
-use Rattle.paris_code.specs.Listing.{listing, numbered, shape_line, slots_line, depth_line, final_line, unit_line, instruction_line, extent_text, kind_text, field_text, spaced, operands_of}
+use Rattle.paris_code.specs.Listing.{shape_line, final_line, unit_line, instruction_line, extent_text, kind_text, field_text, spaced, operands_of}
 use Rattle.paris_code.specs.Mnemonics.{mnemonic_of}
-use Rattle.paris_code.specs.Plain.{IsPlain, IsName, IsNumeral, IsElementName, begins_name, goes_on_name, is_digit, unit_name, final_name}
+use Rattle.paris_code.specs.Plain.{IsName, IsNumeral, IsElementName, begins_name, goes_on_name, is_digit, unit_name, final_name}
 use Rattle.paris_code.specs.Shapes.{SetShape, shape_of}
-use Rattle.plain_listings.specs.Contents.{Content, content, IsWord, ShapeHasWords, FinalHasWords, EntryHasWords, InstrHasWords, HasWords}
-use Rattle.plain_listings.proofs.Cuts.{only, only_append, only_weaker, both, and_left, off, lacks, cut, cut_first}
+use Rattle.plain_listings.specs.Contents.{Content, content, IsWord, ShapeHasWords, FinalHasWords, EntryHasWords, InstrHasWords}
+use Rattle.plain_listings.proofs.Cuts.{only, only_append, both, and_left, off, lacks, cut, cut_first}
 use Rattle.plain_listings.proofs.Numbers.{value, value_back, digits, other, without, is_solid, number_solid, solid_digit}
-use Rattle.plain_listings.proofs.OperandTexts.{Solid, AreSolid, piece, marked_in, mark_back, kind_in, field_in, kind_back, field_back, kind_solid, field_solid, first_of_all, others_of_all}
+use Rattle.plain_listings.proofs.OperandTexts.{Solid, piece, marked_in, mark_back, kind_in, field_in, kind_back, field_back, kind_solid, field_solid, first_of_all, others_of_all}
 use Rattle.plain_listings.proofs.Table.{instruction_in, spells}
 use Rattle.plain_listings.proofs.Instructions.{instr_back, mnemonic_solid, operands_solid}
-use Rattle.plain_listings.proofs.Lines.{Row, line_of, rest_of, IsRow, Each, numbered_rows, numbered_lines, numbered_each}
+use Rattle.plain_listings.proofs.Lines.{Row, line_of, rest_of, IsRow}
 
 -- names have no blank and no newline
 name_byte : (b : ℕ) → goes_on_name b ≡ true → is_solid b ≡ true

@@ -454,4 +454,3 @@ reads_front_get_byte ops = refl
 pub reads_front_halt : (ops : Operands) → instruction_in (codes "FE_halt") ops ≡ Plain I.FrontHalt
 unfolding instruction_in
 reads_front_halt ops = refl
-

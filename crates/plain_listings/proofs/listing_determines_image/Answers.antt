@@ -1,5 +1,5 @@
+use Rattle.plain_listings.proofs.Determined.{determines}
 use Rattle.plain_listings.proofs.listing_determines_image.Goals as goal
-use Rattle.plain_listings.proofs.Parts.{code_back}
 
 pub returns : goal.returns
-returns c = ?
+returns c = determines
