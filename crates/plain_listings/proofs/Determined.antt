@@ -8,7 +8,8 @@ use Rattle.paris_code.specs.declared.program.Image.{Image}
 use Rattle.paris_code.specs.Listing.{listing, shape_line, slots_line, depth_line, final_line, unit_line, instruction_line}
 use Rattle.paris_code.specs.Plain.{IsPlain, IsName, IsElementName, unit_name, final_name}
 use Rattle.paris_code.specs.Shapes.{shape_of, shapes_of}
-use Rattle.plain_listings.specs.Contents.{content, ShapeHasWords, FinalHasWords, EntryHasWords, InstrHasWords, HasWords, DeterminesImage}
+use Rattle.lower_comm.specs.Drafts.{step}
+use Rattle.plain_listings.specs.Contents.{ShapeHasWords, FinalHasWords, EntryHasWords, InstrHasWords, HasWords, DeterminesImage}
 use Rattle.plain_listings.proofs.OperandTexts.{first_of_all, others_of_all, all_back}
 use Rattle.plain_listings.proofs.Lines.{Row, line_of, IsRow, Each, each_append, rows_in, rows_back, no_word, numbered_rows, numbered_lines, numbered_each, numbered_back, pick, pick_append, pick_same, pick_other, Labelled}
 use Rattle.plain_listings.proofs.Parts.{shape_row, slots_row, depth_row, final_row, unit_row, code_row, shape_is, unit_is, code_is, shape_is_row, number_is_row, final_is_row, unit_is_row, code_is_row, label, shape_label, number_labels, final_label, unit_label, code_label, label_of_none, shape_in, shape_back, number_in, slots_back, depth_back, final_in, final_back, unit_in, unit_back, code_in, code_back}
@@ -195,8 +196,8 @@ module _ (image : Image) (plain : IsPlain image) (words : HasWords image) where
   units_read : map unit_in (part_in 4 (listing image)) ≡ image.units.items
   units_read = ap (map unit_in) units_part ∙ numbered_back unit_row unit_in (λ u. u) EntryHasWords unit_back 0 image.units.items words.units ∙ map-id image.units.items
 
-  code_read : map code_in (part_in 5 (listing image)) ≡ map content image.code.items
-  code_read = ap (map code_in) code_part ∙ numbered_back code_row code_in content InstrHasWords code_back 0 image.code.items words.code
+  code_read : map code_in (part_in 5 (listing image)) ≡ map step image.code.items
+  code_read = ap (map code_in) code_part ∙ numbered_back code_row code_in step InstrHasWords code_back 0 image.code.items words.code
 
 -- so what is read of one listing is what both images hold
 only_item : List ℕ → ℕ

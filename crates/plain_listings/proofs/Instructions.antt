@@ -14,8 +14,9 @@ use Rattle.paris_code.specs.declared.instr.Instr.{Instr}
 use Rattle.paris_code.specs.declared.instr.Instr.TheVariants as I
 use Rattle.paris_code.specs.Mnemonics.{sign_name, operation_name, relation_name, reduction_name, format_name, mnemonic_of}
 use Rattle.paris_code.specs.Listing.{operands_of, register_text, coordinate_text, checked_text, checked_register_text, step_text, mode_text, bit_text, inclusion_text}
-use Rattle.plain_listings.specs.Contents.{content, IsWord, CoordinateHasWords, CheckedHasWords, RegisterHasWords, StepHasWords, InstrHasWords}
-use Rattle.plain_listings.specs.Contents.Content.{Plain, MakesAddress, ChecksTarget, ChecksGrid, FrontMakesAddress, FrontChecksTarget}
+use Rattle.lower_comm.specs.Drafts.{step}
+use Rattle.plain_listings.specs.Contents.{IsWord, CoordinateHasWords, CheckedHasWords, RegisterHasWords, StepHasWords, InstrHasWords}
+use Rattle.lower_comm.specs.Drafts.Step.{Plain, MakesAddress, ChecksTarget, ChecksGrid, FrontMakesAddress, FrontChecksTarget}
 use Rattle.plain_listings.proofs.Cuts.{only_append}
 use Rattle.plain_listings.proofs.Numbers.{is_solid}
 use Rattle.plain_listings.proofs.OperandTexts.{Solid, AreSolid, all_back, all_solid, field_back, konst_back, marked_back, place_back, kind_back, direction_back, mode_back, inclusion_back, bit_back, bytes_back, coordinate_back, checked_back, step_back, checked_register_back, field_solid, konst_solid, marked_solid, place_solid, kind_solid, direction_solid, mode_solid, inclusion_solid, bit_solid, bytes_solid, coordinate_solid, checked_solid, step_solid, checked_register_solid, coordinate_in, checked_in, step_in, checked_register_in, marked_in, mode_in, bit_in, inclusion_in}
@@ -28,8 +29,8 @@ ap₃ f {a} {x} {b} {y} {c} {z} p q r = ap₂ (λ u v. f u v c) p q ∙ ap (f x 
 ap₄ : {A B C D E : Type 0} (f : A → B → C → D → E) {a x : A} {b y : B} {c z : C} {d w : D} → a ≡ x → b ≡ y → c ≡ z → d ≡ w → f a b c d ≡ f x y z w
 ap₄ f {a} {x} {b} {y} {c} {z} {d} {w} p q r s = ap₂ (λ u v. f u v c d) p q ∙ ap₂ (f x y) r s
 
-pub instr_back : (i : Instr) → InstrHasWords i → instruction_in (mnemonic_of i) (operands_of i) ≡ content i
-unfolding InstrHasWords mnemonic_of operands_of content
+pub instr_back : (i : Instr) → InstrHasWords i → instruction_in (mnemonic_of i) (operands_of i) ≡ step i
+unfolding InstrHasWords mnemonic_of operands_of step
 instr_back (I.Move signed d a) h = reads_move signed _ ∙ ap₂ (λ x y. Plain (I.Move signed x y)) (field_back d h.0) (field_back a h.1)
 instr_back (I.MoveConstant d k) h = reads_move_constant _ ∙ ap₂ (λ x y. Plain (I.MoveConstant x y)) (field_back d h.0) (konst_back k h.1)
 instr_back (I.MoveZeroAlways d) h = reads_move_zero_always _ ∙ ap (λ x. Plain (I.MoveZeroAlways x)) (field_back d h)

@@ -12,7 +12,8 @@ use Rattle.paris_code.specs.Listing.{shape_line, final_line, unit_line, instruct
 use Rattle.paris_code.specs.Mnemonics.{mnemonic_of}
 use Rattle.paris_code.specs.Plain.{IsName, IsNumeral, IsElementName, begins_name, goes_on_name, is_digit, unit_name, final_name}
 use Rattle.paris_code.specs.Shapes.{SetShape, shape_of}
-use Rattle.plain_listings.specs.Contents.{Content, content, IsWord, ShapeHasWords, FinalHasWords, EntryHasWords, InstrHasWords}
+use Rattle.lower_comm.specs.Drafts.{Step, step}
+use Rattle.plain_listings.specs.Contents.{IsWord, ShapeHasWords, FinalHasWords, EntryHasWords, InstrHasWords}
 use Rattle.plain_listings.proofs.Cuts.{only, only_append, both, and_left, off, lacks, cut, cut_first}
 use Rattle.plain_listings.proofs.Numbers.{value, value_back, digits, other, without, is_solid, number_solid, solid_digit}
 use Rattle.plain_listings.proofs.OperandTexts.{Solid, piece, marked_in, mark_back, kind_in, field_in, kind_back, field_back, kind_solid, field_solid, first_of_all, others_of_all}
@@ -219,9 +220,9 @@ pub unit_back : (n : ℕ) (u : Entry) → EntryHasWords u → unit_in (unit_row 
 unfolding unit_in
 unit_back n u h = ap (λ s. record { name = u.name; start = s }) (value_back u.start h)
 
-pub code_in : Row → Content
+pub code_in : Row → Step
 code_in row = instruction_in (piece row 1) (drop 2 row)
 
-pub code_back : (n : ℕ) (i : Instr) → InstrHasWords i → code_in (code_row n i) ≡ content i
+pub code_back : (n : ℕ) (i : Instr) → InstrHasWords i → code_in (code_row n i) ≡ step i
 unfolding code_in
 code_back n i h = instr_back i h

@@ -13,8 +13,8 @@ use Rattle.cstar_base.specs.declared.formats.NumberFormat.{NumberFormat}
 use Rattle.cstar_base.specs.declared.formats.NumberFormat.TheVariants as N
 use Rattle.paris_code.specs.declared.instr.Instr.TheVariants as I
 use Rattle.paris_code.specs.Mnemonics.{sign_name, operation_name, relation_name, reduction_name, format_name}
-use Rattle.plain_listings.specs.Contents.{Content}
-use Rattle.plain_listings.specs.Contents.Content.{Plain, MakesAddress, ChecksTarget, ChecksGrid, FrontMakesAddress, FrontChecksTarget}
+use Rattle.lower_comm.specs.Drafts.{Step}
+use Rattle.lower_comm.specs.Drafts.Step.{Plain, MakesAddress, ChecksTarget, ChecksGrid, FrontMakesAddress, FrontChecksTarget}
 use Rattle.plain_listings.proofs.OperandTexts.{piece, field_in, konst_in, marked_in, place_in, kind_in, direction_in, mode_in, inclusion_in, bit_in, bytes_in, coordinate_in, checked_in, step_in, checked_register_in}
 
 -- a mnemonic, and what is read of the operands behind it
@@ -23,9 +23,9 @@ Operands = List (List ℕ)
 
 record Reader : Type 0 where
   name : List ℕ
-  reads : Operands → Content
+  reads : Operands → Step
 
-abbrev row : List ℕ → (Operands → Content) → Reader
+abbrev row : List ℕ → (Operands → Step) → Reader
 row name reads = record { name = name; reads = reads }
 
 abbrev pub spells : List ℕ → List ℕ → Bool
@@ -34,7 +34,7 @@ spells [] (b ∷ bs) = false
 spells (a ∷ xs) [] = false
 spells (a ∷ xs) (b ∷ bs) = a == b && spells xs bs
 
-abbrev found : List ℕ → List Reader → Operands → Content
+abbrev found : List ℕ → List Reader → Operands → Step
 found name [] ops = Plain I.FrontHalt
 found name (r ∷ rs) ops = cond (spells name r.name) (r.reads ops) (found name rs ops)
 
@@ -147,7 +147,7 @@ table =
     ++ (map front_compare_row all_relations
     ++ (map front_put_row all_formats)))))))))))
 
-pub instruction_in : List ℕ → Operands → Content
+pub instruction_in : List ℕ → Operands → Step
 instruction_in name ops = found name table ops
 
 -- what each mnemonic reads

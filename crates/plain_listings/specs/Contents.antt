@@ -1,4 +1,5 @@
--- What an image holds, wherever its lists are kept; and that its listing determines it.
+-- What an image holds, wherever its lists are kept, its instructions as steps; and that its listing
+-- determines it.
 use Rattle.std.specs.Prelude.{◌≡◌, ℕ, ◌<◌, ◌^◌, List, map, length, All, Option, Some, None}
 use Rattle.cstar_base.specs.declared.operators.Place.{Place}
 use Rattle.paris_code.specs.declared.operands.Field.{Field}
@@ -18,23 +19,7 @@ use Rattle.paris_code.specs.declared.program.ShapeBits.{ShapeBits}
 use Rattle.paris_code.specs.Listing.{listing}
 use Rattle.paris_code.specs.Plain.{IsPlain}
 use Rattle.paris_code.specs.Shapes.{shapes_of}
-
--- An instruction, wherever its list of coordinates is kept: one with such a list has its items here.
-pub data Content : Type 0 where
-  Plain : Instr → Content
-  MakesAddress : Field → ℕ → List Coordinate → Content
-  ChecksTarget : ℕ → Place → List SignedCoordinate → Content
-  ChecksGrid : ℕ → Place → List GridStep → Content
-  FrontMakesAddress : ℕ → ℕ → List ℕ → Content
-  FrontChecksTarget : ℕ → Place → List RegisterCoordinate → Content
-
-unfoldable pub content : Instr → Content
-content (I.MakeAddress dest set coordinates) = MakesAddress dest set coordinates.items
-content (I.CheckTarget set place coordinates) = ChecksTarget set place coordinates.items
-content (I.CheckGrid set place steps) = ChecksGrid set place steps.items
-content (I.FrontMakeAddress dest set coordinates) = FrontMakesAddress dest set coordinates.items
-content (I.FrontCheckTarget set place coordinates) = FrontChecksTarget set place coordinates.items
-content instr = Plain instr
+use Rattle.lower_comm.specs.Drafts.{step}
 
 -- two images hold the same, item by item
 pub record SameImage (one other : Image) : Type 0 where
@@ -43,7 +28,7 @@ pub record SameImage (one other : Image) : Type 0 where
   pub depth : one.depth ≡ other.depth
   pub finals : one.finals.items ≡ other.finals.items
   pub units : one.units.items ≡ other.units.items
-  pub code : map content one.code.items ≡ map content other.code.items
+  pub code : map step one.code.items ≡ map step other.code.items
 
 -- a number of 32 bits, as every number of an image is
 abbrev pub IsWord : ℕ → Type 0
