@@ -16,7 +16,7 @@ use Rattle.paris_code.specs.declared.program.Reply.TheVariants as R
 use Rattle.paris_code.specs.Code.{CodeState, Mark, End, Broken, Next, Goes, Ends, Stopped, step, begun, begun_at, applied, controlled, set_or, with_register, with_printed, onward, jumped, called, returned, checked, given, replied, stored, arguments_at}
 use Rattle.paris_code.specs.Kinds.{is_parallel}
 use Rattle.paris_code.specs.Meaning.{after, reply_of}
-use Rattle.paris_code.specs.Numerals.{printed}
+use Rattle.cstar_base.specs.Numerals.{word_text}
 use Rattle.paris_code.specs.Operands.{result_of}
 use Rattle.paris_code.specs.Scalar.{computed, any_register_outside}
 use Rattle.paris_code.specs.Shapes.{SetShape, shapes_of, extents_at}
@@ -452,7 +452,7 @@ controlled_onward : (image : Image) (instr : Instr) (s t : CodeState) → is_ste
 controlled_onward image (I.FrontCheckTarget set place coordinates) s t h e = checked_onward (any_register_outside (extents_at (shapes_of image) set) coordinates.items s.registers) Index place s t e
 controlled_onward image (I.FrontCheckDivisor place x) s t h e = checked_onward (slice_index s.registers x == 0) DivZero place s t e
 controlled_onward image (I.FrontPutBytes bytes) s t h e = onward_if s (with_printed bytes s) t refl refl refl e
-controlled_onward image (I.FrontPut format x) s t h e = onward_if s (with_printed (printed format (slice_index s.registers x)) s) t refl refl refl e
+controlled_onward image (I.FrontPut format x) s t h e = onward_if s (with_printed (word_text format (slice_index s.registers x)) s) t refl refl refl e
 controlled_onward image (I.FrontGetByte r) s t h e = given_onward r s t s.input.bytes s.input.mark e
 controlled_onward image (I.FrontJump target) s t h e = cc
 controlled_onward image (I.FrontJumpZero x target) s t h e = cc

@@ -27,7 +27,7 @@ use Rattle.front_end.specs.Front.{State, AsksFor, Begins, joined, answered}
 use Rattle.paris_machine.specs.declared.outcome.End.{End as RunEnd}
 use Rattle.paris_machine.specs.declared.outcome.End.TheVariants as E
 use Rattle.paris_machine.specs.Bound.{most_left}
-use Rattle.paris_machine.specs.Ends.{input_broke_in, output_broke_in}
+use Rattle.paris_machine.specs.Ends.{IsNumbered, input_broke_in, output_broke_in}
 use Rattle.paris_machine.specs.Runs.{SameState, SameNext, ComesTo, before, IsLeft, Puts, StaysOver, Advances, Runs, RepliesTo, IsPutEnd, Reads, Stays, kept_state}
 use Rattle.paris_machine.proofs.Bound.{falls, falls_parallel, some_left}
 
@@ -319,3 +319,17 @@ pub exhausted : (image : Image) (at : ℕ) (returns : List ℕ) (turns begun fir
     → left ≡ first → most ≡ (left + 1) * length image.code.items → most ≤ begun → ⊥
 exhausted image at returns turns begun first left most b bound same all over =
     omega (arith, some_left image at returns turns b, bound, all ∙ ap (λ t. (t + 1) * length image.code.items) same, over)
+
+-- the end of an instruction that is a fault has the number of one of a run
+pub numbered_end : (image : Image) (old : State) (m : BitMemory) (end : RunEnd) (new : State) (n : BitMemory) (ended : Bool) (taken printed : List ℕ) → Advances image old m (Some end) new n ended taken printed → IsNumbered end
+numbered_end image old m E.Done new n ended taken printed advances = tt
+numbered_end image old m (E.Fault kind place position) new n true taken printed advances =
+    let told = advances (record { bytes = []; mark = End }) refl [] in
+    (told.0, told.1)
+numbered_end image old m (E.Fault kind place position) new n false taken printed advances =
+    let told = advances (record { bytes = []; mark = End }) tt [] in
+    (told.0, told.1)
+numbered_end image old m E.Stopped new n ended taken printed advances = tt
+numbered_end image old m E.InputBroken new n ended taken printed advances = tt
+numbered_end image old m E.OutputBroken new n ended taken printed advances = tt
+numbered_end image old m E.Memory new n ended taken printed advances = tt

@@ -2,7 +2,7 @@ use Rattle.std.proofs.Common.{◌+◌, ◌≡◌, [], ◌++◌, refl, sym, ◌�
 use Rattle.std.specs.Prelude.{IfSome}
 use Rattle.front_end.specs.Front.{state_of, joined}
 use Rattle.paris_machine.proofs.Bound.{left_most}
-use Rattle.paris_machine.proofs.Following.{took_none, takes_none, took_more, takes_more, puts_more, reaches_more, runs_end, empty_more, exhausted}
+use Rattle.paris_machine.proofs.Following.{took_none, takes_none, took_more, takes_more, puts_more, reaches_more, runs_end, empty_more, exhausted, numbered_end}
 use Rattle.paris_machine.proofs.Same.{runs_code}
 use Rattle.paris_machine.proofs.steps.drive.Goals as goal
 
@@ -71,3 +71,9 @@ pub returns-clause-meaning : goal.returns-clause-meaning
 returns-clause-meaning g c = absurd (
     exhausted c.args.sound.now c.steps.front.at c.steps.front.returns.items c.steps.front.turns c.steps.begun c.args.front.now.turns c.turns_left.result c.most_steps-begun-end.result
     c.steps.invariant.fits.place.0 c.steps.invariant.left c.turns_left.ensures c.most_steps-begun-end.ensures c.steps-test.false)
+
+pub returns-in-Some-clause-numbered : goal.returns-in-Some-clause-numbered
+returns-in-Some-clause-numbered g c =
+    let moved = c.in-Some.ensures.meaning in
+    numbered_end c.args.sound.now (state_of c.steps.front) (g.P.Phases.memory c.steps.p) c.in-Some.end (state_of c.advance.new.front) (g.P.Phases.memory c.advance.new.p)
+    c.advance.new.ended moved.0 moved.1.0 moved.1.4
