@@ -110,7 +110,7 @@ pub run_set : (k : ℕ) (run : Field) (given plans : List SetPlan) (instr : Inst
 run_set k run given plans instr is at same = is ∙ ap (λ (r : Field). r.set) at ∙ ap (λ (ps : List SetPlan). (destination (map shape_of_plan ps) instr).set) same
 
 -- the planes of a block are the memory at its positions
-agree_in_block : (shapes : List SetShape) (sets : List BlockSet) (set j p : ℕ) (old : List Block) (none : Block) (v : Winner) → old ≡ blocks_at sets set → j < length old → p / 512 ≡ j
+pub agree_in_block : (shapes : List SetShape) (sets : List BlockSet) (set j p : ℕ) (old : List Block) (none : Block) (v : Winner) → old ≡ blocks_at sets set → j < length old → p / 512 ≡ j
     → AgreeAt shapes set p (block_memory (planes_in (get_or old j none))) (stored sets v)
 unfolding stored block_bit block_memory
 agree_in_block shapes sets set j p old none v same b here = λ i _.

@@ -2,6 +2,7 @@
 //! workers.
 #![tactic(auto)]
 
+mod checks;
 mod everywhere;
 mod in_block;
 mod lanes;
