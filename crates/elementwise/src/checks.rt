@@ -7,7 +7,7 @@ ghost use Rattle.cstar_base.specs.declared.operators.Winner.{Winner};
 ghost use Rattle.paris_code.specs.Checking.{checked_set};
 ghost use Rattle.paris_code.specs.Meaning.{bad_or_nothing, reply_of};
 ghost use Rattle.paris_code.specs.Shapes.{bits_at, extents_at};
-ghost use Rattle.phase_meaning.specs.Apply.{CanApply, is_check};
+ghost use Rattle.phase_meaning.specs.Apply.{CanApply, ReplyFits, is_check};
 ghost use Rattle.block_store.specs.declared.set.Cell.{Cell};
 ghost use Rattle.block_store.specs.Planes.{HasPlanes};
 ghost use Rattle.block_store.specs.Stored.{shape_of_plan, shapes_in, memory_in, word_at, IsWhole, HasRoom};
@@ -147,6 +147,7 @@ pub(crate) fn check<R: Threads + Sync, G: Gate + Sync>(
     ensures plans { store.new.plans ≡ store.old.plans }
     ensures sets { store.new.sets ≡ store.old.sets }
     ensures room { HasRoom store.new }
+    ensures fits { ReplyFits instr.now result }
     ensures reply { (w : Winner) → result ≡ reply_of (shapes_in store.old) instr.now args.now (memory_in store.old w) }
 {
     let set = &store.sets[usize::from(checked_set(instr))];

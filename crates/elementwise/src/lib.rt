@@ -6,6 +6,8 @@ mod checks;
 mod everywhere;
 mod in_block;
 mod lanes;
+#[cfg(test)]
+mod tests;
 mod writes;
 
 pub use everywhere::run;
