@@ -6,6 +6,7 @@ ghost use Rattle.cstar_tree.specs.declared.token.Kind.{Kind};
 ghost use Rattle.cstar_tree.specs.declared.token.Kind.TheVariants as Kinds;
 ghost use Rattle.cstar_tree.specs.declared.token.Mark.{Mark};
 ghost use Rattle.cstar_parser.specs.Faults.{IsAmong};
+ghost use Rattle.cstar_parser.specs.Fits.{IsCounted};
 
 use crate::fault::ParseFault;
 use cstar_base::Place;
@@ -117,6 +118,7 @@ pub fn expect(tokens: &[Token], spot: &mut Spot, mark: Mark) -> Result<Place, Pa
     requires within { spot.old.at ≤ length tokens.now }
     ensures spelled { IfOk result (λ place. StandsMark tokens.now spot.old.at mark place spot.new.at) }
     ensures forward { OnOk result ((spot.new.at ≡ spot.old.at + 1) × (spot.new.at ≤ length tokens.now)) }
+    ensures counted { OnOk result (spot.new.operators ≡ spot.old.operators) }
     ensures fault { IfErr result (IsAmong (length tokens.now)) }
 {
     if !is_mark(tokens, spot.at, mark) {
@@ -132,6 +134,7 @@ pub fn open(tokens: &[Token], spot: &mut Spot, mark: Mark, levels: u32) -> Resul
     requires within { spot.old.at ≤ length tokens.now }
     ensures spelled { IfOk result (λ place. StandsMark tokens.now spot.old.at mark place spot.new.at) }
     ensures forward { OnOk result (((spot.new.at ≡ spot.old.at + 1) × (levels < 100)) × (spot.new.at ≤ length tokens.now)) }
+    ensures counted { OnOk result (spot.new.operators ≡ spot.old.operators) }
     ensures fault { IfErr result (IsAmong (length tokens.now)) }
 {
     if !is_mark(tokens, spot.at, mark) {
@@ -149,7 +152,7 @@ pub fn take_operator(tokens: &[Token], spot: &mut Spot) -> Result<Place, ParseFa
     requires there { spot.old.at < length tokens.now }
     ensures spelled { IfOk result (λ place. (kind : Kind) → token_kind tokens.now spot.old.at ≡ Some kind → Stands tokens.now spot.old.at kind place spot.new.at) }
     ensures forward { OnOk result ((spot.new.at ≡ spot.old.at + 1) × (spot.new.at ≤ length tokens.now)) }
-    ensures counted { OnOk result ((spot.old.operators < 1000) × (spot.new.operators ≡ spot.old.operators + 1)) }
+    ensures counted { OnOk result (IsCounted 1 spot.old.operators spot.new.operators) }
     ensures fault { IfErr result (IsAmong (length tokens.now)) }
 {
     if spot.operators >= OPERATORS {
@@ -165,6 +168,7 @@ pub fn expect_operator(tokens: &[Token], spot: &mut Spot, mark: Mark) -> Result<
     requires within { spot.old.at ≤ length tokens.now }
     ensures spelled { IfOk result (λ place. StandsMark tokens.now spot.old.at mark place spot.new.at) }
     ensures forward { OnOk result ((spot.new.at ≡ spot.old.at + 1) × (spot.new.at ≤ length tokens.now)) }
+    ensures counted { OnOk result (IsCounted 1 spot.old.operators spot.new.operators) }
     ensures fault { IfErr result (IsAmong (length tokens.now)) }
 {
     if !is_mark(tokens, spot.at, mark) {
@@ -179,6 +183,7 @@ pub fn read_name(alloc: Global, tokens: &[Token], spot: &mut Spot) -> Result<Nam
     requires within { spot.old.at ≤ length tokens.now }
     ensures spelled { IfOk result (λ name. Stands tokens.now spot.old.at (Kinds.Name name.word) name.place spot.new.at) }
     ensures forward { OnOk result ((spot.new.at ≡ spot.old.at + 1) × (spot.new.at ≤ length tokens.now)) }
+    ensures counted { OnOk result (spot.new.operators ≡ spot.old.operators) }
     ensures fault { IfErr result (IsAmong (length tokens.now)) }
 {
     let word = match kind_at(tokens, spot.at) {

@@ -5,7 +5,7 @@ use Rattle.cstar_words.specs.declared.options.Mode.{Mode}
 use Rattle.cstar_words.specs.declared.options.Mode.TheVariants as M
 use Rattle.cstar_words.specs.declared.options.Options.{Options}
 use Rattle.cstar_words.specs.Reading.{Reads, rows_in}
-use Rattle.cstar_top.specs.Modes.{AsksFor, HasBudget, budget, named}
+use Rattle.cstar_top.specs.Modes.{AsksFor, budget, budget_in, named}
 
 -- the file's name is the one that the words name
 pub named_is : (words : List (List ℕ)) (options : Options) → Reads (rows_in words) options → named words ≡ options.file.now
@@ -16,6 +16,5 @@ pub mode_is : (words : List (List ℕ)) (options : Options) (mode : Mode) → Re
 mode_is words options mode reads asks = ap (λ (o : Option Mode). unwrap_or o M.Run) (sym reads.mode ∙ asks)
 
 -- and so are the turns
-pub budget_is : (words : List (List ℕ)) (options : Options) → Reads (rows_in words) options → HasBudget words (budget options.mode options.turns)
-budget_is words options reads =
-    (options.mode, reads.mode, ap (λ (o : Option ℕ). budget options.mode (unwrap_or o 0)) (sym reads.turns))
+pub budget_is : (words : List (List ℕ)) (options : Options) → Reads (rows_in words) options → budget_in options.mode words ≡ budget options.mode options.turns
+budget_is words options reads = ap (λ (o : Option ℕ). budget options.mode (unwrap_or o 0)) reads.turns

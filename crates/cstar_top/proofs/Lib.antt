@@ -1,8 +1,11 @@
 pub mod Asked
+pub mod Assembled
 pub mod Compiled
 pub mod Courses
+pub mod Drills
 pub mod Lines
 pub mod Listings
-pub mod Names
+pub mod Outcomes
 pub mod Refusals
 pub mod Reported
+pub mod TypingFaults

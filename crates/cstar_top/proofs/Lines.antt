@@ -1,6 +1,5 @@
 -- What a sink that took a whole line took of it.
 use Rattle.std.proofs.Common.{◌≡◌, ◌<◌, ℕ, List, ◌++◌, ◌⊎◌, inl, inr, length, take, sym, ◌∙◌, subst, codes, refl, arith}
-use Rattle.cstar_top.specs.Reports.{PutsPartOfAnswer}
 use Rattle.std.proofs.Math.Seq.{take-length}
 use Rattle.cstar_top.specs.declared.answer.Answer.{Answer}
 use Rattle.cstar_top.specs.declared.answer.Answer.TheVariants as A
@@ -16,9 +15,9 @@ prefix_of_whole agrees s t u xs all nothing =
 pub memory_line : (file : List ℕ) (answer : Answer) → status_of answer ≡ 8 → line_of file answer ≡ codes "out of memory\n"
 unfolding line_of
 memory_line file A.Done e = absurd (omega arith)
-memory_line file (A.Fault kind place position) e = absurd (omega arith)
+memory_line file (A.Fault fault place position) e = absurd (omega arith)
 memory_line file A.Usage e = absurd (omega arith)
-memory_line file (A.Refused number place) e = absurd (omega arith)
+memory_line file (A.Refused fault place) e = absurd (omega arith)
 memory_line file (A.Stopped turns) e = absurd (omega arith)
 memory_line file A.CannotRead e = absurd (omega arith)
 memory_line file A.WriteFault e = absurd (omega arith)
@@ -30,10 +29,3 @@ pub status_is : (n r s : ℕ) → n < 6 → (r ≡ s) ⊎ ((r ≡ 6) ⊎ (r ≡ 
 status_is n r s below (inl same) is = sym same ∙ is
 status_is n r s below (inr (inl six)) is = absurd (omega arith)
 status_is n r s below (inr (inr eight)) is = absurd (omega arith)
-
--- a prefix of an answer's line, or of the line of want of memory, whatever file they name
-pub part_of_either : {S : Type 0} → (agrees : S → List ℕ → Type 0) (s t : S) (file : List ℕ) (answer : Answer) (text : List ℕ) → line_of file answer ≡ text → TakesPrefix agrees s t text ⊎ TakesPrefix agrees s t (codes "out of memory\n") → PutsPartOfAnswer agrees s t file
-part_of_either agrees s t file answer text is (inl part) =
-    (answer, subst (λ (xs : List ℕ). TakesPrefix agrees s t xs) (sym is) part)
-part_of_either agrees s t file answer text is (inr part) =
-    (A.Memory, subst (λ (xs : List ℕ). TakesPrefix agrees s t xs) (sym (memory_line file A.Memory refl)) part)

@@ -1,5 +1,5 @@
 -- The statuses that the report of a run comes with.
-use Rattle.std.proofs.Common.{◌≡◌, ◌≢◌, ◌≤◌, ℕ, ◌⊎◌, inl, inr, arith}
+use Rattle.std.proofs.Common.{◌≡◌, ◌≢◌, ℕ, ◌⊎◌, inl, inr, arith}
 use Rattle.cstar_top.specs.Reported.{IsWhole}
 
 -- the statuses of outputs that were taken whole are none of the others
@@ -14,9 +14,3 @@ pub whole_is : (r s : ℕ) → IsWhole r → (r ≡ s) ⊎ ((r ≡ 6) ⊎ (r ≡
 whole_is r s whole (inl same) = same
 whole_is r s whole (inr (inl six)) = absurd ((whole_not r whole).3 six)
 whole_is r s whole (inr (inr eight)) = absurd ((whole_not r whole).4 eight)
-
--- and so is one below 5
-pub calm_is : (r s : ℕ) → r ≤ 4 → (r ≡ s) ⊎ ((r ≡ 6) ⊎ (r ≡ 8)) → r ≡ s
-calm_is r s below (inl same) = same
-calm_is r s below (inr (inl six)) = absurd (omega arith)
-calm_is r s below (inr (inr eight)) = absurd (omega arith)

@@ -1,6 +1,9 @@
 -- How the code of an image ran, and the report of that.
-use Rattle.std.specs.Prelude.{◌≡◌, ℕ, Bool, true, ◌||◌, List, [], ◌∷◌, ◌++◌, Option, IfSome, codes, decimal, if◌then◌else◌, ◌⊎◌}
+use Rattle.std.specs.Prelude.{◌≡◌, ℕ, Bool, true, ◌||◌, List, [], ◌∷◌, ◌++◌, ◌==◌, Option, IfSome, codes, decimal, if◌then◌else◌, ◌⊎◌}
 use Rattle.std.specs.List.{concat}
+use Rattle.cstar_base.specs.declared.faults.RunFault.{RunFault}
+use Rattle.cstar_base.specs.declared.faults.RunFault.TheVariants as F
+use Rattle.cstar_base.specs.Faults.{run_number_of}
 use Rattle.cstar_base.specs.declared.operators.Winner.{Winner}
 use Rattle.cstar_io.specs.Input.{Took}
 use Rattle.cstar_io.specs.Output.{Takes, TakesPrefix}
@@ -17,11 +20,12 @@ use Rattle.paris_machine.specs.Runs.{Runs}
 use Rattle.cstar_top.specs.declared.answer.Answer.{Answer}
 use Rattle.cstar_top.specs.declared.answer.Answer.TheVariants as A
 
--- how a run ended and how many instructions it began, the bytes that it took of the input and
--- whether it met the end of that, the bytes that it printed, and the memory that it left
+-- how a run ended, how many instructions it began and how many turns it left, the bytes that it took
+-- of the input and whether it met the end of that, the bytes that it printed, and the memory that it left
 pub record Course : Type 0 where
   pub end : End
   pub steps : ℕ
+  pub left : ℕ
   pub taken : List ℕ
   pub over : Bool
   pub printed : List ℕ
@@ -35,17 +39,21 @@ IsNew image winner m = SameBits (shapes_of image) m (record { bit = (fresh_memor
 abbrev pub IsCourse : Image → Winner → ℕ → Course → Type 0
 IsCourse image winner turns course =
     (start : BitMemory) × IsNew image winner start
-    × ((last : Rest → CodeState) × ((rest : Rest) → ((last rest).output ≡ course.printed) × ((last rest).memory ≡ course.memory))
+    × ((last : Rest → CodeState) × ((rest : Rest) → ((last rest).output ≡ course.printed) × ((last rest).memory ≡ course.memory) × ((last rest).turns ≡ course.left))
     × Runs image (opening image start turns) course.end course.steps last course.over course.taken)
 
 -- a source that had some bytes left gave those that the run took, and all where that met their end
 abbrev pub Feeds : Course → Option (List ℕ) → Option (List ℕ) → Type 0
 Feeds course old new = Took old course.taken new × (course.over ≡ true → IfSome new (λ rest. rest ≡ []))
 
+-- the fault of a run that has a number
+abbrev pub run_fault : ℕ → RunFault
+run_fault kind = if kind == run_number_of F.Index then F.Index else F.DivZero
+
 -- the answer to an end
 abbrev pub answer_to_end : ℕ → End → Answer
 answer_to_end turns E.Done = A.Done
-answer_to_end turns (E.Fault kind place position) = A.Fault kind place position
+answer_to_end turns (E.Fault kind place position) = A.Fault (run_fault kind) place position
 answer_to_end turns E.Stopped = A.Stopped turns
 answer_to_end turns E.InputBroken = A.InputFault
 answer_to_end turns E.OutputBroken = A.WriteFault

@@ -1,8 +1,10 @@
 pub mod Answers
+pub mod Assembled
 pub mod Courses
-pub mod Faults
+pub mod Drills
 pub mod Listings
 pub mod Modes
+pub mod Outcomes
 pub mod Refusals
 pub mod Reported
 pub mod Reports

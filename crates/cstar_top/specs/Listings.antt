@@ -1,5 +1,5 @@
 -- What the command does with listings.
-use Rattle.std.specs.Prelude.{◌≡◌, ℕ, ◌⊎◌, List}
+use Rattle.std.specs.Prelude.{ℕ, ◌⊎◌, List}
 use Rattle.cstar_io.specs.Output.{Takes, TakesPrefix, TakesNothing}
 use Rattle.paris_code.specs.declared.program.Image.{Image}
 use Rattle.paris_code.specs.Listing.{listing}
@@ -14,7 +14,3 @@ TakesListing agrees old new = (image : Image) × IsSound image × IsOfProgram im
 abbrev pub TakesPartOfListing : {O : Type 0} → (O → List ℕ → Type 0) → O → O → Type 0
 TakesPartOfListing agrees old new =
     TakesNothing agrees old new ⊎ ((image : Image) × IsSound image × IsOfProgram image × TakesPrefix agrees old new (listing image))
-
--- a text is the listing of an image that keeps the image rules
-abbrev pub IsListing : List ℕ → Type 0
-IsListing text = (image : Image) × IsSound image × (listing image ≡ text)

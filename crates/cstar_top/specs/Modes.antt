@@ -23,12 +23,32 @@ leaves_input _ = false
 abbrev pub LeavesInput : List (List ℕ) → Type 0
 LeavesInput words = (mode : Mode) × AsksFor mode words × (leaves_input mode ≡ true)
 
+-- modes that run the image of a file
+abbrev pub runs_image : Mode → Bool
+runs_image M.Run = true
+runs_image M.Asm = true
+runs_image _ = false
+
+-- modes that run an image, of a file or of a drill
+abbrev pub runs_code : Mode → Bool
+runs_code M.Drill = true
+runs_code mode = runs_image mode
+
+-- modes that can go well: to run on from a saved point is not built yet
+abbrev pub is_built : Mode → Bool
+is_built M.Resume = false
+is_built _ = true
+
+-- modes that read a file: a drill makes its own text
+abbrev pub reads_file : Mode → Bool
+reads_file M.Drill = false
+reads_file _ = true
+
 -- the turns of a run: a drill has its own
 abbrev pub budget : Mode → ℕ → ℕ
 budget M.Drill turns = 1000000
 budget mode turns = turns
 
--- a stopped run had these turns
-abbrev pub HasBudget : List (List ℕ) → ℕ → Type 0
-HasBudget words turns =
-    (mode : Mode) × AsksFor mode words × (turns ≡ budget mode (unwrap_or (turns_in (rows_in words)) 0))
+-- the turns that a run in this mode may spend, as the words have them
+abbrev pub budget_in : Mode → List (List ℕ) → ℕ
+budget_in mode words = budget mode (unwrap_or (turns_in (rows_in words)) 0)

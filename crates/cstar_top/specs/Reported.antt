@@ -1,5 +1,5 @@
 -- The report of the command in the modes that run the image of a file.
-use Rattle.std.specs.Prelude.{◌≡◌, ◌≤◌, ℕ, Bool, true, false, ◌⊎◌, List, Option, Some, IsTrue, length}
+use Rattle.std.specs.Prelude.{◌≡◌, ◌≤◌, ℕ, Bool, true, ◌⊎◌, List, Option, Some, IsTrue, length}
 use Rattle.cstar_words.specs.declared.options.Mode.{Mode}
 use Rattle.cstar_words.specs.declared.options.Mode.TheVariants as M
 use Rattle.cstar_words.specs.declared.options.Options.{Options}
@@ -8,14 +8,9 @@ use Rattle.paris_code.specs.Listing.{listing}
 use Rattle.paris_code.specs.Sound.{IsSound}
 use Rattle.cstar_top.specs.declared.answer.Answer.{Answer}
 use Rattle.cstar_compile.specs.Compiled.{IsOfProgram}
+use Rattle.cstar_top.specs.Assembled.{FitsMachine}
 use Rattle.cstar_top.specs.Courses.{Reports, ReportsPart}
-use Rattle.cstar_top.specs.Modes.{AsksFor}
-
--- modes that run the image of a file
-abbrev pub runs_image : Mode → Bool
-runs_image M.Run = true
-runs_image M.Asm = true
-runs_image _ = false
+use Rattle.cstar_top.specs.Modes.{AsksFor, runs_image}
 
 -- the words ask for such a mode
 abbrev pub AsksToRun : List (List ℕ) → Type 0
@@ -26,9 +21,10 @@ abbrev pub IsWhole : ℕ → Type 0
 IsWhole status = (status ≡ 0) ⊎ ((status ≡ 1) ⊎ ((status ≡ 4) ⊎ (status ≡ 7)))
 
 -- An image of a text of no more than 2^20 bytes keeps the image rules. In mode asm the text is its
--- listing, and else the image is what the compiler makes of a typed program.
+-- listing, and the machine has what it asks for; else the image is what the compiler makes of a typed
+-- program.
 abbrev pub IsImageOf : Mode → List ℕ → Image → Type 0
-IsImageOf M.Asm text image = (length text ≤ 1048576) × IsSound image × (listing image ≡ text)
+IsImageOf M.Asm text image = (length text ≤ 1048576) × IsSound image × (listing image ≡ text) × FitsMachine image
 IsImageOf _ text image = (length text ≤ 1048576) × IsSound image × IsOfProgram image
 
 -- a sink took the report of an image of the text

@@ -3,21 +3,20 @@
 ghost use Rattle.std.specs.Prelude.{◌≡◌};
 ghost use Rattle.cstar_top.specs.Answers.{status_of};
 
-use cstar_base::Place;
+use cstar_base::{Fault, Place, RunFault};
 
-/// What a command comes to. A refusal has the number of its fault, with 0 for a form of the
-/// language that is not built yet.
+/// What a command comes to.
 #[derive(Clone, Copy)]
 pub enum Answer {
     Done,
     Fault {
-        kind: u8,
+        fault: RunFault,
         place: Place,
         position: Option<u32>,
     },
     Usage,
     Refused {
-        number: u8,
+        fault: Fault,
         place: Place,
     },
     Stopped {

@@ -1,32 +1,28 @@
 //! From a listing to a checked image.
 
-ghost use Rattle.std.specs.Prelude.{◌≡◌, ◌<◌, ◌≤◌, Err, IfOk, length};
+ghost use Rattle.std.specs.Prelude.{◌≡◌, ◌<◌, ◌≤◌, Err, IfErr, IfOk, true, false, length};
+ghost use Rattle.cstar_base.specs.declared.faults.Fault.TheVariants as F;
 ghost use Rattle.paris_code.specs.Listing.{listing};
 ghost use Rattle.cstar_top.specs.declared.compile.NoImage.TheVariants as N;
+ghost use Rattle.cstar_top.specs.Assembled.{BreaksRule, FitsMachine, RefusesListing, TellsWhy, bits_of_set, bits_of_sets, line_in};
 ghost use Rattle.cstar_top.specs.Refusals.{file_start};
 
 use crate::compile::{FILE_LIMIT, FILE_START, NoImage, refused, too_long, verified};
-use cstar_base::Place;
+use cstar_base::{Fault, Place};
 use image_check::{CheckErr, Sound};
 use paris_asm::{AsmFault, read};
 use paris_code::{Image, ShapeBits};
 use std::alloc::Global;
-use vp_sets::Geometry;
-
-const LISTING: u8 = 40;
-
-const SPACE: u8 = 47;
-
-const SLOTS: u8 = 48;
+use vp_sets::{BLOCK_SIZE, Geometry};
 
 /// How many bits the sets of a listing may take together, by whole blocks.
-const BITS: u64 = 1 << 30;
-
-/// How many positions a block has.
-const BLOCK: u64 = 512;
+const BITS: u128 = 1 << 30;
 
 /// How many registers a listing may have, and how many open calls.
 const MOST_SLOTS: u32 = 67_108_864;
+
+/// The number of the fault of a line that is none of a listing. Those of the image rules follow it.
+const LISTING: u8 = 40;
 
 /// The checked image of a listing. Refused in this order: a text that is too long, a line that is
 /// none of a listing, sets that take too many bits, too many registers or open calls, and the first
@@ -34,43 +30,72 @@ const MOST_SLOTS: u32 = 67_108_864;
 pub fn assembled(alloc: Global, text: &[u8]) -> Result<Sound, NoImage>
     ensures listed { IfOk result (λ sound. listing sound ≡ text.now) }
     ensures within { IfOk result (λ sound. length text.now ≤ FILE_LIMIT) }
-    ensures too_long { FILE_LIMIT < length text.now → result ≡ Err (N.Refused 30 file_start) }
+    ensures fits { IfOk result (λ sound. FitsMachine sound) }
+    ensures too_long { FILE_LIMIT < length text.now → result ≡ Err (N.Refused F.TooLong file_start) }
+    ensures refused { IfErr result (TellsWhy (RefusesListing text.now)) }
 {
     if text.len() > FILE_LIMIT as usize {
         return Err(too_long());
     }
-    let image = match read(alloc, text) {
-        Ok(image) => image,
-        Err(AsmFault::Line { line }) => return Err(refused(LISTING, Place { line, col: 1 })),
-        Err(AsmFault::Memory) => return Err(NoImage::Memory),
-    };
-    if bits_of(image.shapes.as_slice()) > BITS {
-        return Err(refused(SPACE, FILE_START));
+    match read(alloc, text) {
+        Ok(image) => fitting(alloc, image, text),
+        Err(AsmFault::Line { line }) => Err(refused(Fault::Listing, Place { line, col: 1 })),
+        Err(AsmFault::Memory) => Err(NoImage::Memory),
+    }
+}
+
+/// The checked image of a listing, where it asks for no more than the machine has.
+fn fitting(alloc: Global, image: Image, text: &[u8]) -> Result<Sound, NoImage>
+    requires { listing image ≡ text.now }
+    ensures listed { IfOk result (λ sound. listing sound ≡ text.now) }
+    ensures fits { IfOk result (λ sound. FitsMachine sound) }
+    ensures refused { IfErr result (TellsWhy (RefusesListing text.now)) }
+{
+    if !has_room(image.shapes.as_slice()) {
+        return Err(refused(Fault::CodeSpace, FILE_START));
     }
     if image.slots > MOST_SLOTS || image.depth > MOST_SLOTS {
-        return Err(refused(SLOTS, FILE_START));
+        return Err(refused(Fault::Slots, FILE_START));
     }
     checked(alloc, image)
 }
 
-/// The bits that the sets take whose extents are a grid; a set has two bits for a processor at
-/// least.
-fn bits_of(shapes: &[ShapeBits]) -> u64 {
-    let mut total = 0u64;
+/// Has the machine the bits that these sets take together?
+fn has_room(shapes: &[ShapeBits]) -> bool
+    ensures room { result ≡ true → bits_of_sets shapes.now ≤ 1073741824 }
+    ensures full { result ≡ false → 1073741824 < bits_of_sets shapes.now }
+{
+    let mut left = BITS;
     for shape in shapes {
-        if let Ok(grid) = Geometry::new(shape.extents.as_slice()) {
-            let blocks = u64::from(grid.block_count());
-            let bits = u64::from(shape.bits.max(2));
-            total = total.saturating_add(bits.saturating_mul(BLOCK).saturating_mul(blocks));
+        let bits = bits_of_set(shape);
+        if bits > left {
+            return false;
         }
+        left -= bits;
     }
-    total
+    true
+}
+
+/// The bits that a set takes by whole blocks, two for a position at least. Extents that are no grid
+/// take none: the image rules refuse them.
+#[tactic(auto, unfolding(crate::specs::Assembled::bits_of_set))]
+fn bits_of_set(shape: &ShapeBits) -> u128
+    ensures { result ≡ bits_of_set shape.now }
+{
+    match Geometry::new(shape.extents.as_slice()) {
+        Ok(grid) => {
+            let bits = u128::from(shape.bits.max(2)) * u128::from(BLOCK_SIZE);
+            bits * u128::from(grid.block_count())
+        }
+        Err(_bad) => 0,
+    }
 }
 
 /// The image with the proof that it keeps the image rules. A broken rule is refused at the line of
 /// its instruction.
 fn checked(alloc: Global, image: Image) -> Result<Sound, NoImage>
-    ensures { IfOk result (λ sound. sound ≡ image) }
+    ensures same { IfOk result (λ sound. sound ≡ image) }
+    ensures refused { IfErr result (TellsWhy (BreaksRule image)) }
 {
     match verified(alloc, image) {
         Ok(sound) => Ok(sound),
@@ -79,7 +104,7 @@ fn checked(alloc: Global, image: Image) -> Result<Sound, NoImage>
                 line: line_of(&image, at),
                 col: 1,
             };
-            Err(refused(LISTING.saturating_add(rule), place))
+            Err(refused(Fault::numbered(LISTING + rule), place))
         }
         Err(CheckErr::Memory { .. }) => Err(NoImage::Memory),
     }
@@ -87,11 +112,14 @@ fn checked(alloc: Global, image: Image) -> Result<Sound, NoImage>
 
 /// The line of an instruction in the listing of its image; that behind the last line for the index
 /// behind the last instruction.
-fn line_of(image: &Image, at: u32) -> u32 {
-    let parts = [image.shapes.len(), image.finals.len(), image.units.len()];
-    let mut line = at.saturating_add(3);
-    for part in parts {
-        line = line.saturating_add(u32::try_from(part).unwrap_or(u32::MAX));
+fn line_of(image: &Image, at: u32) -> u32
+    ensures { result ≡ line_in image.now at }
+{
+    let parts = image.shapes.len() as u128 + image.finals.len() as u128 + image.units.len() as u128;
+    let line = u128::from(at) + 3 + parts;
+    if line < u128::from(u32::MAX) {
+        line as u32
+    } else {
+        u32::MAX
     }
-    line
 }

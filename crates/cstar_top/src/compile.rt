@@ -1,12 +1,16 @@
 //! From the text of a file to a checked image, or to its first fault.
 
-ghost use Rattle.std.specs.Prelude.{◌≡◌, ◌<◌, ◌≤◌, Err, IfOk, length, vec_len};
+ghost use Rattle.std.specs.Prelude.{◌≡◌, ◌<◌, ◌≤◌, Err, IfErr, IfOk, List, length, vec_len};
+ghost use Rattle.cstar_base.specs.declared.faults.Fault.TheVariants as F;
+ghost use Rattle.cstar_lexer.specs.Reading.{Reads};
+ghost use Rattle.cstar_tree.specs.declared.token.Token.{Token};
 ghost use Rattle.cstar_tree.specs.IsTyped.{IsTyped};
+ghost use Rattle.image_check.specs.Errors.{IsRefusalOf};
 ghost use Rattle.cstar_top.specs.declared.compile.NoImage.TheVariants as N;
 ghost use Rattle.cstar_compile.specs.Compiled.{IsCompiled};
-ghost use Rattle.cstar_top.specs.Refusals.{file_start};
+ghost use Rattle.cstar_top.specs.Refusals.{IsOfText, NamesOnly, file_start};
 
-use cstar_base::{Memory, Place};
+use cstar_base::{Fault, Memory, Place};
 use cstar_compile::image_of;
 use cstar_lexer::{LexFault, lex};
 use cstar_parser::{ParseFault, parse};
@@ -21,25 +25,17 @@ use std::alloc::Global;
 /// The greatest length of a file, in bytes.
 pub const FILE_LIMIT: u32 = 1_048_576;
 
-const NOT_BUILT: u8 = 0;
-
-const SYNTAX: u8 = 5;
-
-const DEPTH: u8 = 27;
-
-const TOO_LONG: u8 = 30;
-
 /// How many units, and how many instructions, 32 bits can number.
 const MOST_NUMBERED: usize = u32::MAX as usize;
 
 /// Where a fault of a whole file is told.
 pub const FILE_START: Place = Place { line: 1, col: 1 };
 
-/// Why there is no image of a file: it is refused for the fault of this number at this place, or
-/// there is no memory.
+/// Why there is no image of a file: it is refused for this fault at this place, or there is no
+/// memory.
 #[derive(Clone, Copy)]
 pub enum NoImage {
-    Refused { number: u8, place: Place },
+    Refused { fault: Fault, place: Place },
     Memory,
 }
 
@@ -51,6 +47,10 @@ pub struct TypedText {
 }
 
 impl From<Memory> for NoImage {
+    ghost use Rattle.cstar_top.specs.declared.compile.NoImage.TheVariants.{Memory};
+
+    ghost from_gives = { λ _ no_image. no_image ≡ Memory };
+
     fn from(_error: Memory) -> NoImage {
         NoImage::Memory
     }
@@ -60,26 +60,50 @@ impl From<Memory> for NoImage {
 /// the text, of the grammar, of the types, each over the whole file.
 pub fn accepted(alloc: Global, text: &[u8]) -> Result<TypedText, NoImage>
     ensures within { IfOk result (λ program. length text.now ≤ FILE_LIMIT) }
+    ensures read { IfOk result (λ program. (tokens : List Token) × Reads text.now (length text.now) tokens × (program.tokens ≡ length tokens)) }
     ensures typed { IfOk result (λ program. IsTyped program.typed) }
-    ensures too_long { FILE_LIMIT < length text.now → result ≡ Err (N.Refused 30 file_start) }
+    ensures too_long { FILE_LIMIT < length text.now → result ≡ Err (N.Refused F.TooLong file_start) }
+    ensures refused { IfErr result (NamesOnly IsOfText) }
 {
     if text.len() > FILE_LIMIT as usize {
         return Err(too_long());
     }
-    let tokens = tokens_of(alloc, text)?;
-    let tree = tree_of(alloc, &tokens)?;
-    Ok(TypedText {
-        tokens: tokens.list.len(),
-        typed: typed_of(alloc, &tree)?,
-    })
+    match tokens_of(alloc, text) {
+        Ok(tokens) => accepted_tokens(alloc, &tokens),
+        Err(no_image) => Err(no_image),
+    }
+}
+
+/// The typed program of a text's tokens.
+fn accepted_tokens(alloc: Global, tokens: &Tokens) -> Result<TypedText, NoImage>
+    requires { vec_len tokens.now.list ≤ FILE_LIMIT }
+    ensures count { IfOk result (λ program. program.tokens ≡ length tokens.now.list.items) }
+    ensures typed { IfOk result (λ program. IsTyped program.typed) }
+    ensures refused { IfErr result (NamesOnly IsOfText) }
+{
+    let tree = match tree_of(alloc, tokens) {
+        Ok(tree) => tree,
+        Err(no_image) => return Err(no_image),
+    };
+    match typed_of(alloc, &tree) {
+        Ok(typed) => Ok(TypedText {
+            tokens: tokens.list.len(),
+            typed,
+        }),
+        Err(no_image) => Err(no_image),
+    }
 }
 
 /// The checked image of a typed program. That every image of the compiler keeps the image rules is
 /// not proved yet; one that did not would be refused as a form that is not built.
 pub fn compile(alloc: Global, typed: &Typed) -> Result<Sound, NoImage>
-    ensures { IfOk result (λ sound. IsCompiled typed.now sound) }
+    ensures compiled { IfOk result (λ sound. IsCompiled typed.now sound) }
+    ensures refused { IfErr result (NamesOnly (λ fault. fault ≡ F.NotBuilt)) }
 {
-    match verified(alloc, image_of(alloc, typed)?) {
+    let Ok(image) = image_of(alloc, typed) else {
+        return Err(NoImage::Memory);
+    };
+    match verified(alloc, image) {
         Ok(sound) => Ok(sound),
         Err(CheckErr::Bad { .. }) => Err(not_built()),
         Err(CheckErr::Memory { .. }) => Err(NoImage::Memory),
@@ -89,7 +113,8 @@ pub fn compile(alloc: Global, typed: &Typed) -> Result<Sound, NoImage>
 /// The image with the proof that it keeps the image rules, or its first fault. Units or instructions
 /// past the numbers of 32 bits count as want of memory.
 pub fn verified(alloc: Global, image: Image) -> Result<Sound, CheckErr>
-    ensures { IfOk result (λ sound. sound ≡ image) }
+    ensures same { IfOk result (λ sound. sound ≡ image) }
+    ensures refused { IfErr result (IsRefusalOf image) }
 {
     if image.units.len() > MOST_NUMBERED || image.code.len() > MOST_NUMBERED {
         return Err(CheckErr::Memory { image });
@@ -99,43 +124,46 @@ pub fn verified(alloc: Global, image: Image) -> Result<Sound, CheckErr>
 
 /// The refusal of a file that is too long.
 pub fn too_long() -> NoImage
-    ensures { result ≡ N.Refused 30 file_start }
+    ensures { result ≡ N.Refused F.TooLong file_start }
 {
-    refused(TOO_LONG, FILE_START)
+    refused(Fault::TooLong, FILE_START)
 }
 
 /// The refusal of a form that is not built yet.
 pub fn not_built() -> NoImage
-    ensures { result ≡ N.Refused 0 file_start }
+    ensures { result ≡ N.Refused F.NotBuilt file_start }
 {
-    refused(NOT_BUILT, FILE_START)
+    refused(Fault::NotBuilt, FILE_START)
 }
 
-/// The refusal of a file for the fault of this number at this place.
-pub fn refused(number: u8, place: Place) -> NoImage
-    ensures { result ≡ N.Refused number place }
+/// The refusal of a file for this fault at this place.
+pub fn refused(fault: Fault, place: Place) -> NoImage
+    ensures { result ≡ N.Refused fault place }
 {
-    NoImage::Refused { number, place }
+    NoImage::Refused { fault, place }
 }
 
 fn tokens_of(alloc: Global, text: &[u8]) -> Result<Tokens, NoImage>
     requires { length text.now ≤ FILE_LIMIT }
-    ensures { IfOk result (λ tokens. vec_len tokens.list ≤ FILE_LIMIT) }
+    ensures read { IfOk result (λ tokens. Reads text.now (length text.now) tokens.list.items) }
+    ensures count { IfOk result (λ tokens. vec_len tokens.list ≤ FILE_LIMIT) }
+    ensures refused { IfErr result (NamesOnly IsOfText) }
 {
     match lex(alloc, text) {
         Ok(tokens) => Ok(tokens),
-        Err(LexFault::Fault { number, place }) => Err(refused(number, place)),
+        Err(LexFault::Fault { number, place }) => Err(refused(Fault::numbered(number), place)),
         Err(LexFault::Memory) => Err(NoImage::Memory),
     }
 }
 
 fn tree_of(alloc: Global, tokens: &Tokens) -> Result<Tree, NoImage>
     requires { vec_len tokens.now.list ≤ FILE_LIMIT }
+    ensures { IfErr result (NamesOnly IsOfText) }
 {
     match parse(alloc, tokens) {
         Ok(tree) => Ok(tree),
-        Err(ParseFault::Syntax { token }) => Err(refused(SYNTAX, place_of(tokens, token))),
-        Err(ParseFault::Depth { token }) => Err(refused(DEPTH, place_of(tokens, token))),
+        Err(ParseFault::Syntax { token }) => Err(refused(Fault::Syntax, place_of(tokens, token))),
+        Err(ParseFault::Depth { token }) => Err(refused(Fault::Depth, place_of(tokens, token))),
         Err(ParseFault::Memory) => Err(NoImage::Memory),
     }
 }
@@ -148,12 +176,14 @@ fn place_of(tokens: &Tokens, number: u32) -> Place {
     }
 }
 
+#[tactic(auto, using(crate::proofs::TypingFaults::listed_is_of_text))]
 fn typed_of(alloc: Global, tree: &Tree) -> Result<Typed, NoImage>
-    ensures { IfOk result IsTyped }
+    ensures typed { IfOk result IsTyped }
+    ensures refused { IfErr result (NamesOnly IsOfText) }
 {
     match check(alloc, tree) {
         Ok(typed) => Ok(typed),
-        Err(TypeFault::Fault { number, place }) => Err(refused(number, place)),
+        Err(TypeFault::Fault { number, place }) => Err(refused(Fault::numbered(number), place)),
         Err(TypeFault::Memory) => Err(NoImage::Memory),
     }
 }

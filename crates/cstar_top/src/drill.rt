@@ -1,19 +1,26 @@
 //! Mode drill: a program of a seed, run on no input, and a line on what it came to.
 
-ghost use Rattle.std.specs.Prelude.{◌≡◌, ◌≢◌};
+ghost use Rattle.std.specs.Prelude.{◌≡◌, ◌≢◌, ◌⊎◌, ℕ, List, IfOk};
+ghost use Rattle.cstar_compile.specs.Compiled.{IsOfProgram};
 ghost use Rattle.cstar_io.specs.Faults.{RisesBy};
-ghost use Rattle.cstar_top.specs.declared.answer.Answer.TheVariants as A;
+ghost use Rattle.cstar_io.specs.Output.{Takes, TakesNothing, TakesPrefix};
+ghost use Rattle.cstar_tree.specs.IsTyped.{IsTyped};
+ghost use Rattle.cstar_words.specs.declared.options.Mode.TheVariants as M;
+ghost use Rattle.paris_code.specs.declared.program.Image.{Image};
+ghost use Rattle.paris_code.specs.Sound.{IsSound};
 ghost use Rattle.cstar_top.specs.Answers.{status_of};
+ghost use Rattle.cstar_top.specs.Drills.{IsRunLine, PutsDrill, PutsPartOfDrill, drill_line};
+ghost use Rattle.cstar_top.specs.Outcomes.{CanAnswer};
 
 use crate::answer::Answer;
 use crate::compile::{NoImage, TypedText, accepted, compile};
-use crate::run::sent;
+use crate::run::{run_fault, sent};
 use cstar_base::{Memory, Winner};
 use cstar_io::{Sink, SureSink, SureSource};
 use drill_text::drill_text;
 use image_check::Sound;
 use itoa::Buffer;
-use paris_machine::{End, Outcome, run};
+use paris_machine::{End, run};
 use phase_gate::{Phases, RowPhases};
 use std::alloc::Global;
 
@@ -23,11 +30,13 @@ const DRILL_TURNS: u32 = 1_000_000;
 /// Makes the text of a seed, runs it on no input into a sink that counts, and puts one line on what
 /// that came to. A text that is refused, ends in a fault or is stopped puts nothing.
 pub fn drill<O: Sink>(alloc: Global, seed: u32, winner: Winner, out: &mut O) -> Answer
-    ensures named { status_of result ≢ 2 }
+    ensures can { CanAnswer M.Drill DRILL_TURNS result }
     ensures readable { status_of result ≢ 5 }
     ensures input { status_of result ≢ 7 }
     ensures refused { status_of result ≡ 3 → out.new ≡ out.old }
-    ensures stopped { status_of result ≡ 4 → result ≡ A.Stopped DRILL_TURNS }
+    ensures line { status_of result ≡ 0 → PutsDrill O.agrees out.old out.new seed winner }
+    ensures part { TakesNothing O.agrees out.old out.new ⊎ PutsPartOfDrill O.agrees out.old out.new seed winner }
+    ensures silent { status_of result ≢ 0 → status_of result ≢ 6 → out.new ≡ out.old }
     ensures write_fault { status_of result ≡ 6 → RisesBy (O.faults out.old) (O.faults out.new) }
     ensures count { status_of result ≢ 6 → O.faults out.new ≡ O.faults out.old }
 {
@@ -36,24 +45,27 @@ pub fn drill<O: Sink>(alloc: Global, seed: u32, winner: Winner, out: &mut O) -> 
     };
     match accepted(alloc, text.as_slice()) {
         Ok(program) => drill_program(alloc, &program, winner, out),
-        Err(NoImage::Refused { number, place }) => Answer::Refused { number, place },
+        Err(NoImage::Refused { fault, place }) => Answer::Refused { fault, place },
         Err(NoImage::Memory) => Answer::Memory,
     }
 }
 
 /// Runs the drill's program.
 fn drill_program<O: Sink>(alloc: Global, program: &TypedText, winner: Winner, out: &mut O) -> Answer
-    ensures named { status_of result ≢ 2 }
+    requires { IsTyped program.now.typed }
+    ensures can { CanAnswer M.Drill DRILL_TURNS result }
     ensures readable { status_of result ≢ 5 }
     ensures input { status_of result ≢ 7 }
     ensures refused { status_of result ≡ 3 → out.new ≡ out.old }
-    ensures stopped { status_of result ≡ 4 → result ≡ A.Stopped DRILL_TURNS }
+    ensures line { status_of result ≡ 0 → (line : List ℕ) × ((image : Image) × IsSound image × IsOfProgram image × IsRunLine image winner program.now.tokens line) × Takes O.agrees out.old out.new line }
+    ensures part { TakesNothing O.agrees out.old out.new ⊎ ((line : List ℕ) × ((image : Image) × IsSound image × IsOfProgram image × IsRunLine image winner program.now.tokens line) × TakesPrefix O.agrees out.old out.new line) }
+    ensures silent { status_of result ≢ 0 → status_of result ≢ 6 → out.new ≡ out.old }
     ensures write_fault { status_of result ≡ 6 → RisesBy (O.faults out.old) (O.faults out.new) }
     ensures count { status_of result ≢ 6 → O.faults out.new ≡ O.faults out.old }
 {
     match compile(alloc, &program.typed) {
         Ok(sound) => drill_image(alloc, &sound, program.tokens, winner, out),
-        Err(NoImage::Refused { number, place }) => Answer::Refused { number, place },
+        Err(NoImage::Refused { fault, place }) => Answer::Refused { fault, place },
         Err(NoImage::Memory) => Answer::Memory,
     }
 }
@@ -66,11 +78,13 @@ fn drill_image<O: Sink>(
     winner: Winner,
     out: &mut O,
 ) -> Answer
-    ensures named { status_of result ≢ 2 }
+    ensures can { CanAnswer M.Drill DRILL_TURNS result }
     ensures readable { status_of result ≢ 5 }
     ensures input { status_of result ≢ 7 }
     ensures refused { status_of result ≡ 3 → out.new ≡ out.old }
-    ensures stopped { status_of result ≡ 4 → result ≡ A.Stopped DRILL_TURNS }
+    ensures line { status_of result ≡ 0 → (line : List ℕ) × IsRunLine sound.now winner tokens line × Takes O.agrees out.old out.new line }
+    ensures part { TakesNothing O.agrees out.old out.new ⊎ ((line : List ℕ) × IsRunLine sound.now winner tokens line × TakesPrefix O.agrees out.old out.new line) }
+    ensures silent { status_of result ≢ 0 → status_of result ≢ 6 → out.new ≡ out.old }
     ensures write_fault { status_of result ≡ 6 → RisesBy (O.faults out.old) (O.faults out.new) }
     ensures count { status_of result ≢ 6 → O.faults out.new ≡ O.faults out.old }
 {
@@ -90,18 +104,22 @@ fn drill_image<O: Sink>(
         &mut printed,
     );
     match outcome.end {
-        End::Done => report(alloc, tokens, &outcome, &printed, out),
+        End::Done => {
+            let turns = DRILL_TURNS.saturating_sub(outcome.turns_left);
+            report(alloc, tokens, turns, printed.count(), printed.sum(), out)
+        }
         End::Fault {
             kind,
             place,
             position,
         } => Answer::Fault {
-            kind,
+            fault: run_fault(kind),
             place,
             position,
         },
         End::Stopped => Answer::Stopped { turns: DRILL_TURNS },
-        End::InputBroken | End::OutputBroken | End::Memory => Answer::Memory,
+        End::Memory => Answer::Memory,
+        End::InputBroken | End::OutputBroken => unreachable!(),
     }
 }
 
@@ -109,38 +127,51 @@ fn drill_image<O: Sink>(
 fn report<O: Sink>(
     alloc: Global,
     tokens: usize,
-    outcome: &Outcome,
-    printed: &SureSink,
+    turns: u32,
+    bytes: u64,
+    total: u32,
     out: &mut O,
 ) -> Answer
-    ensures named { status_of result ≢ 2 }
-    ensures readable { status_of result ≢ 5 }
-    ensures input { status_of result ≢ 7 }
-    ensures refused { status_of result ≡ 3 → out.new ≡ out.old }
-    ensures stopped { status_of result ≡ 4 → result ≡ A.Stopped DRILL_TURNS }
+    ensures status { (status_of result ≡ 0) ⊎ ((status_of result ≡ 6) ⊎ (status_of result ≡ 8)) }
+    ensures line { status_of result ≡ 0 → Takes O.agrees out.old out.new (drill_line tokens turns bytes total) }
+    ensures part { TakesPrefix O.agrees out.old out.new (drill_line tokens turns bytes total) }
+    ensures silent { status_of result ≡ 8 → out.new ≡ out.old }
     ensures write_fault { status_of result ≡ 6 → RisesBy (O.faults out.old) (O.faults out.new) }
     ensures count { status_of result ≢ 6 → O.faults out.new ≡ O.faults out.old }
 {
-    let turns = DRILL_TURNS.saturating_sub(outcome.turns_left);
-    match line(alloc, tokens, turns, printed) {
-        Ok(text) => match out.put(text.as_slice()) {
-            Ok(()) => sent(out, Answer::Done),
-            Err(_) => Answer::WriteFault,
-        },
+    match line(alloc, tokens, turns, bytes, total) {
+        Ok(text) => put_line(text.as_slice(), out),
         Err(Memory) => Answer::Memory,
     }
 }
 
+/// Puts a line and sends it on.
+fn put_line<O: Sink>(text: &[u8], out: &mut O) -> Answer
+    ensures status { (status_of result ≡ 0) ⊎ (status_of result ≡ 6) }
+    ensures line { status_of result ≢ 6 → Takes O.agrees out.old out.new text.now }
+    ensures part { TakesPrefix O.agrees out.old out.new text.now }
+    ensures write_fault { status_of result ≡ 6 → RisesBy (O.faults out.old) (O.faults out.new) }
+    ensures count { status_of result ≢ 6 → O.faults out.new ≡ O.faults out.old }
+{
+    match out.put(text) {
+        Ok(()) => sent(out, Answer::Done),
+        Err(_) => Answer::WriteFault,
+    }
+}
+
 /// `tokens T turns K bytes B sum Z`
-fn line(alloc: Global, tokens: usize, turns: u32, printed: &SureSink) -> Result<Vec<u8>, Memory> {
+#[tactic(auto, unfolding(crate::specs::Drills::drill_line))]
+fn line(alloc: Global, tokens: usize, turns: u32, bytes: u64, total: u32) -> Result<Vec<u8>, Memory>
+    ensures { IfOk result (λ text. text.items ≡ drill_line tokens turns bytes total) }
+{
     let mut text = Vec::from_slice(alloc, b"tokens ")?;
     text.extend_from_slice(Buffer::new().format(tokens).as_bytes())?;
     text.extend_from_slice(b" turns ")?;
     text.extend_from_slice(Buffer::new().format(turns).as_bytes())?;
     text.extend_from_slice(b" bytes ")?;
-    text.extend_from_slice(Buffer::new().format(printed.count()).as_bytes())?;
+    text.extend_from_slice(Buffer::new().format(bytes).as_bytes())?;
     text.extend_from_slice(b" sum ")?;
-    text.extend_from_slice(Buffer::new().format(printed.sum()).as_bytes())?;
+    text.extend_from_slice(Buffer::new().format(total).as_bytes())?;
     text.extend_from_slice(b"\n")?;
     Ok(text)
 }

@@ -1,11 +1,10 @@
 //! The line that an answer puts on the error output.
 
-ghost use Rattle.std.specs.Prelude.{◌≡◌, ◌<◌, ◌≤◌, IfOk, OnOk, ◌++◌, List, ℕ, decimal, codes};
-ghost use Rattle.cstar_top.specs.Answers.{line_of, at_place, at_position};
-ghost use Rattle.cstar_top.specs.Faults.{refusal_text, fault_text};
+ghost use Rattle.std.specs.Prelude.{◌≡◌, ◌++◌, IfOk, OnOk, codes, decimal};
+ghost use Rattle.cstar_top.specs.Answers.{at_place, at_position, fault_text, line_of, refusal_text, two_digits};
 
 use crate::answer::Answer;
-use cstar_base::{Memory, Place};
+use cstar_base::{Fault, Memory, Place, RunFault};
 use itoa::Buffer;
 use std::alloc::Global;
 
@@ -21,12 +20,12 @@ pub fn line(alloc: Global, file: &[u8], answer: &Answer) -> Result<Vec<u8>, Memo
     match answer {
         Answer::Done | Answer::WriteFault => Ok(Vec::new(alloc)),
         Answer::Fault {
-            kind,
+            fault,
             place,
             position,
-        } => fault_line(alloc, file, *kind, *place, *position),
+        } => fault_line(alloc, file, *fault, *place, *position),
         Answer::Usage => Ok(Vec::from_slice(alloc, USAGE.as_bytes())?),
-        Answer::Refused { number, place } => refusal_line(alloc, file, *number, *place),
+        Answer::Refused { fault, place } => refusal_line(alloc, file, *fault, *place),
         Answer::Stopped { turns } => stopped_line(alloc, *turns),
         Answer::CannotRead => unreadable_line(alloc, file),
         Answer::InputFault => Ok(Vec::from_slice(alloc, b"input fault\n")?),
@@ -37,17 +36,29 @@ pub fn line(alloc: Global, file: &[u8], answer: &Answer) -> Result<Vec<u8>, Memo
 fn fault_line(
     alloc: Global,
     file: &[u8],
-    kind: u8,
+    fault: RunFault,
     place: Place,
     position: Option<u32>,
 ) -> Result<Vec<u8>, Memory>
-    ensures { IfOk result (λ text. text.items ≡ at_place file.now place ++ fault_text kind ++ at_position position ++ codes "\n") }
+    ensures { IfOk result (λ text. text.items ≡ at_place file.now place ++ fault_text fault ++ at_position position ++ codes "\n") }
 {
     let mut text = placed(alloc, file, place)?;
-    text.extend_from_slice(fault_name(kind))?;
+    push_fault(&mut text, fault)?;
     push_position(&mut text, position)?;
     text.extend_from_slice(b"\n")?;
     Ok(text)
+}
+
+/// `F1 Index`
+#[tactic(auto, unfolding(crate::specs::Answers::fault_text))]
+fn push_fault(text: &mut Vec<u8>, fault: RunFault) -> Result<(), Memory>
+    ensures { OnOk result (text.new.items ≡ text.old.items ++ fault_text fault) }
+{
+    text.extend_from_slice(b"F")?;
+    push_number(text, u32::from(fault.number()))?;
+    text.extend_from_slice(b" ")?;
+    text.extend_from_slice(fault.name().as_bytes())?;
+    Ok(())
 }
 
 fn push_position(text: &mut Vec<u8>, position: Option<u32>) -> Result<(), Memory>
@@ -63,13 +74,33 @@ fn push_position(text: &mut Vec<u8>, position: Option<u32>) -> Result<(), Memory
     }
 }
 
-fn refusal_line(alloc: Global, file: &[u8], number: u8, place: Place) -> Result<Vec<u8>, Memory>
-    ensures { IfOk result (λ text. text.items ≡ at_place file.now place ++ refusal_text number ++ codes "\n") }
+fn refusal_line(alloc: Global, file: &[u8], fault: Fault, place: Place) -> Result<Vec<u8>, Memory>
+    ensures { IfOk result (λ text. text.items ≡ at_place file.now place ++ refusal_text fault ++ codes "\n") }
 {
     let mut text = placed(alloc, file, place)?;
-    text.extend_from_slice(refusal_name(number))?;
+    push_refusal(&mut text, fault)?;
     text.extend_from_slice(b"\n")?;
     Ok(text)
+}
+
+/// `E05 Syntax`
+#[tactic(auto, unfolding(crate::specs::Answers::refusal_text))]
+fn push_refusal(text: &mut Vec<u8>, fault: Fault) -> Result<(), Memory>
+    ensures { OnOk result (text.new.items ≡ text.old.items ++ refusal_text fault) }
+{
+    text.extend_from_slice(b"E")?;
+    push_digits(text, fault.number())?;
+    text.extend_from_slice(b" ")?;
+    text.extend_from_slice(fault.name().as_bytes())?;
+    Ok(())
+}
+
+/// A number below 100.
+fn push_digits(text: &mut Vec<u8>, number: u8) -> Result<(), Memory>
+    ensures { OnOk result (text.new.items ≡ text.old.items ++ two_digits number) }
+{
+    text.extend_from_slice(&[b'0' + number / 10, b'0' + number % 10])?;
+    Ok(())
 }
 
 fn stopped_line(alloc: Global, turns: u32) -> Result<Vec<u8>, Memory>
@@ -108,80 +139,4 @@ fn push_number(text: &mut Vec<u8>, number: u32) -> Result<(), Memory>
 {
     text.extend_from_slice(Buffer::new().format(number).as_bytes())?;
     Ok(())
-}
-
-fn fault_name(kind: u8) -> &'static [u8]
-    ensures { result.now ≡ fault_text kind }
-{
-    if kind == 1 {
-        b"F1 Index"
-    } else {
-        b"F2 DivZero"
-    }
-}
-
-fn refusal_name(number: u8) -> &'static [u8]
-    ensures { result.now ≡ refusal_text number }
-{
-    if number > 32 {
-        return listing_refusal_name(number);
-    }
-    match number {
-        0 => b"E00 NotBuilt",
-        1 => b"E01 BadByte",
-        2 => b"E02 Open",
-        3 => b"E03 Wide",
-        4 => b"E04 Directive",
-        5 => b"E05 Syntax",
-        6 => b"E06 Redeclared",
-        7 => b"E07 Unknown",
-        8 => b"E08 WrongKind",
-        9 => b"E09 Extent",
-        10 => b"E10 NoShape",
-        11 => b"E11 OtherShape",
-        12 => b"E12 ScalarWanted",
-        13 => b"E13 ParallelWanted",
-        14 => b"E14 IndexCount",
-        15 => b"E15 Dot",
-        16 => b"E16 NotAPlace",
-        17 => b"E17 SendValue",
-        18 => b"E18 SendOperator",
-        19 => b"E19 Arguments",
-        20 => b"E20 Return",
-        21 => b"E21 Axis",
-        22 => b"E22 LoopWord",
-        23 => b"E23 Recursion",
-        24 => b"E24 NoMain",
-        25 => b"E25 Format",
-        26 => b"E26 Constant",
-        27 => b"E27 Depth",
-        28 => b"E28 Space",
-        29 => b"E29 Size",
-        30 => b"E30 TooLong",
-        31 => b"E31 ArrayDecl",
-        32 => b"E32 ArrayUse",
-        _ => unreachable!(),
-    }
-}
-
-/// The refusals of a listing.
-fn listing_refusal_name(number: u8) -> &'static [u8]
-    requires { 32 < number }
-    ensures { result.now ≡ refusal_text number }
-{
-    if number > 48 {
-        return b"E00 NotBuilt";
-    }
-    match number {
-        40 => b"E40 Listing",
-        41 => b"E41 Target",
-        42 => b"E42 Field",
-        43 => b"E43 Stack",
-        44 => b"E44 BackEdge",
-        45 => b"E45 Set",
-        46 => b"E46 Operands",
-        47 => b"E47 Space",
-        48 => b"E48 Slots",
-        _ => b"E00 NotBuilt",
-    }
 }

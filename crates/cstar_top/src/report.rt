@@ -1,11 +1,9 @@
 //! An answer told: its line on the error output, and its status.
 
-ghost use Rattle.std.specs.Prelude.{◌≡◌, ◌≢◌, ◌≤◌, ℕ, ◌⊎◌, [], codes};
+ghost use Rattle.std.specs.Prelude.{◌≡◌, ◌≢◌, ◌⊎◌, codes};
 ghost use Rattle.cstar_io.specs.Faults.{RisesBy};
 ghost use Rattle.cstar_io.specs.Output.{Takes, TakesNothing, TakesPrefix};
 ghost use Rattle.cstar_top.specs.Answers.{line_of, status_of};
-ghost use Rattle.cstar_top.specs.Reports.{PutsAnswer, PutsPartOfAnswer};
-ghost use Rattle.cstar_top.specs.declared.answer.Answer.TheVariants as A;
 
 use crate::answer::Answer;
 use crate::line::line;
@@ -19,9 +17,7 @@ pub fn report<E: Sink>(alloc: Global, file: &[u8], answer: Answer, err: &mut E) 
     ensures status { (result ≡ status_of answer) ⊎ (result ≡ 6) ⊎ (result ≡ 8) }
     ensures own { result ≡ status_of answer → result ≢ 6 → result ≢ 8 → Takes E.agrees err.old err.new (line_of file.now answer) }
     ensures memory { result ≡ 8 → Takes E.agrees err.old err.new (codes "out of memory\n") }
-    ensures line { result ≢ 6 → PutsAnswer E.agrees err.old err.new file.now result }
-    ensures part { result ≡ 6 → PutsPartOfAnswer E.agrees err.old err.new file.now }
-    ensures own_part { result ≡ 6 → TakesPrefix E.agrees err.old err.new (line_of file.now answer) ⊎ TakesPrefix E.agrees err.old err.new (codes "out of memory\n") }
+    ensures part { result ≡ 6 → TakesPrefix E.agrees err.old err.new (line_of file.now answer) ⊎ TakesPrefix E.agrees err.old err.new (codes "out of memory\n") }
     ensures kept { status_of answer ≡ 6 → result ≡ 6 }
     ensures failed { result ≡ 6 → (status_of answer ≡ 6) ⊎ RisesBy (E.faults err.old) (E.faults err.new) }
     ensures other { result ≢ 6 → E.faults err.new ≡ E.faults err.old }
@@ -31,7 +27,7 @@ pub fn report<E: Sink>(alloc: Global, file: &[u8], answer: Answer, err: &mut E) 
     }
     match line(alloc, file, &answer) {
         Ok(text) => put_answer(err, file, answer, text.as_slice()),
-        Err(_) => put_memory(err, file),
+        Err(_) => put_memory(err),
     }
 }
 
@@ -41,9 +37,7 @@ fn put_answer<E: Sink>(err: &mut E, file: &[u8], answer: Answer, text: &[u8]) ->
     ensures status { (result ≡ status_of answer) ⊎ (result ≡ 6) }
     ensures own { result ≢ 6 → Takes E.agrees err.old err.new (line_of file.now answer) }
     ensures memory { result ≡ 8 → Takes E.agrees err.old err.new (codes "out of memory\n") }
-    ensures line { result ≢ 6 → PutsAnswer E.agrees err.old err.new file.now result }
-    ensures part { result ≡ 6 → PutsPartOfAnswer E.agrees err.old err.new file.now }
-    ensures own_part { result ≡ 6 → TakesPrefix E.agrees err.old err.new (line_of file.now answer) }
+    ensures part { result ≡ 6 → TakesPrefix E.agrees err.old err.new (line_of file.now answer) }
     ensures failed { result ≡ 6 → (status_of answer ≡ 6) ⊎ RisesBy (E.faults err.old) (E.faults err.new) }
     ensures other { result ≢ 6 → E.faults err.new ≡ E.faults err.old }
 {
@@ -51,13 +45,10 @@ fn put_answer<E: Sink>(err: &mut E, file: &[u8], answer: Answer, text: &[u8]) ->
 }
 
 /// Puts the line of want of memory in the place of an answer's.
-#[tactic(auto, unfolding(crate::specs::Answers::line_of))]
-fn put_memory<E: Sink>(err: &mut E, file: &[u8]) -> u8
+fn put_memory<E: Sink>(err: &mut E) -> u8
     ensures status { (result ≡ 8) ⊎ (result ≡ 6) }
     ensures memory { result ≡ 8 → Takes E.agrees err.old err.new (codes "out of memory\n") }
-    ensures line { result ≢ 6 → PutsAnswer E.agrees err.old err.new file.now result }
-    ensures part { result ≡ 6 → PutsPartOfAnswer E.agrees err.old err.new file.now }
-    ensures own_part { result ≡ 6 → TakesPrefix E.agrees err.old err.new (codes "out of memory\n") }
+    ensures part { result ≡ 6 → TakesPrefix E.agrees err.old err.new (codes "out of memory\n") }
     ensures failed { result ≡ 6 → RisesBy (E.faults err.old) (E.faults err.new) }
     ensures other { result ≢ 6 → E.faults err.new ≡ E.faults err.old }
 {

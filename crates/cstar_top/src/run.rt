@@ -1,11 +1,11 @@
 //! A run of an image, and the listing, the final values and the count that go with it.
 
-ghost use Rattle.std.specs.Prelude.{◌≡◌, ◌≢◌, ◌++◌, ◌||◌, true, false, codes, decimal};
+ghost use Rattle.std.specs.Prelude.{◌≡◌, ◌≢◌, ℕ, ◌++◌, ◌||◌, true, false, codes, decimal};
 ghost use Rattle.cstar_io.specs.Faults.{RisesBy};
 ghost use Rattle.cstar_io.specs.Output.{Takes, TakesNothing, TakesPrefix};
 ghost use Rattle.cstar_top.specs.declared.answer.Answer.TheVariants as A;
 ghost use Rattle.cstar_top.specs.Answers.{status_of};
-ghost use Rattle.cstar_top.specs.Courses.{Reports, ReportsPart, answer_to_end, closing, closing_text, steps_line, where_asked};
+ghost use Rattle.cstar_top.specs.Courses.{Reports, ReportsPart, answer_to_end, closing, closing_text, run_fault, steps_line, where_asked};
 ghost use Rattle.cstar_top.specs.Runs.{IsEndOfRun};
 ghost use Rattle.final_values.specs.Finals.{finals_text};
 ghost use Rattle.paris_code.specs.Listing.{listing};
@@ -14,6 +14,7 @@ ghost use Rattle.paris_machine.specs.Ends.{output_broke};
 ghost use Rattle.paris_text.specs.Puts.{Puts};
 
 use crate::answer::Answer;
+use cstar_base::RunFault;
 use cstar_io::{Failed, Sink, Source};
 use cstar_words::Options;
 use final_values::put_finals;
@@ -33,8 +34,7 @@ pub fn run_image<I: Source, O: Sink>(
     input: &mut I,
     out: &mut O,
 ) -> Answer
-    ensures end { IsEndOfRun result }
-    ensures stopped { status_of result ≡ 4 → result ≡ A.Stopped options.now.turns }
+    ensures end { IsEndOfRun options.now.turns result }
     ensures write_fault { status_of result ≡ 6 → RisesBy (O.faults out.old) (O.faults out.new) }
     ensures input_fault { status_of result ≡ 7 → RisesBy (I.faults input.old) (I.faults input.new) }
     ensures count { status_of result ≢ 6 → O.faults out.new ≡ O.faults out.old }
@@ -66,6 +66,17 @@ fn put_listing<O: Sink>(sound: &Sound, options: &Options, out: &mut O) -> Result
     }
 }
 
+/// The fault of a run that has this number.
+pub fn run_fault(kind: u8) -> RunFault
+    ensures { result ≡ run_fault kind }
+{
+    if kind == RunFault::Index.number() {
+        RunFault::Index
+    } else {
+        RunFault::DivZero
+    }
+}
+
 /// The answer to the end of a run.
 fn answer_of(end: End, turns: u32) -> Answer
     ensures { result ≡ answer_to_end turns end }
@@ -77,7 +88,7 @@ fn answer_of(end: End, turns: u32) -> Answer
             place,
             position,
         } => Answer::Fault {
-            kind,
+            fault: run_fault(kind),
             place,
             position,
         },
@@ -98,7 +109,7 @@ fn finish<P: Phases, O: Sink>(
     out: &mut O,
 ) -> Answer
     requires { P.shapes phases.now ≡ shapes_of sound.now }
-    ensures end { IsEndOfRun result }
+    ensures end { IsEndOfRun options.now.turns result }
     ensures own { status_of result ≢ 6 → result ≡ answer_to_end options.now.turns outcome.end }
     ensures taken { status_of result ≢ 6 → Takes O.agrees out.old out.new (closing outcome.end (closing_text options.now sound.now outcome.steps (P.memory phases.now))) }
     ensures part { TakesPrefix O.agrees out.old out.new (closing outcome.end (closing_text options.now sound.now outcome.steps (P.memory phases.now))) }
@@ -127,7 +138,7 @@ fn ended<P: Phases, O: Sink>(
     answer: Answer,
 ) -> Answer
     requires { P.shapes phases.now ≡ shapes_of sound.now }
-    ensures end { IsEndOfRun answer → IsEndOfRun result }
+    ensures end { (turns : ℕ) → IsEndOfRun turns answer → IsEndOfRun turns result }
     ensures own { status_of result ≢ 6 → result ≡ answer }
     ensures taken { status_of result ≢ 6 → Takes O.agrees out.old out.new (closing_text options.now sound.now steps (P.memory phases.now)) }
     ensures part { TakesPrefix O.agrees out.old out.new (closing_text options.now sound.now steps (P.memory phases.now)) }
@@ -235,7 +246,6 @@ fn put_number<O: Sink>(steps: u64, out: &mut O) -> Result<(), Failed>
 pub fn list_image<O: Sink>(sound: &Sound, out: &mut O) -> Answer
     ensures listed { status_of result ≢ 6 → Takes O.agrees out.old out.new (listing sound.now) }
     ensures part { TakesPrefix O.agrees out.old out.new (listing sound.now) }
-    ensures end { IsEndOfRun result }
     ensures own { status_of result ≢ 6 → result ≡ A.Done }
     ensures write_fault { status_of result ≡ 6 → RisesBy (O.faults out.old) (O.faults out.new) }
     ensures count { status_of result ≢ 6 → O.faults out.new ≡ O.faults out.old }
@@ -249,7 +259,7 @@ pub fn list_image<O: Sink>(sound: &Sound, out: &mut O) -> Answer
 /// The answer, once the output is sent on, or a write fault where that fails.
 pub fn sent<O: Sink>(out: &mut O, answer: Answer) -> Answer
     ensures nothing { TakesNothing O.agrees out.old out.new }
-    ensures end { IsEndOfRun answer → IsEndOfRun result }
+    ensures end { (turns : ℕ) → IsEndOfRun turns answer → IsEndOfRun turns result }
     ensures own { status_of result ≢ 6 → result ≡ answer }
     ensures write_fault { status_of answer ≢ 6 → status_of result ≡ 6 → RisesBy (O.faults out.old) (O.faults out.new) }
     ensures count { status_of result ≢ 6 → O.faults out.new ≡ O.faults out.old }

@@ -1,22 +1,28 @@
 //! The command: its words, its file, and what they come to.
 
-ghost use Rattle.std.specs.Prelude.{◌≡◌, ◌≢◌, ◌<◌, ◌≤◌, ℕ, List, true, false, ◌⊎◌, Err, map, length, codes, IfOk};
+ghost use Rattle.std.specs.Prelude.{◌≡◌, ◌≢◌, ◌<◌, ◌≤◌, ℕ, List, true, false, ◌⊎◌, Err, map, length, IfErr, IfOk};
 ghost use Rattle.std.specs.String.{string_bytes};
+ghost use Rattle.cstar_base.specs.declared.faults.Fault.{Fault};
+ghost use Rattle.cstar_base.specs.declared.faults.Fault.TheVariants as F;
+ghost use Rattle.cstar_base.specs.declared.operators.Place.{Place};
+ghost use Rattle.cstar_compile.specs.Compiled.{IsOfProgram};
 ghost use Rattle.cstar_io.specs.Faults.{RisesBy};
-ghost use Rattle.cstar_io.specs.Output.{Takes, TakesNothing, TakesPrefix};
+ghost use Rattle.cstar_io.specs.Output.{Takes, TakesNothing};
 ghost use Rattle.cstar_words.specs.declared.options.Mode.TheVariants as M;
+ghost use Rattle.cstar_words.specs.declared.options.Options.{Options};
 ghost use Rattle.cstar_words.specs.Reading.{Reads, is_command, rows_in};
+ghost use Rattle.paris_code.specs.Listing.{listing};
 ghost use Rattle.cstar_top.specs.declared.answer.Answer.{Answer};
 ghost use Rattle.cstar_top.specs.declared.answer.Answer.TheVariants as A;
 ghost use Rattle.cstar_top.specs.declared.compile.NoImage.TheVariants as N;
 ghost use Rattle.cstar_top.specs.Answers.{line_of, status_of, usage_line};
-ghost use Rattle.cstar_compile.specs.Compiled.{IsOfProgram};
-ghost use Rattle.cstar_top.specs.Listings.{IsListing, TakesListing, TakesPartOfListing};
-ghost use Rattle.paris_code.specs.Listing.{listing};
-ghost use Rattle.cstar_top.specs.Modes.{AsksFor, HasBudget, LeavesInput, budget, leaves_input, named};
-ghost use Rattle.cstar_words.specs.declared.options.Options.{Options};
-ghost use Rattle.cstar_top.specs.Reported.{AsksToRun, Holds, IsWhole, ReportsText, ReportsTextPart, runs_image};
-ghost use Rattle.cstar_top.specs.Refusals.{AsksToRead, HoldsLong, RefusesLong, answer_to_none, file_start, reads_text};
+ghost use Rattle.cstar_top.specs.Assembled.{AnswersWhy, FitsMachine, RefusesListing, TellsWhy};
+ghost use Rattle.cstar_top.specs.Drills.{DrillPartTaken, DrillTaken, PutsDrill, PutsPartOfDrill};
+ghost use Rattle.cstar_top.specs.Listings.{TakesListing, TakesPartOfListing};
+ghost use Rattle.cstar_top.specs.Modes.{AsksFor, LeavesInput, budget, leaves_input, named, runs_image};
+ghost use Rattle.cstar_top.specs.Outcomes.{CanAnswer};
+ghost use Rattle.cstar_top.specs.Refusals.{AsksToRead, CanName, HoldsLong, NamesOnly, RefusesLong, answer_to_none, file_start, reads_text};
+ghost use Rattle.cstar_top.specs.Reported.{AsksToRun, Holds, IsWhole, ReportsText, ReportsTextPart};
 ghost use Rattle.cstar_top.specs.Reports.{CannotFetch, PutsAnswer, PutsPartOfAnswer};
 
 use crate::answer::Answer;
@@ -43,13 +49,12 @@ fn answer<S: Shelf, I: Source, O: Sink>(
     input: &mut I,
     out: &mut O,
 ) -> Answer
-    ensures named { status_of result ≢ 2 }
+    ensures can { CanAnswer options.now.mode (budget options.now.mode options.now.turns) result }
     ensures refused { status_of result ≡ 3 → (out.new ≡ out.old) × (input.new ≡ input.old) }
     ensures unreadable { status_of result ≡ 5 → (result ≡ A.CannotRead) × (out.new ≡ out.old) × (input.new ≡ input.old)
         × CannotFetch S.faults S.last_failed shelf.old shelf.new options.now.file.now }
     ensures too_long { reads_text options.now.mode ≡ true → HoldsLong S.tells S.file shelf.old options.now.file.now
-        → (result ≡ A.Refused 30 file_start) ⊎ ((status_of result ≡ 5) ⊎ (status_of result ≡ 8)) }
-    ensures stopped { status_of result ≡ 4 → result ≡ A.Stopped (budget options.now.mode options.now.turns) }
+        → (result ≡ A.Refused F.TooLong file_start) ⊎ ((status_of result ≡ 5) ⊎ (status_of result ≡ 8)) }
     ensures listed { options.now.mode ≡ M.List → status_of result ≡ 0 → TakesListing O.agrees out.old out.new }
     ensures part { options.now.mode ≡ M.List → TakesPartOfListing O.agrees out.old out.new }
     ensures report { runs_image options.now.mode ≡ true → status_of result ≢ 3 → status_of result ≢ 5 → status_of result ≢ 6 → status_of result ≢ 8
@@ -58,6 +63,11 @@ fn answer<S: Shelf, I: Source, O: Sink>(
     ensures part_of_report { runs_image options.now.mode ≡ true → TakesNothing O.agrees out.old out.new
         ⊎ ((text : List ℕ) × Holds S.tells S.file shelf.old options.now.file.now text
         × ReportsTextPart O.agrees out.old out.new (I.left input.old) (I.left input.new) options.now text) }
+    ensures assembled { options.now.mode ≡ M.Asm → status_of result ≡ 3
+        → (text : List ℕ) × Holds S.tells S.file shelf.old options.now.file.now text × AnswersWhy (RefusesListing text) result }
+    ensures drill { options.now.mode ≡ M.Drill → status_of result ≡ 0 → PutsDrill O.agrees out.old out.new options.now.seed options.now.winner }
+    ensures part_of_drill { options.now.mode ≡ M.Drill → TakesNothing O.agrees out.old out.new ⊎ PutsPartOfDrill O.agrees out.old out.new options.now.seed options.now.winner }
+    ensures silent_drill { options.now.mode ≡ M.Drill → status_of result ≢ 0 → status_of result ≢ 6 → out.new ≡ out.old }
     ensures silent { options.now.mode ≡ M.Check → out.new ≡ out.old }
     ensures unread { leaves_input options.now.mode ≡ true → input.new ≡ input.old }
     ensures write_fault { status_of result ≡ 6 → RisesBy (O.faults out.old) (O.faults out.new) }
@@ -97,14 +107,14 @@ fn answer_to<I: Source, O: Sink>(
     input: &mut I,
     out: &mut O,
 ) -> Answer
-    ensures named { status_of result ≢ 2 }
+    requires { options.now.mode ≢ M.Drill }
+    ensures can { CanAnswer options.now.mode (budget options.now.mode options.now.turns) result }
     ensures readable { status_of result ≢ 5 }
     ensures refused { status_of result ≡ 3 → (out.new ≡ out.old) × (input.new ≡ input.old) }
-    ensures too_long { reads_text options.now.mode ≡ true → 1048576 < length text.now → result ≡ A.Refused 30 file_start }
-    ensures stopped { status_of result ≡ 4 → (options.now.mode ≢ M.Drill) × (result ≡ A.Stopped options.now.turns) }
+    ensures too_long { reads_text options.now.mode ≡ true → 1048576 < length text.now → result ≡ A.Refused F.TooLong file_start }
     ensures listed { options.now.mode ≡ M.List → status_of result ≡ 0 → TakesListing O.agrees out.old out.new }
     ensures part { options.now.mode ≡ M.List → TakesPartOfListing O.agrees out.old out.new }
-    ensures assembled { options.now.mode ≡ M.Asm → status_of result ≢ 3 → status_of result ≢ 8 → IsListing text.now }
+    ensures assembled { options.now.mode ≡ M.Asm → AnswersWhy (RefusesListing text.now) result }
     ensures report { runs_image options.now.mode ≡ true → status_of result ≢ 3 → status_of result ≢ 6 → status_of result ≢ 8
         → ReportsText O.agrees out.old out.new (I.left input.old) (I.left input.new) options.now text.now result }
     ensures part_of_report { runs_image options.now.mode ≡ true → TakesNothing O.agrees out.old out.new
@@ -133,49 +143,64 @@ fn answer_to<I: Source, O: Sink>(
             Ok(sound) => run_image(alloc, &sound, options, input, out),
             Err(no_image) => refusal(no_image),
         },
-        Mode::Drill | Mode::Resume => {
+        Mode::Resume => {
             if text.len() > limit(options.mode) as usize {
                 refusal(too_long())
             } else {
                 refusal(not_built())
             }
         }
+        Mode::Drill => unreachable!(),
     }
 }
 
 /// The image of a program.
 fn compiled(alloc: Global, text: &[u8]) -> Result<Sound, NoImage>
     ensures compiled { IfOk result (λ sound. IsOfProgram sound) }
-    ensures too_long { FILE_LIMIT < length text.now → result ≡ Err (N.Refused 30 file_start) }
+    ensures too_long { FILE_LIMIT < length text.now → result ≡ Err (N.Refused F.TooLong file_start) }
+    ensures refused { IfErr result (NamesOnly (CanName M.List)) }
 {
-    let program = accepted(alloc, text)?;
-    compile(alloc, &program.typed)
+    match accepted(alloc, text) {
+        Ok(program) => compile(alloc, &program.typed),
+        Err(no_image) => Err(no_image),
+    }
 }
 
 /// The image of a program that is to be run. A run that is to be saved is not built yet.
 fn runnable(alloc: Global, options: &Options, text: &[u8]) -> Result<Sound, NoImage>
     ensures compiled { IfOk result (λ sound. IsOfProgram sound) }
     ensures within { IfOk result (λ sound. length text.now ≤ FILE_LIMIT) }
-    ensures too_long { FILE_LIMIT < length text.now → result ≡ Err (N.Refused 30 file_start) }
+    ensures too_long { FILE_LIMIT < length text.now → result ≡ Err (N.Refused F.TooLong file_start) }
+    ensures refused { IfErr result (NamesOnly (CanName M.Run)) }
 {
-    let program = accepted(alloc, text)?;
-    if options.save.is_some() {
-        return Err(not_built());
+    match accepted(alloc, text) {
+        Ok(program) => {
+            if options.save.is_some() {
+                return Err(not_built());
+            }
+            compile(alloc, &program.typed)
+        }
+        Err(no_image) => Err(no_image),
     }
-    compile(alloc, &program.typed)
 }
 
 /// The image of a listing that is to be run. A run that is to be saved is not built yet.
 fn runnable_listing(alloc: Global, options: &Options, text: &[u8]) -> Result<Sound, NoImage>
     ensures listed { IfOk result (λ sound. listing sound ≡ text.now) }
     ensures within { IfOk result (λ sound. length text.now ≤ FILE_LIMIT) }
-    ensures too_long { FILE_LIMIT < length text.now → result ≡ Err (N.Refused 30 file_start) }
+    ensures fits { IfOk result (λ sound. FitsMachine sound) }
+    ensures too_long { FILE_LIMIT < length text.now → result ≡ Err (N.Refused F.TooLong file_start) }
+    ensures refused { IfErr result (TellsWhy (RefusesListing text.now)) }
 {
-    let sound = assembled(alloc, text)?;
-    if options.save.is_some() {
-        return Err(not_built());
+    match assembled(alloc, text) {
+        Ok(sound) => {
+            if options.save.is_some() {
+                return Err(not_built());
+            }
+            Ok(sound)
+        }
+        Err(no_image) => Err(no_image),
     }
-    Ok(sound)
 }
 
 /// The answer where there is no image.
@@ -184,7 +209,7 @@ fn refusal(no_image: NoImage) -> Answer
     ensures status { (status_of result ≡ 3) ⊎ (status_of result ≡ 8) }
 {
     match no_image {
-        NoImage::Refused { number, place } => Answer::Refused { number, place },
+        NoImage::Refused { fault, place } => Answer::Refused { fault, place },
         NoImage::Memory => Answer::Memory,
     }
 }
@@ -212,18 +237,16 @@ pub fn cstar<R: Threads + Sync, S: Shelf, I: Source, O: Sink, E: Sink, G: Gate +
     gate: &G,
 ) -> u8
     ensures listed { result ≤ 8 }
-    ensures words { is_command (map string_bytes words.now) ≡ false → (result ≡ 2) ⊎ (result ≡ 6) ⊎ (result ≡ 8) }
-    ensures usage { result ≡ 2 → (is_command (map string_bytes words.now) ≡ false)
-        × (out.new ≡ out.old) × (input.new ≡ input.old) × Takes E.agrees err.old err.new usage_line }
+    ensures line { result ≢ 6 → PutsAnswer E.agrees err.old err.new (map string_bytes words.now) result }
+    ensures part { result ≡ 6 → PutsPartOfAnswer E.agrees err.old err.new (map string_bytes words.now) }
+    ensures usage { result ≡ 2 → (is_command (map string_bytes words.now) ≡ false) × Takes E.agrees err.old err.new usage_line }
+    ensures no_command { is_command (map string_bytes words.now) ≡ false → (out.new ≡ out.old) × (input.new ≡ input.old) × (shelf.new ≡ shelf.old) }
     ensures refused { result ≡ 3 → (out.new ≡ out.old) × (input.new ≡ input.old) }
     ensures too_long { is_command (map string_bytes words.now) ≡ true → AsksToRead (map string_bytes words.now)
         → HoldsLong S.tells S.file shelf.old (named (map string_bytes words.now))
         → RefusesLong E.agrees err.old err.new (named (map string_bytes words.now)) result }
-    ensures stopped { result ≡ 4 → (turns : ℕ) × HasBudget (map string_bytes words.now) turns
-        × Takes E.agrees err.old err.new (line_of (named (map string_bytes words.now)) (A.Stopped turns)) }
     ensures unreadable { result ≡ 5 → (out.new ≡ out.old) × (input.new ≡ input.old)
-        × CannotFetch S.faults S.last_failed shelf.old shelf.new (named (map string_bytes words.now))
-        × Takes E.agrees err.old err.new (line_of (named (map string_bytes words.now)) A.CannotRead) }
+        × CannotFetch S.faults S.last_failed shelf.old shelf.new (named (map string_bytes words.now)) }
     ensures listing { AsksFor M.List (map string_bytes words.now) → result ≡ 0 → TakesListing O.agrees out.old out.new }
     ensures part_of_listing { AsksFor M.List (map string_bytes words.now) → TakesPartOfListing O.agrees out.old out.new }
     ensures report { AsksToRun (map string_bytes words.now) → IsWhole result
@@ -233,15 +256,20 @@ pub fn cstar<R: Threads + Sync, S: Shelf, I: Source, O: Sink, E: Sink, G: Gate +
     ensures part_of_report { AsksToRun (map string_bytes words.now) → TakesNothing O.agrees out.old out.new
         ⊎ ((options : Options) × Reads (rows_in (map string_bytes words.now)) options × ((text : List ℕ) × Holds S.tells S.file shelf.old options.file.now text
         × ReportsTextPart O.agrees out.old out.new (I.left input.old) (I.left input.new) options text)) }
+    ensures assembled { AsksFor M.Asm (map string_bytes words.now) → result ≡ 3 → (text : List ℕ)
+        × Holds S.tells S.file shelf.old (named (map string_bytes words.now)) text
+        × ((fault : Fault) × ((place : Place) × RefusesListing text fault place
+        × Takes E.agrees err.old err.new (line_of (named (map string_bytes words.now)) (A.Refused fault place)))) }
+    ensures drill { AsksFor M.Drill (map string_bytes words.now) → result ≡ 0 → DrillTaken O.agrees out.old out.new (map string_bytes words.now) }
+    ensures part_of_drill { AsksFor M.Drill (map string_bytes words.now) → DrillPartTaken O.agrees out.old out.new (map string_bytes words.now) }
+    ensures silent_drill { AsksFor M.Drill (map string_bytes words.now) → result ≢ 0 → result ≢ 6 → result ≢ 8 → out.new ≡ out.old }
     ensures silent { AsksFor M.Check (map string_bytes words.now) → out.new ≡ out.old }
     ensures unread { LeavesInput (map string_bytes words.now) → input.new ≡ input.old }
     ensures write_fault { result ≡ 6 → RisesBy (O.faults out.old) (O.faults out.new) ⊎ RisesBy (E.faults err.old) (E.faults err.new) }
     ensures input_fault { result ≡ 7 → RisesBy (I.faults input.old) (I.faults input.new) }
     ensures counts { result ≢ 6 → (O.faults out.new ≡ O.faults out.old) × (E.faults err.new ≡ E.faults err.old) }
-    ensures calm { result ≤ 4 → (I.faults input.new ≡ I.faults input.old) × (S.faults shelf.new ≡ S.faults shelf.old) }
-    ensures memory { result ≡ 8 → Takes E.agrees err.old err.new (codes "out of memory\n") }
-    ensures line { result ≢ 6 → PutsAnswer E.agrees err.old err.new (named (map string_bytes words.now)) result }
-    ensures part { result ≡ 6 → PutsPartOfAnswer E.agrees err.old err.new (named (map string_bytes words.now)) }
+    ensures input_count { result ≢ 6 → result ≢ 7 → result ≢ 8 → I.faults input.new ≡ I.faults input.old }
+    ensures shelf_count { result ≢ 5 → result ≢ 6 → result ≢ 8 → S.faults shelf.new ≡ S.faults shelf.old }
     ensures files { (name : List ℕ) → S.file shelf.new name ≡ S.file shelf.old name }
 {
     let _ = rt;

@@ -1,6 +1,6 @@
 -- Small computed cases of the typing rules and of the room.
 use Rattle.std.proofs.Common.{refl}
-use Rattle.std.specs.Prelude.{◌≡◌, [], ◌∷◌, true, false, pos, Some, None}
+use Rattle.std.specs.Prelude.{◌≡◌, [], ◌∷◌, true, false, pos, negsuc, Some, None}
 use Rattle.cstar_base.specs.declared.elem.Elem.{Elem}
 use Rattle.cstar_base.specs.declared.operators.Op.TheVariants as O
 use Rattle.cstar_base.specs.Numbers.{number_of, residue}
@@ -12,7 +12,7 @@ use Rattle.cstar_base.specs.declared.formats.NumberFormat.TheVariants as F
 use Rattle.cstar_tree.specs.declared.typed.Piece.TheVariants as C
 use Rattle.cstar_tree.specs.Constants.{Constant, an_int, axis_among, cast_to, chosen, combined, operated, product, selected, with_both}
 use Rattle.cstar_tree.specs.Conversions.{common, int, promoted, unsigned}
-use Rattle.cstar_tree.specs.FileScopes.{extent_of}
+use Rattle.cstar_tree.specs.FileScopes.{extent_of, kept_extent}
 use Rattle.cstar_tree.specs.Formats.{form_behind, format_of, pieces_behind, pieces_of}
 use Rattle.cstar_tree.specs.Instances.{first_met, is_met}
 use Rattle.cstar_tree.specs.Operations.{assigned_elem, left_elem, result_elem, right_elem}
@@ -76,6 +76,13 @@ no_axis = refl
 
 no_extent : extent_of (Some (pos 0)) ≡ None
 no_extent = refl
+
+-- a shape keeps 1 for an extent that is no constant, and 0 for a negative one
+kept_faulty : kept_extent None ≡ 1
+kept_faulty = refl
+
+kept_negative : kept_extent (Some (negsuc 0)) ≡ 0
+kept_negative = refl
 
 -- "%d%%\n" is a conversion and two bytes, and "%" is no form
 format : pieces_of (37 ∷ 100 ∷ 37 ∷ 37 ∷ 10 ∷ []) ≡ Some (C.Argument F.Signed ∷ C.Bytes (37 ∷ 10 ∷ []) ∷ [])

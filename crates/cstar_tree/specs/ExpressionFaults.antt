@@ -205,13 +205,35 @@ pub data IsPart (here : Here) : Expr → Here → Expr → Type 0 where
   source : {p : Place} (source axis : Box Expr Global) {combiner : Combiner} {direction : Direction} {mode : SegmentMode} {bit : Option Name} {inclusion : Inclusion} → IsPart here (E.Scan p source axis combiner direction mode bit inclusion) (part here) source.value
   printed : {p : Place} {text : List ℕ} {e : Expr} (arguments : Vec Expr Global) (which : ℕ) → slice_get arguments.items which ≡ Some e → IsPart here (E.Printf p text arguments) (part here) e
 
--- a fault stands in an expression: at it, in a part or in brackets, or where a part that needs a
--- value has none
+-- an axis is a part of an expression
+pub data IsAxisPart : Expr → Expr → Type 0 where
+  along : {e axis : Expr} {mode : SegmentMode} {bit : Option Name} → GoesAlong e axis mode bit → IsAxisPart e axis
+  of_dim : {p : Place} {written : ShapeRef} (axis : Box Expr Global) → IsAxisPart (E.DimOf p written axis) axis.value
+
+mutual
+  -- Outside all functions an expression can have neither a fault in it nor a type: it calls a
+  -- function that has a parameter of a faulty type, and the fault stands at that parameter.
+  pub data IsUntold (program : Program) : Here → Expr → Type 0 where
+    faulty_call : {here : Here} {n : Name} {f : ℕ} {placed : Placed} (arguments : Vec Expr Global) (which : ℕ) → meaning here n.word ≡ Some (a_function f) → slice_get program.functions f ≡ Some placed → slice_get (parameters_of here placed f) which ≡ Some None → AreFaultless program here (E.Call n arguments) → IsUntold program here (E.Call n arguments)
+    in_untold_part : {here there : Here} {e x : Expr} → IsPart here e there x → IsUntold program there x → AreFaultless program here e → IsUntold program here e
+    in_untold_brackets : {here : Here} {p : Place} (inner : Box Expr Global) → IsUntold program here inner.value → IsUntold program here (E.Brackets p inner)
+
+  -- neither at an expression nor in its parts there is a fault
+  pub data AreFaultless (program : Program) : Here → Expr → Type 0 where
+    faultless : {here : Here} {e : Expr} → here.around ≡ None → ((fault : Fault) (p : Place) → FaultAt program here e fault p → ⊥) → ((axis : Expr) → IsAxisPart e axis → HasValue program (part here) axis) → ((there : Here) (x : Expr) → IsPart here e there x → IsFaultless program there x) → AreFaultless program here e
+
+  pub data IsFaultless (program : Program) : Here → Expr → Type 0 where
+    typed : {here : Here} {e : Expr} → HasValue program here e → IsFaultless program here e
+    untold : {here : Here} {e : Expr} → IsUntold program here e → IsFaultless program here e
+
+-- a fault stands in an expression: at it, in a part or in brackets, where a part that needs a value
+-- has none, or at an axis that is no constant expression since no call is one
 pub data FaultIn (program : Program) : Here → Expr → Fault → Place → Type 0 where
   at : {here : Here} {e : Expr} {fault : Fault} {p : Place} → FaultAt program here e fault p → FaultIn program here e fault p
   in_part : {here there : Here} {e x : Expr} {fault : Fault} {p : Place} → IsPart here e there x → FaultIn program there x fault p → FaultIn program here e fault p
   in_brackets : {here : Here} {q p : Place} {fault : Fault} (inner : Box Expr Global) → FaultIn program here inner.value fault p → FaultIn program here (E.Brackets q inner) fault p
   no_value : {here there : Here} {e x : Expr} {t : TExpr} → IsPart here e there x → Types program there x t false → FaultIn program here e F.WrongKind (place_of x)
+  axis_untold : {here : Here} {e axis : Expr} → IsAxisPart e axis → IsUntold program (part here) axis → FaultIn program here e F.Constant (place_of axis)
 
 -- a fault stands in an expression that needs a value
 pub data ValueFaultIn (program : Program) (here : Here) (e : Expr) : Fault → Place → Type 0 where

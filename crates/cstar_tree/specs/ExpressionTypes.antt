@@ -62,7 +62,7 @@ pub data Gives : Returns → ValueType → Bool → Type 0 where
   no_value : Gives nothing (scalar int) false
   value : {ty : ValueType} → Gives (a_value ty) ty true
 
--- outside all functions nothing is asked of the header's own faults
+-- outside all functions nothing is asked of the result's own fault
 pub data GivesOutside : Returns → ValueType → Bool → Type 0 where
   known : {r : Returns} {ty : ValueType} {has_value : Bool} → Gives r ty has_value → GivesOutside r ty has_value
   not_known : GivesOutside unknown (scalar int) true
@@ -82,10 +82,9 @@ pub record IsCallable (current : Option ℕ) (parameters : List (Option ValueTyp
   pub result_at_hand : IsKnownAtHand current (result_known returns)
 
 -- as many arguments as parameters, and no parallel one for a scalar parameter
-pub data AreTaken : List (Option ValueType) → List TExpr → Type 0 where
+pub data AreTaken : List ValueType → List TExpr → Type 0 where
   none : AreTaken [] []
-  for_faulty : {e : TExpr} {types : List (Option ValueType)} {es : List TExpr} → AreTaken types es → AreTaken (None ∷ types) (e ∷ es)
-  next : {ty : ValueType} {e : TExpr} {types : List (Option ValueType)} {es : List TExpr} → (ty.shape ≡ None → (type_of e).shape ≡ None) → AreTaken types es → AreTaken (Some ty ∷ types) (e ∷ es)
+  next : {ty : ValueType} {e : TExpr} {types : List ValueType} {es : List TExpr} → (ty.shape ≡ None → (type_of e).shape ≡ None) → AreTaken types es → AreTaken (ty ∷ types) (e ∷ es)
 
 -- the header of a function under the current shape of a place
 abbrev pub callee : Here → Placed → ℕ → Here
@@ -132,7 +131,7 @@ mutual
     -- current shape.
     call : {here : Here} {n : Name} {f around instance : ℕ} {placed : Placed} {types : List ValueType} {ty : ValueType} {has_value : Bool} {given : List TExpr} (arguments : Vec Expr Global) (fitted : Vec TExpr Global) → meaning here n.word ≡ Some (a_function f) → slice_get program.functions f ≡ Some placed → here.around ≡ Some around → (Leads program.calls f around → ⊥) → slice_get program.instances instance ≡ Some (record { function = f; current = here.current }) → parameter_types (callee here placed f) 0 placed.function.parameters.items ≡ map Some types → IsCallable here.current (map Some types) (returns_of (callee here placed f) placed.function.result) → Gives (returns_of (callee here placed f) placed.function.result) ty has_value → TypesEach program (part here) arguments.items given → AreFitted types given fitted.items → Types program here (E.Call n arguments) (T.Call ty instance fitted) has_value
     -- outside all functions a call reaches no instance, and is never a constant
-    call_outside : {here : Here} {n : Name} {f : ℕ} {placed : Placed} {ty : ValueType} {has_value : Bool} (arguments : Vec Expr Global) (given : Vec TExpr Global) → meaning here n.word ≡ Some (a_function f) → slice_get program.functions f ≡ Some placed → here.around ≡ None → IsCallable here.current (parameter_types (callee here placed f) 0 placed.function.parameters.items) (returns_of (callee here placed f) placed.function.result) → GivesOutside (returns_of (callee here placed f) placed.function.result) ty has_value → TypesEach program (part here) arguments.items given.items → AreTaken (parameter_types (callee here placed f) 0 placed.function.parameters.items) given.items → Types program here (E.Call n arguments) (T.Call ty 0 given) has_value
+    call_outside : {here : Here} {n : Name} {f : ℕ} {placed : Placed} {types : List ValueType} {ty : ValueType} {has_value : Bool} (arguments : Vec Expr Global) (given : Vec TExpr Global) → meaning here n.word ≡ Some (a_function f) → slice_get program.functions f ≡ Some placed → here.around ≡ None → parameter_types (callee here placed f) 0 placed.function.parameters.items ≡ map Some types → IsCallable here.current (map Some types) (returns_of (callee here placed f) placed.function.result) → GivesOutside (returns_of (callee here placed f) placed.function.result) ty has_value → TypesEach program (part here) arguments.items given.items → AreTaken types given.items → Types program here (E.Call n arguments) (T.Call ty 0 given) has_value
     pcoord : {here : Here} {p : Place} {shape number : ℕ} {extents : List ℕ} (axis : Box Expr Global) → here.current ≡ Some shape → extents_of here shape ≡ Some extents → axis_of here extents axis.value ≡ Some number → Types program here (E.Pcoord p axis) (T.Pcoord (parallel int shape) number) true
     positions_of : {here : Here} {p : Place} {written : ShapeRef} {shape : ℕ} {extents : List ℕ} → shape_of here written ≡ Some shape → extents_of here shape ≡ Some extents → Types program here (E.PositionsOf p written) (T.PositionsOf (scalar int) shape (product extents)) true
     rank_of : {here : Here} {p : Place} {written : ShapeRef} {shape : ℕ} {extents : List ℕ} → shape_of here written ≡ Some shape → extents_of here shape ≡ Some extents → Types program here (E.RankOf p written) (T.RankOf (scalar int) shape (length extents)) true

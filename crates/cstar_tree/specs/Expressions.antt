@@ -1,5 +1,5 @@
 -- The grammar of expressions: which tokens an expression stands for, each node at its place.
-use Rattle.std.specs.Prelude.{ℕ, ◌≤◌, ◌<◌, Bool, List, [], ◌∷◌, ◌++◌, Option, Vec, Box, length, IsSome}
+use Rattle.std.specs.Prelude.{◌≡◌, ℕ, ◌≤◌, ◌<◌, Bool, true, false, List, [], ◌∷◌, ◌++◌, Option, Vec, Box, length, IsSome}
 use Rattle.std.specs.declared.alloc.Global.{Global}
 use Rattle.cstar_base.specs.declared.operators.Place.{Place}
 use Rattle.cstar_base.specs.declared.operators.Combiner.{Combiner}
@@ -41,14 +41,20 @@ pub data AreCasts (tokens : List Token) : ℕ → List Cast → ℕ → Type 0 w
   no_cast : {from : ℕ} → AreCasts tokens from [] from
   one_more : {from mid a b to : ℕ} {casts : List Cast} (cast : Cast) {end : Place} → AreCasts tokens from casts mid → StandsMark tokens mid M.LeftParen cast.place a → IsElement tokens a cast.elem b → StandsMark tokens b M.RightParen end to → AreCasts tokens from (casts ++ cast ∷ []) to
 
+-- a chain of casts to scalar types
+abbrev pub is_chain : Expr → Bool
+is_chain (E.Casts' _ _ _) = true
+is_chain _ = false
+
 mutual
-  -- the tokens between two positions are this expression
+  -- the tokens between two positions are this expression; casts to scalar types are in one chain as
+  -- far as they go
   pub data IsExpr (tokens : List Token) : ℕ → Expr → ℕ → Type 0 where
     assign : {from mid next to : ℕ} {p : Place} {op : AssignOp} (target value : Box Expr Global) → IsExpr tokens from target.value mid → 13 ≤ strength_of target.value → StandsMark tokens mid (assign_mark op) p next → IsExpr tokens next value.value to → IsExpr tokens from (E.Assign p op target value) to
     choice : {from a b c d to : ℕ} {p colon : Place} (test then otherwise : Box Expr Global) → IsExpr tokens from test.value a → 2 ≤ strength_of test.value → StandsMark tokens a M.Question p b → IsExpr tokens b then.value c → StandsMark tokens c M.Colon colon d → IsExpr tokens d otherwise.value to → 1 ≤ strength_of otherwise.value → IsExpr tokens from (E.Choice p test then otherwise) to
     binary : {from mid next to : ℕ} {p : Place} {op : BinaryOp} (left right : Box Expr Global) → IsExpr tokens from left.value mid → binary_level op ≤ strength_of left.value → StandsMark tokens mid (binary_mark op) p next → IsExpr tokens next right.value to → binary_level op < strength_of right.value → IsExpr tokens from (E.Binary p op left right) to
     prefix : {from mid to : ℕ} {p : Place} {op : PrefixOp} (operand : Box Expr Global) → StandsMark tokens from (prefix_mark op) p mid → IsExpr tokens mid operand.value to → 13 ≤ strength_of operand.value → IsExpr tokens from (E.Prefix p op operand) to
-    casts : {from mid to : ℕ} (chain : Vec Cast Global) (operand : Box Expr Global) → 0 < length chain.items → AreCasts tokens from chain.items mid → IsExpr tokens mid operand.value to → 13 ≤ strength_of operand.value → IsExpr tokens from (E.Casts chain operand) to
+    casts : {from mid to : ℕ} (chain : Vec Cast Global) (operand : Box Expr Global) → 0 < length chain.items → AreCasts tokens from chain.items mid → IsExpr tokens mid operand.value to → 13 ≤ strength_of operand.value → is_chain operand.value ≡ false → IsExpr tokens from (E.Casts chain operand) to
     parallel_cast : {from a b c to : ℕ} {p end : Place} {type_name : TypeName} (operand : Box Expr Global) → StandsMark tokens from M.LeftParen p a → IsType tokens a type_name b → IsSome type_name.shape → StandsMark tokens b M.RightParen end c → IsExpr tokens c operand.value to → 13 ≤ strength_of operand.value → IsExpr tokens from (E.ParallelCast p type_name operand) to
     postfix : {from mid to : ℕ} {p : Place} {op : StepOp} (operand : Box Expr Global) → IsExpr tokens from operand.value mid → 14 ≤ strength_of operand.value → StandsMark tokens mid (step_mark op) p to → IsExpr tokens from (E.Postfix p op operand) to
     name : {from to : ℕ} {n : Name} → Stands tokens from (K.Name n.word) n.place to → IsExpr tokens from (E.Name n) to

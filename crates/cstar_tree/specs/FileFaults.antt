@@ -22,23 +22,23 @@ use Rattle.cstar_tree.specs.declared.typed.ValueType.{ValueType}
 use Rattle.cstar_tree.specs.Syntax.{place_of}
 use Rattle.cstar_tree.specs.Constants.{constant_number, product}
 use Rattle.cstar_tree.specs.Conversions.{int}
-use Rattle.cstar_tree.specs.ExpressionFaults.{ValueFaultIn}
+use Rattle.cstar_tree.specs.ExpressionFaults.{IsUntold, ValueFaultIn}
 use Rattle.cstar_tree.specs.ExpressionTypes.{HasValue}
 use Rattle.cstar_tree.specs.FaultOrder.{comes_before}
-use Rattle.cstar_tree.specs.FileScopes.{Known, behind_item, behind_shape, behind_variable, extent_of, extents_from, file_known, file_place, functions_named, nothing_known}
+use Rattle.cstar_tree.specs.FileScopes.{Known, behind_item, behind_shape, behind_variable, extent_of, file_known, file_place, functions_named, kept_extents, nothing_known}
 use Rattle.cstar_tree.specs.Headers.{Placed, Program, Reached, behind_parameter, body_place, header_place, returns_of}
 use Rattle.cstar_tree.specs.Instances.{main_of, program_of}
 use Rattle.cstar_tree.specs.Nodes.{tree_nodes}
 use Rattle.cstar_tree.specs.ProgramTypes.{TypesFile}
 use Rattle.cstar_tree.specs.Room.{HasRoom}
-use Rattle.cstar_tree.specs.Scopes.{Binding, Here, Meaning, find, written_type}
+use Rattle.cstar_tree.specs.Scopes.{Binding, Here, Meaning, find, part, written_type}
 use Rattle.cstar_tree.specs.StatementFaults.{ArrayFault, BlockFaultIn, LengthFaultIn, TypeFaultAt}
 
 -- a shape has more than 4 extents, one below 1, or more than 2 ^ 20 positions
 pub data ExtentFault (here : Here) (s : ShapeDefinition) : Type 0 where
   too_many : 4 < length s.extents.items → ExtentFault here s
   below_one : {e : Expr} {n : ℤ} (which : ℕ) → slice_get s.extents.items which ≡ Some e → constant_number here e ≡ Some n → extent_of (Some n) ≡ None → ExtentFault here s
-  too_large : {extents : List ℕ} → extents_from here s.extents.items ≡ Some extents → 2 ^ 20 < product extents → ExtentFault here s
+  too_large : 2 ^ 20 < product (kept_extents here s.extents.items) → ExtentFault here s
 
 -- a fault of a shape of the file, behind what is known
 pub data ShapeFault (program : Program) (functions : List Binding) (known : Known) (s : ShapeDefinition) : Fault → Place → Type 0 where
@@ -54,6 +54,7 @@ pub data VariableFault (program : Program) (functions : List Binding) (known : K
   of_array : ArrayFault (file_place functions known) ty d → VariableFault program functions known ty d F.ArrayDecl d.name.place
   in_initial : {i : Initializer} {fault : Fault} {p : Place} → d.initial ≡ Some i → ValueFaultIn program (file_place functions (behind_variable functions ty known d)) i.value fault p → VariableFault program functions known ty d fault p
   no_constant : {i : Initializer} → d.initial ≡ Some i → HasValue program (file_place functions (behind_variable functions ty known d)) i.value → constant_number (file_place functions (behind_variable functions ty known d)) i.value ≡ None → VariableFault program functions known ty d F.Constant (place_of i.value)
+  untold : {i : Initializer} → d.initial ≡ Some i → IsUntold program (part (file_place functions (behind_variable functions ty known d))) i.value → VariableFault program functions known ty d F.Constant (place_of i.value)
 
 pub data ShapesFault (program : Program) (functions : List Binding) : Known → List ShapeDefinition → Fault → Place → Type 0 where
   first : {known : Known} {s : ShapeDefinition} {ss : List ShapeDefinition} {fault : Fault} {p : Place} → ShapeFault program functions known s fault p → ShapesFault program functions known (s ∷ ss) fault p
@@ -78,7 +79,7 @@ pub data ParametersFault : Here → ℕ → List Parameter → Fault → Place �
   later : {here : Here} {which : ℕ} {fault : Fault} {q : Parameter} {qs : List Parameter} {p : Place} → ParametersFault (behind_parameter here which q) (which + 1) qs fault p → ParametersFault here which (q ∷ qs) fault p
 
 -- a fault of an instance: in its header, or in its body
-pub data InstanceFault (program : Program) (shapes : List (Option (List ℕ))) (r : Reached) (placed : Placed) : Fault → Place → Type 0 where
+pub data InstanceFault (program : Program) (shapes : List (List ℕ)) (r : Reached) (placed : Placed) : Fault → Place → Type 0 where
   result : {written : TypeName} {fault : Fault} {p : Place} → placed.function.result ≡ R.Written written → TypeFaultAt (header_place shapes placed r) written fault p → InstanceFault program shapes r placed fault p
   parameters : {fault : Fault} {p : Place} → ParametersFault (header_place shapes placed r) 0 placed.function.parameters.items fault p → InstanceFault program shapes r placed fault p
   body : {fault : Fault} {p : Place} → BlockFaultIn program (returns_of (header_place shapes placed r) placed.function.result) (body_place shapes placed r) placed.function.body fault p → InstanceFault program shapes r placed fault p

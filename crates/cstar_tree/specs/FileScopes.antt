@@ -46,7 +46,7 @@ function_names before number (item ∷ items) =
 -- functions it has
 pub record Known : Type 0 where
   pub names : List Binding
-  pub shapes : List (Option (List ℕ))
+  pub shapes : List (List ℕ)
   pub variables : ℕ
   pub functions : ℕ
 
@@ -94,6 +94,17 @@ bounded (Some extents) = if nat_le (length extents) 4 && nat_le (product extents
 unfoldable pub defined_extents : Here → ShapeDefinition → Option (List ℕ)
 defined_extents here s = bounded (extents_from here s.extents.items)
 
+-- The extents that a shape keeps, also where its definition has a fault: one that is no constant
+-- expression counts 1, and a negative one 0.
+abbrev pub kept_extent : Option ℤ → ℕ
+kept_extent None = 1
+kept_extent (Some (pos n)) = n
+kept_extent (Some (negsuc n)) = 0
+
+unfoldable pub kept_extents : Here → List Expr → List ℕ
+kept_extents here [] = []
+kept_extents here (e ∷ es) = kept_extent (constant_number here e) ∷ kept_extents here es
+
 -- what is known behind a shape, a variable and an item; a name that the file has already declares
 -- nothing
 unfoldable pub behind_shape : List Binding → Known → ShapeDefinition → Known
@@ -101,7 +112,7 @@ behind_shape functions known s =
     if is_some (find known.names s.name.word) then known
     else record {
       names = with_name known s.name.word (a_shape (length known.shapes));
-      shapes = known.shapes ++ defined_extents (file_place functions known) s ∷ [];
+      shapes = known.shapes ++ kept_extents (file_place functions known) s.extents.items ∷ [];
       variables = known.variables;
       functions = known.functions;
     }

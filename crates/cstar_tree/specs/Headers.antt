@@ -64,7 +64,7 @@ returns_of here (R.Written written) = a_result (written_type here written)
 
 -- where the header of a function stands, under a current shape: the parameters and the outermost
 -- block are one scope inside that of the file
-abbrev pub header_place : List (Option (List ℕ)) → Placed → Reached → Here
+abbrev pub header_place : List (List ℕ) → Placed → Reached → Here
 header_place shapes placed reached = record {
   names = record { inner = []; outer = placed.known };
   shapes = shapes;
@@ -77,7 +77,7 @@ header_place shapes placed reached = record {
 }
 
 -- where the outermost block stands
-abbrev pub body_place : List (Option (List ℕ)) → Placed → Reached → Here
+abbrev pub body_place : List (List ℕ) → Placed → Reached → Here
 body_place shapes placed reached = behind_parameters (header_place shapes placed reached) 0 placed.function.parameters.items
 
 -- the one function is the other, or calls it through any number of calls

@@ -27,11 +27,11 @@ first_met before [] = []
 first_met before (r ∷ rest) = if is_met r before then first_met before rest else r ∷ first_met (r ∷ before) rest
 
 -- the calls of a function under a current shape, in text order
-abbrev pub calls_of_placed : List (Option (List ℕ)) → Reached → Option Placed → List Call
+abbrev pub calls_of_placed : List (List ℕ) → Reached → Option Placed → List Call
 calls_of_placed shapes r None = []
 calls_of_placed shapes r (Some placed) = calls_in_block placed.function.body (body_place shapes placed r)
 
-unfoldable pub calls_of : List (Option (List ℕ)) → List Placed → Reached → List Call
+unfoldable pub calls_of : List (List ℕ) → List Placed → Reached → List Call
 calls_of shapes functions r = calls_of_placed shapes r (slice_get functions r.function)
 
 -- the instances that calls reach, whatever faults the calls have
@@ -40,10 +40,10 @@ reached_by [] = []
 reached_by (c ∷ cs) = if c.typed then record { function = c.function; current = c.current } ∷ reached_by cs else reached_by cs
 
 -- one round: an instance that `main` is, then all that those of a list call, in order
-unfoldable pub next_round : List (Option (List ℕ)) → List Placed → Reached → List Reached → List Reached
+unfoldable pub next_round : List (List ℕ) → List Placed → Reached → List Reached → List Reached
 next_round shapes functions main list = first_met [] (main ∷ concat (map (λ r. reached_by (calls_of shapes functions r)) list))
 
-unfoldable pub after_rounds : ℕ → List (Option (List ℕ)) → List Placed → Reached → List Reached
+unfoldable pub after_rounds : ℕ → List (List ℕ) → List Placed → Reached → List Reached
 after_rounds zero shapes functions main = main ∷ []
 after_rounds (suc rounds) shapes functions main = next_round shapes functions main (after_rounds rounds shapes functions main)
 
@@ -62,7 +62,7 @@ main_of tree = function_meant (find (file_known tree).names main_word)
 
 -- The instances that `main` reaches. Each round that is not the last meets a new one, and there are
 -- no more than functions times shapes and none, so as many rounds meet all.
-abbrev pub instances_from : List (Option (List ℕ)) → List Placed → Option ℕ → List Reached
+abbrev pub instances_from : List (List ℕ) → List Placed → Option ℕ → List Reached
 instances_from shapes functions None = []
 instances_from shapes functions (Some main) = after_rounds (length functions * (length shapes + 1)) shapes functions (record { function = main; current = None })
 
@@ -70,7 +70,7 @@ abbrev pub instances_of : Tree → List Reached
 instances_of tree = instances_from (file_known tree).shapes (file_functions tree) (main_of tree)
 
 -- the functions that each function calls in the text, under any shape
-unfoldable pub called_from : List (Option (List ℕ)) → List Placed → ℕ → List Placed → List (List ℕ)
+unfoldable pub called_from : List (List ℕ) → List Placed → ℕ → List Placed → List (List ℕ)
 called_from shapes functions number [] = []
 called_from shapes functions number (placed ∷ rest) =
     map (λ (c : Call). c.function) (calls_of shapes functions (record { function = number; current = None })) ∷ called_from shapes functions (number + 1) rest

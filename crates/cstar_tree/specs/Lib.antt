@@ -1,4 +1,5 @@
 pub mod BlockScopes
+pub mod Bounds
 pub mod Calls
 pub mod Constants
 pub mod Conversions

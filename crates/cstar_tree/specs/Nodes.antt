@@ -84,11 +84,11 @@ abbrev pub block_nodes : Block → Here → ℕ
 block_nodes block here = 1 + declaration_nodes here block.declarations.items + total_at (behind_declarations here block.declarations.items) (map statement_nodes block.statements.items)
 
 -- an instance: its item, its parameters and its body
-abbrev pub placed_nodes : List (Option (List ℕ)) → Reached → Option Placed → ℕ
+abbrev pub placed_nodes : List (List ℕ) → Reached → Option Placed → ℕ
 placed_nodes shapes r None = 0
 placed_nodes shapes r (Some placed) = 1 + length placed.function.parameters.items + block_nodes placed.function.body (body_place shapes placed r)
 
-unfoldable pub instance_nodes : Program → List (Option (List ℕ)) → List Reached → ℕ
+unfoldable pub instance_nodes : Program → List (List ℕ) → List Reached → ℕ
 instance_nodes program shapes [] = 0
 instance_nodes program shapes (r ∷ rs) = placed_nodes shapes r (slice_get program.functions r.function) + instance_nodes program shapes rs
 

@@ -68,7 +68,7 @@ pub data IsBody (locals : List LocalVar) (statements : List TStmt) : TStmt → T
   body : (ls : Vec LocalVar Global) (ss : Vec TStmt Global) → ls.items ≡ locals → ss.items ≡ statements → IsBody locals statements (T.Block ls ss)
 
 -- a function under a current shape becomes this instance
-pub record TypesInstance (program : Program) (shapes : List (Option (List ℕ))) (r : Reached) (i : Instance) : Type 0 where
+pub record TypesInstance (program : Program) (shapes : List (List ℕ)) (r : Reached) (i : Instance) : Type 0 where
   pub placed : Placed
   pub is_function : slice_get program.functions r.function ≡ Some placed
   pub its_name : i.name ≡ placed.function.name.word
@@ -80,7 +80,7 @@ pub record TypesInstance (program : Program) (shapes : List (Option (List ℕ)))
   pub block : TypesBlock program (returns_of (header_place shapes placed r) placed.function.result) (body_place shapes placed r) placed.function.body locals statements
   pub body : IsBody locals statements i.body
 
-pub data TypesInstances (program : Program) (shapes : List (Option (List ℕ))) : List Reached → List Instance → Type 0 where
+pub data TypesInstances (program : Program) (shapes : List (List ℕ)) : List Reached → List Instance → Type 0 where
   no_instance : TypesInstances program shapes [] []
   next_instance : {r : Reached} {rs : List Reached} {i : Instance} {is : List Instance} → TypesInstance program shapes r i → TypesInstances program shapes rs is → TypesInstances program shapes (r ∷ rs) (i ∷ is)
 

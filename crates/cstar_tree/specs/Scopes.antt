@@ -43,13 +43,13 @@ declared names word meaning =
     else record { inner = record { word = word; meaning = meaning } ∷ names.inner; outer = names.outer }
 
 -- Where an expression or a statement stands: the names around it, the extents of each shape of the
--- file (absent where its definition has a fault), the current shape, and the function around.
+-- file, the current shape, and the function around.
 -- `dot` is the axis that a `.` means in a left index. `whole` tells of an expression that it is a
 -- whole statement, or the first or third part of a `for`. `locals` is how many variables of blocks
 -- the function has declared before. `loop` tells whether a loop of the function is around.
 pub record Here : Type 0 where
   pub names : Names
-  pub shapes : List (Option (List ℕ))
+  pub shapes : List (List ℕ)
   pub current : Option ℕ
   pub around : Option ℕ
   pub dot : Option ℕ
@@ -95,13 +95,9 @@ of_written here written (Some shape) = of_shape written (shape_of here shape)
 abbrev pub written_type : Here → TypeName → Option ValueType
 written_type here written = of_written here written written.shape
 
--- the extents of a shape, where its definition has no fault
-abbrev pub joined : Option (Option (List ℕ)) → Option (List ℕ)
-joined None = None
-joined (Some extents) = extents
-
+-- the extents of a shape
 unfoldable pub extents_of : Here → ℕ → Option (List ℕ)
-extents_of here shape = joined (slice_get here.shapes shape)
+extents_of here shape = slice_get here.shapes shape
 
 -- A whole parallel value has the current shape (the rule of C* for what is not left-indexed); a
 -- scalar one may stand anywhere.

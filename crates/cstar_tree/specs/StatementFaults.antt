@@ -23,7 +23,7 @@ use Rattle.cstar_tree.specs.Syntax.{place_of}
 use Rattle.cstar_tree.specs.Typed.{type_of}
 use Rattle.cstar_tree.specs.BlockScopes.{behind, behind_declarations, behind_declarator, behind_declarators, block_place, in_loop}
 use Rattle.cstar_tree.specs.Constants.{constant_number}
-use Rattle.cstar_tree.specs.ExpressionFaults.{FaultIn, IsAway, ValueFaultIn, kind_of, shape}
+use Rattle.cstar_tree.specs.ExpressionFaults.{FaultIn, IsAway, IsUntold, ValueFaultIn, kind_of, shape}
 use Rattle.cstar_tree.specs.ExpressionTypes.{HasValue, Types}
 use Rattle.cstar_tree.specs.Headers.{Program, Returns, a_value, nothing}
 use Rattle.cstar_tree.specs.Scopes.{Here, Meaning, as_whole, find, meaning, part, shape_of, under, written_type}
@@ -56,6 +56,7 @@ pub data ArrayFault (here : Here) (ty : Option ValueType) (d : Declarator) : Typ
 pub data LengthFaultIn (program : Program) (here : Here) (e : Expr) : Fault → Place → Type 0 where
   within : {fault : Fault} {p : Place} → FaultIn program (part here) e fault p → LengthFaultIn program here e fault p
   no_constant : {t : TExpr} {has_value : Bool} → Types program (part here) e t has_value → constant_number here e ≡ None → LengthFaultIn program here e F.Constant (place_of e)
+  untold : IsUntold program (part here) e → LengthFaultIn program here e F.Constant (place_of e)
 
 -- a declared variable of a block, whose type is written as this
 pub data DeclaratorFault (program : Program) (here : Here) (ty : Option ValueType) (d : Declarator) : Fault → Place → Type 0 where

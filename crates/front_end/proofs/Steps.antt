@@ -6,6 +6,8 @@ use Rattle.std.proofs.Math.Nat.{mod-add-mod, mod-eq_of_lt}
 use Rattle.std.proofs.Math.Seq.{get_or-append_seam, take-append_seam}
 use Rattle.std.proofs.lemmas.Nat.{mul-mod_first}
 use Rattle.cstar_base.specs.declared.operators.Place.{Place}
+use Rattle.cstar_base.specs.declared.faults.RunFault.{RunFault}
+use Rattle.cstar_base.specs.Faults.{run_number_of}
 use Rattle.paris_code.specs.declared.instr.Instr.{Instr}
 use Rattle.paris_code.specs.declared.instr.Instr.TheVariants as I
 use Rattle.vp_sets.specs.Positions.{position_count, number_at}
@@ -91,16 +93,16 @@ pub asks_turn : (image : Image) (old : State) → IsControl image old I.FrontTur
     → AsksFor image old (if old.turns == 0 then A.Stopped else A.Ran) (if old.turns == 0 then old else record old { at = old.at + 1; turns = old.turns - 1 })
 asks_turn image old is ready = turn_asks image old (old.turns == 0) ready (begins_control image I.FrontTurn old is)
 
-check_asks : (image : Image) (old new : State) (fails : Bool) (kind : ℕ) (place : Place) → new.wanted ≡ None → Begins image old (λ m i o. if fails then Ends (Fault kind place None) (joined new m i o) else Goes (joined new m i o))
-    → AsksFor image old (if fails then A.Fault kind place else A.Ran) new
-check_asks image old new true kind place ready h = (ready, h)
-check_asks image old new false kind place ready h = (ready, h)
+check_asks : (image : Image) (old new : State) (fails : Bool) (fault : RunFault) (place : Place) → new.wanted ≡ None → Begins image old (λ m i o. if fails then Ends (Fault fault place None) (joined new m i o) else Goes (joined new m i o))
+    → AsksFor image old (if fails then A.Fault (run_number_of fault) place else A.Ran) new
+check_asks image old new true fault place ready h = (fault, refl, ready, h)
+check_asks image old new false fault place ready h = (ready, h)
 
-pub asks_target : (image : Image) (old : State) (instr : Instr) (fails : Bool) (kind : ℕ) (place : Place) → IsControl image old instr → old.wanted ≡ None
-    → ((m : BitMemory) (i : Rest) (o : List ℕ) → controlled image instr (joined old m i o) ≡ (if fails then Ends (Fault kind place None) (joined (record old { at = old.at + 1 }) m i o) else Goes (joined (record old { at = old.at + 1 }) m i o)))
-    → AsksFor image old (if fails then A.Fault kind place else A.Ran) (record old { at = old.at + 1 })
-asks_target image old instr fails kind place is ready same =
-    check_asks image old (record old { at = old.at + 1 }) fails kind place ready (λ m i o. begins_control image instr old is m i o ∙ same m i o)
+pub asks_target : (image : Image) (old : State) (instr : Instr) (fails : Bool) (fault : RunFault) (place : Place) → IsControl image old instr → old.wanted ≡ None
+    → ((m : BitMemory) (i : Rest) (o : List ℕ) → controlled image instr (joined old m i o) ≡ (if fails then Ends (Fault fault place None) (joined (record old { at = old.at + 1 }) m i o) else Goes (joined (record old { at = old.at + 1 }) m i o)))
+    → AsksFor image old (if fails then A.Fault (run_number_of fault) place else A.Ran) (record old { at = old.at + 1 })
+asks_target image old instr fails fault place is ready same =
+    check_asks image old (record old { at = old.at + 1 }) fails fault place ready (λ m i o. begins_control image instr old is m i o ∙ same m i o)
 
 pub asks_put : (image : Image) (bytes : List ℕ) (old : State) → IsControl image old (I.FrontPutBytes bytes) → old.wanted ≡ None
     → AsksFor image old (A.Literal old.at) (record old { at = old.at + 1 })

@@ -1,5 +1,7 @@
 -- What contracts see of the front end, and when it fits an image.
 use Rattle.std.specs.Prelude.{◌≡◌, ℕ, ◌<◌, ◌≤◌, ◌+◌, ◌-◌, ◌^◌, List, [], ◌∷◌, ◌++◌, length, take, All, Option, None, IfSome, IsSome, true}
+use Rattle.cstar_base.specs.declared.faults.RunFault.{RunFault}
+use Rattle.cstar_base.specs.Faults.{run_number_of}
 use Rattle.paris_code.specs.declared.instr.Instr.{Instr}
 use Rattle.paris_code.specs.declared.instr.Instr.TheVariants as I
 use Rattle.paris_code.specs.declared.program.Image.{Image}
@@ -99,7 +101,9 @@ AsksFor image old (A.Literal at) new =
     × Begins image old (λ m i o. Goes (joined new m i (o ++ bytes)))
 AsksFor image old (A.Digits text len) new = (len ≤ 11) × (new.wanted ≡ None) × Begins image old (λ m i o. Goes (joined new m i (o ++ take len text)))
 AsksFor image old A.Byte new = IsSome new.wanted × Begins image old (λ m i o. answered_from new m i.bytes i.mark o)
-AsksFor image old (A.Fault kind place) new = (new.wanted ≡ None) × Begins image old (λ m i o. Ends (Fault kind place None) (joined new m i o))
+AsksFor image old (A.Fault kind place) new =
+    (fault : RunFault) × (run_number_of fault ≡ kind) × (new.wanted ≡ None)
+    × Begins image old (λ m i o. Ends (Fault fault place None) (joined new m i o))
 AsksFor image old A.Stopped new = (new.wanted ≡ None) × Begins image old (λ m i o. Ends Stopped (joined new m i o))
 AsksFor image old A.Halted new = (new.wanted ≡ None) × Begins image old (λ m i o. Ends Done (joined new m i o))
 

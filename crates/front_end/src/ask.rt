@@ -14,8 +14,7 @@ pub enum Ask {
     Digits { text: [u8; 11], len: u8 },
     /// The next byte of the input, or 4294967295 at its end, is wanted as an answer.
     Byte,
-    /// A check of the front end failed: kind 1 for a coordinate outside its extent, kind 2 for a
-    /// divisor of 0.
+    /// A check of the front end failed: `kind` is the number of the fault.
     Fault { kind: u8, place: Place },
     /// There is no turn left for the turn that the code wants to spend.
     Stopped,

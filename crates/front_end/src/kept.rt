@@ -3,7 +3,7 @@
 ghost use Rattle.std.specs.Prelude.{◌≡◌, ◌<◌, ◌≤◌, IfOk, IfErr, IfSome, IsSomeAnd, All, None, false, vec_len, slice_set};
 ghost use Rattle.paris_code.specs.declared.program.Image.{Image};
 ghost use Rattle.front_end.specs.Front.{state_of, Fits, argument_limit};
-ghost use Rattle.front_end.specs.Kept.{KeptFits, IsOpening, GoesOnFrom};
+ghost use Rattle.front_end.specs.Kept.{KeptFits, IsOpening, GoesOnFrom, Opens};
 
 use crate::front::Front;
 use cstar_base::{Memory, Numbers};
@@ -69,10 +69,10 @@ fn argument_room(code: &[Instr]) -> usize
 }
 
 impl Front {
-    /// The front end at the opening state. Takes the room for registers, return places and
-    /// arguments.
+    /// The front end where a run of the image begins, with these turns. Takes the room for
+    /// registers, return places and arguments.
     pub fn new(alloc: Global, sound: &Sound, turns: u32) -> Result<Front, Memory>
-        ensures { IfOk result (λ front. Fits sound.now (state_of front) × (front.turns ≡ turns) × (front.wanted ≡ None)) }
+        ensures { IfOk result (λ front. Opens sound.now turns front) }
     {
         let kept = Kept::new(alloc, sound)?;
         match Front::from_kept(alloc, sound, kept, turns) {

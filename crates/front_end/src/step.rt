@@ -1,4 +1,5 @@
 ghost use Rattle.std.specs.Prelude.{◌≡◌, ◌≢◌, ◌+◌, ◌-◌, ◌<◌, ◌≤◌, ◌==◌, if◌then◌else◌, length, slice_set, slice_index, take, true, false, None, Some, ◌++◌, ◌∷◌, []};
+ghost use Rattle.cstar_base.specs.Faults.{run_number_of};
 ghost use Rattle.paris_code.specs.Sound.{KeepsRules};
 ghost use Rattle.paris_code.specs.RuleTarget.{GoesOn};
 ghost use Rattle.paris_code.specs.Units.{IsAt, IsInUnitOf, unit_of, start_at};
@@ -15,7 +16,7 @@ use crate::compute::result_register;
 use crate::front::Front;
 use crate::numerals;
 use crate::numerals::Numeral;
-use cstar_base::{NumberFormat, Place};
+use cstar_base::{NumberFormat, Place, RunFault};
 use image_check::Sound;
 use paris_code::Instr;
 
@@ -208,16 +209,19 @@ impl Front {
     }
 
     /// Goes on; a check that failed is a fault at its place.
-    fn check(&mut self, sound: &Sound, fails: bool, kind: u8, place: Place) -> Ask
+    fn check(&mut self, sound: &Sound, fails: bool, fault: RunFault, place: Place) -> Ask
         requires fits { Fits sound.now (state_of self.old) }
         requires goes { GoesOn sound.now self.old.at }
         ensures fits { Fits sound.now (state_of self.new) }
         ensures state { state_of self.new ≡ record (state_of self.old) { at = self.old.at + 1 } }
-        ensures asks { result ≡ (if fails then Ask.Fault kind place else Ask.Ran) }
+        ensures asks { result ≡ (if fails then Ask.Fault (run_number_of fault) place else Ask.Ran) }
     {
         self.go_on(sound);
         if fails {
-            Ask::Fault { kind, place }
+            Ask::Fault {
+                kind: fault.number(),
+                place,
+            }
         } else {
             Ask::Ran
         }
@@ -256,11 +260,11 @@ impl Front {
                 coordinates,
             } => {
                 let fails = self.any_outside(sound, *set, coordinates.as_slice());
-                self.check(sound, fails, 1, *place)
+                self.check(sound, fails, RunFault::Index, *place)
             }
             Instr::FrontCheckDivisor { place, source } => {
                 let value = self.register(*source);
-                self.check(sound, value == 0, 2, *place)
+                self.check(sound, value == 0, RunFault::DivZero, *place)
             }
             _ => Ask::Halted,
         }

@@ -26,6 +26,7 @@ use std::alloc::Global;
 #[tactic(auto, unfolding(crate::specs::Programs::units_of))]
 pub fn lower(alloc: Global, t: &Typed) -> Result<Program, Memory>
     ensures lowered { IfOk result (λ program. IsLowered t.now program) }
+    ensures each_instance { IfOk result (λ program. length program.units.items ≡ length t.now.instances.items) }
     ensures numbered { IfOk result (λ program. instructions_in (map draft program.units.items) < 2 ^ 32) }
     ensures each_shape { IfOk result (λ program. length program.shapes.items ≡ length t.now.shapes.items) }
 {

@@ -8,6 +8,7 @@ mod lines;
 mod listing;
 mod names;
 mod operands;
+mod plain;
 mod words;
 
 pub use listing::{AsmFault, read};

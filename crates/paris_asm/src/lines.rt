@@ -1,8 +1,12 @@
 //! The lines of a listing, in the order of its parts.
 
+ghost use Rattle.std.specs.Prelude.{◌≡◌, ◌≤◌, IfOk, length};
+ghost use Rattle.paris_code.specs.Plain.{AreFinalNames, AreGrids, AreUnitNames, HasAxis, IsElementName, IsName, IsPlain};
+
 use crate::instructions::instruction;
 use crate::operands::{field, kind};
-use crate::words::{Stop, Words, marked, number};
+use crate::plain::{is_element_name, is_name};
+use crate::words::{Stop, Words, number, parted};
 use cstar_base::Word;
 use paris_code::{Entry, Final, Image, ShapeBits};
 use std::alloc::Global;
@@ -26,7 +30,9 @@ pub struct Reading {
 }
 
 impl Reading {
-    pub fn new(alloc: Global) -> Reading {
+    pub fn new(alloc: Global) -> Reading
+        ensures { IsPlain result.image }
+    {
         Reading {
             image: Image {
                 shapes: Vec::new(alloc),
@@ -42,7 +48,9 @@ impl Reading {
 
     /// Reads one more line. What it holds is right, but its numbers may be written otherwise than
     /// in a listing.
-    pub fn line(&mut self, alloc: Global, line: &[u8]) -> Result<(), Stop> {
+    pub fn line(&mut self, alloc: Global, line: &[u8]) -> Result<(), Stop>
+        ensures { IsPlain self.old.image → IsPlain self.new.image }
+    {
         let mut words = Words::new(line);
         match line {
             [b'.', ..] => self.part_line(alloc, &mut words)?,
@@ -55,7 +63,9 @@ impl Reading {
         }
     }
 
-    fn part_line(&mut self, alloc: Global, words: &mut Words<'_>) -> Result<(), Stop> {
+    fn part_line(&mut self, alloc: Global, words: &mut Words<'_>) -> Result<(), Stop>
+        ensures { IsPlain self.old.image → IsPlain self.new.image }
+    {
         match (words.word()?, self.part) {
             (b".shape", Part::Shapes) => self.shape(alloc, words),
             (b".slots", Part::Shapes) => {
@@ -78,33 +88,33 @@ impl Reading {
     }
 
     /// `NUMBER EXTENTS BITS`
-    fn shape(&mut self, alloc: Global, words: &mut Words<'_>) -> Result<(), Stop> {
+    fn shape(&mut self, alloc: Global, words: &mut Words<'_>) -> Result<(), Stop>
+        ensures { IsPlain self.old.image → IsPlain self.new.image }
+    {
         let _number = number(words.word()?)?;
         let extents = extents(alloc, words.word()?)?;
         let bits = number(words.word()?)?;
-        match self.image.shapes.push(ShapeBits { extents, bits }) {
-            Ok(()) => Ok(()),
-            Err(_failed) => Err(Stop::Memory),
-        }
+        add_shape(&mut self.image.shapes, ShapeBits { extents, bits })
     }
 
     /// `NAME KIND FIELD`
-    fn variable(&mut self, alloc: Global, words: &mut Words<'_>) -> Result<(), Stop> {
+    fn variable(&mut self, alloc: Global, words: &mut Words<'_>) -> Result<(), Stop>
+        ensures { IsPlain self.old.image → IsPlain self.new.image }
+    {
         let name = words.word()?;
-        if !is_final_name(name) {
+        if !is_element_name(name) {
             return Err(Stop::NoLine);
         }
         let name = copied(alloc, name)?;
         let elem = kind(words.word()?)?;
         let field = field(words.word()?)?;
-        match self.image.finals.push(Final { name, elem, field }) {
-            Ok(()) => Ok(()),
-            Err(_failed) => Err(Stop::Memory),
-        }
+        add_final(&mut self.image.finals, Final { name, elem, field })
     }
 
     /// `NUMBER NAME START`
-    fn unit(&mut self, alloc: Global, words: &mut Words<'_>) -> Result<(), Stop> {
+    fn unit(&mut self, alloc: Global, words: &mut Words<'_>) -> Result<(), Stop>
+        ensures { IsPlain self.old.image → IsPlain self.new.image }
+    {
         let _number = number(words.word()?)?;
         let name = words.word()?;
         if !is_name(name) {
@@ -112,14 +122,13 @@ impl Reading {
         }
         let name = copied(alloc, name)?;
         let start = number(words.word()?)?;
-        match self.image.units.push(Entry { name, start }) {
-            Ok(()) => Ok(()),
-            Err(_failed) => Err(Stop::Memory),
-        }
+        add_unit(&mut self.image.units, Entry { name, start })
     }
 
     /// `INDEX MNEMONIC OPERANDS`
-    fn code_line(&mut self, alloc: Global, words: &mut Words<'_>) -> Result<(), Stop> {
+    fn code_line(&mut self, alloc: Global, words: &mut Words<'_>) -> Result<(), Stop>
+        ensures { IsPlain self.old.image → IsPlain self.new.image }
+    {
         match self.part {
             Part::Finals | Part::Units | Part::Code => self.part = Part::Code,
             Part::Shapes | Part::Depth => return Err(Stop::NoLine),
@@ -133,7 +142,39 @@ impl Reading {
     }
 }
 
-fn copied(alloc: Global, text: &[u8]) -> Result<Word, Stop> {
+fn add_shape(shapes: &mut Vec<ShapeBits>, shape: ShapeBits) -> Result<(), Stop>
+    requires { HasAxis shape }
+    ensures { AreGrids shapes.old.items → AreGrids shapes.new.items }
+{
+    match shapes.push(shape) {
+        Ok(()) => Ok(()),
+        Err(_failed) => Err(Stop::Memory),
+    }
+}
+
+fn add_final(finals: &mut Vec<Final>, last: Final) -> Result<(), Stop>
+    requires { IsElementName last.name }
+    ensures { AreFinalNames finals.old.items → AreFinalNames finals.new.items }
+{
+    match finals.push(last) {
+        Ok(()) => Ok(()),
+        Err(_failed) => Err(Stop::Memory),
+    }
+}
+
+fn add_unit(units: &mut Vec<Entry>, entry: Entry) -> Result<(), Stop>
+    requires { IsName entry.name }
+    ensures { AreUnitNames units.old.items → AreUnitNames units.new.items }
+{
+    match units.push(entry) {
+        Ok(()) => Ok(()),
+        Err(_failed) => Err(Stop::Memory),
+    }
+}
+
+fn copied(alloc: Global, text: &[u8]) -> Result<Word, Stop>
+    ensures { IfOk result (λ word. word ≡ text.now) }
+{
     match Vec::from_slice(alloc, text) {
         Ok(bytes) => Ok(Word::of(bytes)),
         Err(_failed) => Err(Stop::Memory),
@@ -141,53 +182,23 @@ fn copied(alloc: Global, text: &[u8]) -> Result<Word, Stop> {
 }
 
 /// Extents, each in square brackets; one at least.
-fn extents(alloc: Global, text: &[u8]) -> Result<Vec<u32>, Stop> {
-    let [b'[', inner @ .., b']'] = text else {
-        return Err(Stop::NoLine);
-    };
+fn extents(alloc: Global, text: &[u8]) -> Result<Vec<u32>, Stop>
+    ensures { IfOk result (λ v. 1 ≤ length v.items) }
+{
     let mut extents = Vec::new(alloc);
-    for part in inner.split(|byte| *byte == b'[') {
-        // All but the last part end with the bracket that closes them.
-        let digits = part.strip_suffix(b"]").unwrap_or(part);
+    let mut rest = text;
+    'more: while let [b'[', inner @ ..] = rest {
+        let (digits, behind) = parted(inner, b']')?;
         let extent = number(digits)?;
         match extents.push(extent) {
             Ok(()) => {}
             Err(_failed) => return Err(Stop::Memory),
         }
+        rest = behind;
     }
-    Ok(extents)
-}
-
-/// A letter or `_`, and then letters, digits and `_`.
-fn is_name(text: &[u8]) -> bool {
-    match text {
-        [first, rest @ ..] => {
-            (first.is_ascii_alphabetic() || *first == b'_')
-                && rest
-                    .iter()
-                    .all(|byte| byte.is_ascii_alphanumeric() || *byte == b'_')
-        }
-        [] => false,
-    }
-}
-
-/// A name, or an element of an array: a name and a number in square brackets.
-fn is_final_name(text: &[u8]) -> bool {
-    let Some(inner) = text.strip_suffix(b"]") else {
-        return is_name(text);
-    };
-    match inner.iter().position(|byte| *byte == b'[') {
-        Some(at) => is_name(&inner[..at]) && is_plain_number(&inner[at + 1..]),
-        None => false,
-    }
-}
-
-/// Decimal digits without a leading zero, however many.
-fn is_plain_number(digits: &[u8]) -> bool {
-    match digits {
-        [] => false,
-        [b'0'] => true,
-        [b'0', ..] => false,
-        _ => digits.iter().all(|byte| byte.is_ascii_digit()),
+    if rest.is_empty() && !extents.is_empty() {
+        Ok(extents)
+    } else {
+        Err(Stop::NoLine)
     }
 }

@@ -2,6 +2,7 @@
 
 ghost use Rattle.std.specs.Prelude.{◌≡◌, ◌<◌, ◌^◌, IfOk, length};
 ghost use Rattle.paris_code.specs.Listing.{listing};
+ghost use Rattle.paris_code.specs.Plain.{IsPlain};
 
 use crate::differences::first_difference;
 use crate::lines::Reading;
@@ -22,7 +23,8 @@ pub enum AsmFault {
 /// line behind the last is answered where the bytes end too early.
 pub fn read(alloc: Global, bytes: &[u8]) -> Result<Image, AsmFault>
     requires { length bytes.now < 2 ^ 32 }
-    ensures { IfOk result (λ image. listing image ≡ bytes.now) }
+    ensures listed { IfOk result (λ image. listing image ≡ bytes.now) }
+    ensures plain { IfOk result (λ image. IsPlain image) }
 {
     let mut reading = Reading::new(alloc);
     let lines = match read_lines(alloc, &mut reading, bytes) {
@@ -39,7 +41,9 @@ pub fn read(alloc: Global, bytes: &[u8]) -> Result<Image, AsmFault>
 }
 
 /// Reads lines up to the first that cannot be read, and answers how many were read.
-fn read_lines(alloc: Global, reading: &mut Reading, bytes: &[u8]) -> Result<u32, Memory> {
+fn read_lines(alloc: Global, reading: &mut Reading, bytes: &[u8]) -> Result<u32, Memory>
+    ensures { IsPlain reading.old.image → IsPlain reading.new.image }
+{
     let mut rest = bytes;
     let mut lines = 0u32;
     'more: while let Some(end) = rest.iter().position(|byte| *byte == b'\n') {

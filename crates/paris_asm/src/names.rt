@@ -217,7 +217,7 @@ static FORMATS: [Named<NumberFormat>; 5] = [
 ];
 
 /// The format of this letter.
-pub fn format(name: &[u8]) -> Result<Stop> {
+pub fn format(name: &[u8]) -> Result<NumberFormat, Stop> {
     for named in &FORMATS {
         if named.name.as_bytes() == name {
             return Ok(named.value);

@@ -1,5 +1,7 @@
 //! The words of a line, one space apart.
 
+ghost use Rattle.std.specs.Prelude.{◌<◌, IfOk, length};
+
 use cstar_base::Memory;
 
 /// Why a line cannot be read.
@@ -90,7 +92,9 @@ pub fn marked(text: &[u8], mark: u8) -> Result<u32, Stop> {
 }
 
 /// The two parts of a text round the first byte of this kind.
-pub fn parted(text: &[u8], at: u8) -> Result<(&[u8], &[u8]), Stop> {
+pub fn parted(text: &[u8], at: u8) -> Result<(&[u8], &[u8]), Stop>
+    ensures { IfOk result (λ parts. length parts.1.now < length text.now) }
+{
     match text.iter().position(|byte| *byte == at) {
         Some(end) => Ok((&text[..end], &text[end + 1..])),
         None => Err(Stop::NoLine),

@@ -1,6 +1,8 @@
 -- What the code of an image means: one instruction from a state to the next, and a run of many.
 use Rattle.std.specs.Prelude.{ℕ, zero, suc, Bool, true, ◌+◌, ◌-◌, ◌^◌, ◌==◌, not, if◌then◌else◌, List, [], ◌∷◌, ◌++◌, length, map, take, replicate, slice_index, slice_set, Option, Some, None}
 use Rattle.std.specs.List.{slice_get}
+use Rattle.cstar_base.specs.declared.faults.RunFault.{RunFault}
+use Rattle.cstar_base.specs.declared.faults.RunFault.TheVariants.{Index, DivZero}
 use Rattle.cstar_base.specs.declared.operators.Place.{Place}
 use Rattle.paris_code.specs.declared.instr.Instr.{Instr}
 use Rattle.paris_code.specs.declared.instr.Instr.TheVariants as I
@@ -37,11 +39,11 @@ pub record CodeState : Type 0 where
   pub input : Rest
   pub output : List ℕ
 
--- how a run ends; a fault has a kind, a place of the source and, where a parallel check failed, the
--- least position
+-- how a run ends; a fault has a place of the source and, where a parallel check failed, the least
+-- position
 pub data CodeEnd : Type 0 where
   Done : CodeEnd
-  Fault : ℕ → Place → Option ℕ → CodeEnd
+  Fault : RunFault → Place → Option ℕ → CodeEnd
   Stopped : CodeEnd
   InputBroken : CodeEnd
 
@@ -78,8 +80,8 @@ abbrev pub turned : CodeState → Next
 turned s = if s.turns == 0 then Ends Stopped s else Goes (record s { at = s.at + 1; turns = s.turns - 1 })
 
 -- a check that fails ends the run in a fault
-abbrev pub checked : Bool → ℕ → Place → CodeState → Next
-checked fails kind place s = if fails then Ends (Fault kind place None) (onward s) else Goes (onward s)
+abbrev pub checked : Bool → RunFault → Place → CodeState → Next
+checked fails fault place s = if fails then Ends (Fault fault place None) (onward s) else Goes (onward s)
 
 -- a read gives the next byte, and 4294967295 at the end
 abbrev pub given : ℕ → CodeState → List ℕ → Mark → Next
@@ -89,8 +91,8 @@ given r s [] Broken = Ends InputBroken (onward s)
 
 -- the front end's instructions that do more than set a register
 abbrev pub controlled : Image → Instr → CodeState → Next
-controlled image (I.FrontCheckTarget set place coordinates) s = checked (any_register_outside (extents_at (shapes_of image) set) coordinates.items s.registers) 1 place s
-controlled image (I.FrontCheckDivisor place x) s = checked (slice_index s.registers x == 0) 2 place s
+controlled image (I.FrontCheckTarget set place coordinates) s = checked (any_register_outside (extents_at (shapes_of image) set) coordinates.items s.registers) Index place s
+controlled image (I.FrontCheckDivisor place x) s = checked (slice_index s.registers x == 0) DivZero place s
 controlled image (I.FrontJump target) s = Goes (jumped true target s)
 controlled image (I.FrontJumpZero x target) s = Goes (jumped (slice_index s.registers x == 0) target s)
 controlled image (I.FrontJumpNonzero x target) s = Goes (jumped (not (slice_index s.registers x == 0)) target s)
@@ -113,9 +115,9 @@ stored (Some r) value registers = slice_set registers r value
 
 -- the fault of a parallel check
 abbrev pub fault_at : Instr → ℕ → CodeEnd
-fault_at (I.CheckTarget set place coordinates) position = Fault 1 place (Some position)
-fault_at (I.CheckGrid set place steps) position = Fault 1 place (Some position)
-fault_at (I.CheckDivisor place a) position = Fault 2 place (Some position)
+fault_at (I.CheckTarget set place coordinates) position = Fault Index place (Some position)
+fault_at (I.CheckGrid set place steps) position = Fault Index place (Some position)
+fault_at (I.CheckDivisor place a) position = Fault DivZero place (Some position)
 fault_at _ position = Done
 
 -- what follows from the reply to a parallel instruction, from the state behind it

@@ -6,6 +6,8 @@ use Rattle.std.proofs.lemmas.Bool.{cases_lt, cases_eq, cases_Bool, le-leb, lt-le
 use Rattle.std.proofs.lemmas.Bool.Decides.{nat_tests}
 use Rattle.std.proofs.lemmas.List.{length-map}
 use Rattle.cstar_base.specs.declared.operators.Place.{Place}
+use Rattle.cstar_base.specs.declared.faults.RunFault.{RunFault}
+use Rattle.cstar_base.specs.declared.faults.RunFault.TheVariants.{Index, DivZero}
 use Rattle.paris_code.specs.declared.instr.Instr.{Instr}
 use Rattle.paris_code.specs.declared.instr.Instr.TheVariants as I
 use Rattle.paris_code.specs.declared.program.Image.{Image}
@@ -437,9 +439,9 @@ unfolding applied
 applied_onward shapes instr s t e =
     replied_onward instr s (record s { at = s.at + 1; memory = after shapes instr (arguments_at instr s.registers) s.memory }) t (reply_of shapes instr (arguments_at instr s.registers) s.memory) refl refl refl e
 
-checked_onward : (fails : Bool) (kind : ℕ) (place : Place) (s t : CodeState) → checked fails kind place s ≡ Goes t → Onward s t
-checked_onward true kind place s t e = cc
-checked_onward false kind place s t e = onward_if s (onward s) t refl refl refl e
+checked_onward : (fails : Bool) (fault : RunFault) (place : Place) (s t : CodeState) → checked fails fault place s ≡ Goes t → Onward s t
+checked_onward true fault place s t e = cc
+checked_onward false fault place s t e = onward_if s (onward s) t refl refl refl e
 
 given_onward : (r : ℕ) (s t : CodeState) (bytes : List ℕ) (mark : Mark) → given r s bytes mark ≡ Goes t → Onward s t
 given_onward r s t (byte ∷ bytes) mark e = onward_if s (record (with_register r byte s) { input = record { bytes = bytes; mark = mark } }) t refl refl refl e
@@ -447,8 +449,8 @@ given_onward r s t [] End e = onward_if s (with_register r (2 ^ 32 - 1) s) t ref
 given_onward r s t [] Broken e = cc
 
 controlled_onward : (image : Image) (instr : Instr) (s t : CodeState) → is_steady instr ≡ true → controlled image instr s ≡ Goes t → Onward s t
-controlled_onward image (I.FrontCheckTarget set place coordinates) s t h e = checked_onward (any_register_outside (extents_at (shapes_of image) set) coordinates.items s.registers) 1 place s t e
-controlled_onward image (I.FrontCheckDivisor place x) s t h e = checked_onward (slice_index s.registers x == 0) 2 place s t e
+controlled_onward image (I.FrontCheckTarget set place coordinates) s t h e = checked_onward (any_register_outside (extents_at (shapes_of image) set) coordinates.items s.registers) Index place s t e
+controlled_onward image (I.FrontCheckDivisor place x) s t h e = checked_onward (slice_index s.registers x == 0) DivZero place s t e
 controlled_onward image (I.FrontPutBytes bytes) s t h e = onward_if s (with_printed bytes s) t refl refl refl e
 controlled_onward image (I.FrontPut format x) s t h e = onward_if s (with_printed (printed format (slice_index s.registers x)) s) t refl refl refl e
 controlled_onward image (I.FrontGetByte r) s t h e = given_onward r s t s.input.bytes s.input.mark e

@@ -4,6 +4,8 @@ use Rattle.std.specs.Prelude.{◌-◌, ◌^◌, IsSome, IfSome, IfNone, replicat
 use Rattle.std.proofs.lemmas.List.{append-nil, append_assoc}
 use Rattle.std.proofs.Math.Seq.{take-append-add}
 use Rattle.cstar_base.specs.declared.operators.Place.{Place}
+use Rattle.cstar_base.specs.declared.faults.RunFault.{RunFault}
+use Rattle.cstar_base.specs.Faults.{run_number_of}
 use Rattle.paris_code.specs.declared.instr.Instr.{Instr}
 use Rattle.paris_code.specs.declared.program.Image.{Image}
 use Rattle.paris_code.specs.declared.program.Reply.{Reply}
@@ -68,11 +70,15 @@ replies_value image instr s m n v wants means = λ input output.
     replied_goes (shapes_of image) instr s m n (R.Value v) input output (joined (answered s v) n input output) means.0
     (record { bits = means.1; rest = ap (λ (w : Option ℕ). joined (record s { registers = stored w v s.registers }) n input output) wants })
 
-pub replies_bad : (image : Image) (instr : Instr) (s : State) (m n : BitMemory) (position kind : ℕ) (place : Place) → fault_at instr position ≡ Fault kind place (Some position) → Means (shapes_of image) instr s.args m n (R.Bad position)
+pub replies_bad : (image : Image) (instr : Instr) (s : State) (m n : BitMemory) (position kind : ℕ) (fault : RunFault) (place : Place) → run_number_of fault ≡ kind → fault_at instr position ≡ Fault fault place (Some position) → Means (shapes_of image) instr s.args m n (R.Bad position)
     → RepliesTo image instr s m (Some (E.Fault kind place (Some position))) s n
-replies_bad image instr s m n position kind place fault means = λ input output.
-    subst (λ (r : Reply). SameNext (shapes_of image) (replied instr (joined s (after (shapes_of image) instr s.args m) input output) r) (Ends (Fault kind place (Some position)) (joined s n input output))) means.0
-    (fault, record { bits = means.1; rest = refl })
+replies_bad image instr s m n position kind fault place number is means = (
+  fault,
+  number,
+  λ input output.
+      subst (λ (r : Reply). SameNext (shapes_of image) (replied instr (joined s (after (shapes_of image) instr s.args m) input output) r) (Ends (Fault fault place (Some position)) (joined s n input output))) means.0
+      (is, record { bits = means.1; rest = refl }),
+)
 
 -- the state behind an answer
 pub answered_is : (s t : State) (v : ℕ) → IsSome s.wanted → t ≡ record s { registers = t.registers; wanted = None } → IfSome s.wanted (λ r. t.registers ≡ slice_set s.registers r v) → t ≡ answered s v
@@ -98,7 +104,7 @@ pub ran_advances : (image : Image) (old new : State) (m : BitMemory) (ended : Bo
 ran_advances image old new m ended asks = quiet image old m None new m ended (λ later output. exact_goes (shapes_of image) _ _ (asks.1 m later output))
 
 pub fault_advances : (image : Image) (old new : State) (m : BitMemory) (ended : Bool) (kind : ℕ) (place : Place) → AsksFor image old (A.Fault kind place) new → Advances image old m (Some (E.Fault kind place None)) new m ended [] []
-fault_advances image old new m ended kind place asks = quiet image old m (Some (E.Fault kind place None)) new m ended (λ later output. exact_ends (shapes_of image) _ _ _ (asks.1 m later output))
+fault_advances image old new m ended kind place asks = quiet image old m (Some (E.Fault kind place None)) new m ended (λ later output. (asks.0, asks.1, exact_ends (shapes_of image) _ _ _ (asks.3 m later output)))
 
 pub stopped_advances : (image : Image) (old new : State) (m : BitMemory) (ended : Bool) → AsksFor image old A.Stopped new → Advances image old m (Some E.Stopped) new m ended [] []
 stopped_advances image old new m ended asks = quiet image old m (Some E.Stopped) new m ended (λ later output. exact_ends (shapes_of image) _ _ _ (asks.1 m later output))
@@ -114,8 +120,11 @@ IsApplied image old instr new =
 pub applied_advances : (image : Image) (old between new : State) (instr : Instr) (m n : BitMemory) (result : Option RunEnd) (ended : Bool) → IsApplied image old instr between → RepliesTo image instr between m result new n → Advances image old m result new n ended [] []
 applied_advances image old between new instr m n None ended is replies = quiet image old m None new n ended (λ later output.
     subst (λ (next : Next). SameNext (shapes_of image) next (Goes (joined new n later output))) (sym (is.1 m later output)) (replies later output))
-applied_advances image old between new instr m n (Some (E.Fault kind place position)) ended is replies = quiet image old m (Some (E.Fault kind place position)) new n ended (λ later output.
-    subst (λ (next : Next). SameNext (shapes_of image) next (Ends (Fault kind place position) (joined new n later output))) (sym (is.1 m later output)) (replies later output))
+applied_advances image old between new instr m n (Some (E.Fault kind place position)) ended is replies = quiet image old m (Some (E.Fault kind place position)) new n ended (λ later output. (
+  replies.0,
+  replies.1,
+  subst (λ (next : Next). SameNext (shapes_of image) next (Ends (Fault replies.0 place position) (joined new n later output))) (sym (is.1 m later output)) (replies.2 later output),
+))
 applied_advances image old between new instr m n (Some E.Memory) ended is replies = quiet image old m (Some E.Memory) new n ended (λ later output. ((instr, is.0, replies), refl))
 applied_advances image old between new instr m n (Some E.Done) ended is replies = absurd replies
 applied_advances image old between new instr m n (Some E.Stopped) ended is replies = absurd replies

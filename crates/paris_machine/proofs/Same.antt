@@ -5,6 +5,8 @@ use Rattle.std.specs.List.{slice_get}
 use Rattle.std.proofs.lemmas.Bool.{cases_Bool}
 use Rattle.std.proofs.lemmas.List.{length-map}
 use Rattle.cstar_base.specs.declared.operators.Place.{Place}
+use Rattle.cstar_base.specs.declared.faults.RunFault.{RunFault}
+use Rattle.cstar_base.specs.declared.faults.RunFault.TheVariants.{Index, DivZero}
 use Rattle.paris_code.specs.declared.instr.Instr.{Instr}
 use Rattle.paris_code.specs.declared.instr.Instr.TheVariants as I
 use Rattle.paris_code.specs.declared.program.Image.{Image}
@@ -47,9 +49,9 @@ module _ (image : Image) (sound : IsSound image) (s : CodeState) (n : BitMemory)
   other : CodeState
   other = record s { memory = n }
 
-  checked_same : (fails : Bool) (kind : ℕ) (place : Place) → SameNext (shapes_of image) (checked fails kind place s) (checked fails kind place (record s { memory = n }))
-  checked_same true kind place = (refl, record { bits = same; rest = refl })
-  checked_same false kind place = record { bits = same; rest = refl }
+  checked_same : (fails : Bool) (fault : RunFault) (place : Place) → SameNext (shapes_of image) (checked fails fault place s) (checked fails fault place (record s { memory = n }))
+  checked_same true fault place = (refl, record { bits = same; rest = refl })
+  checked_same false fault place = record { bits = same; rest = refl }
 
   turned_same : (none : Bool) → SameNext (shapes_of image) (if none then Ends Stopped s else Goes (record s { at = s.at + 1; turns = s.turns - 1 })) (if none then Ends Stopped (record s { memory = n }) else Goes (record s { at = s.at + 1; turns = s.turns - 1; memory = n }))
   turned_same true = (refl, record { bits = same; rest = refl })
@@ -61,8 +63,8 @@ module _ (image : Image) (sound : IsSound image) (s : CodeState) (n : BitMemory)
   given_same r [] Broken = (refl, record { bits = same; rest = refl })
 
   controlled_same : (instr : Instr) → SameNext (shapes_of image) (controlled image instr s) (controlled image instr (record s { memory = n }))
-  controlled_same (I.FrontCheckTarget set place coordinates) = checked_same (any_register_outside (extents_at (shapes_of image) set) coordinates.items s.registers) 1 place
-  controlled_same (I.FrontCheckDivisor place x) = checked_same (slice_index s.registers x == 0) 2 place
+  controlled_same (I.FrontCheckTarget set place coordinates) = checked_same (any_register_outside (extents_at (shapes_of image) set) coordinates.items s.registers) Index place
+  controlled_same (I.FrontCheckDivisor place x) = checked_same (slice_index s.registers x == 0) DivZero place
   controlled_same (I.FrontJump target) = record { bits = same; rest = refl }
   controlled_same (I.FrontJumpZero x target) = record { bits = same; rest = refl }
   controlled_same (I.FrontJumpNonzero x target) = record { bits = same; rest = refl }
@@ -167,7 +169,8 @@ ends_same image sound u mid E.Memory t same h = (
   h.1 ∙ ap (λ (x : CodeState). x.output) same.rest,
 )
 ends_same image sound u mid E.Done t same h = next_after (shapes_of image) (step image u) (step image mid) _ (step_same image sound u mid same) h
-ends_same image sound u mid (E.Fault kind place position) t same h = next_after (shapes_of image) (step image u) (step image mid) _ (step_same image sound u mid same) h
+ends_same image sound u mid (E.Fault kind place position) t same h =
+    (h.0, h.1, next_after (shapes_of image) (step image u) (step image mid) _ (step_same image sound u mid same) h.2)
 ends_same image sound u mid E.Stopped t same h = next_after (shapes_of image) (step image u) (step image mid) _ (step_same image sound u mid same) h
 ends_same image sound u mid E.InputBroken t same h = next_after (shapes_of image) (step image u) (step image mid) _ (step_same image sound u mid same) h
 ends_same image sound u mid E.OutputBroken t same h = next_after (shapes_of image) (step image u) (step image mid) _ (step_same image sound u mid same) h

@@ -1,5 +1,7 @@
 -- How runs end, and what that says of the outside.
 use Rattle.std.specs.Prelude.{◌≡◌, ℕ, Bool, true, false, Option, Some, None}
+use Rattle.cstar_base.specs.declared.faults.RunFault.{RunFault}
+use Rattle.cstar_base.specs.Faults.{run_number_of}
 use Rattle.cstar_io.specs.Faults.{RisesBy}
 use Rattle.paris_machine.specs.declared.outcome.End.{End}
 use Rattle.paris_machine.specs.declared.outcome.End.TheVariants as E
@@ -21,6 +23,11 @@ input_broke_in (Some end) = input_broke end
 abbrev pub output_broke_in : Option End → Bool
 output_broke_in None = false
 output_broke_in (Some end) = output_broke end
+
+-- a fault is told by the number of one of a run
+abbrev pub IsNumbered : End → Type 0
+IsNumbered (E.Fault kind place position) = (fault : RunFault) × (run_number_of fault ≡ kind)
+IsNumbered _ = Unit {0}
 
 -- the count of faults rose exactly where one is told
 abbrev pub Tells : Bool → ℕ → ℕ → Type 0

@@ -1,5 +1,7 @@
 -- How a run of the machine follows the meaning of the code.
 use Rattle.std.specs.Prelude.{◌≡◌, ℕ, ◌+◌, Bool, true, false, List, [], ◌++◌, Option, Some, None}
+use Rattle.cstar_base.specs.declared.faults.RunFault.{RunFault}
+use Rattle.cstar_base.specs.Faults.{run_number_of}
 use Rattle.paris_code.specs.declared.instr.Instr.{Instr}
 use Rattle.paris_code.specs.declared.program.Image.{Image}
 use Rattle.paris_code.specs.Code.{CodeState, Rest, End, Broken, Next, Goes, Ends, Done, Fault, Stopped, InputBroken, code, step, replied}
@@ -34,7 +36,8 @@ IsAtSend image s = (instr : Instr) × IsAt image s.at instr × (is_send instr �
 abbrev pub ComesTo : Image → CodeState → Option RunEnd → CodeState → Type 0
 ComesTo image s None t = SameNext (shapes_of image) (step image s) (Goes t)
 ComesTo image s (Some E.Done) t = SameNext (shapes_of image) (step image s) (Ends Done t)
-ComesTo image s (Some (E.Fault kind place position)) t = SameNext (shapes_of image) (step image s) (Ends (Fault kind place position) t)
+ComesTo image s (Some (E.Fault kind place position)) t =
+    (fault : RunFault) × (run_number_of fault ≡ kind) × SameNext (shapes_of image) (step image s) (Ends (Fault fault place position) t)
 ComesTo image s (Some E.Stopped) t = SameNext (shapes_of image) (step image s) (Ends Stopped t)
 ComesTo image s (Some E.InputBroken) t = SameNext (shapes_of image) (step image s) (Ends InputBroken t)
 ComesTo image s (Some E.OutputBroken) t = SameNext (shapes_of image) (step image s) (Goes t)
@@ -79,8 +82,8 @@ RepliesTo image instr s m None t n =
     (input : Rest) (output : List ℕ)
     → SameNext (shapes_of image) (replied instr (joined s (after (shapes_of image) instr s.args m) input output) (reply_of (shapes_of image) instr s.args m)) (Goes (joined t n input output))
 RepliesTo image instr s m (Some (E.Fault kind place position)) t n =
-    (input : Rest) (output : List ℕ)
-    → SameNext (shapes_of image) (replied instr (joined s (after (shapes_of image) instr s.args m) input output) (reply_of (shapes_of image) instr s.args m)) (Ends (Fault kind place position) (joined t n input output))
+    (fault : RunFault) × (run_number_of fault ≡ kind) × ((input : Rest) (output : List ℕ)
+    → SameNext (shapes_of image) (replied instr (joined s (after (shapes_of image) instr s.args m) input output) (reply_of (shapes_of image) instr s.args m)) (Ends (Fault fault place position) (joined t n input output)))
 RepliesTo image instr s m result t n = ⊥
 
 -- a put ends nothing, or fails

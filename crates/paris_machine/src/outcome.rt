@@ -5,9 +5,8 @@ use cstar_base::Place;
 pub enum End {
     /// The code came to its end.
     Done,
-    /// A check failed at a place of the program: kind 1 for a coordinate outside its extent, kind 2
-    /// for a divisor of 0. `position` is the least processor whose check failed, or none where the
-    /// front end's failed.
+    /// A check failed at a place of the program: `kind` is the number of the fault, and `position`
+    /// the least processor whose check failed, or none where the front end's failed.
     Fault {
         kind: u8,
         place: Place,

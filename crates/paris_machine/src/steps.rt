@@ -10,13 +10,13 @@ ghost use Rattle.phase_meaning.specs.Apply.{is_check};
 ghost use Rattle.front_end.specs.declared.kept.Kept.{Kept};
 ghost use Rattle.front_end.specs.Front.{state_of, Fits, joined};
 ghost use Rattle.front_end.specs.Kept.{KeptFits};
-ghost use Rattle.paris_machine.specs.Ends.{input_broke, output_broke, input_broke_in, output_broke_in, Tells};
+ghost use Rattle.paris_machine.specs.Ends.{IsNumbered, input_broke, output_broke, input_broke_in, output_broke_in, Tells};
 ghost use Rattle.paris_machine.specs.Asked.{IsAsked};
 ghost use Rattle.paris_machine.specs.Bound.{most_left};
 ghost use Rattle.paris_machine.specs.Runs.{Advances, IsPutEnd, Puts, Reads, RepliesTo, Runs, Stays, StaysOver, kept_state};
 
 use crate::outcome::{End, Outcome};
-use cstar_base::Place;
+use cstar_base::{Place, RunFault};
 use cstar_io::{Sink, Source};
 use front_end::{Ask, Front, Kept};
 use image_check::Sound;
@@ -36,14 +36,17 @@ fn instr_at(sound: &Sound, at: u32) -> &Instr
     &sound.image().code[at as usize]
 }
 
-/// The kind and the place of the fault of a check of the phases.
-fn fault_of(instr: &Instr) -> Option<(u8, Place)>
+/// The fault of a check of the phases, and its place.
+fn fault_of(instr: &Instr) -> Option<(RunFault, Place)>
     ensures some { is_some result ≡ is_check instr.now }
     ensures fault { (position : ℕ) → IfSome result (λ f. fault_at instr.now position ≡ Fault f.0 f.1 (Some position)) }
 {
     match instr {
-        Instr::CheckTarget { place, .. } | Instr::CheckGrid { place, .. } => Some((1, *place)),
-        Instr::CheckDivisor { place, .. } => Some((2, *place)),
+        Instr::CheckTarget { place, .. } | Instr::CheckGrid { place, .. } => Some((
+            RunFault::Index,
+            *place,
+        )),
+        Instr::CheckDivisor { place, .. } => Some((RunFault::DivZero, *place)),
         _ => None,
     }
 }
@@ -58,6 +61,7 @@ fn apply<P: Phases>(sound: &Sound, front: &mut Front, at: u32, p: &mut P) -> Opt
     ensures shapes { P.shapes p.new ≡ shapes_of sound.now }
     ensures able { P.able p.new }
     ensures ready { IfNone result (front.new.wanted ≡ None) }
+    ensures numbered { IfSome result IsNumbered }
     ensures input { input_broke_in result ≡ false }
     ensures output { output_broke_in result ≡ false }
     ensures stays { Stays (state_of front.old) (state_of front.new) }
@@ -71,9 +75,9 @@ fn apply<P: Phases>(sound: &Sound, front: &mut Front, at: u32, p: &mut P) -> Opt
             None
         }
         Reply::Bad { position } => {
-            let (kind, place) = fault_of(instr).unwrap();
+            let (fault, place) = fault_of(instr).unwrap();
             Some(End::Fault {
-                kind,
+                kind: fault.number(),
                 place,
                 position: Some(position),
             })
@@ -116,6 +120,7 @@ fn read<I: Source>(sound: &Sound, front: &mut Front, ended: &mut bool, input: &m
     ensures ready { IfNone result (front.new.wanted ≡ None) }
     ensures tells { Tells (input_broke_in result) (I.faults input.old) (I.faults input.new) }
     ensures output { output_broke_in result ≡ false }
+    ensures numbered { IfSome result IsNumbered }
     ensures over { ended.old ≡ true → (ended.new ≡ true) × (input.new ≡ input.old) }
     ensures empty { ended.old ≡ false → ended.new ≡ true → IfSome (I.left input.new) (λ rest. rest ≡ []) }
     ensures stays { Stays (state_of front.old) (state_of front.new) }
@@ -204,6 +209,7 @@ fn drive<P: Phases, I: Source, O: Sink>(
     ensures able { P.able p.new }
     ensures steps { result.1 ≤ (front.old.turns + 1) * length sound.now.code.items }
     ensures some { 1 ≤ result.1 }
+    ensures numbered { IsNumbered result.0 }
     ensures input { Tells (input_broke result.0) (I.faults input.old) (I.faults input.new) }
     ensures output { Tells (output_broke result.0) (O.faults out.old) (O.faults out.new) }
     ensures over { ended.old ≡ true → (ended.new ≡ true) × (input.new ≡ input.old) }
@@ -242,6 +248,7 @@ pub fn resume<P: Phases, I: Source, O: Sink>(
     ensures fits { KeptFits sound.now result.1 }
     ensures shapes { P.shapes p.new ≡ shapes_of sound.now }
     ensures able { P.able p.new }
+    ensures numbered { IsNumbered result.0.end }
     ensures steps { result.0.steps ≤ (turns + 1) * length sound.now.code.items }
     ensures input { Tells (input_broke result.0.end) (I.faults input.old) (I.faults input.new) }
     ensures output { Tells (output_broke result.0.end) (O.faults out.old) (O.faults out.new) }
@@ -289,6 +296,7 @@ pub fn run<P: Phases, I: Source, O: Sink>(
     requires able { P.able p.old }
     ensures shapes { P.shapes p.new ≡ shapes_of sound.now }
     ensures able { P.able p.new }
+    ensures numbered { IsNumbered result.end }
     ensures steps { result.steps ≤ (turns + 1) * length sound.now.code.items }
     ensures input { Tells (input_broke result.end) (I.faults input.old) (I.faults input.new) }
     ensures output { Tells (output_broke result.end) (O.faults out.old) (O.faults out.new) }

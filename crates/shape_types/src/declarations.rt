@@ -1,12 +1,12 @@
 //! The declarations of the file: its shapes and its variables.
 
-use cstar_base::{Memory, Place};
+use cstar_base::{Fault, Memory, Place};
 use cstar_tree::syntax::{Declaration, Declarator, Expr, Item, Name, ShapeDefinition, TypeName};
 use cstar_tree::typed::{ShapeInfo, ValueType, VarInfo};
 use shape_room::positions;
 use source_meaning::constant;
-use type_expressions::{Found, typed_expr};
-use type_scopes::faults::{Rule, Untyped, fault};
+use type_expressions::{Found, typed_constant};
+use type_scopes::faults::{Untyped, fault};
 use type_scopes::file::File;
 use type_scopes::locals::Locals;
 use type_scopes::names::VariableType;
@@ -114,7 +114,7 @@ fn variable(
         file.types.push(ty)?;
     }
     let behind = known.saturating_add(usize::from(new));
-    let initial = typed_initial(found, file, &none, Site::file(behind), declarator)?;
+    let initial = constant_initial(found, file, behind, declarator)?;
     let whole = VariableType {
         elem: written.elem,
         shape: None,
@@ -127,6 +127,28 @@ fn variable(
         vars.push(info)?;
     }
     Ok(())
+}
+
+/// The initialiser of a variable of the file, of which so many names are known there. It is to be
+/// constant.
+fn constant_initial(
+    found: &mut Found,
+    file: &File<'_>,
+    known: usize,
+    declarator: &Declarator,
+) -> Result<Option<Initial>, Memory> {
+    let Some(written) = &declarator.initial else {
+        return Ok(None);
+    };
+    let none = Locals::new(file.alloc);
+    let site = Site::file(known);
+    let earlier = found.set_aside();
+    let initial = typed_initial(found, file, &none, site, declarator)?;
+    let is_typed = initial
+        .as_ref()
+        .is_some_and(|initial| initial.value.is_some());
+    found.expect_constant(site, written.value.place(), is_typed, earlier);
+    Ok(initial)
 }
 
 /// The value that a variable of the file has at the start.
@@ -145,7 +167,7 @@ fn start(
     let value = converted(file.alloc, value, ty.elem)?;
     match constant(&value) {
         Some(word) => Ok(word),
-        None => Err(fault(Rule::Constant, written.value.place())),
+        None => Err(fault(Fault::Constant, written.value.place())),
     }
 }
 
@@ -169,7 +191,7 @@ fn shape_definition(
         extents,
     };
     if below || info.extents.len() > 4 || positions(&info) > 1 << 20 {
-        found.faults.stands(Rule::Extent, definition.name.place);
+        found.faults.stands(Fault::Extent, definition.name.place);
     }
     Ok(info)
 }
@@ -182,7 +204,7 @@ fn extent_of(
     extent: &Expr,
 ) -> Result<i64, Memory> {
     let none = Locals::new(file.alloc);
-    let typed = typed_expr(found, file, &none, Site::file(known), extent)?;
+    let typed = typed_constant(found, file, &none, Site::file(known), extent)?;
     let number = constant_number(extent.place(), typed);
     Ok(found.faults.settle(number)?.unwrap_or(1))
 }

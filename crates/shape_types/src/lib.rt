@@ -13,14 +13,15 @@ use crate::declarations::{Declared, SHAPES, file_scope};
 use crate::instances::{NODES, Program, reached_instances};
 use crate::names::{collect, main_function};
 use call_groups::function_groups;
-use cstar_base::{Memory, Place};
+use cstar_base::{Fault, Memory, Place};
 use cstar_tree::syntax::Tree;
 use cstar_tree::typed::{Instance, ShapeInfo, Typed};
 use shape_room::{has_room, needs};
 use std::alloc::Global;
 use type_expressions::Found;
-use type_scopes::faults::{Faults, Rule, Standing};
+use type_scopes::faults::Faults;
 use type_scopes::file::File;
+use type_scopes::standing::Standing;
 
 /// Why a file has no types: the least of its faults by place and then number, or want of memory.
 pub enum TypeFault {
@@ -39,12 +40,12 @@ fn answered(fault: Standing) -> TypeFault
     ensures { IsListedFault result }
 {
     TypeFault::Fault {
-        number: fault.rule.number(),
+        number: fault.fault.number(),
         place: fault.place,
     }
 }
 
-/// Types a file. A fault is one of 6 to 26, 28, 29, 31 and 32, the least of all that stand.
+/// Types a file. The fault is the least of all that stand.
 pub fn check(alloc: Global, tree: &Tree) -> Result<Typed, TypeFault>
     ensures fault { IfErr result IsListedFault }
     ensures typed { IfOk result IsTyped }
@@ -94,7 +95,7 @@ fn roomy(
     };
     if !has_room(shapes.as_slice(), need.as_slice()) {
         return Err(answered(Standing {
-            rule: Rule::Space,
+            fault: Fault::Space,
             place: tree.end,
         }));
     }
@@ -127,9 +128,9 @@ fn bounds(faults: &mut Faults, tree: &Tree, nodes: u64, instances: &[Instance])
     ensures { IsNone faults.new.least → 0 < length instances.now }
 {
     if nodes > NODES {
-        faults.stands(Rule::Size, tree.end);
+        faults.stands(Fault::Size, tree.end);
     } else if instances.is_empty() {
-        faults.stands(Rule::NoMain, tree.end);
+        faults.stands(Fault::NoMain, tree.end);
     }
 }
 
@@ -139,6 +140,6 @@ fn shape_bound(faults: &mut Faults, tree: &Tree, extra: Option<Place>, shapes: &
     ensures kept { IsNone faults.new.least → IsNone faults.old.least }
 {
     if SHAPES < shapes.len() {
-        faults.stands(Rule::Size, extra.unwrap_or(tree.end));
+        faults.stands(Fault::Size, extra.unwrap_or(tree.end));
     }
 }

@@ -1,8 +1,8 @@
 //! The names of the file: which there are, and which function is `main`.
 
-use cstar_base::{Elem, Memory};
+use cstar_base::{Elem, Fault, Memory};
 use cstar_tree::syntax::{Function, Item, Name, ResultType};
-use type_scopes::faults::{Faults, Rule};
+use type_scopes::faults::Faults;
 use type_scopes::file::{File, FunctionInfo};
 use type_scopes::names::FileName;
 
@@ -79,7 +79,7 @@ fn declare(
     if new {
         counts.all = counts.all.saturating_add(1);
     } else {
-        faults.stands(Rule::Redeclared, name.place);
+        faults.stands(Fault::Redeclared, name.place);
     }
     Ok(new)
 }
@@ -92,7 +92,7 @@ pub fn main_function(faults: &mut Faults, file: &File<'_>) -> Option<u32> {
     if let Some((_, function)) = file.function(main)
         && (!function.parameters.is_empty() || !is_main_result(&function.result))
     {
-        faults.stands(Rule::NoMain, function.name.place);
+        faults.stands(Fault::NoMain, function.name.place);
     }
     Some(main)
 }

@@ -1,11 +1,11 @@
 //! Calls of functions, and `printf`.
 
 use crate::found::{Found, TypedExpr, Typing};
-use cstar_base::{Memory, Place, Word};
+use cstar_base::{Fault, Memory, Place, Word};
 use cstar_tree::syntax::Name;
 use cstar_tree::typed::{TExpr, ValueType};
 use std::alloc::Global;
-use type_scopes::faults::{Rule, Untyped, fault};
+use type_scopes::faults::{Untyped, fault};
 use type_scopes::file::File;
 use type_scopes::headers::{Header, Reached};
 use type_scopes::locals::Locals;
@@ -43,14 +43,18 @@ fn fit_arguments(
     Ok(fit)
 }
 
-/// A call of the instance with its arguments at the types of the header. A call at file scope
-/// reaches no instance. It is no constant, and what stands for it is refused as it would be.
+/// A call of the instance with its arguments at the types of the header, if all its parameters have
+/// one. A call at file scope reaches no instance. It is no constant, and what stands for it is
+/// refused as it would be.
 fn call_node(
     alloc: Global,
     header: &Header,
     instance: Option<u32>,
     arguments: Vec<Box<TExpr>>,
 ) -> Result<TypedExpr, Untyped> {
+    if header.parameters.iter().any(|ty| ty.is_none()) {
+        return Err(Untyped::Faulty);
+    }
     let (ty, has_value) = match header.returns {
         Returns::Nothing => (INT, false),
         Returns::Value(ty) => (ty, true),
@@ -81,13 +85,13 @@ fn call_fits(
     arguments: &[Box<TExpr>],
 ) -> Result<(), Untyped> {
     if header.other_shape {
-        Err(fault(Rule::OtherShape, place))
+        Err(fault(Fault::OtherShape, place))
     } else if has_parallel_argument(header, arguments) {
-        Err(fault(Rule::ScalarWanted, place))
+        Err(fault(Fault::ScalarWanted, place))
     } else if header.parameters.len() != arguments.len() {
-        Err(fault(Rule::Arguments, place))
+        Err(fault(Fault::Arguments, place))
     } else if file.is_recursive(site, function) {
-        Err(fault(Rule::Recursion, place))
+        Err(fault(Fault::Recursion, place))
     } else {
         Ok(())
     }
@@ -157,13 +161,13 @@ pub fn printf(
     arguments: Vec<Box<TExpr>>,
 ) -> Result<TypedExpr, Untyped> {
     if arguments.iter().any(|e| e.ty().shape.is_some()) {
-        return Err(fault(Rule::ScalarWanted, place));
+        return Err(fault(Fault::ScalarWanted, place));
     }
     let Some(cut) = cut(alloc, text.bytes())? else {
-        return Err(fault(Rule::Format, place));
+        return Err(fault(Fault::Format, place));
     };
     if cut.conversions != arguments.len() {
-        return Err(fault(Rule::Format, place));
+        return Err(fault(Fault::Format, place));
     }
     let expr = TExpr::Printf {
         ty: INT,

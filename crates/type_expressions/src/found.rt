@@ -1,12 +1,13 @@
 //! What typing has found so far: faults, instances, and the number of nodes.
 
-use cstar_base::Memory;
+use cstar_base::{Fault, Memory, Place};
 use cstar_tree::typed::TExpr;
 use indexmap::{IndexMap, IndexSet};
 use std::alloc::Global;
 use type_scopes::faults::{Faults, Untyped};
 use type_scopes::file::File;
 use type_scopes::headers::{Header, Reached};
+use type_scopes::sites::Site;
 
 /// A typed expression, and whether it has a value.
 #[derive(Drop)]
@@ -91,6 +92,21 @@ impl Found {
     /// Counts nodes of the tree.
     pub fn count(&mut self, nodes: u64) {
         self.nodes = self.nodes.saturating_add(nodes);
+    }
+
+    /// Takes the faults so far out, so that those of the next part are seen alone.
+    pub fn set_aside(&mut self) -> Faults {
+        std::mem::replace(&mut self.faults, Faults::none())
+    }
+
+    /// Takes the earlier faults in again behind an expression at the place that is to be constant.
+    /// Outside all functions one that has neither a type nor a fault of its own calls a function
+    /// with a faulty header, and no call is constant there.
+    pub fn expect_constant(&mut self, site: Site, place: Place, is_typed: bool, earlier: Faults) {
+        if !is_typed && site.function.is_none() && self.faults.least.is_none() {
+            self.faults.stands(Fault::Constant, place);
+        }
+        self.faults.include(earlier);
     }
 
     /// The number of the instance, which is called here. Where it is met for the first time the

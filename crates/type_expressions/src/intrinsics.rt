@@ -1,12 +1,12 @@
 //! What is asked of shapes, and the scans.
 
-use cstar_base::{Combiner, Direction, Elem, Inclusion, Place, SegmentMode, numbers};
+use cstar_base::{Combiner, Direction, Elem, Fault, Inclusion, Place, SegmentMode, numbers};
 use cstar_tree::syntax::Name;
 use cstar_tree::typed::{TExpr, ValueType, Variable};
 use shape_room::positions;
 use source_meaning::constant;
 use std::alloc::Global;
-use type_scopes::faults::{Rule, Untyped, fault};
+use type_scopes::faults::{Untyped, fault};
 use type_scopes::file::File;
 use type_scopes::locals::Locals;
 use type_scopes::sites::Site;
@@ -30,7 +30,7 @@ pub struct Walk {
 /// An axis of a shape with so many axes, from its typed expression at the place.
 pub fn axis_of(place: Place, axis: &TExpr, rank: Option<u32>) -> Result<Axis, Untyped> {
     let Some(word) = constant(axis) else {
-        return Err(fault(Rule::Constant, place));
+        return Err(fault(Fault::Constant, place));
     };
     let number = numbers::value(axis.ty().elem, word);
     let Some(rank) = rank else {
@@ -38,7 +38,7 @@ pub fn axis_of(place: Place, axis: &TExpr, rank: Option<u32>) -> Result<Axis, Un
     };
     match u32::try_from(number) {
         Ok(axis) if axis < rank => Ok(Axis::Number(axis)),
-        _ => Err(fault(Rule::Axis, place)),
+        _ => Err(fault(Fault::Axis, place)),
     }
 }
 
@@ -115,10 +115,10 @@ pub fn segment_bit(
     };
     let (variable, ty) = file.variable(locals, site, name)?;
     if ty.array.is_some() || ty.shape.is_none() || ty.elem.bits != 1 {
-        return Err(fault(Rule::WrongKind, name.place));
+        return Err(fault(Fault::WrongKind, name.place));
     }
     if ty.shape != site.current {
-        return Err(fault(Rule::OtherShape, name.place));
+        return Err(fault(Fault::OtherShape, name.place));
     }
     Ok(Some(variable))
 }
@@ -131,7 +131,7 @@ fn fitting_axis(
     bit: Option<Variable>,
 ) -> Result<u32, Untyped> {
     if (mode == SegmentMode::NoSegments) != bit.is_none() {
-        return Err(fault(Rule::Arguments, place));
+        return Err(fault(Fault::Arguments, place));
     }
     known_axis(axis)
 }
@@ -156,7 +156,7 @@ pub fn scan(
 ) -> Result<TExpr, Untyped> {
     let shape = site.shape(place)?;
     if source.ty().shape.is_none() {
-        return Err(fault(Rule::ParallelWanted, place));
+        return Err(fault(Fault::ParallelWanted, place));
     }
     let axis = fitting_axis(place, axis, walk.mode, bit)?;
     let elem = promoted(source.ty().elem);

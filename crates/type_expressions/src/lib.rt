@@ -9,4 +9,4 @@ mod references;
 mod walk;
 
 pub use found::{Found, Instances, TypedExpr, Typing};
-pub use walk::{typed_expr, typed_value};
+pub use walk::{typed_constant, typed_expr, typed_value};

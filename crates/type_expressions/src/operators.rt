@@ -1,11 +1,11 @@
 //! Operators, assignments, casts and brackets on typed operands, with their faults.
 
 use crate::found::{TypedExpr, Typing};
-use cstar_base::Place;
+use cstar_base::{Fault, Place};
 use cstar_tree::syntax::{AssignOp, Cast, PrefixOp, ReduceOp, StepOp};
 use cstar_tree::typed::{StepOrder, TExpr, UnaryOp};
 use std::alloc::Global;
-use type_scopes::faults::{Rule, Untyped, fault};
+use type_scopes::faults::{Untyped, fault};
 use type_scopes::sites::Site;
 use typed_nodes::assignments::{Target, assignment, folds, step, target_of};
 use typed_nodes::conversions::INT;
@@ -24,7 +24,7 @@ pub fn sending(op: AssignOp, target: Box<TExpr>) -> Result<Box<TExpr>, Untyped> 
 /// The target of an operator that cannot send.
 fn no_send(target: Box<TExpr>) -> Result<Box<TExpr>, Untyped> {
     match target_of(&target) {
-        Some(Target::Send(place)) => Err(fault(Rule::SendOperator, place)),
+        Some(Target::Send(place)) => Err(fault(Fault::SendOperator, place)),
         _ => Ok(target),
     }
 }
@@ -50,12 +50,12 @@ fn is_assignable(
     value: &TExpr,
 ) -> Result<(), Untyped> {
     match target_of(target) {
-        None => return Err(fault(Rule::NotAPlace, place)),
-        Some(Target::Send(_)) if !site.whole => return Err(fault(Rule::SendValue, place)),
+        None => return Err(fault(Fault::NotAPlace, place)),
+        Some(Target::Send(_)) if !site.whole => return Err(fault(Fault::SendValue, place)),
         Some(Target::Send(_) | Target::Variable) => {}
     }
     if target.ty().shape.is_none() && value.ty().shape.is_some() && !folds(op) {
-        return Err(fault(Rule::ScalarWanted, place));
+        return Err(fault(Fault::ScalarWanted, place));
     }
     Ok(())
 }
@@ -68,8 +68,8 @@ pub fn stepped(
     target: Box<TExpr>,
 ) -> Result<TExpr, Untyped> {
     match target_of(&target) {
-        None => Err(fault(Rule::NotAPlace, place)),
-        Some(Target::Send(place)) => Err(fault(Rule::SendOperator, place)),
+        None => Err(fault(Fault::NotAPlace, place)),
+        Some(Target::Send(place)) => Err(fault(Fault::SendOperator, place)),
         Some(Target::Variable) => Ok(step(op, order, target)),
     }
 }
@@ -100,7 +100,7 @@ fn reduced(
     operand: Box<TExpr>,
 ) -> Result<TExpr, Untyped> {
     if operand.ty().shape.is_none() {
-        return Err(fault(Rule::ParallelWanted, place));
+        return Err(fault(Fault::ParallelWanted, place));
     }
     Ok(reduction(alloc, op, operand)?)
 }
@@ -111,7 +111,7 @@ pub fn casts(alloc: Global, casts: &[Cast], operand: Box<TExpr>) -> Result<TExpr
         return Err(Untyped::Faulty);
     };
     if operand.ty().shape.is_some() {
-        return Err(fault(Rule::ScalarWanted, last.place));
+        return Err(fault(Fault::ScalarWanted, last.place));
     }
     Ok(cast_chain(alloc, *first, casts, operand)?)
 }

@@ -1,9 +1,9 @@
 //! References to variables: names, elements of arrays, left indexes and `.`.
 
-use cstar_base::{Elem, Place};
+use cstar_base::{Elem, Fault, Place};
 use cstar_tree::syntax::Name;
 use cstar_tree::typed::{TExpr, ValueType, Variable};
-use type_scopes::faults::{Rule, Untyped, fault};
+use type_scopes::faults::{Untyped, fault};
 use type_scopes::file::File;
 use type_scopes::locals::Locals;
 use type_scopes::names::VariableType;
@@ -29,7 +29,7 @@ pub fn plain_variable(
 ) -> Result<(Variable, VariableType), Untyped> {
     let (variable, ty) = file.variable(locals, site, name)?;
     if ty.array.is_some() {
-        return Err(fault(Rule::ArrayUse, name.place));
+        return Err(fault(Fault::ArrayUse, name.place));
     }
     Ok((variable, ty))
 }
@@ -43,7 +43,7 @@ pub fn array(
 ) -> Result<(Variable, VariableType), Untyped> {
     let (variable, ty) = file.variable(locals, site, name)?;
     if ty.array.is_none() {
-        return Err(fault(Rule::ArrayUse, name.place));
+        return Err(fault(Fault::ArrayUse, name.place));
     }
     Ok((variable, ty))
 }
@@ -59,7 +59,7 @@ pub fn element(
     index: Box<TExpr>,
 ) -> Result<TExpr, Untyped> {
     if index.ty().shape.is_some() {
-        return Err(fault(Rule::ScalarWanted, bracket));
+        return Err(fault(Fault::ScalarWanted, bracket));
     }
     let (variable, ty) = array;
     site.holds(place, ty.shape)?;
@@ -74,7 +74,7 @@ pub fn element(
 /// `.`, at its place.
 pub fn dot(site: Site, place: Place) -> Result<TExpr, Untyped> {
     let Some(axis) = site.dot else {
-        return Err(fault(Rule::Dot, place));
+        return Err(fault(Fault::Dot, place));
     };
     Ok(TExpr::Dot {
         ty: ValueType {
@@ -104,10 +104,10 @@ pub fn left_index(
 ) -> Result<TExpr, Untyped> {
     let (variable, ty) = variable;
     let Some(of) = ty.shape else {
-        return Err(fault(Rule::IndexCount, place));
+        return Err(fault(Fault::IndexCount, place));
     };
     if file.rank(of) != u32::try_from(indexes.len()).ok() {
-        return Err(fault(Rule::IndexCount, place));
+        return Err(fault(Fault::IndexCount, place));
     }
     let parallel = indexes.iter().any(|index| index.ty().shape.is_some());
     let shape = if parallel { site.current } else { None };

@@ -9,11 +9,11 @@ use crate::intrinsics::{
 };
 use crate::operators::{assign, bracketed, casts, prefix, sending, stepped};
 use crate::references::{array, dot, element, is_of_current, left_index, name, plain_variable};
-use cstar_base::{Elem, Memory, Place};
+use cstar_base::{Elem, Fault, Memory, Place};
 use cstar_tree::syntax::{AssignOp, BinaryOp, Expr, Name, TypeName};
 use cstar_tree::typed::{StepOrder, TExpr, ValueType, Variable};
 use std::alloc::Global;
-use type_scopes::faults::{Faults, Rule, Untyped, fault};
+use type_scopes::faults::{Faults, Untyped, fault};
 use type_scopes::file::File;
 use type_scopes::locals::Locals;
 use type_scopes::names::VariableType;
@@ -34,6 +34,35 @@ pub fn typed_value(
     found.faults.settle(valued(e.place(), typed))
 }
 
+/// Types the axis of an intrinsic.
+#[cycle(expression)]
+fn axis_value(
+    found: &mut Found,
+    file: &File<'_>,
+    locals: &Locals,
+    site: Site,
+    axis: &Expr,
+) -> Result<Option<Box<TExpr>>, Memory> {
+    let earlier = found.set_aside();
+    let typed = typed_value(found, file, locals, site, axis)?;
+    found.expect_constant(site, axis.place(), typed.is_some(), earlier);
+    Ok(typed)
+}
+
+/// Types an expression that is to be constant.
+pub fn typed_constant(
+    found: &mut Found,
+    file: &File<'_>,
+    locals: &Locals,
+    site: Site,
+    e: &Expr,
+) -> Typing {
+    let earlier = found.set_aside();
+    let typed = typed_expr(found, file, locals, site.part(), e)?;
+    found.expect_constant(site, e.place(), typed.is_some(), earlier);
+    Ok(typed)
+}
+
 /// The expression, which needs a value. If it has none, that is a fault at the place.
 fn valued(place: Place, typed: Option<TypedExpr>) -> Result<Box<TExpr>, Untyped> {
     let Some(TypedExpr { expr, has_value }) = typed else {
@@ -42,7 +71,7 @@ fn valued(place: Place, typed: Option<TypedExpr>) -> Result<Box<TExpr>, Untyped>
     if has_value {
         Ok(expr)
     } else {
-        Err(fault(Rule::WrongKind, place))
+        Err(fault(Fault::WrongKind, place))
     }
 }
 
@@ -80,7 +109,7 @@ pub fn typed_expr(
         | Expr::DimOf { axis, .. }
         | Expr::Scan { axis, .. }
         | Expr::Enumerate { axis, .. } => {
-            let axis = typed_value(found, file, locals, site, axis)?;
+            let axis = axis_value(found, file, locals, site, axis)?;
             let along = goes_along(&mut found.faults, file, locals, site, e, axis)?;
             let source = match e {
                 Expr::Scan { source, .. } => typed_value(found, file, locals, site, source)?,

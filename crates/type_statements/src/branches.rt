@@ -1,8 +1,8 @@
 //! The typed parts of statements that choose, and the statements over them.
 
-use cstar_base::Place;
+use cstar_base::{Fault, Place};
 use cstar_tree::typed::{TExpr, TStmt};
-use type_scopes::faults::{Rule, Untyped, fault};
+use type_scopes::faults::{Untyped, fault};
 use type_scopes::sites::Site;
 
 /// The condition and the parts of an `if` or a `where`.
@@ -16,7 +16,7 @@ pub struct Branches {
 /// Is the condition of the statement at the place scalar?
 pub fn scalar_test(place: Place, test: &TExpr) -> Result<(), Untyped> {
     if test.ty().shape.is_some() {
-        return Err(fault(Rule::ScalarWanted, place));
+        return Err(fault(Fault::ScalarWanted, place));
     }
     Ok(())
 }
@@ -40,7 +40,7 @@ pub fn if_statement(place: Place, parts: Branches) -> Result<TStmt, Untyped> {
 pub fn where_statement(site: Site, place: Place, parts: Branches) -> Result<TStmt, Untyped> {
     let shape = site.shape(place)?;
     if parts.test.ty().shape.is_none() {
-        return Err(fault(Rule::ParallelWanted, place));
+        return Err(fault(Fault::ParallelWanted, place));
     }
     let Branches {
         test,

@@ -1,13 +1,13 @@
 //! Declarations of variables.
 
 use crate::scopes::Scopes;
-use cstar_base::{Memory, Place, Word, numbers};
+use cstar_base::{Fault, Memory, Place, Word, numbers};
 use cstar_tree::syntax::{Declaration, Declarator, Expr};
 use cstar_tree::typed::{LocalVar, TExpr, ValueType, VarInfo};
 use source_meaning::constant;
 use std::alloc::Global;
-use type_expressions::{Found, TypedExpr, typed_expr, typed_value};
-use type_scopes::faults::{Rule, Untyped, fault};
+use type_expressions::{Found, TypedExpr, typed_constant, typed_value};
+use type_scopes::faults::{Untyped, fault};
 use type_scopes::file::File;
 use type_scopes::locals::Locals;
 use type_scopes::names::VariableType;
@@ -88,7 +88,9 @@ fn local(
     let ty = length.variable(ty);
     let new = scopes.declare(file.alloc, scope, &declarator.name, ty)?;
     if !new {
-        found.faults.stands(Rule::Redeclared, declarator.name.place);
+        found
+            .faults
+            .stands(Fault::Redeclared, declarator.name.place);
     }
     let initial = typed_initial(found, file, &scopes.locals, site, declarator)?;
     let (Some(ty), Some(()), true) = (ty, fits, new) else {
@@ -134,7 +136,7 @@ fn initialised(
     };
     site.holds(place, ty.shape)?;
     if ty.shape.is_none() && value.ty().shape.is_some() {
-        return Err(fault(Rule::ScalarWanted, equals));
+        return Err(fault(Fault::ScalarWanted, equals));
     }
     Ok(fitted(alloc, value, ty.value())?)
 }
@@ -168,7 +170,7 @@ pub fn array_length(
     let Some(length) = length else {
         return Ok(Length::Absent);
     };
-    let typed = typed_expr(found, file, locals, site.part(), length)?;
+    let typed = typed_constant(found, file, locals, site, length)?;
     let number = constant_number(length.place(), typed);
     Ok(match found.faults.settle(number)? {
         Some(length) => Length::Of(length),
@@ -184,7 +186,7 @@ pub fn constant_number(place: Place, typed: Option<TypedExpr>) -> Result<i64, Un
     let word = if has_value { constant(&expr) } else { None };
     match word {
         Some(word) => Ok(numbers::value(expr.ty().elem, word)),
-        None => Err(fault(Rule::Constant, place)),
+        None => Err(fault(Fault::Constant, place)),
     }
 }
 
@@ -205,7 +207,7 @@ pub fn array_fits(
         None => false,
     };
     if scalar || outside || declarator.initial.is_some() {
-        return Err(fault(Rule::ArrayDeclaration, declarator.name.place));
+        return Err(fault(Fault::ArrayDecl, declarator.name.place));
     }
     Ok(())
 }

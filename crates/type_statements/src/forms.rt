@@ -1,10 +1,10 @@
 //! Loops, jumps and statements with one part, over their typed parts.
 
 use crate::branches::scalar_test;
-use cstar_base::Place;
+use cstar_base::{Fault, Place};
 use cstar_tree::typed::{TExpr, TStmt};
 use std::alloc::Global;
-use type_scopes::faults::{Rule, Untyped, fault};
+use type_scopes::faults::{Untyped, fault};
 use type_scopes::sites::{Returns, Site};
 use typed_nodes::conversions::fitted;
 
@@ -67,7 +67,7 @@ pub fn loop_word(site: Site, place: Place) -> Result<(), Untyped> {
     if site.in_loop {
         Ok(())
     } else {
-        Err(fault(Rule::LoopWord, place))
+        Err(fault(Fault::LoopWord, place))
     }
 }
 
@@ -81,7 +81,7 @@ pub fn return_statement(
     let ty = match site.returns {
         Returns::Unknown => return Err(Untyped::Faulty),
         Returns::Value(ty) if fits_result(site, ty.shape, value.ty().shape) => ty,
-        Returns::Value(_) | Returns::Nothing => return Err(fault(Rule::Return, place)),
+        Returns::Value(_) | Returns::Nothing => return Err(fault(Fault::Return, place)),
     };
     Ok(TStmt::Return(Some(Box::into_inner(fitted(alloc, value, ty)?))))
 }

@@ -4,10 +4,6 @@ use Rattle.cstar_top.specs.Answers.{status_of}
 use Rattle.cstar_top.proofs.Lines.{memory_line}
 use Rattle.cstar_top.proofs.report.put_answer.Goals as goal
 
-pub returns-clause-part : goal.returns-clause-part
-returns-clause-part g c failed =
-    (c.args.answer, subst (λ (xs : List ℕ). TakesPrefix g.E.Sink.agrees c.args.err.now c.put_line.new.err xs) c.requires (c.put_line.ensures.part failed))
-
 pub returns-clause-memory : goal.returns-clause-memory
 returns-clause-memory g c is =
     let status : status_of c.args.answer ≡ 8 = omega arith in
@@ -15,6 +11,6 @@ returns-clause-memory g c is =
     (c.requires ∙ memory_line c.args.file.now c.args.answer status)
     (c.put_line.ensures.taken (λ six. omega arith))
 
-pub returns-clause-own_part : goal.returns-clause-own_part
-returns-clause-own_part g c failed =
+pub returns-clause-part : goal.returns-clause-part
+returns-clause-part g c failed =
     subst (λ (xs : List ℕ). TakesPrefix g.E.Sink.agrees c.args.err.now c.put_line.new.err xs) c.requires (c.put_line.ensures.part failed)

@@ -20,11 +20,11 @@ returns-clause-report g c other more =
     elim (cases_lt 0 ran.steps) [
       | inl some ↦ let m = c.run-outcome.ensures.meaning some in
           let facts = m.1.1.1 in
-          let course : Course = record { end = ran.end; steps = ran.steps; taken = m.1.1.0; over = m.0; printed = m.1.1.1.0; memory = memory_of c.run-outcome.new.p } in
+          let course : Course = record { end = ran.end; steps = ran.steps; left = ran.turns_left; taken = m.1.1.0; over = m.0; printed = m.1.1.1.0; memory = memory_of c.run-outcome.new.p } in
           let chosen = subst (λ (shapes : List SetShape). SameBits shapes (memory_of c.choose.new.self) (record { bit = (memory_of c.in-Ok.phases).bit; winner = options.winner })) c.in-Ok.ensures.sets c.choose.ensures.memory in
           let new = chosen_new (shapes_of image) (memory_of c.choose.new.self) (memory_of c.in-Ok.phases) options.winner chosen c.in-Ok.ensures.fresh in
           run_reported g.O.Sink.agrees c.args.out.now c.put_listing.new.out c.run-outcome.new.out c.finish.new.out (g.I.Source.left c.args.input.now) (g.I.Source.left c.run-outcome.new.input) options image course c.finish.result
-          (memory_of c.choose.new.self, new, (λ rest. kept_state m.1.0 ran.turns_left (memory_of c.run-outcome.new.p) rest m.1.1.1.0, λ rest. (refl, refl), facts.4))
+          (memory_of c.choose.new.self, new, (λ rest. kept_state m.1.0 ran.turns_left (memory_of c.run-outcome.new.p) rest m.1.1.1.0, λ rest. (refl, refl, refl), facts.4))
           (facts.2, facts.1)
           c.in-Ok-put_listing.ensures.0
           facts.3
@@ -43,11 +43,11 @@ returns-clause-part g c =
     elim (cases_lt 0 ran.steps) [
       | inl some ↦ let m = c.run-outcome.ensures.meaning some in
           let facts = m.1.1.1 in
-          let course : Course = record { end = ran.end; steps = ran.steps; taken = m.1.1.0; over = m.0; printed = m.1.1.1.0; memory = memory_of c.run-outcome.new.p } in
+          let course : Course = record { end = ran.end; steps = ran.steps; left = ran.turns_left; taken = m.1.1.0; over = m.0; printed = m.1.1.1.0; memory = memory_of c.run-outcome.new.p } in
           let chosen = subst (λ (shapes : List SetShape). SameBits shapes (memory_of c.choose.new.self) (record { bit = (memory_of c.in-Ok.phases).bit; winner = options.winner })) c.in-Ok.ensures.sets c.choose.ensures.memory in
           let new = chosen_new (shapes_of image) (memory_of c.choose.new.self) (memory_of c.in-Ok.phases) options.winner chosen c.in-Ok.ensures.fresh in
           run_part g.O.Sink.agrees c.args.out.now c.put_listing.new.out c.run-outcome.new.out c.finish.new.out (g.I.Source.left c.args.input.now) (g.I.Source.left c.run-outcome.new.input) options image course
-          (memory_of c.choose.new.self, new, (λ rest. kept_state m.1.0 ran.turns_left (memory_of c.run-outcome.new.p) rest m.1.1.1.0, λ rest. (refl, refl), facts.4))
+          (memory_of c.choose.new.self, new, (λ rest. kept_state m.1.0 ran.turns_left (memory_of c.run-outcome.new.p) rest m.1.1.1.0, λ rest. (refl, refl, refl), facts.4))
           (facts.2, facts.1)
           c.in-Ok-put_listing.ensures.0
           facts.3

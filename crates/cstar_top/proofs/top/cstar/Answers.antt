@@ -1,22 +1,55 @@
-use Rattle.std.proofs.Common.{◌∙◌, List, ℕ, inl, inr, map, subst, sym, ap, codes, refl, arith, lit<}
+use Rattle.std.proofs.Common.{◌∙◌, List, ℕ, inl, inr, map, subst, sym, ap, arith, lit<}
 use Rattle.std.specs.String.{string_bytes}
-use Rattle.cstar_top.proofs.Asked.{budget_is, mode_is, named_is}
-use Rattle.cstar_io.specs.Output.{Takes}
-use Rattle.cstar_top.specs.declared.answer.Answer.{Answer}
+use Rattle.cstar_io.specs.Output.{Takes, TakesPrefix}
 use Rattle.cstar_top.specs.declared.answer.Answer.TheVariants as A
-use Rattle.cstar_top.specs.Answers.{line_of, status_of, usage_line}
-use Rattle.cstar_top.specs.Modes.{budget, leaves_input, named}
+use Rattle.cstar_top.specs.Answers.{line_of, status_of}
+use Rattle.cstar_top.specs.Assembled.{RefusesListing}
+use Rattle.cstar_top.specs.Modes.{budget, leaves_input, named, runs_image}
 use Rattle.cstar_top.specs.Refusals.{HoldsLong, RefusesLong, reads_text}
-use Rattle.cstar_top.specs.Reported.{runs_image}
-use Rattle.cstar_top.proofs.Lines.{part_of_either, status_is}
+use Rattle.cstar_top.specs.Reported.{Holds}
+use Rattle.cstar_top.proofs.Asked.{budget_is, mode_is, named_is}
+use Rattle.cstar_top.proofs.Lines.{status_is}
 use Rattle.cstar_top.proofs.Listings.{nothing_taken}
+use Rattle.cstar_top.proofs.Outcomes.{answer_told, can_follow, no_usage, part_told, refusal_told, told_is}
 use Rattle.cstar_top.proofs.Refusals.{refused_long}
-use Rattle.cstar_top.proofs.Reported.{calm_is, whole_is, whole_not}
+use Rattle.cstar_top.proofs.Reported.{whole_is, whole_not}
 use Rattle.cstar_top.proofs.top.cstar.Goals as goal
+
+pub returns-in-Ok-clause-line : goal.returns-in-Ok-clause-line
+returns-in-Ok-clause-line g c other =
+    let words = map string_bytes c.args.words.now in
+    let options = c.in-Ok.options in
+    let file = c.as_bytes.ensures.value ∙ sym (named_is words options c.in-Ok.ensures.reads) in
+    let can = can_follow words options.mode (budget options.mode options.turns) c.answer-answer.result c.in-Ok.ensures.command c.in-Ok.ensures.reads.mode (budget_is words options c.in-Ok.ensures.reads) c.answer-answer.ensures.can in
+    let told = answer_told g.E.Sink.agrees c.args.err.now c.report.new.err words c.as_bytes.result.now c.report.result c.answer-answer.result can c.report.ensures.status c.report.ensures.own c.report.ensures.memory other in
+    (told.0, told.1, told.2, subst (λ (name : List ℕ). Takes g.E.Sink.agrees c.args.err.now c.report.new.err (line_of name told.0)) file told.3)
+
+pub returns-in-Ok-clause-part : goal.returns-in-Ok-clause-part
+returns-in-Ok-clause-part g c six =
+    let words = map string_bytes c.args.words.now in
+    let options = c.in-Ok.options in
+    let file = c.as_bytes.ensures.value ∙ sym (named_is words options c.in-Ok.ensures.reads) in
+    let can = can_follow words options.mode (budget options.mode options.turns) c.answer-answer.result c.in-Ok.ensures.command c.in-Ok.ensures.reads.mode (budget_is words options c.in-Ok.ensures.reads) c.answer-answer.ensures.can in
+    let told = part_told g.E.Sink.agrees c.args.err.now c.report.new.err words c.as_bytes.result.now c.answer-answer.result can (c.report.ensures.part six) in
+    (told.0, told.1, subst (λ (name : List ℕ). TakesPrefix g.E.Sink.agrees c.args.err.now c.report.new.err (line_of name told.0)) file told.2)
+
+pub returns-in-Ok-clause-usage : goal.returns-in-Ok-clause-usage
+returns-in-Ok-clause-usage g c two =
+    absurd (no_usage c.in-Ok.options.mode (budget c.in-Ok.options.mode c.in-Ok.options.turns) c.answer-answer.result c.answer-answer.ensures.can (status_is 2 c.report.result (status_of c.answer-answer.result) (lit< tt) c.report.ensures.status two))
 
 pub returns-in-Ok-clause-counts : goal.returns-in-Ok-clause-counts
 returns-in-Ok-clause-counts g c other =
     (c.answer-answer.ensures.count (λ six. other (c.report.ensures.kept six)), c.report.ensures.other other)
+
+pub returns-in-Ok-clause-input_count : goal.returns-in-Ok-clause-input_count
+returns-in-Ok-clause-input_count g c six seven eight =
+    let same = told_is c.report.result (status_of c.answer-answer.result) six eight c.report.ensures.status in
+    c.answer-answer.ensures.input_count (λ is. six (same ∙ is)) (λ is. seven (same ∙ is))
+
+pub returns-in-Ok-clause-shelf_count : goal.returns-in-Ok-clause-shelf_count
+returns-in-Ok-clause-shelf_count g c five six eight =
+    let same = told_is c.report.result (status_of c.answer-answer.result) six eight c.report.ensures.status in
+    c.answer-answer.ensures.shelf_count (λ is. five (same ∙ is))
 
 pub returns-in-Ok-clause-silent : goal.returns-in-Ok-clause-silent
 returns-in-Ok-clause-silent g c asks =
@@ -25,29 +58,6 @@ returns-in-Ok-clause-silent g c asks =
 pub returns-in-Ok-clause-unread : goal.returns-in-Ok-clause-unread
 returns-in-Ok-clause-unread g c leaves =
     c.answer-answer.ensures.unread (ap leaves_input (mode_is _ c.in-Ok.options leaves.0 c.in-Ok.ensures.reads leaves.1) ∙ leaves.2)
-
-pub returns-in-Ok-clause-stopped : goal.returns-in-Ok-clause-stopped
-returns-in-Ok-clause-stopped g c four =
-    let words = map string_bytes c.args.words.now in
-    let options = c.in-Ok.options in
-    let status = status_is 4 c.report.result (status_of c.answer-answer.result) (lit< tt) c.report.ensures.status four in
-    let own = c.report.ensures.own (four ∙ sym status) (λ six. omega arith) (λ eight. omega arith) in
-    let name = ap (λ (name : List ℕ). line_of name c.answer-answer.result) (c.as_bytes.ensures.value ∙ sym (named_is words options c.in-Ok.ensures.reads)) in
-    let is = ap (λ (answer : Answer). line_of (named words) answer) (c.answer-answer.ensures.stopped status) in (
-      budget options.mode options.turns,
-      budget_is words options c.in-Ok.ensures.reads,
-      subst (λ (bytes : List ℕ). Takes g.E.Sink.agrees c.args.err.now c.report.new.err bytes) (name ∙ is) own,
-    )
-
-pub returns-in-Err-Usage-clause-part : goal.returns-in-Err-Usage-clause-part
-unfolding line_of
-returns-in-Err-Usage-clause-part g c six =
-    part_of_either g.E.Sink.agrees c.args.err.now c.report-in-Err-Usage.new.err (named (map string_bytes c.args.words.now)) A.Usage usage_line refl (c.report-in-Err-Usage.ensures.own_part six)
-
-pub returns-in-Err-Memory-clause-part : goal.returns-in-Err-Memory-clause-part
-unfolding line_of
-returns-in-Err-Memory-clause-part g c six =
-    part_of_either g.E.Sink.agrees c.args.err.now c.report-in-Err-Memory.new.err (named (map string_bytes c.args.words.now)) A.Memory (codes "out of memory\n") refl (c.report-in-Err-Memory.ensures.own_part six)
 
 pub returns-in-Ok-clause-listing : goal.returns-in-Ok-clause-listing
 returns-in-Ok-clause-listing g c asks none =
@@ -59,11 +69,40 @@ pub returns-in-Ok-clause-part_of_listing : goal.returns-in-Ok-clause-part_of_lis
 returns-in-Ok-clause-part_of_listing g c asks =
     c.answer-answer.ensures.part (mode_is _ c.in-Ok.options _ c.in-Ok.ensures.reads asks)
 
-pub returns-in-Err-Usage-clause-part_of_listing : goal.returns-in-Err-Usage-clause-part_of_listing
-returns-in-Err-Usage-clause-part_of_listing g c asks = nothing_taken g.O.Sink.agrees c.args.out.now
+pub returns-in-Ok-clause-drill : goal.returns-in-Ok-clause-drill
+returns-in-Ok-clause-drill g c asks none = (
+  c.in-Ok.options,
+  c.in-Ok.ensures.reads,
+  c.answer-answer.ensures.drill
+      (mode_is _ c.in-Ok.options _ c.in-Ok.ensures.reads asks)
+      (status_is 0 c.report.result (status_of c.answer-answer.result) (lit< tt) c.report.ensures.status none),
+)
 
-pub returns-in-Err-Memory-clause-part_of_listing : goal.returns-in-Err-Memory-clause-part_of_listing
-returns-in-Err-Memory-clause-part_of_listing g c asks = nothing_taken g.O.Sink.agrees c.args.out.now
+pub returns-in-Ok-clause-part_of_drill : goal.returns-in-Ok-clause-part_of_drill
+returns-in-Ok-clause-part_of_drill g c asks =
+    elim (c.answer-answer.ensures.part_of_drill (mode_is _ c.in-Ok.options _ c.in-Ok.ensures.reads asks)) [
+      | inl nothing ↦ inl nothing
+      | inr part ↦ inr (c.in-Ok.options, c.in-Ok.ensures.reads, part)
+    ]
+
+pub returns-in-Ok-clause-silent_drill : goal.returns-in-Ok-clause-silent_drill
+returns-in-Ok-clause-silent_drill g c asks none six eight =
+    let same = told_is c.report.result (status_of c.answer-answer.result) six eight c.report.ensures.status in
+    c.answer-answer.ensures.silent_drill (mode_is _ c.in-Ok.options _ c.in-Ok.ensures.reads asks) (λ is. none (same ∙ is)) (λ is. six (same ∙ is))
+
+pub returns-in-Ok-clause-assembled : goal.returns-in-Ok-clause-assembled
+returns-in-Ok-clause-assembled g c asks three =
+    let words = map string_bytes c.args.words.now in
+    let options = c.in-Ok.options in
+    let name = named_is words options c.in-Ok.ensures.reads in
+    let status = status_is 3 c.report.result (status_of c.answer-answer.result) (lit< tt) c.report.ensures.status three in
+    let why = c.answer-answer.ensures.assembled (mode_is _ options _ c.in-Ok.ensures.reads asks) status in
+    let own = c.report.ensures.own (three ∙ sym status) (λ six. omega arith) (λ eight. omega arith) in
+    let line = subst (λ (file : List ℕ). Takes g.E.Sink.agrees c.args.err.now c.report.new.err (line_of file c.answer-answer.result)) (c.as_bytes.ensures.value ∙ sym name) own in (
+      why.0,
+      subst (λ (file : List ℕ). Holds g.S.Shelf.tells g.S.Shelf.file c.args.shelf.now file why.0) (sym name) why.1,
+      refusal_told g.E.Sink.agrees c.args.err.now c.report.new.err (named words) (RefusesListing why.0) c.answer-answer.result status why.2 line,
+    )
 
 pub returns-in-Ok-clause-report : goal.returns-in-Ok-clause-report
 returns-in-Ok-clause-report g c asks whole =
@@ -97,11 +136,6 @@ returns-in-Ok-clause-part_of_report g c asks =
       | inr part ↦ inr (options, c.in-Ok.ensures.reads, (part.0, part.1, part.2))
     ]
 
-pub returns-in-Ok-clause-calm : goal.returns-in-Ok-clause-calm
-returns-in-Ok-clause-calm g c below =
-    let same = calm_is c.report.result (status_of c.answer-answer.result) below c.report.ensures.status in
-    (c.answer-answer.ensures.input_count (λ six. omega arith) (λ seven. omega arith), c.answer-answer.ensures.shelf_count (λ five. omega arith))
-
 pub returns-in-Ok-clause-too_long : goal.returns-in-Ok-clause-too_long
 returns-in-Ok-clause-too_long g c command asks long =
     let words = map string_bytes c.args.words.now in
@@ -112,3 +146,34 @@ returns-in-Ok-clause-too_long g c command asks long =
     let refused = c.answer-answer.ensures.too_long mode told in
     subst (λ (file : List ℕ). RefusesLong g.E.Sink.agrees c.args.err.now c.report.new.err file c.report.result) (c.as_bytes.ensures.value ∙ sym name)
     (refused_long g.E.Sink.agrees c.args.err.now c.report.new.err c.as_bytes.result.now c.report.result c.answer-answer.result refused c.report.ensures.status c.report.ensures.own)
+
+pub returns-in-Err-Usage-clause-part_of_listing : goal.returns-in-Err-Usage-clause-part_of_listing
+returns-in-Err-Usage-clause-part_of_listing g c asks = nothing_taken g.O.Sink.agrees c.args.out.now
+
+pub returns-in-Err-Memory-clause-part_of_listing : goal.returns-in-Err-Memory-clause-part_of_listing
+returns-in-Err-Memory-clause-part_of_listing g c asks = nothing_taken g.O.Sink.agrees c.args.out.now
+
+pub returns-in-Err-Usage-clause-line : goal.returns-in-Err-Usage-clause-line
+unfolding line_of
+returns-in-Err-Usage-clause-line g c other =
+    let words = map string_bytes c.args.words.now in
+    let told = answer_told g.E.Sink.agrees c.args.err.now c.report-in-Err-Usage.new.err words (named words) c.report-in-Err-Usage.result A.Usage (c.in-Err-Usage.ensures.refused c.in-Err-Usage.field-0-is) c.report-in-Err-Usage.ensures.status c.report-in-Err-Usage.ensures.own c.report-in-Err-Usage.ensures.memory other in
+    told
+
+pub returns-in-Err-Usage-clause-part : goal.returns-in-Err-Usage-clause-part
+unfolding line_of
+returns-in-Err-Usage-clause-part g c six =
+    let words = map string_bytes c.args.words.now in
+    part_told g.E.Sink.agrees c.args.err.now c.report-in-Err-Usage.new.err words (named words) A.Usage (c.in-Err-Usage.ensures.refused c.in-Err-Usage.field-0-is) (c.report-in-Err-Usage.ensures.part six)
+
+pub returns-in-Err-Memory-clause-line : goal.returns-in-Err-Memory-clause-line
+unfolding line_of
+returns-in-Err-Memory-clause-line g c other =
+    let words = map string_bytes c.args.words.now in
+    answer_told g.E.Sink.agrees c.args.err.now c.report-in-Err-Memory.new.err words (named words) c.report-in-Err-Memory.result A.Memory tt c.report-in-Err-Memory.ensures.status c.report-in-Err-Memory.ensures.own c.report-in-Err-Memory.ensures.memory other
+
+pub returns-in-Err-Memory-clause-part : goal.returns-in-Err-Memory-clause-part
+unfolding line_of
+returns-in-Err-Memory-clause-part g c six =
+    let words = map string_bytes c.args.words.now in
+    part_told g.E.Sink.agrees c.args.err.now c.report-in-Err-Memory.new.err words (named words) A.Memory tt (c.report-in-Err-Memory.ensures.part six)

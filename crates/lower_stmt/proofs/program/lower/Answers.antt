@@ -13,7 +13,7 @@ loop-number-init c =
     let same : layout c.in_ok-names.names ≡ layout_of c.args.t.now 0 = c.in_ok-names.ensures in
     let end : c.in_ok-names.names.end ≡ (layout_of c.args.t.now 0).end = ap (λ (l : Layout). l.end) same in
     let none = c.new-units.ensures.items in
-    record { known = (0, same); units = grind (arith, common_steps, end, none); slots = grind (arith, common_steps, end, none); instructions = grind (arith, common_steps, none); numbered = omega arith }
+    record { known = (0, same); units = grind (arith, common_steps, end, none); each = grind (arith, common_steps, none); slots = grind (arith, common_steps, end, none); instructions = grind (arith, common_steps, none); numbered = omega arith }
 
 pub loop-number-preserved : goal.loop-number-preserved
 loop-number-preserved c =
@@ -44,6 +44,7 @@ loop-number-preserved c =
     record {
       known = (c.loop-number.number, seen);
       units = cc (more, first, pushed, items, item, so_far);
+      each = grind (arith, common_steps, items, c.loop-number.invariant.each);
       slots = cc (slots, items);
       instructions = grind (arith, common_steps, instructions, items);
       numbered = omega arith;

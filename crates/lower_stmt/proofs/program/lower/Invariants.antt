@@ -1,17 +1,19 @@
-use Rattle.std.proofs.Common.{◌≡◌, ℕ, ◌<◌, ◌^◌, ◌++◌, drop, map}
+use Rattle.std.proofs.Common.{◌≡◌, ℕ, ◌<◌, ◌^◌, ◌++◌, drop, length, map}
 use Rattle.lower_comm.specs.Drafts.{draft}
 use Rattle.lower_comm.specs.Layouts.{layout, layout_of}
 use Rattle.lower_stmt.specs.Programs.{instructions_in, slots_behind, units_of}
 use Rattle.lower_stmt.proofs.program.lower.Given as goal
 
 -- the numbering is one of the program's; the units so far, and those of the instances that are left,
--- are the whole; the registers go on behind them; and their instructions are counted
+-- are the whole, each instance having one; the registers go on behind them; and their instructions
+-- are counted
 abbrev pub invariant-loop-number : goal.invariant-loop-number
 invariant-loop-number l = record {
   known : (k : ℕ) × (layout l.names ≡ layout_of l.t k);
   units :
       map draft l.units.items ++ units_of l.t (drop l.number l.t.instances.items) l.number l.slots
       ≡ units_of l.t l.t.instances.items 0 (layout_of l.t 0).end;
+  each : length l.units.items ≡ l.number;
   slots : l.slots ≡ slots_behind (layout_of l.t 0).end (map draft l.units.items);
   instructions : l.instructions ≡ instructions_in (map draft l.units.items);
   numbered : l.instructions < 2 ^ 32;

@@ -1,6 +1,7 @@
-use Rattle.std.proofs.Common.{◌≡◌, ℕ, List, Option, Some, subst}
+use Rattle.std.proofs.Common.{◌≡◌, ℕ, List, Option, Some, sym, subst}
 use Rattle.std.specs.Prelude.{IfSome}
 use Rattle.cstar_base.specs.declared.operators.Place.{Place}
+use Rattle.cstar_base.specs.declared.faults.RunFault.{RunFault}
 use Rattle.paris_code.specs.declared.instr.Instr.{Instr}
 use Rattle.paris_code.specs.declared.program.Image.{Image}
 use Rattle.paris_code.specs.declared.program.Reply.TheVariants as R
@@ -30,8 +31,8 @@ returns-in-Bad-clause-meaning g c = λ instr here.
     let means : Means (shapes_of image) read c.args.front.now.args.items m n (R.Bad position) =
     subst (λ (shapes : List SetShape). Means shapes read c.args.front.now.args.items m n (R.Bad position)) c.requires.shapes
     (subst (λ (args : List ℕ). Means (g.P.Phases.shapes c.args.p.now) read args m n (R.Bad position)) c.args-2.ensures c.in-Bad.ensures.meaning) in
-    let fault : fault_at read position ≡ Fault c.unwrap-kind.result.0 c.unwrap-kind.result.1 (Some position) =
-    subst (λ (o : Option (ℕ × Place)). IfSome o (λ f. fault_at read position ≡ Fault f.0 f.1 (Some position))) c.unwrap-kind.ensures (c.fault_of.ensures.fault position) in
-    subst (λ (i : Instr). RepliesTo image i (state_of c.args.front.now) m (Some (E.Fault c.unwrap-kind.result.0 c.unwrap-kind.result.1 (Some position))) (state_of c.args.front.now) n)
+    let fault : fault_at read position ≡ Fault c.unwrap-fault.result.0 c.unwrap-fault.result.1 (Some position) =
+    subst (λ (o : Option (RunFault × Place)). IfSome o (λ f. fault_at read position ≡ Fault f.0 f.1 (Some position))) c.unwrap-fault.ensures (c.fault_of.ensures.fault position) in
+    subst (λ (i : Instr). RepliesTo image i (state_of c.args.front.now) m (Some (E.Fault c.number.result c.unwrap-fault.result.1 (Some position))) (state_of c.args.front.now) n)
     (same_instr image c.args.at read instr c.instr_at-instr.ensures.is here)
-    (replies_bad image read (state_of c.args.front.now) m n position c.unwrap-kind.result.0 c.unwrap-kind.result.1 fault means)
+    (replies_bad image read (state_of c.args.front.now) m n position c.number.result c.unwrap-fault.result.0 c.unwrap-fault.result.1 (sym c.number.ensures) fault means)

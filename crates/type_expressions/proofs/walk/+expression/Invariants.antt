@@ -12,3 +12,6 @@ decreases-operands l = goal.size-operands l * 8 + 0
 
 abbrev pub decreases-list : goal.decreases-list
 decreases-list l = goal.size-list l * 8 + 0
+
+abbrev pub decreases-axis_value : goal.decreases-axis_value
+decreases-axis_value l = goal.size-axis_value l * 8 + 3

@@ -1,5 +1,6 @@
 use Rattle.std.proofs.Common.{rules, ◌≡◌, ◌+◌, true, if◌then◌else◌, None, subst, sym, ap, ◌∙◌, refl}
 use Rattle.std.specs.Prelude.{◌==◌, not}
+use Rattle.cstar_base.specs.declared.faults.RunFault.TheVariants.{Index, DivZero}
 use Rattle.paris_code.specs.declared.instr.Instr.{Instr}
 use Rattle.paris_code.specs.declared.instr.Instr.TheVariants as I
 use Rattle.paris_code.specs.Code.{Goes, Ends, Fault}
@@ -68,16 +69,16 @@ returns-in-FrontCheckTarget-clause-asks c =
     let old : State = state_of c.args.self.now in
     let is : IsControl c.args.sound.now old (I.FrontCheckTarget c.in-FrontCheckTarget.set c.in-FrontCheckTarget.place c.in-FrontCheckTarget.coordinates) = subst (λ (i : Instr). IsControl c.args.sound.now old i) c.in-FrontCheckTarget.is (c.requires.here, c.requires.scalar, c.requires.other) in
     asked c.args.sound.now old c.check.result _ (state_of c.check.new.self) _ c.check.ensures.asks c.check.ensures.state
-    (asks_target c.args.sound.now old (I.FrontCheckTarget c.in-FrontCheckTarget.set c.in-FrontCheckTarget.place c.in-FrontCheckTarget.coordinates) c.any_outside-fails.result 1 c.in-FrontCheckTarget.place is c.requires.ready
-    (λ m i o. ap (λ b. if b then Ends (Fault 1 c.in-FrontCheckTarget.place None) (joined (record old { at = old.at + 1 }) m i o) else Goes (joined (record old { at = old.at + 1 }) m i o)) (sym (c.any_outside-fails.ensures ∙ ap (λ l. any_register_outside (extents_at (shapes_of c.args.sound.now) c.in-FrontCheckTarget.set) l c.args.self.now.registers.items) c.as_slice.ensures.value))))
+    (asks_target c.args.sound.now old (I.FrontCheckTarget c.in-FrontCheckTarget.set c.in-FrontCheckTarget.place c.in-FrontCheckTarget.coordinates) c.any_outside-fails.result Index c.in-FrontCheckTarget.place is c.requires.ready
+    (λ m i o. ap (λ b. if b then Ends (Fault Index c.in-FrontCheckTarget.place None) (joined (record old { at = old.at + 1 }) m i o) else Goes (joined (record old { at = old.at + 1 }) m i o)) (sym (c.any_outside-fails.ensures ∙ ap (λ l. any_register_outside (extents_at (shapes_of c.args.sound.now) c.in-FrontCheckTarget.set) l c.args.self.now.registers.items) c.as_slice.ensures.value))))
 
 pub returns-in-FrontCheckDivisor-clause-asks : goal.returns-in-FrontCheckDivisor-clause-asks
 returns-in-FrontCheckDivisor-clause-asks c =
     let old : State = state_of c.args.self.now in
     let is : IsControl c.args.sound.now old (I.FrontCheckDivisor c.in-FrontCheckDivisor.place c.in-FrontCheckDivisor.source) = subst (λ (i : Instr). IsControl c.args.sound.now old i) c.in-FrontCheckDivisor.is (c.requires.here, c.requires.scalar, c.requires.other) in
     asked c.args.sound.now old c.check-in-FrontCheckDivisor.result _ (state_of c.check-in-FrontCheckDivisor.new.self) _ c.check-in-FrontCheckDivisor.ensures.asks c.check-in-FrontCheckDivisor.ensures.state
-    (asks_target c.args.sound.now old (I.FrontCheckDivisor c.in-FrontCheckDivisor.place c.in-FrontCheckDivisor.source) (c.register-value-in-FrontCheckDivisor.result == 0) 2 c.in-FrontCheckDivisor.place is c.requires.ready
-    (λ m i o. ap (λ v. if v == 0 then Ends (Fault 2 c.in-FrontCheckDivisor.place None) (joined (record old { at = old.at + 1 }) m i o) else Goes (joined (record old { at = old.at + 1 }) m i o)) (sym c.register-value-in-FrontCheckDivisor.ensures)))
+    (asks_target c.args.sound.now old (I.FrontCheckDivisor c.in-FrontCheckDivisor.place c.in-FrontCheckDivisor.source) (c.register-value-in-FrontCheckDivisor.result == 0) DivZero c.in-FrontCheckDivisor.place is c.requires.ready
+    (λ m i o. ap (λ v. if v == 0 then Ends (Fault DivZero c.in-FrontCheckDivisor.place None) (joined (record old { at = old.at + 1 }) m i o) else Goes (joined (record old { at = old.at + 1 }) m i o)) (sym c.register-value-in-FrontCheckDivisor.ensures)))
 
 pub returns-in_default : goal.returns-in_default
 returns-in_default c =
