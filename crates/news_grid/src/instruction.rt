@@ -8,13 +8,14 @@ ghost use Rattle.block_store.specs.Stored.{shapes_in, memory_in, IsWhole, HasRoo
 ghost use Rattle.news_grid.specs.Places.{is_fetching};
 
 use crate::fetch::{gather, shift};
+use crate::one::{read_one, write_one};
 use block_store::Store;
 use cstar_io::Gate;
 use paris_code::{Instr, Reply};
 use phase_meaning::konst;
 use std::thread::Threads;
 
-/// Does a get or a NEWS shift, by so many workers.
+/// Does an instruction that fetches, by so many workers.
 pub fn run<R: Threads + Sync, G: Gate + Sync>(
     rt: &R,
     store: &mut Store,
@@ -77,6 +78,12 @@ pub fn run<R: Threads + Sync, G: Gate + Sync>(
             source,
         } => {
             gather(rt, store, *dest, *address, *source, workers, gate);
+        }
+        Instr::ReadFromProcessor { signed, source, .. } => {
+            return Reply::Value(read_one(store, *signed, args[0], *source));
+        }
+        Instr::WriteToProcessor { dest, value, .. } => {
+            write_one(store, *dest, args[0], konst(*value, &args[1..]));
         }
         _ => {}
     }
