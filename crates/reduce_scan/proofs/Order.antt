@@ -145,3 +145,13 @@ pub same_lines : (d : Direction) (e f t u p q : ℕ) → e ≡ f → t ≡ u →
 same_lines d e f t u p q a b c =
     let of : ℕ → ℕ → ℕ → Lines = λ x y z. record { direction = d; extent = x; apart = y; positions = z } in
     ap (λ x. of x t p) a ∙ ap (λ y. of f y p) b ∙ ap (λ z. of f u z) c
+
+-- neighbours along the last axis upward: each place is its position
+pub straight : (l : Lines) (q : ℕ) → l.direction ≡ D.Upward → l.apart ≡ 1 → position_at l.direction l.extent l.apart q ≡ q
+straight l q up one =
+    let e : ℕ = l.extent in
+    let once : q / e / 1 ≡ q / e = omega arith in
+    let same : e * 1 ≡ e = omega arith in
+    ap (λ d. position_at d e l.apart q) up ∙ ap (λ t. position_at D.Upward e t q) one
+    ∙ ap (λ x. x * (e * 1) + q % e * 1 + q / e % 1) once ∙ ap (λ y. q / e * y + q % e * 1 + q / e % 1) same
+    ∙ omega (arith, div-add-mod q e, mul_comm e (q / e))

@@ -10,6 +10,7 @@ ghost use Rattle.reduce_scan.specs.Parts.{CanScan, FitsBelow, ordered_at, active
 ghost use Rattle.reduce_scan.specs.Running.{handed_on};
 
 use crate::lines::{Lines, Scan};
+use crate::places::{part_size, part_words};
 use block_store::{BlockSet, Cell, Room};
 use cstar_base::numbers::{fold_step, identity};
 use cstar_base::{Direction, SegmentMode};
@@ -72,6 +73,9 @@ fn is_cut(set: &BlockSet, scan: &Scan, lines: &Lines, place: u32) -> bool
     if place % lines.extent == 0 {
         return true;
     }
+    if scan.mode == SegmentMode::NoSegments {
+        return false;
+    }
     begins(
         set,
         scan,
@@ -82,31 +86,18 @@ fn is_cut(set: &BlockSet, scan: &Scan, lines: &Lines, place: u32) -> bool
 }
 
 /// The fold behind a place, from the one before it.
-fn next_fold(set: &BlockSet, scan: &Scan, lines: &Lines, place: u32, total: u32, cut: bool) -> u32
-    requires can { CanScan set.now.blocks.items scan.now lines.now }
-    requires place { place < lines.now.positions }
-    ensures { result ≡ (if cut then identity_of (combiner_of scan.now.combiner).0 (combiner_of scan.now.combiner).1
-        else if active_there set.now.blocks.items scan.now (ordered_at lines.now place)
-        then fold_once (combiner_of scan.now.combiner).0 (combiner_of scan.now.combiner).1 total (value_there set.now.blocks.items scan.now (ordered_at lines.now place)) else total) }
+fn next_fold(combiner: Reduction, total: u32, cut: bool, active: bool, value: u32) -> u32
+    ensures { result ≡ (if cut then identity_of (combiner_of combiner).0 (combiner_of combiner).1
+        else if active then fold_once (combiner_of combiner).0 (combiner_of combiner).1 total value else total) }
 {
-    let (combine, unsigned) = scan.combiner.combiner();
+    let (combine, unsigned) = combiner.combiner();
     if cut {
         return identity(combine, unsigned);
     }
-    let position = lines.position(place);
-    if !is_active(set, scan, position) {
+    if !active {
         return total;
     }
-    let value = set.number(position, scan.source.offset, scan.source.len);
     fold_step(combine, unsigned, total, value)
-}
-
-/// The places of part `k`.
-fn part_size(lines: &Lines, k: u32) -> u32
-    requires { k < 2 ^ 16 }
-    ensures { result ≡ part_size lines.now k }
-{
-    lines.positions.saturating_sub(k * 512).min(512)
 }
 
 /// Holds the fold before each place of part `k`, from a start, and tells the one behind the last
@@ -125,13 +116,14 @@ fn run_part(
     ensures tail { result.0 ≡ part_fold set.now.blocks.items scan.now lines.now k start (part_size lines.now k) }
     ensures begins { result.1 ≡ part_begins set.now.blocks.items scan.now lines.now k (part_size lines.now k) }
 {
+    let values = part_words(set, lines, k, scan.source.offset, scan.source.len);
+    let active = part_words(set, lines, k, scan.context, 1);
     let mut total = start;
     let mut begun = false;
-    for i in 0..part_size(lines, k) {
-        let place = k * 512 + i;
-        words[i as usize] = total;
-        let cut = is_cut(set, scan, lines, place + 1);
-        total = next_fold(set, scan, lines, place, total, cut);
+    for i in 0..part_size(lines, k) as usize {
+        words[i] = total;
+        let cut = is_cut(set, scan, lines, k * 512 + i as u32 + 1);
+        total = next_fold(scan.combiner, total, cut, active[i] == 1, values[i]);
         begun |= cut;
     }
     (total, begun)
