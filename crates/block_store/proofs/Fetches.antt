@@ -1,12 +1,13 @@
 -- What the room holds is what the positions of a set hold.
-use Rattle.std.proofs.Common.{◌≡◌, ℕ, ◌*◌, ◌/◌, ◌%◌, ◌<◌, ◌≤◌, Bool, true, false, cond, ltb, List, [], ◌∷◌, map, length, get_or, refl, sym, ◌∙◌, ap, arith}
+use Rattle.std.proofs.Common.{◌≡◌, ℕ, ◌*◌, ◌/◌, ◌%◌, ◌^◌, ◌<◌, ◌≤◌, Bool, true, false, cond, ltb, List, [], ◌∷◌, map, length, get_or, refl, sym, ◌∙◌, ap, subst, arith}
 use Rattle.std.specs.Prelude.{slice_index}
 use Rattle.std.proofs.lemmas.List.{get_or-map, length-map}
-use Rattle.std.proofs.lemmas.Bool.{lt-ltb, ltb-true}
+use Rattle.std.proofs.lemmas.Bool.{ltb-true}
 use Rattle.vp_sets.specs.Blocks.{block_count}
 use Rattle.cstar_base.specs.declared.operators.Winner.{Winner}
 use Rattle.bit_planes.specs.declared.block.Block.{Block}
 use Rattle.bit_planes.specs.Planes.{number}
+use Rattle.bit_planes.proofs.Planes.{number-lt}
 use Rattle.paris_code.specs.declared.operands.Field.{Field}
 use Rattle.paris_code.specs.Fetching.{number_or_zero}
 use Rattle.paris_code.specs.Memory.{field_number, processors}
@@ -23,9 +24,6 @@ use Rattle.block_store.proofs.Stores.{block_exists}
 pub word_read : (room : List Cell) (p : ℕ) (none : Cell) → p / 512 < length room → slice_index (get_or room (p / 512) none).words (p % 512) ≡ word_at room p
 unfolding word_at
 word_read room p none b = ap (λ ws. slice_index ws (p % 512)) (sym (get_or-map words_in room (p / 512) none [] b))
-
-pub below : (p count x : ℕ) → p < count → x ≡ cond (ltb p count) x 0
-below p count x b = sym (ap (λ t. cond t x 0) (lt-ltb p count b))
 
 guarded : (t : Bool) (x y : ℕ) → (t ≡ true → x ≡ y) → cond t x 0 ≡ cond t y 0
 guarded true x y same = same refl
@@ -79,3 +77,7 @@ bits_of plans set k plan b e is =
 pub room_much : (shapes : List SetShape) (sets : List BlockSet) (set : ℕ) → AreWhole shapes sets → set < length shapes → processors shapes set ≤ 512 * length (blocks_at sets set)
 unfolding block_count
 room_much shapes sets set whole exists = omega (arith, (whole.each set exists).count)
+
+-- a number of few bits
+pub number_below : (sets : List BlockSet) (v : Winner) (f : Field) (p : ℕ) → field_number (stored sets v) f p < 2 ^ f.len
+number_below sets v f p = subst (λ n. n < 2 ^ f.len) (field_there sets v f p) (number-lt (planes_at (blocks_at sets f.set) (p / 512)) f.offset f.len (p % 512))

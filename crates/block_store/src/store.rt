@@ -109,6 +109,7 @@ impl Store {
         requires position { IsPosition (shapes_in self.old) run.set position }
         ensures whole { IsWhole self.new }
         ensures shapes { shapes_in self.new ≡ shapes_in self.old }
+        ensures room { self.new.room ≡ self.old.room }
         ensures memory { (w : Winner) → SameBits (shapes_in self.old) (memory_in self.new w) (written (at_one run position n) (memory_in self.old w)) }
     {
         self.sets[usize::from(run.set)].set_number(position, run.offset, run.len, n);

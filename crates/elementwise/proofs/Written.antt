@@ -1,5 +1,5 @@
 -- An elementwise instruction that is done in each block is done.
-use Rattle.std.proofs.Common.{◌≡◌, ℕ, ◌+◌, ◌-◌, ◌*◌, ◌/◌, ◌%◌, ◌^◌, ◌<◌, ◌≤◌, Bool, true, ◌&&◌, cond, eqb, List, [], map, length, get_or, sym, ◌∙◌, ap, subst, inl, inr, arith}
+use Rattle.std.proofs.Common.{◌≡◌, ℕ, ◌+◌, ◌-◌, ◌*◌, ◌/◌, ◌%◌, ◌^◌, ◌<◌, ◌≤◌, Bool, true, false, ◌&&◌, cond, eqb, List, [], map, length, get_or, sym, ◌∙◌, ap, subst, inl, inr, arith}
 use Rattle.std.specs.Prelude.{◌||◌, slice_index}
 use Rattle.std.specs.Int.{bit_at}
 use Rattle.std.proofs.Math.ListN.{set}
@@ -33,6 +33,11 @@ use Rattle.block_store.specs.Stored.{shape_of_plan, blocks_in, blocks_at, stored
 use Rattle.block_store.proofs.AllBlocks.{in_block, blocks_written, blocks_whole}
 use Rattle.block_store.proofs.Stores.{blocks_old, blocks_new, blocks_other, held}
 use Rattle.elementwise.specs.Blocks.{block_memory, DoneInBlock}
+
+-- the second of two families
+pub second_of : (a b : Bool) → (a || b) ≡ true → a ≡ false → b ≡ true
+second_of true b is off = cc
+second_of false b is off = is
 
 -- one more of the words of an array
 pub one_word : (P : ℕ → ℕ → Type 0) (words : List ℕ) (k x : ℕ) → k < length words → ((j : ℕ) → j < k → P j (slice_index words j)) → P k x → (j : ℕ) → j < k + 1 → P j (slice_index (set words k x) j)
@@ -110,7 +115,7 @@ pub run_set : (k : ℕ) (run : Field) (given plans : List SetPlan) (instr : Inst
 run_set k run given plans instr is at same = is ∙ ap (λ (r : Field). r.set) at ∙ ap (λ (ps : List SetPlan). (destination (map shape_of_plan ps) instr).set) same
 
 -- the planes of a block are the memory at its positions
-agree_in_block : (shapes : List SetShape) (sets : List BlockSet) (set j p : ℕ) (old : List Block) (none : Block) (v : Winner) → old ≡ blocks_at sets set → j < length old → p / 512 ≡ j
+pub agree_in_block : (shapes : List SetShape) (sets : List BlockSet) (set j p : ℕ) (old : List Block) (none : Block) (v : Winner) → old ≡ blocks_at sets set → j < length old → p / 512 ≡ j
     → AgreeAt shapes set p (block_memory (planes_in (get_or old j none))) (stored sets v)
 unfolding stored block_bit block_memory
 agree_in_block shapes sets set j p old none v same b here = λ i _.

@@ -1,4 +1,4 @@
-//! An elementwise instruction over all blocks.
+//! An elementwise instruction or a check over all blocks.
 
 ghost use Rattle.std.specs.Prelude.{◌≡◌, ℕ, ◌<◌, ◌≤◌, ◌+◌, ◌^◌, ◌||◌, true, map, length, slice_index_or};
 ghost use Rattle.vp_sets.specs.Blocks.{block_count};
@@ -7,11 +7,12 @@ ghost use Rattle.cstar_base.specs.declared.operators.Winner.{Winner};
 ghost use Rattle.paris_code.specs.Elementwise.{is_elementwise, destination, writes_always};
 ghost use Rattle.paris_code.specs.Meaning.{Means};
 ghost use Rattle.paris_code.specs.Shapes.{bits_at, extents_at};
-ghost use Rattle.phase_meaning.specs.Apply.{CanApply, ReplyFits, active_set};
+ghost use Rattle.phase_meaning.specs.Apply.{CanApply, ReplyFits, active_set, is_check};
 ghost use Rattle.block_store.specs.Planes.{HasPlanes};
 ghost use Rattle.block_store.specs.Stored.{shape_of_plan, shapes_in, memory_in, IsWhole, HasRoom};
 ghost use Rattle.elementwise.specs.Blocks.{DoneInBlock};
 
+use crate::checks::check;
 use crate::in_block::by_values;
 use crate::writes::{Written, written_by};
 use bit_planes::Block;
@@ -61,7 +62,7 @@ fn do_in_set<R: Threads + Sync, G: Gate + Sync>(
     );
 }
 
-/// Does an elementwise instruction, by so many workers.
+/// Does an elementwise instruction or a check, by so many workers.
 pub fn run<R: Threads + Sync, G: Gate + Sync>(
     rt: &R,
     store: &mut Store,
@@ -73,7 +74,7 @@ pub fn run<R: Threads + Sync, G: Gate + Sync>(
     requires whole { IsWhole store.old }
     requires room { HasRoom store.old }
     requires can { CanApply (shapes_in store.old) instr.now args.now }
-    requires elementwise { is_elementwise instr.now ≡ true }
+    requires family { (is_elementwise instr.now || is_check instr.now) ≡ true }
     requires workers { (1 ≤ workers) × (workers ≤ 64) }
     ensures whole { IsWhole store.new }
     ensures room { HasRoom store.new }
@@ -81,9 +82,10 @@ pub fn run<R: Threads + Sync, G: Gate + Sync>(
     ensures fits { ReplyFits instr.now result }
     ensures meaning { (w : Winner) → Means (shapes_in store.old) instr.now args.now (memory_in store.old w) (memory_in store.new w) result }
 {
-    if let Some(to) = written_by(&store.plans, instr, args) {
-        let set = &mut store.sets[usize::from(to.run.set)];
-        do_in_set(rt, &store.plans, set, instr, args, to, workers, gate);
-    }
+    let Some(to) = written_by(&store.plans, instr, args) else {
+        return check(rt, store, instr, args, workers, gate);
+    };
+    let set = &mut store.sets[usize::from(to.run.set)];
+    do_in_set(rt, &store.plans, set, instr, args, to, workers, gate);
     Reply::Nothing
 }

@@ -2,9 +2,12 @@
 //! workers.
 #![tactic(auto)]
 
+mod checks;
 mod everywhere;
 mod in_block;
 mod lanes;
+#[cfg(test)]
+mod tests;
 mod writes;
 
 pub use everywhere::run;

@@ -46,9 +46,11 @@ pub record Taken (extents : List ℕ) (context : ℕ) (taking : Taking) (cells :
   pub lanes : TakesLanes extents k taking.always (plane_at old context) mask
   pub written : LanesWritten taking.dest.offset taking.dest.len mask (λ i. word_or_zero cells count (place extents taking.origin old k i) % 2 ^ taking.dest.len) old new
 
--- the gets and the NEWS shifts
+-- the gets, the NEWS shifts, and the reads and writes of one processor
 abbrev pub is_fetching : Instr → Bool
 is_fetching (I.GetFromNews d a axis k) = true
 is_fetching (I.GetFromNewsAlways d a axis k) = true
 is_fetching (I.Get d address a) = true
+is_fetching (I.ReadFromProcessor signed r processor a) = true
+is_fetching (I.WriteToProcessor d processor k) = true
 is_fetching _ = false

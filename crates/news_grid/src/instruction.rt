@@ -1,32 +1,21 @@
 //! The instructions that fetch.
 
-ghost use Rattle.std.specs.Prelude.{◌≡◌, ℕ, true, ◌≤◌, length};
+ghost use Rattle.std.specs.Prelude.{◌≡◌, true, ◌≤◌};
 ghost use Rattle.cstar_base.specs.declared.operators.Winner.{Winner};
-ghost use Rattle.paris_code.specs.Arguments.{konst_number};
-ghost use Rattle.paris_code.specs.Operands.{registers_of_konst};
 ghost use Rattle.paris_code.specs.Meaning.{Means};
 ghost use Rattle.phase_meaning.specs.Apply.{CanApply, ReplyFits};
 ghost use Rattle.block_store.specs.Stored.{shapes_in, memory_in, IsWhole, HasRoom};
 ghost use Rattle.news_grid.specs.Places.{is_fetching};
 
 use crate::fetch::{gather, shift};
+use crate::one::{read_one, write_one};
 use block_store::Store;
 use cstar_io::Gate;
-use paris_code::{Instr, Konst, Reply};
+use paris_code::{Instr, Reply};
+use phase_meaning::konst;
 use std::thread::Threads;
 
-/// The number of an operand, of which the argument is the register's value.
-fn konst(k: Konst, args: &[u32]) -> u32
-    requires { length args.now ≡ length (registers_of_konst k) }
-    ensures { result ≡ konst_number k args.now }
-{
-    match k {
-        Konst::Imm(n) => n,
-        Konst::Reg(_) => args[0],
-    }
-}
-
-/// Does a get or a NEWS shift, by so many workers.
+/// Does an instruction that fetches, by so many workers.
 pub fn run<R: Threads + Sync, G: Gate + Sync>(
     rt: &R,
     store: &mut Store,
@@ -89,6 +78,12 @@ pub fn run<R: Threads + Sync, G: Gate + Sync>(
             source,
         } => {
             gather(rt, store, *dest, *address, *source, workers, gate);
+        }
+        Instr::ReadFromProcessor { signed, source, .. } => {
+            return Reply::Value(read_one(store, *signed, args[0], *source));
+        }
+        Instr::WriteToProcessor { dest, value, .. } => {
+            write_one(store, *dest, args[0], konst(*value, &args[1..]));
         }
         _ => {}
     }

@@ -1,8 +1,9 @@
-//! Gets and NEWS over blocks, by any number of workers.
+//! Gets, NEWS and single processors over blocks, by any number of workers.
 #![tactic(auto)]
 
 mod fetch;
 mod instruction;
+mod one;
 mod origin;
 mod spread;
 

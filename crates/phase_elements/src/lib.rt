@@ -9,4 +9,5 @@ mod reading;
 
 pub use checks::{checked_set, fails};
 pub use elements::element;
+pub use operands::konst;
 pub use reading::Readable;

@@ -7,7 +7,7 @@ ghost use Rattle.paris_code.specs.Operands.{registers_of_konst};
 use paris_code::{Coordinate, Konst};
 
 /// The number of an operand, of which the argument is the register's value.
-pub(crate) fn konst(k: Konst, args: &[u32]) -> u32
+pub fn konst(k: Konst, args: &[u32]) -> u32
     requires { length args.now ≡ length (registers_of_konst k) }
     ensures { result ≡ konst_number k args.now }
 {

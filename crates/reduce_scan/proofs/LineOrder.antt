@@ -1,5 +1,5 @@
 -- The running fold in line order is the scan's fold before each position.
-use Rattle.std.proofs.Common.{◌≡◌, ◌≢◌, ℕ, zero, suc, ◌+◌, ◌-◌, ◌*◌, ◌/◌, ◌%◌, ◌<◌, ◌≤◌, ℤ, pos, ◌+ℤ◌, ◌-ℤ◌, Bool, true, false, cond, eqb, List, length, drop, refl, sym, ◌∙◌, ap, subst, inl, inr, arith}
+use Rattle.std.proofs.Common.{◌≡◌, ◌≢◌, ℕ, zero, suc, ◌+◌, ◌-◌, ◌*◌, ◌%◌, ◌<◌, ℤ, pos, ◌-ℤ◌, Bool, true, cond, eqb, List, length, drop, refl, sym, ◌∙◌, ap, subst, inl, inr, arith}
 use Rattle.std.specs.Prelude.{slice_index, slice_set, ◌||◌}
 use Rattle.std.proofs.lemmas.Int.{ints}
 use Rattle.std.proofs.lemmas.Bool.{cases_eq, cases_Bool, eq-eqb, ne_eqb}
@@ -14,7 +14,7 @@ use Rattle.paris_code.specs.Shapes.{SetShape, extents_at}
 use Rattle.phase_meaning.specs.Scans.{IsPrevious, before_at}
 use Rattle.phase_meaning.proofs.Lines.{moved_is, steps_below, steps_twice, previous_is, Backs}
 use Rattle.phase_meaning.proofs.Runs.{begins, first_fold, begun_fold, more_fold, same_fold}
-use Rattle.reduce_scan.specs.Order.{position_at, apart_of, ordered}
+use Rattle.reduce_scan.specs.Order.{apart_of, ordered}
 use Rattle.reduce_scan.specs.Running.{running}
 use Rattle.reduce_scan.proofs.Order.{own_is, next_position, backs}
 use Rattle.reduce_scan.proofs.Parts.{once, none}

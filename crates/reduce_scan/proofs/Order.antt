@@ -1,18 +1,15 @@
 -- Line order goes through each line in the scan's direction.
-use Rattle.std.proofs.Common.{◌≡◌, ◌≢◌, ◌⊎◌, ℕ, zero, suc, ◌+◌, ◌-◌, ◌*◌, ◌/◌, ◌%◌, ◌<◌, ◌≤◌, ℤ, pos, ◌+ℤ◌, ◌-ℤ◌, true, List, length, drop, refl, sym, ◌∙◌, ap, inl, inr, arith, add-mul, mul_assoc, add_comm}
+use Rattle.std.proofs.Common.{◌≡◌, ◌≢◌, ℕ, zero, suc, ◌+◌, ◌*◌, ◌/◌, ◌%◌, ◌<◌, ◌≤◌, List, [], ◌∷◌, length, take, drop, sym, ◌∙◌, ap, inl, inr, arith, add-mul, mul_assoc}
 use Rattle.std.specs.Prelude.{slice_index}
-use Rattle.std.proofs.lemmas.Int.{ints}
 use Rattle.std.proofs.lemmas.Bool.{cases_eq}
 use Rattle.std.proofs.Math.Nat.{add-mul-div_right, add-mul-mod_self_right, div-eq_of_lt, mod-eq_of_lt, mod-lt, div-add-mod, div-lt_iff_lt-mul, mul_comm}
 use Rattle.vp_sets.specs.Lines.{steps_before}
-use Rattle.vp_sets.specs.Positions.{position_count, are_positive, coordinate, moved, shifted}
-use Rattle.vp_sets.proofs.PositionLaws.{step_of, coordinate_by_stride, extent_positive, count_positive, later_positive}
+use Rattle.vp_sets.specs.Positions.{position_count}
 use Rattle.cstar_base.specs.declared.operators.Direction.{Direction}
 use Rattle.cstar_base.specs.declared.operators.Direction.TheVariants as D
-use Rattle.paris_code.specs.Scanning.{ScanOf, own_step}
-use Rattle.phase_meaning.specs.Scans.{IsPrevious}
-use Rattle.phase_meaning.proofs.Lines.{moved_is, steps_below, steps_twice, previous_is, Backs}
-use Rattle.reduce_scan.specs.Order.{position_at, place_at, apart_of, ordered}
+use Rattle.phase_meaning.proofs.Lines.{steps_below, steps_twice, Backs}
+use Rattle.reduce_scan.specs.declared.lines.Lines.{Lines}
+use Rattle.reduce_scan.specs.Order.{position_at, place_at}
 
 -- a number in two digits
 low_high : (a b m : ℕ) → 0 < m → a < m → ((a + b * m) / m ≡ b) × ((a + b * m) % m ≡ a)
@@ -114,3 +111,47 @@ module _ (d : Direction) (e t : ℕ) (ep : 0 < e) (tp : 0 < t) where
       let quotient : position_at d e t q / t < h * e = omega (arith, (digits q).0) in
       let all : position_at d e t q < h * e * t = (div-lt_iff_lt-mul tp).0 quotient in
       omega (arith, mul_assoc h e t)
+
+  pub place_below : (h p : ℕ) → p < h * (e * t) → place_at d e t p < h * (e * t)
+  place_below h p b =
+      let step : ℕ = steps_before d e (p / t % e) in
+      let line : ℕ = p / t / e * t + p % t in
+      let turned : h * (e * t) ≡ h * t * e = omega (arith, mul_assoc h t e, ap (λ x. h * x) (mul_comm e t)) in
+      let rows : p / t < h * e = (div-lt_iff_lt-mul tp).1 (omega (arith, mul_assoc h e t)) in
+      let highs : p / t / e < h = (div-lt_iff_lt-mul ep).1 rows in
+      let lines : line / t < h = omega (arith, ap (λ x. x / t) (let f : line ≡ p % t + p / t / e * t = omega arith in f), (low_high (p % t) (p / t / e) t tp (mod-lt p tp)).0) in
+      let all : line < h * t = (div-lt_iff_lt-mul tp).0 lines in
+      let quotient : place_at d e t p / e < h * t =
+      omega (arith, ap (λ x. x / e) (let f : place_at d e t p ≡ step + line * e = omega arith in f), (low_high step line e ep (steps_below d e (p / t % e) (mod-lt (p / t) ep))).0) in
+      omega (arith, (div-lt_iff_lt-mul ep).0 quotient)
+
+-- where there is a position there is a row
+pub one_row : (h m q : ℕ) → q < h * m → m ≤ h * m
+one_row zero m q b = absurd (omega arith)
+one_row (suc h) m q b = omega (arith, add-mul h 1 m)
+
+-- the positions by the axes before one, its own and those behind it
+pub count_split : (xs : List ℕ) (axis : ℕ) → axis < length xs → position_count xs ≡ position_count (take axis xs) * (slice_index xs axis * position_count (drop (suc axis) xs))
+unfolding position_count
+count_split [] axis b = absurd (omega arith)
+count_split (x ∷ xs) zero b = omega arith
+count_split (x ∷ xs) (suc k) b =
+    ap (λ n. x * n) (count_split xs k (omega arith)) ∙ sym (mul_assoc x (position_count (take k xs)) (slice_index xs k * position_count (drop (suc k) xs)))
+
+pub same_lines : (d : Direction) (e f t u p q : ℕ) → e ≡ f → t ≡ u → p ≡ q
+    → let first : Lines = record { direction = d; extent = e; apart = t; positions = p } in
+    let second : Lines = record { direction = d; extent = f; apart = u; positions = q } in
+    first ≡ second
+same_lines d e f t u p q a b c =
+    let of : ℕ → ℕ → ℕ → Lines = λ x y z. record { direction = d; extent = x; apart = y; positions = z } in
+    ap (λ x. of x t p) a ∙ ap (λ y. of f y p) b ∙ ap (λ z. of f u z) c
+
+-- neighbours along the last axis upward: each place is its position
+pub straight : (l : Lines) (q : ℕ) → l.direction ≡ D.Upward → l.apart ≡ 1 → position_at l.direction l.extent l.apart q ≡ q
+straight l q up one =
+    let e : ℕ = l.extent in
+    let once : q / e / 1 ≡ q / e = omega arith in
+    let same : e * 1 ≡ e = omega arith in
+    ap (λ d. position_at d e l.apart q) up ∙ ap (λ t. position_at D.Upward e t q) one
+    ∙ ap (λ x. x * (e * 1) + q % e * 1 + q / e % 1) once ∙ ap (λ y. q / e * y + q % e * 1 + q / e % 1) same
+    ∙ omega (arith, div-add-mod q e, mul_comm e (q / e))

@@ -1,8 +1,5 @@
 -- A fold in parts.
-use Rattle.std.proofs.Common.{◌≡◌, ℕ, zero, suc, ◌+◌, ◌*◌, ◌/◌, ◌%◌, ◌^◌, ◌<◌, ◌≤◌, Bool, true, false, cond, eqb, List, [], ◌∷◌, length, get_or, map, refl, sym, ◌∙◌, ap, lit<, inl, inr, arith}
-use Rattle.std.proofs.lemmas.Bool.{cases_Bool, cases_lt}
-use Rattle.std.proofs.Math.Numerals.{add-one}
-use Rattle.cstar_base.specs.declared.operators.Combiner.{Combiner}
+use Rattle.std.proofs.Common.{◌≡◌, ℕ, zero, suc, ◌+◌, ◌^◌, ◌<◌, ◌≤◌, Bool, true, false, cond, refl, sym, ◌∙◌, ap, arith}
 use Rattle.cstar_base.specs.declared.operators.Combiner.TheVariants as C
 use Rattle.cstar_base.specs.Folds.{fold_once, identity_of}
 use Rattle.cstar_base.proofs.NumberLaws.{residue_below}

@@ -1,7 +1,6 @@
 -- A scan in parts: each part from the identity, and then joined in order.
 use Rattle.std.proofs.Common.{◌≡◌, ℕ, zero, suc, ◌+◌, ◌^◌, ◌<◌, Bool, true, false, cond, refl, sym, ◌∙◌, ap, arith}
 use Rattle.std.specs.Prelude.{◌||◌}
-use Rattle.cstar_base.specs.Folds.{fold_once, identity_of}
 use Rattle.cstar_base.proofs.FoldLaws.{fold_once_below, fold_once_assoc}
 use Rattle.paris_code.specs.declared.operands.Reduction.{Reduction}
 use Rattle.paris_code.specs.Operators.{combiner_of}
@@ -48,3 +47,13 @@ running_from c cut active value start (suc n) p fits =
     ap (λ r. cond (cut (suc n)) (none c) (cond (active n) (once c r (value n)) r)) (running_from c cut active value start n p fits)
     ∙ handed_more c (any_of cut 1 n) (cut (suc n)) (active n) start (running c cut active value (none c) n) (value n) p (running_fits c cut active value (none c) n (none_below c) fits) (fits n)
     ∙ ap (λ t. handed_on c (any_of cut 1 n || t) start (cond (cut (suc n)) (none c) (cond (active n) (once c (running c cut active value (none c) n) (value n)) (running c cut active value (none c) n)))) (ap cut (let e : suc n ≡ 1 + n = omega arith in e))
+
+-- the same where something begins at the same places
+pub running_same : (c : Reduction) (cut other active : ℕ → Bool) (value : ℕ → ℕ) (start n : ℕ) → ((j : ℕ) → j < n → cut (suc j) ≡ other (suc j))
+    → running c cut active value start n ≡ running c other active value start n
+unfolding running
+running_same c cut other active value start zero same = refl
+running_same c cut other active value start (suc n) same =
+    let next : Bool → ℕ → ℕ = λ t r. cond t (none c) (cond (active n) (once c r (value n)) r) in
+    ap (λ r. next (cut (suc n)) r) (running_same c cut other active value start n (λ j b. same j (omega arith)))
+    ∙ ap (λ t. next t (running c other active value start n)) (same n (omega arith))

@@ -1,13 +1,11 @@
 -- The fold over a set, block by block.
-use Rattle.std.proofs.Common.{◌≡◌, ℕ, zero, suc, ◌+◌, ◌*◌, ◌/◌, ◌%◌, ◌^◌, ◌<◌, ◌≤◌, ◌-◌, Bool, true, false, eqb, List, [], ◌∷◌, map, length, get_or, refl, sym, ◌∙◌, ap, subst, arith}
+use Rattle.std.proofs.Common.{◌≡◌, ℕ, zero, suc, ◌+◌, ◌*◌, ◌/◌, ◌%◌, ◌^◌, ◌<◌, ◌≤◌, ◌-◌, eqb, List, [], map, length, get_or, refl, sym, ◌∙◌, ap, subst, arith}
 use Rattle.std.proofs.lemmas.List.{get_or-map}
 use Rattle.std.specs.Prelude.{slice_index}
 use Rattle.std.proofs.Math.Numerals.{add-one}
 use Rattle.block_store.specs.declared.set.Cell.{Cell}
-use Rattle.vp_sets.specs.Positions.{position_count}
 use Rattle.vp_sets.specs.Blocks.{block_count}
 use Rattle.cstar_base.specs.declared.operators.Winner.{Winner}
-use Rattle.bit_planes.specs.declared.plane.Plane.{Plane}
 use Rattle.bit_planes.specs.declared.block.Block.{Block}
 use Rattle.bit_planes.specs.Bits.{bit}
 use Rattle.bit_planes.specs.Planes.{plane_at, number}
@@ -15,9 +13,9 @@ use Rattle.bit_planes.proofs.Planes.{number-lt}
 use Rattle.paris_code.specs.declared.operands.Field.{Field}
 use Rattle.paris_code.specs.declared.operands.Reduction.{Reduction}
 use Rattle.paris_code.specs.Fetching.{global_fold}
-use Rattle.paris_code.specs.Memory.{BitMemory, field_number, is_active, processors}
+use Rattle.paris_code.specs.Memory.{field_number, is_active, processors}
 use Rattle.cstar_base.specs.Orders.{fold_below}
-use Rattle.paris_code.specs.Shapes.{SetShape, bits_at, extents_at}
+use Rattle.paris_code.specs.Shapes.{SetShape, bits_at}
 use Rattle.phase_meaning.proofs.Runs.{fold_same}
 use Rattle.block_store.specs.declared.set.BlockSet.{BlockSet}
 use Rattle.block_store.specs.Planes.{planes_in, planes_at, block_bit}
@@ -36,7 +34,7 @@ module _ (shapes : List SetShape) (sets : List BlockSet) (whole : AreWhole shape
   abbrev pub so_far : ℕ → ℕ
   so_far n = fold_below (once r) (λ p. is_active shapes (stored sets w) source.set p) (λ p. field_number (stored sets w) source p) (none r) n
 
-  value_fits : (p : ℕ) → field_number (stored sets w) source p < 2 ^ 32
+  pub value_fits : (p : ℕ) → field_number (stored sets w) source p < 2 ^ 32
   value_fits p = subst (λ n. n < 2 ^ 32) (field_there sets w source p)
       (omega (arith, number-lt (planes_at (blocks_at sets source.set) (p / 512)) source.offset source.len (p % 512), ap (λ k. 2 ^ k) word))
 

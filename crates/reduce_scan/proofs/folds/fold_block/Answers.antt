@@ -1,4 +1,4 @@
-use Rattle.std.proofs.Common.{◌≡◌, ◌<◌, ◌∙◌, ap, sym, eqb, arith}
+use Rattle.std.proofs.Common.{◌≡◌, ◌∙◌, ap, sym, eqb, arith}
 use Rattle.std.specs.Prelude.{slice_index}
 use Rattle.std.proofs.lemmas.Bool.{eq-eqb, ne_eqb}
 use Rattle.cstar_base.specs.Folds.{fold_once, identity_of}

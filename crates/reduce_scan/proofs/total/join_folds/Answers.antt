@@ -1,4 +1,4 @@
-use Rattle.std.proofs.Common.{◌≡◌, ◌∙◌, ap, sym, [], arith}
+use Rattle.std.proofs.Common.{◌∙◌, ap, sym, [], arith}
 use Rattle.std.specs.Prelude.{slice_index}
 use Rattle.std.proofs.Math.Numerals.{add-one}
 use Rattle.phase_meaning.proofs.Entries.{entry}

@@ -1,4 +1,4 @@
-use Rattle.std.proofs.Common.{◌≡◌, ◌≤◌, ◌<◌, ◌∙◌, ap, sym, subst, List, length, arith}
+use Rattle.std.proofs.Common.{◌≡◌, ◌≤◌, ◌∙◌, ap, subst, List, length, arith}
 use Rattle.std.proofs.lemmas.List.{length-map}
 use Rattle.bit_planes.specs.declared.block.Block.{Block}
 use Rattle.paris_code.specs.Shapes.{bits_at}

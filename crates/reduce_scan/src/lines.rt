@@ -1,0 +1,125 @@
+//! The lines of a grid, and a scan along them.
+
+ghost use Rattle.std.specs.Prelude.{◌≡◌, ℕ, suc, true, ◌<◌, ◌≤◌, ◌+◌, ◌*◌, ◌^◌, drop, length, slice_index};
+ghost use Rattle.vp_sets.specs.Lines.{steps_before};
+ghost use Rattle.vp_sets.specs.Positions.{position_count, are_positive};
+ghost use Rattle.reduce_scan.specs.Order.{position_at, place_at};
+ghost use Rattle.reduce_scan.specs.Parts.{AreLines};
+ghost use Rattle.reduce_scan.specs.Along.{scan_over, lines_of};
+
+use cstar_base::{Direction, Inclusion, SegmentMode};
+use paris_code::{Field, Reduction};
+use vp_sets::Geometry;
+
+/// The positions of a set, line by line in a direction along an axis: each line has so many
+/// positions, so far apart.
+#[derive(Clone, Copy)]
+pub(crate) struct Lines {
+    pub(crate) direction: Direction,
+    pub(crate) extent: u32,
+    pub(crate) apart: u32,
+    pub(crate) positions: u32,
+}
+
+/// A scan along an axis. The bit parts the segments, in the modes that have such.
+#[derive(Clone, Copy)]
+pub struct AxisScan {
+    pub combiner: Reduction,
+    pub source: Field,
+    pub axis: u32,
+    pub direction: Direction,
+    pub mode: SegmentMode,
+    pub bit: Option<Field>,
+    pub inclusion: Inclusion,
+}
+
+/// The same but for the lines, with the place of its set's context flag.
+#[derive(Clone, Copy)]
+pub(crate) struct Scan {
+    pub(crate) combiner: Reduction,
+    pub(crate) source: Field,
+    pub(crate) mode: SegmentMode,
+    pub(crate) bit: Option<Field>,
+    pub(crate) inclusion: Inclusion,
+    pub(crate) context: u32,
+}
+
+/// How many coordinates of a line lie before one in a direction.
+fn steps_before(direction: Direction, extent: u32, k: u32) -> u32
+    requires { k < extent }
+    ensures { result ≡ steps_before direction extent k }
+{
+    match direction {
+        Direction::Upward => k,
+        Direction::Downward => extent - 1 - k,
+    }
+}
+
+/// The product of so many extents.
+fn product(extents: &[u32]) -> u32
+    requires positive { are_positive extents.now ≡ true }
+    requires bound { position_count extents.now ≤ 2 ^ 20 }
+    ensures { result ≡ position_count extents.now }
+{
+    let mut count = 1;
+    'extents: for extent in extents {
+        count *= *extent;
+    }
+    count
+}
+
+impl AxisScan {
+    /// The scan over a set with its context flag at this bit.
+    pub(crate) fn over(&self, context: u32) -> Scan
+        ensures { result ≡ scan_over self.now context }
+    {
+        Scan {
+            combiner: self.combiner,
+            source: self.source,
+            mode: self.mode,
+            bit: self.bit,
+            inclusion: self.inclusion,
+            context,
+        }
+    }
+}
+
+impl Lines {
+    /// The lines of a grid along one of its axes.
+    pub(crate) fn of(geometry: &Geometry, axis: u32, direction: Direction) -> Lines
+        requires { axis < length geometry.now }
+        ensures value { result ≡ lines_of geometry.now axis direction }
+        ensures lines { AreLines result }
+    {
+        Lines {
+            direction,
+            extent: geometry.extent(axis),
+            apart: product(&geometry.extents()[axis as usize + 1..]),
+            positions: geometry.positions(),
+        }
+    }
+
+    /// The position at a place in line order.
+    pub(crate) fn position(&self, place: u32) -> u32
+        requires lines { AreLines self.now }
+        requires place { place < self.now.positions }
+        ensures value { result ≡ position_at self.now.direction self.now.extent self.now.apart place }
+        ensures bound { result < self.now.positions }
+    {
+        let line = place / self.extent;
+        let step = steps_before(self.direction, self.extent, place % self.extent);
+        line / self.apart * (self.extent * self.apart) + step * self.apart + line % self.apart
+    }
+
+    /// The place of a position in line order.
+    pub(crate) fn place(&self, position: u32) -> u32
+        requires lines { AreLines self.now }
+        requires position { position < self.now.positions }
+        ensures value { result ≡ place_at self.now.direction self.now.extent self.now.apart position }
+        ensures bound { result < self.now.positions }
+    {
+        let high = position / self.apart;
+        let step = steps_before(self.direction, self.extent, high % self.extent);
+        (high / self.extent * self.apart + position % self.apart) * self.extent + step
+    }
+}

@@ -1,0 +1,248 @@
+//! The running fold of a scan, part by part in line order.
+
+ghost use Rattle.std.specs.Prelude.{◌≡◌, ℕ, ◌<◌, ◌≤◌, ◌+◌, ◌-◌, ◌*◌, ◌^◌, ◌==◌, true, Bool, Option, Some, None, IfSome, length, slice_index, slice_index_or, if◌then◌else◌};
+ghost use Rattle.std.specs.Int.{from_bool};
+ghost use Rattle.cstar_base.specs.Folds.{fold_once, identity_of};
+ghost use Rattle.paris_code.specs.Operators.{combiner_of};
+ghost use Rattle.block_store.specs.declared.set.Cell.{Cell};
+ghost use Rattle.block_store.specs.Planes.{HasPlanes};
+ghost use Rattle.reduce_scan.specs.Parts.{CanScan, FitsBelow, ordered_at, active_there, value_there, bit_there, begins_there, cut_there, part_fold, part_begins, part_size, starts, IsFolded};
+ghost use Rattle.reduce_scan.specs.Running.{handed_on};
+
+use crate::lines::{Lines, Scan};
+use crate::places::{part_size, part_words};
+use block_store::{BlockSet, Cell, Room};
+use cstar_base::numbers::{fold_step, identity};
+use cstar_base::{Direction, SegmentMode};
+use paris_code::{Field, Reduction};
+use std::thread;
+use std::thread::Threads;
+
+/// Whether the bit that parts the segments is 1 at a position.
+fn is_marked(set: &BlockSet, bit: Option<Field>, context: u32, position: u32) -> bool
+    requires bit { IfSome bit (λ f. FitsBelow context f) }
+    requires planes { HasPlanes (context + 1) set.now.blocks.items }
+    requires position { position < 512 * length set.now.blocks.items }
+    ensures { result ≡ bit_there set.now.blocks.items bit position }
+{
+    match bit {
+        None => false,
+        Some(bit) => set.number(position, bit.offset, bit.len) == 1,
+    }
+}
+
+/// Whether a position is active.
+fn is_active(set: &BlockSet, scan: &Scan, position: u32) -> bool
+    requires planes { HasPlanes (scan.now.context + 1) set.now.blocks.items }
+    requires position { position < 512 * length set.now.blocks.items }
+    ensures { result ≡ active_there set.now.blocks.items scan.now position }
+{
+    set.number(position, scan.context, 1) == 1
+}
+
+/// Whether a new segment begins between two neighbours of a line.
+fn begins(set: &BlockSet, scan: &Scan, lines: &Lines, first: u32, second: u32) -> bool
+    requires can { CanScan set.now.blocks.items scan.now lines.now }
+    requires first { first < 512 * length set.now.blocks.items }
+    requires second { second < 512 * length set.now.blocks.items }
+    ensures { result ≡ begins_there set.now.blocks.items scan.now lines.now first second }
+{
+    match (scan.mode, lines.direction) {
+        (SegmentMode::NoSegments, _) => false,
+        (SegmentMode::StartBit, _) => {
+            is_active(set, scan, second) & is_marked(set, scan.bit, scan.context, second)
+        }
+        (SegmentMode::SegmentBit, Direction::Upward) => {
+            is_marked(set, scan.bit, scan.context, second)
+        }
+        (SegmentMode::SegmentBit, Direction::Downward) => {
+            is_marked(set, scan.bit, scan.context, first)
+        }
+    }
+}
+
+/// Whether a line or a segment begins at a place behind the first one.
+fn is_cut(set: &BlockSet, scan: &Scan, lines: &Lines, place: u32) -> bool
+    requires can { CanScan set.now.blocks.items scan.now lines.now }
+    requires place { 1 ≤ place }
+    ensures { result ≡ cut_there set.now.blocks.items scan.now lines.now place }
+{
+    if lines.positions <= place {
+        return false;
+    }
+    if place % lines.extent == 0 {
+        return true;
+    }
+    if scan.mode == SegmentMode::NoSegments {
+        return false;
+    }
+    begins(
+        set,
+        scan,
+        lines,
+        lines.position(place - 1),
+        lines.position(place),
+    )
+}
+
+/// The fold behind a place, from the one before it.
+fn next_fold(combiner: Reduction, total: u32, cut: bool, active: bool, value: u32) -> u32
+    ensures { result ≡ (if cut then identity_of (combiner_of combiner).0 (combiner_of combiner).1
+        else if active then fold_once (combiner_of combiner).0 (combiner_of combiner).1 total value else total) }
+{
+    let (combine, unsigned) = combiner.combiner();
+    if cut {
+        return identity(combine, unsigned);
+    }
+    if !active {
+        return total;
+    }
+    fold_step(combine, unsigned, total, value)
+}
+
+/// Holds the fold before each place of part `k`, from a start, and tells the one behind the last
+/// place, and whether a line or a segment begins on the way.
+fn run_part(
+    set: &BlockSet,
+    scan: &Scan,
+    lines: &Lines,
+    k: u32,
+    start: u32,
+    words: &mut [u32; 512],
+) -> (u32, bool)
+    requires can { CanScan set.now.blocks.items scan.now lines.now }
+    requires part { k < 2 ^ 16 }
+    ensures folds { (i : ℕ) → i < part_size lines.now k → slice_index words.new i ≡ part_fold set.now.blocks.items scan.now lines.now k start i }
+    ensures tail { result.0 ≡ part_fold set.now.blocks.items scan.now lines.now k start (part_size lines.now k) }
+    ensures begins { result.1 ≡ part_begins set.now.blocks.items scan.now lines.now k (part_size lines.now k) }
+{
+    let values = part_words(set, lines, k, scan.source.offset, scan.source.len);
+    let active = part_words(set, lines, k, scan.context, 1);
+    let mut total = start;
+    let mut begun = false;
+    for i in 0..part_size(lines, k) as usize {
+        words[i] = total;
+        let cut = is_cut(set, scan, lines, k * 512 + i as u32 + 1);
+        total = next_fold(scan.combiner, total, cut, active[i] == 1, values[i]);
+        begun |= cut;
+    }
+    (total, begun)
+}
+
+/// Folds each part from the identity: the first word of its cell becomes the fold behind it, and the
+/// second one 1 where a line or a segment begins in it.
+pub(crate) fn fold_parts<R: Threads + Sync>(
+    rt: &R,
+    set: &BlockSet,
+    room: &mut Room,
+    scan: &Scan,
+    lines: &Lines,
+    workers: u32,
+)
+    requires can { CanScan set.now.blocks.items scan.now lines.now }
+    requires few { length set.now.blocks.items < 2 ^ 16 }
+    requires workers { 1 ≤ workers }
+    ensures count { length room.new.cells.items ≡ length room.old.cells.items }
+    ensures folds { (k : ℕ) (none : Cell) → k < length set.now.blocks.items → k < length room.old.cells.items
+        → IsFolded set.now.blocks.items scan.now lines.now k (slice_index_or room.new.cells.items k none).words }
+{
+    let blocks = set.blocks.len();
+    thread::for_each_mut(
+        rt,
+        room.cells.as_mut_slice(),
+        workers as usize,
+        &|k: usize, cell: &mut Cell|
+            requires { CanScan set.now.blocks.items scan.now lines.now × (blocks < 2 ^ 16) }
+            ensures { k < blocks → IsFolded set.entry.now.blocks.items scan.entry.now lines.entry.now k cell.exit.now.words }
+        {
+            if k < blocks {
+                fold_part(set, scan, lines, k as u32, cell);
+            }
+        },
+    );
+}
+
+/// Folds part `k` from the identity.
+fn fold_part(set: &BlockSet, scan: &Scan, lines: &Lines, k: u32, cell: &mut Cell)
+    requires can { CanScan set.now.blocks.items scan.now lines.now }
+    requires part { k < 2 ^ 16 }
+    ensures { IsFolded set.now.blocks.items scan.now lines.now k cell.new.words }
+{
+    let (combine, unsigned) = scan.combiner.combiner();
+    let start = identity(combine, unsigned);
+    let (total, begun) = run_part(set, scan, lines, k, start, &mut cell.words);
+    cell.words[0] = total;
+    cell.words[1] = u32::from(begun);
+}
+
+/// Holds the fold before each place, part by part, each from the fold that its first word holds.
+pub(crate) fn run_parts<R: Threads + Sync>(
+    rt: &R,
+    set: &BlockSet,
+    room: &mut Room,
+    scan: &Scan,
+    lines: &Lines,
+    workers: u32,
+)
+    requires can { CanScan set.now.blocks.items scan.now lines.now }
+    requires few { length set.now.blocks.items < 2 ^ 16 }
+    requires workers { 1 ≤ workers }
+    ensures count { length room.new.cells.items ≡ length room.old.cells.items }
+    ensures runs { (k : ℕ) (none : Cell) → k < length set.now.blocks.items → k < length room.old.cells.items
+        → (i : ℕ) → i < part_size lines.now k → slice_index (slice_index_or room.new.cells.items k none).words i
+        ≡ part_fold set.now.blocks.items scan.now lines.now k (slice_index (slice_index_or room.old.cells.items k none).words 0) i }
+{
+    let blocks = set.blocks.len();
+    thread::for_each_mut(
+        rt,
+        room.cells.as_mut_slice(),
+        workers as usize,
+        &|k: usize, cell: &mut Cell|
+            requires { CanScan set.now.blocks.items scan.now lines.now × (blocks < 2 ^ 16) }
+            ensures { k < blocks → (i : ℕ) → i < part_size lines.entry.now k → slice_index cell.exit.now.words i
+                ≡ part_fold set.entry.now.blocks.items scan.entry.now lines.entry.now k (slice_index cell.entry.now.words 0) i }
+        {
+            if k < blocks {
+                let start = cell.words[0];
+                run_part(set, scan, lines, k as u32, start, &mut cell.words);
+            }
+        },
+    );
+}
+
+/// What a part hands on to the next one.
+fn handed_on(combiner: Reduction, begins: bool, start: u32, tail: u32) -> u32
+    ensures { result ≡ handed_on combiner begins start tail }
+{
+    if begins {
+        return tail;
+    }
+    let (combine, unsigned) = combiner.combiner();
+    fold_step(combine, unsigned, start, tail)
+}
+
+/// Makes the first word of a cell a number, and gives what it and the second one were.
+fn exchange(cell: &mut Cell, start: u32) -> (u32, u32)
+    ensures first { result.0 ≡ slice_index cell.old.words 0 }
+    ensures second { result.1 ≡ slice_index cell.old.words 1 }
+    ensures start { slice_index cell.new.words 0 ≡ start }
+{
+    let found = (cell.words[0], cell.words[1]);
+    cell.words[0] = start;
+    found
+}
+
+/// Hands the folds on from part to part: the first word of each cell becomes the fold with which its
+/// part begins.
+pub(crate) fn hand_on(room: &mut Room, combiner: Reduction, count: usize)
+    requires { count ≤ length room.old.cells.items }
+    ensures count { length room.new.cells.items ≡ length room.old.cells.items }
+    ensures starts { (k : ℕ) (none : Cell) → k < count → slice_index (slice_index_or room.new.cells.items k none).words 0 ≡ starts combiner room.old.cells.items k }
+{
+    let (combine, unsigned) = combiner.combiner();
+    let mut start = identity(combine, unsigned);
+    for k in 0..count {
+        let (tail, begins) = exchange(&mut room.cells[k], start);
+        start = handed_on(combiner, begins == 1, start, tail);
+    }
+}
