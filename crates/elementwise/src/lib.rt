@@ -6,6 +6,7 @@ mod checks;
 mod everywhere;
 mod in_block;
 mod lanes;
+mod planar;
 #[cfg(test)]
 mod tests;
 mod writes;
