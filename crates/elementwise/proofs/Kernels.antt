@@ -1,5 +1,5 @@
 -- The kernels give what the instructions do.
-use Rattle.std.proofs.Common.{◌≡◌, ℕ, ◌+◌, ◌-◌, ◌%◌, ◌^◌, ◌<◌, ◌≤◌, pos, neg_ℤ, Bool, true, false, ◌&&◌, eqb, List, length, Some, refl, sym, ◌∙◌, ap, subst, inl, inr, arith}
+use Rattle.std.proofs.Common.{◌≡◌, ℕ, ◌+◌, ◌*◌, ◌-◌, ◌%◌, ◌^◌, ◌<◌, ◌≤◌, pos, neg_ℤ, Bool, true, false, ◌&&◌, eqb, List, length, Some, refl, sym, ◌∙◌, ap, subst, inl, inr, arith}
 use Rattle.std.specs.Prelude.{bit_and, unwrap_or}
 use Rattle.std.specs.Int.{from_bool}
 use Rattle.std.proofs.lemmas.Int.{ints}
@@ -12,6 +12,7 @@ use Rattle.bit_planes.specs.declared.plane.Plane.{Plane}
 use Rattle.bit_planes.specs.Bits.{bit}
 use Rattle.bit_planes.specs.Planes.{plane_at, number}
 use Rattle.bit_planes.proofs.Words.{bit-lt}
+use Rattle.lane_kernels.specs.declared.target.Target.{Target}
 use Rattle.lane_kernels.specs.declared.target.Operand.{Operand}
 use Rattle.lane_kernels.specs.declared.target.Operand.TheVariants as O
 use Rattle.lane_kernels.specs.Kernels.{operand_of, IsWithin}
@@ -20,21 +21,23 @@ use Rattle.paris_code.specs.declared.operands.Field.{Field}
 use Rattle.paris_code.specs.declared.operands.Operation.{Operation}
 use Rattle.paris_code.specs.declared.operands.Operation.TheVariants as P
 use Rattle.paris_code.specs.declared.instr.Instr.{Instr}
-use Rattle.paris_code.specs.Elementwise.{destination, element}
+use Rattle.paris_code.specs.Elementwise.{destination, element, writes_always}
 use Rattle.paris_code.specs.Memory.{BitMemory, bit_run, field_number}
 use Rattle.paris_code.specs.Operators.{operator_of}
 use Rattle.paris_code.specs.RuleField.{Fits}
 use Rattle.paris_code.specs.RuleOperands.{IsWith}
 use Rattle.paris_code.specs.RuleSet.{FieldExists}
-use Rattle.paris_code.specs.Shapes.{SetShape, bits_at}
+use Rattle.paris_code.specs.Shapes.{SetShape, bits_at, extents_at}
 use Rattle.phase_meaning.specs.Apply.{CanApply, active_set}
 use Rattle.phase_meaning.proofs.RunBits.{run_number_one}
+use Rattle.block_store.specs.Phases.{LanesWritten, TakesLanes}
 use Rattle.block_store.proofs.Lanes.{run_is}
 use Rattle.elementwise.specs.declared.planar.Planar.{Planar}
 use Rattle.elementwise.specs.declared.planar.Planar.TheVariants as L
 use Rattle.elementwise.specs.declared.planar.Kernel.{Kernel}
-use Rattle.elementwise.specs.Blocks.{block_memory}
-use Rattle.elementwise.specs.Planar.{gives, operation_of, two_operands, IsKernelOf}
+use Rattle.elementwise.specs.Blocks.{block_memory, DoneInBlock}
+use Rattle.elementwise.specs.Planar.{gives, kernel_number, operation_of, two_operands, IsKernelOf}
+use Rattle.elementwise.proofs.Written.{given_lanes, taken}
 
 -- the length of the numbers
 abbrev pub width_of : List SetShape → Instr → ℕ
@@ -129,3 +132,17 @@ flags_are planes set i j p =
 pub of : (shapes : List SetShape) (args : List ℕ) (kernel known : Kernel) (instr is : Instr) → kernel ≡ known → instr ≡ is → CanApply shapes instr args → (CanApply shapes is args → IsKernelOf shapes is args known) → IsKernelOf shapes instr args kernel
 of shapes args kernel known instr is k e can gives_it =
     subst (λ (q : Kernel). IsKernelOf shapes instr args q) (sym k) (subst (λ i. IsKernelOf shapes i args known) (sym e) (gives_it (subst (λ i. CanApply shapes i args) e can)))
+
+-- a block in which the kernel has worked
+pub kernel_done : (shapes : List SetShape) (instr : Instr) (args : List ℕ) (k : ℕ) (kernel : Kernel) (run : Field) (always : Bool) (extents : List ℕ) (bits : ℕ) (to : Target) (mask : List ℕ) (old new : List Plane)
+    → run ≡ destination shapes instr → always ≡ writes_always instr → extents ≡ extents_at shapes run.set → bits ≡ bits_at shapes run.set
+    → to.offset ≡ run.offset → to.len ≡ run.len → to.lanes ≡ mask
+    → LanesWritten to.offset to.len to.lanes (kernel_number kernel old to.len) old new → TakesLanes extents k always (plane_at old bits) mask → IsKernelOf shapes instr args kernel → DoneInBlock shapes instr args k old new
+kernel_done shapes instr args k kernel run always extents bits to mask old new is at ge be offset len lanes done takes does =
+    let n : ℕ = width_of shapes instr in
+    given_lanes shapes instr args k always mask (kernel_number kernel old n) old new at
+    (subst (λ (r : Field). LanesWritten r.offset r.len mask (kernel_number kernel old r.len) old new) is
+    (subst (λ (x : List ℕ). LanesWritten run.offset run.len x (kernel_number kernel old run.len) old new) lanes
+    (subst (λ l. LanesWritten run.offset l to.lanes (kernel_number kernel old l) old new) len (subst (λ o. LanesWritten o to.len to.lanes (kernel_number kernel old to.len) old new) offset done))))
+    (taken shapes k run (destination shapes instr) always extents bits mask old is ge be takes)
+    (λ i b within. ap (λ j. kernel_number kernel old n j % 2 ^ n) (let e : i ≡ (512 * k + i) % 512 = omega (arith, b) in e) ∙ does.same old (512 * k + i))

@@ -42,9 +42,13 @@ operation_of L.Or = Some P.Logior
 operation_of L.Xor = Some P.Logxor
 operation_of _ = None
 
+-- what a kernel gives a lane, at n bits
+abbrev pub kernel_number : Kernel → List Plane → ℕ → ℕ → ℕ
+kernel_number kernel planes n i = gives kernel.op n (operand_of kernel.a planes n i) (operand_of kernel.b planes n i)
+
 -- the kernel gives each lane of a block what the instruction gives its position
 pub record IsKernelOf (shapes : List SetShape) (instr : Instr) (args : List ℕ) (kernel : Kernel) : Type 0 where
   pub a : (planes : List Plane) → bits_at shapes (active_set instr) + 2 ≤ length planes → IsWithin kernel.a (destination shapes instr).len planes
   pub b : (planes : List Plane) → bits_at shapes (active_set instr) + 2 ≤ length planes → IsWithin kernel.b (destination shapes instr).len planes
   pub same : (planes : List Plane) (p : ℕ) → let n : ℕ = (destination shapes instr).len in
-      gives kernel.op n (operand_of kernel.a planes n (p % 512)) (operand_of kernel.b planes n (p % 512)) % 2 ^ n ≡ element shapes instr args (block_memory planes) p % 2 ^ n
+      kernel_number kernel planes n (p % 512) % 2 ^ n ≡ element shapes instr args (block_memory planes) p % 2 ^ n

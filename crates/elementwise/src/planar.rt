@@ -2,12 +2,12 @@
 
 ghost use Rattle.std.specs.Prelude.{◌≡◌, ℕ, ◌<◌, ◌≤◌, ◌+◌, true, map, length, All, IfSome, List, IsTrue};
 ghost use Rattle.bit_planes.specs.declared.plane.Plane.{Plane};
-ghost use Rattle.lane_kernels.specs.Kernels.{operand_of, HasTarget, IsReadable, IsWithin, Becomes};
+ghost use Rattle.lane_kernels.specs.Kernels.{HasTarget, IsReadable, IsWithin, Becomes};
 ghost use Rattle.paris_code.specs.Elementwise.{is_elementwise};
 ghost use Rattle.paris_code.specs.Sound.{IsShape};
 ghost use Rattle.phase_meaning.specs.Apply.{CanApply};
 ghost use Rattle.block_store.specs.Stored.{shape_of_plan};
-ghost use Rattle.elementwise.specs.Planar.{gives, one_operand, operation_of, two_operands, IsKernelOf};
+ghost use Rattle.elementwise.specs.Planar.{kernel_number, one_operand, operation_of, two_operands, IsKernelOf};
 
 use crate::writes::plan_of;
 use bit_planes::Plane;
@@ -142,7 +142,7 @@ pub(crate) fn apply_kernel(planes: &mut [Plane], kernel: &Kernel, to: &Target)
     requires target { HasTarget to.now planes.old }
     requires a { IsReadable kernel.now.a to.now planes.old }
     requires b { IsReadable kernel.now.b to.now planes.old }
-    ensures { Becomes to.now (λ i. gives kernel.now.op to.now.len (operand_of kernel.now.a planes.old to.now.len i) (operand_of kernel.now.b planes.old to.now.len i)) planes.old planes.new }
+    ensures { Becomes to.now (kernel_number kernel.now planes.old to.now.len) planes.old planes.new }
 {
     match kernel.op {
         Planar::Same => in_place::assign(planes, to, &kernel.a),
