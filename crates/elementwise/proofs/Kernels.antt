@@ -32,11 +32,12 @@ use Rattle.phase_meaning.specs.Apply.{CanApply, active_set}
 use Rattle.phase_meaning.proofs.RunBits.{run_number_one}
 use Rattle.block_store.specs.Phases.{LanesWritten, TakesLanes}
 use Rattle.block_store.proofs.Lanes.{run_is}
-use Rattle.elementwise.specs.declared.planar.Planar.{Planar}
+use Rattle.elementwise.specs.declared.planar.Work.{Work}
+use Rattle.elementwise.specs.declared.planar.Work.TheVariants as K
 use Rattle.elementwise.specs.declared.planar.Planar.TheVariants as L
 use Rattle.elementwise.specs.declared.planar.Kernel.{Kernel}
 use Rattle.elementwise.specs.Blocks.{block_memory, DoneInBlock}
-use Rattle.elementwise.specs.Planar.{gives, kernel_number, operation_of, two_operands, IsKernelOf}
+use Rattle.elementwise.specs.Planar.{gives_work, kernel_number, operation_of, two_operands, IsKernelOf}
 use Rattle.elementwise.proofs.Written.{given_lanes, taken}
 
 -- the length of the numbers
@@ -62,9 +63,9 @@ fits_with shapes d a fits exists there with = omega (arith, (fits there).2, ap (
 pub of_constant : (shapes : List SetShape) (instr : Instr) (k : ℕ) → Holds shapes instr (O.Constant k) (λ m p. k % 2 ^ width_of shapes instr)
 of_constant shapes instr k = record { within = λ planes h. tt; number = λ planes p. refl }
 
-pub kernel_is : (shapes : List SetShape) (instr : Instr) (args : List ℕ) (op : Planar) (a b : Operand) (x y : BitMemory → ℕ → ℕ) → Holds shapes instr a x → Holds shapes instr b y
+pub kernel_is : (shapes : List SetShape) (instr : Instr) (args : List ℕ) (op : Work) (a b : Operand) (x y : BitMemory → ℕ → ℕ) → Holds shapes instr a x → Holds shapes instr b y
     → ((planes : List Plane) (p : ℕ) → x (block_memory planes) p < 2 ^ width_of shapes instr → y (block_memory planes) p < 2 ^ width_of shapes instr
-    → gives op (width_of shapes instr) (x (block_memory planes) p) (y (block_memory planes) p) % 2 ^ width_of shapes instr ≡ element shapes instr args (block_memory planes) p % 2 ^ width_of shapes instr)
+    → gives_work op (width_of shapes instr) (x (block_memory planes) p) (y (block_memory planes) p) % 2 ^ width_of shapes instr ≡ element shapes instr args (block_memory planes) p % 2 ^ width_of shapes instr)
     → IsKernelOf shapes instr args (two_operands op a b)
 kernel_is shapes instr args op a b x y first second same = record {
   a = first.within;
@@ -74,7 +75,7 @@ kernel_is shapes instr args op a b x y first second same = record {
       let u : ℕ = operand_of a planes n (p % 512) in
       let v : ℕ = operand_of b planes n (p % 512) in
       let m : BitMemory = block_memory planes in
-      ap (λ k. gives op n k v % 2 ^ n) (first.number planes p) ∙ ap (λ k. gives op n (x m p) k % 2 ^ n) (second.number planes p)
+      ap (λ k. gives_work op n k v % 2 ^ n) (first.number planes p) ∙ ap (λ k. gives_work op n (x m p) k % 2 ^ n) (second.number planes p)
       ∙ same planes p (subst (λ k. k < 2 ^ n) (first.number planes p) (operand_of-lt a planes n (p % 512))) (subst (λ k. k < 2 ^ n) (second.number planes p) (operand_of-lt b planes n (p % 512)));
 }
 
@@ -86,18 +87,19 @@ pub negative_is : (n x : ℕ) → x < 2 ^ n → (2 ^ n - x) % 2 ^ n % 2 ^ n ≡ 
 negative_is n x b = ap (λ k. k % 2 ^ n) (sym (residue_is n (neg_ℤ (pos x)) 1 (2 ^ n - x) (omega (arith, ints, b))))
 
 -- the operations
-at_operation : (o : Planar) (n x y : ℕ) (known op : Operation) → Some known ≡ Some op → gives o n x y ≡ outcome (operator_of known).0 n (operator_of known).1 x y
-    → gives o n x y ≡ outcome (operator_of op).0 n (operator_of op).1 x y
-at_operation o n x y known op e is = subst (λ q. gives o n x y ≡ outcome (operator_of q).0 n (operator_of q).1 x y) (ap (λ q. unwrap_or q known) e) is
+at_operation : (w : Work) (n x y : ℕ) (known op : Operation) → Some known ≡ Some op → gives_work w n x y ≡ outcome (operator_of known).0 n (operator_of known).1 x y
+    → gives_work w n x y ≡ outcome (operator_of op).0 n (operator_of op).1 x y
+at_operation w n x y known op e is = subst (λ q. gives_work w n x y ≡ outcome (operator_of q).0 n (operator_of q).1 x y) (ap (λ q. unwrap_or q known) e) is
 
-pub operation_is : (o : Planar) (op : Operation) (n x y : ℕ) → operation_of o ≡ Some op → y < 2 ^ n → gives o n x y ≡ outcome (operator_of op).0 n (operator_of op).1 x y
+pub operation_is : (w : Work) (op : Operation) (n x y : ℕ) → operation_of w ≡ Some op → y < 2 ^ n → gives_work w n x y ≡ outcome (operator_of op).0 n (operator_of op).1 x y
 unfolding outcome
-operation_is L.Add op n x y e b = at_operation L.Add n x y P.SAdd op e (sym (sum_by_residues n false x y))
-operation_is L.Subtract op n x y e b = at_operation L.Subtract n x y P.SSubtract op e (sym (difference_by_residues n false x y (omega (arith, b))))
-operation_is L.And op n x y e b = at_operation L.And n x y P.Logand op e refl
-operation_is L.Or op n x y e b = at_operation L.Or n x y P.Logior op e refl
-operation_is L.Xor op n x y e b = at_operation L.Xor n x y P.Logxor op e refl
-operation_is _ op n x y e b = cc
+operation_is (K.Planes L.Add) op n x y e b = at_operation (K.Planes L.Add) n x y P.SAdd op e (sym (sum_by_residues n false x y))
+operation_is (K.Planes L.Subtract) op n x y e b = at_operation (K.Planes L.Subtract) n x y P.SSubtract op e (sym (difference_by_residues n false x y (omega (arith, b))))
+operation_is (K.Planes L.And) op n x y e b = at_operation (K.Planes L.And) n x y P.Logand op e refl
+operation_is (K.Planes L.Or) op n x y e b = at_operation (K.Planes L.Or) n x y P.Logior op e refl
+operation_is (K.Planes L.Xor) op n x y e b = at_operation (K.Planes L.Xor) n x y P.Logxor op e refl
+operation_is (K.Planes _) op n x y e b = cc
+operation_is (K.Values o) op n x y e b = at_operation (K.Values o) n x y o op e refl
 
 -- flags
 flag_bit : (planes : List Plane) (set i p : ℕ) → field_number (block_memory planes) (bit_run set i) p ≡ bit (plane_at planes i) (p % 512)

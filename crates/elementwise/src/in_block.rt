@@ -1,23 +1,26 @@
 //! An elementwise instruction in one block.
 
-ghost use Rattle.std.specs.Prelude.{◌≡◌, ◌<◌, ◌≤◌, ◌+◌, true, map, length, IfSome};
+ghost use Rattle.std.specs.Prelude.{◌≡◌, ℕ, ◌<◌, ◌≤◌, ◌+◌, ◌%◌, ◌^◌, true, map, length, slice_index, IfSome};
 ghost use Rattle.vp_sets.specs.Blocks.{block_count};
 ghost use Rattle.paris_code.specs.Elementwise.{is_elementwise, destination, writes_always};
+ghost use Rattle.cstar_base.specs.Operators.{outcome};
+ghost use Rattle.paris_code.specs.Operators.{operator_of};
 ghost use Rattle.paris_code.specs.Shapes.{bits_at, extents_at};
 ghost use Rattle.phase_meaning.specs.Apply.{CanApply, active_set};
 ghost use Rattle.block_store.specs.Stored.{shape_of_plan};
 ghost use Rattle.block_store.specs.Phases.{LanesWritten};
-ghost use Rattle.lane_kernels.specs.Kernels.{HasTarget, IsReadable};
+ghost use Rattle.lane_kernels.specs.Kernels.{operand_of, HasTarget, IsReadable, IsWithin};
 ghost use Rattle.elementwise.specs.Blocks.{DoneInBlock};
-ghost use Rattle.elementwise.specs.Planar.{IsKernelOf, kernel_number};
+ghost use Rattle.elementwise.specs.Planar.{IsKernelOf, gives, kernel_number};
 
 use crate::lanes::words_given;
-use crate::planar::{Kernel, apply_kernel, can_work_in_place};
+use crate::planar::{Kernel, Planar, Work, can_work_in_place, operate_in_place};
 use crate::writes::{Written, plan_of};
 use bit_planes::Block;
-use block_store::{SetPlan, put_words, taking_lanes};
-use lane_kernels::Target;
-use paris_code::Instr;
+use block_store::{SetPlan, put_words, taking_lanes, words_of};
+use lane_kernels::{Operand, Target};
+use paris_code::{Instr, Operation};
+use phase_meaning::arith::{mask, operate};
 
 /// Does an elementwise instruction in block `k` of its set, by the numbers of the lanes.
 fn by_values(plans: &[SetPlan], block: &mut Block, instr: &Instr, args: &[u32], to: Written, k: u32)
@@ -35,6 +38,66 @@ fn by_values(plans: &[SetPlan], block: &mut Block, instr: &Instr, args: &[u32], 
     put_words(block, to.run.offset, to.run.len, lanes, &words);
 }
 
+/// Makes the target what the operation gives, in its lanes of the block.
+fn by_planes(block: &mut Block, op: Planar, a: &Operand, b: &Operand, to: &Target)
+    requires target { HasTarget to.now block.old.planes.items }
+    requires a { IsReadable a.now to.now block.old.planes.items }
+    requires b { IsReadable b.now to.now block.old.planes.items }
+    ensures { LanesWritten to.now.offset to.now.len to.now.lanes (λ i. gives op to.now.len (operand_of a.now block.old.planes.items to.now.len i) (operand_of b.now block.old.planes.items to.now.len i)) block.old.planes.items block.new.planes.items }
+{
+    operate_in_place(&mut block.planes, op, a, b, to);
+}
+
+/// The same number for each lane.
+fn all_lanes(number: u32) -> [u32; 512]
+    ensures { (i : ℕ) → i < 512 → slice_index result i ≡ number }
+{
+    let mut words = [0; 512];
+    'lanes: for i in 0..512 {
+        words[i] = number;
+    }
+    words
+}
+
+/// The numbers of an operand.
+fn words_of_operand(block: &Block, a: &Operand, len: u8) -> [u32; 512]
+    requires len { (1 ≤ len) × (len ≤ 32) }
+    requires within { IsWithin a.now len block.now.planes.items }
+    ensures { (i : ℕ) → i < 512 → slice_index result i ≡ operand_of a.now block.now.planes.items len i }
+{
+    match a {
+        Operand::Field(offset) => words_of(block, *offset, len),
+        Operand::Constant(number) => all_lanes(*number & mask(len)),
+    }
+}
+
+/// What the operation gives on numbers of `len` bits.
+fn operated(op: Operation, len: u8, x: &[u32; 512], y: &[u32; 512]) -> [u32; 512]
+    requires len { (1 ≤ len) × (len ≤ 32) }
+    requires x { (i : ℕ) → i < 512 → slice_index x.now i < 2 ^ len }
+    requires y { (i : ℕ) → i < 512 → slice_index y.now i < 2 ^ len }
+    ensures { (i : ℕ) → i < 512 → slice_index result i % 2 ^ len ≡ outcome (operator_of op).0 len (operator_of op).1 (slice_index x.now i) (slice_index y.now i) }
+{
+    let mut words = [0; 512];
+    'lanes: for i in 0..512 {
+        words[i] = operate(op, len, x[i], y[i]);
+    }
+    words
+}
+
+/// The same on the numbers of the lanes.
+fn by_numbers(block: &mut Block, op: Operation, a: &Operand, b: &Operand, to: &Target)
+    requires target { HasTarget to.now block.old.planes.items }
+    requires a { IsWithin a.now to.now.len block.old.planes.items }
+    requires b { IsWithin b.now to.now.len block.old.planes.items }
+    ensures { LanesWritten to.now.offset to.now.len to.now.lanes (λ i. outcome (operator_of op).0 to.now.len (operator_of op).1 (operand_of a.now block.old.planes.items to.now.len i) (operand_of b.now block.old.planes.items to.now.len i)) block.old.planes.items block.new.planes.items }
+{
+    let x = words_of_operand(block, a, to.len);
+    let y = words_of_operand(block, b, to.len);
+    let words = operated(op, to.len, &x, &y);
+    put_words(block, to.offset, to.len, to.lanes, &words);
+}
+
 /// Makes the target what the kernel gives, in its lanes of the block.
 fn by_kernel(block: &mut Block, kernel: &Kernel, to: &Target)
     requires target { HasTarget to.now block.old.planes.items }
@@ -42,7 +105,10 @@ fn by_kernel(block: &mut Block, kernel: &Kernel, to: &Target)
     requires b { IsReadable kernel.now.b to.now block.old.planes.items }
     ensures { LanesWritten to.now.offset to.now.len to.now.lanes (kernel_number kernel.now block.old.planes.items to.now.len) block.old.planes.items block.new.planes.items }
 {
-    apply_kernel(&mut block.planes, kernel, to);
+    match kernel.op {
+        Work::Planes(op) => by_planes(block, op, &kernel.a, &kernel.b, to),
+        Work::Values(op) => by_numbers(block, op, &kernel.a, &kernel.b, to),
+    }
 }
 
 /// Does an elementwise instruction in block `k` of its set: by its kernel, where it has one that

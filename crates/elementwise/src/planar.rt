@@ -1,13 +1,13 @@
 //! What is done plane by plane: kernels on operands that are fields or constants.
 
-ghost use Rattle.std.specs.Prelude.{◌≡◌, ℕ, ◌<◌, ◌≤◌, ◌+◌, true, map, length, All, IfSome, List, IsTrue};
+ghost use Rattle.std.specs.Prelude.{◌≡◌, ℕ, ◌<◌, ◌≤◌, ◌+◌, true, map, length, All, IfSome, List, Some, IsTrue};
 ghost use Rattle.bit_planes.specs.declared.plane.Plane.{Plane};
-ghost use Rattle.lane_kernels.specs.Kernels.{HasTarget, IsReadable, IsWithin, Becomes};
+ghost use Rattle.lane_kernels.specs.Kernels.{operand_of, HasTarget, IsReadable, IsWithin, Becomes};
 ghost use Rattle.paris_code.specs.Elementwise.{is_elementwise};
 ghost use Rattle.paris_code.specs.Sound.{IsShape};
 ghost use Rattle.phase_meaning.specs.Apply.{CanApply};
 ghost use Rattle.block_store.specs.Stored.{shape_of_plan};
-ghost use Rattle.elementwise.specs.Planar.{kernel_number, one_operand, operation_of, two_operands, IsKernelOf};
+ghost use Rattle.elementwise.specs.Planar.{gives, one_operand, operation_of, two_operands, IsKernelOf};
 
 use crate::writes::plan_of;
 use bit_planes::Plane;
@@ -29,10 +29,17 @@ pub(crate) enum Planar {
     Xor,
 }
 
+/// How an operation is done: plane by plane, or on the numbers of the lanes.
+#[derive(Clone, Copy)]
+pub(crate) enum Work {
+    Planes(Planar),
+    Values(Operation),
+}
+
 /// An operation with its operands, of which some operations read the first alone.
 #[derive(Drop)]
 pub(crate) struct Kernel {
-    pub op: Planar,
+    pub op: Work,
     pub a: Operand,
     pub b: Operand,
 }
@@ -42,30 +49,30 @@ fn of_one(op: Planar, a: Operand) -> Kernel
     ensures { result ≡ one_operand op a }
 {
     Kernel {
-        op,
+        op: Work::Planes(op),
         a,
         b: Operand::Constant(0),
     }
 }
 
 /// The kernel with two operands.
-fn of_two(op: Planar, a: Operand, b: Operand) -> Kernel
+fn of_two(op: Work, a: Operand, b: Operand) -> Kernel
     ensures { result ≡ two_operands op a b }
 {
     Kernel { op, a, b }
 }
 
-/// The planar operation of an instruction, where there is one.
-fn by_planes(op: Operation) -> Option<Planar>
-    ensures { IfSome result (λ o. operation_of o ≡ Some op) }
+/// How an operation of an instruction is done.
+fn work_of(op: Operation) -> Work
+    ensures { operation_of result ≡ Some op }
 {
     match op {
-        Operation::SAdd => Some(Planar::Add),
-        Operation::SSubtract => Some(Planar::Subtract),
-        Operation::Logand => Some(Planar::And),
-        Operation::Logior => Some(Planar::Or),
-        Operation::Logxor => Some(Planar::Xor),
-        _ => None,
+        Operation::SAdd => Work::Planes(Planar::Add),
+        Operation::SSubtract => Work::Planes(Planar::Subtract),
+        Operation::Logand => Work::Planes(Planar::And),
+        Operation::Logior => Work::Planes(Planar::Or),
+        Operation::Logxor => Work::Planes(Planar::Xor),
+        _ => Work::Values(op),
     }
 }
 
@@ -101,9 +108,8 @@ pub(crate) fn kernel_of(plans: &[SetPlan], instr: &Instr, args: &[u32]) -> Optio
             right,
             ..
         } => {
-            let op = by_planes(*op)?;
             Some(of_two(
-                op,
+                work_of(*op),
                 Operand::Field(left.offset),
                 Operand::Field(right.offset),
             ))
@@ -114,9 +120,8 @@ pub(crate) fn kernel_of(plans: &[SetPlan], instr: &Instr, args: &[u32]) -> Optio
             right,
             ..
         } => {
-            let op = by_planes(*op)?;
             let constant = Operand::Constant(konst(*right, args));
-            Some(of_two(op, Operand::Field(left.offset), constant))
+            Some(of_two(work_of(*op), Operand::Field(left.offset), constant))
         }
         Instr::LoadTest { source } => Some(of_one(Planar::Same, Operand::Field(source.offset))),
         Instr::LoadContext { source } => Some(of_one(Planar::Same, Operand::Field(source.offset))),
@@ -131,28 +136,38 @@ pub(crate) fn kernel_of(plans: &[SetPlan], instr: &Instr, args: &[u32]) -> Optio
         Instr::SetContext { .. } => Some(of_one(Planar::Same, Operand::Constant(1))),
         Instr::LogandContextWithTest { set } => {
             let at = plan_of(plans, *set).bits;
-            Some(of_two(Planar::And, Operand::Field(at), Operand::Field(at + 1)))
+            Some(of_two(
+                Work::Planes(Planar::And),
+                Operand::Field(at),
+                Operand::Field(at + 1),
+            ))
         }
         _ => None,
     }
 }
 
-/// Makes the target what the kernel gives, in its lanes.
-pub(crate) fn apply_kernel(planes: &mut [Plane], kernel: &Kernel, to: &Target)
+/// Makes the target what the operation gives, in its lanes.
+pub(crate) fn operate_in_place(
+    planes: &mut [Plane],
+    op: Planar,
+    a: &Operand,
+    b: &Operand,
+    to: &Target,
+)
     requires target { HasTarget to.now planes.old }
-    requires a { IsReadable kernel.now.a to.now planes.old }
-    requires b { IsReadable kernel.now.b to.now planes.old }
-    ensures { Becomes to.now (kernel_number kernel.now planes.old to.now.len) planes.old planes.new }
+    requires a { IsReadable a.now to.now planes.old }
+    requires b { IsReadable b.now to.now planes.old }
+    ensures { Becomes to.now (λ i. gives op to.now.len (operand_of a.now planes.old to.now.len i) (operand_of b.now planes.old to.now.len i)) planes.old planes.new }
 {
-    match kernel.op {
-        Planar::Same => in_place::assign(planes, to, &kernel.a),
-        Planar::Complement => in_place::not(planes, to, &kernel.a),
-        Planar::Negative => in_place::negate(planes, to, &kernel.a),
-        Planar::Add => in_place::add(planes, to, &kernel.a, &kernel.b),
-        Planar::Subtract => in_place::subtract(planes, to, &kernel.a, &kernel.b),
-        Planar::And => in_place::and(planes, to, &kernel.a, &kernel.b),
-        Planar::Or => in_place::or(planes, to, &kernel.a, &kernel.b),
-        Planar::Xor => in_place::xor(planes, to, &kernel.a, &kernel.b),
+    match op {
+        Planar::Same => in_place::assign(planes, to, a),
+        Planar::Complement => in_place::not(planes, to, a),
+        Planar::Negative => in_place::negate(planes, to, a),
+        Planar::Add => in_place::add(planes, to, a, b),
+        Planar::Subtract => in_place::subtract(planes, to, a, b),
+        Planar::And => in_place::and(planes, to, a, b),
+        Planar::Or => in_place::or(planes, to, a, b),
+        Planar::Xor => in_place::xor(planes, to, a, b),
     }
 }
 

@@ -6,6 +6,7 @@ use Rattle.paris_code.specs.Memory.{bit_run, field_number, is_active, is_tested,
 use Rattle.paris_code.specs.Shapes.{bits_at}
 use Rattle.block_store.specs.Stored.{shape_of_plan}
 use Rattle.elementwise.specs.declared.planar.Planar.TheVariants as L
+use Rattle.elementwise.specs.declared.planar.Work.TheVariants as K
 use Rattle.elementwise.specs.Blocks.{block_memory}
 use Rattle.elementwise.specs.Planar.{two_operands}
 use Rattle.elementwise.proofs.Kernels.{of, of_field, of_constant, fits_with, kernel_is, moved_is, negative_is, operation_is, flag_is, flags_are}
@@ -19,8 +20,8 @@ returns-else-dest-source c =
     let i = c.in-Move in
     let a = i.source in
     let instr = I.Move i.signed i.dest a in
-    of shapes args c.of_one.result (two_operands L.Same (O.Field a.offset) (O.Constant 0)) c.args.instr.now instr c.of_one.ensures i.is c.requires.can (λ can.
-    kernel_is shapes instr args L.Same (O.Field a.offset) (O.Constant 0) (λ m p. field_number m a p) _
+    of shapes args c.of_one.result (two_operands (K.Planes L.Same) (O.Field a.offset) (O.Constant 0)) c.args.instr.now instr c.of_one.ensures i.is c.requires.can (λ can.
+    kernel_is shapes instr args (K.Planes L.Same) (O.Field a.offset) (O.Constant 0) (λ m p. field_number m a p) _
     (of_field shapes instr a (sym (omega (arith, c.if-dest-source.false))) (fits_with shapes i.dest a can.field.1 can.set.0 can.set.1 can.operands)) (of_constant shapes instr 0)
     (λ planes p xb yb. moved_is i.dest.len a.len i.signed (field_number (block_memory planes) a p) (sym (omega (arith, c.if-dest-source.false))) xb))
 
@@ -31,8 +32,8 @@ returns-in-MoveAlways c =
     let i = c.in-MoveAlways in
     let a = i.source in
     let instr = I.MoveAlways i.dest a in
-    of shapes args c.of_one-in-MoveAlways.result (two_operands L.Same (O.Field a.offset) (O.Constant 0)) c.args.instr.now instr c.of_one-in-MoveAlways.ensures i.is c.requires.can (λ can.
-    kernel_is shapes instr args L.Same (O.Field a.offset) (O.Constant 0) (λ m p. field_number m a p) _
+    of shapes args c.of_one-in-MoveAlways.result (two_operands (K.Planes L.Same) (O.Field a.offset) (O.Constant 0)) c.args.instr.now instr c.of_one-in-MoveAlways.ensures i.is c.requires.can (λ can.
+    kernel_is shapes instr args (K.Planes L.Same) (O.Field a.offset) (O.Constant 0) (λ m p. field_number m a p) _
     (of_field shapes instr a (can.field.1.1 can.set.1 can.set.0) (fits_with shapes i.dest a can.field.1.0 can.set.0 can.set.1 can.operands)) (of_constant shapes instr 0)
     (λ planes p xb yb. refl))
 
@@ -43,8 +44,8 @@ returns-in-Lognot c =
     let i = c.in-Lognot in
     let a = i.source in
     let instr = I.Lognot i.dest a in
-    of shapes args c.of_one-in-Lognot.result (two_operands L.Complement (O.Field a.offset) (O.Constant 0)) c.args.instr.now instr c.of_one-in-Lognot.ensures i.is c.requires.can (λ can.
-    kernel_is shapes instr args L.Complement (O.Field a.offset) (O.Constant 0) (λ m p. field_number m a p) _
+    of shapes args c.of_one-in-Lognot.result (two_operands (K.Planes L.Complement) (O.Field a.offset) (O.Constant 0)) c.args.instr.now instr c.of_one-in-Lognot.ensures i.is c.requires.can (λ can.
+    kernel_is shapes instr args (K.Planes L.Complement) (O.Field a.offset) (O.Constant 0) (λ m p. field_number m a p) _
     (of_field shapes instr a (can.field.1.1 can.set.1 can.set.0) (fits_with shapes i.dest a can.field.1.0 can.set.0 can.set.1 can.operands)) (of_constant shapes instr 0)
     (λ planes p xb yb. refl))
 
@@ -55,8 +56,8 @@ returns-in-Negate c =
     let i = c.in-Negate in
     let a = i.source in
     let instr = I.Negate i.dest a in
-    of shapes args c.of_one-in-Negate.result (two_operands L.Negative (O.Field a.offset) (O.Constant 0)) c.args.instr.now instr c.of_one-in-Negate.ensures i.is c.requires.can (λ can.
-    kernel_is shapes instr args L.Negative (O.Field a.offset) (O.Constant 0) (λ m p. field_number m a p) _
+    of shapes args c.of_one-in-Negate.result (two_operands (K.Planes L.Negative) (O.Field a.offset) (O.Constant 0)) c.args.instr.now instr c.of_one-in-Negate.ensures i.is c.requires.can (λ can.
+    kernel_is shapes instr args (K.Planes L.Negative) (O.Field a.offset) (O.Constant 0) (λ m p. field_number m a p) _
     (of_field shapes instr a (can.field.1.1 can.set.1 can.set.0) (fits_with shapes i.dest a can.field.1.0 can.set.0 can.set.1 can.operands)) (of_constant shapes instr 0)
     (λ planes p xb yb. negative_is i.dest.len (field_number (block_memory planes) a p) xb))
 
@@ -67,8 +68,8 @@ returns-in-LoadTest c =
     let i = c.in-LoadTest in
     let a = i.source in
     let instr = I.LoadTest a in
-    of shapes args c.of_one-in-LoadTest.result (two_operands L.Same (O.Field a.offset) (O.Constant 0)) c.args.instr.now instr c.of_one-in-LoadTest.ensures i.is c.requires.can (λ can.
-    kernel_is shapes instr args L.Same (O.Field a.offset) (O.Constant 0) (λ m p. field_number m a p) _
+    of shapes args c.of_one-in-LoadTest.result (two_operands (K.Planes L.Same) (O.Field a.offset) (O.Constant 0)) c.args.instr.now instr c.of_one-in-LoadTest.ensures i.is c.requires.can (λ can.
+    kernel_is shapes instr args (K.Planes L.Same) (O.Field a.offset) (O.Constant 0) (λ m p. field_number m a p) _
     (of_field shapes instr a (can.field.1 can.set) (omega (arith, (can.field.0 can.set).2))) (of_constant shapes instr 0)
     (λ planes p xb yb. refl))
 
@@ -79,8 +80,8 @@ returns-in-LoadContext c =
     let i = c.in-LoadContext in
     let a = i.source in
     let instr = I.LoadContext a in
-    of shapes args c.of_one-in-LoadContext.result (two_operands L.Same (O.Field a.offset) (O.Constant 0)) c.args.instr.now instr c.of_one-in-LoadContext.ensures i.is c.requires.can (λ can.
-    kernel_is shapes instr args L.Same (O.Field a.offset) (O.Constant 0) (λ m p. field_number m a p) _
+    of shapes args c.of_one-in-LoadContext.result (two_operands (K.Planes L.Same) (O.Field a.offset) (O.Constant 0)) c.args.instr.now instr c.of_one-in-LoadContext.ensures i.is c.requires.can (λ can.
+    kernel_is shapes instr args (K.Planes L.Same) (O.Field a.offset) (O.Constant 0) (λ m p. field_number m a p) _
     (of_field shapes instr a (can.field.1 can.set) (omega (arith, (can.field.0 can.set).2))) (of_constant shapes instr 0)
     (λ planes p xb yb. refl))
 
@@ -92,9 +93,9 @@ returns-in-StoreTest c =
     let i = c.in-StoreTest in
     let at = bits_at shapes i.dest.set + 1 in
     let instr = I.StoreTest i.dest in
-    of shapes args c.of_one-in-StoreTest.result (two_operands L.Same (O.Field at) (O.Constant 0)) c.args.instr.now instr
-    (c.of_one-in-StoreTest.ensures ∙ ap (λ b. two_operands L.Same (O.Field (b + 1)) (O.Constant 0)) c.plan_of.ensures.bits) i.is c.requires.can (λ can.
-    kernel_is shapes instr args L.Same (O.Field at) (O.Constant 0) (λ m p. field_number m (bit_run i.dest.set at) p) _
+    of shapes args c.of_one-in-StoreTest.result (two_operands (K.Planes L.Same) (O.Field at) (O.Constant 0)) c.args.instr.now instr
+    (c.of_one-in-StoreTest.ensures ∙ ap (λ b. two_operands (K.Planes L.Same) (O.Field (b + 1)) (O.Constant 0)) c.plan_of.ensures.bits) i.is c.requires.can (λ can.
+    kernel_is shapes instr args (K.Planes L.Same) (O.Field at) (O.Constant 0) (λ m p. field_number m (bit_run i.dest.set at) p) _
     (of_field shapes instr (bit_run i.dest.set at) (sym (can.field.1 can.set)) (omega arith)) (of_constant shapes instr 0)
     (λ planes p xb yb. ap (λ k. k % 2 ^ i.dest.len) (flag_is planes i.dest.set at p)))
 
@@ -106,9 +107,9 @@ returns-in-StoreContext c =
     let i = c.in-StoreContext in
     let at = bits_at shapes i.dest.set in
     let instr = I.StoreContext i.dest in
-    of shapes args c.of_one-in-StoreContext.result (two_operands L.Same (O.Field at) (O.Constant 0)) c.args.instr.now instr
-    (c.of_one-in-StoreContext.ensures ∙ ap (λ b. two_operands L.Same (O.Field (b)) (O.Constant 0)) c.plan_of-in-StoreContext.ensures.bits) i.is c.requires.can (λ can.
-    kernel_is shapes instr args L.Same (O.Field at) (O.Constant 0) (λ m p. field_number m (bit_run i.dest.set at) p) _
+    of shapes args c.of_one-in-StoreContext.result (two_operands (K.Planes L.Same) (O.Field at) (O.Constant 0)) c.args.instr.now instr
+    (c.of_one-in-StoreContext.ensures ∙ ap (λ b. two_operands (K.Planes L.Same) (O.Field (b)) (O.Constant 0)) c.plan_of-in-StoreContext.ensures.bits) i.is c.requires.can (λ can.
+    kernel_is shapes instr args (K.Planes L.Same) (O.Field at) (O.Constant 0) (λ m p. field_number m (bit_run i.dest.set at) p) _
     (of_field shapes instr (bit_run i.dest.set at) (sym (can.field.1 can.set)) (omega arith)) (of_constant shapes instr 0)
     (λ planes p xb yb. ap (λ k. k % 2 ^ i.dest.len) (flag_is planes i.dest.set at p)))
 
@@ -120,32 +121,32 @@ returns-in-LogandContextWithTest c =
     let i = c.in-LogandContextWithTest in
     let at = bits_at shapes i.set in
     let instr = I.LogandContextWithTest i.set in
-    of shapes args c.of_two-in-LogandContextWithTest.result (two_operands L.And (O.Field at) (O.Field (at + 1))) c.args.instr.now instr
-    (c.of_two-in-LogandContextWithTest.ensures ∙ ap (λ b. two_operands L.And (O.Field b) (O.Field (b + 1))) c.plan_of-in-LogandContextWithTest.ensures.bits) i.is c.requires.can (λ can.
-    kernel_is shapes instr args L.And (O.Field at) (O.Field (at + 1)) (λ m p. field_number m (bit_run i.set at) p) (λ m p. field_number m (bit_run i.set (at + 1)) p)
+    of shapes args c.of_two-in-LogandContextWithTest.result (two_operands (K.Planes L.And) (O.Field at) (O.Field (at + 1))) c.args.instr.now instr
+    (c.of_two-in-LogandContextWithTest.ensures ∙ ap (λ b. two_operands (K.Planes L.And) (O.Field b) (O.Field (b + 1))) c.plan_of-in-LogandContextWithTest.ensures.bits) i.is c.requires.can (λ can.
+    kernel_is shapes instr args (K.Planes L.And) (O.Field at) (O.Field (at + 1)) (λ m p. field_number m (bit_run i.set at) p) (λ m p. field_number m (bit_run i.set (at + 1)) p)
     (of_field shapes instr (bit_run i.set at) refl (omega arith)) (of_field shapes instr (bit_run i.set (at + 1)) refl (omega arith))
     (λ planes p xb yb. ap (λ k. k % 2 ^ 1) (flags_are planes i.set at (at + 1) p)))
 
-pub returns-in_ok-op-in-Operate : goal.returns-in_ok-op-in-Operate
-returns-in_ok-op-in-Operate c =
+pub returns-in-Operate : goal.returns-in-Operate
+returns-in-Operate c =
     let shapes = map shape_of_plan c.args.plans.now in
     let args = c.args.args.now in
     let i = c.in-Operate in
-    let o = c.in_ok-op-in-Operate.op in
+    let o = c.work_of.result in
     let instr = I.Operate i.op i.dest i.left i.right in
     of shapes args c.of_two.result (two_operands o (O.Field i.left.offset) (O.Field i.right.offset)) c.args.instr.now instr c.of_two.ensures i.is c.requires.can (λ can.
     kernel_is shapes instr args o (O.Field i.left.offset) (O.Field i.right.offset) (λ m p. field_number m i.left p) (λ m p. field_number m i.right p)
     (of_field shapes instr i.left (can.field.1.1 can.set.1 can.set.0) (fits_with shapes i.dest i.left can.field.1.0 can.set.0 can.set.1 can.operands.0))
     (of_field shapes instr i.right (can.field.2.1 can.set.2 can.set.0) (fits_with shapes i.dest i.right can.field.2.0 can.set.0 can.set.2 can.operands.1))
     (λ planes p xb yb. ap (λ k. k % 2 ^ i.dest.len)
-    (operation_is o i.op i.dest.len (field_number (block_memory planes) i.left p) (field_number (block_memory planes) i.right p) c.in_ok-op-in-Operate.ensures yb)))
+    (operation_is o i.op i.dest.len (field_number (block_memory planes) i.left p) (field_number (block_memory planes) i.right p) c.work_of.ensures yb)))
 
-pub returns-in_ok-op-in-OperateConstant : goal.returns-in_ok-op-in-OperateConstant
-returns-in_ok-op-in-OperateConstant c =
+pub returns-in-OperateConstant : goal.returns-in-OperateConstant
+returns-in-OperateConstant c =
     let shapes = map shape_of_plan c.args.plans.now in
     let args = c.args.args.now in
     let i = c.in-OperateConstant in
-    let o = c.in_ok-op-in-OperateConstant.op in
+    let o = c.work_of-in-OperateConstant.result in
     let k = konst_number i.right args in
     let instr = I.OperateConstant i.op i.dest i.left i.right in
     of shapes args c.of_two-in-OperateConstant.result (two_operands o (O.Field i.left.offset) (O.Constant k)) c.args.instr.now instr
@@ -153,4 +154,4 @@ returns-in_ok-op-in-OperateConstant c =
     kernel_is shapes instr args o (O.Field i.left.offset) (O.Constant k) (λ m p. field_number m i.left p) (λ m p. k % 2 ^ i.dest.len)
     (of_field shapes instr i.left (can.field.1.1 can.set.1 can.set.0) (fits_with shapes i.dest i.left can.field.1.0 can.set.0 can.set.1 can.operands)) (of_constant shapes instr k)
     (λ planes p xb yb. ap (λ n. n % 2 ^ i.dest.len)
-    (operation_is o i.op i.dest.len (field_number (block_memory planes) i.left p) (k % 2 ^ i.dest.len) c.in_ok-op-in-OperateConstant.ensures yb)))
+    (operation_is o i.op i.dest.len (field_number (block_memory planes) i.left p) (k % 2 ^ i.dest.len) c.work_of-in-OperateConstant.ensures yb)))
