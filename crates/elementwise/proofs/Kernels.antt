@@ -1,7 +1,9 @@
 -- The kernels give what the instructions do.
 use Rattle.std.proofs.Common.{◌≡◌, ℕ, ◌+◌, ◌*◌, ◌-◌, ◌%◌, ◌^◌, ◌<◌, ◌≤◌, pos, neg_ℤ, Bool, true, false, ◌&&◌, eqb, List, length, Some, refl, sym, ◌∙◌, ap, subst, inl, inr, arith}
-use Rattle.std.specs.Prelude.{bit_and, unwrap_or}
+use Rattle.std.specs.Prelude.{bit_and, not, slice_index, unwrap_or}
 use Rattle.std.specs.Int.{from_bool}
+use Rattle.std.proofs.lemmas.Nat.{pow_pos}
+use Rattle.std.proofs.Math.Nat.{mod-eq_of_lt}
 use Rattle.std.proofs.lemmas.Int.{ints}
 use Rattle.std.proofs.lemmas.Bool.{cases_eq}
 use Rattle.cstar_base.specs.Numbers.{residue, number_of}
@@ -18,12 +20,15 @@ use Rattle.lane_kernels.specs.declared.target.Operand.TheVariants as O
 use Rattle.lane_kernels.specs.Kernels.{operand_of, IsWithin}
 use Rattle.lane_kernels.proofs.Lifted.{operand_of-lt}
 use Rattle.paris_code.specs.declared.operands.Field.{Field}
+use Rattle.paris_code.specs.declared.instr.Instr.TheVariants as I
+use Rattle.paris_code.specs.declared.operands.Compare.{Compare}
+use Rattle.paris_code.specs.declared.operands.Compare.TheVariants as R
 use Rattle.paris_code.specs.declared.operands.Operation.{Operation}
 use Rattle.paris_code.specs.declared.operands.Operation.TheVariants as P
 use Rattle.paris_code.specs.declared.instr.Instr.{Instr}
 use Rattle.paris_code.specs.Elementwise.{destination, element, writes_always}
 use Rattle.paris_code.specs.Memory.{BitMemory, bit_run, field_number}
-use Rattle.paris_code.specs.Operators.{operator_of}
+use Rattle.paris_code.specs.Operators.{comparison_of, operator_of}
 use Rattle.paris_code.specs.RuleField.{Fits}
 use Rattle.paris_code.specs.RuleOperands.{IsWith}
 use Rattle.paris_code.specs.RuleSet.{FieldExists}
@@ -37,8 +42,10 @@ use Rattle.elementwise.specs.declared.planar.Work.TheVariants as K
 use Rattle.elementwise.specs.declared.planar.Planar.TheVariants as L
 use Rattle.elementwise.specs.declared.planar.Kernel.{Kernel}
 use Rattle.elementwise.specs.Blocks.{block_memory, DoneInBlock}
+use Rattle.elementwise.specs.declared.relations.Relation.{Relation}
+use Rattle.elementwise.specs.Relations.{relation_number, IsRelationOf}
 use Rattle.elementwise.specs.Planar.{gives_work, kernel_number, operation_of, two_operands, IsKernelOf}
-use Rattle.elementwise.proofs.Written.{given_lanes, taken}
+use Rattle.elementwise.proofs.Written.{given_lanes, given_words, taken}
 
 -- the length of the numbers
 abbrev pub width_of : List SetShape → Instr → ℕ
@@ -148,3 +155,56 @@ kernel_done shapes instr args k kernel run always extents bits to mask old new i
     (subst (λ l. LanesWritten run.offset l to.lanes (kernel_number kernel old l) old new) len (subst (λ o. LanesWritten o to.len to.lanes (kernel_number kernel old to.len) old new) offset done))))
     (taken shapes k run (destination shapes instr) always extents bits mask old is ge be takes)
     (λ i b within. ap (λ j. kernel_number kernel old n j % 2 ^ n) (let e : i ≡ (512 * k + i) % 512 = omega (arith, b) in e) ∙ does.same old (512 * k + i))
+
+-- a block in which the relation stands
+pub relation_done : (shapes : List SetShape) (instr : Instr) (args : List ℕ) (k : ℕ) (r : Relation) (run : Field) (always : Bool) (extents : List ℕ) (bits : ℕ) (mask words : List ℕ) (old new : List Plane)
+    → run ≡ destination shapes instr → always ≡ writes_always instr → extents ≡ extents_at shapes run.set → bits ≡ bits_at shapes run.set
+    → LanesWritten run.offset run.len mask (λ i. slice_index words i % 2 ^ run.len) old new → TakesLanes extents k always (plane_at old bits) mask
+    → ((i : ℕ) → i < 512 → slice_index words i ≡ relation_number r old i) → IsRelationOf shapes instr args r → DoneInBlock shapes instr args k old new
+relation_done shapes instr args k r run always extents bits mask words old new is at ge be done takes has does =
+    given_words shapes instr args k run always extents bits mask words old new is at ge be done takes
+    (λ i b within. ap (λ n. n % 2 ^ width_of shapes instr)
+    (has i b ∙ ap (relation_number r old) (let e : i ≡ (512 * k + i) % 512 = omega (arith, b) in e) ∙ does.same old (512 * k + i)))
+
+-- the relations of an instruction
+field_number_is : (planes : List Plane) (f : Field) (p : ℕ) → number planes f.offset f.len (p % 512) ≡ field_number (block_memory planes) f p
+unfolding field_number block_memory
+field_number_is planes f p = run_is planes f.offset f.len (p % 512)
+
+pub compares : (shapes : List SetShape) (args : List ℕ) (relation : Compare) (a b : Field) → CanApply shapes (I.Compare relation a b) args
+    → IsRelationOf shapes (I.Compare relation a b) args (record { relation = relation; len = a.len; a = O.Field a.offset; b = O.Field b.offset })
+compares shapes args relation a b can =
+    let same : b.len ≡ a.len = can.field.1.1 can.set.1 can.set.0 in
+    let fits : b.offset + b.len ≤ bits_at shapes a.set + 2 = fits_with shapes a b can.field.1.0 can.set.0 can.set.1 can.operands in
+    let c = comparison_of relation in record {
+      len = ((can.field.0 can.set.0).0, (can.field.0 can.set.0).1);
+      a = λ planes h. omega (arith, h, (can.field.0 can.set.0).2);
+      b = λ planes h. omega (arith, h, fits, same);
+      same = λ planes p.
+          ap (λ x. outcome c.0 a.len c.1 x (number planes b.offset a.len (p % 512))) (field_number_is planes a p)
+          ∙ ap (λ y. outcome c.0 a.len c.1 (field_number (block_memory planes) a p) y) (ap (λ n. number planes b.offset n (p % 512)) (sym same) ∙ field_number_is planes b p);
+    }
+
+pub equals_zero : (shapes : List SetShape) (args : List ℕ) (a : Field) → CanApply shapes (I.EqZero a) args
+    → IsRelationOf shapes (I.EqZero a) args (record { relation = R.UEq; len = a.len; a = O.Field a.offset; b = O.Constant 0 })
+unfolding outcome
+equals_zero shapes args a can = record {
+  len = ((can.field can.set).0, (can.field can.set).1);
+  a = λ planes h. omega (arith, h, (can.field can.set).2);
+  b = λ planes h. tt;
+  same = λ planes p. ap (λ x. from_bool (eqb x (0 % 2 ^ a.len))) (field_number_is planes a p) ∙ ap (λ z. from_bool (eqb (field_number (block_memory planes) a p) z)) (mod-eq_of_lt (pow_pos a.len));
+}
+
+pub differs_from_zero : (shapes : List SetShape) (args : List ℕ) (a : Field) → CanApply shapes (I.NeZero a) args
+    → IsRelationOf shapes (I.NeZero a) args (record { relation = R.UNe; len = a.len; a = O.Field a.offset; b = O.Constant 0 })
+unfolding outcome
+differs_from_zero shapes args a can = record {
+  len = ((can.field can.set).0, (can.field can.set).1);
+  a = λ planes h. omega (arith, h, (can.field can.set).2);
+  b = λ planes h. tt;
+  same = λ planes p. ap (λ x. from_bool (not (eqb x (0 % 2 ^ a.len)))) (field_number_is planes a p) ∙ ap (λ z. from_bool (not (eqb (field_number (block_memory planes) a p) z))) (mod-eq_of_lt (pow_pos a.len));
+}
+
+-- the relation of an instruction that is this one
+pub relation_at : (shapes : List SetShape) (args : List ℕ) (r : Relation) (instr is : Instr) → instr ≡ is → CanApply shapes instr args → (CanApply shapes is args → IsRelationOf shapes is args r) → IsRelationOf shapes instr args r
+relation_at shapes args r instr is e can gives_it = subst (λ i. IsRelationOf shapes i args r) (sym e) (gives_it (subst (λ i. CanApply shapes i args) e can))

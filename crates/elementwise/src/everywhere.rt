@@ -1,6 +1,6 @@
 //! An elementwise instruction or a check over all blocks.
 
-ghost use Rattle.std.specs.Prelude.{◌≡◌, ℕ, ◌<◌, ◌≤◌, ◌+◌, ◌^◌, ◌||◌, true, map, length, slice_index_or, IfSome};
+ghost use Rattle.std.specs.Prelude.{◌≡◌, ℕ, ◌<◌, ◌≤◌, ◌+◌, ◌^◌, ◌||◌, true, map, length, slice_index_or};
 ghost use Rattle.vp_sets.specs.Blocks.{block_count};
 ghost use Rattle.bit_planes.specs.declared.block.Block.{Block};
 ghost use Rattle.cstar_base.specs.declared.operators.Winner.{Winner};
@@ -11,11 +11,11 @@ ghost use Rattle.phase_meaning.specs.Apply.{CanApply, ReplyFits, active_set, is_
 ghost use Rattle.block_store.specs.Planes.{HasPlanes};
 ghost use Rattle.block_store.specs.Stored.{shape_of_plan, shapes_in, memory_in, IsWhole, HasRoom};
 ghost use Rattle.elementwise.specs.Blocks.{DoneInBlock};
-ghost use Rattle.elementwise.specs.Planar.{IsKernelOf};
+ghost use Rattle.elementwise.specs.Ways.{IsWayOf};
 
 use crate::checks::check;
 use crate::in_block::do_in_block;
-use crate::planar::{Kernel, kernel_of};
+use crate::ways::{Way, way_of};
 use crate::writes::{Written, written_by};
 use bit_planes::Block;
 use block_store::{BlockSet, SetPlan, Store};
@@ -32,7 +32,7 @@ fn do_in_set<R: Threads + Sync, G: Gate + Sync>(
     instr: &Instr,
     args: &[u32],
     to: Written,
-    kernel: &Option<Kernel>,
+    way: &Way,
     workers: u32,
     gate: &G,
 )
@@ -40,7 +40,7 @@ fn do_in_set<R: Threads + Sync, G: Gate + Sync>(
     requires elementwise { is_elementwise instr.now ≡ true }
     requires run { to.run ≡ destination (map shape_of_plan plans.now) instr.now }
     requires always { to.always ≡ writes_always instr.now }
-    requires kernel { IfSome kernel.now (IsKernelOf (map shape_of_plan plans.now) instr.now args.now) }
+    requires way { IsWayOf (map shape_of_plan plans.now) instr.now args.now way.now }
     requires workers { 1 ≤ workers }
     requires few { length set.old.blocks.items < 2 ^ 32 }
     requires count { length set.old.blocks.items ≡ block_count (extents_at (map shape_of_plan plans.now) (active_set instr.now)) }
@@ -56,13 +56,13 @@ fn do_in_set<R: Threads + Sync, G: Gate + Sync>(
         &|k: usize, block: &mut Block|
             requires { (k < 2 ^ 32) × CanApply (map shape_of_plan plans.now) instr.now args.now × (is_elementwise instr.now ≡ true)
                 × (to.run ≡ destination (map shape_of_plan plans.now) instr.now) × (to.always ≡ writes_always instr.now)
-                × IfSome kernel.now (IsKernelOf (map shape_of_plan plans.now) instr.now args.now)
+                × IsWayOf (map shape_of_plan plans.now) instr.now args.now way.now
                 × (bits_at (map shape_of_plan plans.now) (active_set instr.now) + 2 ≤ length block.now.planes.items)
                 × (k < block_count (extents_at (map shape_of_plan plans.now) (active_set instr.now))) }
             ensures { DoneInBlock (map shape_of_plan plans.entry.now) instr.entry.now args.entry.now k block.entry.now.planes.items block.exit.now.planes.items }
         {
             gate.at(k as u32);
-            do_in_block(plans, block, instr, args, to, kernel, k as u32);
+            do_in_block(plans, block, instr, args, to, way, k as u32);
         },
     );
 }
@@ -90,18 +90,8 @@ pub fn run<R: Threads + Sync, G: Gate + Sync>(
     let Some(to) = written_by(&store.plans, instr, args) else {
         return check(rt, store, instr, args, workers, gate);
     };
-    let kernel = kernel_of(&store.plans, instr, args);
+    let way = way_of(&store.plans, instr, args);
     let set = &mut store.sets[usize::from(to.run.set)];
-    do_in_set(
-        rt,
-        &store.plans,
-        set,
-        instr,
-        args,
-        to,
-        &kernel,
-        workers,
-        gate,
-    );
+    do_in_set(rt, &store.plans, set, instr, args, to, &way, workers, gate);
     Reply::Nothing
 }
