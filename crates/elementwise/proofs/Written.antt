@@ -73,6 +73,13 @@ given_lanes shapes instr args k always mask numbers old new is done lanes gives 
     gives (p % 512) (omega arith) (subst (λ n. n < processors shapes run.set) e within)
     ∙ ap (λ n. element shapes instr args (block_memory old) n % 2 ^ run.len) (sym e))
 
+-- the lanes that are taken, by what the run is
+pub taken : (shapes : List SetShape) (k : ℕ) (run d : Field) (always : Bool) (extents : List ℕ) (bits : ℕ) (mask : List ℕ) (old : List Plane) → run ≡ d → extents ≡ extents_at shapes run.set → bits ≡ bits_at shapes run.set
+    → TakesLanes extents k always (plane_at old bits) mask → TakesLanes (extents_at shapes d.set) k always (plane_at old (bits_at shapes d.set)) mask
+taken shapes k run d always extents bits mask old is ge be lanes =
+    subst (λ (r : Field). TakesLanes (extents_at shapes r.set) k always (plane_at old (bits_at shapes r.set)) mask) is
+    (subst (λ b. TakesLanes (extents_at shapes run.set) k always (plane_at old b) mask) be (subst (λ (e : List ℕ). TakesLanes e k always (plane_at old bits) mask) ge lanes))
+
 -- the same of words that were put into the run
 pub given_words : (shapes : List SetShape) (instr : Instr) (args : List ℕ) (k : ℕ) (run : Field) (always : Bool) (extents : List ℕ) (bits : ℕ) (mask words : List ℕ) (old new : List Plane)
     → run ≡ destination shapes instr → always ≡ writes_always instr → extents ≡ extents_at shapes run.set → bits ≡ bits_at shapes run.set
@@ -85,8 +92,7 @@ given_words shapes instr args k run always extents bits mask words old new is at
     let width : ℕ = 2 ^ (destination shapes instr).len in
     given_lanes shapes instr args k always mask (λ i. slice_index words i % width) old new at
     (subst (λ (r : Field). LanesWritten r.offset r.len mask (λ i. slice_index words i % 2 ^ r.len) old new) is done)
-    (subst (λ (r : Field). TakesLanes (extents_at shapes r.set) k always (plane_at old (bits_at shapes r.set)) mask) is
-    (subst (λ b. TakesLanes (extents_at shapes run.set) k always (plane_at old b) mask) be (subst (λ (e : List ℕ). TakesLanes e k always (plane_at old bits) mask) ge lanes)))
+    (taken shapes k run (destination shapes instr) always extents bits mask old is ge be lanes)
     (λ i b within. mod-mod (slice_index words i) width ∙ gives i b (subst (λ (r : Field). 512 * k + i < processors shapes r.set) (sym is) within))
 
 -- the same write of memories that agree on the positions of a block

@@ -1,2 +1,5 @@
 pub mod Blocks
 pub mod Failing
+pub mod Planar
+pub mod Relations
+pub mod Ways

@@ -11,9 +11,11 @@ ghost use Rattle.phase_meaning.specs.Apply.{CanApply, ReplyFits, active_set, is_
 ghost use Rattle.block_store.specs.Planes.{HasPlanes};
 ghost use Rattle.block_store.specs.Stored.{shape_of_plan, shapes_in, memory_in, IsWhole, HasRoom};
 ghost use Rattle.elementwise.specs.Blocks.{DoneInBlock};
+ghost use Rattle.elementwise.specs.Ways.{IsWayOf};
 
 use crate::checks::check;
-use crate::in_block::by_values;
+use crate::in_block::do_in_block;
+use crate::ways::{Way, way_of};
 use crate::writes::{Written, written_by};
 use bit_planes::Block;
 use block_store::{BlockSet, SetPlan, Store};
@@ -30,6 +32,7 @@ fn do_in_set<R: Threads + Sync, G: Gate + Sync>(
     instr: &Instr,
     args: &[u32],
     to: Written,
+    way: &Way,
     workers: u32,
     gate: &G,
 )
@@ -37,6 +40,7 @@ fn do_in_set<R: Threads + Sync, G: Gate + Sync>(
     requires elementwise { is_elementwise instr.now ≡ true }
     requires run { to.run ≡ destination (map shape_of_plan plans.now) instr.now }
     requires always { to.always ≡ writes_always instr.now }
+    requires way { IsWayOf (map shape_of_plan plans.now) instr.now args.now way.now }
     requires workers { 1 ≤ workers }
     requires few { length set.old.blocks.items < 2 ^ 32 }
     requires count { length set.old.blocks.items ≡ block_count (extents_at (map shape_of_plan plans.now) (active_set instr.now)) }
@@ -52,12 +56,13 @@ fn do_in_set<R: Threads + Sync, G: Gate + Sync>(
         &|k: usize, block: &mut Block|
             requires { (k < 2 ^ 32) × CanApply (map shape_of_plan plans.now) instr.now args.now × (is_elementwise instr.now ≡ true)
                 × (to.run ≡ destination (map shape_of_plan plans.now) instr.now) × (to.always ≡ writes_always instr.now)
+                × IsWayOf (map shape_of_plan plans.now) instr.now args.now way.now
                 × (bits_at (map shape_of_plan plans.now) (active_set instr.now) + 2 ≤ length block.now.planes.items)
                 × (k < block_count (extents_at (map shape_of_plan plans.now) (active_set instr.now))) }
             ensures { DoneInBlock (map shape_of_plan plans.entry.now) instr.entry.now args.entry.now k block.entry.now.planes.items block.exit.now.planes.items }
         {
             gate.at(k as u32);
-            by_values(plans, block, instr, args, to, k as u32);
+            do_in_block(plans, block, instr, args, to, way, k as u32);
         },
     );
 }
@@ -85,7 +90,8 @@ pub fn run<R: Threads + Sync, G: Gate + Sync>(
     let Some(to) = written_by(&store.plans, instr, args) else {
         return check(rt, store, instr, args, workers, gate);
     };
+    let way = way_of(&store.plans, instr, args);
     let set = &mut store.sets[usize::from(to.run.set)];
-    do_in_set(rt, &store.plans, set, instr, args, to, workers, gate);
+    do_in_set(rt, &store.plans, set, instr, args, to, &way, workers, gate);
     Reply::Nothing
 }

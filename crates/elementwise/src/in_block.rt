@@ -1,28 +1,33 @@
 //! An elementwise instruction in one block.
 
-ghost use Rattle.std.specs.Prelude.{◌≡◌, ◌<◌, ◌≤◌, ◌+◌, true, map, length};
+ghost use Rattle.std.specs.Prelude.{◌≡◌, ℕ, ◌<◌, ◌≤◌, ◌+◌, ◌%◌, ◌^◌, true, map, length, slice_index};
 ghost use Rattle.vp_sets.specs.Blocks.{block_count};
 ghost use Rattle.paris_code.specs.Elementwise.{is_elementwise, destination, writes_always};
+ghost use Rattle.cstar_base.specs.Operators.{outcome};
+ghost use Rattle.paris_code.specs.Operators.{comparison_of, operator_of};
 ghost use Rattle.paris_code.specs.Shapes.{bits_at, extents_at};
 ghost use Rattle.phase_meaning.specs.Apply.{CanApply, active_set};
 ghost use Rattle.block_store.specs.Stored.{shape_of_plan};
+ghost use Rattle.block_store.specs.Phases.{LanesWritten};
+ghost use Rattle.lane_kernels.specs.Kernels.{operand_of, HasTarget, IsReadable, IsWithin};
 ghost use Rattle.elementwise.specs.Blocks.{DoneInBlock};
+ghost use Rattle.elementwise.specs.Planar.{gives, kernel_number};
+ghost use Rattle.elementwise.specs.Relations.{relation_number};
+ghost use Rattle.elementwise.specs.Ways.{IsWayOf};
 
 use crate::lanes::words_given;
+use crate::planar::{Kernel, Planar, Work, can_work_in_place, operate_in_place};
+use crate::relations::Relation;
+use crate::ways::Way;
 use crate::writes::{Written, plan_of};
 use bit_planes::Block;
-use block_store::{SetPlan, put_words, taking_lanes};
-use paris_code::Instr;
+use block_store::{SetPlan, put_words, taking_lanes, words_of};
+use lane_kernels::{Operand, Target};
+use paris_code::{Compare, Instr, Operation};
+use phase_meaning::arith::{holds, mask, operate};
 
 /// Does an elementwise instruction in block `k` of its set, by the numbers of the lanes.
-pub(crate) fn by_values(
-    plans: &[SetPlan],
-    block: &mut Block,
-    instr: &Instr,
-    args: &[u32],
-    to: Written,
-    k: u32,
-)
+fn by_values(plans: &[SetPlan], block: &mut Block, instr: &Instr, args: &[u32], to: Written, k: u32)
     requires can { CanApply (map shape_of_plan plans.now) instr.now args.now }
     requires elementwise { is_elementwise instr.now ≡ true }
     requires run { to.run ≡ destination (map shape_of_plan plans.now) instr.now }
@@ -35,4 +40,141 @@ pub(crate) fn by_values(
     let words = words_given(plans, block, instr, args, set, k);
     let lanes = taking_lanes(plan_of(plans, set), block, k, to.always);
     put_words(block, to.run.offset, to.run.len, lanes, &words);
+}
+
+/// Makes the target what the operation gives, in its lanes of the block.
+fn by_planes(block: &mut Block, op: Planar, a: &Operand, b: &Operand, to: &Target)
+    requires target { HasTarget to.now block.old.planes.items }
+    requires a { IsReadable a.now to.now block.old.planes.items }
+    requires b { IsReadable b.now to.now block.old.planes.items }
+    ensures { LanesWritten to.now.offset to.now.len to.now.lanes (λ i. gives op to.now.len (operand_of a.now block.old.planes.items to.now.len i) (operand_of b.now block.old.planes.items to.now.len i)) block.old.planes.items block.new.planes.items }
+{
+    operate_in_place(&mut block.planes, op, a, b, to);
+}
+
+/// The same number for each lane.
+fn all_lanes(number: u32) -> [u32; 512]
+    ensures { (i : ℕ) → i < 512 → slice_index result i ≡ number }
+{
+    let mut words = [0; 512];
+    'lanes: for i in 0..512 {
+        words[i] = number;
+    }
+    words
+}
+
+/// The numbers of an operand.
+fn words_of_operand(block: &Block, a: &Operand, len: u8) -> [u32; 512]
+    requires len { (1 ≤ len) × (len ≤ 32) }
+    requires within { IsWithin a.now len block.now.planes.items }
+    ensures { (i : ℕ) → i < 512 → slice_index result i ≡ operand_of a.now block.now.planes.items len i }
+{
+    match a {
+        Operand::Field(offset) => words_of(block, *offset, len),
+        Operand::Constant(number) => all_lanes(*number & mask(len)),
+    }
+}
+
+/// What the operation gives on numbers of `len` bits.
+fn operated(op: Operation, len: u8, x: &[u32; 512], y: &[u32; 512]) -> [u32; 512]
+    requires len { (1 ≤ len) × (len ≤ 32) }
+    requires x { (i : ℕ) → i < 512 → slice_index x.now i < 2 ^ len }
+    requires y { (i : ℕ) → i < 512 → slice_index y.now i < 2 ^ len }
+    ensures { (i : ℕ) → i < 512 → slice_index result i % 2 ^ len ≡ outcome (operator_of op).0 len (operator_of op).1 (slice_index x.now i) (slice_index y.now i) }
+{
+    let mut words = [0; 512];
+    'lanes: for i in 0..512 {
+        words[i] = operate(op, len, x[i], y[i]);
+    }
+    words
+}
+
+/// The same on the numbers of the lanes.
+fn by_numbers(block: &mut Block, op: Operation, a: &Operand, b: &Operand, to: &Target)
+    requires target { HasTarget to.now block.old.planes.items }
+    requires a { IsWithin a.now to.now.len block.old.planes.items }
+    requires b { IsWithin b.now to.now.len block.old.planes.items }
+    ensures { LanesWritten to.now.offset to.now.len to.now.lanes (λ i. outcome (operator_of op).0 to.now.len (operator_of op).1 (operand_of a.now block.old.planes.items to.now.len i) (operand_of b.now block.old.planes.items to.now.len i)) block.old.planes.items block.new.planes.items }
+{
+    let x = words_of_operand(block, a, to.len);
+    let y = words_of_operand(block, b, to.len);
+    let words = operated(op, to.len, &x, &y);
+    put_words(block, to.offset, to.len, to.lanes, &words);
+}
+
+/// Makes the target what the kernel gives, in its lanes of the block.
+fn by_kernel(block: &mut Block, kernel: &Kernel, to: &Target)
+    requires target { HasTarget to.now block.old.planes.items }
+    requires a { IsReadable kernel.now.a to.now block.old.planes.items }
+    requires b { IsReadable kernel.now.b to.now block.old.planes.items }
+    ensures { LanesWritten to.now.offset to.now.len to.now.lanes (kernel_number kernel.now block.old.planes.items to.now.len) block.old.planes.items block.new.planes.items }
+{
+    match kernel.op {
+        Work::Planes(op) => by_planes(block, op, &kernel.a, &kernel.b, to),
+        Work::Values(op) => by_numbers(block, op, &kernel.a, &kernel.b, to),
+    }
+}
+
+/// Whether the relation holds of numbers of `len` bits.
+fn related(relation: Compare, len: u8, x: &[u32; 512], y: &[u32; 512]) -> [u32; 512]
+    requires len { (1 ≤ len) × (len ≤ 32) }
+    requires x { (i : ℕ) → i < 512 → slice_index x.now i < 2 ^ len }
+    requires y { (i : ℕ) → i < 512 → slice_index y.now i < 2 ^ len }
+    ensures { (i : ℕ) → i < 512 → slice_index result i ≡ outcome (comparison_of relation).0 len (comparison_of relation).1 (slice_index x.now i) (slice_index y.now i) }
+{
+    let mut words = [0; 512];
+    'lanes: for i in 0..512 {
+        words[i] = u32::from(holds(relation, len, x[i], y[i]));
+    }
+    words
+}
+
+/// Where the relation holds.
+fn words_of_relation(block: &Block, r: &Relation) -> [u32; 512]
+    requires len { (1 ≤ r.now.len) × (r.now.len ≤ 32) }
+    requires a { IsWithin r.now.a r.now.len block.now.planes.items }
+    requires b { IsWithin r.now.b r.now.len block.now.planes.items }
+    ensures { (i : ℕ) → i < 512 → slice_index result i ≡ relation_number r.now block.now.planes.items i }
+{
+    let x = words_of_operand(block, &r.a, r.len);
+    let y = words_of_operand(block, &r.b, r.len);
+    related(r.relation, r.len, &x, &y)
+}
+
+/// Does an elementwise instruction in block `k` of its set: by its kernel, where no plane is read
+/// after it is written, by its relation, and else by what it gives each lane.
+pub(crate) fn do_in_block(
+    plans: &[SetPlan],
+    block: &mut Block,
+    instr: &Instr,
+    args: &[u32],
+    to: Written,
+    way: &Way,
+    k: u32,
+)
+    requires can { CanApply (map shape_of_plan plans.now) instr.now args.now }
+    requires elementwise { is_elementwise instr.now ≡ true }
+    requires run { to.run ≡ destination (map shape_of_plan plans.now) instr.now }
+    requires always { to.always ≡ writes_always instr.now }
+    requires way { IsWayOf (map shape_of_plan plans.now) instr.now args.now way.now }
+    requires planes { bits_at (map shape_of_plan plans.now) (active_set instr.now) + 2 ≤ length block.old.planes.items }
+    requires block { k < block_count (extents_at (map shape_of_plan plans.now) (active_set instr.now)) }
+    ensures { DoneInBlock (map shape_of_plan plans.now) instr.now args.now k block.old.planes.items block.new.planes.items }
+{
+    let lanes = taking_lanes(plan_of(plans, to.run.set), block, k, to.always);
+    let target = Target::at(to.run.offset, to.run.len, lanes);
+    match way {
+        Way::Kernel(kernel) => {
+            if can_work_in_place(kernel, &target) {
+                by_kernel(block, kernel, &target);
+            } else {
+                by_values(plans, block, instr, args, to, k);
+            }
+        }
+        Way::Relation(relation) => {
+            let words = words_of_relation(block, relation);
+            put_words(block, to.run.offset, to.run.len, lanes, &words);
+        }
+        Way::Elements => by_values(plans, block, instr, args, to, k),
+    }
 }

@@ -6,8 +6,11 @@ mod checks;
 mod everywhere;
 mod in_block;
 mod lanes;
+mod planar;
+mod relations;
 #[cfg(test)]
 mod tests;
+mod ways;
 mod writes;
 
 pub use everywhere::run;

@@ -1,7 +1,9 @@
+ghost use Rattle.std.specs.Prelude.{◌≡◌};
+
 use crate::run;
 use block_store::{SetPlan, Store};
 use cstar_io::Gate;
-use paris_code::{Field, Instr, Operation};
+use paris_code::{Field, Instr};
 use std::sync::atomic::{AtomicU64, Ordering};
 use std::test::Fail;
 use vp_sets::Geometry;
@@ -27,34 +29,35 @@ impl Gate for Meeting {
     }
 }
 
-/// A field of 32 bits of the first set.
-fn word_at(offset: u32) -> Field {
+/// The field of the one set.
+fn field() -> Field
+    ensures set { result.set ≡ 0 }
+    ensures offset { result.offset ≡ 0 }
+    ensures len { result.len ≡ 32 }
+{
     Field {
         set: 0,
-        offset,
+        offset: 0,
         len: 32,
     }
 }
 
 #[test]
+#[tactic(auto, unfolding(vp_sets::specs::Positions::position_count))]
 fn two_workers_meet(rt: HostRuntime) -> Result<(), Fail> {
     let geometry = Geometry::new(&[1024]).expect(&rt, "a grid");
-    let plans = vec![in rt.alloc(); SetPlan { geometry, bits: 96 }]?;
+    let plans = vec![in rt.alloc(); SetPlan { geometry, bits: 32 }]?;
     let mut store = Store::new(rt.alloc(), plans)?;
-    store.write(word_at(0), 1000, 40);
-    store.write(word_at(32), 1000, 2);
     let gate = Meeting {
         calls: AtomicU64::new(0),
         late: AtomicU64::new(0),
     };
-    let add = Instr::Operate {
-        op: Operation::SAdd,
-        dest: word_at(64),
-        left: word_at(0),
-        right: word_at(32),
+    let number = Instr::MyNewsCoordinate {
+        dest: field(),
+        axis: 0,
     };
-    run(&rt, &mut store, &add, &[], 2, &gate);
+    run(&rt, &mut store, &number, &[], 2, &gate);
     assert_eq!(rt; gate.late.load(Ordering::SeqCst), 0);
-    assert_eq!(rt; store.read(word_at(64), 1000), 42);
+    assert_eq!(rt; store.read(field(), 1000), 1000);
     Ok(())
 }

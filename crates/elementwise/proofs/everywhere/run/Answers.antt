@@ -28,7 +28,7 @@ returns-clause-whole g c =
     ran_whole (shapes_in c.args.store.now) instr c.args.args.now c.args.store.now.sets.items c.index_mut-set.result.now c.do_in_set.new.set c.from.result
     c.requires.can c.in-Some.ensures.0 c.requires.whole (run_set c.from.result c.in-Some.to.run c.deref.result.now plans instr c.from.ensures c.in-Some.ensures.1 c.deref.ensures.value)
     c.index_mut-set.ensures.value c.do_in_set.ensures.count
-    (subst (λ (ps : List SetPlan). Did ps instr c.args.args.now c.index_mut-set.result.now c.do_in_set.new.set) c.deref-2.ensures.value c.do_in_set.ensures.each) W.High
+    (subst (λ (ps : List SetPlan). Did ps instr c.args.args.now c.index_mut-set.result.now c.do_in_set.new.set) c.deref-3.ensures.value c.do_in_set.ensures.each) W.High
 
 pub returns-clause-room : goal.returns-clause-room
 returns-clause-room g c =
@@ -37,7 +37,7 @@ returns-clause-room g c =
     ran_room (shapes_in c.args.store.now) instr c.args.args.now c.args.store.now.sets.items c.index_mut-set.result.now c.do_in_set.new.set c.from.result
     c.requires.can c.in-Some.ensures.0 c.requires.whole (run_set c.from.result c.in-Some.to.run c.deref.result.now plans instr c.from.ensures c.in-Some.ensures.1 c.deref.ensures.value)
     c.index_mut-set.ensures.value c.do_in_set.ensures.count
-    (subst (λ (ps : List SetPlan). Did ps instr c.args.args.now c.index_mut-set.result.now c.do_in_set.new.set) c.deref-2.ensures.value c.do_in_set.ensures.each)
+    (subst (λ (ps : List SetPlan). Did ps instr c.args.args.now c.index_mut-set.result.now c.do_in_set.new.set) c.deref-3.ensures.value c.do_in_set.ensures.each)
     (length plans) (length c.args.store.now.room.cells.items) c.requires.room
 
 pub returns-clause-meaning : goal.returns-clause-meaning
@@ -47,7 +47,7 @@ returns-clause-meaning g c w =
     ran_means (shapes_in c.args.store.now) instr c.args.args.now c.args.store.now.sets.items c.index_mut-set.result.now c.do_in_set.new.set c.from.result
     c.requires.can c.in-Some.ensures.0 c.requires.whole (run_set c.from.result c.in-Some.to.run c.deref.result.now plans instr c.from.ensures c.in-Some.ensures.1 c.deref.ensures.value)
     c.index_mut-set.ensures.value c.do_in_set.ensures.count
-    (subst (λ (ps : List SetPlan). Did ps instr c.args.args.now c.index_mut-set.result.now c.do_in_set.new.set) c.deref-2.ensures.value c.do_in_set.ensures.each) w
+    (subst (λ (ps : List SetPlan). Did ps instr c.args.args.now c.index_mut-set.result.now c.do_in_set.new.set) c.deref-3.ensures.value c.do_in_set.ensures.each) w
 
 pub returns-in_default-clause-meaning : goal.returns-in_default-clause-meaning
 returns-in_default-clause-meaning g c w =

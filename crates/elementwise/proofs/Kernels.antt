@@ -1,0 +1,210 @@
+-- The kernels give what the instructions do.
+use Rattle.std.proofs.Common.{◌≡◌, ℕ, ◌+◌, ◌*◌, ◌-◌, ◌%◌, ◌^◌, ◌<◌, ◌≤◌, pos, neg_ℤ, Bool, true, false, ◌&&◌, eqb, List, length, Some, refl, sym, ◌∙◌, ap, subst, inl, inr, arith}
+use Rattle.std.specs.Prelude.{bit_and, not, slice_index, unwrap_or}
+use Rattle.std.specs.Int.{from_bool}
+use Rattle.std.proofs.lemmas.Nat.{pow_pos}
+use Rattle.std.proofs.Math.Nat.{mod-eq_of_lt}
+use Rattle.std.proofs.lemmas.Int.{ints}
+use Rattle.std.proofs.lemmas.Bool.{cases_eq}
+use Rattle.cstar_base.specs.Numbers.{residue, number_of}
+use Rattle.cstar_base.specs.Operators.{outcome}
+use Rattle.cstar_base.proofs.NumberLaws.{residue_is, residue_of_number}
+use Rattle.cstar_base.proofs.OperatorLaws.{sum_by_residues, difference_by_residues}
+use Rattle.bit_planes.specs.declared.plane.Plane.{Plane}
+use Rattle.bit_planes.specs.Bits.{bit}
+use Rattle.bit_planes.specs.Planes.{plane_at, number}
+use Rattle.bit_planes.proofs.Words.{bit-lt}
+use Rattle.lane_kernels.specs.declared.target.Target.{Target}
+use Rattle.lane_kernels.specs.declared.target.Operand.{Operand}
+use Rattle.lane_kernels.specs.declared.target.Operand.TheVariants as O
+use Rattle.lane_kernels.specs.Kernels.{operand_of, IsWithin}
+use Rattle.lane_kernels.proofs.Lifted.{operand_of-lt}
+use Rattle.paris_code.specs.declared.operands.Field.{Field}
+use Rattle.paris_code.specs.declared.instr.Instr.TheVariants as I
+use Rattle.paris_code.specs.declared.operands.Compare.{Compare}
+use Rattle.paris_code.specs.declared.operands.Compare.TheVariants as R
+use Rattle.paris_code.specs.declared.operands.Operation.{Operation}
+use Rattle.paris_code.specs.declared.operands.Operation.TheVariants as P
+use Rattle.paris_code.specs.declared.instr.Instr.{Instr}
+use Rattle.paris_code.specs.Elementwise.{destination, element, writes_always}
+use Rattle.paris_code.specs.Memory.{BitMemory, bit_run, field_number}
+use Rattle.paris_code.specs.Operators.{comparison_of, operator_of}
+use Rattle.paris_code.specs.RuleField.{Fits}
+use Rattle.paris_code.specs.RuleOperands.{IsWith}
+use Rattle.paris_code.specs.RuleSet.{FieldExists}
+use Rattle.paris_code.specs.Shapes.{SetShape, bits_at, extents_at}
+use Rattle.phase_meaning.specs.Apply.{CanApply, active_set}
+use Rattle.phase_meaning.proofs.RunBits.{run_number_one}
+use Rattle.block_store.specs.Phases.{LanesWritten, TakesLanes}
+use Rattle.block_store.proofs.Lanes.{run_is}
+use Rattle.elementwise.specs.declared.planar.Work.{Work}
+use Rattle.elementwise.specs.declared.planar.Work.TheVariants as K
+use Rattle.elementwise.specs.declared.planar.Planar.TheVariants as L
+use Rattle.elementwise.specs.declared.planar.Kernel.{Kernel}
+use Rattle.elementwise.specs.Blocks.{block_memory, DoneInBlock}
+use Rattle.elementwise.specs.declared.relations.Relation.{Relation}
+use Rattle.elementwise.specs.Relations.{relation_number, IsRelationOf}
+use Rattle.elementwise.specs.Planar.{gives_work, kernel_number, operation_of, two_operands, IsKernelOf}
+use Rattle.elementwise.proofs.Written.{given_lanes, given_words, taken}
+
+-- the length of the numbers
+abbrev pub width_of : List SetShape → Instr → ℕ
+width_of shapes instr = (destination shapes instr).len
+
+-- an operand lies in each block, and this is its number
+pub record Holds (shapes : List SetShape) (instr : Instr) (a : Operand) (x : BitMemory → ℕ → ℕ) : Type 0 where
+  pub within : (planes : List Plane) → bits_at shapes (active_set instr) + 2 ≤ length planes → IsWithin a (width_of shapes instr) planes
+  pub number : (planes : List Plane) (p : ℕ) → operand_of a planes (width_of shapes instr) (p % 512) ≡ x (block_memory planes) p
+
+pub of_field : (shapes : List SetShape) (instr : Instr) (f : Field) → f.len ≡ width_of shapes instr → f.offset + f.len ≤ bits_at shapes (active_set instr) + 2 → Holds shapes instr (O.Field f.offset) (λ m p. field_number m f p)
+unfolding field_number block_memory
+of_field shapes instr f e b = record {
+  within = λ planes h. omega (arith, b, h, e);
+  number = λ planes p. ap (λ n. number planes f.offset n (p % 512)) (sym e) ∙ run_is planes f.offset f.len (p % 512);
+}
+
+-- a field of the set of another one lies in the planes
+pub fits_with : (shapes : List SetShape) (d a : Field) → Fits shapes a → FieldExists shapes d → FieldExists shapes a → IsWith shapes d a → a.offset + a.len ≤ bits_at shapes d.set + 2
+fits_with shapes d a fits exists there with = omega (arith, (fits there).2, ap (bits_at shapes) (with exists there))
+
+pub of_constant : (shapes : List SetShape) (instr : Instr) (k : ℕ) → Holds shapes instr (O.Constant k) (λ m p. k % 2 ^ width_of shapes instr)
+of_constant shapes instr k = record { within = λ planes h. tt; number = λ planes p. refl }
+
+pub kernel_is : (shapes : List SetShape) (instr : Instr) (args : List ℕ) (op : Work) (a b : Operand) (x y : BitMemory → ℕ → ℕ) → Holds shapes instr a x → Holds shapes instr b y
+    → ((planes : List Plane) (p : ℕ) → x (block_memory planes) p < 2 ^ width_of shapes instr → y (block_memory planes) p < 2 ^ width_of shapes instr
+    → gives_work op (width_of shapes instr) (x (block_memory planes) p) (y (block_memory planes) p) % 2 ^ width_of shapes instr ≡ element shapes instr args (block_memory planes) p % 2 ^ width_of shapes instr)
+    → IsKernelOf shapes instr args (two_operands op a b)
+kernel_is shapes instr args op a b x y first second same = record {
+  a = first.within;
+  b = second.within;
+  same = λ planes p.
+      let n : ℕ = width_of shapes instr in
+      let u : ℕ = operand_of a planes n (p % 512) in
+      let v : ℕ = operand_of b planes n (p % 512) in
+      let m : BitMemory = block_memory planes in
+      ap (λ k. gives_work op n k v % 2 ^ n) (first.number planes p) ∙ ap (λ k. gives_work op n (x m p) k % 2 ^ n) (second.number planes p)
+      ∙ same planes p (subst (λ k. k < 2 ^ n) (first.number planes p) (operand_of-lt a planes n (p % 512))) (subst (λ k. k < 2 ^ n) (second.number planes p) (operand_of-lt b planes n (p % 512)));
+}
+
+-- what a move of a number of the same length gives
+pub moved_is : (n len : ℕ) (signed : Bool) (x : ℕ) → len ≡ n → x < 2 ^ n → x % 2 ^ n ≡ residue n (number_of len signed x) % 2 ^ n
+moved_is n len signed x e b = ap (λ k. k % 2 ^ n) (sym (residue_of_number n signed x b) ∙ ap (λ l. residue n (number_of l signed x)) (sym e))
+
+pub negative_is : (n x : ℕ) → x < 2 ^ n → (2 ^ n - x) % 2 ^ n % 2 ^ n ≡ residue n (neg_ℤ (pos x)) % 2 ^ n
+negative_is n x b = ap (λ k. k % 2 ^ n) (sym (residue_is n (neg_ℤ (pos x)) 1 (2 ^ n - x) (omega (arith, ints, b))))
+
+-- the operations
+at_operation : (w : Work) (n x y : ℕ) (known op : Operation) → Some known ≡ Some op → gives_work w n x y ≡ outcome (operator_of known).0 n (operator_of known).1 x y
+    → gives_work w n x y ≡ outcome (operator_of op).0 n (operator_of op).1 x y
+at_operation w n x y known op e is = subst (λ q. gives_work w n x y ≡ outcome (operator_of q).0 n (operator_of q).1 x y) (ap (λ q. unwrap_or q known) e) is
+
+pub operation_is : (w : Work) (op : Operation) (n x y : ℕ) → operation_of w ≡ Some op → y < 2 ^ n → gives_work w n x y ≡ outcome (operator_of op).0 n (operator_of op).1 x y
+unfolding outcome
+operation_is (K.Planes L.Add) op n x y e b = at_operation (K.Planes L.Add) n x y P.SAdd op e (sym (sum_by_residues n false x y))
+operation_is (K.Planes L.Subtract) op n x y e b = at_operation (K.Planes L.Subtract) n x y P.SSubtract op e (sym (difference_by_residues n false x y (omega (arith, b))))
+operation_is (K.Planes L.And) op n x y e b = at_operation (K.Planes L.And) n x y P.Logand op e refl
+operation_is (K.Planes L.Or) op n x y e b = at_operation (K.Planes L.Or) n x y P.Logior op e refl
+operation_is (K.Planes L.Xor) op n x y e b = at_operation (K.Planes L.Xor) n x y P.Logxor op e refl
+operation_is (K.Planes _) op n x y e b = cc
+operation_is (K.Values o) op n x y e b = at_operation (K.Values o) n x y o op e refl
+
+-- flags
+flag_bit : (planes : List Plane) (set i p : ℕ) → field_number (block_memory planes) (bit_run set i) p ≡ bit (plane_at planes i) (p % 512)
+unfolding field_number block_memory
+flag_bit planes set i p = run_number_one (λ j. bit (plane_at planes j) (p % 512)) i
+
+from_bit : (b : ℕ) → b < 2 → b ≡ from_bool (eqb b 1)
+from_bit b h = elim (cases_eq b 0) [
+  | inl e ↦ subst (λ c. c ≡ from_bool (eqb c 1)) (sym e) refl
+  | inr n ↦ (let one : b ≡ 1 = omega (arith, h, n) in subst (λ c. c ≡ from_bool (eqb c 1)) (sym one) refl)
+]
+
+pub flag_is : (planes : List Plane) (set i p : ℕ) → field_number (block_memory planes) (bit_run set i) p ≡ from_bool (eqb ((block_memory planes).bit set p i) 1)
+unfolding block_memory
+flag_is planes set i p = flag_bit planes set i p ∙ from_bit (bit (plane_at planes i) (p % 512)) (bit-lt (plane_at planes i) (p % 512))
+
+both_bits : (s t : Bool) → bit_and (from_bool s) (from_bool t) ≡ from_bool (s && t)
+both_bits true true = refl
+both_bits true false = refl
+both_bits false true = refl
+both_bits false false = refl
+
+pub flags_are : (planes : List Plane) (set i j p : ℕ)
+    → bit_and (field_number (block_memory planes) (bit_run set i) p) (field_number (block_memory planes) (bit_run set j) p)
+    ≡ from_bool (eqb ((block_memory planes).bit set p i) 1 && eqb ((block_memory planes).bit set p j) 1)
+flags_are planes set i j p =
+    ap (λ k. bit_and k (field_number (block_memory planes) (bit_run set j) p)) (flag_is planes set i p)
+    ∙ ap (λ k. bit_and (from_bool (eqb ((block_memory planes).bit set p i) 1)) k) (flag_is planes set j p)
+    ∙ both_bits (eqb ((block_memory planes).bit set p i) 1) (eqb ((block_memory planes).bit set p j) 1)
+
+-- the kernel of an instruction that is this one
+pub of : (shapes : List SetShape) (args : List ℕ) (kernel known : Kernel) (instr is : Instr) → kernel ≡ known → instr ≡ is → CanApply shapes instr args → (CanApply shapes is args → IsKernelOf shapes is args known) → IsKernelOf shapes instr args kernel
+of shapes args kernel known instr is k e can gives_it =
+    subst (λ (q : Kernel). IsKernelOf shapes instr args q) (sym k) (subst (λ i. IsKernelOf shapes i args known) (sym e) (gives_it (subst (λ i. CanApply shapes i args) e can)))
+
+-- a block in which the kernel has worked
+pub kernel_done : (shapes : List SetShape) (instr : Instr) (args : List ℕ) (k : ℕ) (kernel : Kernel) (run : Field) (always : Bool) (extents : List ℕ) (bits : ℕ) (to : Target) (mask : List ℕ) (old new : List Plane)
+    → run ≡ destination shapes instr → always ≡ writes_always instr → extents ≡ extents_at shapes run.set → bits ≡ bits_at shapes run.set
+    → to.offset ≡ run.offset → to.len ≡ run.len → to.lanes ≡ mask
+    → LanesWritten to.offset to.len to.lanes (kernel_number kernel old to.len) old new → TakesLanes extents k always (plane_at old bits) mask → IsKernelOf shapes instr args kernel → DoneInBlock shapes instr args k old new
+kernel_done shapes instr args k kernel run always extents bits to mask old new is at ge be offset len lanes done takes does =
+    let n : ℕ = width_of shapes instr in
+    given_lanes shapes instr args k always mask (kernel_number kernel old n) old new at
+    (subst (λ (r : Field). LanesWritten r.offset r.len mask (kernel_number kernel old r.len) old new) is
+    (subst (λ (x : List ℕ). LanesWritten run.offset run.len x (kernel_number kernel old run.len) old new) lanes
+    (subst (λ l. LanesWritten run.offset l to.lanes (kernel_number kernel old l) old new) len (subst (λ o. LanesWritten o to.len to.lanes (kernel_number kernel old to.len) old new) offset done))))
+    (taken shapes k run (destination shapes instr) always extents bits mask old is ge be takes)
+    (λ i b within. ap (λ j. kernel_number kernel old n j % 2 ^ n) (let e : i ≡ (512 * k + i) % 512 = omega (arith, b) in e) ∙ does.same old (512 * k + i))
+
+-- a block in which the relation stands
+pub relation_done : (shapes : List SetShape) (instr : Instr) (args : List ℕ) (k : ℕ) (r : Relation) (run : Field) (always : Bool) (extents : List ℕ) (bits : ℕ) (mask words : List ℕ) (old new : List Plane)
+    → run ≡ destination shapes instr → always ≡ writes_always instr → extents ≡ extents_at shapes run.set → bits ≡ bits_at shapes run.set
+    → LanesWritten run.offset run.len mask (λ i. slice_index words i % 2 ^ run.len) old new → TakesLanes extents k always (plane_at old bits) mask
+    → ((i : ℕ) → i < 512 → slice_index words i ≡ relation_number r old i) → IsRelationOf shapes instr args r → DoneInBlock shapes instr args k old new
+relation_done shapes instr args k r run always extents bits mask words old new is at ge be done takes has does =
+    given_words shapes instr args k run always extents bits mask words old new is at ge be done takes
+    (λ i b within. ap (λ n. n % 2 ^ width_of shapes instr)
+    (has i b ∙ ap (relation_number r old) (let e : i ≡ (512 * k + i) % 512 = omega (arith, b) in e) ∙ does.same old (512 * k + i)))
+
+-- the relations of an instruction
+field_number_is : (planes : List Plane) (f : Field) (p : ℕ) → number planes f.offset f.len (p % 512) ≡ field_number (block_memory planes) f p
+unfolding field_number block_memory
+field_number_is planes f p = run_is planes f.offset f.len (p % 512)
+
+pub compares : (shapes : List SetShape) (args : List ℕ) (relation : Compare) (a b : Field) → CanApply shapes (I.Compare relation a b) args
+    → IsRelationOf shapes (I.Compare relation a b) args (record { relation = relation; len = a.len; a = O.Field a.offset; b = O.Field b.offset })
+compares shapes args relation a b can =
+    let same : b.len ≡ a.len = can.field.1.1 can.set.1 can.set.0 in
+    let fits : b.offset + b.len ≤ bits_at shapes a.set + 2 = fits_with shapes a b can.field.1.0 can.set.0 can.set.1 can.operands in
+    let c = comparison_of relation in record {
+      len = ((can.field.0 can.set.0).0, (can.field.0 can.set.0).1);
+      a = λ planes h. omega (arith, h, (can.field.0 can.set.0).2);
+      b = λ planes h. omega (arith, h, fits, same);
+      same = λ planes p.
+          ap (λ x. outcome c.0 a.len c.1 x (number planes b.offset a.len (p % 512))) (field_number_is planes a p)
+          ∙ ap (λ y. outcome c.0 a.len c.1 (field_number (block_memory planes) a p) y) (ap (λ n. number planes b.offset n (p % 512)) (sym same) ∙ field_number_is planes b p);
+    }
+
+pub equals_zero : (shapes : List SetShape) (args : List ℕ) (a : Field) → CanApply shapes (I.EqZero a) args
+    → IsRelationOf shapes (I.EqZero a) args (record { relation = R.UEq; len = a.len; a = O.Field a.offset; b = O.Constant 0 })
+unfolding outcome
+equals_zero shapes args a can = record {
+  len = ((can.field can.set).0, (can.field can.set).1);
+  a = λ planes h. omega (arith, h, (can.field can.set).2);
+  b = λ planes h. tt;
+  same = λ planes p. ap (λ x. from_bool (eqb x (0 % 2 ^ a.len))) (field_number_is planes a p) ∙ ap (λ z. from_bool (eqb (field_number (block_memory planes) a p) z)) (mod-eq_of_lt (pow_pos a.len));
+}
+
+pub differs_from_zero : (shapes : List SetShape) (args : List ℕ) (a : Field) → CanApply shapes (I.NeZero a) args
+    → IsRelationOf shapes (I.NeZero a) args (record { relation = R.UNe; len = a.len; a = O.Field a.offset; b = O.Constant 0 })
+unfolding outcome
+differs_from_zero shapes args a can = record {
+  len = ((can.field can.set).0, (can.field can.set).1);
+  a = λ planes h. omega (arith, h, (can.field can.set).2);
+  b = λ planes h. tt;
+  same = λ planes p. ap (λ x. from_bool (not (eqb x (0 % 2 ^ a.len)))) (field_number_is planes a p) ∙ ap (λ z. from_bool (not (eqb (field_number (block_memory planes) a p) z))) (mod-eq_of_lt (pow_pos a.len));
+}
+
+-- the relation of an instruction that is this one
+pub relation_at : (shapes : List SetShape) (args : List ℕ) (r : Relation) (instr is : Instr) → instr ≡ is → CanApply shapes instr args → (CanApply shapes is args → IsRelationOf shapes is args r) → IsRelationOf shapes instr args r
+relation_at shapes args r instr is e can gives_it = subst (λ i. IsRelationOf shapes i args r) (sym e) (gives_it (subst (λ i. CanApply shapes i args) e can))
