@@ -46,6 +46,12 @@ pub record Taken (extents : List ℕ) (context : ℕ) (taking : Taking) (cells :
   pub lanes : TakesLanes extents k taking.always (plane_at old context) mask
   pub written : LanesWritten taking.dest.offset taking.dest.len mask (λ i. word_or_zero cells count (place extents taking.origin old k i) % 2 ^ taking.dest.len) old new
 
+-- the NEWS shifts
+abbrev pub is_news : Instr → Bool
+is_news (I.GetFromNews d a axis k) = true
+is_news (I.GetFromNewsAlways d a axis k) = true
+is_news _ = false
+
 -- the gets, the NEWS shifts, and the reads and writes of one processor
 abbrev pub is_fetching : Instr → Bool
 is_fetching (I.GetFromNews d a axis k) = true

@@ -5,7 +5,7 @@ ghost use Rattle.cstar_base.specs.declared.operators.Winner.{Winner};
 ghost use Rattle.paris_code.specs.Meaning.{Means};
 ghost use Rattle.phase_meaning.specs.Apply.{CanApply, ReplyFits};
 ghost use Rattle.block_store.specs.Stored.{shapes_in, memory_in, IsWhole, HasRoom};
-ghost use Rattle.news_grid.specs.Places.{is_fetching};
+ghost use Rattle.news_grid.specs.Places.{is_fetching, is_news};
 
 use crate::fetch::{gather, shift};
 use crate::one::{read_one, write_one};
@@ -15,25 +15,25 @@ use paris_code::{Instr, Reply};
 use phase_meaning::konst;
 use std::thread::Threads;
 
-/// Does an instruction that fetches, by so many workers.
-pub fn run<R: Threads + Sync, G: Gate + Sync>(
+/// Does a NEWS shift.
+fn step<R: Threads + Sync, G: Gate + Sync>(
     rt: &R,
     store: &mut Store,
     instr: &Instr,
     args: &[u32],
     workers: u32,
     gate: &G,
-) -> Reply
+)
     requires whole { IsWhole store.old }
     requires room { HasRoom store.old }
     requires can { CanApply (shapes_in store.old) instr.now args.now }
-    requires fetching { is_fetching instr.now ≡ true }
+    requires news { is_news instr.now ≡ true }
     requires workers { (1 ≤ workers) × (workers ≤ 64) }
     ensures whole { IsWhole store.new }
     ensures room { HasRoom store.new }
     ensures shapes { shapes_in store.new ≡ shapes_in store.old }
-    ensures fits { ReplyFits instr.now result }
-    ensures meaning { (w : Winner) → Means (shapes_in store.old) instr.now args.now (memory_in store.old w) (memory_in store.new w) result }
+    ensures fits { ReplyFits instr.now Reply.Nothing }
+    ensures meaning { (w : Winner) → Means (shapes_in store.old) instr.now args.now (memory_in store.old w) (memory_in store.new w) Reply.Nothing }
 {
     match instr {
         Instr::GetFromNews {
@@ -72,6 +72,31 @@ pub fn run<R: Threads + Sync, G: Gate + Sync>(
                 gate,
             );
         }
+        _ => {}
+    }
+}
+
+/// Does an instruction that fetches, by so many workers.
+pub fn run<R: Threads + Sync, G: Gate + Sync>(
+    rt: &R,
+    store: &mut Store,
+    instr: &Instr,
+    args: &[u32],
+    workers: u32,
+    gate: &G,
+) -> Reply
+    requires whole { IsWhole store.old }
+    requires room { HasRoom store.old }
+    requires can { CanApply (shapes_in store.old) instr.now args.now }
+    requires fetching { is_fetching instr.now ≡ true }
+    requires workers { (1 ≤ workers) × (workers ≤ 64) }
+    ensures whole { IsWhole store.new }
+    ensures room { HasRoom store.new }
+    ensures shapes { shapes_in store.new ≡ shapes_in store.old }
+    ensures fits { ReplyFits instr.now result }
+    ensures meaning { (w : Winner) → Means (shapes_in store.old) instr.now args.now (memory_in store.old w) (memory_in store.new w) result }
+{
+    match instr {
         Instr::Get {
             dest,
             address,
@@ -85,7 +110,7 @@ pub fn run<R: Threads + Sync, G: Gate + Sync>(
         Instr::WriteToProcessor { dest, value, .. } => {
             write_one(store, *dest, args[0], konst(*value, &args[1..]));
         }
-        _ => {}
+        _ => step(rt, store, instr, args, workers, gate),
     }
     Reply::Nothing
 }
