@@ -13,7 +13,7 @@ use Rattle.paris_code.specs.Meaning.{bad_or_nothing, reply_of}
 use Rattle.paris_code.specs.Memory.{BitMemory, is_active, processors}
 use Rattle.paris_code.specs.Shapes.{SetShape, bits_at, extents_at}
 use Rattle.phase_meaning.specs.Apply.{CanApply, is_check}
-use Rattle.phase_meaning.proofs.Checked.{fails_same}
+use Rattle.phase_elements.proofs.Checked.{fails_same}
 use Rattle.phase_meaning.proofs.FieldLemmas.{own_exists}
 use Rattle.phase_meaning.proofs.Locality.{AgreeAt, active_same}
 use Rattle.phase_meaning.proofs.Rising.{least_none, least_some}

@@ -19,7 +19,7 @@ use bit_planes::Block;
 use block_store::{BlockSet, Cell, Room, SetPlan, Store};
 use cstar_io::Gate;
 use paris_code::{Instr, Reply};
-use phase_meaning::{Readable, checked_set, fails};
+use phase_elements::{Readable, checked_set, fails};
 use std::thread;
 use std::thread::Threads;
 

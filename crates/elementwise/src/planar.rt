@@ -14,7 +14,7 @@ use bit_planes::Plane;
 use block_store::SetPlan;
 use lane_kernels::{Operand, Target, in_place};
 use paris_code::{Instr, Operation};
-use phase_meaning::konst;
+use phase_elements::konst;
 
 /// An operation that is done plane by plane.
 #[derive(Clone, Copy)]

@@ -12,7 +12,7 @@ use crate::one::{read_one, write_one};
 use block_store::Store;
 use cstar_io::Gate;
 use paris_code::{Instr, Reply};
-use phase_meaning::konst;
+use phase_elements::konst;
 use std::thread::Threads;
 
 /// Does a NEWS shift.
