@@ -9,10 +9,10 @@ ghost use Rattle.vp_sets.specs.Positions.{position_count};
 ghost use Rattle.phase_meaning.specs.Apply.{CanApply, IsPosition};
 ghost use Rattle.phase_elements.specs.Reads.{IsCoordinateIn};
 
-use phase_meaning::arith::{signed, whole};
 use crate::operands::{behind, behind_step, next};
 use crate::reading::{Readable, field, word};
 use paris_code::{Coordinate, GridStep, Instr, Konst, SignedCoordinate};
+use phase_meaning::arith::{signed, whole};
 use vp_sets::Geometry;
 
 /// Whether a whole number is no coordinate of an axis with this extent.

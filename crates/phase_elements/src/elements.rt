@@ -7,10 +7,10 @@ ghost use Rattle.paris_code.specs.Elementwise.{element, destination};
 ghost use Rattle.phase_meaning.specs.Apply.{CanApply, IsPosition, active_set};
 ghost use Rattle.phase_elements.specs.Reads.{IsCoordinateIn};
 
-use phase_meaning::arith::{holds, mask, operate};
 use crate::operands::{behind, konst, next};
 use crate::reading::{Readable, field, word};
 use paris_code::{Coordinate, Instr};
+use phase_meaning::arith::{holds, mask, operate};
 
 /// A coordinate of an address at a processor; a register's is the next argument.
 fn coordinate<M: Readable>(m: &M, coordinate: Coordinate, args: &[u32], position: u32) -> u32

@@ -6,8 +6,8 @@ ghost use Rattle.paris_code.specs.Memory.{BitMemory, field_number, whole_number,
 ghost use Rattle.paris_code.specs.Shapes.{SetShape, extents_at};
 ghost use Rattle.phase_meaning.specs.Apply.{IsRun, LiesIn};
 
-use phase_meaning::arith::extended;
 use paris_code::Field;
+use phase_meaning::arith::extended;
 use vp_sets::Geometry;
 
 /// Of some processors of a machine the bits can be read.
