@@ -1,8 +1,7 @@
 //! The lines of a grid, and a scan along them.
 
-ghost use Rattle.std.specs.Prelude.{◌≡◌, ℕ, suc, true, ◌<◌, ◌≤◌, ◌+◌, ◌*◌, ◌^◌, drop, length, slice_index};
+ghost use Rattle.std.specs.Prelude.{◌≡◌, ◌<◌, ◌*◌, length};
 ghost use Rattle.vp_sets.specs.Lines.{steps_before};
-ghost use Rattle.vp_sets.specs.Positions.{position_count, are_positive};
 ghost use Rattle.reduce_scan.specs.Order.{position_at, place_at};
 ghost use Rattle.reduce_scan.specs.Parts.{AreLines};
 ghost use Rattle.reduce_scan.specs.Along.{scan_over, lines_of};
@@ -55,19 +54,6 @@ fn steps_before(direction: Direction, extent: u32, k: u32) -> u32
     }
 }
 
-/// The product of so many extents.
-fn product(extents: &[u32]) -> u32
-    requires positive { are_positive extents.now ≡ true }
-    requires bound { position_count extents.now ≤ 2 ^ 20 }
-    ensures { result ≡ position_count extents.now }
-{
-    let mut count = 1;
-    'extents: for extent in extents {
-        count *= *extent;
-    }
-    count
-}
-
 impl AxisScan {
     /// The scan over a set with its context flag at this bit.
     pub(crate) fn over(&self, context: u32) -> Scan
@@ -94,7 +80,7 @@ impl Lines {
         Lines {
             direction,
             extent: geometry.extent(axis),
-            apart: product(&geometry.extents()[axis as usize + 1..]),
+            apart: geometry.stride(axis),
             positions: geometry.positions(),
         }
     }

@@ -4,6 +4,7 @@ use Rattle.std.specs.declared.alloc.Global.{Global}
 use Rattle.std.specs.Int.{from_bool}
 use Rattle.std.proofs.lemmas.Bool.{eqb-true}
 use Rattle.cstar_base.specs.declared.elem.Elem.{Elem}
+use Rattle.cstar_base.specs.declared.faults.RunFault.TheVariants.{DivZero}
 use Rattle.cstar_base.specs.declared.operators.Op.{Op}
 use Rattle.cstar_base.specs.declared.operators.Place.{Place}
 use Rattle.cstar_base.specs.Numbers.{converted}
@@ -17,7 +18,7 @@ use Rattle.cstar_tree.specs.Typed.{type_of}
 use Rattle.source_meaning.specs.Constants.{fits, is_constant, IsConstantOf, Means, IsValueOf, then_value, value_of}
 use Rattle.source_meaning.specs.Expressions.{evaluated, operated, mapped}
 use Rattle.source_meaning.specs.Narrowing.{and_then, or_then, choose}
-use Rattle.source_meaning.specs.State.{State, Outcome, Gives, DivZero, then_do}
+use Rattle.source_meaning.specs.State.{State, Outcome, Gives, then_do}
 use Rattle.source_meaning.specs.Values.{Value, Scalar, Active, Scope, nonzero, at, number, each, failing, unless, convert_to, cast_type, cast_through, unary_of}
 
 -- the parts of a conjunction

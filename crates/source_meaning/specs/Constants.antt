@@ -1,6 +1,7 @@
 -- Constant expressions: which there are, and what their values are.
 use Rattle.std.specs.Prelude.{◌≡◌, ℕ, pos, Bool, true, false, not, ◌==◌, ◌&&◌, ◌⊎◌, if◌then◌else◌, Option, Some, None, is_none}
 use Rattle.std.specs.Int.{from_bool}
+use Rattle.cstar_base.specs.declared.faults.RunFault.TheVariants.{DivZero}
 use Rattle.cstar_base.specs.declared.operators.Place.{Place}
 use Rattle.cstar_base.specs.Numbers.{residue, converted}
 use Rattle.cstar_base.specs.Operators.{operate}
@@ -9,7 +10,7 @@ use Rattle.cstar_tree.specs.declared.typed.TExpr as T
 use Rattle.cstar_tree.specs.declared.typed.ValueType.{ValueType}
 use Rattle.cstar_tree.specs.Typed.{type_of}
 use Rattle.source_meaning.specs.Expressions.{evaluated}
-use Rattle.source_meaning.specs.State.{State, Outcome, Gives, Ends, Fault, DivZero}
+use Rattle.source_meaning.specs.State.{State, Outcome, Gives, Ends, Fault}
 use Rattle.source_meaning.specs.Values.{Value, Scalar, Active, Scope, nonzero, cast_type, cast_through, unary_of}
 
 -- is the number one of its type

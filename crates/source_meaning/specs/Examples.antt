@@ -3,6 +3,7 @@ use Rattle.std.specs.Prelude.{◌≡◌, ℕ, false, ◌<◌, ◌-◌, ◌^◌, 
 use Rattle.std.specs.declared.alloc.Global.{Global}
 use Rattle.std.proofs.Common.{lit<, le_refl}
 use denote.RawPtr.{null_ptr}
+use Rattle.cstar_base.specs.declared.faults.RunFault.TheVariants.{Index, DivZero}
 use Rattle.cstar_base.specs.declared.operators.Combiner.TheVariants as C
 use Rattle.cstar_base.specs.declared.operators.Direction.TheVariants as D
 use Rattle.cstar_base.specs.declared.operators.Inclusion.TheVariants as N
@@ -27,7 +28,7 @@ use Rattle.cstar_tree.specs.declared.typed.VarInfo.{VarInfo}
 use Rattle.cstar_tree.specs.declared.typed.Variable.TheVariants as V
 use Rattle.source_meaning.specs.Programs.{Run, meaning, Done, EndsEarly}
 use Rattle.source_meaning.specs.Reductions.{int_type}
-use Rattle.source_meaning.specs.State.{InputEnds, InputFails, Fault, Index, DivZero, Stopped, InputBroken}
+use Rattle.source_meaning.specs.State.{InputEnds, InputFails, Fault, Stopped, InputBroken}
 
 -- types: `int`, `int:S` and `bool:S`
 abbrev pub number : ValueType

@@ -2,6 +2,7 @@
 -- Operands are evaluated from left to right. The active sets are not part of the state, so each
 -- part of an expression leaves them as they were.
 use Rattle.std.specs.Prelude.{ℕ, Bool, not, ◌==◌, ◌&&◌, ◌-◌, ◌^◌, List, [], ◌∷◌, map, Option, Some, None}
+use Rattle.cstar_base.specs.declared.faults.RunFault.TheVariants.{DivZero}
 use Rattle.cstar_base.specs.declared.operators.Combiner.{Combiner}
 use Rattle.cstar_base.specs.declared.operators.Combiner.TheVariants as C
 use Rattle.cstar_base.specs.declared.operators.Direction.{Direction}
@@ -21,7 +22,7 @@ use Rattle.source_meaning.specs.Narrowing.{and_then, or_then, choose}
 use Rattle.source_meaning.specs.Printing.{printed}
 use Rattle.source_meaning.specs.Reductions.{reduced}
 use Rattle.source_meaning.specs.Scans.{Scan, bit_at, scanned}
-use Rattle.source_meaning.specs.State.{State, Outcome, Gives, Ends, InputBroken, InputEnds, InputFails, DivZero, then_do, with_output}
+use Rattle.source_meaning.specs.State.{State, Outcome, Gives, Ends, InputBroken, InputEnds, InputFails, then_do, with_output}
 use Rattle.source_meaning.specs.Targets.{Target, NoTarget, variable_target, element_target, indexed_target, read, assigned, stepped}
 use Rattle.source_meaning.specs.Values.{Value, Scalar, Parallel, Nothing, number, at, each, Active, Scope, positions, failing, unless, convert_to, cast_through, unary_of, own_coordinate}
 

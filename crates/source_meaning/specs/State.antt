@@ -1,5 +1,6 @@
 -- The state of a run, and how a part of a run ends.
 use Rattle.std.specs.Prelude.{ℕ, zero, suc, Bool, false, ◌+◌, ◌==◌, ◌&&◌, nat_le, nat_lt, if◌then◌else◌, List, ◌++◌, Option}
+use Rattle.cstar_base.specs.declared.faults.RunFault.{RunFault}
 use Rattle.cstar_base.specs.declared.operators.Place.{Place}
 use Rattle.cstar_base.specs.declared.operators.Winner.{Winner}
 use Rattle.cstar_tree.specs.declared.typed.Variable.{Variable}
@@ -23,15 +24,10 @@ pub record State : Type 0 where
   pub rest : Rest
   pub winner : Winner
 
--- which operation failed: an index outside its extent, or a division by 0
-pub data Cause : Type 0 where
-  Index : Cause
-  DivZero : Cause
-
 -- Why a run ends before the end of `main`: a fault with its place and, in a parallel operation, the
 -- least position; a turn that was due and not left; an input that failed.
 pub data Early : Type 0 where
-  Fault : Cause → Place → Option ℕ → Early
+  Fault : RunFault → Place → Option ℕ → Early
   Stopped : Early
   InputBroken : Early
 

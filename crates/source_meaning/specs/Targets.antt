@@ -1,5 +1,6 @@
 -- The targets of assignments, what is read from them and what is stored in them.
 use Rattle.std.specs.Prelude.{ℕ, ◌==◌, not, Option, Some, None, List, ◌∷◌, []}
+use Rattle.cstar_base.specs.declared.faults.RunFault.TheVariants.{Index, DivZero}
 use Rattle.cstar_base.specs.declared.operators.Place.{Place}
 use Rattle.cstar_tree.specs.declared.syntax.AssignOp.{AssignOp}
 use Rattle.cstar_tree.specs.declared.syntax.AssignOp.TheVariants as A
@@ -12,7 +13,7 @@ use Rattle.cstar_tree.specs.declared.typed.Variable.{Variable}
 use Rattle.source_meaning.specs.Gets.{Operand, index_at, is_within, are_within, named_by, gotten}
 use Rattle.source_meaning.specs.Reductions.{promoted, updated, folded_into, divides_by_zero}
 use Rattle.source_meaning.specs.Sends.{Send, sent}
-use Rattle.source_meaning.specs.State.{State, Outcome, Gives, then_do, with_scalar, with_positions, Index, DivZero}
+use Rattle.source_meaning.specs.State.{State, Outcome, Gives, then_do, with_scalar, with_positions}
 use Rattle.source_meaning.specs.Values.{Value, Scalar, Parallel, Nothing, number, at, each, Active, Scope, positions, failing, unless}
 
 -- What an assignment stores in: a scalar variable; an element of a parallel variable of a shape, at

@@ -3,6 +3,7 @@ use Rattle.std.specs.Prelude.{ℕ, Bool, true, not, ◌==◌, ◌&&◌, ◌-◌,
 use Rattle.std.specs.Int.{from_bool}
 use Rattle.vp_sets.specs.Positions.{position_count, coordinate}
 use Rattle.cstar_base.specs.declared.elem.Elem.{Elem}
+use Rattle.cstar_base.specs.declared.faults.RunFault.{RunFault}
 use Rattle.cstar_base.specs.declared.operators.Place.{Place}
 use Rattle.cstar_base.specs.Numbers.{converted}
 use Rattle.cstar_base.specs.Operators.{difference_of}
@@ -11,7 +12,7 @@ use Rattle.cstar_tree.specs.declared.typed.UnaryOp.TheVariants as U
 use Rattle.cstar_tree.specs.declared.typed.ValueType.{ValueType}
 use Rattle.cstar_tree.specs.declared.typed.Variable.{Variable}
 use Rattle.cstar_base.specs.Orders.{least_below}
-use Rattle.source_meaning.specs.State.{State, Outcome, Ends, Cause, Fault}
+use Rattle.source_meaning.specs.State.{State, Outcome, Ends, Fault}
 
 -- the value of an expression: a number, a number for each active position, or no value
 pub data Value : Type 0 where
@@ -61,9 +62,9 @@ failing scope active None fails = if fails 0 then Some None else None
 failing scope active (Some s) fails = elim (least_below (λ p. active s p && fails p) (positions scope s)) [ None ↦ None | Some p ↦ Some (Some p) ]
 
 -- a fault where an operation fails, and else what it gives
-unfoldable pub unless : {A : Type 0} → Option (Option ℕ) → Cause → Place → State → Outcome A → Outcome A
-unless None cause place st good = good
-unless (Some position) cause place st good = Ends (Fault cause place position) st
+unfoldable pub unless : {A : Type 0} → Option (Option ℕ) → RunFault → Place → State → Outcome A → Outcome A
+unless None fault place st good = good
+unless (Some position) fault place st good = Ends (Fault fault place position) st
 
 -- a value converted from one element type to the type of the whole
 unfoldable pub convert_to : ValueType → Elem → Value → Value

@@ -174,8 +174,8 @@ impl Geometry {
         product(self.extents())
     }
 
-    /// How far apart the numbers of neighbours along an axis are.
-    fn stride(&self, axis: u32) -> u32
+    /// How far apart the numbers of neighbours along an axis are: the product of the extents behind it.
+    pub fn stride(&self, axis: u32) -> u32
         requires { axis < length self.now }
         ensures value { result ≡ position_count (drop (suc axis) self.now) }
         ensures positive { 0 < result }
