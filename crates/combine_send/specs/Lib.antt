@@ -1,0 +1,5 @@
+pub mod Back
+pub mod Boards
+pub mod Sends
+pub mod Senders
+pub mod Slots
