@@ -2,6 +2,7 @@
 use Rattle.std.specs.Prelude.{◌≡◌, List, Option, Some, None}
 use Rattle.paris_code.specs.declared.instr.Instr.{Instr}
 use Rattle.paris_code.specs.declared.instr.Instr.TheVariants as I
+use Rattle.paris_code.specs.declared.operands.Reduction.{Reduction}
 use Rattle.paris_code.specs.Memory.{BitMemory}
 use Rattle.paris_code.specs.Sending.{overwriting, combining}
 use Rattle.paris_code.specs.Shapes.{SetShape}
@@ -21,6 +22,9 @@ SendFits shapes send =
     × (send.dest.len ≡ send.kind.bits) × (send.source.set ≡ send.address.set)
 
 -- what a send writes
+abbrev pub sent_by : List SetShape → BitMemory → Send → Option Reduction → Write
+sent_by shapes m send None = overwriting shapes m send.dest send.address send.source
+sent_by shapes m send (Some c) = combining shapes m c send.dest send.kind send.address send.source
+
 abbrev pub sent : List SetShape → BitMemory → Send → Write
-sent shapes m (record { dest = d; kind = kind; address = address; source = a; combiner = None }) = overwriting shapes m d address a
-sent shapes m (record { dest = d; kind = kind; address = address; source = a; combiner = Some c }) = combining shapes m c d kind address a
+sent shapes m send = sent_by shapes m send send.combiner

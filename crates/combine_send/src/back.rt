@@ -1,6 +1,6 @@
 //! The words of a send go into its destination.
 
-ghost use Rattle.std.specs.Prelude.{◌≡◌, ℕ, ◌<◌, ◌≤◌, ◌+◌, ◌^◌, length, slice_index, slice_index_or};
+ghost use Rattle.std.specs.Prelude.{◌≡◌, ℕ, ◌<◌, ◌≤◌, ◌+◌, ◌*◌, ◌^◌, length, slice_index, slice_index_or};
 ghost use Rattle.cstar_base.specs.Numbers.{converted};
 ghost use Rattle.cstar_base.specs.declared.operators.Winner.{Winner};
 ghost use Rattle.vp_sets.specs.Blocks.{block_count};

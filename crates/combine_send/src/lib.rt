@@ -4,6 +4,7 @@
 mod back;
 mod home;
 mod instruction;
+mod loaded;
 mod ready;
 mod send;
 mod senders;
@@ -11,5 +12,6 @@ mod slots;
 
 pub use back::write_back;
 pub use instruction::run;
-pub use ready::{Loaded, Ready, go, prepare};
+pub use loaded::Loaded;
+pub use ready::{Ready, go, prepare};
 pub use send::Send;

@@ -1,29 +1,23 @@
-//! A board that is about a send, and what its workers make of it.
+//! A send made ready, and what its workers make of it.
 
-ghost use Rattle.std.specs.Prelude.{◌≡◌, ℕ, ◌<◌, ◌≤◌, ◌^◌, true, IfOk, length, slice_index};
+ghost use Rattle.std.specs.Prelude.{◌≡◌, ℕ, ◌<◌, ◌≤◌, IfOk, length, slice_index};
 ghost use Rattle.combine_core.specs.Folded.{folded};
-ghost use Rattle.combine_core.specs.Machine.{idle};
+ghost use Rattle.block_store.specs.Stored.{shapes_in, memory_in, IsWhole};
+ghost use Rattle.combine_send.specs.Boards.{CanLoad, IsPlanOf, kind_for, plan_of};
+ghost use Rattle.combine_send.specs.Sends.{SendFits};
 
 use crate::home::home_words;
+use crate::loaded::Loaded;
 use crate::send::Send;
 use crate::slots::slots_of;
 use block_store::Store;
-use combine_board::{Board, Pass, Words, combine_all};
-use combine_core::{Add, And, Combine, First, Kind, Last, MaxOf, Message, MinOf, Or, Xor};
+use combine_board::Words;
+use combine_core::{Add, And, First, Kind, Last, MaxOf, Message, MinOf, Or, Xor};
 use cstar_base::{Memory, Winner};
 use cstar_io::Gate;
 use paris_code::Reduction;
 use std::alloc::Global;
 use std::thread::Threads;
-
-/// A board of which nothing is done yet.
-#[derive(Drop)]
-pub struct Loaded<C: Combine> {
-    pub(crate) board: Board<C>,
-    pub(crate) pass: Pass,
-    ghost of: { pass.board ≡ board },
-    ghost fresh: { pass.worker ≡ idle true (2 ^ 63) },
-}
 
 /// A board of which nothing is done yet, by the way in which it combines.
 #[derive(Drop)]
@@ -37,39 +31,6 @@ pub enum Ready {
     Last(Loaded<Last>),
     First(Loaded<First>),
 }
-
-impl<C: Combine + Sync> Loaded<C> {
-    ghost use Rattle.combine_send.specs.Boards.{CanLoad};
-
-    /// A board about these home words and slots. `Memory` is want of memory alone.
-    fn new(
-        alloc: Global,
-        combiner: C,
-        home: Vec<u32>,
-        slots: Vec<Option<Message>>,
-    ) -> Result<Loaded<C>, Memory>
-        requires { CanLoad home.items slots.items }
-        ensures { IfOk result (λ it. it.board.plan ≡ record { kind = C.combines combiner; slots = slots.items; home = home.items }) }
-    {
-        let (board, pass) = Board::new(alloc, combiner, home, slots)?;
-        Ok(Loaded { board, pass })
-    }
-
-    /// The folded word of each target.
-    fn go<R: Threads + Sync, G: Gate + Sync>(self, rt: &R, workers: u32, gate: &G) -> Words
-        requires { workers ≤ 64 }
-        ensures len { length result ≡ length self.board.plan.home }
-        ensures folded { (t : ℕ) → t < length self.board.plan.home
-            → slice_index result t ≡ folded self.board.plan.kind t (slice_index self.board.plan.home t) self.board.plan.slots }
-    {
-        let Loaded { board, pass } = self;
-        combine_all(rt, board, pass, gate, workers)
-    }
-}
-
-ghost use Rattle.block_store.specs.Stored.{shapes_in, memory_in, IsWhole};
-ghost use Rattle.combine_send.specs.Boards.{CanLoad, IsPlanOf, kind_for, plan_of};
-ghost use Rattle.combine_send.specs.Sends.{SendFits};
 
 /// The kind of board that a send asks for.
 fn kind_for(combiner: Option<Reduction>, winner: Winner) -> Kind

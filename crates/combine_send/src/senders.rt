@@ -1,15 +1,16 @@
 //! The senders of a send, read from their blocks.
 
-ghost use Rattle.std.specs.Prelude.{◌≡◌, ◌⊎◌, ℕ, ◌<◌, ◌≤◌, ◌+◌, ◌-◌, ◌*◌, ◌^◌, None, Option, length, slice_index_or};
-ghost use Rattle.combine_core.specs.declared.message.Message.{Message};
+ghost use Rattle.std.specs.Prelude.{◌≡◌, ℕ, ◌<◌, ◌≤◌, ◌+◌, ◌-◌, ◌*◌, ◌%◌, ◌^◌, None, IfOk, length, slice_index_or};
 ghost use Rattle.combine_send.specs.Senders.{Sends, IsSlotOf, CanRead};
 
 use bit_planes::Block;
 use bit_planes::plane::lane;
 use block_store::words_of;
 use combine_core::Message;
+use cstar_base::Memory;
 use cstar_io::Gate;
 use paris_code::Field;
+use std::alloc::Global;
 use std::thread;
 use std::thread::Threads;
 use vp_sets::BLOCK_SIZE;
@@ -78,27 +79,31 @@ fn fill_part<G: Gate>(senders: &Senders, first: u32, slots: &mut [Option<Message
     }
 }
 
-/// Fills the slots of all senders, by so many workers.
-pub(crate) fn fill<R: Threads + Sync, G: Gate + Sync>(
+/// The slots of so many senders, filled by so many workers. `Memory` is want of memory alone.
+pub(crate) fn filled<R: Threads + Sync, G: Gate + Sync>(
     rt: &R,
+    alloc: Global,
     senders: &Senders,
-    slots: &mut [Option<Message>],
+    count: u32,
     workers: u32,
     gate: &G,
-)
+) -> Result<Vec<Option<Message>>, Memory>
     requires can { CanRead senders.now }
-    requires within { length slots.old ≤ 512 * length senders.now.blocks.now }
+    requires within { count ≤ 512 * length senders.now.blocks.now }
     requires workers { 1 ≤ workers }
-    ensures { (i : ℕ) → i < length slots.old → IsSlotOf senders.now i (slice_index_or slots.new i None) }
+    ensures count { IfOk result (λ slots. length slots.items ≡ count) }
+    ensures slots { IfOk result (λ slots. (i : ℕ) → i < count → IsSlotOf senders.now i (slice_index_or slots.items i None)) }
 {
+    let mut slots = vec![in alloc; None; count as usize]?;
     let part = 512 * senders.blocks.len().div_ceil(workers as usize);
     thread::for_each_chunk_mut(
         rt,
-        slots,
+        slots.as_mut_slice(),
         part,
         &|start: usize, chunk: &mut [Option<Message>]|
             requires { CanRead senders.now × (start % 512 ≡ 0) × (start + length chunk.now ≤ 512 * length senders.now.blocks.now) }
             ensures { (i : ℕ) → i < length chunk.entry.now → IsSlotOf senders.entry.now (start + i) (slice_index_or chunk.exit.now i None) }
         { fill_part(senders, (start / 512) as u32, chunk, gate) },
     );
+    Ok(slots)
 }

@@ -8,7 +8,7 @@ ghost use Rattle.combine_send.specs.Sends.{SendFits};
 ghost use Rattle.combine_send.specs.Slots.{AreSlotsFrom};
 
 use crate::send::Send;
-use crate::senders::{Senders, fill};
+use crate::senders::{Senders, filled};
 use block_store::Store;
 use combine_core::Message;
 use cstar_base::Memory;
@@ -40,7 +40,6 @@ pub(crate) fn slots_of<R: Threads + Sync, G: Gate + Sync>(
         source: send.source,
         targets: store.plan(send.dest.set).geometry.positions(),
     };
-    let mut slots = vec![in alloc; None; plan.geometry.positions() as usize]?;
-    fill(rt, &senders, slots.as_mut_slice(), workers, gate);
-    Ok(slots)
+    let count = plan.geometry.positions();
+    filled(rt, alloc, &senders, count, workers, gate)
 }
