@@ -1,0 +1,4 @@
+pub mod Board
+pub mod Own
+pub mod Sent
+pub mod Slots

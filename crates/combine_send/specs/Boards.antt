@@ -1,26 +1,15 @@
 -- What a send puts on a board.
-use Rattle.std.specs.Prelude.{◌≡◌, ℕ, ◌-◌, ◌^◌, ◌<◌, List, length, slice_index, Option, Some, None}
-use Rattle.cstar_base.specs.declared.operators.Winner.{Winner}
-use Rattle.cstar_base.specs.declared.operators.Winner.TheVariants as W
+use Rattle.std.specs.Prelude.{◌≡◌, ℕ, ◌-◌, ◌^◌, ◌<◌, List, length, slice_index, Option}
 use Rattle.cstar_base.specs.Numbers.{residue}
-use Rattle.combine_core.specs.declared.kind.Kind.{Kind}
-use Rattle.combine_core.specs.declared.kind.Kind.TheVariants as K
 use Rattle.combine_core.specs.declared.message.Message.{Message}
 use Rattle.combine_core.specs.Cells.{RisesFrom, TargetsBelow}
 use Rattle.combine_board.specs.Values.{Plan}
-use Rattle.paris_code.specs.declared.operands.Reduction.{Reduction}
 use Rattle.paris_code.specs.Memory.{BitMemory, whole_number, processors}
 use Rattle.paris_code.specs.Shapes.{SetShape}
 use Rattle.combine_send.specs.declared.ready.Ready.{Ready}
 use Rattle.combine_send.specs.declared.ready.Ready.TheVariants as R
 use Rattle.combine_send.specs.declared.send.Send.{Send}
-use Rattle.combine_send.specs.Slots.{AreSlotsFrom, kind_of}
-
--- the kind of board that a send asks for: where it has no combiner, one that keeps the winner's message
-abbrev pub kind_for : Option Reduction → Winner → Kind
-kind_for (Some c) winner = kind_of c
-kind_for None W.High = K.Last
-kind_for None W.Low = K.First
+use Rattle.combine_send.specs.Slots.{AreSlotsFrom, kind_for}
 
 -- home words and slots that can be put on a board
 abbrev pub CanLoad : List ℕ → List (Option Message) → Type 0

@@ -3,8 +3,9 @@
 ghost use Rattle.std.specs.Prelude.{◌≡◌, ℕ, ◌<◌, ◌≤◌, IfOk, length, slice_index};
 ghost use Rattle.combine_core.specs.Folded.{folded};
 ghost use Rattle.block_store.specs.Stored.{shapes_in, memory_in, IsWhole};
-ghost use Rattle.combine_send.specs.Boards.{CanLoad, IsPlanOf, kind_for, plan_of};
+ghost use Rattle.combine_send.specs.Boards.{CanLoad, IsPlanOf, plan_of};
 ghost use Rattle.combine_send.specs.Sends.{SendFits};
+ghost use Rattle.combine_send.specs.Slots.{kind_for};
 
 use crate::home::home_words;
 use crate::loaded::Loaded;
