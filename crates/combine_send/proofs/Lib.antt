@@ -3,3 +3,4 @@ pub mod Filled
 pub mod Own
 pub mod Sent
 pub mod Slots
+pub mod Taken

@@ -92,7 +92,7 @@ pub(crate) fn filled<R: Threads + Sync, G: Gate + Sync>(
     requires within { count ≤ 512 * length senders.now.blocks.now }
     requires workers { 1 ≤ workers }
     ensures count { IfOk result (λ slots. length slots.items ≡ count) }
-    ensures slots { IfOk result (λ slots. (i : ℕ) → i < count → IsSlotOf senders.now i (slice_index_or slots.items i None)) }
+    ensures slots { IfOk result (λ slots. (i : ℕ) → i < length slots.items → IsSlotOf senders.now i (slice_index_or slots.items i None)) }
 {
     let mut slots = vec![in alloc; None; count as usize]?;
     let part = 512 * senders.blocks.len().div_ceil(workers as usize);
