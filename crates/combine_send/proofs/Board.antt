@@ -7,7 +7,7 @@ use Rattle.combine_core.specs.Cells.{RisesFrom, TargetsBelow}
 use Rattle.paris_code.specs.declared.operands.Field.{Field}
 use Rattle.paris_code.specs.Memory.{BitMemory}
 use Rattle.paris_code.specs.Shapes.{SetShape}
-use Rattle.combine_send.specs.Slots.{IsMessage, IsSlot, AreSlotsFrom}
+use Rattle.combine_send.specs.Slots.{IsSlot, AreSlotsFrom}
 
 module _ (shapes : List SetShape) (m : BitMemory) (address source : Field) (count : ℕ) where
   -- the first slot, and the others
@@ -22,13 +22,13 @@ module _ (shapes : List SetShape) (m : BitMemory) (address source : Field) (coun
   rises_from low from [] h are = tt
   rises_from low from (None ∷ slots) h are = rises_from low (suc from) slots (omega arith) (later_slots from None slots are)
   rises_from low from (Some message ∷ slots) h are =
-      let here : IsMessage shapes m address source count from message = first_slot from (Some message) slots are in
-      (omega (arith, here.sender), rises_from (message.sender + 1) (suc from) slots (omega (arith, here.sender)) (later_slots from (Some message) slots are))
+      let here : IsSlot shapes m address source count from (Some message) = first_slot from (Some message) slots are in
+      (omega (arith, here.1), rises_from (message.sender + 1) (suc from) slots (omega (arith, here.1)) (later_slots from (Some message) slots are))
 
   -- the targets are processors
   target_below : (sender : ℕ) (o : Option Message) → IsSlot shapes m address source count sender o → IfSome o (λ message. message.target < count)
   target_below sender None is = tt
-  target_below sender (Some message) is = is.there
+  target_below sender (Some message) is = is.4
 
   pub targets_below : (slots : List (Option Message)) → AreSlotsFrom shapes m address source count 0 slots → TargetsBelow count slots
   targets_below slots are = λ k o b. target_below (0 + k) (get_or slots k o) (subst (λ x. IsSlot shapes m address source count (0 + k) x) (get_or_default slots k None o b) (are k b))

@@ -1,7 +1,8 @@
 -- A target that no sender names gets its own number back.
-use Rattle.std.proofs.Common.{◌≡◌, ℕ, zero, suc, ◌+◌, ◌-◌, ◌%◌, ◌^◌, ◌<◌, ◌≤◌, Bool, true, false, ◌&&◌, cond, eqb, leb, ltb, List, Option, Some, None, pos, refl, sym, ◌∙◌, ap, subst, inl, inr, arith}
+use Rattle.std.proofs.Common.{◌≡◌, ℕ, zero, suc, ◌+◌, ◌-◌, ◌%◌, ◌^◌, ◌<◌, ◌≤◌, Bool, true, false, ◌&&◌, cond, eqb, leb, ltb, List, Option, Some, None, refl, sym, ◌∙◌, ap, subst, inl, inr, arith}
 use Rattle.std.specs.Prelude.{is_some}
 use Rattle.std.specs.Int.{bit_at}
+use Rattle.std.proofs.Math.Nat.{mod-eq_of_lt}
 use Rattle.std.proofs.lemmas.Bool.{cases_eq, cases_Bool, ne_eqb, eqb-true, leb-true, ltb-true, and_parts, false≢true}
 use Rattle.cstar_base.specs.declared.elem.Elem.{Elem}
 use Rattle.cstar_base.specs.declared.operators.Winner.{Winner}
@@ -9,9 +10,8 @@ use Rattle.cstar_base.specs.declared.operators.Winner.TheVariants as W
 use Rattle.cstar_base.specs.Kinds.{is_kind}
 use Rattle.cstar_base.specs.Numbers.{residue, number_of, truth_of, converted}
 use Rattle.cstar_base.specs.Orders.{fold_below, least_below, greatest_below, or_else}
-use Rattle.cstar_base.proofs.BitCuts.{bit_at-cut}
 use Rattle.cstar_base.proofs.ConversionLaws.{converted_to_bool}
-use Rattle.cstar_base.proofs.NumberLaws.{kind_bits, number_unsigned, number_in_lower, residue_of_pos, residue_of_number, residue_below}
+use Rattle.cstar_base.proofs.NumberLaws.{kind_bits, number_unsigned, number_in_lower, residue_of_pos, residue_of_number, residue_below, modulus_in_word}
 use Rattle.paris_code.specs.declared.operands.Field.{Field}
 use Rattle.paris_code.specs.declared.operands.Reduction.{Reduction}
 use Rattle.paris_code.specs.Fetching.{at_all}
@@ -22,34 +22,37 @@ use Rattle.paris_code.specs.Writes.{Write, covers, written}
 use Rattle.phase_meaning.proofs.Widths.{residue_cut}
 use Rattle.combine_send.proofs.Slots.{or_home}
 
--- a number of a type, held as a word, is converted back to itself
+-- a word that has a number of a type in its low bits is converted to it
 unsigned_bool : (signed : Bool) → is_kind 1 signed ≡ true → signed ≡ false
 unsigned_bool true h = absurd (false≢true h)
 unsigned_bool false h = refl
 
-truth_is : (n : ℕ) → n < 2 → truth_of (number_of 32 true (residue 32 (pos n))) ≡ n
+truth_is : (n : ℕ) → n < 2 → truth_of (number_of 32 true n) ≡ n
 unfolding truth_of
-truth_is zero h = ap truth_of (ap (number_of 32 true) (residue_of_pos 32 0) ∙ number_in_lower 32 0 (omega arith))
-truth_is (suc zero) h = ap truth_of (ap (number_of 32 true) (residue_of_pos 32 1) ∙ number_in_lower 32 1 (omega arith))
+truth_is zero h = ap truth_of (number_in_lower 32 0 (omega arith))
+truth_is (suc zero) h = ap truth_of (number_in_lower 32 1 (omega arith))
 truth_is (suc (suc n)) h = absurd (omega arith)
 
-pub converted_back : (kind : Elem) (n : ℕ) → n < 2 ^ kind.bits → converted kind word_kind (residue 32 (number_of kind.bits kind.signed n)) ≡ n
+converted_low : (kind : Elem) (w n : ℕ) → n < 2 ^ kind.bits → w < 2 ^ 32 → w % 2 ^ kind.bits ≡ n → (kind.bits ≡ 1 → w ≡ n) → converted kind word_kind w ≡ n
 unfolding converted
-converted_back kind n h = elim (cases_eq kind.bits 1) [
-  | inl e ↦
-      let plain : kind.signed ≡ false = unsigned_bool kind.signed (subst (λ b. is_kind b kind.signed ≡ true) e kind.kind) in
-      converted_to_bool kind word_kind (residue 32 (number_of kind.bits kind.signed n)) e
-      ∙ ap (λ s. truth_of (number_of 32 true (residue 32 (number_of kind.bits s n)))) plain
-      ∙ ap (λ z. truth_of (number_of 32 true (residue 32 z))) (number_unsigned kind.bits n)
-      ∙ truth_is n (let b : 2 ^ kind.bits ≡ 2 = ap (λ k. 2 ^ k) e in omega (arith, b))
+converted_low kind w n fits word low one = elim (cases_eq kind.bits 1) [
+  | inl e ↦ converted_to_bool kind word_kind w e ∙ ap (λ x. truth_of (number_of 32 true x)) (one e) ∙ truth_is n (let b : 2 ^ kind.bits ≡ 2 = ap (λ k. 2 ^ k) e in omega (arith, b))
   | inr many ↦
-      let z = number_of kind.bits kind.signed n in
-      let most : kind.bits ≤ 32 = (kind_bits kind.bits kind.signed kind.kind).1 in
-      ap (λ t. cond t (truth_of (number_of 32 true (residue 32 z))) (residue kind.bits (number_of 32 true (residue 32 z)))) (ne_eqb kind.bits 1 many)
-      ∙ sym (residue_cut kind.bits (number_of 32 true (residue 32 z)) most)
-      ∙ ap (λ w. w % 2 ^ kind.bits) (residue_of_number 32 true (residue 32 z) (residue_below 32 z))
-      ∙ residue_cut kind.bits z most ∙ residue_of_number kind.bits kind.signed n h
+      ap (λ t. cond t (truth_of (number_of 32 true w)) (residue kind.bits (number_of 32 true w))) (ne_eqb kind.bits 1 many)
+      ∙ sym (residue_cut kind.bits (number_of 32 true w) (kind_bits kind.bits kind.signed kind.kind).1)
+      ∙ ap (λ x. x % 2 ^ kind.bits) (residue_of_number 32 true w word) ∙ low
 ]
+
+pub converted_number : (kind : Elem) (n : ℕ) → n < 2 ^ kind.bits → converted kind word_kind n ≡ n
+converted_number kind n h = converted_low kind n n h (omega (arith, modulus_in_word kind.bits kind.signed kind.kind)) (mod-eq_of_lt h) (λ e. refl)
+
+-- so is the word of a number of the type itself
+pub converted_back : (kind : Elem) (n : ℕ) → n < 2 ^ kind.bits → converted kind word_kind (residue 32 (number_of kind.bits kind.signed n)) ≡ n
+converted_back kind n h =
+    let z = number_of kind.bits kind.signed n in
+    converted_low kind (residue 32 z) n h (residue_below 32 z) (residue_cut kind.bits z (kind_bits kind.bits kind.signed kind.kind).1 ∙ residue_of_number kind.bits kind.signed n h) (λ e.
+    let plain : kind.signed ≡ false = unsigned_bool kind.signed (subst (λ b. is_kind b kind.signed ≡ true) e kind.kind) in
+    ap (λ s. residue 32 (number_of kind.bits s n)) plain ∙ ap (residue 32) (number_unsigned kind.bits n) ∙ residue_of_pos 32 n ∙ mod-eq_of_lt (omega (arith, h, modulus_in_word kind.bits kind.signed kind.kind)))
 
 -- where no one of so many sends there is no sender
 module _ (w : Winner) (sends : ℕ → Bool) where
@@ -99,13 +102,10 @@ covered f s i on =
     let ends = and_parts (leb f.offset i) (ltb i (f.offset + f.len)) both.1 in
     (eqb-true s f.set both.0, leb-true f.offset i ends.0, ltb-true i (f.offset + f.len) ends.1)
 
-same_bit : (x y n j : ℕ) → j < n → x % 2 ^ n ≡ y % 2 ^ n → bit_at x j ≡ bit_at y j
-same_bit x y n j h e = sym (bit_at-cut x n j h) ∙ ap (λ z. bit_at z j) e ∙ bit_at-cut y n j h
-
 -- so a write at all positions that leaves the others their own numbers is a write at some
 pub own_written : (shapes : List SetShape) (w : Write) (m : BitMemory) (value : ℕ → ℕ) → HasNumbers m w.run
-    → ((p : ℕ) → p < processors shapes w.run.set → w.writes p ≡ true → value p % 2 ^ w.run.len ≡ w.value p % 2 ^ w.run.len)
-    → ((p : ℕ) → p < processors shapes w.run.set → w.writes p ≡ false → value p % 2 ^ w.run.len ≡ field_number m w.run p % 2 ^ w.run.len)
+    → ((p : ℕ) → p < processors shapes w.run.set → w.writes p ≡ true → value p ≡ w.value p)
+    → ((p : ℕ) → p < processors shapes w.run.set → w.writes p ≡ false → value p ≡ field_number m w.run p)
     → SameBits shapes (written (at_all w.run value) m) (written w m)
 unfolding written
 own_written shapes w m value numbers gives leaves = record {
@@ -119,9 +119,9 @@ own_written shapes w m value numbers gives leaves = record {
             let here : p < processors shapes w.run.set = subst (λ (k : ℕ). p < processors shapes k) at.0 within in
             ap (λ t. cond (t && true) new (m.bit s p i)) on
             ∙ elim (cases_Bool (w.writes p)) [
-              | inl takes ↦ same_bit (value p) (w.value p) w.run.len (i - w.run.offset) (omega (arith, at.1, at.2)) (gives p here takes) ∙ sym (ap (λ t. cond t other (m.bit s p i)) takes)
+              | inl takes ↦ ap (λ n. bit_at n (i - w.run.offset)) (gives p here takes) ∙ sym (ap (λ t. cond t other (m.bit s p i)) takes)
               | inr stays ↦
-                  same_bit (value p) (field_number m w.run p) w.run.len (i - w.run.offset) (omega (arith, at.1, at.2)) (leaves p here stays)
+                  ap (λ n. bit_at n (i - w.run.offset)) (leaves p here stays)
                   ∙ numbers.bits p (i - w.run.offset) (omega (arith, at.1, at.2))
                   ∙ ap (m.bit w.run.set p) (let e : w.run.offset + (i - w.run.offset) ≡ i = omega (arith, at.1) in e) ∙ ap (λ k. m.bit k p i) (sym at.0)
                   ∙ sym (ap (λ t. cond t other (m.bit s p i)) stays)

@@ -22,7 +22,7 @@ use Rattle.paris_code.specs.Operators.{combiner_of}
 use Rattle.paris_code.specs.Sending.{sends_to, winner_of, combined}
 use Rattle.paris_code.specs.Shapes.{SetShape}
 use Rattle.phase_meaning.proofs.Rising.{least_none, least_some}
-use Rattle.combine_send.specs.Slots.{IsMessage, AreSlotsFrom, kind_of, overwriting_kind}
+use Rattle.combine_send.specs.Slots.{IsSlot, AreSlotsFrom, kind_of, kind_for}
 use Rattle.combine_send.proofs.Board.{first_slot, later_slots}
 
 -- one step of a fold whose sender sends, or does not
@@ -59,9 +59,9 @@ module _ (shapes : List SetShape) (m : BitMemory) (address source : Field) (coun
       on true = refl
       on false = refl
 
-  full_slot : (s : ℕ) (message : Message) → IsMessage shapes m address source count s message → sends_to shapes m address t s ≡ eqb message.target t
+  full_slot : (s : ℕ) (message : Message) → IsSlot shapes m address source count s (Some message) → sends_to shapes m address t s ≡ eqb message.target t
   unfolding sends_to
-  full_slot s message is = ap (λ b. b && eqb (field_number m address s) t) is.active ∙ ap (λ n. eqb n t) (sym is.target)
+  full_slot s message is = ap (λ b. b && eqb (field_number m address s) t) is.0 ∙ ap (λ n. eqb n t) (sym is.2)
 
   -- the values to a target, folded in the order of the slots
   slots_folded : (f : ℕ → ℕ → ℕ) (start from : ℕ) (slots : List (Option Message)) → AreSlotsFrom shapes m address source count from slots
@@ -75,8 +75,8 @@ module _ (shapes : List SetShape) (m : BitMemory) (address source : Field) (coun
       ∙ ap (fold_below f (λ s. sends_to shapes m address t s) (λ s. field_number m source s) start) (let e : suc from + length slots ≡ from + suc (length slots) = omega arith in e)
   slots_folded f start from (Some message ∷ slots) are =
       let so_far : ℕ = fold_below f (λ s. sends_to shapes m address t s) (λ s. field_number m source s) start from in
-      let here : IsMessage shapes m address source count from message = first_slot shapes m address source count from (Some message) slots are in
-      taken_step f (eqb message.target t) so_far message.value (field_number m source from) (values_to t slots) here.value
+      let here : IsSlot shapes m address source count from (Some message) = first_slot shapes m address source count from (Some message) slots are in
+      taken_step f (eqb message.target t) so_far message.value (field_number m source from) (values_to t slots) here.3
       ∙ ap (λ b. fold f (cond b (f so_far (field_number m source from)) so_far) (values_to t slots)) (sym (full_slot from message here))
       ∙ slots_folded f start (suc from) slots (later_slots shapes m address source count from (Some message) slots are)
       ∙ ap (fold_below f (λ s. sends_to shapes m address t s) (λ s. field_number m source s) start) (let e : suc from + length slots ≡ from + suc (length slots) = omega arith in e)
@@ -95,10 +95,10 @@ module _ (shapes : List SetShape) (m : BitMemory) (address source : Field) (coun
       first_is home (suc from) n slots (later_slots shapes m address source count from None slots are) (omega (arith, long))
       (none_more from none (empty_slot from (first_slot shapes m address source count from None slots are)))
   first_is home from n (Some message ∷ slots) are long none =
-      let here : IsMessage shapes m address source count from message = first_slot shapes m address source count from (Some message) slots are in
+      let here : IsSlot shapes m address source count from (Some message) = first_slot shapes m address source count from (Some message) slots are in
       elim (cases_Bool (eqb message.target t)) [
         | inl on ↦
-            ap (λ b. first_or home (cond b (message.value ∷ values_to t slots) (values_to t slots))) on ∙ here.value
+            ap (λ b. first_or home (cond b (message.value ∷ values_to t slots) (values_to t slots))) on ∙ here.3
             ∙ sym (ap (or_home home m source) (least_some (λ s. sends_to shapes m address t s) n from (omega (arith, long)) (full_slot from message here ∙ on) none))
         | inr off ↦
             ap (λ b. first_or home (cond b (message.value ∷ values_to t slots) (values_to t slots))) off
@@ -162,7 +162,7 @@ turned home (v ∷ vs) = ap (fold (λ total x. x) home) (reverse-append (v ∷ [
 -- the word of a target after a send without one
 pub overwritten_is : (shapes : List SetShape) (m : BitMemory) (winner : Winner) (home : ℕ) (address source : Field) (count t : ℕ) (slots : List (Option Message)) → t < count
     → AreSlotsFrom shapes m address source count 0 slots → length slots ≡ processors shapes address.set
-    → folded (overwriting_kind winner) t home slots ≡ or_home home m source (winner_of winner (λ s. sends_to shapes m address t s) (processors shapes address.set))
+    → folded (kind_for None winner) t home slots ≡ or_home home m source (winner_of winner (λ s. sends_to shapes m address t s) (processors shapes address.set))
 unfolding fold_once fold_below
 overwritten_is shapes m W.High home address source count t slots inside are long =
     slots_folded shapes m address source count t inside (λ a v. v) home 0 slots are

@@ -11,23 +11,15 @@ use Rattle.paris_code.specs.declared.operands.Reduction.TheVariants as R
 use Rattle.paris_code.specs.Memory.{BitMemory, field_number, is_active}
 use Rattle.paris_code.specs.Shapes.{SetShape}
 
--- the message of a position that is active and names one of so many processors
-pub record IsMessage (shapes : List SetShape) (m : BitMemory) (address source : Field) (count position : ℕ) (message : Message) : Type 0 where
-  pub active : is_active shapes m address.set position ≡ true
-  pub there : message.target < count
-  pub sender : message.sender ≡ position
-  pub target : message.target ≡ field_number m address position
-  pub value : message.value ≡ field_number m source position
-
--- a position's slot: its message, where it has one
+-- a sender's slot
 abbrev pub IsSlot : List SetShape → BitMemory → Field → Field → ℕ → ℕ → Option Message → Type 0
-IsSlot shapes m address source count position None = (is_active shapes m address.set position && nat_lt (field_number m address position) count) ≡ false
-IsSlot shapes m address source count position (Some message) = IsMessage shapes m address source count position message
+IsSlot shapes m address source count s None = (is_active shapes m address.set s && nat_lt (field_number m address s) count) ≡ false
+IsSlot shapes m address source count s (Some message) =
+    (is_active shapes m address.set s ≡ true) × (message.sender ≡ s) × (message.target ≡ field_number m address s) × (message.value ≡ field_number m source s) × (message.target < count)
 
--- the slots of the positions from one on
+-- the slots of the senders from one on
 abbrev pub AreSlotsFrom : List SetShape → BitMemory → Field → Field → ℕ → ℕ → List (Option Message) → Type 0
-AreSlotsFrom shapes m address source count from slots =
-    (k : ℕ) → k < length slots → IsSlot shapes m address source count (from + k) (slice_index_or slots k None)
+AreSlotsFrom shapes m address source count from slots = (k : ℕ) → k < length slots → IsSlot shapes m address source count (from + k) (slice_index_or slots k None)
 
 -- the kind of board that a combiner asks for
 abbrev pub kind_of : Reduction → Kind
@@ -40,7 +32,8 @@ kind_of R.UMin = K.Min false
 kind_of R.SMax = K.Max true
 kind_of R.UMax = K.Max false
 
--- and that of a send without one, by which of the senders wins
-abbrev pub overwriting_kind : Winner → Kind
-overwriting_kind W.High = K.Last
-overwriting_kind W.Low = K.First
+-- the kind of board that a send asks for: where it has no combiner, one that keeps the winner's message
+abbrev pub kind_for : Option Reduction → Winner → Kind
+kind_for (Some c) winner = kind_of c
+kind_for None W.High = K.Last
+kind_for None W.Low = K.First
