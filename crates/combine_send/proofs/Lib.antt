@@ -1,4 +1,5 @@
 pub mod Board
+pub mod Instructions
 pub mod Own
 pub mod Sent
 pub mod Slots
