@@ -1,4 +1,5 @@
 pub mod Board
+pub mod Filled
 pub mod Instructions
 pub mod Own
 pub mod Sent

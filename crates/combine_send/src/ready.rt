@@ -10,7 +10,7 @@ ghost use Rattle.combine_send.specs.Slots.{kind_for};
 use crate::home::home_words;
 use crate::loaded::Loaded;
 use crate::send::Send;
-use crate::slots::slots_of;
+use crate::sending::slots_of;
 use block_store::Store;
 use combine_board::Words;
 use combine_core::{Add, And, First, Kind, Last, MaxOf, Message, MinOf, Or, Xor};
