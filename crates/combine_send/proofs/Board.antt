@@ -1,5 +1,5 @@
 -- The slots of a send are what a board asks for.
-use Rattle.std.proofs.Common.{◌≡◌, ℕ, suc, ◌+◌, ◌*◌, ◌/◌, ◌%◌, ◌<◌, ◌≤◌, List, [], ◌∷◌, length, get_or, Option, Some, None, subst, arith}
+use Rattle.std.proofs.Common.{◌≡◌, ℕ, suc, ◌+◌, ◌<◌, ◌≤◌, List, [], ◌∷◌, get_or, Option, Some, None, subst, arith}
 use Rattle.std.specs.Prelude.{IfSome}
 use Rattle.std.proofs.lemmas.List.{get_or_default}
 use Rattle.combine_core.specs.declared.message.Message.{Message}
@@ -32,11 +32,3 @@ module _ (shapes : List SetShape) (m : BitMemory) (address source : Field) (coun
 
   pub targets_below : (slots : List (Option Message)) → AreSlotsFrom shapes m address source count 0 slots → TargetsBelow count slots
   targets_below slots are = λ k o b. target_below (0 + k) (get_or slots k o) (subst (λ x. IsSlot shapes m address source count (0 + k) x) (get_or_default slots k None o b) (are k b))
-
-  -- the slots that are filled block by block
-  pub slots_by_block : (slots : List (Option Message)) → ((k i : ℕ) → i < 512 → 512 * k + i < length slots → IsSlot shapes m address source count (512 * k + i) (get_or slots (512 * k + i) None))
-      → AreSlotsFrom shapes m address source count 0 slots
-  slots_by_block slots each = λ s b.
-      let e : 512 * (s / 512) + s % 512 ≡ s = omega arith in
-      subst (λ n. IsSlot shapes m address source count n (get_or slots s None)) (let z : s ≡ 0 + s = omega arith in z)
-      (subst (λ n. IsSlot shapes m address source count n (get_or slots n None)) e (each (s / 512) (s % 512) (omega arith) (omega (arith, e))))

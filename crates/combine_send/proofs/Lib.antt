@@ -1,5 +1,6 @@
 pub mod Board
 pub mod Filled
+pub mod Instructions
 pub mod Own
 pub mod Sent
 pub mod Slots

@@ -73,13 +73,13 @@ module _ (shapes : List SetShape) (m new : BitMemory) (d : Field) (kind : Elem) 
       (λ t b some. ap (converted kind word_kind) (are t b) ∙ message_is below (residue 32 (whole_number m kind.signed d t)) (winning_sender shapes m address t) some)
       (λ t b none. own_back t (are t b ∙ stays_home (residue 32 (whole_number m kind.signed d t)) m source (winning_sender shapes m address t) none)))
 
--- the words that a board folds, written back, are what the instruction means
-module _ (shapes : List SetShape) (args : List ℕ) (m new : BitMemory) (d : Field) (kind : Elem) (address source : Field) (slots : List (Option Message)) (words : ℕ → ℕ) (numbers : (f : Field) → HasNumbers m f)
+-- the words that a board folds, written back, are what the instruction means, which reads no register
+module _ (shapes : List SetShape) (args others : List ℕ) (m new : BitMemory) (d : Field) (kind : Elem) (address source : Field) (slots : List (Option Message)) (words : ℕ → ℕ) (numbers : (f : Field) → HasNumbers m f)
     (are : AreSlotsFrom shapes m address source (processors shapes d.set) 0 slots) (each : length slots ≡ processors shapes address.set)
     (done : SameBits shapes new (written (at_all d (λ t. converted kind word_kind (words t))) m)) where
   pub combined_means : (c : Reduction) → CanApply shapes (I.SendWithCombiner c d kind address source) args
       → ((t : ℕ) → t < processors shapes d.set → words t ≡ folded (kind_of c) t (residue 32 (whole_number m kind.signed d t)) slots)
-      → Means shapes (I.SendWithCombiner c d kind address source) args m new R.Nothing
+      → Means shapes (I.SendWithCombiner c d kind address source) others m new R.Nothing
   unfolding after
   combined_means c can folds = (
     refl,
@@ -89,7 +89,7 @@ module _ (shapes : List SetShape) (args : List ℕ) (m new : BitMemory) (d : Fie
 
   pub overwritten_means : CanApply shapes (I.SendWithOverwrite d kind address source) args
       → ((t : ℕ) → t < processors shapes d.set → words t ≡ folded (kind_for None m.winner) t (residue 32 (whole_number m kind.signed d t)) slots)
-      → Means shapes (I.SendWithOverwrite d kind address source) args m new R.Nothing
+      → Means shapes (I.SendWithOverwrite d kind address source) others m new R.Nothing
   unfolding after winning_sender
   overwritten_means can folds =
       let long : d.len ≡ kind.bits = can.field.0.1 can.set.0 in

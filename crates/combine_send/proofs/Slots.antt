@@ -22,7 +22,7 @@ use Rattle.paris_code.specs.Operators.{combiner_of}
 use Rattle.paris_code.specs.Sending.{sends_to, winner_of, combined}
 use Rattle.paris_code.specs.Shapes.{SetShape}
 use Rattle.phase_meaning.proofs.Rising.{least_none, least_some}
-use Rattle.combine_send.specs.Slots.{IsMessage, AreSlotsFrom, kind_of, overwriting_kind}
+use Rattle.combine_send.specs.Slots.{IsSlot, AreSlotsFrom, kind_of, kind_for}
 use Rattle.combine_send.proofs.Board.{first_slot, later_slots}
 
 -- one step of a fold whose sender sends, or does not

@@ -1,5 +1,5 @@
 -- The slots of a send: one for each sender, with its message where it is active and names a processor.
-use Rattle.std.specs.Prelude.{◌≡◌, ℕ, ◌+◌, ◌<◌, slice_index_or, Bool, true, false, ◌&&◌, nat_lt, List, length, Option, Some, None}
+use Rattle.std.specs.Prelude.{◌≡◌, ℕ, ◌+◌, ◌<◌, slice_index_or, true, false, ◌&&◌, nat_lt, List, length, Option, Some, None}
 use Rattle.cstar_base.specs.declared.operators.Winner.{Winner}
 use Rattle.cstar_base.specs.declared.operators.Winner.TheVariants as W
 use Rattle.combine_core.specs.declared.message.Message.{Message}
