@@ -1,5 +1,6 @@
 pub mod Board
 pub mod Filled
+pub mod Homes
 pub mod Instructions
 pub mod Own
 pub mod Sent

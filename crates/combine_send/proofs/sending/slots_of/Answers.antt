@@ -50,5 +50,7 @@ returns-clause-slots g c =
     let same = c.as_slice.ensures.value ∙ held shapes sets send.address.set c.from.result c.index.result.now c.requires.whole c.requires.send.1.0 c.from.ensures c.index.ensures in
     IfOk-weaker c.filled.result _ _ (λ slots each w k b.
     let m = memory_in c.args.store.now w in
-    subst (λ n. IsSlot shapes m send.address send.source n k (get_or slots.items k None)) (c.positions.ensures.value ∙ ap position_count c.plan.ensures.extents)
-    (slot_is shapes sets w _ k (get_or slots.items k None) same c.plan-plan.ensures.bits c.requires.send.4 (each k b))) c.filled.ensures.slots
+    let slot = get_or slots.items k None in
+    subst (λ s. IsSlot shapes m send.address send.source (processors shapes send.dest.set) s slot) (let e : k ≡ 0 + k = omega arith in e)
+    (subst (λ n. IsSlot shapes m send.address send.source n k slot) (c.positions.ensures.value ∙ ap position_count c.plan.ensures.extents)
+    (slot_is shapes sets w (record { blocks = c.as_slice.result; context = c.plan-plan.result.now.bits; address = send.address; source = send.source; targets = c.positions.result }) k slot same c.plan-plan.ensures.bits c.requires.send.4 (each k b)))) c.filled.ensures.slots
