@@ -1,3 +1,4 @@
 pub mod Failing
 pub mod Kernels
+pub mod Orders
 pub mod Written
