@@ -150,19 +150,21 @@ pub of : (shapes : List SetShape) (args : List ℕ) (way known : Way) (instr is 
 of shapes args way known instr is w e can gives_it =
     subst (λ (q : Way). IsWayOf shapes instr args q) (sym w) (subst (λ i. IsWayOf shapes i args known) (sym e) (gives_it (subst (λ i. CanApply shapes i args) e can)))
 
--- a block in which the kernel has worked
-pub kernel_done : (shapes : List SetShape) (instr : Instr) (args : List ℕ) (k : ℕ) (kernel : Kernel) (run : Field) (always : Bool) (extents : List ℕ) (bits : ℕ) (to : Target) (mask : List ℕ) (old new : List Plane)
+-- a block in which the target has become numbers that the instruction gives
+pub lanes_done : (shapes : List SetShape) (instr : Instr) (args : List ℕ) (k : ℕ) (numbers : ℕ → ℕ → ℕ) (run : Field) (always : Bool) (extents : List ℕ) (bits : ℕ) (to : Target) (mask : List ℕ) (old new : List Plane)
     → run ≡ destination shapes instr → always ≡ writes_always instr → extents ≡ extents_at shapes run.set → bits ≡ bits_at shapes run.set
     → to.offset ≡ run.offset → to.len ≡ run.len → to.lanes ≡ mask
-    → LanesWritten to.offset to.len to.lanes (kernel_number kernel old to.len) old new → TakesLanes extents k always (plane_at old bits) mask → IsKernelOf shapes instr args kernel → DoneInBlock shapes instr args k old new
-kernel_done shapes instr args k kernel run always extents bits to mask old new is at ge be offset len lanes done takes does =
+    → LanesWritten to.offset to.len to.lanes (numbers to.len) old new → TakesLanes extents k always (plane_at old bits) mask
+    → ((p : ℕ) → numbers (width_of shapes instr) (p % 512) % 2 ^ width_of shapes instr ≡ element shapes instr args (block_memory old) p % 2 ^ width_of shapes instr)
+    → DoneInBlock shapes instr args k old new
+lanes_done shapes instr args k numbers run always extents bits to mask old new is at ge be offset len lanes done takes same =
     let n : ℕ = width_of shapes instr in
-    given_lanes shapes instr args k always mask (kernel_number kernel old n) old new at
-    (subst (λ (r : Field). LanesWritten r.offset r.len mask (kernel_number kernel old r.len) old new) is
-    (subst (λ (x : List ℕ). LanesWritten run.offset run.len x (kernel_number kernel old run.len) old new) lanes
-    (subst (λ l. LanesWritten run.offset l to.lanes (kernel_number kernel old l) old new) len (subst (λ o. LanesWritten o to.len to.lanes (kernel_number kernel old to.len) old new) offset done))))
+    given_lanes shapes instr args k always mask (numbers n) old new at
+    (subst (λ (r : Field). LanesWritten r.offset r.len mask (numbers r.len) old new) is
+    (subst (λ (x : List ℕ). LanesWritten run.offset run.len x (numbers run.len) old new) lanes
+    (subst (λ l. LanesWritten run.offset l to.lanes (numbers l) old new) len (subst (λ o. LanesWritten o to.len to.lanes (numbers to.len) old new) offset done))))
     (taken shapes k run (destination shapes instr) always extents bits mask old is ge be takes)
-    (λ i b within. ap (λ j. kernel_number kernel old n j % 2 ^ n) (let e : i ≡ (512 * k + i) % 512 = omega (arith, b) in e) ∙ does.same old (512 * k + i))
+    (λ i b within. ap (λ j. numbers n j % 2 ^ n) (let e : i ≡ (512 * k + i) % 512 = omega (arith, b) in e) ∙ same (512 * k + i))
 
 bit_at_itself : (b : ℕ) → b < 2 → bit_at b 0 ≡ b
 bit_at_itself b h = omega arith
@@ -195,7 +197,7 @@ relation_done shapes instr args k r run always extents bits mask value old new i
     (has i b ∙ ap (relation_number r old) (let e : i ≡ (512 * k + i) % 512 = omega (arith, b) in e) ∙ does.same old (512 * k + i)))
 
 -- the relations of an instruction
-field_number_is : (planes : List Plane) (f : Field) (p : ℕ) → number planes f.offset f.len (p % 512) ≡ field_number (block_memory planes) f p
+pub field_number_is : (planes : List Plane) (f : Field) (p : ℕ) → number planes f.offset f.len (p % 512) ≡ field_number (block_memory planes) f p
 unfolding field_number block_memory
 field_number_is planes f p = run_is planes f.offset f.len (p % 512)
 

@@ -15,7 +15,7 @@ use Rattle.paris_code.specs.Operators.{comparison_of}
 use Rattle.lane_kernels.specs.Numbers.{place_of, is_less, least_of, greatest_of}
 
 -- the upper half as numbers below 0
-upper : (n x : ℕ) → x < 2 ^ n → 2 ^ (n - 1) ≤ x → number_of n true x ≡ negsuc (2 ^ n - 1 - x)
+pub upper : (n x : ℕ) → x < 2 ^ n → 2 ^ (n - 1) ≤ x → number_of n true x ≡ negsuc (2 ^ n - 1 - x)
 upper n x b h = number_in_upper n x h ∙ omega (arith, ints, b)
 
 place_low : (n x : ℕ) → 1 ≤ n → x < 2 ^ (n - 1) → place_of false n x ≡ x + 2 ^ (n - 1)

@@ -12,10 +12,12 @@ ghost use Rattle.block_store.specs.Stored.{shape_of_plan};
 ghost use Rattle.block_store.specs.Phases.{LanesWritten};
 ghost use Rattle.lane_kernels.specs.Kernels.{operand_of, HasTarget, IsReadable, IsWithin};
 ghost use Rattle.elementwise.specs.Blocks.{DoneInBlock};
+ghost use Rattle.elementwise.specs.Moved.{moved_number, IsMovable};
 ghost use Rattle.elementwise.specs.Planar.{gives, kernel_number};
 ghost use Rattle.elementwise.specs.Ways.{IsWayOf};
 
 use crate::lanes::words_given;
+use crate::moved::Moved;
 use crate::planar::{Kernel, Planar, Work, can_work_in_place, operate_in_place};
 use crate::ways::Way;
 use crate::writes::{Written, plan_of};
@@ -115,6 +117,15 @@ fn by_kernel(block: &mut Block, kernel: &Kernel, to: &Target)
     }
 }
 
+/// Makes the target the numbers of the moved field, in its lanes of the block.
+fn by_moving(block: &mut Block, moved: &Moved, to: &Target)
+    requires target { HasTarget to.now block.old.planes.items }
+    requires field { IsMovable moved.now to.now block.old.planes.items }
+    ensures { LanesWritten to.now.offset to.now.len to.now.lanes (moved_number moved.now block.old.planes.items to.now.len) block.old.planes.items block.new.planes.items }
+{
+    moved.put(&mut block.planes, to);
+}
+
 /// Makes a plane the value, in the lanes of the mask.
 fn put_plane(block: &mut Block, at: u32, lanes: u64x8, value: u64x8)
     requires { at < length block.old.planes.items }
@@ -123,8 +134,8 @@ fn put_plane(block: &mut Block, at: u32, lanes: u64x8, value: u64x8)
     write(&mut block.planes, at as usize, value, lanes);
 }
 
-/// Does an elementwise instruction in block `k` of its set: by its kernel, where no plane is read
-/// after it is written, by its relation, and else by what it gives each lane.
+/// Does an elementwise instruction in block `k` of its set: by its kernel or moved field, where no
+/// plane is read after it is written, by its relation, and else by what it gives each lane.
 pub(crate) fn do_in_block(
     plans: &[SetPlan],
     block: &mut Block,
@@ -149,6 +160,13 @@ pub(crate) fn do_in_block(
         Way::Kernel(kernel) => {
             if can_work_in_place(kernel, &target) {
                 by_kernel(block, kernel, &target);
+            } else {
+                by_values(plans, block, instr, args, to, k);
+            }
+        }
+        Way::Moved(moved) => {
+            if moved.can_work_in_place(&target) {
+                by_moving(block, moved, &target);
             } else {
                 by_values(plans, block, instr, args, to, k);
             }

@@ -5,6 +5,7 @@ ghost use Rattle.bit_planes.specs.declared.plane.Plane.{Plane};
 ghost use Rattle.lane_kernels.specs.Kernels.{operand_of, HasTarget, IsReadable, IsWithin, Becomes};
 ghost use Rattle.elementwise.specs.Planar.{gives, operation_of};
 
+use crate::overlap::is_readable_up;
 use bit_planes::Plane;
 use lane_kernels::{Operand, Target, in_place};
 use paris_code::Operation;
@@ -98,9 +99,7 @@ fn is_readable(a: &Operand, to: &Target) -> bool
 {
     match a {
         Operand::Constant(_) => true,
-        Operand::Field(offset) => {
-            to.offset <= *offset || u64::from(*offset) + u64::from(to.len) <= u64::from(to.offset)
-        }
+        Operand::Field(offset) => is_readable_up(*offset, to.len, to),
     }
 }
 

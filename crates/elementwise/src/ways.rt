@@ -5,21 +5,24 @@ ghost use Rattle.paris_code.specs.Shapes.{SetShape};
 ghost use Rattle.paris_code.specs.Sound.{IsShape};
 ghost use Rattle.phase_meaning.specs.Apply.{CanApply};
 ghost use Rattle.block_store.specs.Stored.{shape_of_plan};
-ghost use Rattle.elementwise.specs.Ways.{IsWayOf, IsWayOfMove, by_kernel, by_one, by_relation};
+ghost use Rattle.elementwise.specs.Ways.{IsWayOf, IsWayOfConstant, IsWayOfMove, by_kernel, by_one, by_relation};
 
+use crate::moved::Moved;
 use crate::planar::{Kernel, Planar, Work, work_of};
 use crate::relations::Relation;
 use crate::writes::plan_of;
 use block_store::SetPlan;
 use lane_kernels::Operand;
-use paris_code::{Compare, Field, Instr};
+use paris_code::{Compare, Field, Instr, Operation};
 use phase_elements::konst;
+use phase_meaning::arith::mask;
 
-/// A kernel, a relation, or the meaning at each lane.
+/// A kernel, a relation, a field whose bits are moved, or the meaning at each lane.
 #[derive(Drop)]
 pub(crate) enum Way {
     Kernel(Kernel),
     Relation(Relation),
+    Moved(Moved),
     Elements,
 }
 
@@ -56,7 +59,53 @@ fn of_move(signed: bool, dest: Field, source: Field) -> Way
     if dest.len == source.len {
         of_one(Planar::Same, Operand::Field(source.offset))
     } else {
-        Way::Elements
+        Way::Moved(Moved::Resized {
+            offset: source.offset,
+            len: source.len,
+            unsigned: !signed,
+        })
+    }
+}
+
+/// An operation with a constant of as many bits as the destination.
+fn of_constant(op: Operation, dest: Field, left: Field, constant: u32) -> Way
+    ensures { (shapes : List SetShape) (args : List ℕ) → IsWayOfConstant shapes args op dest left constant result }
+{
+    let offset = left.offset;
+    match op {
+        Operation::UShiftLeft => Way::Moved(Moved::ShiftedLeft {
+            offset,
+            by: constant,
+        }),
+        Operation::SShiftRight => Way::Moved(Moved::ShiftedRight {
+            offset,
+            by: constant,
+            unsigned: false,
+        }),
+        Operation::UShiftRight => Way::Moved(Moved::ShiftedRight {
+            offset,
+            by: constant,
+            unsigned: true,
+        }),
+        Operation::SAdd
+        | Operation::SSubtract
+        | Operation::SMultiply
+        | Operation::STruncate
+        | Operation::UTruncate
+        | Operation::SRem
+        | Operation::URem
+        | Operation::SMod
+        | Operation::SMin
+        | Operation::UMin
+        | Operation::SMax
+        | Operation::UMax
+        | Operation::Logand
+        | Operation::Logior
+        | Operation::Logxor => of_two(
+            work_of(op),
+            Operand::Field(offset),
+            Operand::Constant(constant),
+        ),
     }
 }
 
@@ -92,14 +141,13 @@ pub(crate) fn way_of(plans: &[SetPlan], instr: &Instr, args: &[u32]) -> Way
         ),
         Instr::OperateConstant {
             op,
+            dest,
             left,
             right,
-            ..
-        } => of_two(
-            work_of(*op),
-            Operand::Field(left.offset),
-            Operand::Constant(konst(*right, args)),
-        ),
+        } => {
+            let constant = konst(*right, args) & mask(dest.len);
+            of_constant(*op, *dest, *left, constant)
+        }
         Instr::Compare {
             relation,
             left,

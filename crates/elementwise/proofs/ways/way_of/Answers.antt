@@ -1,5 +1,7 @@
 use Rattle.std.proofs.Common.{◌+◌, ◌%◌, ◌^◌, map, refl, sym, ◌∙◌, ap, arith}
+use Rattle.std.specs.Prelude.{bit_and}
 use Rattle.std.proofs.Math.Nat.{mod-mod}
+use Rattle.std.proofs.lemmas.Nat.{and_mask}
 use Rattle.lane_kernels.specs.declared.target.Operand.TheVariants as O
 use Rattle.paris_code.specs.declared.instr.Instr.TheVariants as I
 use Rattle.paris_code.specs.declared.operands.Compare.TheVariants as R
@@ -135,15 +137,10 @@ returns-in-OperateConstant c =
     let shapes = map shape_of_plan c.args.plans.now in
     let args = c.args.args.now in
     let i = c.in-OperateConstant in
-    let o = c.work_of-in-OperateConstant.result in
-    let k = konst_number i.right args in
-    let instr = I.OperateConstant i.op i.dest i.left i.right in
-    of shapes args c.of_two-in-OperateConstant.result (by_kernel o (O.Field i.left.offset) (O.Constant k)) c.args.instr.now instr
-    (c.of_two-in-OperateConstant.ensures ∙ ap (λ n. by_kernel o (O.Field i.left.offset) (O.Constant n)) c.konst-in-OperateConstant.ensures) i.is c.requires.can (λ can.
-    kernel_is shapes instr args o (O.Field i.left.offset) (O.Constant k) (λ m p. field_number m i.left p) (λ m p. k % 2 ^ i.dest.len)
-    (of_field shapes instr i.left (can.field.1.1 can.set.1 can.set.0) (fits_with shapes i.dest i.left can.field.1.0 can.set.0 can.set.1 can.operands)) (of_constant shapes instr k)
-    (λ planes p xb yb. ap (λ n. n % 2 ^ i.dest.len)
-    (operation_is o i.op i.dest.len (field_number (block_memory planes) i.left p) (k % 2 ^ i.dest.len) c.work_of-in-OperateConstant.ensures (can.field.0 can.set.0).0 xb yb)))
+    let n = i.dest.len in
+    of shapes args c.of_constant.result c.of_constant.result c.args.instr.now (I.OperateConstant i.op i.dest i.left i.right) refl i.is c.requires.can (λ can.
+    c.of_constant.ensures shapes args i.right can
+    (sym (ap (λ k. bit_and k c.mask.result) c.konst-in-OperateConstant.ensures ∙ ap (bit_and (konst_number i.right args)) c.mask.ensures ∙ and_mask (konst_number i.right args) n)))
 
 pub returns-in-Move : goal.returns-in-Move
 returns-in-Move c =
