@@ -13,14 +13,14 @@ use Rattle.lane_kernels.specs.Numbers as K
 use Rattle.elementwise.proofs.Orders.{upper}
 
 -- one time less
-less_one : (a b : ℕ) → 1 ≤ a → (a - 1) * b + b ≡ a * b
+pub less_one : (a b : ℕ) → 1 ≤ a → (a - 1) * b + b ≡ a * b
 less_one a b h = (let e : (a - 1) * b + b ≡ (a - 1) * b + 1 * b = omega arith in e) ∙ sym (add-mul (a - 1) 1 b) ∙ ap (λ k. k * b) (let e : a - 1 + 1 ≡ a = omega (arith, h) in e)
 
 -- a number of the lower half, and one of the upper half, with more bits
-extended_low : (n more x : ℕ) → x < 2 ^ (n - 1) → K.extended false n more x ≡ x
+pub extended_low : (n more x : ℕ) → x < 2 ^ (n - 1) → K.extended false n more x ≡ x
 extended_low n more x h = ap (λ t. cond t x (x + (2 ^ more - 1) * 2 ^ n)) (lt-ltb x (2 ^ (n - 1)) h)
 
-extended_high : (n more x : ℕ) → 2 ^ (n - 1) ≤ x → K.extended false n more x ≡ x + (2 ^ more - 1) * 2 ^ n
+pub extended_high : (n more x : ℕ) → 2 ^ (n - 1) ≤ x → K.extended false n more x ≡ x + (2 ^ more - 1) * 2 ^ n
 extended_high n more x h = ap (λ t. cond t x (x + (2 ^ more - 1) * 2 ^ n)) (le-ltb x (2 ^ (n - 1)) h)
 
 pub resized_is : (to n : ℕ) (signed : Bool) (x : ℕ) → x < 2 ^ n → K.resized (not signed) n to x ≡ residue to (number_of n signed x)
@@ -44,7 +44,7 @@ left_is n k x = elim (cases_lt k n) [
 ]
 
 -- the bits of a number of the upper half from bit k on are those of what it lacks, turned
-shifted_high : (n k x : ℕ) → x < 2 ^ n → (x + (2 ^ (n + k) - 1) * 2 ^ n) / 2 ^ k % 2 ^ n ≡ 2 ^ n - 1 - (2 ^ n - 1 - x) / 2 ^ k
+pub shifted_high : (n k x : ℕ) → x < 2 ^ n → (x + (2 ^ (n + k) - 1) * 2 ^ n) / 2 ^ k % 2 ^ n ≡ 2 ^ n - 1 - (2 ^ n - 1 - x) / 2 ^ k
 shifted_high n k x h =
     let p : ℕ = 2 ^ n in
     let s : ℕ = 2 ^ k in

@@ -1,7 +1,8 @@
 -- Fields whose bits are moved.
-use Rattle.std.specs.Prelude.{◌≡◌, ℕ, ◌+◌, ◌%◌, ◌^◌, ◌≤◌, List, length}
+use Rattle.std.specs.Prelude.{◌≡◌, ℕ, ◌+◌, ◌%◌, ◌^◌, ◌<◌, ◌≤◌, false, List, length}
 use Rattle.bit_planes.specs.declared.plane.Plane.{Plane}
 use Rattle.bit_planes.specs.Planes.{number}
+use Rattle.cstar_base.specs.Operators.{quotient_of}
 use Rattle.lane_kernels.specs.declared.target.Target.{Target}
 use Rattle.lane_kernels.specs.Kernels.{IsFieldReadable, IsReadableDown}
 use Rattle.lane_kernels.specs.Numbers.{resized, shifted_left, shifted_right}
@@ -18,18 +19,21 @@ abbrev pub moved_number : Moved → List Plane → ℕ → ℕ → ℕ
 moved_number (M.Resized offset len unsigned) planes n i = resized unsigned len n (number planes offset len i)
 moved_number (M.ShiftedLeft offset by) planes n i = shifted_left n by (number planes offset n i)
 moved_number (M.ShiftedRight offset by unsigned) planes n i = shifted_right unsigned n by (number planes offset n i)
+moved_number (M.Divided offset by) planes n i = quotient_of n false (number planes offset n i) (2 ^ by)
 
--- the field lies in the planes
+-- the field lies in the planes, and a divisor is above 0 as a signed number
 abbrev pub IsMovedWithin : Moved → ℕ → List Plane → Type 0
 IsMovedWithin (M.Resized offset len unsigned) n planes = (1 ≤ len) × (offset + len ≤ length planes)
 IsMovedWithin (M.ShiftedLeft offset by) n planes = offset + n ≤ length planes
 IsMovedWithin (M.ShiftedRight offset by unsigned) n planes = offset + n ≤ length planes
+IsMovedWithin (M.Divided offset by) n planes = (by + 1 < n) × (offset + n ≤ length planes)
 
 -- and it can be read while the target is written
 abbrev pub IsMovable : Moved → Target → List Plane → Type 0
 IsMovable (M.Resized offset len unsigned) to planes = (1 ≤ len) × IsFieldReadable offset len to planes
 IsMovable (M.ShiftedLeft offset by) to planes = IsReadableDown offset to planes
 IsMovable (M.ShiftedRight offset by unsigned) to planes = IsFieldReadable offset to.len to planes
+IsMovable (M.Divided offset by) to planes = (by + 1 < to.len) × IsFieldReadable offset to.len to planes
 
 -- the moved field gives each lane of a block what the instruction gives its position
 pub record IsMovedFor (shapes : List SetShape) (instr : Instr) (args : List ℕ) (moved : Moved) : Type 0 where

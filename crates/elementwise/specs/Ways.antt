@@ -12,6 +12,7 @@ use Rattle.paris_code.specs.Arguments.{konst_number}
 use Rattle.paris_code.specs.Shapes.{SetShape}
 use Rattle.phase_meaning.specs.Apply.{CanApply}
 use Rattle.elementwise.specs.declared.planar.Planar.{Planar}
+use Rattle.elementwise.specs.declared.planar.Planar.TheVariants as L
 use Rattle.elementwise.specs.declared.planar.Work.{Work}
 use Rattle.elementwise.specs.declared.planar.Work.TheVariants as K
 use Rattle.elementwise.specs.declared.ways.Way.{Way}
@@ -26,6 +27,10 @@ by_kernel op a b = W.Kernel (record { op = op; a = a; b = b })
 
 abbrev pub by_one : Planar → Operand → Way
 by_one op a = by_kernel (K.Planes op) a (O.Constant 0)
+
+-- by the bits of a field that a mask has
+abbrev pub by_mask : ℕ → ℕ → Way
+by_mask offset mask = by_kernel (K.Planes L.And) (O.Field offset) (O.Constant mask)
 
 -- by a relation
 abbrev pub by_relation : Compare → ℕ → Operand → Operand → Way

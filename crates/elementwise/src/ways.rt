@@ -1,11 +1,11 @@
 //! How an instruction is done in the blocks of its set.
 
-ghost use Rattle.std.specs.Prelude.{◌≡◌, ℕ, List, map, All};
+ghost use Rattle.std.specs.Prelude.{◌≡◌, ℕ, ◌+◌, ◌<◌, ◌^◌, List, map, All, IfSome};
 ghost use Rattle.paris_code.specs.Shapes.{SetShape};
 ghost use Rattle.paris_code.specs.Sound.{IsShape};
 ghost use Rattle.phase_meaning.specs.Apply.{CanApply};
 ghost use Rattle.block_store.specs.Stored.{shape_of_plan};
-ghost use Rattle.elementwise.specs.Ways.{IsWayOf, IsWayOfConstant, IsWayOfMove, by_kernel, by_one, by_relation};
+ghost use Rattle.elementwise.specs.Ways.{IsWayOf, IsWayOfConstant, IsWayOfMove, by_kernel, by_mask, by_one, by_relation};
 
 use crate::moved::Moved;
 use crate::planar::{Kernel, Planar, Work, work_of};
@@ -67,8 +67,75 @@ fn of_move(signed: bool, dest: Field, source: Field) -> Way
     }
 }
 
-/// An operation with a constant of as many bits as the destination.
+/// The exponent of a power of 2.
+fn exponent_of(number: u32) -> Option<u32>
+    ensures { IfSome result (λ k. (k < 32) × (number ≡ 2 ^ k)) }
+{
+    let k = number.trailing_zeros();
+    if k < 32 && number == 1 << k {
+        Some(k)
+    } else {
+        None
+    }
+}
+
+/// An operation with a constant of as many bits as the destination. One that is a power of 2, and
+/// above 0 also where it is read signed, multiplies and divides by moving bits.
 fn of_constant(op: Operation, dest: Field, left: Field, constant: u32) -> Way
+    ensures { (shapes : List SetShape) (args : List ℕ) → IsWayOfConstant shapes args op dest left constant result }
+{
+    match exponent_of(constant) {
+        Some(k) if k + 1 < u32::from(dest.len) => of_power(op, dest, left, constant, k),
+        _ => of_number(op, dest, left, constant),
+    }
+}
+
+/// The bits of a field that a mask has.
+fn of_bits(offset: u32, mask: u32) -> Way
+    ensures { result ≡ by_mask offset mask }
+{
+    of_two(
+        Work::Planes(Planar::And),
+        Operand::Field(offset),
+        Operand::Constant(mask),
+    )
+}
+
+/// An operation with 2 to the k.
+fn of_power(op: Operation, dest: Field, left: Field, constant: u32, k: u32) -> Way
+    requires power { constant ≡ 2 ^ k }
+    requires positive { k + 1 < dest.len }
+    ensures { (shapes : List SetShape) (args : List ℕ) → IsWayOfConstant shapes args op dest left constant result }
+{
+    let offset = left.offset;
+    match op {
+        Operation::SMultiply => Way::Moved(Moved::ShiftedLeft { offset, by: k }),
+        Operation::UTruncate => Way::Moved(Moved::ShiftedRight {
+            offset,
+            by: k,
+            unsigned: true,
+        }),
+        Operation::STruncate => Way::Moved(Moved::Divided { offset, by: k }),
+        Operation::URem => of_bits(offset, constant - 1),
+        Operation::SMod => of_bits(offset, constant - 1),
+        Operation::SRem
+        | Operation::SAdd
+        | Operation::SSubtract
+        | Operation::SMin
+        | Operation::UMin
+        | Operation::SMax
+        | Operation::UMax
+        | Operation::Logand
+        | Operation::Logior
+        | Operation::Logxor
+        | Operation::UShiftLeft
+        | Operation::SShiftRight
+        | Operation::UShiftRight => of_number(op, dest, left, constant),
+    }
+}
+
+/// An operation with any constant.
+fn of_number(op: Operation, dest: Field, left: Field, constant: u32) -> Way
     ensures { (shapes : List SetShape) (args : List ℕ) → IsWayOfConstant shapes args op dest left constant result }
 {
     let offset = left.offset;

@@ -3,7 +3,7 @@ use Rattle.paris_code.specs.declared.operands.Operation.TheVariants as P
 use Rattle.elementwise.specs.declared.moved.Moved.TheVariants as M
 use Rattle.elementwise.specs.declared.ways.Way.TheVariants as W
 use Rattle.elementwise.proofs.Constants.{of_op, shifts_left, shifts_right, shifts_right_unsigned, with_constant}
-use Rattle.elementwise.proofs.ways.of_constant.Goals as goal
+use Rattle.elementwise.proofs.ways.of_number.Goals as goal
 
 pub returns-in-UShiftLeft : goal.returns-in-UShiftLeft
 returns-in-UShiftLeft c = λ shapes args. of_op shapes args c.args.op P.UShiftLeft c.args.dest c.args.left c.args.constant (W.Moved (M.ShiftedLeft c.args.left.offset c.args.constant)) c.in-UShiftLeft.is (shifts_left shapes args c.args.dest c.args.left c.args.constant)
