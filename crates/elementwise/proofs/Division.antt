@@ -1,5 +1,5 @@
 -- A target that is written in the lanes of two masks, and then once more; division in three steps.
-use Rattle.std.proofs.Common.{◌≡◌, ℕ, ◌+◌, ◌-◌, ◌%◌, ◌^◌, ◌<◌, ◌≤◌, min, false, cond, eqb, List, length, sym, ◌∙◌, ap, inl, inr, arith}
+use Rattle.std.proofs.Common.{◌≡◌, ℕ, ◌+◌, ◌-◌, ◌%◌, ◌^◌, ◌<◌, min, false, cond, eqb, List, sym, ◌∙◌, ap, inl, inr, arith}
 use Rattle.std.proofs.lemmas.Bool.{cases_eq, eq-eqb, ne_eqb}
 use Rattle.bit_planes.specs.declared.plane.Plane.{Plane}
 use Rattle.bit_planes.specs.Bits.{bit}

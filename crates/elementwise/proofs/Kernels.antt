@@ -41,12 +41,11 @@ use Rattle.block_store.proofs.Lanes.{run_is}
 use Rattle.elementwise.specs.declared.planar.Work.{Work}
 use Rattle.elementwise.specs.declared.planar.Work.TheVariants as K
 use Rattle.elementwise.specs.declared.planar.Planar.TheVariants as L
-use Rattle.elementwise.specs.declared.planar.Kernel.{Kernel}
 use Rattle.elementwise.specs.Blocks.{block_memory, DoneInBlock}
 use Rattle.elementwise.specs.declared.relations.Relation.{Relation}
 use Rattle.elementwise.specs.Relations.{relation_number, IsRelationOf}
 use Rattle.elementwise.specs.declared.ways.Way.{Way}
-use Rattle.elementwise.specs.Planar.{gives_work, kernel_number, operation_of, IsKernelOf}
+use Rattle.elementwise.specs.Planar.{gives_work, operation_of}
 use Rattle.elementwise.specs.Ways.{by_kernel, IsWayOf}
 use Rattle.elementwise.proofs.Orders.{least_is, greatest_is}
 use Rattle.elementwise.proofs.Written.{given_lanes, taken}

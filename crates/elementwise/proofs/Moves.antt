@@ -1,9 +1,9 @@
 -- Fields that are resized or shifted have the numbers that instructions ask for.
-use Rattle.std.proofs.Common.{◌≡◌, ℕ, ◌+◌, ◌-◌, ◌*◌, ◌/◌, ◌%◌, ◌^◌, ◌<◌, ◌≤◌, Bool, true, false, cond, ltb, ℤ, pos, negsuc, ◌+ℤ◌, ◌-ℤ◌, ◌*ℤ◌, refl, sym, ◌∙◌, ap, inl, inr, lit<, arith, add-mul}
-use Rattle.std.specs.Prelude.{not, int_div, int_rem}
-use Rattle.std.specs.Int.{int_shr, is_negative, int_rem_euclid}
+use Rattle.std.proofs.Common.{◌≡◌, ℕ, ◌+◌, ◌-◌, ◌*◌, ◌/◌, ◌%◌, ◌^◌, ◌<◌, ◌≤◌, Bool, true, false, cond, ltb, pos, negsuc, ◌-ℤ◌, sym, ◌∙◌, ap, inl, inr, lit<, arith, add-mul}
+use Rattle.std.specs.Prelude.{not}
+use Rattle.std.specs.Int.{int_shr, is_negative}
 use Rattle.std.proofs.lemmas.Int.{ints}
-use Rattle.std.proofs.lemmas.Nat.{pow_pos, pow-add, mod_below, mod_low}
+use Rattle.std.proofs.lemmas.Nat.{pow_pos, pow-add, mod_below}
 use Rattle.std.proofs.lemmas.Bool.{cases_lt, lt-ltb, le-ltb}
 use Rattle.std.proofs.Math.Nat.{mod-eq_of_lt, div-eq_of_lt, pow-le-pow_right, div-add-mod, add-mul-div_left, add-mul-mod_self_right, mul-mod_left, mul_comm, mul_assoc, mul-add}
 use Rattle.cstar_base.specs.Numbers.{residue, number_of}

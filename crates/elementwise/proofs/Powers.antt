@@ -1,12 +1,12 @@
 -- Products, quotients and remainders by a power of 2 that is above 0 as a signed number.
-use Rattle.std.proofs.Common.{◌≡◌, ℕ, suc, ◌+◌, ◌-◌, ◌*◌, ◌/◌, ◌%◌, ◌^◌, ◌<◌, ◌≤◌, true, false, cond, eqb, ℤ, pos, negsuc, neg_ℤ, ◌+ℤ◌, ◌*ℤ◌, bit_and, refl, sym, ◌∙◌, ap, inl, inr, arith, add-mul}
+use Rattle.std.proofs.Common.{◌≡◌, ℕ, suc, ◌+◌, ◌-◌, ◌*◌, ◌/◌, ◌%◌, ◌^◌, ◌<◌, ◌≤◌, true, false, cond, eqb, ℤ, pos, negsuc, neg_ℤ, ◌*ℤ◌, bit_and, sym, ◌∙◌, ap, inl, inr, arith, add-mul}
 use Rattle.std.specs.Prelude.{int_div, int_rem}
 use Rattle.std.specs.Int.{bit_at}
 use Rattle.std.proofs.lemmas.Int.{ints}
 use Rattle.std.proofs.lemmas.Nat.{pow_pos, pow-add, mod_below, and_mask}
 use Rattle.std.proofs.lemmas.Nat.Bits.{bit_at_above}
 use Rattle.std.proofs.lemmas.Bool.{cases_lt, ne_eqb}
-use Rattle.std.proofs.Math.Nat.{mod-eq_of_lt, mod_self, div-eq_of_lt, div-add-mod, add-mul-div_left, add-mul-mod_self_right, mul_comm}
+use Rattle.std.proofs.Math.Nat.{mod-eq_of_lt, div-eq_of_lt, div-add-mod, add-mul-div_left, add-mul-mod_self_right, mul_comm}
 use Rattle.std.proofs.Math.Pow.{pow-lt}
 use Rattle.cstar_base.specs.Numbers.{residue, number_of}
 use Rattle.cstar_base.specs.Operators.{operand, product_of, quotient_of, remainder_of, modulus_of, floor_rem}

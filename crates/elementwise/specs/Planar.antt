@@ -1,5 +1,5 @@
 -- What is done plane by plane.
-use Rattle.std.specs.Prelude.{◌≡◌, ℕ, ◌+◌, ◌%◌, ◌^◌, ◌≤◌, bit_and, bit_or, bit_xor, Bool, true, false, List, length, Option, Some, None}
+use Rattle.std.specs.Prelude.{◌≡◌, ℕ, ◌+◌, ◌%◌, ◌^◌, ◌≤◌, bit_and, bit_or, bit_xor, true, false, List, length, Option, Some, None}
 use Rattle.bit_planes.specs.declared.plane.Plane.{Plane}
 use Rattle.lane_kernels.specs.Kernels.{operand_of, IsWithin}
 use Rattle.lane_kernels.specs.Numbers.{sum_of, difference_of, negative_of, complement_of, least_of, greatest_of}

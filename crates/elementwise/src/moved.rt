@@ -18,11 +18,25 @@ use std::simd::prelude::*;
 /// target.
 #[derive(Drop)]
 pub(crate) enum Moved {
-    Resized { offset: u32, len: u8, unsigned: bool },
-    ShiftedLeft { offset: u32, by: u32 },
-    ShiftedRight { offset: u32, by: u32, unsigned: bool },
+    Resized {
+        offset: u32,
+        len: u8,
+        unsigned: bool,
+    },
+    ShiftedLeft {
+        offset: u32,
+        by: u32,
+    },
+    ShiftedRight {
+        offset: u32,
+        by: u32,
+        unsigned: bool,
+    },
     /// Divided by 2 to the `by`, toward 0.
-    Divided { offset: u32, by: u32 },
+    Divided {
+        offset: u32,
+        by: u32,
+    },
 }
 
 /// The lowest k bits, all 1.

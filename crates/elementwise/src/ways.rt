@@ -240,7 +240,10 @@ pub(crate) fn way_of(plans: &[SetPlan], instr: &Instr, args: &[u32]) -> Way
         Instr::LoadTest { source } => of_one(Planar::Same, Operand::Field(source.offset)),
         Instr::LoadContext { source } => of_one(Planar::Same, Operand::Field(source.offset)),
         Instr::StoreTest { dest } => {
-            of_one(Planar::Same, Operand::Field(plan_of(plans, dest.set).bits + 1))
+            of_one(
+                Planar::Same,
+                Operand::Field(plan_of(plans, dest.set).bits + 1),
+            )
         }
         Instr::StoreContext { dest } => {
             of_one(Planar::Same, Operand::Field(plan_of(plans, dest.set).bits))
@@ -256,12 +259,7 @@ pub(crate) fn way_of(plans: &[SetPlan], instr: &Instr, args: &[u32]) -> Way
         }
         Instr::LogandcContextWithTest { set } => {
             let at = plan_of(plans, *set).bits;
-            of_relation(
-                Compare::ULt,
-                1,
-                Operand::Field(at + 1),
-                Operand::Field(at),
-            )
+            of_relation(Compare::ULt, 1, Operand::Field(at + 1), Operand::Field(at))
         }
         Instr::MyNewsCoordinate { .. }
         | Instr::MakeAddress { .. }

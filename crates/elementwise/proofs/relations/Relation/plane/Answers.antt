@@ -1,5 +1,5 @@
 -- Each relation, by the kernels of `equal` and `less`.
-use Rattle.std.proofs.Common.{ℕ, ◌-◌, ◌<◌, ◌^◌, Bool, true, false, ◌∙◌, ap}
+use Rattle.std.proofs.Common.{◌-◌, true, false, ◌∙◌, ap}
 use Rattle.bit_planes.specs.Bits.{bit}
 use Rattle.lane_kernels.specs.Kernels.{operand_of}
 use Rattle.lane_kernels.proofs.Lifted.{operand_of-lt}
