@@ -1,5 +1,6 @@
 pub mod Blocks
 pub mod Failing
+pub mod Moved
 pub mod Planar
 pub mod Relations
 pub mod Ways

@@ -1,10 +1,8 @@
 -- What is done plane by plane.
-use Rattle.std.specs.Prelude.{◌≡◌, ℕ, ◌+◌, ◌%◌, ◌^◌, ◌≤◌, bit_and, bit_or, bit_xor, List, length, Option, Some, None}
+use Rattle.std.specs.Prelude.{◌≡◌, ℕ, ◌+◌, ◌%◌, ◌^◌, ◌≤◌, bit_and, bit_or, bit_xor, true, false, List, length, Option, Some, None}
 use Rattle.bit_planes.specs.declared.plane.Plane.{Plane}
-use Rattle.lane_kernels.specs.declared.target.Operand.{Operand}
-use Rattle.lane_kernels.specs.declared.target.Operand.TheVariants as O
 use Rattle.lane_kernels.specs.Kernels.{operand_of, IsWithin}
-use Rattle.lane_kernels.specs.Numbers.{sum_of, difference_of, negative_of, complement_of}
+use Rattle.lane_kernels.specs.Numbers.{sum_of, difference_of, negative_of, complement_of, least_of, greatest_of}
 use Rattle.paris_code.specs.declared.instr.Instr.{Instr}
 use Rattle.paris_code.specs.declared.operands.Operation.{Operation}
 use Rattle.paris_code.specs.declared.operands.Operation.TheVariants as P
@@ -30,17 +28,13 @@ gives L.Subtract n x y = difference_of n x y
 gives L.And n x y = bit_and x y
 gives L.Or n x y = bit_or x y
 gives L.Xor n x y = bit_xor x y
+gives (L.Min unsigned) n x y = least_of unsigned n x y
+gives (L.Max unsigned) n x y = greatest_of unsigned n x y
 
 -- and what one gives that is done either way
 abbrev pub gives_work : Work → ℕ → ℕ → ℕ → ℕ
 gives_work (K.Planes o) n x y = gives o n x y
 gives_work (K.Values op) n x y = outcome (operator_of op).0 n (operator_of op).1 x y
-
-abbrev pub two_operands : Work → Operand → Operand → Kernel
-two_operands op a b = record { op = op; a = a; b = b }
-
-abbrev pub one_operand : Planar → Operand → Kernel
-one_operand op a = two_operands (K.Planes op) a (O.Constant 0)
 
 -- the operation of instructions that is done so
 abbrev pub operation_of : Work → Option Operation
@@ -49,6 +43,10 @@ operation_of (K.Planes L.Subtract) = Some P.SSubtract
 operation_of (K.Planes L.And) = Some P.Logand
 operation_of (K.Planes L.Or) = Some P.Logior
 operation_of (K.Planes L.Xor) = Some P.Logxor
+operation_of (K.Planes (L.Min false)) = Some P.SMin
+operation_of (K.Planes (L.Min true)) = Some P.UMin
+operation_of (K.Planes (L.Max false)) = Some P.SMax
+operation_of (K.Planes (L.Max true)) = Some P.UMax
 operation_of (K.Planes _) = None
 operation_of (K.Values op) = Some op
 

@@ -4,27 +4,29 @@ ghost use Rattle.std.specs.Prelude.{◌≡◌, ℕ, ◌<◌, ◌≤◌, ◌+◌,
 ghost use Rattle.vp_sets.specs.Blocks.{block_count};
 ghost use Rattle.paris_code.specs.Elementwise.{is_elementwise, destination, writes_always};
 ghost use Rattle.cstar_base.specs.Operators.{outcome};
-ghost use Rattle.paris_code.specs.Operators.{comparison_of, operator_of};
+ghost use Rattle.bit_planes.specs.Bits.{bit};
+ghost use Rattle.paris_code.specs.Operators.{operator_of};
 ghost use Rattle.paris_code.specs.Shapes.{bits_at, extents_at};
 ghost use Rattle.phase_meaning.specs.Apply.{CanApply, active_set};
 ghost use Rattle.block_store.specs.Stored.{shape_of_plan};
 ghost use Rattle.block_store.specs.Phases.{LanesWritten};
 ghost use Rattle.lane_kernels.specs.Kernels.{operand_of, HasTarget, IsReadable, IsWithin};
 ghost use Rattle.elementwise.specs.Blocks.{DoneInBlock};
+ghost use Rattle.elementwise.specs.Moved.{moved_number, IsMovable};
 ghost use Rattle.elementwise.specs.Planar.{gives, kernel_number};
-ghost use Rattle.elementwise.specs.Relations.{relation_number};
 ghost use Rattle.elementwise.specs.Ways.{IsWayOf};
 
 use crate::lanes::words_given;
+use crate::moved::Moved;
 use crate::planar::{Kernel, Planar, Work, can_work_in_place, operate_in_place};
-use crate::relations::Relation;
 use crate::ways::Way;
 use crate::writes::{Written, plan_of};
 use bit_planes::Block;
 use block_store::{SetPlan, put_words, taking_lanes, words_of};
-use lane_kernels::{Operand, Target};
-use paris_code::{Compare, Instr, Operation};
-use phase_meaning::arith::{holds, mask, operate};
+use lane_kernels::{Operand, Target, write};
+use paris_code::{Instr, Operation};
+use phase_meaning::arith::{mask, operate};
+use std::simd::prelude::*;
 
 /// Does an elementwise instruction in block `k` of its set, by the numbers of the lanes.
 fn by_values(plans: &[SetPlan], block: &mut Block, instr: &Instr, args: &[u32], to: Written, k: u32)
@@ -115,34 +117,25 @@ fn by_kernel(block: &mut Block, kernel: &Kernel, to: &Target)
     }
 }
 
-/// Whether the relation holds of numbers of `len` bits.
-fn related(relation: Compare, len: u8, x: &[u32; 512], y: &[u32; 512]) -> [u32; 512]
-    requires len { (1 ≤ len) × (len ≤ 32) }
-    requires x { (i : ℕ) → i < 512 → slice_index x.now i < 2 ^ len }
-    requires y { (i : ℕ) → i < 512 → slice_index y.now i < 2 ^ len }
-    ensures { (i : ℕ) → i < 512 → slice_index result i ≡ outcome (comparison_of relation).0 len (comparison_of relation).1 (slice_index x.now i) (slice_index y.now i) }
+/// Makes the target the numbers of the moved field, in its lanes of the block.
+fn by_moving(block: &mut Block, moved: &Moved, to: &Target)
+    requires target { HasTarget to.now block.old.planes.items }
+    requires field { IsMovable moved.now to.now block.old.planes.items }
+    ensures { LanesWritten to.now.offset to.now.len to.now.lanes (moved_number moved.now block.old.planes.items to.now.len) block.old.planes.items block.new.planes.items }
 {
-    let mut words = [0; 512];
-    'lanes: for i in 0..512 {
-        words[i] = u32::from(holds(relation, len, x[i], y[i]));
-    }
-    words
+    moved.put(&mut block.planes, to);
 }
 
-/// Where the relation holds.
-fn words_of_relation(block: &Block, r: &Relation) -> [u32; 512]
-    requires len { (1 ≤ r.now.len) × (r.now.len ≤ 32) }
-    requires a { IsWithin r.now.a r.now.len block.now.planes.items }
-    requires b { IsWithin r.now.b r.now.len block.now.planes.items }
-    ensures { (i : ℕ) → i < 512 → slice_index result i ≡ relation_number r.now block.now.planes.items i }
+/// Makes a plane the value, in the lanes of the mask.
+fn put_plane(block: &mut Block, at: u32, lanes: u64x8, value: u64x8)
+    requires { at < length block.old.planes.items }
+    ensures { LanesWritten at 1 lanes (λ i. bit value i) block.old.planes.items block.new.planes.items }
 {
-    let x = words_of_operand(block, &r.a, r.len);
-    let y = words_of_operand(block, &r.b, r.len);
-    related(r.relation, r.len, &x, &y)
+    write(&mut block.planes, at as usize, value, lanes);
 }
 
-/// Does an elementwise instruction in block `k` of its set: by its kernel, where no plane is read
-/// after it is written, by its relation, and else by what it gives each lane.
+/// Does an elementwise instruction in block `k` of its set: by its kernel or moved field, where no
+/// plane is read after it is written, by its relation, and else by what it gives each lane.
 pub(crate) fn do_in_block(
     plans: &[SetPlan],
     block: &mut Block,
@@ -171,9 +164,16 @@ pub(crate) fn do_in_block(
                 by_values(plans, block, instr, args, to, k);
             }
         }
+        Way::Moved(moved) => {
+            if moved.can_work_in_place(&target) {
+                by_moving(block, moved, &target);
+            } else {
+                by_values(plans, block, instr, args, to, k);
+            }
+        }
         Way::Relation(relation) => {
-            let words = words_of_relation(block, relation);
-            put_words(block, to.run.offset, to.run.len, lanes, &words);
+            let value = relation.plane(&block.planes);
+            put_plane(block, to.run.offset, lanes, value);
         }
         Way::Elements => by_values(plans, block, instr, args, to, k),
     }

@@ -6,6 +6,8 @@ mod checks;
 mod everywhere;
 mod in_block;
 mod lanes;
+mod moved;
+mod overlap;
 mod planar;
 mod relations;
 #[cfg(test)]

@@ -1,20 +1,14 @@
 //! What is done plane by plane: kernels on operands that are fields or constants.
 
-ghost use Rattle.std.specs.Prelude.{◌≡◌, ℕ, ◌<◌, ◌≤◌, ◌+◌, true, map, length, All, IfSome, List, Some, IsTrue};
+ghost use Rattle.std.specs.Prelude.{◌≡◌, ℕ, List, Some, IsTrue};
 ghost use Rattle.bit_planes.specs.declared.plane.Plane.{Plane};
 ghost use Rattle.lane_kernels.specs.Kernels.{operand_of, HasTarget, IsReadable, IsWithin, Becomes};
-ghost use Rattle.paris_code.specs.Elementwise.{is_elementwise};
-ghost use Rattle.paris_code.specs.Sound.{IsShape};
-ghost use Rattle.phase_meaning.specs.Apply.{CanApply};
-ghost use Rattle.block_store.specs.Stored.{shape_of_plan};
-ghost use Rattle.elementwise.specs.Planar.{gives, one_operand, operation_of, two_operands, IsKernelOf};
+ghost use Rattle.elementwise.specs.Planar.{gives, operation_of};
 
-use crate::writes::plan_of;
+use crate::overlap::is_readable_up;
 use bit_planes::Plane;
-use block_store::SetPlan;
 use lane_kernels::{Operand, Target, in_place};
-use paris_code::{Instr, Operation};
-use phase_elements::konst;
+use paris_code::Operation;
 
 /// An operation that is done plane by plane.
 #[derive(Clone, Copy)]
@@ -27,6 +21,8 @@ pub(crate) enum Planar {
     And,
     Or,
     Xor,
+    Min { unsigned: bool },
+    Max { unsigned: bool },
 }
 
 /// How an operation is done: plane by plane, or on the numbers of the lanes.
@@ -44,26 +40,8 @@ pub(crate) struct Kernel {
     pub b: Operand,
 }
 
-/// The kernel with one operand.
-fn of_one(op: Planar, a: Operand) -> Kernel
-    ensures { result ≡ one_operand op a }
-{
-    Kernel {
-        op: Work::Planes(op),
-        a,
-        b: Operand::Constant(0),
-    }
-}
-
-/// The kernel with two operands.
-fn of_two(op: Work, a: Operand, b: Operand) -> Kernel
-    ensures { result ≡ two_operands op a b }
-{
-    Kernel { op, a, b }
-}
-
 /// How an operation of an instruction is done.
-fn work_of(op: Operation) -> Work
+pub(crate) fn work_of(op: Operation) -> Work
     ensures { operation_of result ≡ Some op }
 {
     match op {
@@ -72,77 +50,19 @@ fn work_of(op: Operation) -> Work
         Operation::Logand => Work::Planes(Planar::And),
         Operation::Logior => Work::Planes(Planar::Or),
         Operation::Logxor => Work::Planes(Planar::Xor),
-        _ => Work::Values(op),
-    }
-}
-
-/// The kernel that does an elementwise instruction, where there is one.
-pub(crate) fn kernel_of(plans: &[SetPlan], instr: &Instr, args: &[u32]) -> Option<Kernel>
-    requires can { CanApply (map shape_of_plan plans.now) instr.now args.now }
-    requires grids { All IsShape (map shape_of_plan plans.now) }
-    ensures { IfSome result (IsKernelOf (map shape_of_plan plans.now) instr.now args.now) }
-{
-    match instr {
-        Instr::Move { dest, source, .. } => {
-            if dest.len != source.len {
-                return None;
-            }
-            Some(of_one(Planar::Same, Operand::Field(source.offset)))
-        }
-        Instr::MoveConstant { value, .. } => {
-            Some(of_one(Planar::Same, Operand::Constant(konst(*value, args))))
-        }
-        Instr::MoveZeroAlways { .. } => Some(of_one(Planar::Same, Operand::Constant(0))),
-        Instr::MoveAlways { source, .. } => {
-            Some(of_one(Planar::Same, Operand::Field(source.offset)))
-        }
-        Instr::Lognot { source, .. } => {
-            Some(of_one(Planar::Complement, Operand::Field(source.offset)))
-        }
-        Instr::Negate { source, .. } => {
-            Some(of_one(Planar::Negative, Operand::Field(source.offset)))
-        }
-        Instr::Operate {
-            op,
-            left,
-            right,
-            ..
-        } => {
-            Some(of_two(
-                work_of(*op),
-                Operand::Field(left.offset),
-                Operand::Field(right.offset),
-            ))
-        }
-        Instr::OperateConstant {
-            op,
-            left,
-            right,
-            ..
-        } => {
-            let constant = Operand::Constant(konst(*right, args));
-            Some(of_two(work_of(*op), Operand::Field(left.offset), constant))
-        }
-        Instr::LoadTest { source } => Some(of_one(Planar::Same, Operand::Field(source.offset))),
-        Instr::LoadContext { source } => Some(of_one(Planar::Same, Operand::Field(source.offset))),
-        Instr::StoreTest { dest } => {
-            let at = plan_of(plans, dest.set).bits + 1;
-            Some(of_one(Planar::Same, Operand::Field(at)))
-        }
-        Instr::StoreContext { dest } => {
-            let at = plan_of(plans, dest.set).bits;
-            Some(of_one(Planar::Same, Operand::Field(at)))
-        }
-        Instr::SetContext { .. } => Some(of_one(Planar::Same, Operand::Constant(1))),
-        Instr::LogandContextWithTest { set } => {
-            let at = plan_of(plans, *set).bits;
-            Some(of_two(
-                Work::Planes(Planar::And),
-                Operand::Field(at),
-                Operand::Field(at + 1),
-            ))
-        }
-        _ => None,
+        Operation::SMin => Work::Planes(Planar::Min { unsigned: false }),
+        Operation::UMin => Work::Planes(Planar::Min { unsigned: true }),
+        Operation::SMax => Work::Planes(Planar::Max { unsigned: false }),
+        Operation::UMax => Work::Planes(Planar::Max { unsigned: true }),
+        Operation::SMultiply
+        | Operation::STruncate
+        | Operation::UTruncate
+        | Operation::SRem
+        | Operation::URem
+        | Operation::SMod
+        | Operation::UShiftLeft
+        | Operation::SShiftRight
+        | Operation::UShiftRight => Work::Values(op),
     }
 }
 
@@ -168,6 +88,8 @@ pub(crate) fn operate_in_place(
         Planar::And => in_place::and(planes, to, a, b),
         Planar::Or => in_place::or(planes, to, a, b),
         Planar::Xor => in_place::xor(planes, to, a, b),
+        Planar::Min { unsigned } => in_place::min(planes, to, a, b, unsigned),
+        Planar::Max { unsigned } => in_place::max(planes, to, a, b, unsigned),
     }
 }
 
@@ -177,9 +99,7 @@ fn is_readable(a: &Operand, to: &Target) -> bool
 {
     match a {
         Operand::Constant(_) => true,
-        Operand::Field(offset) => {
-            to.offset <= *offset || u64::from(*offset) + u64::from(to.len) <= u64::from(to.offset)
-        }
+        Operand::Field(offset) => is_readable_up(*offset, to.len, to),
     }
 }
 

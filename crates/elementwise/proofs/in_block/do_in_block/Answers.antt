@@ -1,23 +1,60 @@
-use Rattle.std.proofs.Common.{map, subst}
+use Rattle.std.proofs.Common.{◌≡◌, ℕ, ◌<◌, List, map, sym, ◌∙◌, ap, subst, arith}
+use Rattle.bit_planes.specs.Bits.{bit}
+use Rattle.bit_planes.specs.declared.plane.Plane.{Plane}
+use Rattle.paris_code.specs.declared.operands.Field.{Field}
+use Rattle.paris_code.specs.Shapes.{bits_at}
+use Rattle.phase_meaning.proofs.FieldLemmas.{destination_runs}
 use Rattle.block_store.specs.Stored.{shape_of_plan}
 use Rattle.elementwise.specs.declared.ways.Way.{Way}
+use Rattle.elementwise.specs.Moved.{moved_number, IsMovedWithin, IsMovedFor}
+use Rattle.elementwise.specs.Planar.{kernel_number, IsKernelOf}
+use Rattle.elementwise.specs.Relations.{relation_number}
 use Rattle.elementwise.specs.Ways.{IsWayOf}
-use Rattle.elementwise.proofs.Kernels.{kernel_done, relation_done}
+use Rattle.elementwise.proofs.Kernels.{lanes_done, relation_done}
 use Rattle.elementwise.proofs.in_block.do_in_block.Goals as goal
 
 pub returns-then-can_work_in_place : goal.returns-then-can_work_in_place
 returns-then-can_work_in_place c =
     let shapes = map shape_of_plan c.args.plans.now in
+    let old = c.args.block.now.planes.items in
     let to = c.at-target in
-    kernel_done shapes c.args.instr.now c.args.args.now c.args.k c.in-Kernel.kernel c.args.to.run c.args.to.always c.plan_of.result.now.geometry c.plan_of.result.now.bits
-    to.result c.taking_lanes-lanes.result c.args.block.now.planes.items c.by_kernel.new.block.planes.items
+    let does : IsKernelOf shapes c.args.instr.now c.args.args.now c.in-Kernel.kernel = subst (λ (w : Way). IsWayOf shapes c.args.instr.now c.args.args.now w) c.in-Kernel.is c.requires.way in
+    lanes_done shapes c.args.instr.now c.args.args.now c.args.k (kernel_number c.in-Kernel.kernel old) c.args.to.run c.args.to.always c.plan_of.result.now.geometry c.plan_of.result.now.bits
+    to.result c.taking_lanes-lanes.result old c.by_kernel.new.block.planes.items
     c.requires.run c.requires.always c.plan_of.ensures.extents c.plan_of.ensures.bits to.ensures.offset to.ensures.len to.ensures.lanes c.by_kernel.ensures c.taking_lanes-lanes.ensures
-    (subst (λ (w : Way). IsWayOf shapes c.args.instr.now c.args.args.now w) c.in-Kernel.is c.requires.way)
+    (does.same old)
+
+pub by_moving-requires-clause-field : goal.by_moving-requires-clause-field
+by_moving-requires-clause-field c =
+    let shapes = map shape_of_plan c.args.plans.now in
+    let old = c.args.block.now.planes.items in
+    let does : IsMovedFor shapes c.args.instr.now c.args.args.now c.in-Moved.moved = subst (λ (w : Way). IsWayOf shapes c.args.instr.now c.args.args.now w) c.in-Moved.is c.requires.way in
+    c.can_work_in_place-in-Moved.ensures old c.if-can_work_in_place-2.true
+    (subst (λ n. IsMovedWithin c.in-Moved.moved n old) (sym (c.at-target.ensures.len ∙ ap (λ (f : Field). f.len) c.requires.run)) (does.within old c.requires.planes))
+
+pub returns-then-can_work_in_place-2 : goal.returns-then-can_work_in_place-2
+returns-then-can_work_in_place-2 c =
+    let shapes = map shape_of_plan c.args.plans.now in
+    let old = c.args.block.now.planes.items in
+    let to = c.at-target in
+    let does : IsMovedFor shapes c.args.instr.now c.args.args.now c.in-Moved.moved = subst (λ (w : Way). IsWayOf shapes c.args.instr.now c.args.args.now w) c.in-Moved.is c.requires.way in
+    lanes_done shapes c.args.instr.now c.args.args.now c.args.k (moved_number c.in-Moved.moved old) c.args.to.run c.args.to.always c.plan_of.result.now.geometry c.plan_of.result.now.bits
+    to.result c.taking_lanes-lanes.result old c.by_moving.new.block.planes.items
+    c.requires.run c.requires.always c.plan_of.ensures.extents c.plan_of.ensures.bits to.ensures.offset to.ensures.len to.ensures.lanes c.by_moving.ensures c.taking_lanes-lanes.ensures
+    (does.same old)
+
+pub put_plane-requires : goal.put_plane-requires
+put_plane-requires c =
+    let shapes = map shape_of_plan c.args.plans.now in
+    let d = destination_runs shapes c.args.instr.now c.args.args.now c.requires.can c.requires.elementwise in
+    omega (arith, ap (λ (f : Field). f.offset) c.requires.run, d.0.1, d.0.3, ap (bits_at shapes) d.1, c.requires.planes)
 
 pub returns-in-Relation : goal.returns-in-Relation
 returns-in-Relation c =
     let shapes = map shape_of_plan c.args.plans.now in
+    let old = c.args.block.now.planes.items in
     relation_done shapes c.args.instr.now c.args.args.now c.args.k c.in-Relation.relation c.args.to.run c.args.to.always c.plan_of.result.now.geometry c.plan_of.result.now.bits
-    c.taking_lanes-lanes.result c.words_of_relation-words.result c.args.block.now.planes.items c.put_words.new.block.planes.items
-    c.requires.run c.requires.always c.plan_of.ensures.extents c.plan_of.ensures.bits c.put_words.ensures c.taking_lanes-lanes.ensures c.words_of_relation-words.ensures
+    c.taking_lanes-lanes.result c.plane-value.result old c.put_plane.new.block.planes.items
+    c.requires.run c.requires.always c.plan_of.ensures.extents c.plan_of.ensures.bits c.put_plane.ensures c.taking_lanes-lanes.ensures
+    (subst (λ (m : List Plane). (i : ℕ) → i < 512 → bit c.plane-value.result i ≡ relation_number c.in-Relation.relation m i) c.deref.ensures.value c.plane-value.ensures)
     (subst (λ (w : Way). IsWayOf shapes c.args.instr.now c.args.args.now w) c.in-Relation.is c.requires.way)
