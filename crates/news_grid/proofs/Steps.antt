@@ -1,12 +1,11 @@
 -- Where a step along an axis leads, by the numbers of positions; and the lanes from which it crosses the end of a turn.
-use Rattle.std.proofs.Common.{◌≡◌, ℕ, zero, suc, ◌+◌, ◌-◌, ◌*◌, ◌/◌, ◌%◌, ◌^◌, ◌<◌, ◌≤◌, true, cond, eqb, ltb, max, min, List, drop, refl, sym, ◌∙◌, ap, subst, inl, inr, zero-add, arith}
+use Rattle.std.proofs.Common.{◌≡◌, ℕ, suc, ◌+◌, ◌-◌, ◌*◌, ◌%◌, ◌<◌, ◌≤◌, true, cond, eqb, ltb, max, min, List, drop, refl, sym, ◌∙◌, ap, inl, inr, zero-add, arith}
 use Rattle.std.specs.Prelude.{ℤ, pos, negsuc, ◌+ℤ◌, unsigned_abs, slice_index, length}
-use Rattle.std.specs.Int.{int_rem_euclid}
 use Rattle.std.proofs.lemmas.Int.{int_rem_euclid_is, ints}
 use Rattle.std.proofs.Math.Arith.{mod-mul}
 use Rattle.std.proofs.Math.Nat.{mod-eq_of_lt, mod-lt, add-mod-mod, add-mod_right, mul-le-mul_right, le-mul_of_pos_right, mod-le}
 use Rattle.std.proofs.lemmas.Bool.{cases_lt}
-use Rattle.vp_sets.specs.Positions.{position_count, are_positive, coordinates, coordinate, moved, shifted}
+use Rattle.vp_sets.specs.Positions.{position_count, are_positive, coordinate, moved, shifted}
 use Rattle.vp_sets.proofs.PositionLaws.{Step, step_of, axis_count, extent_positive, later_positive, count_positive, coordinate_by_stride}
 use Rattle.vp_sets.specs.Blocks.{block_count}
 use Rattle.bit_planes.specs.Bits.{bit}

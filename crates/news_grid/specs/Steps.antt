@@ -1,9 +1,9 @@
 -- A step along an axis, by the planes that the room holds.
-use Rattle.std.specs.Prelude.{◌≡◌, ℕ, ℤ, ◌+◌, ◌-◌, ◌*◌, ◌/◌, ◌%◌, ◌<◌, ◌≤◌, List, [], map, length, slice_index_or, nat_lt, if◌then◌else◌}
+use Rattle.std.specs.Prelude.{◌≡◌, ℕ, ℤ, ◌+◌, ◌-◌, ◌/◌, ◌%◌, ◌<◌, ◌≤◌, List, [], map, length, slice_index_or, nat_lt, if◌then◌else◌}
 use Rattle.vp_sets.specs.Positions.{position_count, shifted}
 use Rattle.bit_planes.specs.declared.plane.Plane.{Plane}
 use Rattle.bit_planes.specs.Bits.{bit}
-use Rattle.bit_planes.specs.Planes.{plane_at, number}
+use Rattle.bit_planes.specs.Planes.{number}
 use Rattle.block_store.specs.declared.set.Cell.{Cell}
 use Rattle.news_grid.specs.declared.step.Step.{Step}
 use Rattle.news_grid.specs.declared.window.Window.{Window}

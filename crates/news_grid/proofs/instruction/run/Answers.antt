@@ -1,13 +1,9 @@
-use Rattle.std.proofs.Common.{◌≡◌, Bool, true, false, ℕ, List, get_or, drop, ap, refl, sym, subst, ◌∙◌, arith, length-drop}
+use Rattle.std.proofs.Common.{true, false, ℕ, List, get_or, drop, ap, refl, sym, subst, ◌∙◌, arith, length-drop}
 use Rattle.paris_code.specs.Arguments.{konst_number}
 use Rattle.phase_meaning.proofs.Replies.{same_bits}
 use Rattle.std.proofs.lemmas.List.{take_all}
 use Rattle.cstar_base.specs.declared.operators.Winner.{Winner}
 use Rattle.paris_code.specs.declared.instr.Instr.{Instr}
-use Rattle.paris_code.specs.declared.instr.Instr.TheVariants as I
-use Rattle.paris_code.specs.declared.operands.Field.{Field}
-use Rattle.paris_code.specs.declared.operands.Konst.{Konst}
-use Rattle.news_grid.specs.Places.{is_fetching}
 use Rattle.paris_code.specs.declared.program.Reply.TheVariants as R
 use Rattle.paris_code.specs.Fetching.{at_one, of_neighbour}
 use Rattle.paris_code.specs.Meaning.{Means, after}
@@ -61,5 +57,5 @@ returns-in-WriteToProcessor-clause-meaning g c = λ w.
     subst (Leaves c.args.store.now c.args.args.now c.write_one.new.store w) (sym s.is) (
       refl,
       subst (λ (n : ℕ). SameBits shapes (memory_in c.write_one.new.store w) (written (at_one s.dest (get_or c.args.args.now 0 0) n) old))
-          (c.konst.ensures ∙ ap (konst_number s.value) (take_all _ (drop 1 c.args.args.now) (omega (arith, length-drop 1 c.args.args.now)))) (c.write_one.ensures.memory w),
+          (c.konst-in-WriteToProcessor.ensures ∙ ap (konst_number s.value) (take_all _ (drop 1 c.args.args.now) (omega (arith, length-drop 1 c.args.args.now)))) (c.write_one.ensures.memory w),
     )

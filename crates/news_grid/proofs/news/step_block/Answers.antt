@@ -1,4 +1,4 @@
-use Rattle.std.proofs.Common.{ℕ, ◌+◌, ◌-◌, ◌*◌, ◌∙◌, cond, eqb, min, ap, arith}
+use Rattle.std.proofs.Common.{◌∙◌, cond, eqb, min, ap, arith}
 use Rattle.vp_sets.specs.Blocks.{block_count}
 use Rattle.cstar_base.specs.Numbers.{number_of}
 use Rattle.std.proofs.Common.{true}

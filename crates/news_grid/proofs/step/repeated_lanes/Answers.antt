@@ -1,4 +1,3 @@
-use Rattle.std.proofs.Common.{arith}
 use Rattle.news_grid.proofs.Steps.{known_first, known_twice}
 use Rattle.news_grid.proofs.step.repeated_lanes.Goals as goal
 

@@ -1,4 +1,4 @@
-use Rattle.std.proofs.Common.{◌≡◌, ℕ, suc, ◌*◌, ◌≤◌, ◌^◌, List, drop, ◌∙◌, ap, w32, arith}
+use Rattle.std.proofs.Common.{◌≡◌, ℕ, suc, ◌*◌, List, drop, ◌∙◌, ap, w32, arith}
 use Rattle.std.specs.Prelude.{slice_index}
 use Rattle.std.proofs.lemmas.Int.{to_z-of_z}
 use Rattle.vp_sets.specs.Positions.{position_count, shifted}
