@@ -12,8 +12,8 @@ ghost use Rattle.block_store.specs.Phases.{TakesLanes};
 ghost use Rattle.block_store.specs.Planes.{block_bit, HasPlanes};
 ghost use Rattle.block_store.specs.Stored.{shape_of_plan};
 
-use bit_planes::Block;
 use bit_planes::plane::first_lanes;
+use bit_planes::{Block, Plane};
 use cstar_base::Memory;
 use std::alloc::Global;
 use std::simd::prelude::*;
@@ -55,10 +55,11 @@ pub fn taking_lanes(plan: &SetPlan, block: &Block, k: u32, always: bool) -> u64x
     block.plane(plan.bits)
 }
 
-/// Room for one word of each position of a block.
+/// Room for one word of each position of a block, and for the planes of one of its fields.
 #[derive(Clone, Copy)]
 pub struct Cell {
     pub words: [u32; 512],
+    pub planes: [Plane; 32],
 }
 
 /// A cell for each block of the largest set.
@@ -72,7 +73,11 @@ impl Room {
     pub(crate) fn new(alloc: Global, cells: u32) -> Result<Room, Memory>
         ensures { IfOk result (λ room. vec_len room.cells ≡ cells) }
     {
-        let cells = vec![in alloc; Cell { words: [0; 512] }; cells as usize]?;
+        let empty = Cell {
+            words: [0; 512],
+            planes: [Plane::zero(); 32],
+        };
+        let cells = vec![in alloc; empty; cells as usize]?;
         Ok(Room { cells })
     }
 }

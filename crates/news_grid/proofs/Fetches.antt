@@ -1,8 +1,7 @@
--- What is fetched into a block is what the memory has at its places.
-use Rattle.std.proofs.Common.{◌≡◌, ℕ, ◌+◌, ◌*◌, ◌/◌, ◌%◌, ◌^◌, ◌<◌, ◌≤◌, true, cond, eqb, ltb, List, [], length, get_or, All, sym, ◌∙◌, ap, subst, arith}
-use Rattle.std.specs.Prelude.{◌||◌}
+-- What the blocks of a set have taken from the room is what the memory has at its places.
+use Rattle.std.proofs.Common.{◌≡◌, ℕ, ◌+◌, ◌*◌, ◌/◌, ◌%◌, ◌^◌, ◌<◌, ◌≤◌, true, false, eqb, List, [], length, get_or, sym, ◌∙◌, ap, subst, arith}
+use Rattle.std.specs.Prelude.{ℤ, ◌||◌}
 use Rattle.std.proofs.lemmas.List.{get_or-map}
-use Rattle.std.proofs.lemmas.Bool.{lt-ltb}
 use Rattle.vp_sets.specs.Positions.{position_count, shifted}
 use Rattle.vp_sets.proofs.PositionLaws.{geometry_parts}
 use Rattle.cstar_base.specs.Numbers.{number_of}
@@ -12,10 +11,9 @@ use Rattle.bit_planes.specs.declared.block.Block.{Block}
 use Rattle.bit_planes.specs.Bits.{bit}
 use Rattle.bit_planes.specs.Planes.{plane_at, number}
 use Rattle.paris_code.specs.declared.operands.Field.{Field}
-use Rattle.paris_code.specs.Fetching.{number_or_zero, of_neighbour}
-use Rattle.paris_code.specs.Memory.{BitMemory, field_number, is_active, processors}
+use Rattle.paris_code.specs.Fetching.{number_or_zero, of_named, of_neighbour}
+use Rattle.paris_code.specs.Memory.{field_number, is_active, processors}
 use Rattle.paris_code.specs.Shapes.{SetShape, no_shape, bits_at, extents_at, rank_at}
-use Rattle.paris_code.specs.Sound.{IsShape}
 use Rattle.phase_meaning.specs.Apply.{LiesIn}
 use Rattle.phase_meaning.specs.Gathered.{gathered}
 use Rattle.phase_meaning.proofs.Alike.{shifted_below}
@@ -26,59 +24,83 @@ use Rattle.block_store.specs.Planes.{planes_in, planes_at, block_bit}
 use Rattle.block_store.specs.Phases.{WrittenInBlock}
 use Rattle.block_store.specs.Stored.{blocks_in, blocks_at, stored, word_or_zero, AreWhole}
 use Rattle.block_store.proofs.AllBlocks.{in_block}
-use Rattle.block_store.proofs.Fetches.{Lifted, field_there, fetched_is}
-use Rattle.news_grid.specs.declared.origin.Origin.{Origin}
-use Rattle.news_grid.specs.declared.origin.Origin.TheVariants as O
-use Rattle.news_grid.specs.declared.spread.Taking.{Taking}
-use Rattle.news_grid.specs.Places.{IsOf, place, place_in, Taken}
-
--- the place of a position, by the planes of its block
-same_place : (shapes : List SetShape) (sets : List BlockSet) (v : Winner) (extents : List ℕ) (set : ℕ) (origin : Origin) (p : ℕ) → extents ≡ extents_at shapes set → p < processors shapes set
-    → IsOf set origin
-    → place extents origin (planes_at (blocks_at sets set) (p / 512)) (p / 512) (p % 512) ≡ place_in shapes (stored sets v) set origin p
-same_place shapes sets v extents set (O.Named f) p e within home =
-    ap (λ s. number (planes_at (blocks_at sets s) (p / 512)) f.offset f.len (p % 512)) (sym home) ∙ field_there sets v f p
-same_place shapes sets v extents set (O.Neighbour axis by) p e within home =
-    ap (λ q. cond (ltb q (position_count extents)) (shifted extents q axis (number_of 32 true by)) 0) (let whole : 512 * (p / 512) + p % 512 ≡ p = omega arith in whole)
-    ∙ ap (λ xs. cond (ltb p (position_count xs)) (shifted xs p axis (number_of 32 true by)) 0) e
-    ∙ ap (λ t. cond t (shifted (extents_at shapes set) p axis (number_of 32 true by)) 0) (lt-ltb p (processors shapes set) within)
+use Rattle.block_store.proofs.Fetches.{Lifted, field_there, fetched_is, some_cell, some_block}
+use Rattle.block_store.proofs.Stores.{block_exists}
+use Rattle.news_grid.specs.declared.news.News.{News}
+use Rattle.news_grid.specs.declared.news.Taking.{Taking}
+use Rattle.news_grid.specs.declared.spread.Fetching.{Fetching}
+use Rattle.news_grid.specs.Places.{place, Taken}
+use Rattle.news_grid.specs.Steps.{planes_in_cell, number_held}
+use Rattle.news_grid.specs.Takings.{Stepped}
 
 module _ (shapes : List SetShape) (sets : List BlockSet) (whole : AreWhole shapes sets) (source : Field) (within : LiesIn shapes source)
-    (from : BlockSet) (is : blocks_in from ≡ blocks_at sets source.set) (cells : List Cell) (much : length (blocks_in from) ≤ length cells)
-    (lifted : Lifted (blocks_in from) cells source.offset source.len) (count : ℕ) (all : count ≡ processors shapes source.set)
-    (taking : Taking) (home : IsOf taking.dest.set taking.origin)
-    (extents : List ℕ) (grid : extents ≡ extents_at shapes taking.dest.set) (context : ℕ) (at : context ≡ bits_at shapes taking.dest.set) where
-  -- a block that has taken its words is as the write has it
-  pub taken : (v : Winner) (value : ℕ → ℕ)
-      → ((p : ℕ) → p < processors shapes taking.dest.set → value p ≡ number_or_zero shapes (stored sets v) source (place_in shapes (stored sets v) taking.dest.set taking.origin p))
-      → (blocks : List Block) → blocks ≡ blocks_at sets taking.dest.set → (k : ℕ) (none : Block) (new : List Plane) → k < length blocks
-      → Taken extents context taking cells count k (planes_in (get_or blocks k none)) new
-      → WrittenInBlock shapes (gathered shapes (stored sets v) taking.dest taking.always value) k (planes_in (get_or blocks k none)) new
-  unfolding is_active stored block_bit
-  taken v value values blocks same k none new b done =
+    (from : BlockSet) (is : blocks_in from ≡ blocks_at sets source.set) (cells : List Cell) (much : length (blocks_in from) ≤ length cells) where
+  -- a block that has taken the words of a get is as the write has it
+  pub taken : (taking : Fetching) → Lifted (blocks_in from) cells source.offset source.len → cells ≡ taking.cells.now → taking.count ≡ processors shapes source.set → taking.address.set ≡ taking.dest.set
+      → taking.plan.now.geometry ≡ extents_at shapes taking.dest.set → taking.plan.now.bits ≡ bits_at shapes taking.dest.set
+      → (v : Winner) (blocks : List Block) → blocks ≡ blocks_at sets taking.dest.set → (k : ℕ) (none : Block) (new : List Plane) → k < length blocks
+      → Taken taking k (planes_in (get_or blocks k none)) new
+      → WrittenInBlock shapes (gathered shapes (stored sets v) taking.dest false (of_named shapes (stored sets v) taking.address source)) k (planes_in (get_or blocks k none)) new
+  unfolding is_active of_named stored block_bit
+  taken taking lifted same_cells all home grid at v blocks same k none new b done =
       let d : Field = taking.dest in
       let old : List Plane = planes_in (get_or blocks k none) in
       let here : (p : ℕ) → p / 512 ≡ k → old ≡ planes_at (blocks_at sets d.set) (p / 512) =
       λ p e. sym (get_or-map planes_in blocks k none [] b) ∙ ap (λ bs. planes_at bs k) same ∙ ap (planes_at (blocks_at sets d.set)) (sym e) in
       let inside : (p : ℕ) → p / 512 ≡ k → 512 * k + p % 512 ≡ p = λ p e. omega (arith, e) in
-      in_block shapes (gathered shapes (stored sets v) d taking.always value) k done.mask (λ i. word_or_zero cells count (place extents taking.origin old k i) % 2 ^ d.len) old new done.written
+      in_block shapes (gathered shapes (stored sets v) d false (of_named shapes (stored sets v) taking.address source)) k done.mask (λ i. word_or_zero taking.cells.now taking.count (place taking old i) % 2 ^ d.len) old new done.written
       (λ p e b. done.lanes.takes (p % 512) (omega arith) (omega (arith, inside p e, b, ap position_count grid))
-      ∙ ap (λ c. taking.always || eqb (bit (plane_at old c) (p % 512)) 1) at ∙ ap (λ ps. taking.always || eqb (bit (plane_at ps (bits_at shapes d.set)) (p % 512)) 1) (here p e))
+      ∙ ap (λ c. eqb (bit (plane_at old c) (p % 512)) 1) at ∙ ap (λ ps. eqb (bit (plane_at ps (bits_at shapes d.set)) (p % 512)) 1) (here p e))
       (λ p e past off. done.lanes.quiet (p % 512) (omega arith) (omega (arith, inside p e, past, ap position_count grid)) (ap (λ c. bit (plane_at old c) (p % 512)) at ∙ off))
       (λ p e b.
-      let n : ℕ = place extents taking.origin old k (p % 512) in
-      let named : n ≡ place_in shapes (stored sets v) d.set taking.origin p =
-      ap (λ ps. place extents taking.origin ps k (p % 512)) (here p e) ∙ ap (λ j. place extents taking.origin (planes_at (blocks_at sets d.set) (p / 512)) j (p % 512)) (sym e)
-      ∙ same_place shapes sets v extents d.set taking.origin p grid b home in
-      cut_cut (word_or_zero cells count n) d.len d.len (omega arith)
-      ∙ ap (λ x. x % 2 ^ d.len) (fetched_is shapes sets whole source within from is cells much lifted v count n all ∙ ap (number_or_zero shapes (stored sets v) source) named ∙ sym (values p b)))
+      let n : ℕ = place taking old (p % 512) in
+      let named : n ≡ field_number (stored sets v) taking.address p =
+      ap (λ ps. place taking ps (p % 512)) (here p e) ∙ ap (λ s. place taking (planes_at (blocks_at sets s) (p / 512)) (p % 512)) (sym home) ∙ field_there sets v taking.address p in
+      cut_cut (word_or_zero taking.cells.now taking.count n) d.len d.len (omega arith)
+      ∙ ap (λ x. x % 2 ^ d.len) (ap (λ cs. word_or_zero cs taking.count n) (sym same_cells) ∙ fetched_is shapes sets whole source within from is cells much lifted v taking.count n all ∙ ap (number_or_zero shapes (stored sets v) source) named))
 
--- the neighbour of a position is one, so that nothing is fetched past the end
-pub neighbour_there : (shapes : List SetShape) (m : BitMemory) (a : Field) (set axis k p : ℕ) → set ≡ a.set → All IsShape shapes → set < length shapes → p < processors shapes set → axis < rank_at shapes set
-    → of_neighbour shapes m a axis k p ≡ number_or_zero shapes m a (shifted (extents_at shapes set) p axis (number_of 32 true k))
-unfolding of_neighbour number_or_zero
-neighbour_there shapes m a set axis k p e grids exists b there =
-    let there_too : shifted (extents_at shapes set) p axis (number_of 32 true k) < processors shapes set =
-    shifted_below (extents_at shapes set) p axis (number_of 32 true k) (geometry_parts (extents_at shapes set) (grids set no_shape exists).0).2 b there in
-    ap (λ s. field_number m a (shifted (extents_at shapes s) p axis (number_of 32 true k))) (sym e)
-    ∙ sym (ap (λ t. cond t (field_number m a (shifted (extents_at shapes set) p axis (number_of 32 true k))) 0) (lt-ltb _ _ (subst (λ s. shifted (extents_at shapes set) p axis (number_of 32 true k) < processors shapes s) e there_too)))
+  -- what is held of the source is what the positions have
+  held_number : ((k i : ℕ) (none : Cell) (other : Block) → k < length (blocks_in from) → k < length cells → number (get_or cells k none).planes 0 source.len i ≡ number (planes_in (get_or (blocks_in from) k other)) source.offset source.len i)
+      → (v : Winner) (p : ℕ) → p < processors shapes source.set → number_held cells source.len p ≡ field_number (stored sets v) source p
+  held_number held v p b =
+      let k : ℕ = p / 512 in
+      let there : k < length (blocks_in from) = omega (arith, ap length is, (whole.each source.set within.0).count, block_exists (extents_at shapes source.set) p b) in
+      some_cell _ cells k (omega (arith, much, there)) (λ none. some_block _ (blocks_in from) k there (λ other.
+      ap (λ ps. number ps 0 source.len (p % 512)) (get_or-map planes_in_cell cells k none [] (omega (arith, much, there)))
+      ∙ held k (p % 512) none other there (omega (arith, much, there))
+      ∙ ap (λ ps. number ps source.offset source.len (p % 512)) (sym (get_or-map planes_in (blocks_in from) k other [] there))
+      ∙ ap (λ bs. number (planes_at bs k) source.offset source.len (p % 512)) is
+      ∙ field_there sets v source p))
+
+  -- a block that has taken the numbers of a NEWS shift is as the write has it
+  pub stepped : (taking : Taking) → source ≡ taking.shift.source
+      → ((k i : ℕ) (none : Cell) (other : Block) → k < length (blocks_in from) → k < length cells → number (get_or cells k none).planes 0 source.len i ≡ number (planes_in (get_or (blocks_in from) k other)) source.offset source.len i)
+      → cells ≡ taking.cells.now → source.len ≡ taking.shift.dest.len → taking.shift.dest.set ≡ source.set → taking.shift.axis < rank_at shapes taking.shift.dest.set
+      → taking.plan.now.geometry ≡ extents_at shapes taking.shift.dest.set → taking.plan.now.bits ≡ bits_at shapes taking.shift.dest.set
+      → (v : Winner) (blocks : List Block) → blocks ≡ blocks_at sets taking.shift.dest.set → (k : ℕ) (none : Block) (new : List Plane) → k < length blocks
+      → Stepped taking k (planes_in (get_or blocks k none)) new
+      → WrittenInBlock shapes (gathered shapes (stored sets v) taking.shift.dest taking.shift.always (of_neighbour shapes (stored sets v) taking.shift.source taking.shift.axis taking.shift.by)) k (planes_in (get_or blocks k none)) new
+  unfolding is_active of_neighbour stored block_bit
+  stepped taking own held same_cells lens home axis grid at v blocks same k none new b done =
+      let shift : News = taking.shift in
+      let d : Field = shift.dest in
+      let by : ℤ = number_of 32 true shift.by in
+      let old : List Plane = planes_in (get_or blocks k none) in
+      let here : (p : ℕ) → p / 512 ≡ k → old ≡ planes_at (blocks_at sets d.set) (p / 512) =
+      λ p e. sym (get_or-map planes_in blocks k none [] b) ∙ ap (λ bs. planes_at bs k) same ∙ ap (planes_at (blocks_at sets d.set)) (sym e) in
+      let inside : (p : ℕ) → p / 512 ≡ k → 512 * k + p % 512 ≡ p = λ p e. omega (arith, e) in
+      in_block shapes (gathered shapes (stored sets v) d shift.always (of_neighbour shapes (stored sets v) shift.source shift.axis shift.by)) k done.mask done.numbers old new done.written
+      (λ p e b. done.lanes.takes (p % 512) (omega arith) (omega (arith, inside p e, b, ap position_count grid))
+      ∙ ap (λ c. shift.always || eqb (bit (plane_at old c) (p % 512)) 1) at ∙ ap (λ ps. shift.always || eqb (bit (plane_at ps (bits_at shapes d.set)) (p % 512)) 1) (here p e))
+      (λ p e past off. done.lanes.quiet (p % 512) (omega arith) (omega (arith, inside p e, past, ap position_count grid)) (ap (λ c. bit (plane_at old c) (p % 512)) at ∙ off))
+      (λ p e b.
+      let q : ℕ = shifted (extents_at shapes d.set) p shift.axis by in
+      let q_there : q < processors shapes source.set =
+      subst (λ s. q < processors shapes s) home (shifted_below (extents_at shapes d.set) p shift.axis by (geometry_parts (extents_at shapes d.set) (whole.grids d.set no_shape (omega (arith, within.0, home))).0).2 b axis) in
+      ap (λ x. x % 2 ^ d.len) (done.there (p % 512) (omega arith) (omega (arith, inside p e, b, ap position_count grid))
+      ∙ ap (λ n. number_held taking.cells.now d.len (shifted taking.plan.now.geometry n shift.axis by)) (inside p e)
+      ∙ ap (λ xs. number_held taking.cells.now d.len (shifted xs p shift.axis by)) grid
+      ∙ ap (λ cs. number_held cs d.len q) (sym same_cells) ∙ ap (λ l. number_held cells l q) (sym lens)
+      ∙ held_number held v q q_there
+      ∙ ap (λ s. field_number (stored sets v) source (shifted (extents_at shapes s) p shift.axis by)) home
+      ∙ ap (λ (f : Field). field_number (stored sets v) f (shifted (extents_at shapes f.set) p shift.axis by)) own))

@@ -1,11 +1,14 @@
 //! Gets, NEWS and single processors over blocks, by any number of workers.
 #![tactic(auto)]
 
-mod fetch;
+mod get;
 mod instruction;
+mod news;
 mod one;
-mod origin;
 mod spread;
+mod step;
+mod window;
 
-pub use fetch::{gather, shift};
+pub use get::{Get, gather};
 pub use instruction::run;
+pub use news::{News, shift};

@@ -1,0 +1,166 @@
+-- Lanes of planes side by side, and of windows on the planes that are held.
+use Rattle.std.proofs.Common.{◌≡◌, ℕ, zero, suc, ◌+◌, ◌-◌, ◌*◌, ◌/◌, ◌%◌, ◌^◌, ◌<◌, ◌≤◌, cond, eqb, ltb, max, min, List, [], length, get_or, refl, sym, ◌∙◌, ap, subst, inl, inr, zero-add, arith}
+use Rattle.std.specs.Int.{bit_at}
+use Rattle.std.specs.Prelude.{bit_or}
+use Rattle.std.proofs.Math.ListN.{set, length-set}
+use Rattle.std.proofs.Math.Nat.{mod-eq_of_lt, add-mul-mod_self_right}
+use Rattle.std.proofs.lemmas.Bool.{cases_lt, cases_eq, eq-eqb, ne_eqb}
+use Rattle.std.proofs.lemmas.List.{get_or-map, get_or-set_same, get_or-set_other}
+use Rattle.std.proofs.lemmas.Nat.{pow_pos}
+use Rattle.std.proofs.lemmas.Nat.Bits.{bit_at_or, bit_at_above}
+use Rattle.cstar_base.proofs.BitCuts.{bit_at-cut, bit_at-shr}
+use Rattle.bit_planes.proofs.Planes.{number-bits, number-lt}
+use Rattle.bit_planes.proofs.Words.{bit-lt, bit_at-shl_low, bit_at-shl_high}
+use Rattle.bit_planes.specs.declared.plane.Plane.{Plane}
+use Rattle.bit_planes.specs.Bits.{bit}
+use Rattle.bit_planes.specs.Planes.{plane_at, number}
+use Rattle.lane_kernels.specs.Numbers.{ones_before}
+use Rattle.phase_meaning.proofs.Tests.{less, not_less}
+use Rattle.block_store.specs.declared.set.Cell.{Cell}
+use Rattle.block_store.specs.Phases.{LanesWritten}
+use Rattle.news_grid.specs.declared.window.Window.{Window}
+use Rattle.news_grid.specs.Steps.{planes_in_cell, planes_held, number_held, number_seen, beside, Views}
+
+-- a word of the first plane, or of the second
+pub word_low : (low high : List ℕ) (at : ℕ) → at < 8 → (i : ℕ) → i < 64 → bit_at (get_or low at 0) i ≡ beside low high (64 * at + i)
+unfolding bit
+word_low low high at b i ib =
+    ap (λ w. bit_at (get_or low w 0) i) (let e : at ≡ (64 * at + i) / 64 = omega arith in e)
+    ∙ ap (λ j. bit_at (get_or low ((64 * at + i) / 64) 0) j) (let e : i ≡ (64 * at + i) % 64 = omega arith in e)
+    ∙ less (64 * at + i) 512 (bit low (64 * at + i)) (bit high (64 * at + i - 512)) (omega arith)
+
+pub word_high : (low high : List ℕ) (at : ℕ) → 8 ≤ at → (i : ℕ) → i < 64 → bit_at (get_or high (at - 8) 0) i ≡ beside low high (64 * at + i)
+unfolding bit
+word_high low high at b i ib =
+    let n : ℕ = 64 * at + i - 512 in
+    ap (λ w. bit_at (get_or high w 0) i) (let e : at - 8 ≡ n / 64 = omega arith in e)
+    ∙ ap (λ j. bit_at (get_or high (n / 64) 0) j) (let e : i ≡ n % 64 = omega arith in e)
+    ∙ not_less (64 * at + i) 512 (bit low (64 * at + i)) (bit high n) (omega arith)
+
+-- two words, shifted and put together
+pub shifted_pair : (low high from : ℕ) → low < 2 ^ 64 → from < 64 → 0 < from → (i : ℕ) → i < 64
+    → bit_at (bit_or (low / 2 ^ from) (high * 2 ^ (64 - from) % 2 ^ 64)) i ≡ cond (ltb (from + i) 64) (bit_at low (from + i)) (bit_at high (from + i - 64))
+shifted_pair low high from fits f p i ib =
+    let cut : bit_at (high * 2 ^ (64 - from) % 2 ^ 64) i ≡ bit_at (high * 2 ^ (64 - from)) i = bit_at-cut (high * 2 ^ (64 - from)) 64 i ib in
+    bit_at_or (low / 2 ^ from) (high * 2 ^ (64 - from) % 2 ^ 64) i
+    ∙ ap (λ x. max x (bit_at (high * 2 ^ (64 - from) % 2 ^ 64) i)) (bit_at-shr low from i)
+    ∙ ap (max (bit_at low (from + i))) cut
+    ∙ elim (cases_lt (from + i) 64) [
+      | inl l ↦ ap (max (bit_at low (from + i))) (bit_at-shl_low high (64 - from) i (omega arith)) ∙ (let e : max (bit_at low (from + i)) 0 ≡ bit_at low (from + i) = omega arith in e)
+          ∙ less (from + i) 64 (bit_at low (from + i)) (bit_at high (from + i - 64)) l
+      | inr g ↦ ap (λ x. max x (bit_at (high * 2 ^ (64 - from)) i)) (bit_at_above low 64 (from + i) fits g)
+          ∙ ap (max 0) (bit_at-shl_high high (64 - from) i (pow_pos (64 - from)) (omega arith) ∙ ap (bit_at high) (let e : i - (64 - from) ≡ from + i - 64 = omega arith in e))
+          ∙ (let e : max 0 (bit_at high (from + i - 64)) ≡ bit_at high (from + i - 64) = omega arith in e)
+          ∙ not_less (from + i) 64 (bit_at low (from + i)) (bit_at high (from + i - 64)) g
+    ]
+
+-- the first words of the lanes that begin at a lane
+abbrev pub WordsFrom : List ℕ → List ℕ → ℕ → ℕ → List ℕ → Type 0
+WordsFrom low high from w words = (length words ≡ 8) × ((k i : ℕ) → k < w → i < 64 → bit_at (get_or words k 0) i ≡ beside low high (from + 64 * k + i))
+
+-- and one more
+pub word_more : (low high : List ℕ) (from w : ℕ) (words : List ℕ) (a b x : ℕ) → w < 8 → WordsFrom low high from w words
+    → ((i : ℕ) → i < 64 → bit_at a i ≡ beside low high (64 * (from / 64 + w) + i)) → ((i : ℕ) → i < 64 → bit_at b i ≡ beside low high (64 * (from / 64 + w + 1) + i))
+    → ((i : ℕ) → i < 64 → bit_at x i ≡ cond (ltb (from % 64 + i) 64) (bit_at a (from % 64 + i)) (bit_at b (from % 64 + i - 64)))
+    → WordsFrom low high from (w + 1) (set words w x)
+word_more low high from w words a b x wb before is_a is_b is_x = (
+  length-set words w x ∙ before.0,
+  λ k i kb ib. elim (cases_eq k w) [
+    | inr n ↦ ap (λ y. bit_at y i) (get_or-set_other words w k x 0 n) ∙ before.1 k i (omega (arith, n)) ib
+    | inl e ↦
+        let r : ℕ = from % 64 in
+        ap (λ j. bit_at (get_or (set words w x) j 0) i) e ∙ ap (λ y. bit_at y i) (get_or-set_same words w x 0 (omega (arith, before.0))) ∙ is_x i ib
+        ∙ elim (cases_lt (r + i) 64) [
+          | inl l ↦ sym (less (r + i) 64 (bit_at a (r + i)) (bit_at b (r + i - 64)) l) ∙ is_a (r + i) l
+              ∙ ap (beside low high) (let q : 64 * (from / 64 + w) + (r + i) ≡ from + 64 * k + i = omega (arith, e) in q)
+          | inr g ↦ sym (not_less (r + i) 64 (bit_at a (r + i)) (bit_at b (r + i - 64)) g) ∙ is_b (r + i - 64) (omega arith)
+              ∙ ap (beside low high) (let q : 64 * (from / 64 + w + 1) + (r + i - 64) ≡ from + 64 * k + i = omega (arith, e, g) in q)
+        ]
+  ],
+)
+
+pub all_words : (low high : List ℕ) (from : ℕ) (words : List ℕ) → WordsFrom low high from 8 words → (i : ℕ) → i < 512 → bit words i ≡ beside low high (from + i)
+unfolding bit
+all_words low high from words done i ib = done.1 (i / 64) (i % 64) (omega arith) (omega arith) ∙ ap (beside low high) (let e : from + 64 * (i / 64) + i % 64 ≡ from + i = omega arith in e)
+
+-- a plane of a cell that was read
+pub plane_held : (cells : List Cell) (k j : ℕ) (none : Cell) → k < length cells → plane_at (get_or cells k none).planes j ≡ plane_at (planes_held cells k) j
+plane_held cells k j none b = ap (λ ps. plane_at ps j) (sym (get_or-map planes_in_cell cells k none [] b))
+
+-- a bit of a number in a lane of a window
+pub seen_bit : (cells : List Cell) (window : Window) (len i j : ℕ) → j < len
+    → bit_at (number_seen cells window len i) j ≡ beside (plane_at (planes_held cells window.first) j) (plane_at (planes_held cells window.next) j) (window.from + i)
+seen_bit cells window len i j jb =
+    let n : ℕ = window.from + i in
+    let low : List Plane = planes_held cells window.first in
+    let high : List Plane = planes_held cells window.next in
+    elim (cases_lt n 512) [
+      | inl l ↦ ap (λ x. bit_at x j) (sym (less n 512 (number low 0 len n) (number high 0 len (n - 512)) l)) ∙ number-bits low 0 len n j jb
+          ∙ ap (λ m. bit (plane_at low m) n) (zero-add j) ∙ less n 512 (bit (plane_at low j) n) (bit (plane_at high j) (n - 512)) l
+      | inr g ↦ ap (λ x. bit_at x j) (sym (not_less n 512 (number low 0 len n) (number high 0 len (n - 512)) g)) ∙ number-bits high 0 len (n - 512) j jb
+          ∙ ap (λ m. bit (plane_at high m) (n - 512)) (zero-add j) ∙ not_less n 512 (bit (plane_at low j) n) (bit (plane_at high j) (n - 512)) g
+    ]
+
+-- a block's number, round the end of the set
+same_block : (p turns blocks : ℕ) → p / 512 < blocks → (p / 512 + turns * blocks) % blocks ≡ p / 512
+same_block p turns blocks b = add-mul-mod_self_right (p / 512) turns blocks ∙ mod-eq_of_lt b
+
+-- a lane of a window shows what is held for its position, so many times round the set
+pub seen_there : (cells : List Cell) (window : Window) (lane blocks len i p turns : ℕ) → Views window lane blocks → i < 512 → p / 512 < blocks → lane + i ≡ p + 512 * (turns * blocks)
+    → number_seen cells window len i ≡ number_held cells len p
+seen_there cells window lane blocks len i p turns views ib pb e =
+    let n : ℕ = window.from + i in
+    let low : List Plane = planes_held cells window.first in
+    let high : List Plane = planes_held cells window.next in
+    elim (cases_lt n 512) [
+      | inl l ↦ sym (less n 512 (number low 0 len n) (number high 0 len (n - 512)) l)
+          ∙ ap (λ k. number (planes_held cells k) 0 len n) (views.first ∙ ap (λ q. q % blocks) (let q : lane / 512 ≡ p / 512 + turns * blocks = omega (arith, views.from, l, e) in q) ∙ same_block p turns blocks pb)
+          ∙ ap (number (planes_held cells (p / 512)) 0 len) (let q : n ≡ p % 512 = omega (arith, views.from, l, e) in q)
+      | inr g ↦ sym (not_less n 512 (number low 0 len n) (number high 0 len (n - 512)) g)
+          ∙ ap (λ k. number (planes_held cells k) 0 len (n - 512)) (views.next ∙ ap (λ q. q % blocks) (let q : lane / 512 + 1 ≡ p / 512 + turns * blocks = omega (arith, views.from, g, ib, e) in q) ∙ same_block p turns blocks pb)
+          ∙ ap (number (planes_held cells (p / 512)) 0 len) (let q : n - 512 ≡ p % 512 = omega (arith, views.from, g, ib, e) in q)
+    ]
+
+-- the number of a lane fits
+pub seen-lt : (cells : List Cell) (window : Window) (len i : ℕ) → number_seen cells window len i < 2 ^ len
+seen-lt cells window len i =
+    let n : ℕ = window.from + i in
+    let low : ℕ = number (planes_held cells window.first) 0 len n in
+    let high : ℕ = number (planes_held cells window.next) 0 len (n - 512) in
+    elim (cases_lt n 512) [
+      | inl l ↦ subst (λ x. x < 2 ^ len) (less n 512 low high l) (number-lt (planes_held cells window.first) 0 len n)
+      | inr g ↦ subst (λ x. x < 2 ^ len) (not_less n 512 low high g) (number-lt (planes_held cells window.next) 0 len (n - 512))
+    ]
+
+-- first in the lanes of the mask that are 0 in another, then in those that are 1: the two writes are one
+pub written_both : (offset len : ℕ) (mask other first second : List ℕ) (f g : ℕ → ℕ) (old mid new : List Plane)
+    → ((i : ℕ) → i < 512 → bit first i ≡ min (bit mask i) (1 - bit other i)) → ((i : ℕ) → i < 512 → bit second i ≡ min (bit mask i) (bit other i))
+    → LanesWritten offset len first f old mid → LanesWritten offset len second g mid new → LanesWritten offset len mask (λ i. cond (eqb (bit other i) 1) (g i) (f i)) old new
+written_both offset len mask other first second f g old mid new is_first is_second one two = record {
+  long = two.long ∙ one.long;
+  inside = λ j i ib on l h. elim (cases_eq (bit other i) 1) [
+    | inl e ↦ two.inside j i ib (omega (arith, is_second i ib, on, e)) l h ∙ ap (λ t. bit_at (cond t (g i) (f i)) (j - offset)) (sym (eq-eqb (bit other i) 1 e))
+    | inr n ↦
+        let z : bit other i ≡ 0 = omega (arith, bit-lt other i, n) in
+        two.kept j i ib (omega (arith, is_second i ib, z)) ∙ one.inside j i ib (omega (arith, is_first i ib, on, z)) l h ∙ ap (λ t. bit_at (cond t (g i) (f i)) (j - offset)) (sym (ne_eqb (bit other i) 1 n))
+  ];
+  kept = λ j i ib off. two.kept j i ib (omega (arith, is_second i ib, off)) ∙ one.kept j i ib (omega (arith, is_first i ib, off));
+  outside = λ j out. two.outside j out ∙ one.outside j out;
+}
+
+-- where no lane is 1, none is written
+no_lane : (mask : List ℕ) (n i : ℕ) → 0 ≡ ones_before mask n → i < n → bit mask i ≡ 0
+unfolding ones_before
+no_lane mask zero i e b = absurd (omega arith)
+no_lane mask (suc n) i e b = elim (cases_eq i n) [
+  | inl q ↦ ap (bit mask) q ∙ (let z : bit mask n ≡ 0 = omega (arith, e) in z)
+  | inr q ↦ no_lane mask n i (omega (arith, e)) (omega (arith, b, q))
+]
+
+pub none_written : (offset len : ℕ) (mask : List ℕ) (f : ℕ → ℕ) (old : List Plane) → 0 ≡ ones_before mask 512 → LanesWritten offset len mask f old old
+none_written offset len mask f old none = record {
+  long = refl;
+  inside = λ j i ib on l h. absurd (omega (arith, no_lane mask 512 i none ib, on));
+  kept = λ j i ib off. refl;
+  outside = λ j out. refl;
+}

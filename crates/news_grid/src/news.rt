@@ -1,0 +1,208 @@
+//! A NEWS shift over all blocks of a set, by planes.
+
+ghost use Rattle.std.specs.Prelude.{◌≡◌, ℕ, ◌<◌, ◌≤◌, ◌+◌, ◌*◌, ◌^◌, length, slice_index_or};
+ghost use Rattle.cstar_base.specs.declared.operators.Winner.{Winner};
+ghost use Rattle.bit_planes.specs.declared.block.Block.{Block};
+ghost use Rattle.bit_planes.specs.Planes.{number};
+ghost use Rattle.lane_kernels.specs.Kernels.{HasTarget, Becomes};
+ghost use Rattle.paris_code.specs.Fetching.{of_neighbour};
+ghost use Rattle.paris_code.specs.Memory.{SameBits};
+ghost use Rattle.paris_code.specs.Shapes.{rank_at};
+ghost use Rattle.paris_code.specs.Writes.{written};
+ghost use Rattle.phase_meaning.specs.Apply.{LiesIn};
+ghost use Rattle.phase_meaning.specs.Gathered.{gathered};
+ghost use Rattle.block_store.specs.declared.set.Cell.{Cell};
+ghost use Rattle.block_store.specs.Phases.{LanesWritten};
+ghost use Rattle.block_store.specs.Planes.{HasPlanes};
+ghost use Rattle.block_store.specs.Stored.{shapes_in, memory_in, IsWhole, HasRoom};
+ghost use Rattle.news_grid.specs.Steps.{HasCells, number_seen};
+ghost use Rattle.news_grid.specs.Takings.{TakingFits, Stepped};
+
+use crate::step::Step;
+use crate::window::Window;
+use bit_planes::plane::{both, opposite};
+use bit_planes::{Block, Plane};
+use block_store::{BlockSet, Cell, Room, SetPlan, Store, taking_lanes};
+use cstar_io::Gate;
+use lane_kernels::{Target, count, write};
+use paris_code::Field;
+use phase_meaning::arith::signed;
+use std::simd::prelude::*;
+use std::thread;
+use std::thread::Threads;
+
+/// A NEWS shift: the active positions of `dest`, or all, take what `source` holds `by` steps along
+/// an axis, round its ends.
+#[derive(Clone, Copy)]
+pub struct News {
+    pub dest: Field,
+    pub source: Field,
+    pub axis: u32,
+    pub by: u32,
+    pub always: bool,
+}
+
+/// What a pass over the blocks of a set needs for a shift: the planes that the cells hold of each of
+/// its blocks, and how far the step leads.
+#[derive(Clone, Copy)]
+struct Taking<'a> {
+    plan: &'a SetPlan,
+    blocks: u32,
+    cells: &'a [Cell],
+    shift: News,
+    step: Step,
+}
+
+/// The planes of a field of a block, from its lowest bit on.
+fn planes_of(block: &Block, field: Field) -> [Plane; 32]
+    requires len { (1 ≤ field.len) × (field.len ≤ 32) }
+    requires within { field.offset + field.len ≤ length block.now.planes.items }
+    ensures { (i : ℕ) → number result 0 field.len i ≡ number block.now.planes.items field.offset field.len i }
+{
+    block.lanes(field.offset, field.len).planes
+}
+
+/// Holds the planes of a field of each block in its cell.
+fn hold<R: Threads + Sync>(rt: &R, set: &BlockSet, room: &mut Room, field: Field, workers: u32)
+    requires len { (1 ≤ field.len) × (field.len ≤ 32) }
+    requires planes { HasPlanes (field.offset + field.len) set.now.blocks.items }
+    requires workers { 1 ≤ workers }
+    ensures count { length room.new.cells.items ≡ length room.old.cells.items }
+    ensures planes { (k i : ℕ) (none : Cell) (other : Block) → k < length set.now.blocks.items → k < length room.old.cells.items
+        → number (slice_index_or room.new.cells.items k none).planes 0 field.len i ≡ number (slice_index_or set.now.blocks.items k other).planes.items field.offset field.len i }
+{
+    let blocks = set.blocks.as_slice();
+    thread::for_each_mut(
+        rt,
+        room.cells.as_mut_slice(),
+        workers as usize,
+        &|k: usize, cell: &mut Cell|
+            requires { (1 ≤ field.len) × (field.len ≤ 32) × HasPlanes (field.offset + field.len) blocks.now }
+            ensures { (i : ℕ) (other : Block) → k < length blocks.entry.now
+                → number cell.exit.now.planes 0 field.len i ≡ number (slice_index_or blocks.entry.now k other).planes.items field.offset field.len i }
+        {
+            if k < blocks.len() {
+                let planes = planes_of(&blocks[k], field);
+                cell.planes = planes;
+            }
+        },
+    );
+}
+
+/// The target becomes, in its lanes, what a window shows of the planes that the cells hold.
+fn put_window(planes: &mut [Plane], to: &Target, cells: &[Cell], window: &Window)
+    requires target { HasTarget to.now planes.old }
+    requires cells { HasCells window.now cells.now }
+    ensures { Becomes to.now (λ i. number_seen cells.now window.now to.now.len i) planes.old planes.new }
+{
+    for j in 0..to.len as usize {
+        write(
+            planes,
+            to.offset as usize + j,
+            window.plane(cells, j),
+            to.lanes,
+        );
+    }
+}
+
+/// The same for a field of a block, in these lanes. No plane is touched where there is no lane.
+fn take_window(block: &mut Block, dest: Field, lanes: u64x8, cells: &[Cell], window: &Window)
+    requires len { (1 ≤ dest.len) × (dest.len ≤ 32) }
+    requires within { dest.offset + dest.len ≤ length block.old.planes.items }
+    requires cells { HasCells window.now cells.now }
+    ensures { LanesWritten dest.offset dest.len lanes (λ i. number_seen cells.now window.now dest.len i) block.old.planes.items block.new.planes.items }
+{
+    if count(lanes) == 0 {
+        return;
+    }
+    let to = Target::at(dest.offset, dest.len, lanes);
+    put_window(&mut block.planes, &to, cells, window);
+}
+
+/// Block `k` takes what is held a step away: one window for the lanes whose step stays in its turn
+/// of the axis, and one for those that come round its end.
+fn step_block(block: &mut Block, k: u32, taking: &Taking)
+    requires block { (k < taking.now.blocks) × (k < 2 ^ 16) }
+    requires taking { TakingFits taking.now }
+    requires planes { taking.now.plan.now.bits + 1 ≤ length block.old.planes.items }
+    ensures { Stepped taking.now k block.old.planes.items block.new.planes.items }
+{
+    let shift = &taking.shift;
+    let lanes = taking_lanes(taking.plan, block, k, shift.always);
+    let crossing = taking.step.crossing_lanes(k);
+    let (staying, round) = taking.step.windows(k, taking.blocks);
+    let inner = both(lanes, opposite(crossing));
+    take_window(block, shift.dest, inner, taking.cells, &staying);
+    take_window(
+        block,
+        shift.dest,
+        both(lanes, crossing),
+        taking.cells,
+        &round,
+    );
+}
+
+/// The same in all blocks of the set, with a call of the gate for each.
+fn step_blocks<R: Threads + Sync, G: Gate + Sync>(
+    rt: &R,
+    set: &mut BlockSet,
+    taking: &Taking,
+    workers: u32,
+    gate: &G,
+)
+    requires taking { TakingFits taking.now }
+    requires planes { HasPlanes (taking.now.plan.now.bits + 1) set.old.blocks.items }
+    requires blocks { length set.old.blocks.items ≡ taking.now.blocks }
+    requires workers { 1 ≤ workers }
+    ensures count { length set.new.blocks.items ≡ length set.old.blocks.items }
+    ensures each { (k : ℕ) (none : Block) → k < length set.old.blocks.items
+        → Stepped taking.now k (slice_index_or set.old.blocks.items k none).planes.items (slice_index_or set.new.blocks.items k none).planes.items }
+{
+    thread::for_each_mut(
+        rt,
+        set.blocks.as_mut_slice(),
+        workers as usize,
+        &|k: usize, block: &mut Block|
+            requires { (k < taking.now.blocks) × (k < 2 ^ 16) × TakingFits taking.now × (taking.now.plan.now.bits + 1 ≤ length block.now.planes.items) }
+            ensures { Stepped taking.entry.now k block.entry.now.planes.items block.exit.now.planes.items }
+        {
+            gate.at(k as u32);
+            step_block(block, k as u32, taking);
+        },
+    );
+}
+
+/// Does a NEWS shift. All is read before anything is written.
+pub fn shift<R: Threads + Sync, G: Gate + Sync>(
+    rt: &R,
+    store: &mut Store,
+    shift: News,
+    workers: u32,
+    gate: &G,
+)
+    requires whole { IsWhole store.old }
+    requires room { HasRoom store.old }
+    requires dest { LiesIn (shapes_in store.old) shift.dest }
+    requires source { LiesIn (shapes_in store.old) shift.source }
+    requires together { shift.dest.set ≡ shift.source.set }
+    requires lens { shift.source.len ≡ shift.dest.len }
+    requires axis { shift.axis < rank_at (shapes_in store.old) shift.dest.set }
+    requires workers { (1 ≤ workers) × (workers ≤ 64) }
+    ensures whole { IsWhole store.new }
+    ensures room { HasRoom store.new }
+    ensures shapes { shapes_in store.new ≡ shapes_in store.old }
+    ensures memory { (w : Winner) → SameBits (shapes_in store.old) (memory_in store.new w)
+        (written (gathered (shapes_in store.old) (memory_in store.old w) shift.dest shift.always (of_neighbour (shapes_in store.old) (memory_in store.old w) shift.source shift.axis shift.by)) (memory_in store.old w)) }
+{
+    let set = usize::from(shift.dest.set);
+    hold(rt, &store.sets[set], &mut store.room, shift.source, workers);
+    let plan = &store.plans[set];
+    let taking = Taking {
+        plan,
+        blocks: plan.geometry.block_count(),
+        cells: store.room.cells.as_slice(),
+        shift,
+        step: Step::along(&plan.geometry, shift.axis, signed(shift.by)),
+    };
+    step_blocks(rt, &mut store.sets[set], &taking, workers, gate);
+}

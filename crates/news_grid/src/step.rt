@@ -1,0 +1,81 @@
+//! A step along an axis, in position numbers.
+
+ghost use Rattle.std.specs.Prelude.{◌≡◌, ℕ, ◌<◌, ◌≤◌, ◌+◌, ◌-◌, ◌*◌, ◌%◌, ◌^◌, length, nat_lt, if◌then◌else◌};
+ghost use Rattle.bit_planes.specs.Bits.{bit};
+ghost use Rattle.vp_sets.specs.Positions.{position_count};
+ghost use Rattle.news_grid.specs.Steps.{Leads, Views};
+
+use crate::window::{Window, lanes_beside};
+use bit_planes::Plane;
+use bit_planes::plane::{both, either, first_lanes, opposite};
+use std::simd::prelude::*;
+use vp_sets::{BLOCK_SIZE, Geometry};
+
+/// A step along an axis of a set. The axis begins anew after each `turn` positions; the step leads
+/// `ahead` positions on, fewer than a turn, and round the end of its turn.
+#[derive(Clone, Copy)]
+pub(crate) struct Step {
+    pub(crate) turn: u32,
+    pub(crate) ahead: u32,
+}
+
+impl Step {
+    /// So many steps along an axis.
+    pub(crate) fn along(geometry: &Geometry, axis: u32, by: i32) -> Step
+        requires { axis < length geometry.now }
+        ensures { Leads geometry.now axis by result }
+    {
+        Step {
+            turn: geometry.extent(axis) * geometry.stride(axis),
+            ahead: geometry.shift(0, axis, by),
+        }
+    }
+
+    /// The lanes of block `k` from which the step leads past the end of their turn.
+    pub(crate) fn crossing_lanes(self, k: u32) -> u64x8
+        requires step { (self.ahead < self.turn) × (self.turn < 2 ^ 30) }
+        requires block { k < 2 ^ 16 }
+        ensures { (i : ℕ) → i < 512 → bit result i ≡ (if nat_lt ((512 * k + i) % self.turn + self.ahead) self.turn then 0 else 1) }
+    {
+        let past = k * BLOCK_SIZE % self.turn;
+        let rest = self.turn - past;
+        let last = self.turn - self.ahead;
+        let in_this = both(
+            first_lanes(rest),
+            opposite(first_lanes(last.saturating_sub(past))),
+        );
+        let in_next = both(first_lanes(self.turn), opposite(first_lanes(rest + last)));
+        repeated_lanes(either(in_this, in_next), self.turn)
+    }
+
+    /// What the lanes of block `k` take from in a set of so many blocks: where the step stays in
+    /// its turn, and where it leads round its end.
+    pub(crate) fn windows(self, k: u32, blocks: u32) -> (Window, Window)
+        requires step { (self.ahead < self.turn) × (self.turn ≤ 512 * blocks) }
+        requires block { (k < blocks) × (blocks < 2 ^ 16) }
+        ensures stays { Views result.0 (512 * k + self.ahead) blocks }
+        ensures crosses { Views result.1 (512 * k + self.ahead + (512 * blocks - self.turn)) blocks }
+    {
+        let lane = k * BLOCK_SIZE + self.ahead;
+        let back = blocks * BLOCK_SIZE - self.turn;
+        (Window::at(lane, blocks), Window::at(lane + back, blocks))
+    }
+}
+
+/// The plane that repeats its first `count` lanes, where 0 stands in all others.
+fn repeated_lanes(first: u64x8, count: u32) -> u64x8
+    requires count { 0 < count }
+    requires rest { (i : ℕ) → count ≤ i → i < 512 → bit first i ≡ 0 }
+    ensures { (i : ℕ) → i < 512 → bit result i ≡ bit first (i % count) }
+{
+    let mut lanes = first;
+    let mut known = count;
+    'known: while known < BLOCK_SIZE {
+        lanes = either(
+            lanes,
+            lanes_beside(Plane::zero().bits, lanes, BLOCK_SIZE - known),
+        );
+        known *= 2;
+    }
+    lanes
+}
