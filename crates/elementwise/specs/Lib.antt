@@ -1,5 +1,6 @@
 pub mod Blocks
 pub mod Failing
 pub mod Planar
+pub mod Preparing
 pub mod Relations
 pub mod Ways

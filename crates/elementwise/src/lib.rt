@@ -7,6 +7,7 @@ mod everywhere;
 mod in_block;
 mod lanes;
 mod planar;
+mod preparing;
 mod relations;
 #[cfg(test)]
 mod tests;
@@ -14,3 +15,4 @@ mod ways;
 mod writes;
 
 pub use everywhere::run;
+pub use preparing::Prepared;
