@@ -1,34 +1,25 @@
 -- What is done in each block, one instruction after another, is done.
-use Rattle.std.proofs.Common.{◌≡◌, ◌≢◌, ℕ, ◌+◌, ◌-◌, ◌*◌, ◌/◌, ◌%◌, ◌<◌, ◌≤◌, Bool, true, false, ◌&&◌, cond, eqb, leb, ltb, List, [], ◌∷◌, ◌++◌, length, get_or, All, refl, sym, ◌∙◌, ap, subst, inl, inr, arith}
+use Rattle.std.proofs.Common.{◌≡◌, ◌≢◌, ℕ, ◌+◌, ◌-◌, ◌/◌, ◌%◌, ◌<◌, ◌≤◌, Bool, false, ◌&&◌, cond, eqb, leb, ltb, List, [], ◌∷◌, ◌++◌, refl, sym, ◌∙◌, ap, subst}
 use Rattle.std.specs.Prelude.{◌||◌}
 use Rattle.std.specs.Int.{bit_at}
 use Rattle.std.proofs.Math.ListN.{set}
-use Rattle.std.proofs.lemmas.Bool.{cases_eq, ne_eqb}
-use Rattle.std.proofs.lemmas.List.{get_or-map}
+use Rattle.std.proofs.lemmas.Bool.{ne_eqb}
 use Rattle.std.proofs.lemmas.List.Elements.{All-head, All-tail}
-use Rattle.vp_sets.specs.Blocks.{block_count}
-use Rattle.cstar_base.specs.declared.operators.Winner.{Winner}
-use Rattle.bit_planes.specs.declared.block.Block.{Block}
 use Rattle.bit_planes.specs.declared.plane.Plane.{Plane}
 use Rattle.bit_planes.specs.Bits.{bit}
 use Rattle.bit_planes.specs.Planes.{plane_at}
 use Rattle.paris_code.specs.declared.operands.Field.{Field}
 use Rattle.paris_code.specs.declared.instr.Instr.{Instr}
-use Rattle.paris_code.specs.Elementwise.{is_elementwise, destination, writes_always, element, elementwise}
+use Rattle.paris_code.specs.Elementwise.{destination, writes_always, element, elementwise}
 use Rattle.paris_code.specs.Meaning.{after}
-use Rattle.paris_code.specs.Memory.{BitMemory, SameBits, processors, is_active}
-use Rattle.paris_code.specs.Shapes.{SetShape, bits_at, extents_at}
+use Rattle.paris_code.specs.Memory.{BitMemory, processors, is_active}
+use Rattle.paris_code.specs.Shapes.{SetShape, bits_at}
 use Rattle.paris_code.specs.Writes.{covers, written}
-use Rattle.phase_meaning.specs.Apply.{CanApply, active_set}
+use Rattle.phase_meaning.specs.Apply.{active_set}
 use Rattle.phase_meaning.proofs.FieldLemmas.{destination_runs}
 use Rattle.phase_meaning.proofs.Locality.{AgreeAt, element_same, active_same}
 use Rattle.phase_meaning.proofs.Replies.{plain}
-use Rattle.block_store.specs.declared.set.BlockSet.{BlockSet}
-use Rattle.block_store.specs.Planes.{planes_in, planes_at, block_bit, HasPlanes}
-use Rattle.block_store.specs.Stored.{blocks_in, blocks_at, stored, IsWholeSet, AreWhole}
-use Rattle.block_store.proofs.Stores.{blocks_old, blocks_new, blocks_other, block_exists, held, whole_kept, set_kept}
 use Rattle.elementwise.specs.Blocks.{block_memory, DoneInBlock}
-use Rattle.elementwise.proofs.Written.{agree_in_block}
 use Rattle.instruction_runs.specs.declared.deferring.Deferred.{Deferred}
 use Rattle.instruction_runs.specs.Passes.{AllDoneInBlock}
 use Rattle.instruction_runs.specs.Waiting.{done_all, set_of, AreReady, IsReady}

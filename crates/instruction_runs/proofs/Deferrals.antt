@@ -1,13 +1,12 @@
 -- An instruction that waits does what it was made of.
-use Rattle.std.proofs.Common.{◌≡◌, ℕ, ◌<◌, Bool, true, false, ◌&&◌, eqb, ltb, List, [], ◌∷◌, ◌++◌, length, refl, sym, ◌∙◌, ap, subst, inl, inr, arith}
+use Rattle.std.proofs.Common.{◌≡◌, ℕ, ◌<◌, true, eqb, ltb, List, [], ◌∷◌, ◌++◌, length, refl, sym, ◌∙◌, ap, subst, inl, inr, arith}
 use Rattle.std.specs.Prelude.{◌||◌}
 use Rattle.std.proofs.lemmas.Bool.{and_parts, or_cases, eqb-true}
 use Rattle.std.proofs.lemmas.List.Elements.{All-push}
 use Rattle.paris_code.specs.declared.instr.Instr.{Instr}
 use Rattle.paris_code.specs.declared.instr.Instr.TheVariants as I
-use Rattle.paris_code.specs.declared.program.Reply.TheVariants as R
 use Rattle.paris_code.specs.Elementwise.{is_elementwise}
-use Rattle.paris_code.specs.Meaning.{after, Means}
+use Rattle.paris_code.specs.Meaning.{after}
 use Rattle.paris_code.specs.Memory.{BitMemory, SameBits}
 use Rattle.paris_code.specs.Operands.{arguments_of}
 use Rattle.paris_code.specs.Shapes.{SetShape}

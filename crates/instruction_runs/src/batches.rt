@@ -42,7 +42,7 @@ impl Batch {
     }
 
     /// The set of the instructions, if there are any.
-    pub(crate) fn set(&self) -> u16
+    pub fn set(&self) -> u16
         ensures { result ≡ self.now.set }
     {
         self.set

@@ -21,6 +21,15 @@ pub struct Deferred {
     pub(crate) prepared: Prepared,
 }
 
+impl Deferred {
+    /// The instruction.
+    pub fn instr(&self) -> &Instr
+        ensures { result.now ≡ self.now.instr }
+    {
+        &self.instr
+    }
+}
+
 /// A constant, for the register or the constant that an operand is.
 fn constant(k: Konst, args: &[u32]) -> Konst
     requires { length args.now ≡ length (registers_of_konst k) }

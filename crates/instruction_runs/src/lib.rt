@@ -6,6 +6,8 @@
 mod batches;
 mod deferring;
 mod settling;
+#[cfg(test)]
+mod tests;
 
 pub use batches::{Batch, MOST};
 pub use deferring::{Deferred, defer};
