@@ -2,5 +2,6 @@ pub mod Blocks
 pub mod Failing
 pub mod Moved
 pub mod Planar
+pub mod Preparing
 pub mod Relations
 pub mod Ways

@@ -9,6 +9,7 @@ mod lanes;
 mod moved;
 mod overlap;
 mod planar;
+mod preparing;
 mod relations;
 #[cfg(test)]
 mod tests;
@@ -16,3 +17,4 @@ mod ways;
 mod writes;
 
 pub use everywhere::run;
+pub use preparing::Prepared;
