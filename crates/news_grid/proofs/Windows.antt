@@ -1,11 +1,10 @@
 -- Lanes of planes side by side, and of windows on the planes that are held.
-use Rattle.std.proofs.Common.{◌≡◌, ℕ, zero, suc, ◌+◌, ◌-◌, ◌*◌, ◌/◌, ◌%◌, ◌^◌, ◌<◌, ◌≤◌, cond, eqb, ltb, max, min, List, [], length, get_or, refl, sym, ◌∙◌, ap, subst, inl, inr, zero-add, arith}
+use Rattle.std.proofs.Common.{◌≡◌, ℕ, zero, suc, ◌+◌, ◌-◌, ◌*◌, ◌/◌, ◌%◌, ◌^◌, ◌<◌, ◌≤◌, cond, eqb, ltb, max, min, List, [], ◌∷◌, length, get_or, refl, sym, ◌∙◌, ap, subst, inl, inr, zero-add, arith}
 use Rattle.std.specs.Int.{bit_at}
 use Rattle.std.specs.Prelude.{bit_or}
-use Rattle.std.proofs.Math.ListN.{set, length-set}
 use Rattle.std.proofs.Math.Nat.{mod-eq_of_lt, add-mul-mod_self_right}
 use Rattle.std.proofs.lemmas.Bool.{cases_lt, cases_eq, eq-eqb, ne_eqb}
-use Rattle.std.proofs.lemmas.List.{get_or-map, get_or-set_same, get_or-set_other}
+use Rattle.std.proofs.lemmas.List.{get_or-map}
 use Rattle.std.proofs.lemmas.Nat.{pow_pos}
 use Rattle.std.proofs.lemmas.Nat.Bits.{bit_at_or, bit_at_above}
 use Rattle.cstar_base.proofs.BitCuts.{bit_at-cut, bit_at-shr}
@@ -54,34 +53,42 @@ shifted_pair low high from fits f p i ib =
           ∙ not_less (from + i) 64 (bit_at low (from + i)) (bit_at high (from + i - 64)) g
     ]
 
--- the first words of the lanes that begin at a lane
-abbrev pub WordsFrom : List ℕ → List ℕ → ℕ → ℕ → List ℕ → Type 0
-WordsFrom low high from w words = (length words ≡ 8) × ((k i : ℕ) → k < w → i < 64 → bit_at (get_or words k 0) i ≡ beside low high (from + 64 * k + i))
-
--- and one more
-pub word_more : (low high : List ℕ) (from w : ℕ) (words : List ℕ) (a b x : ℕ) → w < 8 → WordsFrom low high from w words
+-- a word of the lanes that begin at a lane
+pub word_is : (low high : List ℕ) (from w a b x : ℕ)
     → ((i : ℕ) → i < 64 → bit_at a i ≡ beside low high (64 * (from / 64 + w) + i)) → ((i : ℕ) → i < 64 → bit_at b i ≡ beside low high (64 * (from / 64 + w + 1) + i))
     → ((i : ℕ) → i < 64 → bit_at x i ≡ cond (ltb (from % 64 + i) 64) (bit_at a (from % 64 + i)) (bit_at b (from % 64 + i - 64)))
-    → WordsFrom low high from (w + 1) (set words w x)
-word_more low high from w words a b x wb before is_a is_b is_x = (
-  length-set words w x ∙ before.0,
-  λ k i kb ib. elim (cases_eq k w) [
-    | inr n ↦ ap (λ y. bit_at y i) (get_or-set_other words w k x 0 n) ∙ before.1 k i (omega (arith, n)) ib
-    | inl e ↦
-        let r : ℕ = from % 64 in
-        ap (λ j. bit_at (get_or (set words w x) j 0) i) e ∙ ap (λ y. bit_at y i) (get_or-set_same words w x 0 (omega (arith, before.0))) ∙ is_x i ib
-        ∙ elim (cases_lt (r + i) 64) [
-          | inl l ↦ sym (less (r + i) 64 (bit_at a (r + i)) (bit_at b (r + i - 64)) l) ∙ is_a (r + i) l
-              ∙ ap (beside low high) (let q : 64 * (from / 64 + w) + (r + i) ≡ from + 64 * k + i = omega (arith, e) in q)
-          | inr g ↦ sym (not_less (r + i) 64 (bit_at a (r + i)) (bit_at b (r + i - 64)) g) ∙ is_b (r + i - 64) (omega arith)
-              ∙ ap (beside low high) (let q : 64 * (from / 64 + w + 1) + (r + i - 64) ≡ from + 64 * k + i = omega (arith, e, g) in q)
-        ]
-  ],
-)
+    → (i : ℕ) → i < 64 → bit_at x i ≡ beside low high (from + 64 * w + i)
+word_is low high from w a b x is_a is_b is_x i ib =
+    let r : ℕ = from % 64 in
+    is_x i ib ∙ elim (cases_lt (r + i) 64) [
+      | inl l ↦ sym (less (r + i) 64 (bit_at a (r + i)) (bit_at b (r + i - 64)) l) ∙ is_a (r + i) l
+          ∙ ap (beside low high) (let q : 64 * (from / 64 + w) + (r + i) ≡ from + 64 * w + i = omega arith in q)
+      | inr g ↦ sym (not_less (r + i) 64 (bit_at a (r + i)) (bit_at b (r + i - 64)) g) ∙ is_b (r + i - 64) (omega arith)
+          ∙ ap (beside low high) (let q : 64 * (from / 64 + w + 1) + (r + i - 64) ≡ from + 64 * w + i = omega (arith, g) in q)
+    ]
 
-pub all_words : (low high : List ℕ) (from : ℕ) (words : List ℕ) → WordsFrom low high from 8 words → (i : ℕ) → i < 512 → bit words i ≡ beside low high (from + i)
+-- eight words, each by its place
+eight : (P : ℕ → ℕ → Type 0) (a b c d e g h k : ℕ) → P a 0 → P b 1 → P c 2 → P d 3 → P e 4 → P g 5 → P h 6 → P k 7 → (w : ℕ) → w < 8 → P (get_or (a ∷ b ∷ c ∷ d ∷ e ∷ g ∷ h ∷ k ∷ []) w 0) w
+eight P a b c d e g h k p0 p1 p2 p3 p4 p5 p6 p7 zero l = p0
+eight P a b c d e g h k p0 p1 p2 p3 p4 p5 p6 p7 (suc zero) l = p1
+eight P a b c d e g h k p0 p1 p2 p3 p4 p5 p6 p7 (suc (suc zero)) l = p2
+eight P a b c d e g h k p0 p1 p2 p3 p4 p5 p6 p7 (suc (suc (suc zero))) l = p3
+eight P a b c d e g h k p0 p1 p2 p3 p4 p5 p6 p7 (suc (suc (suc (suc zero)))) l = p4
+eight P a b c d e g h k p0 p1 p2 p3 p4 p5 p6 p7 (suc (suc (suc (suc (suc zero))))) l = p5
+eight P a b c d e g h k p0 p1 p2 p3 p4 p5 p6 p7 (suc (suc (suc (suc (suc (suc zero)))))) l = p6
+eight P a b c d e g h k p0 p1 p2 p3 p4 p5 p6 p7 (suc (suc (suc (suc (suc (suc (suc zero))))))) l = p7
+eight P a b c d e g h k p0 p1 p2 p3 p4 p5 p6 p7 (suc (suc (suc (suc (suc (suc (suc (suc w)))))))) l = absurd (omega arith)
+
+abbrev pub WordFrom : List ℕ → List ℕ → ℕ → ℕ → ℕ → Type 0
+WordFrom low high from x w = (i : ℕ) → i < 64 → bit_at x i ≡ beside low high (from + 64 * w + i)
+
+pub all_words : (low high : List ℕ) (from a b c d e g h k : ℕ) → WordFrom low high from a 0 → WordFrom low high from b 1 → WordFrom low high from c 2 → WordFrom low high from d 3
+    → WordFrom low high from e 4 → WordFrom low high from g 5 → WordFrom low high from h 6 → WordFrom low high from k 7
+    → (i : ℕ) → i < 512 → bit (a ∷ b ∷ c ∷ d ∷ e ∷ g ∷ h ∷ k ∷ []) i ≡ beside low high (from + i)
 unfolding bit
-all_words low high from words done i ib = done.1 (i / 64) (i % 64) (omega arith) (omega arith) ∙ ap (beside low high) (let e : from + 64 * (i / 64) + i % 64 ≡ from + i = omega arith in e)
+all_words low high from a b c d e g h k p0 p1 p2 p3 p4 p5 p6 p7 i ib =
+    eight (WordFrom low high from) a b c d e g h k p0 p1 p2 p3 p4 p5 p6 p7 (i / 64) (omega arith) (i % 64) (omega arith)
+    ∙ ap (beside low high) (let q : from + 64 * (i / 64) + i % 64 ≡ from + i = omega arith in q)
 
 -- a plane of a cell that was read
 pub plane_held : (cells : List Cell) (k j : ℕ) (none : Cell) → k < length cells → plane_at (get_or cells k none).planes j ≡ plane_at (planes_held cells k) j

@@ -43,14 +43,14 @@ pub fn run<R: Threads + Sync, G: Gate + Sync>(
             axis,
             by,
         } => {
-            let step = News {
+            let news = News {
                 dest: *dest,
                 source: *source,
                 axis: *axis,
                 by: konst(*by, args),
                 always: false,
             };
-            shift(rt, store, step, workers, gate);
+            shift(rt, store, news, workers, gate);
         }
         Instr::GetFromNewsAlways {
             dest,
@@ -58,14 +58,14 @@ pub fn run<R: Threads + Sync, G: Gate + Sync>(
             axis,
             by,
         } => {
-            let step = News {
+            let news = News {
                 dest: *dest,
                 source: *source,
                 axis: *axis,
                 by: konst(*by, args),
                 always: true,
             };
-            shift(rt, store, step, workers, gate);
+            shift(rt, store, news, workers, gate);
         }
         Instr::Get {
             dest,

@@ -53,13 +53,15 @@ struct Taking<'a> {
     step: Step,
 }
 
-/// The planes of a field of a block, from its lowest bit on.
-fn planes_of(block: &Block, field: Field) -> [Plane; 32]
+/// Copies the planes of a field of a block, from its lowest bit on.
+fn copy_field(planes: &mut [Plane; 32], block: &Block, field: Field)
     requires len { (1 ≤ field.len) × (field.len ≤ 32) }
     requires within { field.offset + field.len ≤ length block.now.planes.items }
-    ensures { (i : ℕ) → number result 0 field.len i ≡ number block.now.planes.items field.offset field.len i }
+    ensures { (i : ℕ) → number planes.new 0 field.len i ≡ number block.now.planes.items field.offset field.len i }
 {
-    block.lanes(field.offset, field.len).planes
+    for j in 0..field.len as usize {
+        planes[j] = block.planes[field.offset as usize + j];
+    }
 }
 
 /// Holds the planes of a field of each block in its cell.
@@ -82,8 +84,7 @@ fn hold<R: Threads + Sync>(rt: &R, set: &BlockSet, room: &mut Room, field: Field
                 → number cell.exit.now.planes 0 field.len i ≡ number (slice_index_or blocks.entry.now k other).planes.items field.offset field.len i }
         {
             if k < blocks.len() {
-                let planes = planes_of(&blocks[k], field);
-                cell.planes = planes;
+                copy_field(&mut cell.planes, &blocks[k], field);
             }
         },
     );

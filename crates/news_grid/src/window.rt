@@ -31,6 +31,18 @@ fn joined(low: u64, high: u64, from: u32) -> u64
     (low >> from) | (high << (64 - from))
 }
 
+/// One of the 8 words of the lanes that begin at a lane of the first of two planes side by side.
+#[inline(always)]
+fn word_from(low: &[u64; 8], high: &[u64; 8], from: u32, word: usize) -> u64
+    requires { (from < 512) × (word < 8) }
+    ensures { (i : ℕ) → i < 64 → bit_at result i ≡ beside low.now high.now (from + 64 * word + i) }
+{
+    let at = from as usize / 64 + word;
+    let first = word_beside(low, high, at);
+    let next = word_beside(low, high, at + 1);
+    joined(first, next, from % 64)
+}
+
 /// The 512 lanes of two planes side by side that begin at a lane of the first: by whole words
 /// where they begin at one, and else with shifts.
 #[inline(always)]
@@ -40,17 +52,16 @@ pub(crate) fn lanes_beside(low: u64x8, high: u64x8, from: u32) -> u64x8
 {
     let low = low.to_array();
     let high = high.to_array();
-    let first = from as usize / 64;
-    let mut words = [0; 8];
-    for w in 0..8 {
-        let at = first + w;
-        words[w] = joined(
-            word_beside(&low, &high, at),
-            word_beside(&low, &high, at + 1),
-            from % 64,
-        );
-    }
-    u64x8::from_array(words)
+    u64x8::from_array([
+        word_from(&low, &high, from, 0),
+        word_from(&low, &high, from, 1),
+        word_from(&low, &high, from, 2),
+        word_from(&low, &high, from, 3),
+        word_from(&low, &high, from, 4),
+        word_from(&low, &high, from, 5),
+        word_from(&low, &high, from, 6),
+        word_from(&low, &high, from, 7),
+    ])
 }
 
 /// 512 lanes of a set, from a lane on and round its end: they begin in one block and end in the
