@@ -6,8 +6,6 @@
 mod batches;
 mod deferring;
 mod settling;
-#[cfg(test)]
-mod tests;
 
 pub use batches::{Batch, MOST};
 pub use deferring::{Deferred, defer};
