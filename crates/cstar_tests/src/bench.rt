@@ -1,7 +1,7 @@
 //! What the tests run: the top call over an outside in memory.
 
 use cstar_base::{Memory, Word};
-use cstar_io::{MemShelf, MemSink, MemSource, Open};
+use cstar_io::{Gate, MemShelf, MemSink, MemSource, Open};
 use std::alloc::Global;
 use std::thread::Threads;
 
@@ -74,6 +74,18 @@ pub fn command<R: Threads + Sync>(
     text: &[u8],
     outside: Outside,
 ) -> Result<Done, Memory> {
+    command_by(rt, alloc, words, text, outside, &Open)
+}
+
+/// The same with a gate.
+pub fn command_by<R: Threads + Sync, G: Gate + Sync>(
+    rt: &R,
+    alloc: Global,
+    words: &[&str],
+    text: &[u8],
+    outside: Outside,
+    gate: &G,
+) -> Result<Done, Memory> {
     let words = strings(alloc, words)?;
     let mut shelf = shelf_with(alloc, text, outside.shelf)?;
     let mut input = MemSource::new(
@@ -90,7 +102,7 @@ pub fn command<R: Threads + Sync>(
         &mut input,
         &mut out,
         &mut err,
-        &Open,
+        gate,
     );
     Ok(Done { status, out, err })
 }

@@ -1,5 +1,5 @@
 //! Tests that need more than rows of text: an outside that fails, every byte and every
-//! beginning of a program, tokens, and a listing of an image that breaks rules. Rows of programs,
+//! beginning of a program, tokens, gates, and a listing of an image that breaks rules. Rows of programs,
 //! listings and commands stand in `row_runs`.
 #![tactic(auto)]
 
@@ -9,6 +9,8 @@ mod bad_input;
 mod bench;
 #[cfg(test)]
 mod failures;
+#[cfg(test)]
+mod gates;
 #[cfg(test)]
 mod listings;
 #[cfg(test)]

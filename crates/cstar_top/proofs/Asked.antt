@@ -1,10 +1,12 @@
 -- What the options say of the words that they were read from.
-use Rattle.std.proofs.Common.{◌≡◌, ◌∙◌, ℕ, List, [], Option, ap, sym}
-use Rattle.std.specs.Prelude.{unwrap_or}
+use Rattle.std.proofs.Common.{◌≡◌, ◌∙◌, ◌≤◌, ◌&&◌, ℕ, Bool, true, false, List, [], Option, Some, None, ap, sym, refl, arith, lit≤, if◌then◌else◌}
+use Rattle.std.specs.Prelude.{codes, nat_le, unwrap_or}
+use Rattle.std.specs.Str.Parse.{digits_value}
 use Rattle.cstar_words.specs.declared.options.Mode.{Mode}
 use Rattle.cstar_words.specs.declared.options.Mode.TheVariants as M
 use Rattle.cstar_words.specs.declared.options.Options.{Options}
-use Rattle.cstar_words.specs.Reading.{Reads, rows_in}
+use Rattle.cstar_words.specs.Numbers.{is_number, number_in}
+use Rattle.cstar_words.specs.Reading.{Reads, given, read_or, rows_in}
 use Rattle.cstar_top.specs.Modes.{AsksFor, budget, budget_in, named}
 
 -- the file's name is the one that the words name
@@ -18,3 +20,23 @@ mode_is words options mode reads asks = ap (λ (o : Option Mode). unwrap_or o M.
 -- and so are the turns
 pub budget_is : (words : List (List ℕ)) (options : Options) → Reads (rows_in words) options → budget_in options.mode words ≡ budget options.mode options.turns
 budget_is words options reads = ap (λ (o : Option ℕ). budget options.mode (unwrap_or o 0)) reads.turns
+
+-- a number that is given where it passes three tests passed them
+passed : (v n : ℕ) (a b c : Bool) → (if a && (b && c) then Some v else None) ≡ Some n → (b ≡ true) × (c ≡ true) × (v ≡ n)
+passed v n true true true is = (refl, refl, ap (λ (o : Option ℕ). unwrap_or o 0) is)
+passed v n true true false is = cc
+passed v n true false c is = cc
+passed v n false b c is = cc
+
+-- a number of the words lies between its bounds, as its default does
+between : (low high default n : ℕ) (text : Option (List ℕ)) → low ≤ default → default ≤ high → read_or (number_in low high) default text ≡ Some n → (low ≤ n) × (n ≤ high)
+between low high default n None above below read =
+    let is : default ≡ n = ap (λ (o : Option ℕ). unwrap_or o 0) read in (omega (arith, is, above), omega (arith, is, below))
+between low high default n (Some text) above below read =
+    let value = digits_value 10 text in
+    let within = passed value n (is_number text) (nat_le low value) (nat_le value high) read in
+    (omega (arith, within.0, within.2), omega (arith, within.1, within.2))
+
+-- the workers are 1 to 64
+pub few_workers : (words : List (List ℕ)) (options : Options) → Reads (rows_in words) options → (1 ≤ options.workers) × (options.workers ≤ 64)
+few_workers words options reads = between 1 64 4 options.workers (given (codes "workers") (rows_in words)) (lit≤ tt) (lit≤ tt) reads.workers

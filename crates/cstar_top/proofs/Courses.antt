@@ -7,18 +7,33 @@ use Rattle.cstar_io.proofs.Taking.{takes_then, prefix_then, prefix_of_first}
 use Rattle.paris_code.specs.declared.program.Image.{Image}
 use Rattle.paris_code.specs.Listing.{listing}
 use Rattle.paris_code.specs.Memory.{BitMemory, SameBits, fresh_memory}
-use Rattle.paris_code.specs.Shapes.{SetShape}
+use Rattle.paris_code.specs.Code.{CodeState, Rest, opening}
+use Rattle.paris_code.specs.Shapes.{SetShape, shapes_of}
+use Rattle.front_end.specs.declared.kept.Kept.{Kept}
 use Rattle.paris_machine.specs.declared.outcome.End.{End}
 use Rattle.paris_machine.specs.declared.outcome.End.TheVariants as E
 use Rattle.paris_machine.specs.Ends.{output_broke}
-use Rattle.paris_machine.specs.Runs.{Puts}
+use Rattle.paris_machine.specs.Runs.{Puts, Runs, kept_state}
+use Rattle.paris_machine.proofs.Same.{runs_to_same}
 use Rattle.cstar_top.specs.declared.answer.Answer.{Answer}
-use Rattle.cstar_top.specs.Courses.{Course, Feeds, IsCourse, Reports, ReportsPart, answer_to_end, closing, closing_text, where_asked}
+use Rattle.cstar_top.specs.Courses.{Course, Feeds, IsCourse, IsNew, Reports, ReportsPart, answer_to_end, closing, closing_text, where_asked}
 
 -- new phases for which a winner was chosen
 pub chosen_new : (shapes : List SetShape) (m n : BitMemory) (winner : Winner) → SameBits shapes m (record { bit = n.bit; winner = winner }) → SameBits shapes n (fresh_memory shapes) → SameBits shapes m (record { bit = (fresh_memory shapes).bit; winner = winner })
 chosen_new shapes m n winner chosen fresh =
     record { bits = λ set position index a b c. chosen.bits set position index a b c ∙ fresh.bits set position index a b c; winner = chosen.winner }
+
+-- a run from new memory, and then to a memory with the same bits, is a course to that
+pub settled_course : (image : Image) (winner : Winner) (turns : ℕ) (start m : BitMemory) (stopped : Kept) (course : Course) → IsNew image winner start
+    → Runs image (opening image start turns) course.end course.steps (λ rest. kept_state stopped course.left m rest course.printed) course.over course.taken
+    → SameBits (shapes_of image) course.memory m → IsCourse image winner turns course
+settled_course image winner turns start m stopped course new ran same =
+    let to : Rest → CodeState = λ rest. kept_state stopped course.left m rest course.printed in
+    let last : Rest → CodeState = λ rest. kept_state stopped course.left course.memory rest course.printed in (
+      start,
+      new,
+      (last, λ rest. (refl, refl, refl), runs_to_same image (opening image start turns) to last course.end course.steps course.over course.taken (λ rest. record { bits = same; rest = refl }) ran),
+    )
 
 -- where no output failed, all that a run printed was taken
 pub printed_whole : (end : End) {S : Type 0} (agrees : S → List ℕ → Type 0) (s t : S) (xs : List ℕ) → output_broke end ≡ false → Puts (Some end) agrees s t xs → Takes agrees s t xs

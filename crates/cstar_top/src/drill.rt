@@ -8,6 +8,7 @@ ghost use Rattle.cstar_tree.specs.IsTyped.{IsTyped};
 ghost use Rattle.cstar_words.specs.declared.options.Mode.TheVariants as M;
 ghost use Rattle.paris_code.specs.declared.program.Image.{Image};
 ghost use Rattle.paris_code.specs.Sound.{IsSound};
+ghost use Rattle.paris_phases.specs.Doing.{CanDo, Did};
 ghost use Rattle.cstar_top.specs.Answers.{status_of};
 ghost use Rattle.cstar_top.specs.Drills.{IsRunLine, PutsDrill, PutsPartOfDrill, drill_line};
 ghost use Rattle.cstar_top.specs.Outcomes.{CanAnswer};
@@ -15,21 +16,31 @@ ghost use Rattle.cstar_top.specs.Outcomes.{CanAnswer};
 use crate::answer::Answer;
 use crate::compile::{NoImage, TypedText, accepted, compile};
 use crate::run::{run_fault, sent};
+use block_store::Store;
 use cstar_base::{Memory, Winner};
-use cstar_io::{Sink, SureSink, SureSource};
+use cstar_io::{Gate, Sink, SureSink, SureSource};
 use drill_text::drill_text;
 use image_check::Sound;
 use itoa::Buffer;
+use paris_code::{Instr, Reply};
 use paris_machine::{End, run};
-use phase_gate::{Phases, RowPhases};
+use paris_phases::{Crew, ForkPhases};
+use phase_gate::Phases;
 use std::alloc::Global;
+use std::thread::Threads;
 
 /// The turns that a drill may spend.
 const DRILL_TURNS: u32 = 1_000_000;
 
 /// Makes the text of a seed, runs it on no input into a sink that counts, and puts one line on what
 /// that came to. A text that is refused, ends in a fault or is stopped puts nothing.
-pub fn drill<O: Sink>(alloc: Global, seed: u32, winner: Winner, out: &mut O) -> Answer
+pub fn drill<R: Threads + Sync, O: Sink, G: Gate + Sync>(
+    alloc: Global,
+    crew: &Crew<R, G>,
+    seed: u32,
+    winner: Winner,
+    out: &mut O,
+) -> Answer
     ensures can { CanAnswer M.Drill DRILL_TURNS result }
     ensures readable { status_of result ≢ 5 }
     ensures input { status_of result ≢ 7 }
@@ -44,14 +55,20 @@ pub fn drill<O: Sink>(alloc: Global, seed: u32, winner: Winner, out: &mut O) -> 
         return Answer::Memory;
     };
     match accepted(alloc, text.as_slice()) {
-        Ok(program) => drill_program(alloc, &program, winner, out),
+        Ok(program) => drill_program(alloc, crew, &program, winner, out),
         Err(NoImage::Refused { fault, place }) => Answer::Refused { fault, place },
         Err(NoImage::Memory) => Answer::Memory,
     }
 }
 
 /// Runs the drill's program.
-fn drill_program<O: Sink>(alloc: Global, program: &TypedText, winner: Winner, out: &mut O) -> Answer
+fn drill_program<R: Threads + Sync, O: Sink, G: Gate + Sync>(
+    alloc: Global,
+    crew: &Crew<R, G>,
+    program: &TypedText,
+    winner: Winner,
+    out: &mut O,
+) -> Answer
     requires { IsTyped program.now.typed }
     ensures can { CanAnswer M.Drill DRILL_TURNS result }
     ensures readable { status_of result ≢ 5 }
@@ -64,15 +81,16 @@ fn drill_program<O: Sink>(alloc: Global, program: &TypedText, winner: Winner, ou
     ensures count { status_of result ≢ 6 → O.faults out.new ≡ O.faults out.old }
 {
     match compile(alloc, &program.typed) {
-        Ok(sound) => drill_image(alloc, &sound, program.tokens, winner, out),
+        Ok(sound) => drill_image(alloc, crew, &sound, program.tokens, winner, out),
         Err(NoImage::Refused { fault, place }) => Answer::Refused { fault, place },
         Err(NoImage::Memory) => Answer::Memory,
     }
 }
 
 /// Runs the drill's image.
-fn drill_image<O: Sink>(
+fn drill_image<R: Threads + Sync, O: Sink, G: Gate + Sync>(
     alloc: Global,
+    crew: &Crew<R, G>,
     sound: &Sound,
     tokens: usize,
     winner: Winner,
@@ -88,7 +106,11 @@ fn drill_image<O: Sink>(
     ensures write_fault { status_of result ≡ 6 → RisesBy (O.faults out.old) (O.faults out.new) }
     ensures count { status_of result ≢ 6 → O.faults out.new ≡ O.faults out.old }
 {
-    let mut phases = match RowPhases::new(alloc, sound) {
+    let phase = |store: &mut Store, instr: &Instr, args: &[u32], winner: Winner| -> Reply
+        requires { CanDo store.now instr.now args.now }
+        ensures { Did store.entry.now instr.entry.now args.entry.now winner store.exit.now result }
+    { crew.apply(store, instr, args, winner) };
+    let mut phases = match ForkPhases::new(alloc, sound, phase) {
         Ok(phases) => phases,
         Err(_) => return Answer::Memory,
     };

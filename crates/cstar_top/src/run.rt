@@ -11,24 +11,30 @@ ghost use Rattle.final_values.specs.Finals.{finals_text};
 ghost use Rattle.paris_code.specs.Listing.{listing};
 ghost use Rattle.paris_code.specs.Shapes.{shapes_of};
 ghost use Rattle.paris_machine.specs.Ends.{output_broke};
+ghost use Rattle.paris_phases.specs.Doing.{CanDo, Did};
 ghost use Rattle.paris_text.specs.Puts.{Puts};
 
 use crate::answer::Answer;
-use cstar_base::RunFault;
-use cstar_io::{Failed, Sink, Source};
+use block_store::Store;
+use cstar_base::{RunFault, Winner};
+use cstar_io::{Failed, Gate, Sink, Source};
 use cstar_words::Options;
 use final_values::put_finals;
 use image_check::Sound;
 use itoa::Buffer;
+use paris_code::{Instr, Reply};
 use paris_machine::{End, Outcome, run};
+use paris_phases::{Crew, ForkPhases};
 use paris_text::print;
-use phase_gate::{Phases, RowPhases};
+use phase_gate::Phases;
 use std::alloc::Global;
+use std::thread::Threads;
 
-/// Runs an image on new phases, and puts the listing, the final values and the number of
+/// Runs an image on new phases of a crew, and puts the listing, the final values and the number of
 /// instructions where the options ask for them. What the run comes to, once all is sent on.
-pub fn run_image<I: Source, O: Sink>(
+pub fn run_image<R: Threads + Sync, I: Source, O: Sink, G: Gate + Sync>(
     alloc: Global,
+    crew: &Crew<R, G>,
     sound: &Sound,
     options: &Options,
     input: &mut I,
@@ -42,7 +48,11 @@ pub fn run_image<I: Source, O: Sink>(
     ensures report { status_of result ≢ 6 → status_of result ≢ 8 → Reports O.agrees out.old out.new (I.left input.old) (I.left input.new) options.now sound.now result }
     ensures part { ReportsPart O.agrees out.old out.new (I.left input.old) (I.left input.new) options.now sound.now }
 {
-    let mut phases = match RowPhases::new(alloc, sound) {
+    let phase = |store: &mut Store, instr: &Instr, args: &[u32], winner: Winner| -> Reply
+        requires { CanDo store.now instr.now args.now }
+        ensures { Did store.entry.now instr.entry.now args.entry.now winner store.exit.now result }
+    { crew.apply(store, instr, args, winner) };
+    let mut phases = match ForkPhases::new(alloc, sound, phase) {
         Ok(phases) => phases,
         Err(_) => return Answer::Memory,
     };
@@ -52,6 +62,7 @@ pub fn run_image<I: Source, O: Sink>(
         Err(_) => return Answer::WriteFault,
     }
     let outcome = run(alloc, sound, options.turns, &mut phases, input, out);
+    phases.settle();
     finish(sound, options, outcome, &phases, out)
 }
 
@@ -108,7 +119,8 @@ fn finish<P: Phases, O: Sink>(
     phases: &P,
     out: &mut O,
 ) -> Answer
-    requires { P.shapes phases.now ≡ shapes_of sound.now }
+    requires shapes { P.shapes phases.now ≡ shapes_of sound.now }
+    requires settled { P.settled phases.now }
     ensures end { IsEndOfRun options.now.turns result }
     ensures own { status_of result ≢ 6 → result ≡ answer_to_end options.now.turns outcome.end }
     ensures taken { status_of result ≢ 6 → Takes O.agrees out.old out.new (closing outcome.end (closing_text options.now sound.now outcome.steps (P.memory phases.now))) }
@@ -137,7 +149,8 @@ fn ended<P: Phases, O: Sink>(
     out: &mut O,
     answer: Answer,
 ) -> Answer
-    requires { P.shapes phases.now ≡ shapes_of sound.now }
+    requires shapes { P.shapes phases.now ≡ shapes_of sound.now }
+    requires settled { P.settled phases.now }
     ensures end { (turns : ℕ) → IsEndOfRun turns answer → IsEndOfRun turns result }
     ensures own { status_of result ≢ 6 → result ≡ answer }
     ensures taken { status_of result ≢ 6 → Takes O.agrees out.old out.new (closing_text options.now sound.now steps (P.memory phases.now)) }
@@ -160,7 +173,8 @@ fn put_end<P: Phases, O: Sink>(
     phases: &P,
     out: &mut O,
 ) -> Result<(), Failed>
-    requires { P.shapes phases.now ≡ shapes_of sound.now }
+    requires shapes { P.shapes phases.now ≡ shapes_of sound.now }
+    requires settled { P.settled phases.now }
     ensures { Puts O.agrees O.faults out.old out.new result (closing_text options.now sound.now steps (P.memory phases.now)) }
 {
     match put_newline(options, out) {
@@ -188,7 +202,8 @@ fn put_values<P: Phases, O: Sink>(
     phases: &P,
     out: &mut O,
 ) -> Result<(), Failed>
-    requires { P.shapes phases.now ≡ shapes_of sound.now }
+    requires shapes { P.shapes phases.now ≡ shapes_of sound.now }
+    requires settled { P.settled phases.now }
     ensures { Puts O.agrees O.faults out.old out.new result (where_asked options.now.finals (finals_text (shapes_of sound.now) (P.memory phases.now) sound.now.finals.items)
         ++ where_asked options.now.listing (steps_line steps)) }
 {
@@ -205,7 +220,8 @@ fn put_finals_where<P: Phases, O: Sink>(
     phases: &P,
     out: &mut O,
 ) -> Result<(), Failed>
-    requires { P.shapes phases.now ≡ shapes_of sound.now }
+    requires shapes { P.shapes phases.now ≡ shapes_of sound.now }
+    requires settled { P.settled phases.now }
     ensures { Puts O.agrees O.faults out.old out.new result (where_asked asked (finals_text (shapes_of sound.now) (P.memory phases.now) sound.now.finals.items)) }
 {
     if asked {

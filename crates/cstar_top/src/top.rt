@@ -34,6 +34,7 @@ use crate::run::{list_image, run_image};
 use cstar_io::{Gate, Shelf, ShelfErr, Sink, Source};
 use cstar_words::{Mode, Options, WordsErr, read};
 use image_check::Sound;
+use paris_phases::Crew;
 use std::alloc::Global;
 use std::thread::Threads;
 
@@ -42,8 +43,9 @@ const POINT_LIMIT: u32 = 1_073_741_824;
 
 /// What the command comes to.
 #[tactic(auto, using(crate::proofs::Listings::nothing_taken))]
-fn answer<S: Shelf, I: Source, O: Sink>(
+fn answer<R: Threads + Sync, S: Shelf, I: Source, O: Sink, G: Gate + Sync>(
     alloc: Global,
+    crew: &Crew<R, G>,
     options: &Options,
     shelf: &mut S,
     input: &mut I,
@@ -78,14 +80,14 @@ fn answer<S: Shelf, I: Source, O: Sink>(
     ensures files { (name : List ℕ) → S.file shelf.new name ≡ S.file shelf.old name }
 {
     if let Mode::Drill = options.mode {
-        return drill(alloc, options.seed, options.winner, out);
+        return drill(alloc, crew, options.seed, options.winner, out);
     }
     let text = match shelf.fetch(options.file, limit(options.mode)) {
         Ok(text) => text,
         Err(ShelfErr::Failed) => return Answer::CannotRead,
         Err(ShelfErr::Memory) => return Answer::Memory,
     };
-    answer_to(alloc, options, text.as_slice(), input, out)
+    answer_to(alloc, crew, options, text.as_slice(), input, out)
 }
 
 /// The greatest length of a file.
@@ -100,8 +102,9 @@ fn limit(mode: Mode) -> u32
 }
 
 /// What the command comes to on the text of its file.
-fn answer_to<I: Source, O: Sink>(
+fn answer_to<R: Threads + Sync, I: Source, O: Sink, G: Gate + Sync>(
     alloc: Global,
+    crew: &Crew<R, G>,
     options: &Options,
     text: &[u8],
     input: &mut I,
@@ -128,7 +131,7 @@ fn answer_to<I: Source, O: Sink>(
 {
     match options.mode {
         Mode::Run => match runnable(alloc, options, text) {
-            Ok(sound) => run_image(alloc, &sound, options, input, out),
+            Ok(sound) => run_image(alloc, crew, &sound, options, input, out),
             Err(no_image) => refusal(no_image),
         },
         Mode::Check => match accepted(alloc, text) {
@@ -140,7 +143,7 @@ fn answer_to<I: Source, O: Sink>(
             Err(no_image) => refusal(no_image),
         },
         Mode::Asm => match runnable_listing(alloc, options, text) {
-            Ok(sound) => run_image(alloc, &sound, options, input, out),
+            Ok(sound) => run_image(alloc, crew, &sound, options, input, out),
             Err(no_image) => refusal(no_image),
         },
         Mode::Resume => {
@@ -224,7 +227,9 @@ fn refusal(no_image: NoImage) -> Answer
 /// - 6 an output failed, and nothing more was put; 7 the input failed;
 /// - 8 there was no memory.
 ///
-/// This edition runs on one thread: `rt`, `gate` and the option `--workers` have no effect yet.
+/// The parallel instructions are done over blocks of 512 positions, by as many workers as pay and at
+/// most as many as `--workers` gives, in threads that `rt` starts; `gate` is called for each block of
+/// a pass. Neither has a part in what the command answers and puts.
 #[tactic(auto, unfolding(crate::specs::Answers::line_of))]
 pub fn cstar<R: Threads + Sync, S: Shelf, I: Source, O: Sink, E: Sink, G: Gate + Sync>(
     rt: &R,
@@ -272,11 +277,10 @@ pub fn cstar<R: Threads + Sync, S: Shelf, I: Source, O: Sink, E: Sink, G: Gate +
     ensures shelf_count { result ≢ 5 → result ≢ 6 → result ≢ 8 → S.faults shelf.new ≡ S.faults shelf.old }
     ensures files { (name : List ℕ) → S.file shelf.new name ≡ S.file shelf.old name }
 {
-    let _ = rt;
-    let _ = gate;
     match read(alloc, words) {
         Ok(options) => {
-            let answer = answer(alloc, &options, shelf, input, out);
+            let crew = Crew::new(rt, alloc, options.workers, gate);
+            let answer = answer(alloc, &crew, &options, shelf, input, out);
             report(alloc, options.file.as_bytes(), answer, err)
         }
         Err(WordsErr::Usage) => report(alloc, b"", Answer::Usage, err),

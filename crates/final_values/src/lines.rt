@@ -20,7 +20,8 @@ use vp_sets::Geometry;
 /// and for each position in order a space and the value there in decimal. `Failed` where the sink
 /// failed; then it took the first bytes of these lines.
 pub fn put_finals<P: Phases, O: Sink>(sound: &Sound, phases: &P, out: &mut O) -> Result<(), Failed>
-    requires { P.shapes phases.now ≡ shapes_of sound.now }
+    requires shapes { P.shapes phases.now ≡ shapes_of sound.now }
+    requires settled { P.settled phases.now }
     ensures { Puts O.agrees O.faults out.old out.new result (finals_text (shapes_of sound.now) (P.memory phases.now) sound.now.finals.items) }
 {
     'finals: for last in sound.image().finals.iter() {
@@ -40,6 +41,7 @@ fn put_final<P: Phases, O: Sink>(
     out: &mut O,
 ) -> Result<(), Failed>
     requires shapes { P.shapes phases.now ≡ shapes_of sound.now }
+    requires settled { P.settled phases.now }
     requires field { LiesIn (shapes_of sound.now) last.now.field }
     ensures { Puts O.agrees O.faults out.old out.new result (values_line (shapes_of sound.now) (P.memory phases.now) last.now) }
 {
@@ -67,6 +69,7 @@ fn put_row<P: Phases, O: Sink>(
     out: &mut O,
 ) -> Result<(), Failed>
     requires shapes { P.shapes phases.now ≡ shapes_of sound.now }
+    requires settled { P.settled phases.now }
     requires field { LiesIn (shapes_of sound.now) last.now.field }
     ensures { Puts O.agrees O.faults out.old out.new result (values_text (shapes_of sound.now) (P.memory phases.now) last.now ++ codes "\n") }
 {
@@ -84,6 +87,7 @@ fn put_values<P: Phases, O: Sink>(
     out: &mut O,
 ) -> Result<(), Failed>
     requires shapes { P.shapes phases.now ≡ shapes_of sound.now }
+    requires settled { P.settled phases.now }
     requires field { LiesIn (shapes_of sound.now) last.now.field }
     ensures { Puts O.agrees O.faults out.old out.new result (values_text (shapes_of sound.now) (P.memory phases.now) last.now) }
 {

@@ -12,7 +12,7 @@ use Rattle.paris_code.specs.declared.instr.Instr.TheVariants as I
 use Rattle.paris_code.specs.declared.program.Image.{Image}
 use Rattle.paris_code.specs.declared.program.Reply.{Reply}
 use Rattle.paris_code.specs.declared.program.Reply.TheVariants as R
-use Rattle.paris_code.specs.Code.{CodeState, Rest, Mark, End, Broken, Next, Goes, Ends, Stopped, Reached, code, go_on, one_more, step, begun, begun_at, applied, controlled, set_or, checked, given, replied, arguments_at}
+use Rattle.paris_code.specs.Code.{CodeState, Rest, Mark, End, Broken, Next, Goes, Ends, Done, Fault, InputBroken, Stopped, Reached, code, go_on, one_more, step, begun, begun_at, applied, controlled, set_or, checked, given, replied, arguments_at}
 use Rattle.paris_code.specs.Kinds.{is_parallel}
 use Rattle.paris_code.specs.Meaning.{after, reply_of}
 use Rattle.paris_code.specs.Memory.{BitMemory, SameBits}
@@ -180,3 +180,24 @@ runs_code image sound from end steps to ended taken chains = λ later left.
     let run = chains later left in
     let met = reached image sound (from (before taken later)) run.0 run.2.0 run.2.1 in
     (run.0, run.1, (met.0, met.1, ends_same image sound met.0 run.2.0 end (to later) met.2 run.2.2))
+
+comes_to_same : (image : Image) (s t u : CodeState) (end : RunEnd) → SameState (shapes_of image) t u → ComesTo image s (Some end) t → ComesTo image s (Some end) u
+comes_to_same image s t u E.Done same came = next_after (shapes_of image) (step image s) (Ends Done t) (Ends Done u) came (refl, same)
+comes_to_same image s t u (E.Fault kind place position) same came = (
+  came.0,
+  came.1,
+  next_after (shapes_of image) (step image s) (Ends (Fault came.0 place position) t) (Ends (Fault came.0 place position) u) came.2 (refl, same),
+)
+comes_to_same image s t u E.Stopped same came = next_after (shapes_of image) (step image s) (Ends Stopped t) (Ends Stopped u) came (refl, same)
+comes_to_same image s t u E.InputBroken same came = next_after (shapes_of image) (step image s) (Ends InputBroken t) (Ends InputBroken u) came (refl, same)
+comes_to_same image s t u E.OutputBroken same came = next_after (shapes_of image) (step image s) (Goes t) (Goes u) came same
+comes_to_same image s t u E.Memory same came = (came.0, ap (λ (x : CodeState). x.output) same.rest ∙ came.1)
+
+-- a run comes as well to what is the same but for bits that no set has
+pub runs_to_same : (image : Image) (from to other : Rest → CodeState) (end : RunEnd) (steps : ℕ) (ended : Bool) (taken : List ℕ) → ((rest : Rest) → SameState (shapes_of image) (to rest) (other rest)) → Runs image from end steps to ended taken → Runs image from end steps other ended taken
+runs_to_same image from to other end steps ended taken same ran later left =
+    let run = ran later left in (
+      run.0,
+      run.1,
+      (run.2.0, run.2.1, comes_to_same image run.2.0 (to later) (other later) end (same later) run.2.2),
+    )

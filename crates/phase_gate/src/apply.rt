@@ -272,6 +272,8 @@ impl Phases for RowPhases {
 
     ghost able = { λ _. Unit {0} };
 
+    ghost settled = { λ _. Unit {0} };
+
     fn apply(&mut self, instr: &Instr, args: &[u32]) -> Reply {
         if let Some(reply) = self.check(instr, args) {
             return reply;
@@ -286,6 +288,8 @@ impl Phases for RowPhases {
         }
         Reply::Nothing
     }
+
+    fn settle(&mut self) {}
 
     fn read(&self, field: Field, position: u32) -> u32 {
         self.field(field, position)

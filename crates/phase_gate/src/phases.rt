@@ -23,6 +23,11 @@ pub trait Phases {
     /// does what it says. Phases on one thread rest on nothing.
     ghost able: { Self → Type 0 };
 
+    /// That no instruction is put off. `memory` is always what the instructions have made of the
+    /// processors; but phases may put instructions off, to do several in one pass over their store.
+    /// Then only what is settled can be read.
+    ghost settled: { Self → Type 0 };
+
     /// Does a parallel instruction; `args` are the values of the registers that it reads, in the
     /// order of its operands. `Value` where it has a result register, `Bad` with the least active
     /// processor whose check fails, `Memory` at a send alone, and then nothing has changed; else
@@ -35,8 +40,17 @@ pub trait Phases {
         ensures shapes { shapes self.new ≡ shapes self.old }
         ensures meaning { Means (shapes self.old) instr.now args.now (memory self.old) (memory self.new) result };
 
+    /// Does what was put off. That changes nothing that the phases mean.
+    fn settle(&mut self)
+        requires able { able self.old }
+        ensures able { able self.new }
+        ensures settled { settled self.new }
+        ensures shapes { shapes self.new ≡ shapes self.old }
+        ensures memory { SameBits (shapes self.old) (memory self.new) (memory self.old) };
+
     /// The number in a field of a processor, unsigned.
     fn read(&self, field: Field, position: u32) -> u32
+        requires settled { settled self.now }
         requires field { LiesIn (shapes self.now) field }
         requires position { IsPosition (shapes self.now) field.set position }
         ensures { result ≡ field_number (memory self.now) field position };
@@ -44,21 +58,25 @@ pub trait Phases {
     /// A bit of a processor: below the set's bits one of its fields, then the context flag, then
     /// the test flag.
     fn bit(&self, set: u16, index: u32, position: u32) -> bool
+        requires settled { settled self.now }
         requires position { IsPosition (shapes self.now) set position }
         requires index { index < bits_at (shapes self.now) set + 2 }
         ensures { result ≡ ((memory self.now).bit set position index == 1) };
 
     /// Changes this bit alone.
     fn set_bit(&mut self, set: u16, index: u32, position: u32, b: bool)
+        requires settled { settled self.old }
         requires position { IsPosition (shapes self.old) set position }
         requires index { index < bits_at (shapes self.old) set + 2 }
         ensures able { able self.old → able self.new }
+        ensures settled { settled self.new }
         ensures shapes { shapes self.new ≡ shapes self.old }
         ensures memory { SameBits (shapes self.old) (memory self.new) (written (at_one (bit_run set index) position (from_bool b)) (memory self.old)) };
 
     /// Changes which sender of a colliding send without a combiner wins, and nothing else.
     fn choose(&mut self, w: Winner)
         ensures able { able self.old → able self.new }
+        ensures settled { settled self.old → settled self.new }
         ensures shapes { shapes self.new ≡ shapes self.old }
         ensures memory { SameBits (shapes self.old) (memory self.new) (record { bit = (memory self.old).bit; winner = w }) };
 }

@@ -3,11 +3,13 @@
 #![tactic(auto)]
 
 mod bytes;
+mod late;
 mod row;
 
+use crate::late::Late;
 use crate::row::{Row, rows_of};
 use cstar_base::{Memory, Word};
-use cstar_io::{MemShelf, MemSink, MemSource, Open, RealShelf, Shelf, ShelfErr};
+use cstar_io::{MemShelf, MemSink, MemSource, RealShelf, Shelf, ShelfErr};
 use std::alloc::Global;
 use std::rt::{Env, Files};
 use std::thread::Threads;
@@ -55,7 +57,7 @@ fn is_kept<R: Threads + Sync>(
         &mut input,
         &mut out,
         &mut err,
-        &Open,
+        &Late::new(),
     );
     Ok(
         status == row.status

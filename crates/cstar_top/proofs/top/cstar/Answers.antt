@@ -7,13 +7,16 @@ use Rattle.cstar_top.specs.Assembled.{RefusesListing}
 use Rattle.cstar_top.specs.Modes.{budget, leaves_input, named, runs_image}
 use Rattle.cstar_top.specs.Refusals.{HoldsLong, RefusesLong, reads_text}
 use Rattle.cstar_top.specs.Reported.{Holds}
-use Rattle.cstar_top.proofs.Asked.{budget_is, mode_is, named_is}
+use Rattle.cstar_top.proofs.Asked.{budget_is, few_workers, mode_is, named_is}
 use Rattle.cstar_top.proofs.Lines.{status_is}
 use Rattle.cstar_top.proofs.Listings.{nothing_taken}
 use Rattle.cstar_top.proofs.Outcomes.{answer_told, can_follow, no_usage, part_told, refusal_told, told_is}
 use Rattle.cstar_top.proofs.Refusals.{refused_long}
 use Rattle.cstar_top.proofs.Reported.{whole_is, whole_not}
 use Rattle.cstar_top.proofs.top.cstar.Goals as goal
+
+pub new-crew-requires : goal.new-crew-requires
+new-crew-requires g c κs live = few_workers (map string_bytes c.args.words.now) c.in-Ok.options c.in-Ok.ensures.reads
 
 pub returns-in-Ok-clause-line : goal.returns-in-Ok-clause-line
 returns-in-Ok-clause-line g c other =

@@ -1,0 +1,12 @@
+//! The phases of the machine over blocks, by any number of workers.
+#![tactic(auto)]
+
+mod crew;
+mod families;
+mod fork;
+mod passes;
+mod workers;
+
+pub use crew::Crew;
+pub use fork::ForkPhases;
+pub use workers::workers_for;
