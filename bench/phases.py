@@ -1,0 +1,370 @@
+#!/usr/bin/env python3
+"""Measures the machine's phases against plain C loops, and against NumPy where it is there.
+
+Each kernel is a listing that `cstar --mode asm` runs: the instructions that a good compiler makes of
+the C* above it, without a copy of an operand and with fields no longer than they have to be. It runs on
+one, two and four workers over 32,768 and 1,048,576 positions. A line has the least time of one round
+with each number of workers, the time of the C loop (gcc -O2) and of NumPy, and how many times as long as
+C one worker takes. All print a sum of their results, which has to agree. Run it on an idle machine.
+"""
+import argparse
+import os
+import subprocess
+import sys
+import tempfile
+import time
+
+TOP = os.path.dirname(os.path.dirname(os.path.abspath(__file__)))
+GRIDS = {32768: (128, 256), 1048576: (1024, 1024)}
+TARGETS = 1024
+LIMIT = 120  # seconds that one run may take
+ENOUGH = 0.4  # seconds that a measured run should take
+RUNS = 3
+PYTHON = os.environ.get("NUMPY_PYTHON", sys.executable)
+
+
+class Set:
+    """The fields of a set, by name; each is placed behind the one before."""
+
+    def __init__(self, number, extents, fields):
+        self.number, self.extents, self.names, self.bits = number, extents, {}, 0
+        for name, length in fields.items():
+            self.names[name] = f"{number}:{self.bits}:{length}"
+            self.bits += length
+
+    def line(self):
+        return f".shape {self.number} {''.join(f'[{e}]' for e in self.extents)} {self.bits}"
+
+
+def listing(sets, before, loop, after, rounds):
+    """The listing of what stands before a loop, in it, and behind it. `{name}` is a field."""
+    fields = {name: field for s in sets for name, field in s.names.items()}
+    code = [f"FE_const r1 #{rounds}", "FE_const r2 #1", *before]
+    start = len(code)
+    code += [f"FE_jump_zero r1 @{start + len(loop) + 4}", "FE_turn", *loop, "FE_s_subtract r1 r1 r2", f"FE_jump @{start}"]
+    code += [*after, "FE_put_u r3", "FE_put_bytes x0a", "FE_halt"]
+    lines = [s.line() for s in sets] + [".slots 5", ".depth 0", ".unit 0 main 0"]
+    return "\n".join(lines + [f"{n} {text.format(**fields)}" for n, text in enumerate(code)]) + "\n"
+
+
+def number_at(field):
+    """The number of the position, on a grid of one or two axes whose last has 2^k positions."""
+    return [f"X_make_address_1L {field} s0 {{x}} {{y}}"]
+
+
+WORDS = {"x": 32, "y": 32, "a": 32, "b": 32, "d": 32, "t": 32, "c": 1}
+COORDINATES = ["CM_my_news_coordinate_1L {x} a0", "CM_my_news_coordinate_1L {y} a1"]
+SETUP = COORDINATES + number_at("{t}") + [
+    "CM_s_multiply_constant_3_1L {a} {t} #40503",
+    "CM_logxor_constant_3_1L {b} {t} #21845",
+]
+BITS = {"x": 32, "y": 32, "t": 32, "u": 32, "a": 1, "b": 1, "c": 1, "d": 1, "p": 1, "q": 1}
+SUM = ["CM_global_s_add_1L r3 {d}"]
+SUM_OF_BITS = ["CM_u_move_2L {t} {d}", "CM_global_s_add_1L r3 {t}"]
+
+
+def bit_of(field, place):
+    """A bit of a scattered number of the position."""
+    return [f"CM_u_shift_right_constant_3_1L {{u}} {{t}} #{place}", f"CM_u_move_2L {field} {{u}}"]
+
+
+def kernels(rows, columns):
+    """The listings by name: the C* that is meant, the sets, what stands before, in and behind the loop."""
+    grid = (rows, columns)
+    words = [Set(0, grid, WORDS)]
+    scattered = COORDINATES + number_at("{t}") + ["CM_s_multiply_constant_3_1L {t} {t} #2654435769"]
+    bits = [Set(0, grid, BITS)]
+    stencil = [Set(0, grid, {"x": 32, "y": 32, "d": 32, "n": 32, "t": 32, "inner": 1, "c": 1})]
+    life = [Set(0, grid, {"x": 32, "y": 32, "t": 32, "u": 32, "d": 1, "l": 1, "r": 1, "row": 2, "up": 2, "down": 2, "n": 4, "w": 4, "c": 1})]
+    sends = [Set(0, grid, {**WORDS, "k": 10}), Set(1, (TARGETS,), {"target": 32})]
+    inner = ["CM_set_context s0"]
+    for field, last in (("{x}", rows - 1), ("{y}", columns - 1)):
+        inner += [f"CM_u_ne_zero_1L {field}", "CM_logand_context_with_test s0"]
+        inner += [f"CM_logxor_constant_3_1L {{t}} {field} #{last}", "CM_u_ne_zero_1L {t}", "CM_logand_context_with_test s0"]
+    inner += ["CM_store_context {inner}", "CM_set_context s0"]
+    return {
+        "chain": (
+            "where (a & 64) d = d + (a ^ b); else d -= b;", words, SETUP,
+            ["CM_logand_constant_3_1L {t} {a} #64", "CM_u_ne_zero_1L {t}", "CM_store_context {c}",
+             "CM_logand_context_with_test s0", "CM_logxor_3_1L {t} {a} {b}", "CM_s_add_3_1L {d} {d} {t}",
+             "CM_load_context {c}", "CM_logandc_context_with_test s0", "CM_s_subtract_3_1L {d} {d} {b}",
+             "CM_load_context {c}"], SUM),
+        "logic": (
+            "d = a && !b || c && d;", bits,
+            scattered + bit_of("{a}", 9) + bit_of("{b}", 12) + bit_of("{c}", 15) + bit_of("{d}", 20),
+            ["CM_lognot_2_1L {p} {b}", "CM_logand_3_1L {p} {p} {a}", "CM_logand_3_1L {q} {c} {d}",
+             "CM_logior_3_1L {d} {p} {q}"], SUM_OF_BITS),
+        "life": (
+            "row = [.][. - 1]d + d + [.][. + 1]d; n = [. - 1][.]row + row + [. + 1][.]row; d = n == 3 || n == 4 && d;",
+            life, scattered + bit_of("{d}", 20),
+            ["X_get_from_news_1L {l} {d} a1 #4294967295", "X_get_from_news_1L {r} {d} a1 #1",
+             "CM_u_move_2L {row} {d}", "CM_u_move_2L {up} {l}", "CM_s_add_3_1L {row} {row} {up}",
+             "CM_u_move_2L {up} {r}", "CM_s_add_3_1L {row} {row} {up}",
+             "X_get_from_news_1L {up} {row} a0 #4294967295", "X_get_from_news_1L {down} {row} a0 #1",
+             "CM_u_move_2L {n} {row}", "CM_u_move_2L {w} {up}", "CM_s_add_3_1L {n} {n} {w}",
+             "CM_u_move_2L {w} {down}", "CM_s_add_3_1L {n} {n} {w}",
+             "CM_logxor_constant_3_1L {w} {n} #4", "CM_u_eq_zero_1L {w}", "CM_store_test {l}",
+             "CM_logand_3_1L {d} {d} {l}",
+             "CM_logxor_constant_3_1L {w} {n} #3", "CM_u_eq_zero_1L {w}", "CM_store_test {l}",
+             "CM_logior_3_1L {d} {d} {l}"], SUM_OF_BITS),
+        "multiply": (
+            "where (a & 4096) d = d * a + b;", words, SETUP,
+            ["CM_logand_constant_3_1L {t} {a} #4096", "CM_u_ne_zero_1L {t}", "CM_store_context {c}",
+             "CM_logand_context_with_test s0", "CM_s_multiply_3_1L {t} {d} {a}", "CM_s_add_3_1L {d} {t} {b}",
+             "CM_load_context {c}"], SUM),
+        "stencil": (
+            "where (inner) d = ([. - 1][.]d + [. + 1][.]d + [.][. - 1]d + [.][. + 1]d) / 4;", stencil,
+            COORDINATES + ["CM_s_multiply_constant_3_1L {d} {x} #7919", "CM_s_multiply_constant_3_1L {t} {y} #104",
+                           "CM_s_add_3_1L {d} {d} {t}", "CM_logand_constant_3_1L {d} {d} #65535"] + inner,
+            ["CM_store_context {c}", "CM_load_test {inner}", "CM_logand_context_with_test s0",
+             "X_get_from_news_1L {n} {d} a0 #4294967295", "X_get_from_news_1L {t} {d} a0 #1", "CM_s_add_3_1L {n} {n} {t}",
+             "X_get_from_news_1L {t} {d} a1 #4294967295", "CM_s_add_3_1L {n} {n} {t}",
+             "X_get_from_news_1L {t} {d} a1 #1", "CM_s_add_3_1L {n} {n} {t}",
+             "CM_s_truncate_constant_3_1L {d} {n} #4", "CM_load_context {c}"], SUM),
+        "scan": (
+            "d = scan(d ^ a, 0, CMC_combiner_add, CMC_upward, CMC_none, CMC_no_field, CMC_inclusive); (one line)",
+            [Set(0, (rows * columns,), WORDS)],
+            ["CM_my_news_coordinate_1L {t} a0", "CM_s_multiply_constant_3_1L {a} {t} #40503", "CM_s_move_2L {d} {a}"],
+            ["CM_logxor_3_1L {t} {d} {a}", "CM_scan_with_s_add_1L {d} {t} a0 up none - in"], SUM),
+        "send": (
+            "[k]target += b; over another shape of 1,024 positions", sends,
+            SETUP + ["CM_u_move_2L {k} {a}"],
+            ["CM_send_with_s_add_1L {target} s32 {k} {b}"], ["CM_global_s_add_1L r3 {target}"]),
+    }
+
+
+C_PROGRAM = r"""
+#include <stdint.h>
+#include <stdio.h>
+#include <stdlib.h>
+#include <string.h>
+#include <time.h>
+
+static uint32_t a[POSITIONS], b[POSITIONS], d[POSITIONS], next[POSITIONS], target[1024];
+static uint8_t ba[POSITIONS], bb[POSITIONS], bc[POSITIONS], bd[POSITIONS], be[POSITIONS];
+
+#define ONE_ROUND __attribute__((noinline)) static void
+
+ONE_ROUND chain(void) {
+    for (int n = 0; n < POSITIONS; n++)
+        if (a[n] & 64) d[n] += a[n] ^ b[n]; else d[n] -= b[n];
+}
+
+ONE_ROUND logic(void) {
+    for (int n = 0; n < POSITIONS; n++) bd[n] = (ba[n] && !bb[n]) || (bc[n] && bd[n]);
+}
+
+ONE_ROUND life(void) {
+    for (int r = 0; r < ROWS; r++) {
+        const uint8_t *up = bd + (r + ROWS - 1) % ROWS * COLUMNS, *own = bd + r * COLUMNS, *down = bd + (r + 1) % ROWS * COLUMNS;
+        for (int c = 0; c < COLUMNS; c++) {
+            int left = (c + COLUMNS - 1) % COLUMNS, right = (c + 1) % COLUMNS;
+            int n = up[left] + up[c] + up[right] + own[left] + own[right] + down[left] + down[c] + down[right];
+            be[r * COLUMNS + c] = n == 3 || (n == 2 && own[c]);
+        }
+    }
+    memcpy(bd, be, POSITIONS);
+}
+
+ONE_ROUND multiply(void) {
+    for (int n = 0; n < POSITIONS; n++)
+        if (a[n] & 4096) d[n] = d[n] * a[n] + b[n];
+}
+
+ONE_ROUND stencil(void) {
+    for (int r = 1; r < ROWS - 1; r++)
+        for (int n = r * COLUMNS + 1; n < (r + 1) * COLUMNS - 1; n++)
+            next[n] = (int32_t)(d[n - COLUMNS] + d[n + COLUMNS] + d[n - 1] + d[n + 1]) / 4;
+    for (int r = 1; r < ROWS - 1; r++)
+        memcpy(d + r * COLUMNS + 1, next + r * COLUMNS + 1, 4 * (COLUMNS - 2));
+}
+
+ONE_ROUND scan(void) {
+    uint32_t sum = 0;
+    for (int n = 0; n < POSITIONS; n++) d[n] = sum += d[n] ^ a[n];
+}
+
+ONE_ROUND send(void) {
+    for (int n = 0; n < POSITIONS; n++) target[a[n] & 1023] += b[n];
+}
+
+int main(int count, char **words) {
+    static const struct { const char *name; void (*round)(void); } kernels[] = {
+        {"chain", chain}, {"logic", logic}, {"life", life}, {"multiply", multiply}, {"stencil", stencil}, {"scan", scan}, {"send", send}};
+    uint32_t rounds = count > 2 ? (uint32_t)strtoul(words[2], 0, 10) : 0;
+    for (unsigned k = 0; count > 2 && k < sizeof kernels / sizeof *kernels; k++) {
+        if (strcmp(words[1], kernels[k].name)) continue;
+        for (uint32_t n = 0; n < POSITIONS; n++) {
+            uint32_t h = n * 2654435769u;
+            a[n] = n * 40503u, b[n] = n ^ 21845u;
+            ba[n] = h >> 9 & 1, bb[n] = h >> 12 & 1, bc[n] = h >> 15 & 1, bd[n] = h >> 20 & 1;
+            if (kernels[k].round == stencil) d[n] = (n / COLUMNS * 7919 + n % COLUMNS * 104) & 65535;
+            if (kernels[k].round == scan) d[n] = a[n];
+        }
+        struct timespec before, after;
+        clock_gettime(CLOCK_MONOTONIC, &before);
+        for (uint32_t i = 0; i < rounds; i++) kernels[k].round();
+        clock_gettime(CLOCK_MONOTONIC, &after);
+        uint32_t sum = 0;
+        if (kernels[k].round == send) for (int n = 0; n < 1024; n++) sum += target[n];
+        else if (kernels[k].round == logic || kernels[k].round == life) for (int n = 0; n < POSITIONS; n++) sum += bd[n];
+        else for (int n = 0; n < POSITIONS; n++) sum += d[n];
+        printf("%u\n%.9f\n", sum, (after.tv_sec - before.tv_sec) + (after.tv_nsec - before.tv_nsec) * 1e-9);
+    }
+    return 0;
+}
+"""
+
+NUMPY = r"""
+import sys, time
+import numpy as np
+name, rows, columns, rounds = sys.argv[1], *map(int, sys.argv[2:])
+n = np.arange(rows * columns, dtype=np.uint32)
+h = n * np.uint32(2654435769)
+a, b, d = n * np.uint32(40503), n ^ np.uint32(21845), np.zeros(rows * columns, np.uint32)
+ba, bb, bc, bd = (((h >> np.uint32(k)) & 1).astype(bool) for k in (9, 12, 15, 20))
+world = bd.reshape(rows, columns).astype(np.uint8)
+grid = ((n // columns * 7919 + n % columns * 104) & 65535).astype(np.int32).reshape(rows, columns)
+line, target, k = a.copy(), np.zeros(1024, np.uint32), (a & np.uint32(1023)).astype(np.intp)
+
+def chain():
+    global d
+    d = np.where(a & 64, d + (a ^ b), d - b)
+def logic():
+    global bd
+    bd = ba & ~bb | bc & bd
+def life():
+    global world
+    row = np.roll(world, 1, 1) + world + np.roll(world, -1, 1)
+    around = np.roll(row, 1, 0) + row + np.roll(row, -1, 0)
+    world = ((around == 3) | (around == 4) & (world == 1)).astype(np.uint8)
+def multiply():
+    global d
+    d = np.where(a & 4096, d * a + b, d)
+def stencil():
+    s = grid[:-2, 1:-1] + grid[2:, 1:-1] + grid[1:-1, :-2] + grid[1:-1, 2:]
+    grid[1:-1, 1:-1] = (s + ((s >> 31) & 3)) >> 2
+def scan():
+    global line
+    line = np.cumsum(line ^ a, dtype=np.uint32)
+def send():
+    np.add.at(target, k, b)
+
+began = time.perf_counter()
+for _ in range(rounds):
+    globals()[name]()
+took = time.perf_counter() - began
+result = {"logic": lambda: bd, "life": lambda: world, "stencil": lambda: grid.astype(np.uint32), "scan": lambda: line, "send": lambda: target}.get(name, lambda: d)()
+print(int(result.sum(dtype=np.uint64)) % 2**32)
+print(took)
+"""
+
+
+def timed(command, folder):
+    """The output and the wall clock time of a command that has to end well."""
+    began = time.perf_counter()
+    done = subprocess.run(command, cwd=folder, capture_output=True, text=True, timeout=LIMIT)
+    took = time.perf_counter() - began
+    if done.returncode != 0:
+        sys.exit(f"{' '.join(command)}: status {done.returncode}\n{done.stdout[:300]}{done.stderr[:300]}")
+    return done.stdout, took
+
+
+def least(command, folder, runs=RUNS):
+    """The output of a command, and its least time over several runs."""
+    done = [timed(command, folder) for _ in range(runs)]
+    return done[0][0], min(took for _, took in done)
+
+
+class Bench:
+    def __init__(self, binary, folder, numpy):
+        self.binary, self.folder, self.numpy = binary, folder, numpy
+
+    def ours(self, kernel, workers, rounds):
+        """The sum, and the time of one round, the start taken off."""
+        _, sets, before, loop, after = kernel
+        times = []
+        for count in (0, rounds):
+            with open(os.path.join(self.folder, "kernel.paris"), "w") as out:
+                out.write(listing(sets, before, loop, after, count))
+            words = [self.binary, "--mode", "asm", "--workers", str(workers), "--turns", "4294967295", "kernel.paris"]
+            text, took = least(words, self.folder)
+            times.append(took)
+        return text.strip(), (times[1] - times[0]) / rounds
+
+    def rounds(self, kernel):
+        """So many rounds that one worker is busy for a while."""
+        count = 1
+        while True:
+            began = time.perf_counter()
+            _, took = self.ours(kernel, 1, count)
+            if took * count > ENOUGH or time.perf_counter() - began > 20:
+                return count
+            count *= 4
+
+    def plain(self, name, positions, rounds):
+        """The sum, and the time of one round, of the loop in C."""
+        program = os.path.join(self.folder, f"plain{positions}")
+        enough = max(rounds, 50000000 // positions)
+        text = timed([program, name, str(rounds)], self.folder)[0].split()[0]
+        return text, min(float(timed([program, name, str(enough)], self.folder)[0].split()[1]) for _ in range(RUNS)) / enough
+
+    def of_numpy(self, name, grid, rounds):
+        """The sum, and the time of one round, of NumPy."""
+        words = [PYTHON, "-c", NUMPY, name, str(grid[0]), str(grid[1])]
+        text = timed([*words, str(rounds)], self.folder)[0].split()[0]
+        enough = max(4, 8000000 // (grid[0] * grid[1]))
+        return text, min(float(timed([*words, str(enough)], self.folder)[0].split()[1]) for _ in range(RUNS)) / enough
+
+    def show(self, name, kernel, grid, all_workers):
+        positions = grid[0] * grid[1]
+        rounds = self.rounds(kernel)
+        times, texts = {}, set()
+        for workers in all_workers:
+            text, times[workers] = self.ours(kernel, workers, rounds)
+            texts.add(text)
+        text, c_took = self.plain(name, positions, rounds)
+        texts.add(text)
+        shown = "  ".join(f"{workers}: {took * 1e6:9.1f}" for workers, took in times.items())
+        line = f"{name:9} {positions:8}  us by workers {shown}   C {c_took * 1e6:8.1f}   {times[1] / c_took:6.2f} times C"
+        if self.numpy:
+            text, took = self.of_numpy(name, grid, rounds)
+            texts.add(text)
+            line += f"   NumPy {took * 1e6:9.1f}, {times[1] / took:5.2f} times"
+        line += f"   four workers {times[1] / times[max(times)]:.2f} times as fast" if len(times) > 1 else ""
+        print(line + ("" if len(texts) == 1 else f"   WRONG: {texts}"), flush=True)
+
+
+def build_plain(folder, positions):
+    source = os.path.join(folder, "plain.c")
+    with open(source, "w") as out:
+        out.write(C_PROGRAM)
+    rows, columns = GRIDS[positions]
+    sizes = [f"-DPOSITIONS={positions}", f"-DROWS={rows}", f"-DCOLUMNS={columns}"]
+    subprocess.run(["gcc", "-O2", *sizes, "-o", os.path.join(folder, f"plain{positions}"), source], check=True)
+
+
+def has_numpy():
+    return subprocess.run([PYTHON, "-c", "import numpy"], capture_output=True).returncode == 0
+
+
+def main():
+    words = argparse.ArgumentParser(description=__doc__, formatter_class=argparse.RawDescriptionHelpFormatter)
+    words.add_argument("binary", nargs="?", default=os.path.join(TOP, "crates", "cstar", "out", "cstar"), help="the built command")
+    words.add_argument("--workers", default="1,2,4", help="numbers of workers, the first 1")
+    words.add_argument("--only", help="kernels, with commas between")
+    given = words.parse_args()
+    all_workers = [int(word) for word in given.workers.split(",")]
+    binary = os.path.abspath(given.binary)
+    print(f"command: {binary}; processors: {os.cpu_count()}", flush=True)
+    with tempfile.TemporaryDirectory() as folder:
+        bench = Bench(binary, folder, has_numpy())
+        for positions, grid in GRIDS.items():
+            build_plain(folder, positions)
+            for name, kernel in kernels(*grid).items():
+                if not given.only or name in given.only.split(","):
+                    bench.show(name, kernel, grid, all_workers)
+
+
+if __name__ == "__main__":
+    main()
