@@ -11,6 +11,7 @@ ghost use Rattle.block_store.specs.declared.set.Cell.{Cell};
 ghost use Rattle.block_store.specs.Planes.{planes_in, HasPlanes};
 ghost use Rattle.reduce_scan.specs.Blocks.{block_fold};
 
+use crate::counts::{BitFold, bitwise, sum};
 use bit_planes::Block;
 use bit_planes::plane::lane;
 use block_store::{BlockSet, Cell, Room, words_of};
@@ -22,7 +23,24 @@ use std::thread::Threads;
 
 /// The fold of a field over the active lanes of a block.
 fn fold_block(block: &Block, combiner: Reduction, offset: u32, context: u32) -> u32
-    requires field { offset + 32 ≤ length block.now.planes.items }
+    requires field { offset + 32 ≤ context }
+    requires context { context < length block.now.planes.items }
+    ensures { result ≡ block_fold combiner block.now.planes.items offset context 512 }
+{
+    match combiner {
+        Reduction::SAdd => sum(block, offset, context),
+        Reduction::Logand => bitwise(block, BitFold::All, offset, context),
+        Reduction::Logior => bitwise(block, BitFold::Any, offset, context),
+        Reduction::Logxor => bitwise(block, BitFold::Odd, offset, context),
+        Reduction::SMin | Reduction::UMin | Reduction::SMax | Reduction::UMax => {
+            by_values(block, combiner, offset, context)
+        }
+    }
+}
+
+/// The same by values.
+fn by_values(block: &Block, combiner: Reduction, offset: u32, context: u32) -> u32
+    requires field { offset + 32 ≤ context }
     requires context { context < length block.now.planes.items }
     ensures { result ≡ block_fold combiner block.now.planes.items offset context 512 }
 {

@@ -6,8 +6,8 @@ use Rattle.bit_planes.specs.Bits.{bit}
 use Rattle.paris_code.specs.Operators.{combiner_of}
 use Rattle.phase_meaning.proofs.Rising.{fold_none, fold_one, fold_skip}
 use Rattle.reduce_scan.specs.Blocks.{block_fold}
-use Rattle.reduce_scan.proofs.folds.fold_block.Goals as goal
-use Rattle.reduce_scan.proofs.folds.fold_block.Goals.{then-lane-eq1, else-lane-eq1}
+use Rattle.reduce_scan.proofs.folds.by_values.Goals as goal
+use Rattle.reduce_scan.proofs.folds.by_values.Goals.{then-lane-eq1, else-lane-eq1}
 
 pub loop-i-init : goal.loop-i-init
 loop-i-init c = c.identity-total.ensures.value ∙ ap (λ r. identity_of r.0 r.1) c.combiner-combine.ensures ∙ sym (fold_none _ _ _ _)
