@@ -3,6 +3,7 @@
 ghost use Rattle.std.specs.Prelude.{◌≡◌, ℕ, ◌<◌, ◌≤◌, ◌+◌, ◌-◌, ◌*◌, ◌^◌, ◌==◌, true, Bool, Option, Some, None, IfSome, length, slice_index, slice_index_or, if◌then◌else◌};
 ghost use Rattle.std.specs.Int.{from_bool};
 ghost use Rattle.cstar_base.specs.Folds.{fold_once, identity_of};
+ghost use Rattle.cstar_base.specs.declared.operators.Direction.TheVariants as D;
 ghost use Rattle.paris_code.specs.Operators.{combiner_of};
 ghost use Rattle.block_store.specs.declared.set.Cell.{Cell};
 ghost use Rattle.block_store.specs.Planes.{HasPlanes};
@@ -10,7 +11,8 @@ ghost use Rattle.reduce_scan.specs.Parts.{CanScan, FitsBelow, ordered_at, active
 ghost use Rattle.reduce_scan.specs.Running.{handed_on};
 
 use crate::lines::{Lines, Scan};
-use crate::places::{part_size, part_words};
+use crate::places::{is_straight, part_size, part_words};
+use crate::straight::fold_own;
 use block_store::{BlockSet, Cell, Room};
 use cstar_base::numbers::{fold_step, identity};
 use cstar_base::{Direction, SegmentMode};
@@ -20,7 +22,7 @@ use std::thread::Threads;
 
 /// Whether the bit that parts the segments is 1 at a position.
 fn is_marked(set: &BlockSet, bit: Option<Field>, context: u32, position: u32) -> bool
-    requires bit { IfSome bit (λ f. FitsBelow context f) }
+    requires bit { IfSome bit (λ f. FitsBelow context f × (f.len ≡ 1)) }
     requires planes { HasPlanes (context + 1) set.now.blocks.items }
     requires position { position < 512 * length set.now.blocks.items }
     ensures { result ≡ bit_there set.now.blocks.items bit position }
@@ -129,8 +131,8 @@ fn run_part(
     (total, begun)
 }
 
-/// Folds each part from the identity: the first word of its cell becomes the fold behind it, and the
-/// second one 1 where a line or a segment begins in it.
+/// Folds each part but the last one from the identity: the first word of its cell becomes the fold
+/// behind it, and the second one 1 where a line or a segment begins in it.
 pub(crate) fn fold_parts<R: Threads + Sync>(
     rt: &R,
     set: &BlockSet,
@@ -143,7 +145,7 @@ pub(crate) fn fold_parts<R: Threads + Sync>(
     requires few { length set.now.blocks.items < 2 ^ 16 }
     requires workers { 1 ≤ workers }
     ensures count { length room.new.cells.items ≡ length room.old.cells.items }
-    ensures folds { (k : ℕ) (none : Cell) → k < length set.now.blocks.items → k < length room.old.cells.items
+    ensures folds { (k : ℕ) (none : Cell) → 512 * (k + 1) < lines.now.positions → k < length set.now.blocks.items → k < length room.old.cells.items
         → IsFolded set.now.blocks.items scan.now lines.now k (slice_index_or room.new.cells.items k none).words }
 {
     let blocks = set.blocks.len();
@@ -153,26 +155,57 @@ pub(crate) fn fold_parts<R: Threads + Sync>(
         workers as usize,
         &|k: usize, cell: &mut Cell|
             requires { CanScan set.now.blocks.items scan.now lines.now × (blocks < 2 ^ 16) }
-            ensures { k < blocks → IsFolded set.entry.now.blocks.items scan.entry.now lines.entry.now k cell.exit.now.words }
+            ensures { 512 * (k + 1) < lines.entry.now.positions → k < blocks → IsFolded set.entry.now.blocks.items scan.entry.now lines.entry.now k cell.exit.now.words }
         {
-            if k < blocks {
+            if k < blocks && (k as u32 + 1) * 512 < lines.positions {
                 fold_part(set, scan, lines, k as u32, cell);
             }
         },
     );
 }
 
-/// Folds part `k` from the identity.
+/// Folds part `k`, which is not the last one, from the identity.
 fn fold_part(set: &BlockSet, scan: &Scan, lines: &Lines, k: u32, cell: &mut Cell)
     requires can { CanScan set.now.blocks.items scan.now lines.now }
     requires part { k < 2 ^ 16 }
+    requires more { 512 * (k + 1) < lines.now.positions }
     ensures { IsFolded set.now.blocks.items scan.now lines.now k cell.new.words }
 {
+    if is_straight(lines) {
+        let (total, begun) = fold_block_part(set, scan, lines, k);
+        hold(cell, total, begun);
+        return;
+    }
     let (combine, unsigned) = scan.combiner.combiner();
     let start = identity(combine, unsigned);
     let (total, begun) = run_part(set, scan, lines, k, start, &mut cell.words);
+    hold(cell, total, begun);
+}
+
+/// Holds the fold of a part and whether a line or a segment begins in it.
+fn hold(cell: &mut Cell, total: u32, begun: bool)
+    ensures total { slice_index cell.new.words 0 ≡ total }
+    ensures begun { (slice_index cell.new.words 1 == 1) ≡ begun }
+{
     cell.words[0] = total;
     cell.words[1] = u32::from(begun);
+}
+
+/// The fold of part `k`, which is a block and not the last one, from the identity, and whether a line
+/// or a segment begins in it.
+fn fold_block_part(set: &BlockSet, scan: &Scan, lines: &Lines, k: u32) -> (u32, bool)
+    requires can { CanScan set.now.blocks.items scan.now lines.now }
+    requires part { k < 2 ^ 16 }
+    requires more { 512 * (k + 1) < lines.now.positions }
+    requires straight { (lines.now.direction ≡ D.Upward) × (lines.now.apart ≡ 1) }
+    ensures tail { result.0 ≡ part_fold set.now.blocks.items scan.now lines.now k (identity_of (combiner_of scan.now.combiner).0 (combiner_of scan.now.combiner).1) 512 }
+    ensures begins { result.1 ≡ part_begins set.now.blocks.items scan.now lines.now k 512 }
+{
+    if is_cut(set, scan, lines, k * 512 + 512) {
+        let (combine, unsigned) = scan.combiner.combiner();
+        return (identity(combine, unsigned), true);
+    }
+    fold_own(&set.blocks[k as usize], k, scan, lines.extent)
 }
 
 /// Holds the fold before each place, part by part, each from the fold that its first word holds.

@@ -11,8 +11,10 @@ ghost use Rattle.block_store.specs.Stored.{shapes_in, memory_in, IsWhole, HasRoo
 ghost use Rattle.reduce_scan.specs.Along.{scan_of, ScanFits};
 
 use crate::lines::{AxisScan, Lines};
+use crate::places::is_straight;
 use crate::runs::{fold_parts, hand_on, run_parts};
 use crate::spread::spread;
+use crate::straight::scan_blocks;
 use block_store::Store;
 use cstar_io::Gate;
 use paris_code::Field;
@@ -47,6 +49,19 @@ pub fn scan<R: Threads + Sync, G: Gate + Sync>(
     let parts = store.sets[at].blocks.len();
     fold_parts(rt, &store.sets[at], &mut store.room, &scan, &lines, workers);
     hand_on(&mut store.room, scan.combiner, parts);
+    if is_straight(&lines) {
+        scan_blocks(
+            rt,
+            &store.room,
+            &mut store.sets[at],
+            dest,
+            &scan,
+            lines.extent,
+            workers,
+            gate,
+        );
+        return;
+    }
     run_parts(rt, &store.sets[at], &mut store.room, &scan, &lines, workers);
     spread(
         rt,
