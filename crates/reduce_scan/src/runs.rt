@@ -10,7 +10,7 @@ ghost use Rattle.block_store.specs.Planes.{HasPlanes};
 ghost use Rattle.reduce_scan.specs.Parts.{CanScan, FitsBelow, ordered_at, active_there, value_there, bit_there, begins_there, cut_there, part_fold, part_begins, part_size, starts, IsFolded};
 ghost use Rattle.reduce_scan.specs.Running.{handed_on};
 
-use crate::lines::{Lines, Scan};
+use crate::lines::{LineScan, Lines, Scan};
 use crate::places::{is_straight, part_size, part_words};
 use crate::straight::fold_own;
 use block_store::{BlockSet, Cell, Room};
@@ -137,16 +137,15 @@ pub(crate) fn fold_parts<R: Threads + Sync>(
     rt: &R,
     set: &BlockSet,
     room: &mut Room,
-    scan: &Scan,
-    lines: &Lines,
+    task: &LineScan,
     workers: u32,
 )
-    requires can { CanScan set.now.blocks.items scan.now lines.now }
+    requires can { CanScan set.now.blocks.items task.now.scan task.now.lines }
     requires few { length set.now.blocks.items < 2 ^ 16 }
     requires workers { 1 ≤ workers }
     ensures count { length room.new.cells.items ≡ length room.old.cells.items }
-    ensures folds { (k : ℕ) (none : Cell) → 512 * (k + 1) < lines.now.positions → k < length set.now.blocks.items → k < length room.old.cells.items
-        → IsFolded set.now.blocks.items scan.now lines.now k (slice_index_or room.new.cells.items k none).words }
+    ensures folds { (k : ℕ) (none : Cell) → 512 * (k + 1) < task.now.lines.positions → k < length set.now.blocks.items → k < length room.old.cells.items
+        → IsFolded set.now.blocks.items task.now.scan task.now.lines k (slice_index_or room.new.cells.items k none).words }
 {
     let blocks = set.blocks.len();
     thread::for_each_mut(
@@ -154,11 +153,11 @@ pub(crate) fn fold_parts<R: Threads + Sync>(
         room.cells.as_mut_slice(),
         workers as usize,
         &|k: usize, cell: &mut Cell|
-            requires { CanScan set.now.blocks.items scan.now lines.now × (blocks < 2 ^ 16) }
-            ensures { 512 * (k + 1) < lines.entry.now.positions → k < blocks → IsFolded set.entry.now.blocks.items scan.entry.now lines.entry.now k cell.exit.now.words }
+            requires { CanScan set.now.blocks.items task.now.scan task.now.lines × (blocks < 2 ^ 16) }
+            ensures { 512 * (k + 1) < task.entry.now.lines.positions → k < blocks → IsFolded set.entry.now.blocks.items task.entry.now.scan task.entry.now.lines k cell.exit.now.words }
         {
-            if k < blocks && (k as u32 + 1) * 512 < lines.positions {
-                fold_part(set, scan, lines, k as u32, cell);
+            if k < blocks && (k as u32 + 1) * 512 < task.lines.positions {
+                fold_part(set, &task.scan, &task.lines, k as u32, cell);
             }
         },
     );
@@ -213,17 +212,16 @@ pub(crate) fn run_parts<R: Threads + Sync>(
     rt: &R,
     set: &BlockSet,
     room: &mut Room,
-    scan: &Scan,
-    lines: &Lines,
+    task: &LineScan,
     workers: u32,
 )
-    requires can { CanScan set.now.blocks.items scan.now lines.now }
+    requires can { CanScan set.now.blocks.items task.now.scan task.now.lines }
     requires few { length set.now.blocks.items < 2 ^ 16 }
     requires workers { 1 ≤ workers }
     ensures count { length room.new.cells.items ≡ length room.old.cells.items }
     ensures runs { (k : ℕ) (none : Cell) → k < length set.now.blocks.items → k < length room.old.cells.items
-        → (i : ℕ) → i < part_size lines.now k → slice_index (slice_index_or room.new.cells.items k none).words i
-        ≡ part_fold set.now.blocks.items scan.now lines.now k (slice_index (slice_index_or room.old.cells.items k none).words 0) i }
+        → (i : ℕ) → i < part_size task.now.lines k → slice_index (slice_index_or room.new.cells.items k none).words i
+        ≡ part_fold set.now.blocks.items task.now.scan task.now.lines k (slice_index (slice_index_or room.old.cells.items k none).words 0) i }
 {
     let blocks = set.blocks.len();
     thread::for_each_mut(
@@ -231,13 +229,20 @@ pub(crate) fn run_parts<R: Threads + Sync>(
         room.cells.as_mut_slice(),
         workers as usize,
         &|k: usize, cell: &mut Cell|
-            requires { CanScan set.now.blocks.items scan.now lines.now × (blocks < 2 ^ 16) }
-            ensures { k < blocks → (i : ℕ) → i < part_size lines.entry.now k → slice_index cell.exit.now.words i
-                ≡ part_fold set.entry.now.blocks.items scan.entry.now lines.entry.now k (slice_index cell.entry.now.words 0) i }
+            requires { CanScan set.now.blocks.items task.now.scan task.now.lines × (blocks < 2 ^ 16) }
+            ensures { k < blocks → (i : ℕ) → i < part_size task.entry.now.lines k → slice_index cell.exit.now.words i
+                ≡ part_fold set.entry.now.blocks.items task.entry.now.scan task.entry.now.lines k (slice_index cell.entry.now.words 0) i }
         {
             if k < blocks {
                 let start = cell.words[0];
-                run_part(set, scan, lines, k as u32, start, &mut cell.words);
+                run_part(
+                    set,
+                    &task.scan,
+                    &task.lines,
+                    k as u32,
+                    start,
+                    &mut cell.words,
+                );
             }
         },
     );

@@ -14,7 +14,7 @@ ghost use Rattle.reduce_scan.specs.Parts.{FieldsFit, FitsBelow, word_of_cell};
 ghost use Rattle.reduce_scan.specs.WithinBlocks.{begins_in, bit_in, cut_in, fold_in, scanned_in};
 
 use crate::folds::FieldFold;
-use crate::lines::Scan;
+use crate::lines::{LineScan, Scan};
 use crate::words::{Run, words_or};
 use bit_planes::Block;
 use bit_planes::plane::{both, either, repeated, with_lane};
@@ -148,23 +148,21 @@ pub(crate) fn scan_blocks<R: Threads + Sync, G: Gate + Sync>(
     rt: &R,
     room: &Room,
     set: &mut BlockSet,
-    dest: Field,
-    scan: &Scan,
-    extent: u32,
+    task: &LineScan,
     workers: u32,
     gate: &G,
 )
-    requires extent { 0 < extent }
-    requires dest { FitsBelow scan.now.context dest }
-    requires fields { FieldsFit scan.now }
-    requires planes { HasPlanes (scan.now.context + 1) set.old.blocks.items }
+    requires extent { 0 < task.now.lines.extent }
+    requires dest { FitsBelow task.now.scan.context task.now.dest }
+    requires fields { FieldsFit task.now.scan }
+    requires planes { HasPlanes (task.now.scan.context + 1) set.old.blocks.items }
     requires few { length set.old.blocks.items < 2 ^ 16 }
     requires room { length set.old.blocks.items ≤ length room.now.cells.items }
     requires workers { 1 ≤ workers }
     ensures count { length set.new.blocks.items ≡ length set.old.blocks.items }
     ensures each { (k : ℕ) (none : Block) → k < length set.old.blocks.items
-        → LanesWritten dest.offset dest.len (plane_at (slice_index_or set.old.blocks.items k none).planes.items scan.now.context)
-        (λ i. scanned_in (slice_index_or set.old.blocks.items k none).planes.items scan.now extent k (word_of_cell room.now.cells.items k 0) i % 2 ^ dest.len)
+        → LanesWritten task.now.dest.offset task.now.dest.len (plane_at (slice_index_or set.old.blocks.items k none).planes.items task.now.scan.context)
+        (λ i. scanned_in (slice_index_or set.old.blocks.items k none).planes.items task.now.scan task.now.lines.extent k (word_of_cell room.now.cells.items k 0) i % 2 ^ task.now.dest.len)
         (slice_index_or set.old.blocks.items k none).planes.items (slice_index_or set.new.blocks.items k none).planes.items }
 {
     let cells = room.cells.as_slice();
@@ -173,14 +171,21 @@ pub(crate) fn scan_blocks<R: Threads + Sync, G: Gate + Sync>(
         set.blocks.as_mut_slice(),
         workers as usize,
         &|k: usize, block: &mut Block|
-            requires { (k < 2 ^ 16) × (k < length cells.now) × (0 < extent) × FitsBelow scan.now.context dest
-                × FieldsFit scan.now × (scan.now.context < length block.now.planes.items) }
-            ensures { LanesWritten dest.offset dest.len (plane_at block.entry.now.planes.items scan.entry.now.context)
-                (λ i. scanned_in block.entry.now.planes.items scan.entry.now extent k (word_of_cell cells.entry.now k 0) i % 2 ^ dest.len)
+            requires { (k < 2 ^ 16) × (k < length cells.now) × (0 < task.now.lines.extent) × FitsBelow task.now.scan.context task.now.dest
+                × FieldsFit task.now.scan × (task.now.scan.context < length block.now.planes.items) }
+            ensures { LanesWritten task.entry.now.dest.offset task.entry.now.dest.len (plane_at block.entry.now.planes.items task.entry.now.scan.context)
+                (λ i. scanned_in block.entry.now.planes.items task.entry.now.scan task.entry.now.lines.extent k (word_of_cell cells.entry.now k 0) i % 2 ^ task.entry.now.dest.len)
                 block.entry.now.planes.items block.exit.now.planes.items }
         {
             gate.at(k as u32);
-            scan_block(block, k as u32, dest, scan, extent, start_of(cells, k));
+            scan_block(
+                block,
+                k as u32,
+                task.dest,
+                &task.scan,
+                task.lines.extent,
+                start_of(cells, k),
+            );
         },
     );
 }

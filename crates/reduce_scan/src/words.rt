@@ -43,8 +43,8 @@ pub(crate) fn words_or(block: &Block, offset: u32, context: u32, other: u32) -> 
     Lanes { planes, len: 32 }.values()
 }
 
-/// A running fold: from which start, at which words behind the first one it begins anew, and whether
-/// a word takes the fold before it or the one behind it.
+/// A running fold: from which start, at which lanes it begins anew (lane 0 stands for the place behind
+/// the last one), and whether a word takes the fold before it or the one behind it.
 #[derive(Clone, Copy)]
 pub(crate) struct Run {
     pub(crate) combiner: Reduction,

@@ -1,4 +1,4 @@
-use Rattle.std.proofs.Common.{◌≡◌, ◌+◌, ◌*◌, ◌<◌, length, [], sym, ap, ◌∙◌, arith}
+use Rattle.std.proofs.Common.{◌≡◌, ◌+◌, ◌*◌, [], sym, ap, ◌∙◌, arith}
 use Rattle.phase_meaning.proofs.Entries.{entry}
 use Rattle.cstar_base.specs.Folds.{identity_of}
 use Rattle.block_store.specs.Planes.{planes_in}

@@ -1,4 +1,4 @@
-use Rattle.std.proofs.Common.{◌-◌, ◌*◌, refl, arith}
+use Rattle.std.proofs.Common.{◌-◌, ◌*◌, arith}
 use Rattle.reduce_scan.proofs.WithinBlocks.{line_within, begun_more}
 use Rattle.reduce_scan.proofs.straight.line_starts.Goals as goal
 

@@ -1,4 +1,4 @@
-use Rattle.std.proofs.Common.{◌≡◌, ◌%◌, ◌^◌, cond, eqb, refl, ap, ◌∙◌, arith}
+use Rattle.std.proofs.Common.{◌≡◌, ◌%◌, ◌^◌, cond, eqb, refl, ap, ◌∙◌}
 use Rattle.std.specs.Prelude.{slice_index}
 use Rattle.cstar_base.specs.Folds.{identity_of}
 use Rattle.bit_planes.specs.Bits.{bit}

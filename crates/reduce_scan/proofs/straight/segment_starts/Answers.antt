@@ -1,4 +1,4 @@
-use Rattle.std.proofs.Common.{◌≡◌, min, false, cond, eqb, sym, ap, ◌∙◌}
+use Rattle.std.proofs.Common.{min, false, sym, ap, ◌∙◌}
 use Rattle.cstar_base.specs.declared.operators.Direction.TheVariants as D
 use Rattle.bit_planes.specs.Bits.{bit}
 use Rattle.bit_planes.specs.Planes.{plane_at}

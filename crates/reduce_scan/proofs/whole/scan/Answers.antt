@@ -31,8 +31,8 @@ fold_parts-requires-clause-can g c κs live =
     let at = c.from-at.ensures ∙ c.requires.together in
     let plan = bits_of c.args.store.now.plans.items s c.from-at.result c.index-plan.result.now c.requires.along.0.0 at c.index-plan.ensures in
     let same = held shapes sets s c.from-at.result c.index-2.result.now c.requires.whole c.requires.along.0.0 at c.index-2.ensures in
-    moved CanScan _ _ _ _ _ _ (sym same) (sym (c.over-scan.ensures ∙ ap (scan_over along) plan.0))
-    (sym (c.of-lines.ensures.value ∙ ap (λ xs. lines_of xs along.axis along.direction) plan.1)) (can_scan shapes sets c.requires.whole along c.requires.along)
+    moved CanScan _ _ _ _ _ _ (sym same) (sym (c.over.ensures ∙ ap (scan_over along) plan.0))
+    (sym (c.of.ensures.value ∙ ap (λ xs. lines_of xs along.axis along.direction) plan.1)) (can_scan shapes sets c.requires.whole along c.requires.along)
 
 pub fold_parts-requires-clause-few : goal.fold_parts-requires-clause-few
 fold_parts-requires-clause-few g c κs live =
@@ -68,8 +68,8 @@ returns-then-is_straight g c =
     let at = c.from-at.ensures ∙ c.requires.together in
     let plan = bits_of plans s c.from-at.result c.index-plan.result.now exists at c.index-plan.ensures in
     let to = c.index_mut.result.now in
-    let scan_is : c.over-scan.result ≡ scan_here shapes sets whole along fits = c.over-scan.ensures ∙ ap (scan_over along) plan.0 in
-    let lines_is : c.of-lines.result ≡ lines_here shapes sets whole along fits = c.of-lines.ensures.value ∙ ap (λ xs. lines_of xs along.axis along.direction) plan.1 in
+    let scan_is : c.over.result ≡ scan_here shapes sets whole along fits = c.over.ensures ∙ ap (scan_over along) plan.0 in
+    let lines_is : c.of.result ≡ lines_here shapes sets whole along fits = c.of.ensures.value ∙ ap (λ xs. lines_of xs along.axis along.direction) plan.1 in
     let straight = c.if-is_straight.ensures refl in
     let up : along.direction ≡ D.Upward = sym (ap (λ (l : Lines). l.direction) lines_is) ∙ straight.0 in
     let one : (lines_here shapes sets whole along fits).apart ≡ 1 = sym (ap (λ (l : Lines). l.apart) lines_is) ∙ straight.1 in
@@ -84,7 +84,7 @@ returns-then-is_straight g c =
     let begin : (k : ℕ) → k < length (blocks_at sets s) → word_of_cell second k 0 ≡ starts along.combiner first k =
     λ k b. some_cell _ second k (omega (arith, b, much, c.fold_parts.ensures.count, c.hand_on.ensures.count)) (λ e.
     ap (λ ws. slice_index ws 0) (get_or-map words_in second k e [] (omega (arith, b, much, c.fold_parts.ensures.count, c.hand_on.ensures.count)))
-    ∙ c.hand_on.ensures.starts k e (omega (arith, b, all)) ∙ ap (λ (x : Scan). starts x.combiner first k) scan_is) in
+    ∙ c.hand_on.ensures.starts k e (omega (arith, b, all))) in
     let each = λ (w : Winner) (k : ℕ) (e : Block) (b : k < length (blocks_in to)).
     straight_in_block shapes sets whole along fits w d c.requires.together up one first second folded begin (omega (arith, much, c.fold_parts.ensures.count)) (blocks_in to) home k e _ b
     (moved (ScannedFrom second d k (planes_in (get_or (blocks_in to) k e)) (planes_in (get_or (blocks_in c.scan_blocks.new.set) k e))) (blocks_in to) (blocks_in to) _ _ _ _ refl scan_is lines_is (c.scan_blocks.ensures.each k e b)) in
@@ -108,8 +108,8 @@ run_parts-requires-clause-can g c κs live =
     let at = c.from-at.ensures ∙ c.requires.together in
     let plan = bits_of c.args.store.now.plans.items s c.from-at.result c.index-plan.result.now c.requires.along.0.0 at c.index-plan.ensures in
     let same = held shapes sets s c.from-at.result c.index-3.result.now c.requires.whole c.requires.along.0.0 at c.index-3.ensures in
-    moved CanScan _ _ _ _ _ _ (sym same) (sym (c.over-scan.ensures ∙ ap (scan_over along) plan.0))
-    (sym (c.of-lines.ensures.value ∙ ap (λ xs. lines_of xs along.axis along.direction) plan.1)) (can_scan shapes sets c.requires.whole along c.requires.along)
+    moved CanScan _ _ _ _ _ _ (sym same) (sym (c.over.ensures ∙ ap (scan_over along) plan.0))
+    (sym (c.of.ensures.value ∙ ap (λ xs. lines_of xs along.axis along.direction) plan.1)) (can_scan shapes sets c.requires.whole along c.requires.along)
 
 pub run_parts-requires-clause-few : goal.run_parts-requires-clause-few
 run_parts-requires-clause-few g c κs live =
@@ -130,7 +130,7 @@ spread-requires-clause-room g c κs live =
     let plan = bits_of plans s c.from-at.result c.index-plan.result.now exists (c.from-at.ensures ∙ c.requires.together) c.index-plan.ensures in
     omega (
       arith,
-      ap (λ (l : Lines). l.positions) c.of-lines.ensures.value,
+      ap (λ (l : Lines). l.positions) c.of.ensures.value,
       ap position_count plan.1,
       room_much shapes c.args.store.now.sets.items s c.requires.whole exists,
       c.requires.room s (omega (arith, exists, length-map plans shape_of_plan)),
@@ -150,7 +150,7 @@ spread-requires-clause-planes g c κs live =
     let has : HasPlanes (bits_at shapes s + 2) (blocks_in c.index_mut-2.result.now) =
     subst (λ (bs : List Block). HasPlanes (bits_at shapes s + 2) bs) (sym (held shapes sets s c.from-at.result c.index_mut-2.result.now c.requires.whole exists at c.index_mut-2.ensures.value))
     (c.requires.whole.each s exists).planes in
-    λ k none b. omega (arith, has k none b, plan.0, ap (λ (x : Scan). x.context) c.over-scan.ensures)
+    λ k none b. omega (arith, has k none b, plan.0, ap (λ (x : Scan). x.context) c.over.ensures)
 
 pub spread-requires-clause-few : goal.spread-requires-clause-few
 spread-requires-clause-few g c κs live =
@@ -176,8 +176,8 @@ returns g c =
     let at = c.from-at.ensures ∙ c.requires.together in
     let plan = bits_of plans s c.from-at.result c.index-plan.result.now exists at c.index-plan.ensures in
     let to = c.index_mut-2.result.now in
-    let scan_is : c.over-scan.result ≡ scan_here shapes sets whole along fits = c.over-scan.ensures ∙ ap (scan_over along) plan.0 in
-    let lines_is : c.of-lines.result ≡ lines_here shapes sets whole along fits = c.of-lines.ensures.value ∙ ap (λ xs. lines_of xs along.axis along.direction) plan.1 in
+    let scan_is : c.over.result ≡ scan_here shapes sets whole along fits = c.over.ensures ∙ ap (scan_over along) plan.0 in
+    let lines_is : c.of.result ≡ lines_here shapes sets whole along fits = c.of.ensures.value ∙ ap (λ xs. lines_of xs along.axis along.direction) plan.1 in
     let first_is = held shapes sets s c.from-at.result c.index-2.result.now whole exists at c.index-2.ensures in
     let then_is = held shapes sets s c.from-at.result c.index-3.result.now whole exists at c.index-3.ensures in
     let home = held shapes sets s c.from-at.result to whole exists at c.index_mut-2.ensures.value in
@@ -191,7 +191,7 @@ returns g c =
     let run : RunFrom second third (blocks_at sets s) (scan_here shapes sets whole along fits) (lines_here shapes sets whole along fits) =
     moved (RunFrom second third) _ _ _ _ _ _ then_is scan_is lines_is (λ k none b h. c.run_parts.ensures.runs k none b (omega (arith, h, c.run_parts.ensures.count))) in
     let begin : (k : ℕ) (e : Cell) → k < length (blocks_at sets s) → slice_index (get_or second k e).words 0 ≡ starts along.combiner first k =
-    λ k e b. c.hand_on.ensures.starts k e (omega (arith, b, all)) ∙ ap (λ (x : Scan). starts x.combiner first k) scan_is in
+    λ k e b. c.hand_on.ensures.starts k e (omega (arith, b, all)) in
     let words = λ (w : Winner).
     word_is shapes sets whole along fits w first second third folded begin run (omega (arith, much, c.fold_parts.ensures.count))
     (omega (arith, much, c.fold_parts.ensures.count, c.hand_on.ensures.count, c.run_parts.ensures.count)) in

@@ -1,4 +1,4 @@
-use Rattle.std.proofs.Common.{◌-◌, min, max, ap, ◌∙◌}
+use Rattle.std.proofs.Common.{min, max, ap, ◌∙◌}
 use Rattle.bit_planes.specs.Bits.{bit}
 use Rattle.bit_planes.proofs.Words.{bit-lt}
 use Rattle.reduce_scan.proofs.WordRuns.{chosen_bit}

@@ -1,4 +1,4 @@
-use Rattle.std.proofs.Common.{refl, ◌≡◌, ◌∙◌, ap, cond, eqb, ◌+◌, ◌%◌, arith}
+use Rattle.std.proofs.Common.{refl, ◌∙◌, ap, cond, eqb, ◌+◌, ◌%◌, arith}
 use Rattle.std.specs.Prelude.{slice_index}
 use Rattle.bit_planes.specs.Bits.{bit}
 use Rattle.cstar_base.specs.Folds.{identity_of}
