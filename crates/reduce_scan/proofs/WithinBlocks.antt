@@ -1,16 +1,12 @@
 -- Scans along lines on which each place is its position, by the planes of one block.
-use Rattle.std.proofs.Common.{◌≡◌, ◌≢◌, ℕ, zero, suc, ◌+◌, ◌-◌, ◌*◌, ◌/◌, ◌%◌, ◌^◌, ◌<◌, ◌≤◌, min, max, Bool, true, false, ◌&&◌, cond, eqb, ltb, List, [], length, get_or, Option, Some, None, inl, inr, refl, sym, ◌∙◌, ap, subst, zero-add, add-mul, arith}
-use Rattle.std.specs.Prelude.{◌||◌, not, slice_index, IfSome}
+use Rattle.std.proofs.Common.{◌≡◌, ◌≢◌, ℕ, zero, suc, ◌+◌, ◌-◌, ◌*◌, ◌/◌, ◌%◌, ◌^◌, ◌<◌, ◌≤◌, min, max, Bool, true, false, ◌&&◌, cond, eqb, ltb, List, get_or, Some, inl, inr, refl, sym, ◌∙◌, ap, subst, zero-add, add-mul, arith}
+use Rattle.std.specs.Prelude.{◌||◌, not}
 use Rattle.std.specs.Int.{bit_at}
-use Rattle.std.proofs.Math.Nat.{add-mul-div_right, add-mul-mod_self_right, div-eq_of_lt, div-lt_iff_lt-mul, div-add-mod, mod-eq_of_lt, mul_comm}
+use Rattle.std.proofs.Math.Nat.{add-mul-div_right, add-mul-mod_self_right, div-eq_of_lt, div-add-mod, mod-eq_of_lt, mul_comm}
 use Rattle.std.proofs.lemmas.Nat.{mul-le}
 use Rattle.std.proofs.lemmas.Grind.{div_ceil_times}
 use Rattle.std.proofs.lemmas.Bool.{cases_lt, cases_eq, lt-ltb, le-ltb, eq-eqb, ne_eqb}
-use Rattle.cstar_base.specs.declared.operators.SegmentMode.{SegmentMode}
-use Rattle.cstar_base.specs.declared.operators.SegmentMode.TheVariants as M
-use Rattle.cstar_base.specs.declared.operators.Direction.TheVariants as D
 use Rattle.cstar_base.specs.Orders.{fold_below, any_of}
-use Rattle.bit_planes.specs.declared.block.Block.{Block}
 use Rattle.bit_planes.specs.declared.plane.Plane.{Plane}
 use Rattle.bit_planes.specs.Bits.{bit}
 use Rattle.bit_planes.specs.Planes.{plane_at, number}
@@ -18,13 +14,13 @@ use Rattle.bit_planes.proofs.Planes.{number-lt, number-suc, number-none}
 use Rattle.bit_planes.proofs.Words.{bit-lt}
 use Rattle.lane_kernels.specs.Numbers.{ones_before}
 use Rattle.paris_code.specs.declared.operands.Field.{Field}
-use Rattle.paris_code.specs.Scanning.{parts, with_own}
+use Rattle.paris_code.specs.Scanning.{with_own}
 use Rattle.block_store.specs.Phases.{LanesWritten}
 use Rattle.reduce_scan.specs.declared.lines.Scan.{Scan}
 use Rattle.reduce_scan.specs.declared.words.Run.{Run}
 use Rattle.reduce_scan.specs.Blocks.{block_fold}
 use Rattle.reduce_scan.specs.Running.{running}
-use Rattle.reduce_scan.specs.WithinBlocks.{run_to, run_word, active_in, value_in, bit_in, begins_in, cut_in, fold_in, scanned_in}
+use Rattle.reduce_scan.specs.WithinBlocks.{run_to, run_word, active_in, value_in, bit_in, cut_in, fold_in, scanned_in}
 use Rattle.reduce_scan.proofs.Parts.{once, none}
 use Rattle.reduce_scan.proofs.WordRuns.{any_is, none_before, running_alike, running_chosen, running_whole}
 

@@ -1,6 +1,6 @@
 -- Running folds over the words of a block.
-use Rattle.std.proofs.Common.{◌≡◌, ℕ, zero, suc, ◌+◌, ◌-◌, ◌*◌, ◌/◌, ◌%◌, ◌^◌, ◌<◌, ◌≤◌, min, max, Bool, true, false, cond, eqb, List, length, get_or, inl, inr, refl, sym, ◌∙◌, ap, zero-add, add-one, arith}
-use Rattle.std.specs.Prelude.{◌||◌, not, slice_index}
+use Rattle.std.proofs.Common.{◌≡◌, ℕ, zero, suc, ◌+◌, ◌-◌, ◌%◌, ◌^◌, ◌<◌, ◌≤◌, min, max, Bool, true, false, cond, eqb, List, length, get_or, inl, inr, refl, sym, ◌∙◌, ap, zero-add, add-one, arith}
+use Rattle.std.specs.Prelude.{◌||◌, not}
 use Rattle.std.specs.Int.{bit_at}
 use Rattle.std.proofs.Math.ListN.{set, length-set}
 use Rattle.std.proofs.Math.Nat.{mod-eq_of_lt}
@@ -20,7 +20,7 @@ use Rattle.paris_code.specs.Scanning.{with_own}
 use Rattle.reduce_scan.specs.declared.words.Run.{Run}
 use Rattle.reduce_scan.specs.Running.{running}
 use Rattle.reduce_scan.specs.WithinBlocks.{run_to, run_word}
-use Rattle.reduce_scan.proofs.Parts.{once, none, none_below, none_last}
+use Rattle.reduce_scan.proofs.Parts.{once, none, none_last}
 use Rattle.reduce_scan.proofs.Scans.{running_fits}
 
 -- the bit that a mask chooses

@@ -1,5 +1,5 @@
 -- A scan along lines on which each place is its position, by the planes of one block.
-use Rattle.std.specs.Prelude.{◌≡◌, ℕ, ◌+◌, ◌*◌, ◌%◌, ◌==◌, ◌&&◌, ◌||◌, nat_lt, Bool, true, false, List, Option, Some, None, IfSome, slice_index}
+use Rattle.std.specs.Prelude.{ℕ, ◌+◌, ◌*◌, ◌%◌, ◌==◌, ◌&&◌, ◌||◌, nat_lt, Bool, true, false, List, Option, Some, None, slice_index}
 use Rattle.cstar_base.specs.Folds.{fold_once}
 use Rattle.cstar_base.specs.declared.operators.Direction.TheVariants as D
 use Rattle.bit_planes.specs.declared.plane.Plane.{Plane}
@@ -8,10 +8,8 @@ use Rattle.bit_planes.specs.Planes.{plane_at, number}
 use Rattle.paris_code.specs.declared.operands.Field.{Field}
 use Rattle.paris_code.specs.Operators.{combiner_of}
 use Rattle.paris_code.specs.Scanning.{parts, with_own}
-use Rattle.phase_meaning.specs.Apply.{looked_at}
 use Rattle.reduce_scan.specs.declared.lines.Scan.{Scan}
 use Rattle.reduce_scan.specs.declared.words.Run.{Run}
-use Rattle.reduce_scan.specs.Parts.{FitsBelow}
 use Rattle.reduce_scan.specs.Running.{running}
 
 -- the fold before word n of a run, and what the word takes
