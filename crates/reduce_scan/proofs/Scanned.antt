@@ -34,13 +34,15 @@ use Rattle.reduce_scan.specs.declared.lines.Lines.{Lines}
 use Rattle.reduce_scan.specs.declared.lines.Scan.{Scan}
 use Rattle.reduce_scan.specs.Along.{scan_of, scan_over, lines_of, ScanFits}
 use Rattle.reduce_scan.specs.Order.{ordered, place_at}
-use Rattle.reduce_scan.specs.Parts.{AreLines, CanScan, FitsBelow, IsFolded, ordered_at, active_there, value_there, bit_there, cut_there, part_fold, part_begins, part_size, word_of_cell, starts}
+use Rattle.reduce_scan.specs.Parts.{AreLines, CanScan, FieldsFit, FitsBelow, IsFolded, ordered_at, active_there, value_there, bit_there, cut_there, part_fold, part_begins, part_size, word_of_cell, starts}
 use Rattle.reduce_scan.specs.Running.{running, handed_on}
 use Rattle.reduce_scan.specs.Taken.{place_or_zero, scanned_there}
+use Rattle.reduce_scan.specs.WithinBlocks.{fold_in, scanned_in}
 use Rattle.reduce_scan.proofs.LineOrder.{cut_at, run_to, run_is}
-use Rattle.reduce_scan.proofs.Order.{count_split, position_below, place_below, position_of_place}
+use Rattle.reduce_scan.proofs.Order.{count_split, position_below, place_below, position_of_place, straight}
 use Rattle.reduce_scan.proofs.Parts.{once, none, none_below}
 use Rattle.reduce_scan.proofs.Scans.{running_on, running_from, running_fits, running_same}
+use Rattle.reduce_scan.proofs.StraightLines.{fold_is}
 use Rattle.reduce_scan.proofs.Totals.{value_fits}
 
 -- facts of blocks, a scan and its lines hold of those that are the same
@@ -49,7 +51,7 @@ moved P b c s t l m e f g h = subst (λ (x : Lines). P c t x) g (subst (λ (x : 
 
 -- what the passes leave in the cells
 abbrev pub Folded : List Cell → List Block → Scan → Lines → Type 0
-Folded cells blocks scan lines = (k : ℕ) (none : Cell) → k < length blocks → k < length cells → IsFolded blocks scan lines k (get_or cells k none).words
+Folded cells blocks scan lines = (k : ℕ) (none : Cell) → 512 * (k + 1) < lines.positions → k < length blocks → k < length cells → IsFolded blocks scan lines k (get_or cells k none).words
 
 abbrev pub RunFrom : List Cell → List Cell → List Block → Scan → Lines → Type 0
 RunFrom old new blocks scan lines = (k : ℕ) (none : Cell) → k < length blocks → k < length new → (i : ℕ) → i < part_size lines k
@@ -58,6 +60,11 @@ RunFrom old new blocks scan lines = (k : ℕ) (none : Cell) → k < length block
 -- a block has taken its words
 abbrev pub Spread : List Cell → Field → ℕ → List Plane → List Plane → List Block → Scan → Lines → Type 0
 Spread cells d k old new blocks scan lines = LanesWritten d.offset d.len (plane_at old scan.context) (λ i. scanned_there cells scan lines old k i % 2 ^ d.len) old new
+
+-- a block has been scanned from its start
+abbrev pub ScannedFrom : List Cell → Field → ℕ → List Plane → List Plane → List Block → Scan → Lines → Type 0
+ScannedFrom cells d k old new blocks scan lines =
+    LanesWritten d.offset d.len (plane_at old scan.context) (λ i. scanned_in old scan lines.extent k (word_of_cell cells k 0) i % 2 ^ d.len) old new
 
 module _ (shapes : List SetShape) (sets : List BlockSet) (whole : AreWhole shapes sets) (along : AxisScan) (fits : ScanFits shapes along) where
   abbrev pub blocks_here : List Block
@@ -84,17 +91,23 @@ module _ (shapes : List SetShape) (sets : List BlockSet) (whole : AreWhole shape
     filled = count_split (extents_at shapes along.source.set) along.axis fits.2;
   }
 
-  bit_below : (o : Option Field) → IfSome o (λ f. LiesIn shapes f × (f.set ≡ along.source.set)) → IfSome o (λ f. FitsBelow (bits_at shapes along.source.set) f)
+  bit_below : (o : Option Field) → IfSome o (λ f. LiesIn shapes f × (f.set ≡ along.source.set) × (f.len ≡ 1)) → IfSome o (λ f. FitsBelow (bits_at shapes along.source.set) f × (f.len ≡ 1))
   bit_below None h = tt
-  bit_below (Some f) h = (h.0.1, h.0.2, subst (λ t. f.offset + f.len ≤ bits_at shapes t) h.1 h.0.3)
+  bit_below (Some f) h = ((h.0.1, h.0.2, subst (λ t. f.offset + f.len ≤ bits_at shapes t) h.1 h.0.3), h.2)
+
+  pub fields_fit : FieldsFit scan_here
+  fields_fit = record {
+    source = (fits.0.1, fits.0.2, fits.0.3);
+    word = fits.1;
+    bit = bit_below (looked_at along.mode along.bit) fits.3;
+  }
 
   pub can_scan : CanScan blocks_here scan_here lines_here
   can_scan = record {
     are_lines = lines_are;
     much = room_much shapes sets along.source.set whole fits.0.0;
     planes = λ k none b. omega (arith, (whole.each along.source.set fits.0.0).planes k none b);
-    source = (fits.0.1, fits.0.2, fits.0.3);
-    bit = bit_below (looked_at along.mode along.bit) fits.3;
+    fields = fields_fit;
   }
 
   pub inside : (q : ℕ) → q < count → ordered (extents_at shapes along.source.set) (scan_of along) q < count
@@ -107,7 +120,7 @@ module _ (shapes : List SetShape) (sets : List BlockSet) (whole : AreWhole shape
     unfolding field_number stored
     both f p e = ap (λ s. eqb (run_number (block_bit (blocks_at sets s) p) f.offset f.len) 1) (sym e)
 
-    begins_is : (mode : SegmentMode) (b : Option Field) (d : Direction) (first second : ℕ) (a : Bool) → IfSome (looked_at mode b) (λ f. LiesIn shapes f × (f.set ≡ along.source.set))
+    begins_is : (mode : SegmentMode) (b : Option Field) (d : Direction) (first second : ℕ) (a : Bool) → IfSome (looked_at mode b) (λ f. LiesIn shapes f × (f.set ≡ along.source.set) × (f.len ≡ 1))
         → parts mode d (bit_there blocks_here b first) (bit_there blocks_here b second) a ≡ parts mode d (bit_is_one (stored sets w) b first) (bit_is_one (stored sets w) b second) a
     begins_is M.NoSegments b d first second a h = refl
     begins_is M.StartBit None d first second a h = refl
@@ -161,11 +174,11 @@ module _ (shapes : List SetShape) (sets : List BlockSet) (whole : AreWhole shape
         let tail : word_of_cell cells k 0 ≡ part_fold blocks_here scan_here lines_here k (none c) 512 =
         some_cell _ cells k (omega (arith, more, much)) (λ d.
         ap (λ ws. slice_index ws 0) (get_or-map words_in cells k d [] (omega (arith, more, much)))
-        ∙ (folded k d (omega (arith, more)) (omega (arith, more, much))).tail ∙ ap (part_fold blocks_here scan_here lines_here k (none c)) full) in
+        ∙ (folded k d (omega arith) (omega (arith, more)) (omega (arith, more, much))).tail ∙ ap (part_fold blocks_here scan_here lines_here k (none c)) full) in
         let begun : eqb (word_of_cell cells k 1) 1 ≡ part_begins blocks_here scan_here lines_here k 512 =
         some_cell _ cells k (omega (arith, more, much)) (λ d.
         ap (λ ws. eqb (slice_index ws 1) 1) (get_or-map words_in cells k d [] (omega (arith, more, much)))
-        ∙ (folded k d (omega (arith, more)) (omega (arith, more, much))).begins ∙ ap (part_begins blocks_here scan_here lines_here k) full) in
+        ∙ (folded k d (omega arith) (omega (arith, more)) (omega (arith, more, much))).begins ∙ ap (part_begins blocks_here scan_here lines_here k) full) in
         ap (λ t. handed_on c t (starts c cells k) (word_of_cell cells k 0)) begun
         ∙ ap (λ s. handed_on c (part_begins blocks_here scan_here lines_here k 512) s (word_of_cell cells k 0)) (starts_are cells folded much k (omega arith))
         ∙ ap (λ v. handed_on c (part_begins blocks_here scan_here lines_here k 512) (runs_to (512 * k)) v) tail
@@ -220,4 +233,38 @@ module _ (shapes : List SetShape) (sets : List BlockSet) (whole : AreWhole shape
         ∙ words at at_low ∙ ap (before_at shapes (stored sets w) (scan_of along)) (position_of_place along.direction lines_here.extent lines_here.apart is.some is.apart p) in
         cut_cut (scanned_there third scan_here lines_here old k (p % 512)) d.len d.len (omega arith)
         ∙ ap (λ v. own v (word_or_zero third count (place_or_zero lines_here (512 * k + p % 512))) % 2 ^ d.len) value
+        ∙ ap (λ t. own (field_number (stored sets w) along.source p) t % 2 ^ d.len) total)
+
+    -- the same where each place is its position and each block was scanned from its start
+    pub straight_in_block : (d : Field) → d.set ≡ along.source.set → along.direction ≡ D.Upward → lines_here.apart ≡ 1 → (first second : List Cell) → Folded first blocks_here scan_here lines_here
+        → ((k : ℕ) → k < length blocks_here → word_of_cell second k 0 ≡ starts along.combiner first k) → length blocks_here ≤ length first
+        → (blocks : List Block) → blocks ≡ blocks_here → (k : ℕ) (e : Block) (new : List Plane) → k < length blocks
+        → ScannedFrom second d k (planes_in (get_or blocks k e)) new blocks scan_here lines_here
+        → WrittenInBlock shapes (at_active shapes (stored sets w) d (λ p. scanned shapes (stored sets w) (scan_of along) p)) k (planes_in (get_or blocks k e)) new
+    unfolding is_active scanned stored block_bit
+    straight_in_block d together up one first second folded begin much blocks same k e new b done =
+        let old : List Plane = planes_in (get_or blocks k e) in
+        let start : ℕ = word_of_cell second k 0 in
+        let here : old ≡ planes_at blocks_here k = sym (get_or-map planes_in blocks k e [] b) ∙ ap (λ bs. planes_at bs k) same in
+        let near : (p : ℕ) → p / 512 ≡ k → old ≡ planes_at blocks_here (p / 512) = λ p h. here ∙ ap (planes_at blocks_here) (sym h) in
+        let own : ℕ → ℕ → ℕ = λ v t. with_own along.inclusion (λ s. once along.combiner s v) t in
+        in_block shapes (at_active shapes (stored sets w) d (λ p. scanned shapes (stored sets w) (scan_of along) p)) k (plane_at old scan_here.context)
+        (λ i. scanned_in old scan_here lines_here.extent k start i % 2 ^ d.len) old new done
+        (λ p h within.
+        ap (λ ps. eqb (bit (plane_at ps scan_here.context) (p % 512)) 1) (near p h)
+        ∙ ap (λ s. eqb (bit (plane_at (planes_at (blocks_at sets s) (p / 512)) (bits_at shapes s)) (p % 512)) 1) (sym together))
+        (λ p h past off. ap (λ s. bit (plane_at old (bits_at shapes s)) (p % 512)) (sym together) ∙ off)
+        (λ p h within.
+        let low : p < count = omega (arith, within, ap (λ s. position_count (extents_at shapes s)) together) in
+        let i : ℕ = p % 512 in
+        let at : 512 * k + i ≡ p = omega (arith, h) in
+        let value : number old along.source.offset along.source.len i ≡ field_number (stored sets w) along.source p =
+        ap (λ ps. number ps along.source.offset along.source.len i) (near p h) ∙ field_there sets w along.source p in
+        let total : fold_in old scan_here lines_here.extent k start i ≡ before_at shapes (stored sets w) (scan_of along) p =
+        fold_is blocks_here scan_here lines_here up one k old here start i (omega arith) (omega (arith, at, low))
+        ∙ ap (λ s. part_fold blocks_here scan_here lines_here k s i) (begin k (omega (arith, b, ap length same)) ∙ starts_are first folded much k (omega (arith, at, low)))
+        ∙ part_is k i (omega (arith, at, low)) ∙ ap runs_to at ∙ run_is shapes (stored sets w) (scan_of along) positive fits.2 inside p low
+        ∙ ap (before_at shapes (stored sets w) (scan_of along)) (straight lines_here p up one) in
+        cut_cut (scanned_in old scan_here lines_here.extent k start i) d.len d.len (omega arith)
+        ∙ ap (λ v. own v (fold_in old scan_here lines_here.extent k start i) % 2 ^ d.len) value
         ∙ ap (λ t. own (field_number (stored sets w) along.source p) t % 2 ^ d.len) total)

@@ -25,11 +25,11 @@ lines_of extents axis direction = record {
   positions = position_count extents;
 }
 
--- the source is a word that lies in its set, the axis is one of that, and the bit lies in it where it is looked at
+-- the source is a word that lies in its set, the axis is one of that, and the bit is one that lies in it where it is looked at
 abbrev pub ScanFits : List SetShape → AxisScan → Type 0
 ScanFits shapes scan =
     LiesIn shapes scan.source × (scan.source.len ≡ 32) × (scan.axis < rank_at shapes scan.source.set)
-    × IfSome (looked_at scan.mode scan.bit) (λ bit. LiesIn shapes bit × (bit.set ≡ scan.source.set))
+    × IfSome (looked_at scan.mode scan.bit) (λ bit. LiesIn shapes bit × (bit.set ≡ scan.source.set) × (bit.len ≡ 1))
 
 -- the reductions and the scans
 abbrev pub is_folding : Instr → Bool

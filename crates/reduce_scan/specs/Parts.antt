@@ -29,13 +29,18 @@ pub record AreLines (lines : Lines) : Type 0 where
 abbrev pub FitsBelow : ℕ → Field → Type 0
 FitsBelow context f = (1 ≤ f.len) × (f.len ≤ 32) × (f.offset + f.len ≤ context)
 
+-- the source is a word and the bit is one, below the flags of a block
+pub record FieldsFit (scan : Scan) : Type 0 where
+  pub source : FitsBelow scan.context scan.source
+  pub word : scan.source.len ≡ 32
+  pub bit : IfSome (looked_at scan.mode scan.bit) (λ f. FitsBelow scan.context f × (f.len ≡ 1))
+
 -- the blocks hold the positions, and the fields of the scan
 pub record CanScan (blocks : List Block) (scan : Scan) (lines : Lines) : Type 0 where
   pub are_lines : AreLines lines
   pub much : lines.positions ≤ 512 * length blocks
   pub planes : HasPlanes (scan.context + 1) blocks
-  pub source : FitsBelow scan.context scan.source
-  pub bit : IfSome (looked_at scan.mode scan.bit) (λ f. FitsBelow scan.context f)
+  pub fields : FieldsFit scan
 
 -- the position at a place, and what it holds
 abbrev pub ordered_at : Lines → ℕ → ℕ

@@ -11,31 +11,62 @@ ghost use Rattle.block_store.specs.declared.set.Cell.{Cell};
 ghost use Rattle.block_store.specs.Planes.{planes_in, HasPlanes};
 ghost use Rattle.reduce_scan.specs.Blocks.{block_fold};
 
+use crate::counts::{BitFold, bitwise, sum};
+use crate::words::{Run, words_or};
 use bit_planes::Block;
-use bit_planes::plane::lane;
-use block_store::{BlockSet, Cell, Room, words_of};
-use cstar_base::numbers::{fold_step, identity};
+use bit_planes::plane::repeated;
+use block_store::{BlockSet, Cell, Room};
+use cstar_base::Inclusion;
+use cstar_base::numbers::identity;
 use cstar_io::Gate;
 use paris_code::Reduction;
 use std::thread;
 use std::thread::Threads;
 
-/// The fold of a field over the active lanes of a block.
-fn fold_block(block: &Block, combiner: Reduction, offset: u32, context: u32) -> u32
-    requires field { offset + 32 ≤ length block.now.planes.items }
-    requires context { context < length block.now.planes.items }
-    ensures { result ≡ block_fold combiner block.now.planes.items offset context 512 }
-{
-    let (combine, unsigned) = combiner.combiner();
-    let values = words_of(block, offset, 32);
-    let active = block.plane(context);
-    let mut total = identity(combine, unsigned);
-    for i in 0..512 {
-        if lane(active, i) == 1 {
-            total = fold_step(combine, unsigned, total, values[i as usize]);
+/// A fold of a field of 32 bits over the active lanes of blocks, with the places of the field and of
+/// the context flag.
+#[derive(Clone, Copy)]
+pub(crate) struct FieldFold {
+    pub(crate) combiner: Reduction,
+    pub(crate) offset: u32,
+    pub(crate) context: u32,
+}
+
+impl FieldFold {
+    /// The fold of a block.
+    pub(crate) fn of(&self, block: &Block) -> u32
+        requires field { self.now.offset + 32 ≤ self.now.context }
+        requires context { self.now.context < length block.now.planes.items }
+        ensures { result ≡ block_fold self.now.combiner block.now.planes.items self.now.offset self.now.context 512 }
+    {
+        match self.combiner {
+            Reduction::SAdd => sum(block, self.offset, self.context),
+            Reduction::Logand => bitwise(block, BitFold::All, self.offset, self.context),
+            Reduction::Logior => bitwise(block, BitFold::Any, self.offset, self.context),
+            Reduction::Logxor => bitwise(block, BitFold::Odd, self.offset, self.context),
+            Reduction::SMin | Reduction::UMin | Reduction::SMax | Reduction::UMax => {
+                self.by_values(block)
+            }
         }
     }
-    total
+
+    /// The same by values.
+    fn by_values(&self, block: &Block) -> u32
+        requires field { self.now.offset + 32 ≤ self.now.context }
+        requires context { self.now.context < length block.now.planes.items }
+        ensures { result ≡ block_fold self.now.combiner block.now.planes.items self.now.offset self.now.context 512 }
+    {
+        let (combine, unsigned) = self.combiner.combiner();
+        let start = identity(combine, unsigned);
+        let mut words = words_or(block, self.offset, self.context, start);
+        let run = Run {
+            combiner: self.combiner,
+            inclusion: Inclusion::Exclusive,
+            start,
+            cuts: repeated(false),
+        };
+        run.over(&mut words)
+    }
 }
 
 /// Holds the fold of each block in the first word of its cell, with a call of the gate for each.
@@ -43,19 +74,17 @@ pub(crate) fn fold_blocks<R: Threads + Sync, G: Gate + Sync>(
     rt: &R,
     set: &BlockSet,
     room: &mut Room,
-    combiner: Reduction,
-    offset: u32,
-    context: u32,
+    fold: &FieldFold,
     workers: u32,
     gate: &G,
 )
-    requires field { offset + 32 ≤ context }
-    requires planes { HasPlanes (context + 1) set.now.blocks.items }
+    requires field { fold.now.offset + 32 ≤ fold.now.context }
+    requires planes { HasPlanes (fold.now.context + 1) set.now.blocks.items }
     requires workers { 1 ≤ workers }
     requires few { length set.now.blocks.items < 2 ^ 32 }
     ensures count { length room.new.cells.items ≡ length room.old.cells.items }
     ensures folds { (k : ℕ) (none : Cell) (other : Block) → k < length set.now.blocks.items → k < length room.old.cells.items
-        → slice_index (slice_index_or room.new.cells.items k none).words 0 ≡ block_fold combiner (slice_index_or set.now.blocks.items k other).planes.items offset context 512 }
+        → slice_index (slice_index_or room.new.cells.items k none).words 0 ≡ block_fold fold.now.combiner (slice_index_or set.now.blocks.items k other).planes.items fold.now.offset fold.now.context 512 }
 {
     let blocks = set.blocks.as_slice();
     thread::for_each_mut(
@@ -63,13 +92,13 @@ pub(crate) fn fold_blocks<R: Threads + Sync, G: Gate + Sync>(
         room.cells.as_mut_slice(),
         workers as usize,
         &|k: usize, cell: &mut Cell|
-            requires { (offset + 32 ≤ context) × HasPlanes (context + 1) blocks.now × (length blocks.now < 2 ^ 32) }
+            requires { (fold.now.offset + 32 ≤ fold.now.context) × HasPlanes (fold.now.context + 1) blocks.now × (length blocks.now < 2 ^ 32) }
             ensures { (other : Block) → k < length blocks.entry.now
-                → slice_index cell.exit.now.words 0 ≡ block_fold combiner (slice_index_or blocks.entry.now k other).planes.items offset context 512 }
+                → slice_index cell.exit.now.words 0 ≡ block_fold fold.entry.now.combiner (slice_index_or blocks.entry.now k other).planes.items fold.entry.now.offset fold.entry.now.context 512 }
         {
             if k < blocks.len() {
                 gate.at(k as u32);
-                cell.words[0] = fold_block(&blocks[k], combiner, offset, context);
+                cell.words[0] = fold.of(&blocks[k]);
             }
         },
     );

@@ -63,6 +63,6 @@ pub fn run<R: Threads + Sync, G: Gate + Sync>(
             scan(rt, store, *dest, &along, workers, gate);
             Reply::Nothing
         }
-        _ => Reply::Nothing,
+        _ => unreachable!(),
     }
 }

@@ -43,6 +43,14 @@ pub(crate) struct Scan {
     pub(crate) context: u32,
 }
 
+/// A scan of a set along its lines, and the field that takes it.
+#[derive(Clone, Copy)]
+pub(crate) struct LineScan {
+    pub(crate) scan: Scan,
+    pub(crate) lines: Lines,
+    pub(crate) dest: Field,
+}
+
 /// How many coordinates of a line lie before one in a direction.
 fn steps_before(direction: Direction, extent: u32, k: u32) -> u32
     requires { k < extent }

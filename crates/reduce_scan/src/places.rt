@@ -19,7 +19,7 @@ pub(crate) fn part_size(lines: &Lines, k: u32) -> u32
 }
 
 /// Whether each place is its position, so that a part is a block.
-fn is_straight(lines: &Lines) -> bool
+pub(crate) fn is_straight(lines: &Lines) -> bool
     ensures { IsTrue result → (lines.now.direction ≡ D.Upward) × (lines.now.apart ≡ 1) }
 {
     lines.apart == 1 && lines.direction == Direction::Upward

@@ -3,14 +3,16 @@
 ghost use Rattle.std.specs.Prelude.{◌≡◌, ℕ, ◌<◌, ◌≤◌, ◌+◌, ◌-◌, ◌*◌, ◌^◌, ◌==◌, true, Bool, Option, Some, None, IfSome, length, slice_index, slice_index_or, if◌then◌else◌};
 ghost use Rattle.std.specs.Int.{from_bool};
 ghost use Rattle.cstar_base.specs.Folds.{fold_once, identity_of};
+ghost use Rattle.cstar_base.specs.declared.operators.Direction.TheVariants as D;
 ghost use Rattle.paris_code.specs.Operators.{combiner_of};
 ghost use Rattle.block_store.specs.declared.set.Cell.{Cell};
 ghost use Rattle.block_store.specs.Planes.{HasPlanes};
 ghost use Rattle.reduce_scan.specs.Parts.{CanScan, FitsBelow, ordered_at, active_there, value_there, bit_there, begins_there, cut_there, part_fold, part_begins, part_size, starts, IsFolded};
 ghost use Rattle.reduce_scan.specs.Running.{handed_on};
 
-use crate::lines::{Lines, Scan};
-use crate::places::{part_size, part_words};
+use crate::lines::{LineScan, Lines, Scan};
+use crate::places::{is_straight, part_size, part_words};
+use crate::straight::fold_own;
 use block_store::{BlockSet, Cell, Room};
 use cstar_base::numbers::{fold_step, identity};
 use cstar_base::{Direction, SegmentMode};
@@ -20,7 +22,7 @@ use std::thread::Threads;
 
 /// Whether the bit that parts the segments is 1 at a position.
 fn is_marked(set: &BlockSet, bit: Option<Field>, context: u32, position: u32) -> bool
-    requires bit { IfSome bit (λ f. FitsBelow context f) }
+    requires bit { IfSome bit (λ f. FitsBelow context f × (f.len ≡ 1)) }
     requires planes { HasPlanes (context + 1) set.now.blocks.items }
     requires position { position < 512 * length set.now.blocks.items }
     ensures { result ≡ bit_there set.now.blocks.items bit position }
@@ -129,22 +131,21 @@ fn run_part(
     (total, begun)
 }
 
-/// Folds each part from the identity: the first word of its cell becomes the fold behind it, and the
-/// second one 1 where a line or a segment begins in it.
+/// Folds each part but the last one from the identity: the first word of its cell becomes the fold
+/// behind it, and the second one 1 where a line or a segment begins in it.
 pub(crate) fn fold_parts<R: Threads + Sync>(
     rt: &R,
     set: &BlockSet,
     room: &mut Room,
-    scan: &Scan,
-    lines: &Lines,
+    task: &LineScan,
     workers: u32,
 )
-    requires can { CanScan set.now.blocks.items scan.now lines.now }
+    requires can { CanScan set.now.blocks.items task.now.scan task.now.lines }
     requires few { length set.now.blocks.items < 2 ^ 16 }
     requires workers { 1 ≤ workers }
     ensures count { length room.new.cells.items ≡ length room.old.cells.items }
-    ensures folds { (k : ℕ) (none : Cell) → k < length set.now.blocks.items → k < length room.old.cells.items
-        → IsFolded set.now.blocks.items scan.now lines.now k (slice_index_or room.new.cells.items k none).words }
+    ensures folds { (k : ℕ) (none : Cell) → 512 * (k + 1) < task.now.lines.positions → k < length set.now.blocks.items → k < length room.old.cells.items
+        → IsFolded set.now.blocks.items task.now.scan task.now.lines k (slice_index_or room.new.cells.items k none).words }
 {
     let blocks = set.blocks.len();
     thread::for_each_mut(
@@ -152,27 +153,58 @@ pub(crate) fn fold_parts<R: Threads + Sync>(
         room.cells.as_mut_slice(),
         workers as usize,
         &|k: usize, cell: &mut Cell|
-            requires { CanScan set.now.blocks.items scan.now lines.now × (blocks < 2 ^ 16) }
-            ensures { k < blocks → IsFolded set.entry.now.blocks.items scan.entry.now lines.entry.now k cell.exit.now.words }
+            requires { CanScan set.now.blocks.items task.now.scan task.now.lines × (blocks < 2 ^ 16) }
+            ensures { 512 * (k + 1) < task.entry.now.lines.positions → k < blocks → IsFolded set.entry.now.blocks.items task.entry.now.scan task.entry.now.lines k cell.exit.now.words }
         {
-            if k < blocks {
-                fold_part(set, scan, lines, k as u32, cell);
+            if k < blocks && (k as u32 + 1) * 512 < task.lines.positions {
+                fold_part(set, &task.scan, &task.lines, k as u32, cell);
             }
         },
     );
 }
 
-/// Folds part `k` from the identity.
+/// Folds part `k`, which is not the last one, from the identity.
 fn fold_part(set: &BlockSet, scan: &Scan, lines: &Lines, k: u32, cell: &mut Cell)
     requires can { CanScan set.now.blocks.items scan.now lines.now }
     requires part { k < 2 ^ 16 }
+    requires more { 512 * (k + 1) < lines.now.positions }
     ensures { IsFolded set.now.blocks.items scan.now lines.now k cell.new.words }
 {
+    if is_straight(lines) {
+        let (total, begun) = fold_block_part(set, scan, lines, k);
+        hold(cell, total, begun);
+        return;
+    }
     let (combine, unsigned) = scan.combiner.combiner();
     let start = identity(combine, unsigned);
     let (total, begun) = run_part(set, scan, lines, k, start, &mut cell.words);
+    hold(cell, total, begun);
+}
+
+/// Holds the fold of a part and whether a line or a segment begins in it.
+fn hold(cell: &mut Cell, total: u32, begun: bool)
+    ensures total { slice_index cell.new.words 0 ≡ total }
+    ensures begun { (slice_index cell.new.words 1 == 1) ≡ begun }
+{
     cell.words[0] = total;
     cell.words[1] = u32::from(begun);
+}
+
+/// The fold of part `k`, which is a block and not the last one, from the identity, and whether a line
+/// or a segment begins in it.
+fn fold_block_part(set: &BlockSet, scan: &Scan, lines: &Lines, k: u32) -> (u32, bool)
+    requires can { CanScan set.now.blocks.items scan.now lines.now }
+    requires part { k < 2 ^ 16 }
+    requires more { 512 * (k + 1) < lines.now.positions }
+    requires straight { (lines.now.direction ≡ D.Upward) × (lines.now.apart ≡ 1) }
+    ensures tail { result.0 ≡ part_fold set.now.blocks.items scan.now lines.now k (identity_of (combiner_of scan.now.combiner).0 (combiner_of scan.now.combiner).1) 512 }
+    ensures begins { result.1 ≡ part_begins set.now.blocks.items scan.now lines.now k 512 }
+{
+    if is_cut(set, scan, lines, k * 512 + 512) {
+        let (combine, unsigned) = scan.combiner.combiner();
+        return (identity(combine, unsigned), true);
+    }
+    fold_own(&set.blocks[k as usize], k, scan, lines.extent)
 }
 
 /// Holds the fold before each place, part by part, each from the fold that its first word holds.
@@ -180,17 +212,16 @@ pub(crate) fn run_parts<R: Threads + Sync>(
     rt: &R,
     set: &BlockSet,
     room: &mut Room,
-    scan: &Scan,
-    lines: &Lines,
+    task: &LineScan,
     workers: u32,
 )
-    requires can { CanScan set.now.blocks.items scan.now lines.now }
+    requires can { CanScan set.now.blocks.items task.now.scan task.now.lines }
     requires few { length set.now.blocks.items < 2 ^ 16 }
     requires workers { 1 ≤ workers }
     ensures count { length room.new.cells.items ≡ length room.old.cells.items }
     ensures runs { (k : ℕ) (none : Cell) → k < length set.now.blocks.items → k < length room.old.cells.items
-        → (i : ℕ) → i < part_size lines.now k → slice_index (slice_index_or room.new.cells.items k none).words i
-        ≡ part_fold set.now.blocks.items scan.now lines.now k (slice_index (slice_index_or room.old.cells.items k none).words 0) i }
+        → (i : ℕ) → i < part_size task.now.lines k → slice_index (slice_index_or room.new.cells.items k none).words i
+        ≡ part_fold set.now.blocks.items task.now.scan task.now.lines k (slice_index (slice_index_or room.old.cells.items k none).words 0) i }
 {
     let blocks = set.blocks.len();
     thread::for_each_mut(
@@ -198,13 +229,20 @@ pub(crate) fn run_parts<R: Threads + Sync>(
         room.cells.as_mut_slice(),
         workers as usize,
         &|k: usize, cell: &mut Cell|
-            requires { CanScan set.now.blocks.items scan.now lines.now × (blocks < 2 ^ 16) }
-            ensures { k < blocks → (i : ℕ) → i < part_size lines.entry.now k → slice_index cell.exit.now.words i
-                ≡ part_fold set.entry.now.blocks.items scan.entry.now lines.entry.now k (slice_index cell.entry.now.words 0) i }
+            requires { CanScan set.now.blocks.items task.now.scan task.now.lines × (blocks < 2 ^ 16) }
+            ensures { k < blocks → (i : ℕ) → i < part_size task.entry.now.lines k → slice_index cell.exit.now.words i
+                ≡ part_fold set.entry.now.blocks.items task.entry.now.scan task.entry.now.lines k (slice_index cell.entry.now.words 0) i }
         {
             if k < blocks {
                 let start = cell.words[0];
-                run_part(set, scan, lines, k as u32, start, &mut cell.words);
+                run_part(
+                    set,
+                    &task.scan,
+                    &task.lines,
+                    k as u32,
+                    start,
+                    &mut cell.words,
+                );
             }
         },
     );

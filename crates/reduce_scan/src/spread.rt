@@ -11,7 +11,7 @@ ghost use Rattle.block_store.specs.Planes.{HasPlanes};
 ghost use Rattle.reduce_scan.specs.Parts.{AreLines, FitsBelow};
 ghost use Rattle.reduce_scan.specs.Taken.{place_or_zero, scanned_there};
 
-use crate::lines::{Lines, Scan};
+use crate::lines::{LineScan, Lines, Scan};
 use bit_planes::Block;
 use block_store::{BlockSet, Cell, Room, fetched, put_words, words_of};
 use cstar_base::Inclusion;
@@ -94,23 +94,21 @@ pub(crate) fn spread<R: Threads + Sync, G: Gate + Sync>(
     rt: &R,
     room: &Room,
     set: &mut BlockSet,
-    dest: Field,
-    scan: &Scan,
-    lines: &Lines,
+    task: &LineScan,
     workers: u32,
     gate: &G,
 )
-    requires lines { AreLines lines.now }
-    requires room { lines.now.positions ≤ 512 * length room.now.cells.items }
-    requires dest { FitsBelow scan.now.context dest }
-    requires source { FitsBelow scan.now.context scan.now.source }
-    requires planes { HasPlanes (scan.now.context + 1) set.old.blocks.items }
+    requires lines { AreLines task.now.lines }
+    requires room { task.now.lines.positions ≤ 512 * length room.now.cells.items }
+    requires dest { FitsBelow task.now.scan.context task.now.dest }
+    requires source { FitsBelow task.now.scan.context task.now.scan.source }
+    requires planes { HasPlanes (task.now.scan.context + 1) set.old.blocks.items }
     requires few { length set.old.blocks.items < 2 ^ 16 }
     requires workers { 1 ≤ workers }
     ensures count { length set.new.blocks.items ≡ length set.old.blocks.items }
     ensures each { (k : ℕ) (none : Block) → k < length set.old.blocks.items
-        → LanesWritten dest.offset dest.len (plane_at (slice_index_or set.old.blocks.items k none).planes.items scan.now.context)
-        (λ i. scanned_there room.now.cells.items scan.now lines.now (slice_index_or set.old.blocks.items k none).planes.items k i % 2 ^ dest.len)
+        → LanesWritten task.now.dest.offset task.now.dest.len (plane_at (slice_index_or set.old.blocks.items k none).planes.items task.now.scan.context)
+        (λ i. scanned_there room.now.cells.items task.now.scan task.now.lines (slice_index_or set.old.blocks.items k none).planes.items k i % 2 ^ task.now.dest.len)
         (slice_index_or set.old.blocks.items k none).planes.items (slice_index_or set.new.blocks.items k none).planes.items }
 {
     let cells = room.cells.as_slice();
@@ -119,14 +117,14 @@ pub(crate) fn spread<R: Threads + Sync, G: Gate + Sync>(
         set.blocks.as_mut_slice(),
         workers as usize,
         &|k: usize, block: &mut Block|
-            requires { (k < 2 ^ 16) × AreLines lines.now × (lines.now.positions ≤ 512 * length cells.now) × FitsBelow scan.now.context dest
-                × FitsBelow scan.now.context scan.now.source × (scan.now.context + 1 ≤ length block.now.planes.items) }
-            ensures { LanesWritten dest.offset dest.len (plane_at block.entry.now.planes.items scan.entry.now.context)
-                (λ i. scanned_there cells.entry.now scan.entry.now lines.entry.now block.entry.now.planes.items k i % 2 ^ dest.len)
+            requires { (k < 2 ^ 16) × AreLines task.now.lines × (task.now.lines.positions ≤ 512 * length cells.now) × FitsBelow task.now.scan.context task.now.dest
+                × FitsBelow task.now.scan.context task.now.scan.source × (task.now.scan.context + 1 ≤ length block.now.planes.items) }
+            ensures { LanesWritten task.entry.now.dest.offset task.entry.now.dest.len (plane_at block.entry.now.planes.items task.entry.now.scan.context)
+                (λ i. scanned_there cells.entry.now task.entry.now.scan task.entry.now.lines block.entry.now.planes.items k i % 2 ^ task.entry.now.dest.len)
                 block.entry.now.planes.items block.exit.now.planes.items }
         {
             gate.at(k as u32);
-            spread_block(block, k as u32, dest, scan, lines, cells);
+            spread_block(block, k as u32, task.dest, &task.scan, &task.lines, cells);
         },
     );
 }

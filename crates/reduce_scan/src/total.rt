@@ -7,7 +7,7 @@ ghost use Rattle.phase_meaning.specs.Apply.{LiesIn};
 ghost use Rattle.reduce_scan.specs.Blocks.{joined_folds};
 ghost use Rattle.block_store.specs.Stored.{shapes_in, memory_in, IsWhole, HasRoom};
 
-use crate::folds::fold_blocks;
+use crate::folds::{FieldFold, fold_blocks};
 use block_store::{Room, Store};
 use cstar_base::numbers::{fold_step, identity};
 use cstar_io::Gate;
@@ -49,15 +49,11 @@ pub fn reduce<R: Threads + Sync, G: Gate + Sync>(
     let at = usize::from(source.set);
     let context = store.plans[at].bits;
     let blocks = store.sets[at].blocks.len();
-    fold_blocks(
-        rt,
-        &store.sets[at],
-        &mut store.room,
+    let fold = FieldFold {
         combiner,
-        source.offset,
+        offset: source.offset,
         context,
-        workers,
-        gate,
-    );
+    };
+    fold_blocks(rt, &store.sets[at], &mut store.room, &fold, workers, gate);
     join_folds(&store.room, combiner, blocks)
 }

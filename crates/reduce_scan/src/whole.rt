@@ -10,9 +10,11 @@ ghost use Rattle.phase_meaning.specs.Apply.{LiesIn};
 ghost use Rattle.block_store.specs.Stored.{shapes_in, memory_in, IsWhole, HasRoom};
 ghost use Rattle.reduce_scan.specs.Along.{scan_of, ScanFits};
 
-use crate::lines::{AxisScan, Lines};
+use crate::lines::{AxisScan, LineScan, Lines};
+use crate::places::is_straight;
 use crate::runs::{fold_parts, hand_on, run_parts};
 use crate::spread::spread;
+use crate::straight::scan_blocks;
 use block_store::Store;
 use cstar_io::Gate;
 use paris_code::Field;
@@ -42,20 +44,18 @@ pub fn scan<R: Threads + Sync, G: Gate + Sync>(
 {
     let at = usize::from(dest.set);
     let plan = &store.plans[at];
-    let lines = Lines::of(&plan.geometry, along.axis, along.direction);
-    let scan = along.over(plan.bits);
-    let parts = store.sets[at].blocks.len();
-    fold_parts(rt, &store.sets[at], &mut store.room, &scan, &lines, workers);
-    hand_on(&mut store.room, scan.combiner, parts);
-    run_parts(rt, &store.sets[at], &mut store.room, &scan, &lines, workers);
-    spread(
-        rt,
-        &store.room,
-        &mut store.sets[at],
+    let task = LineScan {
+        scan: along.over(plan.bits),
+        lines: Lines::of(&plan.geometry, along.axis, along.direction),
         dest,
-        &scan,
-        &lines,
-        workers,
-        gate,
-    );
+    };
+    let parts = store.sets[at].blocks.len();
+    fold_parts(rt, &store.sets[at], &mut store.room, &task, workers);
+    hand_on(&mut store.room, along.combiner, parts);
+    if is_straight(&task.lines) {
+        scan_blocks(rt, &store.room, &mut store.sets[at], &task, workers, gate);
+        return;
+    }
+    run_parts(rt, &store.sets[at], &mut store.room, &task, workers);
+    spread(rt, &store.room, &mut store.sets[at], &task, workers, gate);
 }

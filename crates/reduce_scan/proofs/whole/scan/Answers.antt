@@ -1,6 +1,7 @@
-use Rattle.std.proofs.Common.{◌≡◌, ℕ, ◌∙◌, ◌+◌, ◌<◌, ◌≤◌, List, length, get_or, refl, sym, ap, subst, arith}
-use Rattle.std.proofs.lemmas.List.{length-map}
+use Rattle.std.proofs.Common.{◌≡◌, ℕ, [], ◌∙◌, ◌+◌, ◌<◌, ◌≤◌, List, length, get_or, refl, sym, ap, subst, arith}
+use Rattle.std.proofs.lemmas.List.{length-map, get_or-map}
 use Rattle.vp_sets.specs.Positions.{position_count}
+use Rattle.cstar_base.specs.declared.operators.Direction.TheVariants as D
 use Rattle.cstar_base.specs.declared.operators.Winner.{Winner}
 use Rattle.cstar_base.specs.declared.operators.Winner.TheVariants as W
 use Rattle.bit_planes.specs.declared.block.Block.{Block}
@@ -10,15 +11,15 @@ use Rattle.paris_code.specs.Shapes.{bits_at}
 use Rattle.std.specs.Prelude.{slice_index}
 use Rattle.block_store.specs.declared.set.Cell.{Cell}
 use Rattle.block_store.specs.Planes.{planes_in, HasPlanes}
-use Rattle.block_store.specs.Stored.{shape_of_plan, shapes_in, memory_in, blocks_in, blocks_at}
+use Rattle.block_store.specs.Stored.{shape_of_plan, shapes_in, memory_in, blocks_in, blocks_at, words_in}
 use Rattle.block_store.proofs.AllBlocks.{blocks_written, blocks_whole}
-use Rattle.block_store.proofs.Fetches.{bits_of, room_much}
+use Rattle.block_store.proofs.Fetches.{bits_of, room_much, some_cell}
 use Rattle.block_store.proofs.Stores.{held, few_blocks}
 use Rattle.reduce_scan.specs.declared.lines.Lines.{Lines}
 use Rattle.reduce_scan.specs.declared.lines.Scan.{Scan}
 use Rattle.reduce_scan.specs.Along.{scan_of, scan_over, lines_of}
-use Rattle.reduce_scan.specs.Parts.{CanScan, starts}
-use Rattle.reduce_scan.proofs.Scanned.{moved, Spread, Folded, RunFrom, can_scan, scan_here, lines_here, word_is, scanned_in_block}
+use Rattle.reduce_scan.specs.Parts.{CanScan, starts, word_of_cell}
+use Rattle.reduce_scan.proofs.Scanned.{moved, Spread, ScannedFrom, Folded, RunFrom, can_scan, scan_here, lines_here, word_is, scanned_in_block, straight_in_block}
 use Rattle.reduce_scan.proofs.whole.scan.Goals as goal
 
 pub fold_parts-requires-clause-can : goal.fold_parts-requires-clause-can
@@ -30,8 +31,8 @@ fold_parts-requires-clause-can g c κs live =
     let at = c.from-at.ensures ∙ c.requires.together in
     let plan = bits_of c.args.store.now.plans.items s c.from-at.result c.index-plan.result.now c.requires.along.0.0 at c.index-plan.ensures in
     let same = held shapes sets s c.from-at.result c.index-2.result.now c.requires.whole c.requires.along.0.0 at c.index-2.ensures in
-    moved CanScan _ _ _ _ _ _ (sym same) (sym (c.over-scan.ensures ∙ ap (scan_over along) plan.0))
-    (sym (c.of-lines.ensures.value ∙ ap (λ xs. lines_of xs along.axis along.direction) plan.1)) (can_scan shapes sets c.requires.whole along c.requires.along)
+    moved CanScan _ _ _ _ _ _ (sym same) (sym (c.over.ensures ∙ ap (scan_over along) plan.0))
+    (sym (c.of.ensures.value ∙ ap (λ xs. lines_of xs along.axis along.direction) plan.1)) (can_scan shapes sets c.requires.whole along c.requires.along)
 
 pub fold_parts-requires-clause-few : goal.fold_parts-requires-clause-few
 fold_parts-requires-clause-few g c κs live =
@@ -43,6 +44,61 @@ fold_parts-requires-clause-few g c κs live =
       few_blocks shapes sets c.args.dest.set c.requires.whole c.requires.dest.0,
     )
 
+pub scan_blocks-requires-clause-few : goal.scan_blocks-requires-clause-few
+scan_blocks-requires-clause-few g c κs live =
+    let shapes = shapes_in c.args.store.now in
+    let sets = c.args.store.now.sets.items in
+    omega (
+      arith,
+      ap length (held shapes sets c.args.dest.set c.from-at.result c.index_mut.result.now c.requires.whole c.requires.dest.0 c.from-at.ensures c.index_mut.ensures.value),
+      few_blocks shapes sets c.args.dest.set c.requires.whole c.requires.dest.0,
+    )
+
+pub returns-then-is_straight : goal.returns-then-is_straight
+returns-then-is_straight g c =
+    let shapes = shapes_in c.args.store.now in
+    let sets = c.args.store.now.sets.items in
+    let plans = c.args.store.now.plans.items in
+    let along = c.args.along.now in
+    let d = c.args.dest in
+    let s = along.source.set in
+    let whole = c.requires.whole in
+    let fits = c.requires.along in
+    let exists = fits.0.0 in
+    let at = c.from-at.ensures ∙ c.requires.together in
+    let plan = bits_of plans s c.from-at.result c.index-plan.result.now exists at c.index-plan.ensures in
+    let to = c.index_mut.result.now in
+    let scan_is : c.over.result ≡ scan_here shapes sets whole along fits = c.over.ensures ∙ ap (scan_over along) plan.0 in
+    let lines_is : c.of.result ≡ lines_here shapes sets whole along fits = c.of.ensures.value ∙ ap (λ xs. lines_of xs along.axis along.direction) plan.1 in
+    let straight = c.if-is_straight.ensures refl in
+    let up : along.direction ≡ D.Upward = sym (ap (λ (l : Lines). l.direction) lines_is) ∙ straight.0 in
+    let one : (lines_here shapes sets whole along fits).apart ≡ 1 = sym (ap (λ (l : Lines). l.apart) lines_is) ∙ straight.1 in
+    let first_is = held shapes sets s c.from-at.result c.index-2.result.now whole exists at c.index-2.ensures in
+    let home = held shapes sets s c.from-at.result to whole exists at c.index_mut.ensures.value in
+    let much : length (blocks_at sets s) ≤ length c.args.store.now.room.cells.items = c.requires.room s (omega (arith, exists, length-map plans shape_of_plan)) in
+    let first = c.fold_parts.new.room.cells.items in
+    let second = c.hand_on.new.room.cells.items in
+    let all : c.len-parts.result ≡ length (blocks_at sets s) = omega (arith, c.len-parts.ensures, ap length (held shapes sets s c.from-at.result c.index.result.now whole exists at c.index.ensures)) in
+    let folded : Folded first (blocks_at sets s) (scan_here shapes sets whole along fits) (lines_here shapes sets whole along fits) =
+    moved (Folded first) _ _ _ _ _ _ first_is scan_is lines_is (λ k none m b h. c.fold_parts.ensures.folds k none m b (omega (arith, h, c.fold_parts.ensures.count))) in
+    let begin : (k : ℕ) → k < length (blocks_at sets s) → word_of_cell second k 0 ≡ starts along.combiner first k =
+    λ k b. some_cell _ second k (omega (arith, b, much, c.fold_parts.ensures.count, c.hand_on.ensures.count)) (λ e.
+    ap (λ ws. slice_index ws 0) (get_or-map words_in second k e [] (omega (arith, b, much, c.fold_parts.ensures.count, c.hand_on.ensures.count)))
+    ∙ c.hand_on.ensures.starts k e (omega (arith, b, all))) in
+    let each = λ (w : Winner) (k : ℕ) (e : Block) (b : k < length (blocks_in to)).
+    straight_in_block shapes sets whole along fits w d c.requires.together up one first second folded begin (omega (arith, much, c.fold_parts.ensures.count)) (blocks_in to) home k e _ b
+    (moved (ScannedFrom second d k (planes_in (get_or (blocks_in to) k e)) (planes_in (get_or (blocks_in c.scan_blocks.new.set) k e))) (blocks_in to) (blocks_in to) _ _ _ _ refl scan_is lines_is (c.scan_blocks.ensures.each k e b)) in
+    let write = λ (w : Winner). at_active shapes (memory_in c.args.store.now w) d (λ p. scanned shapes (memory_in c.args.store.now w) (scan_of along) p) in
+    let kept = blocks_whole shapes sets to c.scan_blocks.new.set c.from-at.result (write W.High) whole c.requires.dest.0 c.from-at.ensures c.index_mut.ensures.value c.scan_blocks.ensures.count (each W.High) in
+    record {
+      whole = kept;
+      room = λ set b.
+          let known : set < length shapes = omega (arith, length-map plans shape_of_plan) in
+          omega (arith, (kept.each set known).count, (whole.each set known).count, c.requires.room set b, c.fold_parts.ensures.count, c.hand_on.ensures.count);
+      shapes = refl;
+      memory = λ w. blocks_written shapes sets to c.scan_blocks.new.set c.from-at.result (write w) whole c.requires.dest.0 c.from-at.ensures c.index_mut.ensures.value c.scan_blocks.ensures.count (each w) w;
+    }
+
 pub run_parts-requires-clause-can : goal.run_parts-requires-clause-can
 run_parts-requires-clause-can g c κs live =
     let shapes = shapes_in c.args.store.now in
@@ -52,8 +108,8 @@ run_parts-requires-clause-can g c κs live =
     let at = c.from-at.ensures ∙ c.requires.together in
     let plan = bits_of c.args.store.now.plans.items s c.from-at.result c.index-plan.result.now c.requires.along.0.0 at c.index-plan.ensures in
     let same = held shapes sets s c.from-at.result c.index-3.result.now c.requires.whole c.requires.along.0.0 at c.index-3.ensures in
-    moved CanScan _ _ _ _ _ _ (sym same) (sym (c.over-scan.ensures ∙ ap (scan_over along) plan.0))
-    (sym (c.of-lines.ensures.value ∙ ap (λ xs. lines_of xs along.axis along.direction) plan.1)) (can_scan shapes sets c.requires.whole along c.requires.along)
+    moved CanScan _ _ _ _ _ _ (sym same) (sym (c.over.ensures ∙ ap (scan_over along) plan.0))
+    (sym (c.of.ensures.value ∙ ap (λ xs. lines_of xs along.axis along.direction) plan.1)) (can_scan shapes sets c.requires.whole along c.requires.along)
 
 pub run_parts-requires-clause-few : goal.run_parts-requires-clause-few
 run_parts-requires-clause-few g c κs live =
@@ -74,7 +130,7 @@ spread-requires-clause-room g c κs live =
     let plan = bits_of plans s c.from-at.result c.index-plan.result.now exists (c.from-at.ensures ∙ c.requires.together) c.index-plan.ensures in
     omega (
       arith,
-      ap (λ (l : Lines). l.positions) c.of-lines.ensures.value,
+      ap (λ (l : Lines). l.positions) c.of.ensures.value,
       ap position_count plan.1,
       room_much shapes c.args.store.now.sets.items s c.requires.whole exists,
       c.requires.room s (omega (arith, exists, length-map plans shape_of_plan)),
@@ -91,10 +147,10 @@ spread-requires-clause-planes g c κs live =
     let exists = c.requires.along.0.0 in
     let at = c.from-at.ensures ∙ c.requires.together in
     let plan = bits_of c.args.store.now.plans.items s c.from-at.result c.index-plan.result.now exists at c.index-plan.ensures in
-    let has : HasPlanes (bits_at shapes s + 2) (blocks_in c.index_mut.result.now) =
-    subst (λ (bs : List Block). HasPlanes (bits_at shapes s + 2) bs) (sym (held shapes sets s c.from-at.result c.index_mut.result.now c.requires.whole exists at c.index_mut.ensures.value))
+    let has : HasPlanes (bits_at shapes s + 2) (blocks_in c.index_mut-2.result.now) =
+    subst (λ (bs : List Block). HasPlanes (bits_at shapes s + 2) bs) (sym (held shapes sets s c.from-at.result c.index_mut-2.result.now c.requires.whole exists at c.index_mut-2.ensures.value))
     (c.requires.whole.each s exists).planes in
-    λ k none b. omega (arith, has k none b, plan.0, ap (λ (x : Scan). x.context) c.over-scan.ensures)
+    λ k none b. omega (arith, has k none b, plan.0, ap (λ (x : Scan). x.context) c.over.ensures)
 
 pub spread-requires-clause-few : goal.spread-requires-clause-few
 spread-requires-clause-few g c κs live =
@@ -102,7 +158,7 @@ spread-requires-clause-few g c κs live =
     let sets = c.args.store.now.sets.items in
     omega (
       arith,
-      ap length (held shapes sets c.args.dest.set c.from-at.result c.index_mut.result.now c.requires.whole c.requires.dest.0 c.from-at.ensures c.index_mut.ensures.value),
+      ap length (held shapes sets c.args.dest.set c.from-at.result c.index_mut-2.result.now c.requires.whole c.requires.dest.0 c.from-at.ensures c.index_mut-2.ensures.value),
       few_blocks shapes sets c.args.dest.set c.requires.whole c.requires.dest.0,
     )
 
@@ -119,23 +175,23 @@ returns g c =
     let exists = fits.0.0 in
     let at = c.from-at.ensures ∙ c.requires.together in
     let plan = bits_of plans s c.from-at.result c.index-plan.result.now exists at c.index-plan.ensures in
-    let to = c.index_mut.result.now in
-    let scan_is : c.over-scan.result ≡ scan_here shapes sets whole along fits = c.over-scan.ensures ∙ ap (scan_over along) plan.0 in
-    let lines_is : c.of-lines.result ≡ lines_here shapes sets whole along fits = c.of-lines.ensures.value ∙ ap (λ xs. lines_of xs along.axis along.direction) plan.1 in
+    let to = c.index_mut-2.result.now in
+    let scan_is : c.over.result ≡ scan_here shapes sets whole along fits = c.over.ensures ∙ ap (scan_over along) plan.0 in
+    let lines_is : c.of.result ≡ lines_here shapes sets whole along fits = c.of.ensures.value ∙ ap (λ xs. lines_of xs along.axis along.direction) plan.1 in
     let first_is = held shapes sets s c.from-at.result c.index-2.result.now whole exists at c.index-2.ensures in
     let then_is = held shapes sets s c.from-at.result c.index-3.result.now whole exists at c.index-3.ensures in
-    let home = held shapes sets s c.from-at.result to whole exists at c.index_mut.ensures.value in
+    let home = held shapes sets s c.from-at.result to whole exists at c.index_mut-2.ensures.value in
     let much : length (blocks_at sets s) ≤ length c.args.store.now.room.cells.items = c.requires.room s (omega (arith, exists, length-map plans shape_of_plan)) in
     let first = c.fold_parts.new.room.cells.items in
     let second = c.hand_on.new.room.cells.items in
     let third = c.run_parts.new.room.cells.items in
     let all : c.len-parts.result ≡ length (blocks_at sets s) = omega (arith, c.len-parts.ensures, ap length (held shapes sets s c.from-at.result c.index.result.now whole exists at c.index.ensures)) in
     let folded : Folded first (blocks_at sets s) (scan_here shapes sets whole along fits) (lines_here shapes sets whole along fits) =
-    moved (Folded first) _ _ _ _ _ _ first_is scan_is lines_is (λ k none b h. c.fold_parts.ensures.folds k none b (omega (arith, h, c.fold_parts.ensures.count))) in
+    moved (Folded first) _ _ _ _ _ _ first_is scan_is lines_is (λ k none m b h. c.fold_parts.ensures.folds k none m b (omega (arith, h, c.fold_parts.ensures.count))) in
     let run : RunFrom second third (blocks_at sets s) (scan_here shapes sets whole along fits) (lines_here shapes sets whole along fits) =
     moved (RunFrom second third) _ _ _ _ _ _ then_is scan_is lines_is (λ k none b h. c.run_parts.ensures.runs k none b (omega (arith, h, c.run_parts.ensures.count))) in
     let begin : (k : ℕ) (e : Cell) → k < length (blocks_at sets s) → slice_index (get_or second k e).words 0 ≡ starts along.combiner first k =
-    λ k e b. c.hand_on.ensures.starts k e (omega (arith, b, all)) ∙ ap (λ (x : Scan). starts x.combiner first k) scan_is in
+    λ k e b. c.hand_on.ensures.starts k e (omega (arith, b, all)) in
     let words = λ (w : Winner).
     word_is shapes sets whole along fits w first second third folded begin run (omega (arith, much, c.fold_parts.ensures.count))
     (omega (arith, much, c.fold_parts.ensures.count, c.hand_on.ensures.count, c.run_parts.ensures.count)) in
@@ -143,12 +199,12 @@ returns g c =
     scanned_in_block shapes sets whole along fits w d c.requires.together third (words w) (blocks_in to) home k e _ b
     (moved (Spread third d k (planes_in (get_or (blocks_in to) k e)) (planes_in (get_or (blocks_in c.spread.new.set) k e))) (blocks_in to) (blocks_in to) _ _ _ _ refl scan_is lines_is (c.spread.ensures.each k e b)) in
     let write = λ (w : Winner). at_active shapes (memory_in c.args.store.now w) d (λ p. scanned shapes (memory_in c.args.store.now w) (scan_of along) p) in
-    let kept = blocks_whole shapes sets to c.spread.new.set c.from-at.result (write W.High) whole c.requires.dest.0 c.from-at.ensures c.index_mut.ensures.value c.spread.ensures.count (each W.High) in
+    let kept = blocks_whole shapes sets to c.spread.new.set c.from-at.result (write W.High) whole c.requires.dest.0 c.from-at.ensures c.index_mut-2.ensures.value c.spread.ensures.count (each W.High) in
     record {
       whole = kept;
       room = λ set b.
           let known : set < length shapes = omega (arith, length-map plans shape_of_plan) in
           omega (arith, (kept.each set known).count, (whole.each set known).count, c.requires.room set b, c.fold_parts.ensures.count, c.hand_on.ensures.count, c.run_parts.ensures.count);
       shapes = refl;
-      memory = λ w. blocks_written shapes sets to c.spread.new.set c.from-at.result (write w) whole c.requires.dest.0 c.from-at.ensures c.index_mut.ensures.value c.spread.ensures.count (each w) w;
+      memory = λ w. blocks_written shapes sets to c.spread.new.set c.from-at.result (write w) whole c.requires.dest.0 c.from-at.ensures c.index_mut-2.ensures.value c.spread.ensures.count (each w) w;
     }

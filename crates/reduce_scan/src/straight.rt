@@ -1,0 +1,191 @@
+//! Scans upward along lines whose neighbours are neighbours in a block.
+
+ghost use Rattle.std.specs.Prelude.{◌≡◌, ℕ, ◌<◌, ◌≤◌, ◌+◌, ◌*◌, ◌%◌, ◌^◌, ◌==◌, Bool, IfSome, length, slice_index, slice_index_or, if◌then◌else◌};
+ghost use Rattle.bit_planes.specs.Bits.{bit};
+ghost use Rattle.bit_planes.specs.Planes.{plane_at};
+ghost use Rattle.cstar_base.specs.Folds.{identity_of};
+ghost use Rattle.cstar_base.specs.Orders.{any_of};
+ghost use Rattle.paris_code.specs.Operators.{combiner_of};
+ghost use Rattle.phase_meaning.specs.Apply.{looked_at};
+ghost use Rattle.block_store.specs.Phases.{LanesWritten};
+ghost use Rattle.block_store.specs.Planes.{HasPlanes};
+ghost use Rattle.bit_planes.specs.declared.block.Block.{Block};
+ghost use Rattle.reduce_scan.specs.Parts.{FieldsFit, FitsBelow, word_of_cell};
+ghost use Rattle.reduce_scan.specs.WithinBlocks.{begins_in, bit_in, cut_in, fold_in, scanned_in};
+
+use crate::folds::FieldFold;
+use crate::lines::{LineScan, Scan};
+use crate::words::{Run, words_or};
+use bit_planes::Block;
+use bit_planes::plane::{both, either, repeated, with_lane};
+use block_store::{BlockSet, Cell, Room, put_words};
+use cstar_base::numbers::identity;
+use cstar_base::{Inclusion, SegmentMode};
+use cstar_io::Gate;
+use lane_kernels::count;
+use paris_code::Field;
+use std::simd::prelude::*;
+use std::thread;
+use std::thread::Threads;
+
+/// The lanes of block `k` at which a line of so many positions begins.
+fn line_starts(extent: u32, k: u32) -> u64x8
+    requires extent { 0 < extent }
+    requires block { k < 2 ^ 16 }
+    ensures { (i : ℕ) → i < 512 → bit result i ≡ (if (512 * k + i) % extent == 0 then 1 else 0) }
+{
+    let from = k * 512;
+    let mut starts = repeated(false);
+    for line in from.div_ceil(extent)..(from + 512).div_ceil(extent) {
+        starts = with_lane(starts, line * extent - from, true);
+    }
+    starts
+}
+
+/// The lanes of a block where the bit that parts the segments is 1.
+fn marks(block: &Block, mark: Option<Field>) -> u64x8
+    requires mark { IfSome mark (λ f. (f.offset < length block.now.planes.items) × (f.len ≡ 1)) }
+    ensures { (i : ℕ) → i < 512 → bit result i ≡ (if bit_in block.now.planes.items mark i then 1 else 0) }
+{
+    match mark {
+        None => repeated(false),
+        Some(field) => block.plane(field.offset),
+    }
+}
+
+/// The lanes of a block at which a segment begins.
+fn segment_starts(block: &Block, scan: &Scan) -> u64x8
+    requires fields { FieldsFit scan.now }
+    requires planes { scan.now.context < length block.now.planes.items }
+    ensures { (i : ℕ) → i < 512 → bit result i ≡ (if begins_in block.now.planes.items scan.now i then 1 else 0) }
+{
+    match scan.mode {
+        SegmentMode::NoSegments => repeated(false),
+        SegmentMode::StartBit => both(marks(block, scan.bit), block.plane(scan.context)),
+        SegmentMode::SegmentBit => marks(block, scan.bit),
+    }
+}
+
+/// The lanes of block `k`, behind its first one, at which a line or a segment begins.
+fn inner_cuts(block: &Block, k: u32, scan: &Scan, extent: u32) -> u64x8
+    requires block { k < 2 ^ 16 }
+    requires extent { 0 < extent }
+    requires fields { FieldsFit scan.now }
+    requires planes { scan.now.context < length block.now.planes.items }
+    ensures first { bit result 0 ≡ 0 }
+    ensures others { (i : ℕ) → 0 < i → i < 512 → (bit result i == 1) ≡ cut_in block.now.planes.items scan.now extent k i }
+{
+    let all = either(line_starts(extent, k), segment_starts(block, scan));
+    with_lane(all, 0, false)
+}
+
+/// The fold of block `k` from the identity, and whether a line or a segment begins behind its first
+/// lane.
+pub(crate) fn fold_own(block: &Block, k: u32, scan: &Scan, extent: u32) -> (u32, bool)
+    requires block { k < 2 ^ 16 }
+    requires extent { 0 < extent }
+    requires fields { FieldsFit scan.now }
+    requires planes { scan.now.context < length block.now.planes.items }
+    ensures total { result.0 ≡ fold_in block.now.planes.items scan.now extent k (identity_of (combiner_of scan.now.combiner).0 (combiner_of scan.now.combiner).1) 512 }
+    ensures begins { result.1 ≡ any_of (λ i. cut_in block.now.planes.items scan.now extent k i) 1 512 }
+{
+    let cuts = inner_cuts(block, k, scan, extent);
+    if count(cuts) == 0 {
+        let fold = FieldFold {
+            combiner: scan.combiner,
+            offset: scan.source.offset,
+            context: scan.context,
+        };
+        return (fold.of(block), false);
+    }
+    let (combine, unsigned) = scan.combiner.combiner();
+    let start = identity(combine, unsigned);
+    let mut words = words_or(block, scan.source.offset, scan.context, start);
+    let run = Run {
+        combiner: scan.combiner,
+        inclusion: Inclusion::Exclusive,
+        start,
+        cuts,
+    };
+    (run.over(&mut words), true)
+}
+
+/// Gives the active lanes of block `k` the scan, from the fold before its first lane.
+fn scan_block(block: &mut Block, k: u32, dest: Field, scan: &Scan, extent: u32, start: u32)
+    requires block { k < 2 ^ 16 }
+    requires extent { 0 < extent }
+    requires dest { FitsBelow scan.now.context dest }
+    requires fields { FieldsFit scan.now }
+    requires planes { scan.now.context < length block.old.planes.items }
+    ensures { LanesWritten dest.offset dest.len (plane_at block.old.planes.items scan.now.context)
+        (λ i. scanned_in block.old.planes.items scan.now extent k start i % 2 ^ dest.len) block.old.planes.items block.new.planes.items }
+{
+    let (combine, unsigned) = scan.combiner.combiner();
+    let none = identity(combine, unsigned);
+    let mut words = words_or(block, scan.source.offset, scan.context, none);
+    let run = Run {
+        combiner: scan.combiner,
+        inclusion: scan.inclusion,
+        start,
+        cuts: inner_cuts(block, k, scan, extent),
+    };
+    run.over(&mut words);
+    let active = block.plane(scan.context);
+    put_words(block, dest.offset, dest.len, active, &words);
+}
+
+/// The fold before the first lane of block `k`, as its cell holds it.
+fn start_of(cells: &[Cell], k: usize) -> u32
+    requires { k < length cells.now }
+    ensures { result ≡ word_of_cell cells.now k 0 }
+{
+    cells[k].words[0]
+}
+
+/// Gives the active positions of a set the scan, each block from the fold that the first word of its
+/// cell holds, with a call of the gate for each.
+pub(crate) fn scan_blocks<R: Threads + Sync, G: Gate + Sync>(
+    rt: &R,
+    room: &Room,
+    set: &mut BlockSet,
+    task: &LineScan,
+    workers: u32,
+    gate: &G,
+)
+    requires extent { 0 < task.now.lines.extent }
+    requires dest { FitsBelow task.now.scan.context task.now.dest }
+    requires fields { FieldsFit task.now.scan }
+    requires planes { HasPlanes (task.now.scan.context + 1) set.old.blocks.items }
+    requires few { length set.old.blocks.items < 2 ^ 16 }
+    requires room { length set.old.blocks.items ≤ length room.now.cells.items }
+    requires workers { 1 ≤ workers }
+    ensures count { length set.new.blocks.items ≡ length set.old.blocks.items }
+    ensures each { (k : ℕ) (none : Block) → k < length set.old.blocks.items
+        → LanesWritten task.now.dest.offset task.now.dest.len (plane_at (slice_index_or set.old.blocks.items k none).planes.items task.now.scan.context)
+        (λ i. scanned_in (slice_index_or set.old.blocks.items k none).planes.items task.now.scan task.now.lines.extent k (word_of_cell room.now.cells.items k 0) i % 2 ^ task.now.dest.len)
+        (slice_index_or set.old.blocks.items k none).planes.items (slice_index_or set.new.blocks.items k none).planes.items }
+{
+    let cells = room.cells.as_slice();
+    thread::for_each_mut(
+        rt,
+        set.blocks.as_mut_slice(),
+        workers as usize,
+        &|k: usize, block: &mut Block|
+            requires { (k < 2 ^ 16) × (k < length cells.now) × (0 < task.now.lines.extent) × FitsBelow task.now.scan.context task.now.dest
+                × FieldsFit task.now.scan × (task.now.scan.context < length block.now.planes.items) }
+            ensures { LanesWritten task.entry.now.dest.offset task.entry.now.dest.len (plane_at block.entry.now.planes.items task.entry.now.scan.context)
+                (λ i. scanned_in block.entry.now.planes.items task.entry.now.scan task.entry.now.lines.extent k (word_of_cell cells.entry.now k 0) i % 2 ^ task.entry.now.dest.len)
+                block.entry.now.planes.items block.exit.now.planes.items }
+        {
+            gate.at(k as u32);
+            scan_block(
+                block,
+                k as u32,
+                task.dest,
+                &task.scan,
+                task.lines.extent,
+                start_of(cells, k),
+            );
+        },
+    );
+}
