@@ -2,6 +2,7 @@
 use Rattle.std.proofs.Common.{◌≡◌, ◌∙◌, ◌≤◌, ◌&&◌, ℕ, Bool, true, false, List, [], Option, Some, None, ap, sym, refl, arith, lit≤, if◌then◌else◌}
 use Rattle.std.specs.Prelude.{codes, nat_le, unwrap_or}
 use Rattle.std.specs.Str.Parse.{digits_value}
+use Rattle.std.proofs.lemmas.Bool.{leb-true}
 use Rattle.cstar_words.specs.declared.options.Mode.{Mode}
 use Rattle.cstar_words.specs.declared.options.Mode.TheVariants as M
 use Rattle.cstar_words.specs.declared.options.Options.{Options}
@@ -34,8 +35,10 @@ between low high default n None above below read =
     let is : default ≡ n = ap (λ (o : Option ℕ). unwrap_or o 0) read in (omega (arith, is, above), omega (arith, is, below))
 between low high default n (Some text) above below read =
     let value = digits_value 10 text in
-    let within = passed value n (is_number text) (nat_le low value) (nat_le value high) read in
-    (omega (arith, within.0, within.2), omega (arith, within.1, within.2))
+    let within = passed value n (is_number text) (nat_le low value) (nat_le value high) read in (
+      omega (arith, leb-true low value within.0, within.2),
+      omega (arith, leb-true value high within.1, within.2),
+    )
 
 -- the workers are 1 to 64
 pub few_workers : (words : List (List ℕ)) (options : Options) → Reads (rows_in words) options → (1 ≤ options.workers) × (options.workers ≤ 64)

@@ -23,7 +23,7 @@ pub struct Crew<'a, R, G> {
     ghost few: { (1 ≤ count) × (count ≤ 64) },
 }
 
-impl<'a, R: Threads + Sync, G: Gate + Sync> Crew<'a, R, G> {
+impl<'a, R, G> Crew<'a, R, G> {
     /// A crew of 1 to 64 workers.
     pub fn new(rt: &'a R, alloc: Global, count: u32, gate: &'a G) -> Crew<'a, R, G>
         requires { (1 ≤ count) × (count ≤ 64) }
@@ -36,7 +36,9 @@ impl<'a, R: Threads + Sync, G: Gate + Sync> Crew<'a, R, G> {
             gate,
         }
     }
+}
 
+impl<'a, R: Threads + Sync, G: Gate + Sync> Crew<'a, R, G> {
     /// Does an instruction on a store, by as many of the workers as pay. `Memory` at a send alone.
     pub fn apply(&self, store: &mut Store, instr: &Instr, args: &[u32], winner: Winner) -> Reply
         requires { CanDo store.old instr.now args.now }

@@ -16,7 +16,7 @@ use Rattle.cstar_top.proofs.Reported.{whole_is, whole_not}
 use Rattle.cstar_top.proofs.top.cstar.Goals as goal
 
 pub new-crew-requires : goal.new-crew-requires
-new-crew-requires g c κs live = few_workers (map string_bytes c.args.words.now) c.in-Ok.options c.in-Ok.ensures.reads
+new-crew-requires g c = few_workers (map string_bytes c.args.words.now) c.in-Ok.options c.in-Ok.ensures.reads
 
 pub returns-in-Ok-clause-line : goal.returns-in-Ok-clause-line
 returns-in-Ok-clause-line g c other =

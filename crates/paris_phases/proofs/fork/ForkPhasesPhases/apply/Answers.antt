@@ -1,4 +1,3 @@
-use Rattle.paris_phases.specs.Doing.{CanDo}
 use Rattle.paris_phases.proofs.fork.ForkPhasesPhases.apply.Goals as goal
 
 pub invariant_of-self : goal.invariant_of-self

@@ -1,4 +1,4 @@
-use Rattle.std.proofs.Common.{◌≡◌, ◌∙◌, ap, eqb}
+use Rattle.std.proofs.Common.{◌∙◌, ap, eqb}
 use Rattle.paris_code.specs.Memory.{field_number}
 use Rattle.block_store.specs.Stored.{memory_in}
 use Rattle.phase_meaning.proofs.RunBits.{run_number_one}
