@@ -8,7 +8,8 @@ ghost use Rattle.cstar_tree.specs.IsTyped.{IsTyped};
 ghost use Rattle.cstar_words.specs.declared.options.Mode.TheVariants as M;
 ghost use Rattle.paris_code.specs.declared.program.Image.{Image};
 ghost use Rattle.paris_code.specs.Sound.{IsSound};
-ghost use Rattle.paris_phases.specs.Doing.{CanDo, Did};
+ghost use Rattle.paris_phases.specs.Doing.{CanDo, Did, Settled};
+ghost use Rattle.paris_phases.specs.Machines.{AllReady};
 ghost use Rattle.cstar_top.specs.Answers.{status_of};
 ghost use Rattle.cstar_top.specs.Drills.{IsRunLine, PutsDrill, PutsPartOfDrill, drill_line};
 ghost use Rattle.cstar_top.specs.Outcomes.{CanAnswer};
@@ -16,7 +17,6 @@ ghost use Rattle.cstar_top.specs.Outcomes.{CanAnswer};
 use crate::answer::Answer;
 use crate::compile::{NoImage, TypedText, accepted, compile};
 use crate::run::{run_fault, sent};
-use block_store::Store;
 use cstar_base::{Memory, Winner};
 use cstar_io::{Gate, Sink, SureSink, SureSource};
 use drill_text::drill_text;
@@ -24,7 +24,7 @@ use image_check::Sound;
 use itoa::Buffer;
 use paris_code::{Instr, Reply};
 use paris_machine::{End, run};
-use paris_phases::{Crew, ForkPhases};
+use paris_phases::{Crew, ForkPhases, Machine};
 use phase_gate::Phases;
 use std::alloc::Global;
 use std::thread::Threads;
@@ -106,11 +106,15 @@ fn drill_image<R: Threads + Sync, O: Sink, G: Gate + Sync>(
     ensures write_fault { status_of result ≡ 6 → RisesBy (O.faults out.old) (O.faults out.new) }
     ensures count { status_of result ≢ 6 → O.faults out.new ≡ O.faults out.old }
 {
-    let phase = |store: &mut Store, instr: &Instr, args: &[u32], winner: Winner| -> Reply
-        requires { CanDo store.now instr.now args.now }
-        ensures { Did store.entry.now instr.entry.now args.entry.now winner store.exit.now result }
-    { crew.apply(store, instr, args, winner) };
-    let mut phases = match ForkPhases::new(alloc, sound, phase) {
+    let phase = |machine: &mut Machine, instr: &Instr, args: &[u32], winner: Winner| -> Reply
+        requires { CanDo machine.now instr.now args.now }
+        ensures { Did machine.entry.now instr.entry.now args.entry.now winner machine.exit.now result }
+    { crew.apply(machine, instr, args, winner) };
+    let settle = |machine: &mut Machine|
+        requires { AllReady machine.now }
+        ensures { Settled machine.entry.now machine.exit.now }
+    { crew.settle(machine) };
+    let mut phases = match ForkPhases::new(alloc, sound, phase, settle) {
         Ok(phases) => phases,
         Err(_) => return Answer::Memory,
     };

@@ -11,11 +11,11 @@ ghost use Rattle.final_values.specs.Finals.{finals_text};
 ghost use Rattle.paris_code.specs.Listing.{listing};
 ghost use Rattle.paris_code.specs.Shapes.{shapes_of};
 ghost use Rattle.paris_machine.specs.Ends.{output_broke};
-ghost use Rattle.paris_phases.specs.Doing.{CanDo, Did};
+ghost use Rattle.paris_phases.specs.Doing.{CanDo, Did, Settled};
+ghost use Rattle.paris_phases.specs.Machines.{AllReady};
 ghost use Rattle.paris_text.specs.Puts.{Puts};
 
 use crate::answer::Answer;
-use block_store::Store;
 use cstar_base::{RunFault, Winner};
 use cstar_io::{Failed, Gate, Sink, Source};
 use cstar_words::Options;
@@ -24,7 +24,7 @@ use image_check::Sound;
 use itoa::Buffer;
 use paris_code::{Instr, Reply};
 use paris_machine::{End, Outcome, run};
-use paris_phases::{Crew, ForkPhases};
+use paris_phases::{Crew, ForkPhases, Machine};
 use paris_text::print;
 use phase_gate::Phases;
 use std::alloc::Global;
@@ -48,11 +48,15 @@ pub fn run_image<R: Threads + Sync, I: Source, O: Sink, G: Gate + Sync>(
     ensures report { status_of result ≢ 6 → status_of result ≢ 8 → Reports O.agrees out.old out.new (I.left input.old) (I.left input.new) options.now sound.now result }
     ensures part { ReportsPart O.agrees out.old out.new (I.left input.old) (I.left input.new) options.now sound.now }
 {
-    let phase = |store: &mut Store, instr: &Instr, args: &[u32], winner: Winner| -> Reply
-        requires { CanDo store.now instr.now args.now }
-        ensures { Did store.entry.now instr.entry.now args.entry.now winner store.exit.now result }
-    { crew.apply(store, instr, args, winner) };
-    let mut phases = match ForkPhases::new(alloc, sound, phase) {
+    let phase = |machine: &mut Machine, instr: &Instr, args: &[u32], winner: Winner| -> Reply
+        requires { CanDo machine.now instr.now args.now }
+        ensures { Did machine.entry.now instr.entry.now args.entry.now winner machine.exit.now result }
+    { crew.apply(machine, instr, args, winner) };
+    let settle = |machine: &mut Machine|
+        requires { AllReady machine.now }
+        ensures { Settled machine.entry.now machine.exit.now }
+    { crew.settle(machine) };
+    let mut phases = match ForkPhases::new(alloc, sound, phase, settle) {
         Ok(phases) => phases,
         Err(_) => return Answer::Memory,
     };

@@ -1,3 +1,4 @@
 pub mod Doing
 pub mod Families
+pub mod Machines
 pub mod Workers

@@ -1,13 +1,19 @@
 //! The workers that do passes.
 
-ghost use Rattle.std.specs.Prelude.{◌≡◌, ◌≤◌};
-ghost use Rattle.paris_phases.specs.Doing.{CanDo, Did};
+ghost use Rattle.std.specs.Prelude.{◌≡◌, ◌≤◌, true};
+ghost use Rattle.cstar_base.specs.declared.operators.Winner.{Winner};
+ghost use Rattle.instruction_runs.specs.Waiting.{takes};
+ghost use Rattle.paris_code.specs.Memory.{SameBits};
+ghost use Rattle.paris_phases.specs.Doing.{CanDo, CanDoNow, Did, DidNow, Settled};
+ghost use Rattle.paris_phases.specs.Machines.{AllReady, memory_of, sets_of};
 
 use crate::families::{Family, family_of};
-use crate::passes::workers_of;
+use crate::machine::Machine;
+use crate::passes::{workers_of, workers_to_settle};
 use block_store::Store;
 use cstar_base::Winner;
 use cstar_io::Gate;
+use instruction_runs::{Deferred, defer};
 use paris_code::{Instr, Reply};
 use std::alloc::Global;
 use std::thread::Threads;
@@ -39,10 +45,58 @@ impl<'a, R, G> Crew<'a, R, G> {
 }
 
 impl<'a, R: Threads + Sync, G: Gate + Sync> Crew<'a, R, G> {
-    /// Does an instruction on a store, by as many of the workers as pay. `Memory` at a send alone.
-    pub fn apply(&self, store: &mut Store, instr: &Instr, args: &[u32], winner: Winner) -> Reply
-        requires { CanDo store.old instr.now args.now }
-        ensures { Did store.old instr.now args.now winner store.new result }
+    /// Does an instruction on a machine, by as many of the workers as pay; or lets it wait, where it
+    /// answers nothing and rests on each position's own bits. What waits is done first where one comes
+    /// that cannot, or that is of another set, or where no room is left. `Memory` at a send alone.
+    pub fn apply(&self, machine: &mut Machine, instr: &Instr, args: &[u32], winner: Winner) -> Reply
+        requires { CanDo machine.old instr.now args.now }
+        ensures { Did machine.old instr.now args.now winner machine.new result }
+    {
+        match defer(machine.store.plans.as_slice(), instr, args) {
+            Some(deferred) => {
+                self.make_room(machine, &deferred);
+                machine.batch.push(deferred);
+                Reply::Nothing
+            }
+            None => {
+                self.settle(machine);
+                self.do_now(&mut machine.store, instr, args, winner)
+            }
+        }
+    }
+
+    /// Does the instructions that wait, by as many of the workers as pay.
+    pub fn settle(&self, machine: &mut Machine)
+        requires { AllReady machine.old }
+        ensures { Settled machine.old machine.new }
+    {
+        let workers = workers_to_settle(&machine.store, &machine.batch, self.count);
+        instruction_runs::settle(
+            self.rt,
+            &mut machine.store,
+            &mut machine.batch,
+            workers,
+            self.gate,
+        );
+    }
+
+    /// Settles where the instruction cannot wait behind those that do.
+    fn make_room(&self, machine: &mut Machine, deferred: &Deferred)
+        requires { AllReady machine.old }
+        ensures fits { takes machine.new.batch.set machine.new.batch.deferred.items deferred.now ≡ true }
+        ensures ready { AllReady machine.new }
+        ensures shapes { sets_of machine.new ≡ sets_of machine.old }
+        ensures memory { (winner : Winner) → SameBits (sets_of machine.old) (memory_of machine.new winner) (memory_of machine.old winner) }
+    {
+        if !machine.batch.takes(deferred) {
+            self.settle(machine);
+        }
+    }
+
+    /// Does an instruction on a store, by as many of the workers as pay.
+    fn do_now(&self, store: &mut Store, instr: &Instr, args: &[u32], winner: Winner) -> Reply
+        requires { CanDoNow store.old instr.now args.now }
+        ensures { DidNow store.old instr.now args.now winner store.new result }
     {
         let workers = workers_of(store, instr, self.count);
         match family_of(instr) {

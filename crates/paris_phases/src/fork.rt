@@ -2,100 +2,79 @@
 
 ghost use Rattle.std.specs.Prelude.{◌≡◌, ◌==◌, IfOk};
 ghost use Rattle.cstar_base.specs.declared.operators.Winner.{Winner};
-ghost use Rattle.cstar_base.specs.declared.operators.Winner.TheVariants as W;
-ghost use Rattle.block_store.specs.Stored.{HasRoom, IsWhole, memory_in, shape_of_plan, shapes_in};
 ghost use Rattle.paris_code.specs.Memory.{SameBits, fresh_memory};
-ghost use Rattle.paris_code.specs.Shapes.{shape_of, shapes_of};
-ghost use Rattle.paris_code.specs.Sound.{IsShape};
-ghost use Rattle.paris_phases.specs.Doing.{CanDo, Did};
+ghost use Rattle.paris_code.specs.Shapes.{shapes_of};
+ghost use Rattle.paris_phases.specs.Doing.{CanDo, Did, Settled};
+ghost use Rattle.paris_phases.specs.Machines.{AllReady, IsSettled, memory_of, sets_of};
 
-use block_store::{SetPlan, Store};
+use crate::machine::Machine;
 use cstar_base::{Memory, Winner};
 use image_check::Sound;
-use paris_code::{Field, Instr, Reply, ShapeBits};
+use paris_code::{Field, Instr, Reply};
 use phase_gate::Phases;
 use std::alloc::Global;
-use vp_sets::Geometry;
 
 /// The phases over blocks of 512 positions. `phase` does one instruction on them, as
-/// `Crew::apply`.
+/// `Crew::apply`, and `settle` does what waits, as `Crew::settle`.
 #[derive(Drop)]
-pub struct ForkPhases<F> {
-    store: Store,
+pub struct ForkPhases<F, S> {
+    machine: Machine,
     winner: Winner,
     phase: F,
-    ghost whole: { IsWhole store },
-    ghost room: { HasRoom store },
+    settle: S,
 }
 
-/// What the set of a shape is made after.
-fn plan_of(shape: &ShapeBits) -> SetPlan
-    requires { IsShape (shape_of shape.now) }
-    ensures shape { shape_of_plan result ≡ shape_of shape.now }
-    ensures grid { IsShape (shape_of_plan result) }
-{
-    match Geometry::new(shape.extents.as_slice()) {
-        Ok(geometry) => SetPlan {
-            geometry,
-            bits: shape.bits,
-        },
-        Err(_bad) => unreachable!(),
-    }
-}
-
-#[tactic(auto, using(phase_meaning::proofs::FieldLemmas::shape_kept))]
-/// A new store for an image: all fields and test flags 0, all context flags 1.
-fn store_for(alloc: Global, sound: &Sound) -> Result<Store, Memory>
-    ensures shapes { IfOk result (λ store. shapes_in store ≡ shapes_of sound.now) }
-    ensures whole { IfOk result IsWhole }
-    ensures room { IfOk result HasRoom }
-    ensures fresh { IfOk result (λ store. SameBits (shapes_of sound.now) (memory_in store W.High) (fresh_memory (shapes_of sound.now))) }
-{
-    let mut plans = Vec::new(alloc);
-    'shapes: for shape in sound.image().shapes.iter() {
-        plans.push(plan_of(shape))?;
-    }
-    Store::new(alloc, plans)
-}
-
-impl<F: Fn(&mut Store, &Instr, &[u32], Winner) -> Reply> ForkPhases<F> {
+impl<F: Fn(&mut Machine, &Instr, &[u32], Winner) -> Reply, S: Fn(&mut Machine)> ForkPhases<F, S> {
     /// New phases for an image: all fields and test flags 0, all context flags 1, and of colliding
     /// senders the one with the greatest number wins.
-    pub fn new(alloc: Global, sound: &Sound, phase: F) -> Result<ForkPhases<F>, Memory>
+    pub fn new(
+        alloc: Global,
+        sound: &Sound,
+        phase: F,
+        settle: S,
+    ) -> Result<ForkPhases<F, S>, Memory>
         ensures phase { IfOk result (λ p. p.phase ≡ phase) }
-        ensures shapes { IfOk result (λ p. shapes_in p.store ≡ shapes_of sound.now) }
-        ensures fresh { IfOk result (λ p. SameBits (shapes_of sound.now) (memory_in p.store p.winner) (fresh_memory (shapes_of sound.now))) }
+        ensures settle { IfOk result (λ p. p.settle ≡ settle) }
+        ensures ready { IfOk result (λ p. AllReady p.machine) }
+        ensures shapes { IfOk result (λ p. sets_of p.machine ≡ shapes_of sound.now) }
+        ensures fresh { IfOk result (λ p. SameBits (shapes_of sound.now) (memory_of p.machine p.winner) (fresh_memory (shapes_of sound.now))) }
     {
-        let store = match store_for(alloc, sound) {
-            Ok(store) => store,
+        let machine = match Machine::new(alloc, sound) {
+            Ok(machine) => machine,
             Err(Memory) => return Err(Memory),
         };
         Ok(ForkPhases {
-            store,
+            machine,
             winner: Winner::High,
             phase,
+            settle,
         })
     }
 }
 
-impl<F: Fn(&mut Store, &Instr, &[u32], Winner) -> Reply> Phases for ForkPhases<F> {
-    ghost shapes = { λ p. shapes_in p.store };
+impl<F: Fn(&mut Machine, &Instr, &[u32], Winner) -> Reply, S: Fn(&mut Machine)> Phases
+    for ForkPhases<F, S> {
+    ghost shapes = { λ p. sets_of p.machine };
 
-    ghost memory = { λ p. memory_in p.store p.winner };
+    ghost memory = { λ p. memory_of p.machine p.winner };
 
-    ghost able = { λ p. (store : _) (instr : _) (args : _) (w : Winner) → CanDo store.now instr.now args.now
-        → F.pre p.phase store instr args w × ((r : _) (after : _) → F.post p.phase store instr args w r after → Did store.now instr.now args.now w after.now r) };
+    ghost able = { λ p. AllReady p.machine
+        × ((machine : _) (instr : _) (args : _) (w : Winner) → CanDo machine.now instr.now args.now
+        → F.pre p.phase machine instr args w × ((r : _) (after : _) → F.post p.phase machine instr args w r after → Did machine.now instr.now args.now w after.now r))
+        × ((machine : _) → AllReady machine.now → S.pre p.settle machine × ((r : _) (after : _) → S.post p.settle machine r after → Settled machine.now after.now)) };
 
-    ghost settled = { λ _. Unit {0} };
+    ghost settled = { λ p. IsSettled p.machine };
 
     fn apply(&mut self, instr: &Instr, args: &[u32]) -> Reply {
-        (self.phase)(&mut self.store, instr, args, self.winner)
+        (self.phase)(&mut self.machine, instr, args, self.winner)
     }
 
-    fn settle(&mut self) {}
+    fn settle(&mut self) {
+        (self.settle)(&mut self.machine);
+    }
 
     fn read(&self, field: Field, position: u32) -> u32 {
-        self.store.read(field, position)
+        self.machine.store.read(field, position)
     }
 
     fn bit(&self, set: u16, index: u32, position: u32) -> bool {
@@ -104,7 +83,7 @@ impl<F: Fn(&mut Store, &Instr, &[u32], Winner) -> Reply> Phases for ForkPhases<F
             offset: index,
             len: 1,
         };
-        self.store.read(run, position) == 1
+        self.machine.store.read(run, position) == 1
     }
 
     fn set_bit(&mut self, set: u16, index: u32, position: u32, b: bool) {
@@ -113,7 +92,7 @@ impl<F: Fn(&mut Store, &Instr, &[u32], Winner) -> Reply> Phases for ForkPhases<F
             offset: index,
             len: 1,
         };
-        self.store.write(run, position, u32::from(b));
+        self.machine.store.write(run, position, u32::from(b));
     }
 
     fn choose(&mut self, w: Winner) {

@@ -4,9 +4,11 @@
 mod crew;
 mod families;
 mod fork;
+mod machine;
 mod passes;
 mod workers;
 
 pub use crew::Crew;
 pub use fork::ForkPhases;
+pub use machine::Machine;
 pub use workers::workers_for;

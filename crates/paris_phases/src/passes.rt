@@ -4,23 +4,29 @@ ghost use Rattle.std.specs.Prelude.{◌≤◌};
 
 use crate::workers::workers_for;
 use block_store::Store;
-use paris_code::{Instr, Operation};
+use cstar_base::Direction;
+use instruction_runs::Batch;
+use paris_code::{Instr, Konst, Operation, Reduction};
 use phase_elements::checked_set;
 
 // How long a block keeps one worker, in nanoseconds.
 
 /// A bit of each position, a plane at a time.
 const PLANE_NS: u32 = 8;
+/// The same from a neighbour, a window of lanes at a time.
+const NEWS_NS: u32 = 20;
 /// A number of each position, one after the other.
 const LANES_NS: u32 = 4_000;
 /// A check of each position.
 const CHECK_NS: u32 = 10_000;
-/// A get or a NEWS shift: numbers are lifted and fetched.
+/// A get: numbers are lifted and fetched.
 const FETCH_NS: u32 = 10_000;
-/// A reduction: numbers are lifted and folded.
+/// A reduction to the least or the greatest: numbers are lifted and folded.
 const FOLD_NS: u32 = 4_000;
-/// A scan: numbers are lifted, folded twice and fetched.
-const SCAN_NS: u32 = 14_000;
+/// A scan upward: numbers are lifted, folded and put in their places.
+const SCAN_NS: u32 = 8_000;
+/// A scan downward: numbers are fetched along their lines besides.
+const DOWN_SCAN_NS: u32 = 200_000;
 /// A send: messages are filled in, combined and written back.
 const SEND_NS: u32 = 20_000;
 
@@ -44,27 +50,59 @@ fn lanes(set: u16, block_ns: u32) -> Pass {
     Pass { set, block_ns }
 }
 
-/// The pass of an operation into a field of so many bits.
+/// The pass of an operation on two fields into one of so many bits.
 fn operation(op: Operation, set: u16, len: u8) -> Pass {
     match op {
         Operation::SAdd
         | Operation::SSubtract
         | Operation::Logand
         | Operation::Logior
-        | Operation::Logxor => planes(set, len),
+        | Operation::Logxor
+        | Operation::SMin
+        | Operation::UMin
+        | Operation::SMax
+        | Operation::UMax => planes(set, len),
         Operation::SMultiply
         | Operation::STruncate
         | Operation::UTruncate
         | Operation::SRem
         | Operation::URem
         | Operation::SMod
-        | Operation::SMin
-        | Operation::UMin
-        | Operation::SMax
-        | Operation::UMax
         | Operation::UShiftLeft
         | Operation::SShiftRight
         | Operation::UShiftRight => lanes(set, LANES_NS),
+    }
+}
+
+/// The same with a constant: shifts are moves of planes then, and so is most with a power of 2.
+fn operation_with(op: Operation, set: u16, len: u8, constant: Konst) -> Pass {
+    match (op, constant) {
+        (Operation::UShiftLeft | Operation::SShiftRight | Operation::UShiftRight, _) => {
+            planes(set, len)
+        }
+        (_, Konst::Imm(n)) if n.is_power_of_two() => planes(set, len),
+        (op, _) => operation(op, set, len),
+    }
+}
+
+/// The pass of a reduction of a field of so many bits: sums and bitwise ones count the ones of each
+/// plane.
+fn reduction(combiner: Reduction, set: u16, len: u8) -> Pass {
+    match combiner {
+        Reduction::SAdd | Reduction::Logand | Reduction::Logior | Reduction::Logxor => {
+            planes(set, len)
+        }
+        Reduction::SMin | Reduction::UMin | Reduction::SMax | Reduction::UMax => {
+            lanes(set, FOLD_NS)
+        }
+    }
+}
+
+/// The passes of a scan, as one.
+fn scan(direction: Direction, set: u16) -> Pass {
+    match direction {
+        Direction::Upward => lanes(set, SCAN_NS),
+        Direction::Downward => lanes(set, DOWN_SCAN_NS),
     }
 }
 
@@ -86,20 +124,33 @@ fn pass_of(instr: &Instr) -> Option<Pass> {
         Instr::SetContext { set }
         | Instr::LogandContextWithTest { set }
         | Instr::LogandcContextWithTest { set } => planes(*set, 1),
-        Instr::Operate { op, dest, .. } | Instr::OperateConstant { op, dest, .. } => {
-            operation(*op, dest.set, dest.len)
-        }
+        Instr::Operate { op, dest, .. } => operation(*op, dest.set, dest.len),
+        Instr::OperateConstant {
+            op,
+            dest,
+            right,
+            ..
+        } => operation_with(*op, dest.set, dest.len, *right),
         Instr::MyNewsCoordinate { dest, .. } | Instr::MakeAddress { dest, .. } => {
             lanes(dest.set, LANES_NS)
         }
         Instr::CheckTarget { .. } | Instr::CheckGrid { .. } | Instr::CheckDivisor { .. } => {
             lanes(checked_set(instr), CHECK_NS)
         }
-        Instr::GetFromNews { dest, .. }
-        | Instr::GetFromNewsAlways { dest, .. }
-        | Instr::Get { dest, .. } => lanes(dest.set, FETCH_NS),
-        Instr::Global { source, .. } => lanes(source.set, FOLD_NS),
-        Instr::Scan { dest, .. } => lanes(dest.set, SCAN_NS),
+        Instr::GetFromNews { dest, .. } | Instr::GetFromNewsAlways { dest, .. } => {
+            lanes(dest.set, NEWS_NS * u32::from(dest.len))
+        }
+        Instr::Get { dest, .. } => lanes(dest.set, FETCH_NS),
+        Instr::Global {
+            combiner,
+            source,
+            ..
+        } => reduction(*combiner, source.set, source.len),
+        Instr::Scan {
+            dest,
+            direction,
+            ..
+        } => scan(*direction, dest.set),
         Instr::SendWithOverwrite { source, .. } | Instr::SendWithCombiner { source, .. } => {
             lanes(source.set, SEND_NS)
         }
@@ -107,6 +158,17 @@ fn pass_of(instr: &Instr) -> Option<Pass> {
         _ => return None,
     };
     Some(pass)
+}
+
+/// How many workers to give a pass.
+fn workers_over(store: &Store, pass: Pass, given: u32) -> u32
+    requires { (1 ≤ given) × (given ≤ 64) }
+    ensures { (1 ≤ result) × (result ≤ given) }
+{
+    let Some(plan) = store.plans.get(usize::from(pass.set)) else {
+        return 1;
+    };
+    workers_for(pass.block_ns, plan.geometry.block_count(), given)
 }
 
 /// How many workers to give an instruction: one where it is about one position.
@@ -117,8 +179,19 @@ pub(crate) fn workers_of(store: &Store, instr: &Instr, given: u32) -> u32
     let Some(pass) = pass_of(instr) else {
         return 1;
     };
-    let Some(plan) = store.plans.get(usize::from(pass.set)) else {
-        return 1;
-    };
-    workers_for(pass.block_ns, plan.geometry.block_count(), given)
+    workers_over(store, pass, given)
+}
+
+/// How many workers to give the one pass of all that wait.
+pub(crate) fn workers_to_settle(store: &Store, batch: &Batch, given: u32) -> u32
+    requires { (1 ≤ given) × (given ≤ 64) }
+    ensures { (1 ≤ result) × (result ≤ given) }
+{
+    let mut block_ns: u32 = 0;
+    for deferred in batch.as_slice() {
+        if let Some(pass) = pass_of(deferred.instr()) {
+            block_ns = block_ns.saturating_add(pass.block_ns);
+        }
+    }
+    workers_over(store, lanes(batch.set(), block_ns), given)
 }

@@ -5,7 +5,7 @@ use Rattle.paris_code.specs.Memory.{SameBits}
 use Rattle.paris_code.specs.Shapes.{SetShape, shapes_of}
 use Rattle.paris_machine.specs.declared.outcome.End.{End}
 use Rattle.paris_machine.specs.Ends.{output_broke}
-use Rattle.block_store.specs.Stored.{memory_in}
+use Rattle.paris_phases.specs.Machines.{memory_of}
 use Rattle.cstar_top.specs.Answers.{status_of}
 use Rattle.cstar_top.specs.Courses.{Course, answer_to_end, closing_text, where_asked}
 use Rattle.cstar_top.proofs.Courses.{chosen_new, nothing_behind, run_part, run_reported, settled_course, unbroken}
@@ -19,12 +19,12 @@ returns-clause-report g c other more =
     elim (cases_lt 0 ran.steps) [
       | inl some ↦ let m = c.run-outcome.ensures.meaning some in
           let facts = m.1.1.1 in
-          let course : Course = record { end = ran.end; steps = ran.steps; left = ran.turns_left; taken = m.1.1.0; over = m.0; printed = m.1.1.1.0; memory = memory_in c.settle.new.self.store c.settle.new.self.winner } in
-          let chosen = subst (λ (shapes : List SetShape). SameBits shapes (memory_in c.choose.new.self.store c.choose.new.self.winner) (record { bit = (memory_in c.in-Ok.phases.store c.in-Ok.phases.winner).bit; winner = options.winner })) c.in-Ok.ensures.shapes c.choose.ensures.memory in
-          let same = subst (λ (shapes : List SetShape). SameBits shapes (memory_in c.settle.new.self.store c.settle.new.self.winner) (memory_in c.run-outcome.new.p.store c.run-outcome.new.p.winner)) c.run-outcome.ensures.shapes c.settle.ensures.memory in
-          let new = chosen_new (shapes_of image) (memory_in c.choose.new.self.store c.choose.new.self.winner) (memory_in c.in-Ok.phases.store c.in-Ok.phases.winner) options.winner chosen c.in-Ok.ensures.fresh in
+          let course : Course = record { end = ran.end; steps = ran.steps; left = ran.turns_left; taken = m.1.1.0; over = m.0; printed = m.1.1.1.0; memory = memory_of c.settle.new.self.machine c.settle.new.self.winner } in
+          let chosen = subst (λ (shapes : List SetShape). SameBits shapes (memory_of c.choose.new.self.machine c.choose.new.self.winner) (record { bit = (memory_of c.in-Ok.phases.machine c.in-Ok.phases.winner).bit; winner = options.winner })) c.in-Ok.ensures.shapes c.choose.ensures.memory in
+          let same = subst (λ (shapes : List SetShape). SameBits shapes (memory_of c.settle.new.self.machine c.settle.new.self.winner) (memory_of c.run-outcome.new.p.machine c.run-outcome.new.p.winner)) c.run-outcome.ensures.shapes c.settle.ensures.memory in
+          let new = chosen_new (shapes_of image) (memory_of c.choose.new.self.machine c.choose.new.self.winner) (memory_of c.in-Ok.phases.machine c.in-Ok.phases.winner) options.winner chosen c.in-Ok.ensures.fresh in
           run_reported g.O.Sink.agrees c.args.out.now c.put_listing.new.out c.run-outcome.new.out c.finish.new.out (g.I.Source.left c.args.input.now) (g.I.Source.left c.run-outcome.new.input) options image course c.finish.result
-          (settled_course image options.winner options.turns (memory_in c.choose.new.self.store c.choose.new.self.winner) (memory_in c.run-outcome.new.p.store c.run-outcome.new.p.winner) m.1.0 course new facts.4 same)
+          (settled_course image options.winner options.turns (memory_of c.choose.new.self.machine c.choose.new.self.winner) (memory_of c.run-outcome.new.p.machine c.run-outcome.new.p.winner) m.1.0 course new facts.4 same)
           (facts.2, facts.1)
           c.in-Ok-put_listing.ensures.0
           facts.3
@@ -43,12 +43,12 @@ returns-clause-part g c =
     elim (cases_lt 0 ran.steps) [
       | inl some ↦ let m = c.run-outcome.ensures.meaning some in
           let facts = m.1.1.1 in
-          let course : Course = record { end = ran.end; steps = ran.steps; left = ran.turns_left; taken = m.1.1.0; over = m.0; printed = m.1.1.1.0; memory = memory_in c.settle.new.self.store c.settle.new.self.winner } in
-          let chosen = subst (λ (shapes : List SetShape). SameBits shapes (memory_in c.choose.new.self.store c.choose.new.self.winner) (record { bit = (memory_in c.in-Ok.phases.store c.in-Ok.phases.winner).bit; winner = options.winner })) c.in-Ok.ensures.shapes c.choose.ensures.memory in
-          let same = subst (λ (shapes : List SetShape). SameBits shapes (memory_in c.settle.new.self.store c.settle.new.self.winner) (memory_in c.run-outcome.new.p.store c.run-outcome.new.p.winner)) c.run-outcome.ensures.shapes c.settle.ensures.memory in
-          let new = chosen_new (shapes_of image) (memory_in c.choose.new.self.store c.choose.new.self.winner) (memory_in c.in-Ok.phases.store c.in-Ok.phases.winner) options.winner chosen c.in-Ok.ensures.fresh in
+          let course : Course = record { end = ran.end; steps = ran.steps; left = ran.turns_left; taken = m.1.1.0; over = m.0; printed = m.1.1.1.0; memory = memory_of c.settle.new.self.machine c.settle.new.self.winner } in
+          let chosen = subst (λ (shapes : List SetShape). SameBits shapes (memory_of c.choose.new.self.machine c.choose.new.self.winner) (record { bit = (memory_of c.in-Ok.phases.machine c.in-Ok.phases.winner).bit; winner = options.winner })) c.in-Ok.ensures.shapes c.choose.ensures.memory in
+          let same = subst (λ (shapes : List SetShape). SameBits shapes (memory_of c.settle.new.self.machine c.settle.new.self.winner) (memory_of c.run-outcome.new.p.machine c.run-outcome.new.p.winner)) c.run-outcome.ensures.shapes c.settle.ensures.memory in
+          let new = chosen_new (shapes_of image) (memory_of c.choose.new.self.machine c.choose.new.self.winner) (memory_of c.in-Ok.phases.machine c.in-Ok.phases.winner) options.winner chosen c.in-Ok.ensures.fresh in
           run_part g.O.Sink.agrees c.args.out.now c.put_listing.new.out c.run-outcome.new.out c.finish.new.out (g.I.Source.left c.args.input.now) (g.I.Source.left c.run-outcome.new.input) options image course
-          (settled_course image options.winner options.turns (memory_in c.choose.new.self.store c.choose.new.self.winner) (memory_in c.run-outcome.new.p.store c.run-outcome.new.p.winner) m.1.0 course new facts.4 same)
+          (settled_course image options.winner options.turns (memory_of c.choose.new.self.machine c.choose.new.self.winner) (memory_of c.run-outcome.new.p.machine c.run-outcome.new.p.winner) m.1.0 course new facts.4 same)
           (facts.2, facts.1)
           c.in-Ok-put_listing.ensures.0
           facts.3
@@ -57,6 +57,6 @@ returns-clause-part g c =
       | inr none ↦ let zero : ran.steps ≡ 0 = omega arith in
           let nothing = c.run-outcome.ensures.none zero in
           let listed = where_asked options.listing (listing image) in
-          inl (nothing_behind g.O.Sink.agrees c.args.out.now c.run-outcome.new.out c.finish.new.out ran.end listed (closing_text options image ran.steps (memory_in c.settle.new.self.store c.settle.new.self.winner)) nothing.0
+          inl (nothing_behind g.O.Sink.agrees c.args.out.now c.run-outcome.new.out c.finish.new.out ran.end listed (closing_text options image ran.steps (memory_of c.settle.new.self.machine c.settle.new.self.winner)) nothing.0
           (rw nothing.4 c.in-Ok-put_listing.ensures.0) c.finish.ensures.part)
     ]

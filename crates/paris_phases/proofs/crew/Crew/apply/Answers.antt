@@ -1,37 +1,48 @@
+use Rattle.std.proofs.Common.{List, map, sym, ◌∙◌, subst}
+use Rattle.std.proofs.lemmas.Grind.{merely}
+use Rattle.block_store.specs.declared.set.SetPlan.{SetPlan}
+use Rattle.block_store.specs.Stored.{memory_in, shape_of_plan, shapes_in}
+use Rattle.instruction_runs.specs.Waiting.{IsDeferral, IsReady}
+use Rattle.paris_phases.specs.Machines.{memory_of, sets_of}
+use Rattle.paris_phases.proofs.Waits.{done_settled, none_ready, nothing_fits, waits_more}
 use Rattle.paris_phases.proofs.crew.Crew.apply.Goals as goal
 
-pub returns-in-Elementwise : goal.returns-in-Elementwise
-returns-in-Elementwise g c = record {
-  whole = c.run.ensures.whole;
-  room = c.run.ensures.room;
-  shapes = c.run.ensures.shapes;
-  fits = c.run.ensures.fits;
-  meaning = c.run.ensures.meaning c.args.winner;
-}
+pub invariant_of-machine : goal.invariant_of-machine
+invariant_of-machine g c =
+    let settled = c.make_room.new.machine in
+    let is : IsDeferral (sets_of c.args.machine.now) c.args.instr.now c.args.args.now c.in-Some.deferred =
+    subst (λ (ps : List SetPlan). IsDeferral (map shape_of_plan ps) c.args.instr.now c.args.args.now c.in-Some.deferred) c.as_slice.ensures.value c.in-Some.ensures in
+    record {
+      whole = settled.whole;
+      room = settled.room;
+      waiting = merely (c.push.ensures.ready (sets_of settled) c.make_room.ensures.ready (subst (λ shapes. IsReady shapes c.in-Some.deferred) (sym c.make_room.ensures.shapes) is.ready));
+    }
 
-pub returns-in-Fetching : goal.returns-in-Fetching
-returns-in-Fetching g c = record {
-  whole = c.run-in-Fetching.ensures.whole;
-  room = c.run-in-Fetching.ensures.room;
-  shapes = c.run-in-Fetching.ensures.shapes;
-  fits = c.run-in-Fetching.ensures.fits;
-  meaning = c.run-in-Fetching.ensures.meaning c.args.winner;
-}
+pub returns-in-Some : goal.returns-in-Some
+returns-in-Some g c =
+    let old = c.args.machine.now in
+    let settled = c.make_room.new.machine in
+    let w = c.args.winner in
+    let is : IsDeferral (sets_of old) c.args.instr.now c.args.args.now c.in-Some.deferred =
+    subst (λ (ps : List SetPlan). IsDeferral (map shape_of_plan ps) c.args.instr.now c.args.args.now c.in-Some.deferred) c.as_slice.ensures.value c.in-Some.ensures in
+    record {
+      ready = c.push.ensures.ready (sets_of settled) c.make_room.ensures.ready (subst (λ shapes. IsReady shapes c.in-Some.deferred) (sym c.make_room.ensures.shapes) is.ready);
+      shapes = c.make_room.ensures.shapes;
+      fits = nothing_fits (sets_of old) c.args.instr.now c.args.args.now (memory_of old w) c.requires.can is.waits;
+      meaning = waits_more (sets_of old) (sets_of settled) c.args.instr.now c.args.args.now c.in-Some.deferred (memory_of settled w) (memory_of old w) _
+          c.make_room.ensures.shapes old.whole.grids c.requires.can is (c.make_room.ensures.memory w) (c.push.ensures.memory (sets_of settled) (memory_in settled.store w));
+    }
 
-pub returns-in-Folding : goal.returns-in-Folding
-returns-in-Folding g c = record {
-  whole = c.run-in-Folding.ensures.whole;
-  room = c.run-in-Folding.ensures.room;
-  shapes = c.run-in-Folding.ensures.shapes;
-  fits = c.run-in-Folding.ensures.fits;
-  meaning = c.run-in-Folding.ensures.meaning c.args.winner;
-}
-
-pub returns-in-Sending : goal.returns-in-Sending
-returns-in-Sending g c = record {
-  whole = c.run-in-Sending.ensures.whole;
-  room = c.run-in-Sending.ensures.room;
-  shapes = c.run-in-Sending.ensures.shapes;
-  fits = c.run-in-Sending.ensures.fits;
-  meaning = c.run-in-Sending.ensures.meaning c.args.args.now;
-}
+pub returns-in-None : goal.returns-in-None
+returns-in-None g c =
+    let old = c.args.machine.now in
+    let settled = c.settle.new.machine in
+    let w = c.args.winner in
+    let did = c.do_now.ensures in
+    record {
+      ready = none_ready (shapes_in c.do_now.new.store) settled.batch.set settled.batch.deferred.items c.settle.ensures.settled;
+      shapes = did.shapes ∙ c.settle.ensures.shapes;
+      fits = did.fits;
+      meaning = done_settled (sets_of old) (sets_of settled) (shapes_in c.do_now.new.store) c.args.instr.now c.args.args.now settled.batch.deferred.items (memory_of old w) (memory_in settled.store w) (memory_in c.do_now.new.store w) c.do_now.result
+          c.settle.ensures.settled c.settle.ensures.shapes old.whole.grids c.requires.can (c.settle.ensures.memory w) did.meaning;
+    }

@@ -1,0 +1,112 @@
+-- A machine means the same whether its instructions wait or are done.
+use Rattle.std.proofs.Common.{◌≡◌, ℕ, ◌<◌, ◌+◌, true, List, [], ◌∷◌, All, refl, sym, ◌∙◌, ap, subst, inl, inr, arith}
+use Rattle.std.proofs.lemmas.Bool.{cases_eq}
+use Rattle.std.proofs.lemmas.Grind.{not_there}
+use Rattle.cstar_base.specs.declared.operators.Winner.{Winner}
+use Rattle.cstar_base.specs.declared.operators.Winner.TheVariants as W
+use Rattle.paris_code.specs.declared.instr.Instr.{Instr}
+use Rattle.paris_code.specs.declared.program.Reply.{Reply}
+use Rattle.paris_code.specs.declared.program.Reply.TheVariants as R
+use Rattle.paris_code.specs.Meaning.{after, Means}
+use Rattle.paris_code.specs.Memory.{BitMemory, SameBits}
+use Rattle.paris_code.specs.Shapes.{SetShape, bits_at}
+use Rattle.paris_code.specs.Sound.{IsShape}
+use Rattle.phase_meaning.specs.Apply.{CanApply, ReplyFits}
+use Rattle.phase_meaning.proofs.Alike.{alike}
+use Rattle.phase_meaning.proofs.Replies.{plain}
+use Rattle.instruction_runs.specs.declared.deferring.Deferred.{Deferred}
+use Rattle.instruction_runs.specs.Waiting.{can_wait, done_all, takes, AreReady, IsDeferral}
+use Rattle.instruction_runs.proofs.Composed.{all_agree, others_stay, winner_stays}
+use Rattle.instruction_runs.proofs.Deferrals.{stands_for}
+
+-- the same bits, by way of a third memory
+pub by_way : (shapes : List SetShape) (l m n : BitMemory) → SameBits shapes l m → SameBits shapes m n → SameBits shapes l n
+by_way shapes l m n first then = record {
+  bits = λ s p i a b c. first.bits s p i a b c ∙ then.bits s p i a b c;
+  winner = first.winner ∙ then.winner;
+}
+
+-- from the same bits an instruction means the same
+pub means_from : (shapes : List SetShape) (instr : Instr) (args : List ℕ) (m n new : BitMemory) (reply : Reply) → All IsShape shapes → CanApply shapes instr args
+    → SameBits shapes m n → Means shapes instr args m new reply → Means shapes instr args n new reply
+means_from shapes instr args m n new R.Memory grids can same means = by_way shapes new m n means same
+means_from shapes instr args m n new R.Nothing grids can same means =
+    let both = alike shapes m n instr args grids can same in
+    (means.0 ∙ both.0, by_way shapes new (after shapes instr args m) (after shapes instr args n) means.1 both.1)
+means_from shapes instr args m n new (R.Value v) grids can same means =
+    let both = alike shapes m n instr args grids can same in
+    (means.0 ∙ both.0, by_way shapes new (after shapes instr args m) (after shapes instr args n) means.1 both.1)
+means_from shapes instr args m n new (R.Bad position) grids can same means =
+    let both = alike shapes m n instr args grids can same in
+    (means.0 ∙ both.0, by_way shapes new (after shapes instr args m) (after shapes instr args n) means.1 both.1)
+
+-- none that wait are ready
+pub none_ready : (shapes : List SetShape) (set : ℕ) (ds : List Deferred) → ds ≡ [] → AreReady shapes set ds
+none_ready shapes set [] e = λ k d b. absurd (omega (arith, b))
+none_ready shapes set (d ∷ ds) e = cc
+
+-- and any instruction can wait behind none
+pub none_take : (set : ℕ) (ds : List Deferred) (d : Deferred) → ds ≡ [] → takes set ds d ≡ true
+none_take set [] d e = refl
+none_take set (x ∷ ds) d e = cc
+
+-- which sender is to win makes no difference to those that wait
+pub chosen : (shapes : List SetShape) (set : ℕ) (ds : List Deferred) (m n : BitMemory) → AreReady shapes set ds → ((s p i : ℕ) → m.bit s p i ≡ n.bit s p i)
+    → SameBits shapes (done_all shapes ds n) (record { bit = (done_all shapes ds m).bit; winner = n.winner })
+chosen shapes set ds m n ready same = record {
+  bits = λ s p i a b c. elim (cases_eq s set) [
+    | inr apart ↦ others_stay shapes set ds n ready s p i apart ∙ sym (same s p i) ∙ sym (others_stay shapes set ds m ready s p i apart)
+    | inl e ↦
+        ap (λ j. (done_all shapes ds n).bit j p i) e
+        ∙ all_agree shapes set p ds n m ready (λ k _. sym (same set p k)) i (subst (λ j. i < bits_at shapes j + 2) e c)
+        ∙ ap (λ j. (done_all shapes ds m).bit j p i) (sym e)
+  ];
+  winner = winner_stays shapes set ds n ready;
+}
+
+winner_is : (v w : Winner) → ¬ (¬ (v ≡ w)) → v ≡ w
+winner_is W.High W.High h = refl
+winner_is W.Low W.Low h = refl
+winner_is W.High W.Low h = absurd (h (λ e. cc))
+winner_is W.Low W.High h = absurd (h (λ e. cc))
+
+bit_is : (x y : ℕ) → ¬ (¬ (x ≡ y)) → x ≡ y
+bit_is x y h = elim (cases_eq x y) [
+  | inl e ↦ e
+  | inr n ↦ absurd (h n)
+]
+
+-- and for that it is enough that they are ready merely
+pub chosen_merely : (shapes : List SetShape) (set : ℕ) (ds : List Deferred) (m n : BitMemory) → ∥ AreReady shapes set ds ∥₁ → ((s p i : ℕ) → m.bit s p i ≡ n.bit s p i)
+    → SameBits shapes (done_all shapes ds n) (record { bit = (done_all shapes ds m).bit; winner = n.winner })
+chosen_merely shapes set ds m n ready same = record {
+  bits = λ s p i a b c. bit_is _ _ (λ no. not_there ready (λ is. no ((chosen shapes set ds m n is same).bits s p i a b c)));
+  winner = winner_is _ _ (λ no. not_there ready (λ is. no (chosen shapes set ds m n is same).winner));
+}
+
+-- where none wait, the memory is the store's
+pub idle : (shapes : List SetShape) (ds : List Deferred) (m : BitMemory) → ds ≡ [] → done_all shapes ds m ≡ m
+idle shapes [] m e = refl
+idle shapes (d ∷ ds) m e = cc
+
+pub settled_all : (shapes now : List SetShape) (ds : List Deferred) (m n : BitMemory) → ds ≡ [] → SameBits shapes m n → SameBits shapes (done_all now ds m) n
+settled_all shapes now [] m n e same = same
+settled_all shapes now (d ∷ ds) m n e same = cc
+
+-- one more instruction waits
+pub waits_more : (shapes now : List SetShape) (instr : Instr) (args : List ℕ) (d : Deferred) (m n new : BitMemory) → now ≡ shapes → All IsShape shapes → CanApply shapes instr args
+    → IsDeferral shapes instr args d → SameBits shapes m n → new ≡ after now d.instr [] m → Means shapes instr args n new R.Nothing
+waits_more shapes now instr args d m n new kept grids can is same e =
+    means_from shapes instr args m n new R.Nothing grids can same
+    (subst (λ (x : BitMemory). Means shapes instr args m x R.Nothing) (sym (e ∙ ap (λ s. after s d.instr [] m) kept)) (is.means m))
+
+-- it answers nothing
+pub nothing_fits : (shapes : List SetShape) (instr : Instr) (args : List ℕ) (m : BitMemory) → CanApply shapes instr args → can_wait instr ≡ true → ReplyFits instr R.Nothing
+nothing_fits shapes instr args m can waits = (plain shapes instr args m (stands_for shapes instr args can waits).was).1
+
+-- an instruction is done where none wait any more
+pub done_settled : (shapes now later : List SetShape) (instr : Instr) (args : List ℕ) (ds : List Deferred) (before settled new : BitMemory) (reply : Reply) → ds ≡ [] → now ≡ shapes
+    → All IsShape shapes → CanApply shapes instr args → SameBits shapes (done_all now ds settled) before → Means now instr args settled new reply → Means shapes instr args before (done_all later ds new) reply
+done_settled shapes now later instr args [] before settled new reply e kept grids can same means =
+    means_from shapes instr args settled before new reply grids can same (subst (λ s. Means s instr args settled new reply) kept means)
+done_settled shapes now later instr args (d ∷ ds) before settled new reply e kept grids can same means = cc
