@@ -1,5 +1,5 @@
 -- A slot that is filled by the planes of its sender's block is that of the sender.
-use Rattle.std.proofs.Common.{◌≡◌, ℕ, ◌+◌, ◌*◌, ◌/◌, ◌%◌, ◌<◌, ◌≤◌, ◌-◌, Bool, true, false, ◌&&◌, eqb, ltb, List, [], length, get_or, Option, Some, None, refl, sym, ◌∙◌, ap, subst, inl, inr, arith}
+use Rattle.std.proofs.Common.{◌≡◌, ℕ, ◌+◌, ◌*◌, ◌/◌, ◌%◌, ◌<◌, ◌≤◌, ◌-◌, Bool, eqb, List, [], length, get_or, Option, Some, None, refl, sym, ◌∙◌, ap, subst, inl, inr, arith}
 use Rattle.std.proofs.Math.ListN.{set}
 use Rattle.std.proofs.lemmas.Bool.{cases_eq}
 use Rattle.std.proofs.lemmas.List.{get_or-map, get_or-set_same, get_or-set_other}
@@ -10,7 +10,7 @@ use Rattle.bit_planes.specs.Bits.{bit}
 use Rattle.bit_planes.specs.Planes.{plane_at, number}
 use Rattle.combine_core.specs.declared.message.Message.{Message}
 use Rattle.paris_code.specs.declared.operands.Field.{Field}
-use Rattle.paris_code.specs.Memory.{field_number, is_active, processors}
+use Rattle.paris_code.specs.Memory.{field_number, is_active}
 use Rattle.paris_code.specs.Shapes.{SetShape, bits_at}
 use Rattle.block_store.specs.declared.set.BlockSet.{BlockSet}
 use Rattle.block_store.specs.Planes.{planes_in, planes_at, block_bit}
@@ -18,7 +18,7 @@ use Rattle.block_store.specs.Stored.{blocks_at, stored}
 use Rattle.block_store.proofs.Fetches.{field_there}
 use Rattle.combine_send.specs.declared.senders.Senders.{Senders}
 use Rattle.combine_send.specs.Senders.{Sends, IsSlotOf}
-use Rattle.combine_send.specs.Slots.{IsSlot, AreSlotsFrom}
+use Rattle.combine_send.specs.Slots.{IsSlot}
 
 sends_same : (a b : Bool) (s r t u v w count : ℕ) (slot : Option Message) → a ≡ b → s ≡ r → t ≡ u → v ≡ w → Sends a s t v count slot → Sends b r u w count slot
 sends_same a b s r t u v w count slot ab sr tu vw is =

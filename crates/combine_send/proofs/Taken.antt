@@ -1,11 +1,9 @@
 -- The blocks that have taken their words are those of the write.
-use Rattle.std.proofs.Common.{◌≡◌, ℕ, ◌+◌, ◌*◌, ◌/◌, ◌%◌, ◌^◌, ◌<◌, ◌≤◌, true, eqb, List, [], length, get_or, sym, ◌∙◌, ap, arith}
+use Rattle.std.proofs.Common.{◌≡◌, ℕ, ◌+◌, ◌*◌, ◌/◌, ◌%◌, ◌^◌, List, ◌∙◌, ap, arith}
 use Rattle.std.specs.Prelude.{slice_index}
-use Rattle.std.proofs.lemmas.List.{get_or-map}
 use Rattle.vp_sets.specs.Positions.{position_count}
 use Rattle.cstar_base.specs.Numbers.{converted}
 use Rattle.bit_planes.specs.declared.plane.Plane.{Plane}
-use Rattle.bit_planes.specs.declared.block.Block.{Block}
 use Rattle.bit_planes.specs.Bits.{bit}
 use Rattle.bit_planes.specs.Planes.{plane_at}
 use Rattle.paris_code.specs.declared.operands.Field.{Field}
@@ -14,7 +12,6 @@ use Rattle.paris_code.specs.Memory.{processors}
 use Rattle.paris_code.specs.Sending.{word_kind}
 use Rattle.paris_code.specs.Shapes.{SetShape, bits_at, extents_at}
 use Rattle.phase_meaning.proofs.Widths.{cut_cut}
-use Rattle.block_store.specs.Planes.{planes_in}
 use Rattle.block_store.specs.Phases.{WrittenInBlock}
 use Rattle.block_store.proofs.AllBlocks.{in_block}
 use Rattle.combine_send.specs.declared.send.Send.{Send}

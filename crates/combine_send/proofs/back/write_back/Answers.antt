@@ -1,4 +1,4 @@
-use Rattle.std.proofs.Common.{◌≡◌, ℕ, ◌<◌, ◌≤◌, refl, List, length, arith}
+use Rattle.std.proofs.Common.{ℕ, ◌<◌, refl, length, arith}
 use Rattle.std.specs.Prelude.{slice_index}
 use Rattle.std.proofs.lemmas.List.{length-map}
 use Rattle.cstar_base.specs.Numbers.{converted}

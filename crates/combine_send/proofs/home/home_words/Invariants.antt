@@ -1,4 +1,4 @@
-use Rattle.std.proofs.Common.{◌≡◌, ℕ, ◌+◌, ◌*◌, ◌<◌, ◌≤◌, min, length}
+use Rattle.std.proofs.Common.{◌≡◌, ℕ, ◌*◌, ◌<◌, min, length}
 use Rattle.std.specs.Prelude.{slice_index}
 use Rattle.vp_sets.specs.Positions.{position_count}
 use Rattle.cstar_base.specs.declared.operators.Winner.{Winner}

@@ -1,4 +1,4 @@
-use Rattle.std.proofs.Common.{◌≡◌, sym, ◌∙◌, slice_index}
+use Rattle.std.proofs.Common.{sym, ◌∙◌, slice_index}
 use Rattle.block_store.specs.Stored.{shapes_in, memory_in}
 use Rattle.combine_send.specs.Boards.{plan_of}
 use Rattle.combine_send.proofs.Instructions.{send_fits, sent_means}

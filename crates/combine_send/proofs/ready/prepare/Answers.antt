@@ -1,9 +1,9 @@
-use Rattle.std.proofs.Common.{◌≡◌, ◌∙◌, ap}
+use Rattle.std.proofs.Common.{◌∙◌, ap}
 use Rattle.std.proofs.lemmas.Result.{IfOk-weaker}
 use Rattle.combine_core.specs.declared.kind.Kind.{Kind}
 use Rattle.combine_board.specs.Values.{Plan}
 use Rattle.block_store.specs.Stored.{shapes_in, memory_in, stored}
-use Rattle.combine_send.specs.Boards.{IsPlanOf, plan_of}
+use Rattle.combine_send.specs.Boards.{plan_of}
 use Rattle.combine_send.proofs.Instructions.{can_load, is_plan}
 use Rattle.combine_send.proofs.ready.prepare.Goals as goal
 

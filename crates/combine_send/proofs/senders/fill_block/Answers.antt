@@ -1,4 +1,4 @@
-use Rattle.std.proofs.Common.{◌≡◌, ◌∙◌, ◌+◌, ◌<◌, eqb, length, ap, sym, arith}
+use Rattle.std.proofs.Common.{◌∙◌, ◌+◌, ◌<◌, eqb, length, ap, arith}
 use Rattle.std.proofs.Math.ListN.{length-set}
 use Rattle.bit_planes.specs.Bits.{bit}
 use Rattle.combine_send.proofs.Filled.{slot_read, one_filled, none_lost}

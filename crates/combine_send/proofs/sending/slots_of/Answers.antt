@@ -1,11 +1,11 @@
-use Rattle.std.proofs.Common.{◌≡◌, ℕ, ◌+◌, ◌*◌, ◌<◌, ◌≤◌, ◌∙◌, ap, sym, subst, List, length, None, get_or, arith}
+use Rattle.std.proofs.Common.{◌≡◌, ◌+◌, ◌∙◌, ap, sym, subst, List, length, None, get_or, arith}
 use Rattle.std.proofs.lemmas.Result.{IfOk-weaker}
 use Rattle.vp_sets.specs.Positions.{position_count}
 use Rattle.bit_planes.specs.declared.block.Block.{Block}
 use Rattle.paris_code.specs.Memory.{processors}
 use Rattle.paris_code.specs.Shapes.{bits_at}
 use Rattle.block_store.specs.Planes.{HasPlanes}
-use Rattle.block_store.specs.Stored.{shapes_in, memory_in, blocks_at}
+use Rattle.block_store.specs.Stored.{shapes_in, memory_in}
 use Rattle.block_store.proofs.Fetches.{room_much}
 use Rattle.block_store.proofs.Stores.{held, few_blocks}
 use Rattle.combine_send.specs.Slots.{IsSlot}
