@@ -5,10 +5,13 @@ use Rattle.std.proofs.lemmas.Bool.{cases_lt}
 use Rattle.std.specs.Prelude.{IsTrue, option_map, unwrap_or}
 use Rattle.cstar_base.specs.declared.faults.Fault.TheVariants as F
 use Rattle.cstar_io.specs.Output.{Takes}
+use Rattle.cstar_words.specs.declared.options.Mode.{Mode}
+use Rattle.cstar_words.specs.declared.options.Mode.TheVariants as M
 use Rattle.cstar_top.specs.declared.answer.Answer.{Answer}
 use Rattle.cstar_top.specs.declared.answer.Answer.TheVariants as A
 use Rattle.cstar_top.specs.Answers.{line_of, status_of}
-use Rattle.cstar_top.specs.Refusals.{RefusesLong, file_start}
+use Rattle.cstar_top.specs.Modes.{runs_image}
+use Rattle.cstar_top.specs.Refusals.{RefusesLong, file_start, reads_text}
 
 -- the report of the answer to a file that is too long, or that could not be read
 pub refused_long : {E : Type 0} (agrees : E → List ℕ → Type 0) (s t : E) (file : List ℕ) (r : ℕ) (answer : Answer) → (answer ≡ A.Refused F.TooLong file_start) ⊎ ((status_of answer ≡ 5) ⊎ (status_of answer ≡ 8)) → (r ≡ status_of answer) ⊎ ((r ≡ 6) ⊎ (r ≡ 8)) → (r ≡ status_of answer → r ≢ 6 → r ≢ 8 → Takes agrees s t (line_of file answer)) → RefusesLong agrees s t file r
@@ -29,6 +32,12 @@ cut_is_long limit held text bytes other at is cut long same =
     let count : length bytes ≡ limit + 1 = sym (ap (λ (xs : List ℕ). length xs) taken) ∙ size in
     let all : length other ≡ length bytes = ap (λ (xs : List ℕ). length xs) same in
     omega arith
+
+-- what runs a file's image reads its text
+pub runs_read : (mode : Mode) → runs_image mode ≡ true → reads_text mode ≡ true
+runs_read M.Run is = refl
+runs_read M.Asm is = refl
+runs_read _ is = cc
 
 -- what is fetched of a text is the text, or both are too long
 pub held_or_long : (tells : Bool) (limit : ℕ) (held : Option (List ℕ)) (cut : List ℕ) → limit ≡ 1048576 → (IsTrue tells → option_map (take (limit + 1)) held ≡ Some cut) → (text : List ℕ) × (IsTrue tells → held ≡ Some text) × ((text ≡ cut) ⊎ ((1048576 < length text) × (1048576 < length cut)))

@@ -1,4 +1,4 @@
-use Rattle.std.proofs.Common.{◌≡◌, ◌∙◌, ℕ, List, [], drop, Option, Some, inl, inr, ap, sym, subst, refl, arith}
+use Rattle.std.proofs.Common.{rules, ◌≡◌, ◌∙◌, ℕ, List, [], drop, Option, Some, inl, inr, ap, sym, subst, refl, arith}
 use Rattle.std.proofs.lemmas.Bool.{cases_lt}
 use Rattle.cstar_io.specs.declared.sink.SureSink.{SureSink}
 use Rattle.cstar_io.specs.Input.{Took}
@@ -14,6 +14,10 @@ use Rattle.cstar_top.specs.Drills.{drill_line}
 use Rattle.cstar_top.proofs.Courses.{chosen_new, printed_whole}
 use Rattle.cstar_top.proofs.Drills.{counts, done_not_memory, of_run}
 use Rattle.cstar_top.proofs.drill.drill_image.Goals as goal
+
+pub run-outcome-requires-clause-able : goal.run-outcome-requires-clause-able
+run-outcome-requires-clause-able g c =
+    c.choose.ensures.able (c.in-Ok.ensures.ready, search rules, search rules)
 
 pub returns-in-Done-clause-line : goal.returns-in-Done-clause-line
 returns-in-Done-clause-line g c done =

@@ -1,4 +1,4 @@
-use Rattle.std.proofs.Common.{◌≡◌, ◌∙◌, List, inl, inr, ap, subst, arith}
+use Rattle.std.proofs.Common.{rules, ◌≡◌, ◌∙◌, List, inl, inr, ap, subst, arith}
 use Rattle.std.proofs.lemmas.Bool.{cases_lt}
 use Rattle.paris_code.specs.Listing.{listing}
 use Rattle.paris_code.specs.Memory.{SameBits}
@@ -10,6 +10,10 @@ use Rattle.cstar_top.specs.Answers.{status_of}
 use Rattle.cstar_top.specs.Courses.{Course, answer_to_end, closing_text, where_asked}
 use Rattle.cstar_top.proofs.Courses.{chosen_new, nothing_behind, run_part, run_reported, settled_course, unbroken}
 use Rattle.cstar_top.proofs.run.run_image.Goals as goal
+
+pub run-outcome-requires-clause-able : goal.run-outcome-requires-clause-able
+run-outcome-requires-clause-able g c =
+    c.choose.ensures.able (c.in-Ok.ensures.ready, search rules, search rules)
 
 pub returns-clause-report : goal.returns-clause-report
 returns-clause-report g c other more =
