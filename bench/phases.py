@@ -41,7 +41,7 @@ def listing(sets, before, loop, after, rounds):
     fields = {name: field for s in sets for name, field in s.names.items()}
     code = [f"FE_const r1 #{rounds}", "FE_const r2 #1", *before]
     start = len(code)
-    code += [f"FE_jump_zero r1 @{start + len(loop) + 4}", "FE_turn", *loop, "FE_s_subtract r1 r1 r2", f"FE_jump @{start}"]
+    code += ["FE_turn", f"FE_jump_zero r1 @{start + len(loop) + 4}", *loop, "FE_s_subtract r1 r1 r2", f"FE_jump @{start}"]
     code += [*after, "FE_put_u r3", "FE_put_bytes x0a", "FE_halt"]
     lines = [s.line() for s in sets] + [".slots 5", ".depth 0", ".unit 0 main 0"]
     return "\n".join(lines + [f"{n} {text.format(**fields)}" for n, text in enumerate(code)]) + "\n"
