@@ -23,12 +23,13 @@ const CHECK_NS: u32 = 10_000;
 const FETCH_NS: u32 = 10_000;
 /// A reduction to the least or the greatest: numbers are lifted and folded.
 const FOLD_NS: u32 = 4_000;
-/// A scan upward: numbers are lifted, folded and put in their places.
-const SCAN_NS: u32 = 8_000;
+/// Each of the two passes of a scan upward: numbers are lifted and folded.
+const SCAN_NS: u32 = 1_500;
 /// A scan downward: numbers are fetched along their lines besides.
 const DOWN_SCAN_NS: u32 = 200_000;
-/// A send: messages are filled in, combined and written back.
-const SEND_NS: u32 = 20_000;
+/// A send: its slots are filled. The claims are not counted, since messages that meet at few targets
+/// are combined no sooner by more workers.
+const SEND_NS: u32 = 1_800;
 
 /// The set that an instruction's passes go over, and how long a block of it keeps one worker.
 #[derive(Clone, Copy)]
