@@ -1,5 +1,5 @@
 -- Lanes of planes side by side, and of windows on the planes that are held.
-use Rattle.std.proofs.Common.{◌≡◌, ℕ, zero, suc, ◌+◌, ◌-◌, ◌*◌, ◌/◌, ◌%◌, ◌^◌, ◌<◌, ◌≤◌, cond, eqb, ltb, max, min, List, [], ◌∷◌, length, get_or, refl, sym, ◌∙◌, ap, subst, inl, inr, zero-add, arith}
+use Rattle.std.proofs.Common.{◌≡◌, ℕ, zero, suc, ◌+◌, ◌-◌, ◌*◌, ◌/◌, ◌%◌, ◌^◌, ◌<◌, ◌≤◌, true, false, cond, eqb, ltb, max, min, List, [], ◌∷◌, length, get_or, refl, sym, ◌∙◌, ap, subst, inl, inr, zero-add, arith}
 use Rattle.std.specs.Int.{bit_at}
 use Rattle.std.specs.Prelude.{bit_or}
 use Rattle.std.proofs.Math.Nat.{mod-eq_of_lt, add-mul-mod_self_right}
@@ -16,9 +16,9 @@ use Rattle.bit_planes.specs.Planes.{plane_at, number}
 use Rattle.lane_kernels.specs.Numbers.{ones_before}
 use Rattle.phase_meaning.proofs.Tests.{less, not_less}
 use Rattle.block_store.specs.declared.set.Cell.{Cell}
-use Rattle.block_store.specs.Phases.{LanesWritten}
+use Rattle.news_grid.specs.declared.window.Turn.{Turn}
 use Rattle.news_grid.specs.declared.window.Window.{Window}
-use Rattle.news_grid.specs.Steps.{planes_in_cell, planes_held, number_held, number_seen, beside, Views}
+use Rattle.news_grid.specs.Steps.{number_taken, seen_through, planes_in_cell, planes_held, number_held, number_seen, beside, Views}
 
 -- a word of the first plane, or of the second
 pub word_low : (low high : List ℕ) (at : ℕ) → at < 8 → (i : ℕ) → i < 64 → bit_at (get_or low at 0) i ≡ beside low high (64 * at + i)
@@ -139,24 +139,37 @@ seen-lt cells window len i =
       | inr g ↦ subst (λ x. x < 2 ^ len) (not_less n 512 low high g) (number-lt (planes_held cells window.next) 0 len (n - 512))
     ]
 
--- first in the lanes of the mask that are 0 in another, then in those that are 1: the two writes are one
-pub written_both : (offset len : ℕ) (mask other first second : List ℕ) (f g : ℕ → ℕ) (old mid new : List Plane)
-    → ((i : ℕ) → i < 512 → bit first i ≡ min (bit mask i) (1 - bit other i)) → ((i : ℕ) → i < 512 → bit second i ≡ min (bit mask i) (bit other i))
-    → LanesWritten offset len first f old mid → LanesWritten offset len second g mid new → LanesWritten offset len mask (λ i. cond (eqb (bit other i) 1) (g i) (f i)) old new
-written_both offset len mask other first second f g old mid new is_first is_second one two = record {
-  long = two.long ∙ one.long;
-  inside = λ j i ib on l h. elim (cases_eq (bit other i) 1) [
-    | inl e ↦ two.inside j i ib (omega (arith, is_second i ib, on, e)) l h ∙ ap (λ t. bit_at (cond t (g i) (f i)) (j - offset)) (sym (eq-eqb (bit other i) 1 e))
-    | inr n ↦
-        let z : bit other i ≡ 0 = omega (arith, bit-lt other i, n) in
-        two.kept j i ib (omega (arith, is_second i ib, z)) ∙ one.inside j i ib (omega (arith, is_first i ib, on, z)) l h ∙ ap (λ t. bit_at (cond t (g i) (f i)) (j - offset)) (sym (ne_eqb (bit other i) 1 n))
-  ];
-  kept = λ j i ib off. two.kept j i ib (omega (arith, is_second i ib, off)) ∙ one.kept j i ib (omega (arith, is_first i ib, off));
-  outside = λ j out. two.outside j out ∙ one.outside j out;
-}
+-- a bit of the number that a lane takes
+pub taken_bit : (cells : List Cell) (turn : Turn) (len i j : ℕ) → j < len
+    → bit_at (number_taken cells turn len i) j ≡ cond (eqb (bit turn.crossing i) 1) (seen_through turn.round cells j i) (seen_through turn.staying cells j i)
+taken_bit cells turn len i j jb = elim (cases_eq (bit turn.crossing i) 1) [
+  | inl e ↦
+      let on : eqb (bit turn.crossing i) 1 ≡ true = eq-eqb (bit turn.crossing i) 1 e in
+      ap (λ t. bit_at (cond t (number_seen cells turn.round len i) (number_seen cells turn.staying len i)) j) on ∙ seen_bit cells turn.round len i j jb
+      ∙ sym (ap (λ t. cond t (seen_through turn.round cells j i) (seen_through turn.staying cells j i)) on)
+  | inr n ↦
+      let off : eqb (bit turn.crossing i) 1 ≡ false = ne_eqb (bit turn.crossing i) 1 n in
+      ap (λ t. bit_at (cond t (number_seen cells turn.round len i) (number_seen cells turn.staying len i)) j) off ∙ seen_bit cells turn.staying len i j jb
+      ∙ sym (ap (λ t. cond t (seen_through turn.round cells j i) (seen_through turn.staying cells j i)) off)
+]
 
--- where no lane is 1, none is written
-no_lane : (mask : List ℕ) (n i : ℕ) → 0 ≡ ones_before mask n → i < n → bit mask i ≡ 0
+-- it fits
+pub taken-lt : (cells : List Cell) (turn : Turn) (len i : ℕ) → number_taken cells turn len i < 2 ^ len
+taken-lt cells turn len i = elim (eqb (bit turn.crossing i) 1) as (λ t. cond t (number_seen cells turn.round len i) (number_seen cells turn.staying len i) < 2 ^ len) [
+  | true ↦ seen-lt cells turn.round len i
+  | false ↦ seen-lt cells turn.staying len i
+]
+
+-- the planes of two windows, one in the lanes of a mask and one in the others
+pub chosen_bit : (mask one other x : ℕ) (one_is other_is : ℕ) → mask < 2 → one < 2 → other < 2 → one ≡ one_is → other ≡ other_is → x ≡ max (min mask one) (min (1 - mask) other)
+    → x ≡ cond (eqb mask 1) one_is other_is
+chosen_bit mask one other x one_is other_is small a b e f is = is ∙ elim (cases_eq mask 1) [
+  | inl on ↦ (let q : max (min mask one) (min (1 - mask) other) ≡ one_is = omega (arith, on, a, e) in q) ∙ sym (ap (λ t. cond t one_is other_is) (eq-eqb mask 1 on))
+  | inr n ↦ (let q : max (min mask one) (min (1 - mask) other) ≡ other_is = omega (arith, n, small, b, f) in q) ∙ sym (ap (λ t. cond t one_is other_is) (ne_eqb mask 1 n))
+]
+
+-- where none is 1, each is 0
+pub no_lane : (mask : List ℕ) (n i : ℕ) → 0 ≡ ones_before mask n → i < n → bit mask i ≡ 0
 unfolding ones_before
 no_lane mask zero i e b = absurd (omega arith)
 no_lane mask (suc n) i e b = elim (cases_eq i n) [
@@ -164,10 +177,7 @@ no_lane mask (suc n) i e b = elim (cases_eq i n) [
   | inr q ↦ no_lane mask n i (omega (arith, e)) (omega (arith, b, q))
 ]
 
-pub none_written : (offset len : ℕ) (mask : List ℕ) (f : ℕ → ℕ) (old : List Plane) → 0 ≡ ones_before mask 512 → LanesWritten offset len mask f old old
-none_written offset len mask f old none = record {
-  long = refl;
-  inside = λ j i ib on l h. absurd (omega (arith, no_lane mask 512 i none ib, on));
-  kept = λ j i ib off. refl;
-  outside = λ j out. refl;
-}
+-- and the one window shows what all lanes take
+pub taken_staying : (cells : List Cell) (turn : Turn) (len i : ℕ) → 0 ≡ ones_before turn.crossing 512 → i < 512 → number_seen cells turn.staying len i ≡ number_taken cells turn len i
+taken_staying cells turn len i none ib =
+    sym (ap (λ b. cond (eqb b 1) (number_seen cells turn.round len i) (number_seen cells turn.staying len i)) (no_lane turn.crossing 512 i none ib))

@@ -15,12 +15,11 @@ ghost use Rattle.block_store.specs.declared.set.Cell.{Cell};
 ghost use Rattle.block_store.specs.Phases.{LanesWritten};
 ghost use Rattle.block_store.specs.Planes.{HasPlanes};
 ghost use Rattle.block_store.specs.Stored.{shapes_in, memory_in, IsWhole, HasRoom};
-ghost use Rattle.news_grid.specs.Steps.{HasCells, number_seen};
+ghost use Rattle.news_grid.specs.Steps.{HasCells, number_seen, number_taken};
 ghost use Rattle.news_grid.specs.Takings.{TakingFits, Stepped};
 
 use crate::step::Step;
-use crate::window::Window;
-use bit_planes::plane::{both, opposite};
+use crate::window::{Turn, Window};
 use bit_planes::{Block, Plane};
 use block_store::{BlockSet, Cell, Room, SetPlan, Store, taking_lanes};
 use cstar_io::Gate;
@@ -106,22 +105,51 @@ fn put_window(planes: &mut [Plane], to: &Target, cells: &[Cell], window: &Window
     }
 }
 
-/// The same for a field of a block, in these lanes. No plane is touched where there is no lane.
-fn take_window(block: &mut Block, dest: Field, lanes: u64x8, cells: &[Cell], window: &Window)
-    requires len { (1 ≤ dest.len) × (dest.len ≤ 32) }
-    requires within { dest.offset + dest.len ≤ length block.old.planes.items }
-    requires cells { HasCells window.now cells.now }
-    ensures { LanesWritten dest.offset dest.len lanes (λ i. number_seen cells.now window.now dest.len i) block.old.planes.items block.new.planes.items }
+/// The same of the two windows of a turn.
+fn put_both(planes: &mut [Plane], to: &Target, cells: &[Cell], turn: &Turn)
+    requires target { HasTarget to.now planes.old }
+    requires staying { HasCells turn.now.staying cells.now }
+    requires round { HasCells turn.now.round cells.now }
+    ensures { Becomes to.now (λ i. number_taken cells.now turn.now to.now.len i) planes.old planes.new }
 {
-    if count(lanes) == 0 {
-        return;
+    for j in 0..to.len as usize {
+        write(
+            planes,
+            to.offset as usize + j,
+            turn.plane(cells, j),
+            to.lanes,
+        );
     }
-    let to = Target::at(dest.offset, dest.len, lanes);
-    put_window(&mut block.planes, &to, cells, window);
 }
 
-/// Block `k` takes what is held a step away: one window for the lanes whose step stays in its turn
-/// of the axis, and one for those that come round its end.
+/// The same, and where no lane crosses the end of its turn, through the one window alone.
+fn put_turn(planes: &mut [Plane], to: &Target, cells: &[Cell], turn: &Turn)
+    requires target { HasTarget to.now planes.old }
+    requires staying { HasCells turn.now.staying cells.now }
+    requires round { HasCells turn.now.round cells.now }
+    ensures { Becomes to.now (λ i. number_taken cells.now turn.now to.now.len i) planes.old planes.new }
+{
+    if count(turn.crossing) == 0 {
+        put_window(planes, to, cells, &turn.staying);
+    } else {
+        put_both(planes, to, cells, turn);
+    }
+}
+
+/// The same for a field of a block, in these lanes.
+fn take_turn(block: &mut Block, dest: Field, lanes: u64x8, cells: &[Cell], turn: &Turn)
+    requires len { (1 ≤ dest.len) × (dest.len ≤ 32) }
+    requires within { dest.offset + dest.len ≤ length block.old.planes.items }
+    requires staying { HasCells turn.now.staying cells.now }
+    requires round { HasCells turn.now.round cells.now }
+    ensures { LanesWritten dest.offset dest.len lanes (λ i. number_taken cells.now turn.now dest.len i) block.old.planes.items block.new.planes.items }
+{
+    let to = Target::at(dest.offset, dest.len, lanes);
+    put_turn(&mut block.planes, &to, cells, turn);
+}
+
+/// Block `k` takes what is held a step away: through one window in the lanes whose step stays in its
+/// turn of the axis, and through another in those that come round its end.
 fn step_block(block: &mut Block, k: u32, taking: &Taking)
     requires block { (k < taking.now.blocks) × (k < 2 ^ 16) }
     requires taking { TakingFits taking.now }
@@ -130,17 +158,13 @@ fn step_block(block: &mut Block, k: u32, taking: &Taking)
 {
     let shift = &taking.shift;
     let lanes = taking_lanes(taking.plan, block, k, shift.always);
-    let crossing = taking.step.crossing_lanes(k);
     let (staying, round) = taking.step.windows(k, taking.blocks);
-    let inner = both(lanes, opposite(crossing));
-    take_window(block, shift.dest, inner, taking.cells, &staying);
-    take_window(
-        block,
-        shift.dest,
-        both(lanes, crossing),
-        taking.cells,
-        &round,
-    );
+    let turn = Turn {
+        staying,
+        round,
+        crossing: taking.step.crossing_lanes(k),
+    };
+    take_turn(block, shift.dest, lanes, taking.cells, &turn);
 }
 
 /// The same in all blocks of the set, with a call of the gate for each.

@@ -1,11 +1,12 @@
 //! Windows of 512 lanes on the planes that the room holds, from any lane on.
 
-ghost use Rattle.std.specs.Prelude.{◌≡◌, ℕ, ◌<◌, ◌≤◌, ◌+◌, ◌-◌, ◌*◌, ◌/◌, ◌%◌, length, nat_lt, if◌then◌else◌};
+ghost use Rattle.std.specs.Prelude.{◌≡◌, ◌==◌, ℕ, ◌<◌, ◌≤◌, ◌+◌, ◌-◌, ◌*◌, ◌/◌, ◌%◌, length, nat_lt, if◌then◌else◌};
 ghost use Rattle.std.specs.Int.{bit_at};
 ghost use Rattle.bit_planes.specs.Bits.{bit};
 ghost use Rattle.bit_planes.specs.Planes.{plane_at};
-ghost use Rattle.news_grid.specs.Steps.{beside, planes_held, Views};
+ghost use Rattle.news_grid.specs.Steps.{beside, planes_held, seen_through, HasCells, Views};
 
+use bit_planes::plane::{both, either, opposite};
 use block_store::Cell;
 use std::simd::prelude::*;
 use vp_sets::BLOCK_SIZE;
@@ -92,13 +93,38 @@ impl Window {
     pub(crate) fn plane(&self, cells: &[Cell], j: usize) -> u64x8
         requires plane { j < 32 }
         requires cells { (self.now.first < length cells.now) × (self.now.next < length cells.now) × (self.now.from < 512) }
-        ensures { (i : ℕ) → i < 512
-            → bit result i ≡ beside (plane_at (planes_held cells.now self.now.first) j) (plane_at (planes_held cells.now self.now.next) j) (self.now.from + i) }
+        ensures { (i : ℕ) → i < 512 → bit result i ≡ seen_through self.now cells.now j i }
     {
         let first = cells[self.first].planes[j].bits;
         if self.from == 0 {
             return first;
         }
         lanes_beside(first, cells[self.next].planes[j].bits, self.from)
+    }
+}
+
+/// What the lanes of a block take: those of `crossing` through the window `round`, and all others
+/// through the window `staying`.
+#[derive(Clone, Copy)]
+pub(crate) struct Turn {
+    pub(crate) staying: Window,
+    pub(crate) round: Window,
+    pub(crate) crossing: u64x8,
+}
+
+impl Turn {
+    /// Its lanes on a plane that the cells hold.
+    #[inline(always)]
+    pub(crate) fn plane(&self, cells: &[Cell], j: usize) -> u64x8
+        requires plane { j < 32 }
+        requires staying { HasCells self.now.staying cells.now }
+        requires round { HasCells self.now.round cells.now }
+        ensures { (i : ℕ) → i < 512
+            → bit result i ≡ (if bit self.now.crossing i == 1 then seen_through self.now.round cells.now j i else seen_through self.now.staying cells.now j i) }
+    {
+        either(
+            both(self.crossing, self.round.plane(cells, j)),
+            both(opposite(self.crossing), self.staying.plane(cells, j)),
+        )
     }
 }
