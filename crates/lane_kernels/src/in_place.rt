@@ -1,6 +1,6 @@
 //! Kernels in place: they read fields of the planes and write a field of the same planes, in the
 //! lanes of a mask. Where operand and target coincide or do not overlap, each may be used.
-ghost use Rattle.std.specs.Prelude.{◌≡◌, ℕ, ◌<◌, ◌≤◌, ◌+◌, ◌-◌, ◌*◌, ◌/◌, ◌%◌, ◌^◌, ◌⊎◌, length, if◌then◌else◌, nat_eq, nat_lt, bit_and, bit_or, bit_xor};
+ghost use Rattle.std.specs.Prelude.{◌≡◌, ℕ, ◌<◌, ◌≤◌, ◌+◌, ◌-◌, ◌*◌, ◌/◌, ◌%◌, ◌^◌, ◌⊎◌, length, slice_index, if◌then◌else◌, nat_eq, nat_lt, bit_and, bit_or, bit_xor};
 ghost use Rattle.bit_planes.specs.Bits.{bit};
 ghost use Rattle.bit_planes.specs.Planes.{number, plane_at};
 ghost use Rattle.bit_planes.specs.Rows.{held};
@@ -268,6 +268,16 @@ pub fn put(planes: &mut [Plane], to: &Target, column: &Lanes)
     ensures { Becomes to.now (λ i. value_at column.now i) planes.old planes.new }
 {
     put_planes(planes, to, &column.planes);
+}
+
+/// These numbers, one in each lane, cut to the target's length.
+pub fn put_values(planes: &mut [Plane], to: &Target, values: &[u32; 512])
+    requires { HasTarget to.now planes.old }
+    ensures { Becomes to.now (λ i. slice_index values.now i % 2 ^ to.now.len) planes.old planes.new }
+{
+    let mut rows = Rows::from_values(values);
+    rows.turn();
+    put_planes(planes, to, &rows.planes);
 }
 
 /// Makes the rows the operand's numbers of `len` bits, as far as those bits go.
