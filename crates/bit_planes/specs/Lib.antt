@@ -1,3 +1,4 @@
 pub mod Bits
 pub mod Planes
+pub mod Rows
 pub mod Steps

@@ -5,6 +5,7 @@
 mod block;
 mod lanes;
 pub mod plane;
+mod rows;
 #[cfg(test)]
 mod tests;
 mod transpose;
@@ -12,3 +13,4 @@ mod transpose;
 pub use block::Block;
 pub use lanes::Lanes;
 pub use plane::Plane;
+pub use rows::Rows;

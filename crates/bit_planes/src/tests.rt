@@ -1,4 +1,4 @@
-use crate::{Block, Lanes};
+use crate::{Block, Lanes, Rows};
 use std::test::Fail;
 
 /// 0, 1, 2 and so on.
@@ -20,6 +20,21 @@ fn columns_hold_numbers(rt: HostRuntime) -> Result<(), Fail> {
     let v = column.values();
     assert_eq!(rt; v[77], 77);
     assert_eq!(rt; v[300], 44);
+    Ok(())
+}
+
+#[test]
+fn rows_multiply(rt: HostRuntime) -> Result<(), Fail> {
+    let mut rows = Rows::from_values(&counted());
+    rows.multiply(&Rows::repeated(1 << 24));
+    let v = rows.values();
+    assert_eq!(rt; v[77], 0x4D00_0000);
+    // 300 is 256 + 44, and 2 to the 32 falls away.
+    assert_eq!(rt; v[300], 0x2C00_0000);
+    let column = Lanes::from_values(&counted(), 8);
+    let mut low = Rows::of_field(&column.planes, 0, 8);
+    low.multiply(&Rows::of_field(&column.planes, 2, 3));
+    assert_eq!(rt; low.column(9).values()[300], 44 * 3);
     Ok(())
 }
 

@@ -9,7 +9,7 @@ ghost use Rattle.block_store.specs.Planes.{HasPlanes};
 ghost use Rattle.block_store.specs.Stored.{word_or_zero};
 
 use crate::set::{BlockSet, Cell, Room};
-use bit_planes::{Block, Lanes};
+use bit_planes::{Block, Rows};
 use lane_kernels::{Target, in_place};
 use std::simd::prelude::*;
 use std::thread;
@@ -21,7 +21,7 @@ pub fn words_of(block: &Block, offset: u32, len: u8) -> [u32; 512]
     requires within { offset + len ≤ length block.now.planes.items }
     ensures { (i : ℕ) → i < 512 → slice_index result i ≡ number block.now.planes.items offset len i }
 {
-    block.lanes(offset, len).values()
+    Rows::of_field(&block.planes, offset, len).values()
 }
 
 /// Makes the field of `len` bits at the offset the words, in the lanes of the mask.
@@ -31,8 +31,7 @@ pub fn put_words(block: &mut Block, offset: u32, len: u8, lanes: u64x8, words: &
     ensures { LanesWritten offset len lanes (λ i. slice_index words.now i % 2 ^ len) block.old.planes.items block.new.planes.items }
 {
     let to = Target::at(offset, len, lanes);
-    let column = Lanes::from_values(words, len);
-    in_place::put(&mut block.planes, &to, &column);
+    in_place::put_values(&mut block.planes, &to, words);
 }
 
 /// Holds the numbers of a field of each block in its cell.

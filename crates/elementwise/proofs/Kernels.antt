@@ -48,6 +48,7 @@ use Rattle.elementwise.specs.declared.ways.Way.{Way}
 use Rattle.elementwise.specs.Planar.{gives_work, operation_of}
 use Rattle.elementwise.specs.Ways.{by_kernel, IsWayOf}
 use Rattle.elementwise.proofs.Orders.{least_is, greatest_is}
+use Rattle.elementwise.proofs.Products.{product_is}
 use Rattle.elementwise.proofs.Written.{given_lanes, taken}
 
 -- the length of the numbers
@@ -105,6 +106,7 @@ pub operation_is : (w : Work) (op : Operation) (n x y : ℕ) → operation_of w 
 unfolding outcome
 operation_is (K.Planes L.Add) op n x y e l a b = at_operation (K.Planes L.Add) n x y P.SAdd op e (sym (sum_by_residues n false x y))
 operation_is (K.Planes L.Subtract) op n x y e l a b = at_operation (K.Planes L.Subtract) n x y P.SSubtract op e (sym (difference_by_residues n false x y (omega (arith, b))))
+operation_is (K.Planes L.Multiply) op n x y e l a b = at_operation (K.Planes L.Multiply) n x y P.SMultiply op e (product_is n x y a b)
 operation_is (K.Planes L.And) op n x y e l a b = at_operation (K.Planes L.And) n x y P.Logand op e refl
 operation_is (K.Planes L.Or) op n x y e l a b = at_operation (K.Planes L.Or) n x y P.Logior op e refl
 operation_is (K.Planes L.Xor) op n x y e l a b = at_operation (K.Planes L.Xor) n x y P.Logxor op e refl

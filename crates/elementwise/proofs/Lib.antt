@@ -6,3 +6,4 @@ pub mod Moves
 pub mod Orders
 pub mod Powers
 pub mod Written
+pub mod Products

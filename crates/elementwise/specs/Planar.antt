@@ -2,7 +2,7 @@
 use Rattle.std.specs.Prelude.{◌≡◌, ℕ, ◌+◌, ◌%◌, ◌^◌, ◌≤◌, bit_and, bit_or, bit_xor, true, false, List, length, Option, Some, None}
 use Rattle.bit_planes.specs.declared.plane.Plane.{Plane}
 use Rattle.lane_kernels.specs.Kernels.{operand_of, IsWithin}
-use Rattle.lane_kernels.specs.Numbers.{sum_of, difference_of, negative_of, complement_of, least_of, greatest_of}
+use Rattle.lane_kernels.specs.Numbers.{sum_of, difference_of, product_of, negative_of, complement_of, least_of, greatest_of}
 use Rattle.paris_code.specs.declared.instr.Instr.{Instr}
 use Rattle.paris_code.specs.declared.operands.Operation.{Operation}
 use Rattle.paris_code.specs.declared.operands.Operation.TheVariants as P
@@ -25,6 +25,7 @@ gives L.Complement n x y = complement_of n x
 gives L.Negative n x y = negative_of n x
 gives L.Add n x y = sum_of n x y
 gives L.Subtract n x y = difference_of n x y
+gives L.Multiply n x y = product_of n x y
 gives L.And n x y = bit_and x y
 gives L.Or n x y = bit_or x y
 gives L.Xor n x y = bit_xor x y
@@ -40,6 +41,7 @@ gives_work (K.Values op) n x y = outcome (operator_of op).0 n (operator_of op).1
 abbrev pub operation_of : Work → Option Operation
 operation_of (K.Planes L.Add) = Some P.SAdd
 operation_of (K.Planes L.Subtract) = Some P.SSubtract
+operation_of (K.Planes L.Multiply) = Some P.SMultiply
 operation_of (K.Planes L.And) = Some P.Logand
 operation_of (K.Planes L.Or) = Some P.Logior
 operation_of (K.Planes L.Xor) = Some P.Logxor

@@ -78,7 +78,8 @@ fn words_of_operand(block: &Block, a: &Operand, len: u8) -> [u32; 512]
 }
 
 /// What the operation gives on numbers of `len` bits.
-fn operated(op: Operation, len: u8, x: &[u32; 512], y: &[u32; 512]) -> [u32; 512]
+#[inline(always)]
+fn lane_by_lane(op: Operation, len: u8, x: &[u32; 512], y: &[u32; 512]) -> [u32; 512]
     requires len { (1 ≤ len) × (len ≤ 32) }
     requires x { (i : ℕ) → i < 512 → slice_index x.now i < 2 ^ len }
     requires y { (i : ℕ) → i < 512 → slice_index y.now i < 2 ^ len }
@@ -89,6 +90,36 @@ fn operated(op: Operation, len: u8, x: &[u32; 512], y: &[u32; 512]) -> [u32; 512
         words[i] = operate(op, len, x[i], y[i]);
     }
     words
+}
+
+/// The same, by a loop of its own for each operation that is not done on planes, so that the
+/// operation is known in it.
+fn operated(op: Operation, len: u8, x: &[u32; 512], y: &[u32; 512]) -> [u32; 512]
+    requires len { (1 ≤ len) × (len ≤ 32) }
+    requires x { (i : ℕ) → i < 512 → slice_index x.now i < 2 ^ len }
+    requires y { (i : ℕ) → i < 512 → slice_index y.now i < 2 ^ len }
+    ensures { (i : ℕ) → i < 512 → slice_index result i % 2 ^ len ≡ outcome (operator_of op).0 len (operator_of op).1 (slice_index x.now i) (slice_index y.now i) }
+{
+    match op {
+        Operation::STruncate => lane_by_lane(Operation::STruncate, len, x, y),
+        Operation::UTruncate => lane_by_lane(Operation::UTruncate, len, x, y),
+        Operation::SRem => lane_by_lane(Operation::SRem, len, x, y),
+        Operation::URem => lane_by_lane(Operation::URem, len, x, y),
+        Operation::SMod => lane_by_lane(Operation::SMod, len, x, y),
+        Operation::UShiftLeft => lane_by_lane(Operation::UShiftLeft, len, x, y),
+        Operation::SShiftRight => lane_by_lane(Operation::SShiftRight, len, x, y),
+        Operation::UShiftRight => lane_by_lane(Operation::UShiftRight, len, x, y),
+        Operation::SAdd
+        | Operation::SSubtract
+        | Operation::SMultiply
+        | Operation::SMin
+        | Operation::UMin
+        | Operation::SMax
+        | Operation::UMax
+        | Operation::Logand
+        | Operation::Logior
+        | Operation::Logxor => lane_by_lane(op, len, x, y),
+    }
 }
 
 /// The same on the numbers of the lanes.

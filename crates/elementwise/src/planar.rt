@@ -10,7 +10,7 @@ use bit_planes::Plane;
 use lane_kernels::{Operand, Target, in_place};
 use paris_code::Operation;
 
-/// An operation that is done plane by plane.
+/// An operation that a kernel does on planes.
 #[derive(Clone, Copy)]
 pub(crate) enum Planar {
     Same,
@@ -18,6 +18,7 @@ pub(crate) enum Planar {
     Negative,
     Add,
     Subtract,
+    Multiply,
     And,
     Or,
     Xor,
@@ -25,7 +26,7 @@ pub(crate) enum Planar {
     Max { unsigned: bool },
 }
 
-/// How an operation is done: plane by plane, or on the numbers of the lanes.
+/// How an operation is done: by a kernel on planes, or on the numbers of the lanes.
 #[derive(Clone, Copy)]
 pub(crate) enum Work {
     Planes(Planar),
@@ -47,6 +48,7 @@ pub(crate) fn work_of(op: Operation) -> Work
     match op {
         Operation::SAdd => Work::Planes(Planar::Add),
         Operation::SSubtract => Work::Planes(Planar::Subtract),
+        Operation::SMultiply => Work::Planes(Planar::Multiply),
         Operation::Logand => Work::Planes(Planar::And),
         Operation::Logior => Work::Planes(Planar::Or),
         Operation::Logxor => Work::Planes(Planar::Xor),
@@ -54,8 +56,7 @@ pub(crate) fn work_of(op: Operation) -> Work
         Operation::UMin => Work::Planes(Planar::Min { unsigned: true }),
         Operation::SMax => Work::Planes(Planar::Max { unsigned: false }),
         Operation::UMax => Work::Planes(Planar::Max { unsigned: true }),
-        Operation::SMultiply
-        | Operation::STruncate
+        Operation::STruncate
         | Operation::UTruncate
         | Operation::SRem
         | Operation::URem
@@ -85,6 +86,7 @@ pub(crate) fn operate_in_place(
         Planar::Negative => in_place::negate(planes, to, a),
         Planar::Add => in_place::add(planes, to, a, b),
         Planar::Subtract => in_place::subtract(planes, to, a, b),
+        Planar::Multiply => in_place::multiply(planes, to, a, b),
         Planar::And => in_place::and(planes, to, a, b),
         Planar::Or => in_place::or(planes, to, a, b),
         Planar::Xor => in_place::xor(planes, to, a, b),

@@ -5,3 +5,4 @@ pub mod Rippling
 pub mod Steps
 pub mod ColumnLemmas
 pub mod Ones
+pub mod Products

@@ -12,6 +12,9 @@ sum_of n x y = (x + y) % 2 ^ n
 abbrev pub difference_of : ℕ → ℕ → ℕ → ℕ
 difference_of n x y = (x + (2 ^ n - y)) % 2 ^ n
 
+abbrev pub product_of : ℕ → ℕ → ℕ → ℕ
+product_of n x y = x * y % 2 ^ n
+
 abbrev pub negative_of : ℕ → ℕ → ℕ
 negative_of n x = (2 ^ n - x) % 2 ^ n
 

@@ -1,18 +1,19 @@
 //! Kernels in place: they read fields of the planes and write a field of the same planes, in the
 //! lanes of a mask. Where operand and target coincide or do not overlap, each may be used.
-ghost use Rattle.std.specs.Prelude.{◌≡◌, ℕ, ◌<◌, ◌≤◌, ◌+◌, ◌-◌, ◌*◌, ◌/◌, ◌%◌, ◌^◌, ◌⊎◌, length, if◌then◌else◌, nat_eq, nat_lt, bit_and, bit_or, bit_xor};
+ghost use Rattle.std.specs.Prelude.{◌≡◌, ℕ, ◌<◌, ◌≤◌, ◌+◌, ◌-◌, ◌*◌, ◌/◌, ◌%◌, ◌^◌, ◌⊎◌, length, slice_index, if◌then◌else◌, nat_eq, nat_lt, bit_and, bit_or, bit_xor};
 ghost use Rattle.bit_planes.specs.Bits.{bit};
 ghost use Rattle.bit_planes.specs.Planes.{number, plane_at};
+ghost use Rattle.bit_planes.specs.Rows.{held};
 ghost use Rattle.lane_kernels.specs.Columns.{value_at};
-ghost use Rattle.lane_kernels.specs.Kernels.{operand_of, IsReadable, IsReadableDown, IsFieldReadable, HasTarget, Becomes};
-ghost use Rattle.lane_kernels.specs.Numbers.{addend, sum_of, difference_of, negative_of, complement_of, least_of, greatest_of, resized, shifted_left, shifted_right, extended};
+ghost use Rattle.lane_kernels.specs.Kernels.{operand_of, IsReadable, IsReadableDown, IsFieldReadable, IsWithin, HasTarget, Becomes};
+ghost use Rattle.lane_kernels.specs.Numbers.{addend, sum_of, difference_of, product_of, negative_of, complement_of, least_of, greatest_of, resized, shifted_left, shifted_right, extended};
 ghost use Rattle.lane_kernels.specs.Gates.{gate_of};
 
 use crate::compare::less;
 use crate::gates::{Gate, carry_bit, choose, sum_bit};
 use crate::target::{Operand, Target, write};
 use bit_planes::plane::{differ, opposite, repeated};
-use bit_planes::{Lanes, Plane};
+use bit_planes::{Lanes, Plane, Rows};
 use std::simd::prelude::*;
 
 /// The sum of both operands, or with the second and a carry inverted, their difference.
@@ -249,13 +250,15 @@ pub fn shift_left(planes: &mut [Plane], to: &Target, offset: u32, k: u32)
     }
 }
 
-/// A plane of a column.
-#[inline(always)]
-fn plane_of(column: &Lanes, j: usize) -> u64x8
-    requires { j < 32 }
-    ensures { result ≡ plane_at column.now.planes j }
+/// The numbers that stand across these planes.
+fn put_planes(planes: &mut [Plane], to: &Target, column: &[Plane])
+    requires target { HasTarget to.now planes.old }
+    requires len { to.now.len ≤ length column.now }
+    ensures { Becomes to.now (λ i. number column.now 0 to.now.len i) planes.old planes.new }
 {
-    column.planes[j].bits
+    for j in 0..to.len as usize {
+        write(planes, to.offset as usize + j, column[j].bits, to.lanes);
+    }
 }
 
 /// The column's numbers.
@@ -264,12 +267,43 @@ pub fn put(planes: &mut [Plane], to: &Target, column: &Lanes)
     requires len { column.now.len ≡ to.now.len }
     ensures { Becomes to.now (λ i. value_at column.now i) planes.old planes.new }
 {
-    for j in 0..to.len as usize {
-        write(
-            planes,
-            to.offset as usize + j,
-            plane_of(column, j),
-            to.lanes,
-        );
+    put_planes(planes, to, &column.planes);
+}
+
+/// These numbers, one in each lane, cut to the target's length.
+pub fn put_values(planes: &mut [Plane], to: &Target, values: &[u32; 512])
+    requires { HasTarget to.now planes.old }
+    ensures { Becomes to.now (λ i. slice_index values.now i % 2 ^ to.now.len) planes.old planes.new }
+{
+    let mut rows = Rows::from_values(values);
+    rows.turn();
+    put_planes(planes, to, &rows.planes);
+}
+
+/// Makes the rows the operand's numbers of `len` bits, as far as those bits go.
+fn read(rows: &mut Rows, planes: &[Plane], a: &Operand, len: u8)
+    requires len { (1 ≤ len) × (len ≤ 32) }
+    requires within { IsWithin a.now len planes.now }
+    ensures { (i : ℕ) → i < 512 → held rows.new.planes i % 2 ^ len ≡ operand_of a.now planes.now len i }
+{
+    match a {
+        Operand::Field(offset) => rows.read(planes, *offset, len),
+        Operand::Constant(number) => *rows = Rows::repeated(*number),
     }
+}
+
+/// The products. The operands may overlap the target in any way.
+pub fn multiply(planes: &mut [Plane], to: &Target, a: &Operand, b: &Operand)
+    requires target { HasTarget to.now planes.old }
+    requires a { IsWithin a.now to.now.len planes.old }
+    requires b { IsWithin b.now to.now.len planes.old }
+    ensures { Becomes to.now (λ i. product_of to.now.len (operand_of a.now planes.old to.now.len i) (operand_of b.now planes.old to.now.len i)) planes.old planes.new }
+{
+    let mut products = Rows::repeated(0);
+    let mut factors = Rows::repeated(0);
+    read(&mut products, planes, a, to.len);
+    read(&mut factors, planes, b, to.len);
+    products.multiply(&factors);
+    products.turn();
+    put_planes(planes, to, &products.planes);
 }

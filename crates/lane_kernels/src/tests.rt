@@ -69,3 +69,20 @@ fn kernels_in_place(rt: HostRuntime) -> Result<(), Fail> {
     assert_eq!(rt; block.number(301, 8, 1), 0);
     Ok(())
 }
+
+#[test]
+fn products_in_place(rt: HostRuntime) -> Result<(), Fail> {
+    let mut block = Block::new(rt.alloc(), 25)?;
+    let to = Target::at(4, 16, repeated(true));
+    in_place::put_values(&mut block.planes, &to, &[70_001; 512]);
+    // 70,001 is 65,536 + 4,465.
+    assert_eq!(rt; block.number(300, 4, 16), 4465);
+    let field = Operand::Field(4);
+    in_place::multiply(&mut block.planes, &to, &field, &Operand::Constant(3));
+    assert_eq!(rt; block.number(300, 4, 16), 13_395);
+    // 13,395 times itself is 179,426,025, and 53,993 modulo 65,536.
+    in_place::multiply(&mut block.planes, &to, &field, &field);
+    assert_eq!(rt; block.number(301, 4, 16), 53_993);
+    assert_eq!(rt; block.number(301, 0, 4), 0);
+    Ok(())
+}

@@ -2,7 +2,7 @@ use Rattle.std.proofs.Common.{◌≡◌, ℕ, ◌%◌, ◌^◌, ◌<◌, length}
 use Rattle.std.specs.Prelude.{slice_index}
 use Rattle.cstar_base.specs.Operators.{outcome}
 use Rattle.paris_code.specs.Operators.{operator_of}
-use Rattle.elementwise.proofs.in_block.operated.Given as goal
+use Rattle.elementwise.proofs.in_block.lane_by_lane.Given as goal
 
 -- the lanes so far have their words
 abbrev pub invariant-lanes : goal.invariant-lanes

@@ -1,8 +1,0 @@
-use Rattle.bit_planes.proofs.Numbers.{RowsRead, WordsRead}
-use Rattle.bit_planes.proofs.lanes.unpacked.Given as goal
-
-abbrev pub invariant-loop-row : goal.invariant-loop-row
-invariant-loop-row l = RowsRead l.row l.planes l.v
-
-abbrev pub invariant-loop-word : goal.invariant-loop-word
-invariant-loop-word l = WordsRead l.row l.word l.planes l.v
