@@ -12,7 +12,7 @@ use Rattle.reduce_scan.specs.declared.lines.Lines.{Lines}
 use Rattle.reduce_scan.specs.Order.{position_at, place_at}
 
 -- a number in two digits
-low_high : (a b m : ℕ) → 0 < m → a < m → ((a + b * m) / m ≡ b) × ((a + b * m) % m ≡ a)
+pub low_high : (a b m : ℕ) → 0 < m → a < m → ((a + b * m) / m ≡ b) × ((a + b * m) % m ≡ a)
 low_high a b m p h = (
   add-mul-div_right a b p ∙ ap (λ x. x + b) (div-eq_of_lt h) ∙ (let f : 0 + b ≡ b = omega arith in f),
   add-mul-mod_self_right a b m ∙ mod-eq_of_lt h,
@@ -74,6 +74,14 @@ module _ (d : Direction) (e t : ℕ) (ep : 0 < e) (tp : 0 < t) where
       ∙ (let f : p / t / e * (e * t) + c * t + p % t ≡ (p / t / e * e + c) * t + p % t = omega (arith, add-mul (p / t / e * e) c t, mul_assoc (p / t / e) e t) in f)
       ∙ ap (λ x. x * t + p % t) (let f : p / t / e * e + p / t % e ≡ p / t = omega (arith, div-add-mod (p / t) e, mul_comm e (p / t / e)) in f)
       ∙ (let f : p / t * t + p % t ≡ p = omega (arith, div-add-mod p t, mul_comm t (p / t)) in f)
+
+  -- the step of a position
+  pub place_rest : (p : ℕ) → place_at d e t p % e ≡ steps_before d e (p / t % e)
+  place_rest p =
+      let c : ℕ = p / t % e in
+      let line : ℕ = p / t / e * t + p % t in
+      ap (λ x. x % e) (let is : place_at d e t p ≡ steps_before d e c + line * e = omega arith in is)
+      ∙ (low_high (steps_before d e c) line e ep (steps_below d e c (mod-lt (p / t) ep))).1
 
   -- the next place on the same line
   next_digits : (q : ℕ) → (q + 1) % e ≢ 0 → ((q + 1) / e ≡ q / e) × ((q + 1) % e ≡ q % e + 1)
