@@ -1,10 +1,9 @@
 -- The words that cells hold, one by one.
-use Rattle.std.proofs.Common.{◌≡◌, ◌≢◌, ℕ, zero, suc, ◌+◌, ◌-◌, ◌*◌, ◌/◌, ◌%◌, ◌<◌, ◌≤◌, ◌⊎◌, Bool, true, false, not, ◌&&◌, cond, eqb, ltb, List, [], map, length, get_or, inl, inr, refl, sym, ◌∙◌, ap, arith}
+use Rattle.std.proofs.Common.{◌≡◌, ◌≢◌, ℕ, ◌+◌, ◌*◌, ◌/◌, ◌%◌, ◌<◌, ◌≤◌, ◌⊎◌, Bool, true, false, not, ◌&&◌, cond, eqb, ltb, List, [], map, length, get_or, inl, inr, refl, sym, ◌∙◌, ap, arith}
 use Rattle.std.specs.Prelude.{slice_index}
 use Rattle.std.proofs.Math.ListN.{set, length-set}
 use Rattle.std.proofs.Math.Seq.{map-set_same}
 use Rattle.std.proofs.lemmas.Bool.{cases_eq, cases_lt, cases_Bool, lt-ltb, le-ltb}
-use Rattle.std.proofs.lemmas.List.{get_or-set_same, get_or-set_other}
 use Rattle.vp_sets.specs.Lines.{steps_before}
 use Rattle.cstar_base.specs.declared.operators.Direction.{Direction}
 use Rattle.cstar_base.specs.declared.operators.Direction.TheVariants as D
@@ -16,8 +15,8 @@ use Rattle.phase_meaning.proofs.Entries.{entry, entry_new, entry_other}
 use Rattle.block_store.specs.declared.set.Cell.{Cell}
 use Rattle.block_store.specs.Stored.{words_in, word_at}
 use Rattle.reduce_scan.specs.declared.lines.Lines.{Lines}
-use Rattle.reduce_scan.specs.Across.{previous, HasPrevious, planes_of, is_held_cut, taken_at, Joined, WordSet}
-use Rattle.reduce_scan.proofs.LineSteps.{previous_below, previous_earlier}
+use Rattle.reduce_scan.specs.Across.{previous, HasPrevious, planes_of, is_held_cut, taken_at, WordSet}
+use Rattle.reduce_scan.proofs.LineSteps.{previous_earlier}
 use Rattle.reduce_scan.proofs.Parts.{once, none}
 
 pub word_set : (cells : List Cell) (p number : ℕ) (cell new : Cell) → p / 512 < length cells → cell ≡ get_or cells (p / 512) cell → slice_index new.words (p % 512) ≡ number

@@ -1,15 +1,15 @@
 -- The least and the greatest of numbers, bit by bit from the highest one.
-use Rattle.std.proofs.Common.{◌≡◌, ◌≢◌, ℕ, zero, suc, ◌+◌, ◌-◌, ◌*◌, ◌/◌, ◌%◌, ◌^◌, ◌<◌, ◌≤◌, ◌⊎◌, min, Bool, true, false, not, ◌&&◌, cond, eqb, ℤ, pos, ◌-ℤ◌, ◌≤ℤ◌, List, length, inl, inr, refl, sym, ◌∙◌, ap, subst, add-one, mul_assoc, arith}
+use Rattle.std.proofs.Common.{◌≡◌, ◌≢◌, ℕ, zero, suc, ◌+◌, ◌-◌, ◌*◌, ◌/◌, ◌%◌, ◌^◌, ◌<◌, ◌≤◌, ◌⊎◌, min, Bool, true, false, not, ◌&&◌, cond, eqb, ℤ, ◌≤ℤ◌, List, inl, inr, refl, sym, ◌∙◌, ap, subst, add-one, mul_assoc, arith}
 use Rattle.std.specs.Int.{int_min, int_max}
 use Rattle.std.proofs.lemmas.Bool.{cases_eq, cases_lt, cases_Bool, eq-eqb, eqb-true, ne_eqb}
 use Rattle.std.proofs.lemmas.Int.{ints, clamps}
 use Rattle.std.proofs.Math.Nat.{pow-suc}
 use Rattle.std.proofs.Math.Pow.{pow_mono}
-use Rattle.cstar_base.specs.Folds.{fold_once, identity_of}
-use Rattle.cstar_base.specs.Numbers.{residue, number_of}
+use Rattle.cstar_base.specs.Folds.{fold_once}
+use Rattle.cstar_base.specs.Numbers.{residue}
 use Rattle.cstar_base.specs.Operators.{operand, lesser_of, greater_of}
 use Rattle.cstar_base.specs.Orders.{fold_below}
-use Rattle.cstar_base.proofs.FoldLaws.{residue_of_operand, identity_first, fold_once_comm, fold_once_below, fold_once_assoc}
+use Rattle.cstar_base.proofs.FoldLaws.{residue_of_operand, identity_first, fold_once_comm, fold_once_assoc}
 use Rattle.cstar_base.proofs.NumberLaws.{number_in_upper, number_in_lower, number_unsigned}
 use Rattle.bit_planes.specs.declared.plane.Plane.{Plane}
 use Rattle.bit_planes.specs.Bits.{bit}

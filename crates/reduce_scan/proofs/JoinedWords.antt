@@ -1,9 +1,8 @@
 -- The words of a set, each joined to the one before it on its line, give what the scan means.
-use Rattle.std.proofs.Common.{◌≡◌, ℕ, zero, suc, ◌+◌, ◌-◌, ◌*◌, ◌/◌, ◌%◌, ◌^◌, ◌<◌, ◌≤◌, Bool, true, false, not, ◌&&◌, cond, eqb, ltb, List, [], length, get_or, refl, sym, ◌∙◌, ap, subst, inl, inr, arith}
-use Rattle.std.specs.Prelude.{◌||◌, slice_index}
-use Rattle.std.proofs.lemmas.Bool.{cases_Bool, cases_eq, eq-eqb, eqb-true, lt-ltb, cases_lt}
+use Rattle.std.proofs.Common.{◌≡◌, ℕ, zero, suc, ◌+◌, ◌*◌, ◌/◌, ◌%◌, ◌^◌, ◌<◌, ◌≤◌, Bool, true, false, not, ◌&&◌, cond, eqb, List, [], length, get_or, refl, sym, ◌∙◌, ap, subst, inl, inr, arith}
+use Rattle.std.specs.Prelude.{◌||◌}
+use Rattle.std.proofs.lemmas.Bool.{cases_Bool, eq-eqb, lt-ltb, cases_lt}
 use Rattle.std.proofs.lemmas.List.{get_or-map}
-use Rattle.vp_sets.specs.Blocks.{block_count}
 use Rattle.vp_sets.specs.Lines.{steps_before}
 use Rattle.vp_sets.specs.Positions.{position_count}
 use Rattle.cstar_base.specs.declared.operators.Inclusion.{Inclusion}
@@ -28,17 +27,15 @@ use Rattle.block_store.specs.declared.set.BlockSet.{BlockSet}
 use Rattle.block_store.specs.declared.set.Cell.{Cell}
 use Rattle.block_store.specs.Phases.{LanesWritten, WrittenInBlock}
 use Rattle.block_store.specs.Planes.{planes_in, planes_at, block_bit}
-use Rattle.block_store.specs.Stored.{blocks_at, stored, words_in, word_at, AreWhole}
+use Rattle.block_store.specs.Stored.{blocks_at, stored, word_at, AreWhole}
 use Rattle.block_store.proofs.AllBlocks.{in_block}
-use Rattle.block_store.proofs.Fetches.{some_cell, word_read, room_much}
-use Rattle.block_store.proofs.Stores.{block_exists}
+use Rattle.block_store.proofs.Fetches.{some_cell, word_read}
 use Rattle.reduce_scan.specs.declared.lines.AxisScan.{AxisScan}
 use Rattle.reduce_scan.specs.declared.lines.Lines.{Lines}
 use Rattle.reduce_scan.specs.declared.lines.Scan.{Scan}
 use Rattle.reduce_scan.specs.Across.{begins_line, previous, HasPrevious, stops_there, own_there, Holds, planes_of, is_held_cut, Joined, taken_at}
 use Rattle.reduce_scan.specs.Along.{scan_of, ScanFits}
-use Rattle.reduce_scan.specs.Order.{apart_of}
-use Rattle.reduce_scan.specs.Parts.{begins_there, active_there, value_there}
+use Rattle.reduce_scan.specs.Parts.{begins_there, active_there}
 use Rattle.reduce_scan.proofs.LineSteps.{back_of, previous_below, previous_earlier, first_of_line, line_before}
 use Rattle.reduce_scan.proofs.Parts.{once, none, none_below, none_last}
 use Rattle.reduce_scan.proofs.Scanned.{blocks_here, scan_here, lines_here, positive, lines_are, begins_is, value_below}

@@ -1,8 +1,7 @@
 -- Scans by the positions of a set, each from the one before it on its line.
-use Rattle.std.proofs.Common.{◌≡◌, ◌≢◌, ℕ, zero, suc, ◌+◌, ◌-◌, ◌*◌, ◌/◌, ◌%◌, ◌^◌, ◌<◌, ◌≤◌, Bool, true, false, cond, eqb, ltb, List, [], length, get_or, drop, refl, sym, ◌∙◌, ap, subst, inl, inr, arith, add-mul, mul_assoc}
-use Rattle.std.specs.Prelude.{◌||◌, slice_index}
-use Rattle.std.proofs.lemmas.Bool.{cases_eq, cases_lt, cases_Bool, eq-eqb, eqb-true, ne_eqb, lt-ltb}
-use Rattle.std.proofs.lemmas.List.{get_or-map}
+use Rattle.std.proofs.Common.{◌≡◌, ◌≢◌, ℕ, zero, suc, ◌+◌, ◌-◌, ◌*◌, ◌/◌, ◌%◌, ◌<◌, true, false, eqb, List, length, drop, sym, ◌∙◌, ap, subst, inl, inr, arith, add-mul, mul_assoc}
+use Rattle.std.specs.Prelude.{slice_index}
+use Rattle.std.proofs.lemmas.Bool.{cases_lt, eqb-true}
 use Rattle.std.proofs.Math.Nat.{div-lt_iff_lt-mul, div-add-mod, mod-eq_of_lt, mod-lt, mul_comm, zero-mod}
 use Rattle.vp_sets.specs.Lines.{steps_before}
 use Rattle.vp_sets.specs.Positions.{position_count, are_positive}
@@ -10,15 +9,15 @@ use Rattle.vp_sets.proofs.PositionLaws.{extent_positive, count_positive, later_p
 use Rattle.cstar_base.specs.declared.operators.Direction.{Direction}
 use Rattle.cstar_base.specs.declared.operators.Direction.TheVariants as D
 use Rattle.paris_code.specs.Scanning.{ScanOf, own_step}
-use Rattle.phase_meaning.specs.Scans.{IsPrevious, before_at}
-use Rattle.phase_meaning.proofs.Lines.{Backs, steps_below}
+use Rattle.phase_meaning.specs.Scans.{IsPrevious}
+use Rattle.phase_meaning.proofs.Lines.{Backs}
 use Rattle.reduce_scan.specs.declared.lines.Lines.{Lines}
 use Rattle.reduce_scan.specs.Across.{begins_line, previous, has_previous, HasPrevious}
 use Rattle.reduce_scan.specs.Along.{lines_of}
-use Rattle.reduce_scan.specs.Order.{apart_of, ordered, place_at, position_at}
+use Rattle.reduce_scan.specs.Order.{apart_of, ordered, place_at}
 use Rattle.reduce_scan.specs.Parts.{AreLines}
 use Rattle.reduce_scan.proofs.LineOrder.{first_place, neighbours}
-use Rattle.reduce_scan.proofs.Order.{low_high, place_rest, place_below, position_of_place, next_position, backs}
+use Rattle.reduce_scan.proofs.Order.{low_high, place_rest, position_of_place, next_position, backs}
 
 -- a position that is not the first one of its line has one before it
 step_back : (d : Direction) (e t h p : ℕ) → 0 < e → 0 < t → p < h * (e * t) → steps_before d e (p / t % e) ≢ 0 → has_previous d t (h * (e * t)) p

@@ -1,5 +1,5 @@
 -- The passes of a scan give what the scan means.
-use Rattle.std.proofs.Common.{◌≡◌, ℕ, zero, suc, ◌+◌, ◌-◌, ◌*◌, ◌/◌, ◌%◌, ◌^◌, ◌<◌, ◌≤◌, Bool, true, ◌&&◌, cond, eqb, List, [], length, get_or, drop, take, Option, Some, None, refl, sym, ◌∙◌, ap, subst, arith}
+use Rattle.std.proofs.Common.{◌≡◌, ℕ, zero, suc, ◌+◌, ◌-◌, ◌*◌, ◌/◌, ◌%◌, ◌^◌, ◌<◌, ◌≤◌, Bool, true, ◌&&◌, eqb, List, [], length, get_or, drop, take, Option, Some, None, refl, sym, ◌∙◌, ap, subst, arith}
 use Rattle.std.specs.Prelude.{◌||◌, slice_index, IfSome}
 use Rattle.std.proofs.lemmas.Bool.{lt-ltb}
 use Rattle.std.proofs.lemmas.List.{get_or-map}
@@ -26,19 +26,19 @@ use Rattle.block_store.specs.declared.set.BlockSet.{BlockSet}
 use Rattle.block_store.specs.declared.set.Cell.{Cell}
 use Rattle.block_store.specs.Phases.{LanesWritten, WrittenInBlock}
 use Rattle.block_store.specs.Planes.{planes_in, planes_at, block_bit}
-use Rattle.block_store.specs.Stored.{blocks_at, stored, words_in, word_at, word_or_zero, AreWhole}
+use Rattle.block_store.specs.Stored.{blocks_at, stored, words_in, AreWhole}
 use Rattle.block_store.proofs.AllBlocks.{in_block}
-use Rattle.block_store.proofs.Fetches.{some_cell, word_read, room_much, field_there}
+use Rattle.block_store.proofs.Fetches.{some_cell, room_much, field_there}
 use Rattle.reduce_scan.specs.declared.lines.AxisScan.{AxisScan}
 use Rattle.reduce_scan.specs.declared.lines.Lines.{Lines}
 use Rattle.reduce_scan.specs.declared.lines.Scan.{Scan}
 use Rattle.reduce_scan.specs.Along.{scan_of, scan_over, lines_of, ScanFits}
-use Rattle.reduce_scan.specs.Order.{ordered, place_at}
+use Rattle.reduce_scan.specs.Order.{ordered}
 use Rattle.reduce_scan.specs.Parts.{AreLines, CanScan, FieldsFit, FitsBelow, IsFolded, ordered_at, active_there, value_there, bit_there, cut_there, part_fold, part_begins, part_size, word_of_cell, starts}
 use Rattle.reduce_scan.specs.Running.{running, handed_on}
 use Rattle.reduce_scan.specs.WithinBlocks.{fold_in, scanned_in}
 use Rattle.reduce_scan.proofs.LineOrder.{cut_at, run_to, run_is}
-use Rattle.reduce_scan.proofs.Order.{count_split, position_below, place_below, position_of_place, straight}
+use Rattle.reduce_scan.proofs.Order.{count_split, position_below, straight}
 use Rattle.reduce_scan.proofs.Parts.{once, none, none_below}
 use Rattle.reduce_scan.proofs.Scans.{running_on, running_from, running_fits, running_same}
 use Rattle.reduce_scan.proofs.StraightLines.{fold_is}

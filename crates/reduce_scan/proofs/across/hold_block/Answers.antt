@@ -1,4 +1,4 @@
-use Rattle.std.proofs.Common.{[], eqb, sym, ◌∙◌, ap}
+use Rattle.std.proofs.Common.{[], eqb, ◌∙◌, ap}
 use Rattle.std.specs.Prelude.{slice_index}
 use Rattle.bit_planes.specs.Bits.{bit}
 use Rattle.cstar_base.specs.Folds.{identity_of}

@@ -1,7 +1,5 @@
-use Rattle.std.proofs.Common.{◌≡◌, ◌+◌, ◌*◌, ◌/◌, ◌%◌, ◌∙◌, sym, ap, arith}
-use Rattle.std.specs.Prelude.{slice_index}
+use Rattle.std.proofs.Common.{◌+◌, ◌*◌, ◌∙◌, sym, ap}
 use Rattle.cstar_base.specs.declared.operators.Inclusion.{Inclusion}
-use Rattle.block_store.specs.declared.set.Cell.{Cell}
 use Rattle.reduce_scan.specs.Across.{taken_at}
 use Rattle.reduce_scan.proofs.CellWords.{word_of}
 use Rattle.reduce_scan.proofs.across.taken.Goals as goal

@@ -1,5 +1,4 @@
-use Rattle.std.proofs.Common.{◌≡◌, ℕ, ◌+◌, ◌-◌, ◌*◌, ◌/◌, ◌<◌, sym, ◌∙◌, ap, refl, arith}
-use Rattle.vp_sets.specs.Lines.{steps_before}
+use Rattle.std.proofs.Common.{◌≡◌, ◌+◌, ◌-◌, ◌*◌, ◌/◌, ◌<◌, sym, ◌∙◌, ap, refl, arith}
 use Rattle.reduce_scan.proofs.LineCuts.{at_small, begun_all, begun_more, begun_none, div_up, row_small, size_small, size_some}
 use Rattle.reduce_scan.proofs.cuts.line_cuts.Goals as goal
 

@@ -9,7 +9,6 @@ use Rattle.paris_code.specs.Fetching.{at_active}
 use Rattle.paris_code.specs.Scanning.{scanned}
 use Rattle.paris_code.specs.Shapes.{bits_at}
 use Rattle.std.specs.Prelude.{slice_index}
-use Rattle.block_store.specs.declared.set.Cell.{Cell}
 use Rattle.block_store.specs.Planes.{planes_in, HasPlanes}
 use Rattle.block_store.specs.Stored.{shape_of_plan, shapes_in, memory_in, blocks_in, blocks_at, words_in}
 use Rattle.block_store.proofs.AllBlocks.{blocks_written, blocks_whole}

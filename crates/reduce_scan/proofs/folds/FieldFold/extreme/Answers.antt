@@ -1,7 +1,6 @@
-use Rattle.std.proofs.Common.{◌≡◌, ◌+◌, ◌-◌, ◌*◌, min, cond, eqb, not, refl, subst, ap, sym, ◌∙◌, arith}
+use Rattle.std.proofs.Common.{◌≡◌, ◌+◌, ◌-◌, min, cond, eqb, not, refl, subst, ap, ◌∙◌, arith}
 use Rattle.bit_planes.specs.Bits.{bit}
 use Rattle.bit_planes.specs.Planes.{plane_at}
-use Rattle.reduce_scan.specs.Extremes.{wants_one}
 use Rattle.reduce_scan.proofs.ExtremeNumbers.{Narrowed, few_bits, narrowed_none, narrowed_step, extreme_is}
 use Rattle.reduce_scan.proofs.WithinBlocks.{flag}
 use Rattle.reduce_scan.proofs.folds.FieldFold.extreme.Goals as goal
