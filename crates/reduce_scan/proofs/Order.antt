@@ -12,7 +12,7 @@ use Rattle.reduce_scan.specs.declared.lines.Lines.{Lines}
 use Rattle.reduce_scan.specs.Order.{position_at, place_at}
 
 -- a number in two digits
-low_high : (a b m : ℕ) → 0 < m → a < m → ((a + b * m) / m ≡ b) × ((a + b * m) % m ≡ a)
+pub low_high : (a b m : ℕ) → 0 < m → a < m → ((a + b * m) / m ≡ b) × ((a + b * m) % m ≡ a)
 low_high a b m p h = (
   add-mul-div_right a b p ∙ ap (λ x. x + b) (div-eq_of_lt h) ∙ (let f : 0 + b ≡ b = omega arith in f),
   add-mul-mod_self_right a b m ∙ mod-eq_of_lt h,
@@ -43,17 +43,6 @@ module _ (d : Direction) (e t : ℕ) (ep : 0 < e) (tp : 0 < t) where
   unfolding own
   own_is q = ap (λ x. x % e) (digits q).0 ∙ (low_high (own q) (high q) e ep (own_below q)).1
 
-  pub place_of_position : (q : ℕ) → place_at d e t (position_at d e t q) ≡ q
-  unfolding own high
-  place_of_position q =
-      let line : position_at d e t q / t / e ≡ high q = ap (λ x. x / e) (digits q).0 ∙ (low_high (own q) (high q) e ep (own_below q)).0 in
-      ap (λ x. (x * t + position_at d e t q % t) * e + steps_before d e (position_at d e t q / t % e)) line
-      ∙ ap (λ x. (high q * t + x) * e + steps_before d e (position_at d e t q / t % e)) (digits q).1
-      ∙ ap (λ x. (high q * t + q / e % t) * e + steps_before d e x) (own_is q)
-      ∙ ap (λ x. (high q * t + q / e % t) * e + x) (steps_twice d e (q % e) (mod-lt q ep))
-      ∙ ap (λ x. x * e + q % e) (let f : high q * t + q / e % t ≡ q / e = omega (arith, div-add-mod (q / e) t, mul_comm t (q / e / t)) in f)
-      ∙ (let f : q / e * e + q % e ≡ q = omega (arith, div-add-mod q e, mul_comm e (q / e)) in f)
-
   pub position_of_place : (p : ℕ) → position_at d e t (place_at d e t p) ≡ p
   position_of_place p =
       let c : ℕ = p / t % e in
@@ -74,6 +63,14 @@ module _ (d : Direction) (e t : ℕ) (ep : 0 < e) (tp : 0 < t) where
       ∙ (let f : p / t / e * (e * t) + c * t + p % t ≡ (p / t / e * e + c) * t + p % t = omega (arith, add-mul (p / t / e * e) c t, mul_assoc (p / t / e) e t) in f)
       ∙ ap (λ x. x * t + p % t) (let f : p / t / e * e + p / t % e ≡ p / t = omega (arith, div-add-mod (p / t) e, mul_comm e (p / t / e)) in f)
       ∙ (let f : p / t * t + p % t ≡ p = omega (arith, div-add-mod p t, mul_comm t (p / t)) in f)
+
+  -- the step of a position
+  pub place_rest : (p : ℕ) → place_at d e t p % e ≡ steps_before d e (p / t % e)
+  place_rest p =
+      let c : ℕ = p / t % e in
+      let line : ℕ = p / t / e * t + p % t in
+      ap (λ x. x % e) (let is : place_at d e t p ≡ steps_before d e c + line * e = omega arith in is)
+      ∙ (low_high (steps_before d e c) line e ep (steps_below d e c (mod-lt (p / t) ep))).1
 
   -- the next place on the same line
   next_digits : (q : ℕ) → (q + 1) % e ≢ 0 → ((q + 1) / e ≡ q / e) × ((q + 1) % e ≡ q % e + 1)
@@ -99,7 +96,7 @@ module _ (d : Direction) (e t : ℕ) (ep : 0 < e) (tp : 0 < t) where
       go D.Upward is h = sym is
       go D.Downward is h = omega arith
 
-  -- places and positions are as many
+  -- the position of a place is one of the positions
   pub position_below : (h q : ℕ) → q < h * (e * t) → position_at d e t q < h * (e * t)
   unfolding own high
   position_below h q b =
@@ -111,19 +108,6 @@ module _ (d : Direction) (e t : ℕ) (ep : 0 < e) (tp : 0 < t) where
       let quotient : position_at d e t q / t < h * e = omega (arith, (digits q).0) in
       let all : position_at d e t q < h * e * t = (div-lt_iff_lt-mul tp).0 quotient in
       omega (arith, mul_assoc h e t)
-
-  pub place_below : (h p : ℕ) → p < h * (e * t) → place_at d e t p < h * (e * t)
-  place_below h p b =
-      let step : ℕ = steps_before d e (p / t % e) in
-      let line : ℕ = p / t / e * t + p % t in
-      let turned : h * (e * t) ≡ h * t * e = omega (arith, mul_assoc h t e, ap (λ x. h * x) (mul_comm e t)) in
-      let rows : p / t < h * e = (div-lt_iff_lt-mul tp).1 (omega (arith, mul_assoc h e t)) in
-      let highs : p / t / e < h = (div-lt_iff_lt-mul ep).1 rows in
-      let lines : line / t < h = omega (arith, ap (λ x. x / t) (let f : line ≡ p % t + p / t / e * t = omega arith in f), (low_high (p % t) (p / t / e) t tp (mod-lt p tp)).0) in
-      let all : line < h * t = (div-lt_iff_lt-mul tp).0 lines in
-      let quotient : place_at d e t p / e < h * t =
-      omega (arith, ap (λ x. x / e) (let f : place_at d e t p ≡ step + line * e = omega arith in f), (low_high step line e ep (steps_below d e (p / t % e) (mod-lt (p / t) ep))).0) in
-      omega (arith, (div-lt_iff_lt-mul ep).0 quotient)
 
 -- where there is a position there is a row
 pub one_row : (h m q : ℕ) → q < h * m → m ≤ h * m

@@ -26,7 +26,7 @@ fold_past step f x start m (suc n) off =
     ∙ ap (λ t. cond t (step (fold_below step f x start (m + n)) (x (m + n))) (fold_below step f x start (m + n))) (off (m + n) (omega arith) (omega arith))
     ∙ fold_past step f x start m n (λ k b h. off k b (omega arith))
 
-not_last : (r : Reduction) → (combiner_of r).0 ≡ C.Last → ⊥
+pub not_last : (r : Reduction) → (combiner_of r).0 ≡ C.Last → ⊥
 not_last R.SAdd e = cc
 not_last R.Logand e = cc
 not_last R.Logior e = cc

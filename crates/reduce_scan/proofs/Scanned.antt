@@ -1,5 +1,5 @@
 -- The passes of a scan give what the scan means.
-use Rattle.std.proofs.Common.{◌≡◌, ℕ, zero, suc, ◌+◌, ◌-◌, ◌*◌, ◌/◌, ◌%◌, ◌^◌, ◌<◌, ◌≤◌, Bool, true, ◌&&◌, cond, eqb, List, [], length, get_or, drop, take, Option, Some, None, refl, sym, ◌∙◌, ap, subst, arith}
+use Rattle.std.proofs.Common.{◌≡◌, ℕ, zero, suc, ◌+◌, ◌-◌, ◌*◌, ◌/◌, ◌%◌, ◌^◌, ◌<◌, ◌≤◌, Bool, true, ◌&&◌, eqb, List, [], length, get_or, drop, take, Option, Some, None, refl, sym, ◌∙◌, ap, subst, arith}
 use Rattle.std.specs.Prelude.{◌||◌, slice_index, IfSome}
 use Rattle.std.proofs.lemmas.Bool.{lt-ltb}
 use Rattle.std.proofs.lemmas.List.{get_or-map}
@@ -26,20 +26,19 @@ use Rattle.block_store.specs.declared.set.BlockSet.{BlockSet}
 use Rattle.block_store.specs.declared.set.Cell.{Cell}
 use Rattle.block_store.specs.Phases.{LanesWritten, WrittenInBlock}
 use Rattle.block_store.specs.Planes.{planes_in, planes_at, block_bit}
-use Rattle.block_store.specs.Stored.{blocks_at, stored, words_in, word_at, word_or_zero, AreWhole}
+use Rattle.block_store.specs.Stored.{blocks_at, stored, words_in, AreWhole}
 use Rattle.block_store.proofs.AllBlocks.{in_block}
-use Rattle.block_store.proofs.Fetches.{some_cell, word_read, room_much, field_there}
+use Rattle.block_store.proofs.Fetches.{some_cell, room_much, field_there}
 use Rattle.reduce_scan.specs.declared.lines.AxisScan.{AxisScan}
 use Rattle.reduce_scan.specs.declared.lines.Lines.{Lines}
 use Rattle.reduce_scan.specs.declared.lines.Scan.{Scan}
 use Rattle.reduce_scan.specs.Along.{scan_of, scan_over, lines_of, ScanFits}
-use Rattle.reduce_scan.specs.Order.{ordered, place_at}
+use Rattle.reduce_scan.specs.Order.{ordered}
 use Rattle.reduce_scan.specs.Parts.{AreLines, CanScan, FieldsFit, FitsBelow, IsFolded, ordered_at, active_there, value_there, bit_there, cut_there, part_fold, part_begins, part_size, word_of_cell, starts}
 use Rattle.reduce_scan.specs.Running.{running, handed_on}
-use Rattle.reduce_scan.specs.Taken.{place_or_zero, scanned_there}
 use Rattle.reduce_scan.specs.WithinBlocks.{fold_in, scanned_in}
 use Rattle.reduce_scan.proofs.LineOrder.{cut_at, run_to, run_is}
-use Rattle.reduce_scan.proofs.Order.{count_split, position_below, place_below, position_of_place, straight}
+use Rattle.reduce_scan.proofs.Order.{count_split, position_below, straight}
 use Rattle.reduce_scan.proofs.Parts.{once, none, none_below}
 use Rattle.reduce_scan.proofs.Scans.{running_on, running_from, running_fits, running_same}
 use Rattle.reduce_scan.proofs.StraightLines.{fold_is}
@@ -52,14 +51,6 @@ moved P b c s t l m e f g h = subst (λ (x : Lines). P c t x) g (subst (λ (x : 
 -- what the passes leave in the cells
 abbrev pub Folded : List Cell → List Block → Scan → Lines → Type 0
 Folded cells blocks scan lines = (k : ℕ) (none : Cell) → 512 * (k + 1) < lines.positions → k < length blocks → k < length cells → IsFolded blocks scan lines k (get_or cells k none).words
-
-abbrev pub RunFrom : List Cell → List Cell → List Block → Scan → Lines → Type 0
-RunFrom old new blocks scan lines = (k : ℕ) (none : Cell) → k < length blocks → k < length new → (i : ℕ) → i < part_size lines k
-    → slice_index (get_or new k none).words i ≡ part_fold blocks scan lines k (slice_index (get_or old k none).words 0) i
-
--- a block has taken its words
-abbrev pub Spread : List Cell → Field → ℕ → List Plane → List Plane → List Block → Scan → Lines → Type 0
-Spread cells d k old new blocks scan lines = LanesWritten d.offset d.len (plane_at old scan.context) (λ i. scanned_there cells scan lines old k i % 2 ^ d.len) old new
 
 -- a block has been scanned from its start
 abbrev pub ScannedFrom : List Cell → Field → ℕ → List Plane → List Plane → List Block → Scan → Lines → Type 0
@@ -120,7 +111,7 @@ module _ (shapes : List SetShape) (sets : List BlockSet) (whole : AreWhole shape
     unfolding field_number stored
     both f p e = ap (λ s. eqb (run_number (block_bit (blocks_at sets s) p) f.offset f.len) 1) (sym e)
 
-    begins_is : (mode : SegmentMode) (b : Option Field) (d : Direction) (first second : ℕ) (a : Bool) → IfSome (looked_at mode b) (λ f. LiesIn shapes f × (f.set ≡ along.source.set) × (f.len ≡ 1))
+    pub begins_is : (mode : SegmentMode) (b : Option Field) (d : Direction) (first second : ℕ) (a : Bool) → IfSome (looked_at mode b) (λ f. LiesIn shapes f × (f.set ≡ along.source.set) × (f.len ≡ 1))
         → parts mode d (bit_there blocks_here b first) (bit_there blocks_here b second) a ≡ parts mode d (bit_is_one (stored sets w) b first) (bit_is_one (stored sets w) b second) a
     begins_is M.NoSegments b d first second a h = refl
     begins_is M.StartBit None d first second a h = refl
@@ -160,7 +151,7 @@ module _ (shapes : List SetShape) (sets : List BlockSet) (whole : AreWhole shape
     run_fits q = running_fits along.combiner cuts _ _ (none along.combiner) q (none_below along.combiner)
         (λ j. value_fits shapes sets whole along.combiner along.source fits.1 fits.0.0 w (ordered (extents_at shapes along.source.set) (scan_of along) j))
 
-    value_below : (p : ℕ) → value_there blocks_here scan_here p < 2 ^ 32
+    pub value_below : (p : ℕ) → value_there blocks_here scan_here p < 2 ^ 32
     unfolding field_number stored
     value_below p = value_fits shapes sets whole along.combiner along.source fits.1 fits.0.0 w p
 
@@ -186,56 +177,7 @@ module _ (shapes : List SetShape) (sets : List BlockSet) (whole : AreWhole shape
         (λ j. value_there blocks_here scan_here (ordered_at lines_here (512 * k + j))) (runs_to (512 * k)) 512 (run_fits (512 * k)) (λ j. value_below (ordered_at lines_here (512 * k + j))))
         ∙ part_is k 512 (omega arith) ∙ ap runs_to (let e : 512 * k + 512 ≡ 512 * suc k = omega arith in e)
 
-    -- the word at a place is the fold before its position
-    pub word_is : (first second third : List Cell) → Folded first blocks_here scan_here lines_here → ((k : ℕ) (d : Cell) → k < length blocks_here → slice_index (get_or second k d).words 0 ≡ starts along.combiner first k)
-        → RunFrom second third blocks_here scan_here lines_here → length blocks_here ≤ length first → length blocks_here ≤ length third
-        → (q : ℕ) → q < count → word_at third q ≡ before_at shapes (stored sets w) (scan_of along) (ordered (extents_at shapes along.source.set) (scan_of along) q)
-    word_is first second third folded begin run much room q b =
-        let k : ℕ = q / 512 in
-        let more : count ≤ 512 * length blocks_here = room_much shapes sets along.source.set whole fits.0.0 in
-        let there : k < length blocks_here = omega (arith, more) in
-        some_cell _ third k (omega (arith, there, room)) (λ d.
-        sym (word_read third q d (omega (arith, there, room))) ∙ run k d there (omega (arith, there, room)) (q % 512) (omega arith)
-        ∙ ap (λ s. part_fold blocks_here scan_here lines_here k s (q % 512)) (begin k d there ∙ starts_are first folded much k (omega arith))
-        ∙ part_is k (q % 512) (omega arith) ∙ ap runs_to (let e : 512 * (q / 512) + q % 512 ≡ q = omega arith in e)
-        ∙ run_is shapes (stored sets w) (scan_of along) positive fits.2 inside q b)
-
-    -- a block that has taken its words is as the scan has it
-    pub scanned_in_block : (d : Field) → d.set ≡ along.source.set → (third : List Cell)
-        → ((q : ℕ) → q < count → word_at third q ≡ before_at shapes (stored sets w) (scan_of along) (ordered (extents_at shapes along.source.set) (scan_of along) q))
-        → (blocks : List Block) → blocks ≡ blocks_here → (k : ℕ) (e : Block) (new : List Plane) → k < length blocks
-        → LanesWritten d.offset d.len (plane_at (planes_in (get_or blocks k e)) scan_here.context) (λ i. scanned_there third scan_here lines_here (planes_in (get_or blocks k e)) k i % 2 ^ d.len) (planes_in (get_or blocks k e)) new
-        → WrittenInBlock shapes (at_active shapes (stored sets w) d (λ p. scanned shapes (stored sets w) (scan_of along) p)) k (planes_in (get_or blocks k e)) new
-    unfolding is_active scanned stored block_bit
-    scanned_in_block d together third words blocks same k e new b done =
-        let x : List ℕ = extents_at shapes along.source.set in
-        let old : List Plane = planes_in (get_or blocks k e) in
-        let is : AreLines lines_here = lines_are in
-        let near : (p : ℕ) → p / 512 ≡ k → old ≡ planes_at blocks_here (p / 512) =
-        λ p h. sym (get_or-map planes_in blocks k e [] b) ∙ ap (λ bs. planes_at bs k) same ∙ ap (planes_at blocks_here) (sym h) in
-        let c : ℕ → ℕ → ℕ = λ t v. once along.combiner t v in
-        let own : ℕ → ℕ → ℕ = λ v t. with_own along.inclusion (λ s. c s v) t in
-        in_block shapes (at_active shapes (stored sets w) d (λ p. scanned shapes (stored sets w) (scan_of along) p)) k (plane_at old scan_here.context)
-        (λ i. scanned_there third scan_here lines_here old k i % 2 ^ d.len) old new done
-        (λ p h within.
-        ap (λ ps. eqb (bit (plane_at ps scan_here.context) (p % 512)) 1) (near p h)
-        ∙ ap (λ s. eqb (bit (plane_at (planes_at (blocks_at sets s) (p / 512)) (bits_at shapes s)) (p % 512)) 1) (sym together))
-        (λ p h past off. ap (λ s. bit (plane_at old (bits_at shapes s)) (p % 512)) (sym together) ∙ off)
-        (λ p h within.
-        let low : p < count = omega (arith, within, ap (λ s. position_count (extents_at shapes s)) together) in
-        let at : ℕ = place_at along.direction lines_here.extent lines_here.apart p in
-        let at_low : at < count = omega (arith, place_below along.direction lines_here.extent lines_here.apart is.some is.apart is.rows p (omega (arith, is.filled, low)), is.filled) in
-        let value : number old along.source.offset along.source.len (p % 512) ≡ field_number (stored sets w) along.source p =
-        ap (λ ps. number ps along.source.offset along.source.len (p % 512)) (near p h) ∙ field_there sets w along.source p in
-        let total : word_or_zero third count (place_or_zero lines_here (512 * k + p % 512)) ≡ before_at shapes (stored sets w) (scan_of along) p =
-        ap (λ q. word_or_zero third count (place_or_zero lines_here q)) (let f : 512 * k + p % 512 ≡ p = omega (arith, h) in f)
-        ∙ ap (λ t. word_or_zero third count (cond t at 0)) (lt-ltb p count low) ∙ ap (λ t. cond t (word_at third at) 0) (lt-ltb at count at_low)
-        ∙ words at at_low ∙ ap (before_at shapes (stored sets w) (scan_of along)) (position_of_place along.direction lines_here.extent lines_here.apart is.some is.apart p) in
-        cut_cut (scanned_there third scan_here lines_here old k (p % 512)) d.len d.len (omega arith)
-        ∙ ap (λ v. own v (word_or_zero third count (place_or_zero lines_here (512 * k + p % 512))) % 2 ^ d.len) value
-        ∙ ap (λ t. own (field_number (stored sets w) along.source p) t % 2 ^ d.len) total)
-
-    -- the same where each place is its position and each block was scanned from its start
+    -- a block that was scanned from its start, where each place is its position, is as the scan has it
     pub straight_in_block : (d : Field) → d.set ≡ along.source.set → along.direction ≡ D.Upward → lines_here.apart ≡ 1 → (first second : List Cell) → Folded first blocks_here scan_here lines_here
         → ((k : ℕ) → k < length blocks_here → word_of_cell second k 0 ≡ starts along.combiner first k) → length blocks_here ≤ length first
         → (blocks : List Block) → blocks ≡ blocks_here → (k : ℕ) (e : Block) (new : List Plane) → k < length blocks

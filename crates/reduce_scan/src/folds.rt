@@ -12,12 +12,8 @@ ghost use Rattle.block_store.specs.Planes.{planes_in, HasPlanes};
 ghost use Rattle.reduce_scan.specs.Blocks.{block_fold};
 
 use crate::counts::{BitFold, bitwise, sum};
-use crate::words::{Run, words_or};
 use bit_planes::Block;
-use bit_planes::plane::repeated;
 use block_store::{BlockSet, Cell, Room};
-use cstar_base::Inclusion;
-use cstar_base::numbers::identity;
 use cstar_io::Gate;
 use paris_code::Reduction;
 use std::thread;
@@ -44,28 +40,11 @@ impl FieldFold {
             Reduction::Logand => bitwise(block, BitFold::All, self.offset, self.context),
             Reduction::Logior => bitwise(block, BitFold::Any, self.offset, self.context),
             Reduction::Logxor => bitwise(block, BitFold::Odd, self.offset, self.context),
-            Reduction::SMin | Reduction::UMin | Reduction::SMax | Reduction::UMax => {
-                self.by_values(block)
-            }
+            Reduction::SMin => self.extreme(block, false, false),
+            Reduction::UMin => self.extreme(block, false, true),
+            Reduction::SMax => self.extreme(block, true, false),
+            Reduction::UMax => self.extreme(block, true, true),
         }
-    }
-
-    /// The same by values.
-    fn by_values(&self, block: &Block) -> u32
-        requires field { self.now.offset + 32 ≤ self.now.context }
-        requires context { self.now.context < length block.now.planes.items }
-        ensures { result ≡ block_fold self.now.combiner block.now.planes.items self.now.offset self.now.context 512 }
-    {
-        let (combine, unsigned) = self.combiner.combiner();
-        let start = identity(combine, unsigned);
-        let mut words = words_or(block, self.offset, self.context, start);
-        let run = Run {
-            combiner: self.combiner,
-            inclusion: Inclusion::Exclusive,
-            start,
-            cuts: repeated(false),
-        };
-        run.over(&mut words)
     }
 }
 

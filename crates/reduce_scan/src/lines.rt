@@ -1,8 +1,9 @@
 //! The lines of a grid, and a scan along them.
 
-ghost use Rattle.std.specs.Prelude.{◌≡◌, ◌<◌, ◌*◌, length};
+ghost use Rattle.std.specs.Prelude.{◌≡◌, ◌<◌, ◌*◌, IsTrue, length};
+ghost use Rattle.cstar_base.specs.declared.operators.Direction.TheVariants as D;
 ghost use Rattle.vp_sets.specs.Lines.{steps_before};
-ghost use Rattle.reduce_scan.specs.Order.{position_at, place_at};
+ghost use Rattle.reduce_scan.specs.Order.{position_at};
 ghost use Rattle.reduce_scan.specs.Parts.{AreLines};
 ghost use Rattle.reduce_scan.specs.Along.{scan_over, lines_of};
 
@@ -52,7 +53,7 @@ pub(crate) struct LineScan {
 }
 
 /// How many coordinates of a line lie before one in a direction.
-fn steps_before(direction: Direction, extent: u32, k: u32) -> u32
+pub(crate) fn steps_before(direction: Direction, extent: u32, k: u32) -> u32
     requires { k < extent }
     ensures { result ≡ steps_before direction extent k }
 {
@@ -93,6 +94,13 @@ impl Lines {
         }
     }
 
+    /// Whether each place is its position, so that a part is a block.
+    pub(crate) fn are_straight(&self) -> bool
+        ensures { IsTrue result → (self.now.direction ≡ D.Upward) × (self.now.apart ≡ 1) }
+    {
+        self.apart == 1 && self.direction == Direction::Upward
+    }
+
     /// The position at a place in line order.
     pub(crate) fn position(&self, place: u32) -> u32
         requires lines { AreLines self.now }
@@ -103,17 +111,5 @@ impl Lines {
         let line = place / self.extent;
         let step = steps_before(self.direction, self.extent, place % self.extent);
         line / self.apart * (self.extent * self.apart) + step * self.apart + line % self.apart
-    }
-
-    /// The place of a position in line order.
-    pub(crate) fn place(&self, position: u32) -> u32
-        requires lines { AreLines self.now }
-        requires position { position < self.now.positions }
-        ensures value { result ≡ place_at self.now.direction self.now.extent self.now.apart position }
-        ensures bound { result < self.now.positions }
-    {
-        let high = position / self.apart;
-        let step = steps_before(self.direction, self.extent, high % self.extent);
-        (high / self.extent * self.apart + position % self.apart) * self.extent + step
     }
 }

@@ -11,7 +11,6 @@ ghost use Rattle.reduce_scan.specs.Parts.{CanScan, FitsBelow, ordered_at, active
 ghost use Rattle.reduce_scan.specs.Running.{handed_on};
 
 use crate::lines::{LineScan, Lines, Scan};
-use crate::places::{is_straight, part_size, part_words};
 use crate::straight::fold_own;
 use block_store::{BlockSet, Cell, Room};
 use cstar_base::numbers::{fold_step, identity};
@@ -21,7 +20,7 @@ use std::thread;
 use std::thread::Threads;
 
 /// Whether the bit that parts the segments is 1 at a position.
-fn is_marked(set: &BlockSet, bit: Option<Field>, context: u32, position: u32) -> bool
+pub(crate) fn is_marked(set: &BlockSet, bit: Option<Field>, context: u32, position: u32) -> bool
     requires bit { IfSome bit (λ f. FitsBelow context f × (f.len ≡ 1)) }
     requires planes { HasPlanes (context + 1) set.now.blocks.items }
     requires position { position < 512 * length set.now.blocks.items }
@@ -87,50 +86,6 @@ fn is_cut(set: &BlockSet, scan: &Scan, lines: &Lines, place: u32) -> bool
     )
 }
 
-/// The fold behind a place, from the one before it.
-fn next_fold(combiner: Reduction, total: u32, cut: bool, active: bool, value: u32) -> u32
-    ensures { result ≡ (if cut then identity_of (combiner_of combiner).0 (combiner_of combiner).1
-        else if active then fold_once (combiner_of combiner).0 (combiner_of combiner).1 total value else total) }
-{
-    let (combine, unsigned) = combiner.combiner();
-    if cut {
-        return identity(combine, unsigned);
-    }
-    if !active {
-        return total;
-    }
-    fold_step(combine, unsigned, total, value)
-}
-
-/// Holds the fold before each place of part `k`, from a start, and tells the one behind the last
-/// place, and whether a line or a segment begins on the way.
-fn run_part(
-    set: &BlockSet,
-    scan: &Scan,
-    lines: &Lines,
-    k: u32,
-    start: u32,
-    words: &mut [u32; 512],
-) -> (u32, bool)
-    requires can { CanScan set.now.blocks.items scan.now lines.now }
-    requires part { k < 2 ^ 16 }
-    ensures folds { (i : ℕ) → i < part_size lines.now k → slice_index words.new i ≡ part_fold set.now.blocks.items scan.now lines.now k start i }
-    ensures tail { result.0 ≡ part_fold set.now.blocks.items scan.now lines.now k start (part_size lines.now k) }
-    ensures begins { result.1 ≡ part_begins set.now.blocks.items scan.now lines.now k (part_size lines.now k) }
-{
-    let values = part_words(set, lines, k, scan.source.offset, scan.source.len);
-    let active = part_words(set, lines, k, scan.context, 1);
-    let mut total = start;
-    let mut begun = false;
-    for i in 0..part_size(lines, k) as usize {
-        words[i] = total;
-        let cut = is_cut(set, scan, lines, k * 512 + i as u32 + 1);
-        total = next_fold(scan.combiner, total, cut, active[i] == 1, values[i]);
-        begun |= cut;
-    }
-    (total, begun)
-}
-
 /// Folds each part but the last one from the identity: the first word of its cell becomes the fold
 /// behind it, and the second one 1 where a line or a segment begins in it.
 pub(crate) fn fold_parts<R: Threads + Sync>(
@@ -141,6 +96,7 @@ pub(crate) fn fold_parts<R: Threads + Sync>(
     workers: u32,
 )
     requires can { CanScan set.now.blocks.items task.now.scan task.now.lines }
+    requires straight { (task.now.lines.direction ≡ D.Upward) × (task.now.lines.apart ≡ 1) }
     requires few { length set.now.blocks.items < 2 ^ 16 }
     requires workers { 1 ≤ workers }
     ensures count { length room.new.cells.items ≡ length room.old.cells.items }
@@ -153,7 +109,7 @@ pub(crate) fn fold_parts<R: Threads + Sync>(
         room.cells.as_mut_slice(),
         workers as usize,
         &|k: usize, cell: &mut Cell|
-            requires { CanScan set.now.blocks.items task.now.scan task.now.lines × (blocks < 2 ^ 16) }
+            requires { CanScan set.now.blocks.items task.now.scan task.now.lines × (task.now.lines.direction ≡ D.Upward) × (task.now.lines.apart ≡ 1) × (blocks < 2 ^ 16) }
             ensures { 512 * (k + 1) < task.entry.now.lines.positions → k < blocks → IsFolded set.entry.now.blocks.items task.entry.now.scan task.entry.now.lines k cell.exit.now.words }
         {
             if k < blocks && (k as u32 + 1) * 512 < task.lines.positions {
@@ -168,16 +124,10 @@ fn fold_part(set: &BlockSet, scan: &Scan, lines: &Lines, k: u32, cell: &mut Cell
     requires can { CanScan set.now.blocks.items scan.now lines.now }
     requires part { k < 2 ^ 16 }
     requires more { 512 * (k + 1) < lines.now.positions }
+    requires straight { (lines.now.direction ≡ D.Upward) × (lines.now.apart ≡ 1) }
     ensures { IsFolded set.now.blocks.items scan.now lines.now k cell.new.words }
 {
-    if is_straight(lines) {
-        let (total, begun) = fold_block_part(set, scan, lines, k);
-        hold(cell, total, begun);
-        return;
-    }
-    let (combine, unsigned) = scan.combiner.combiner();
-    let start = identity(combine, unsigned);
-    let (total, begun) = run_part(set, scan, lines, k, start, &mut cell.words);
+    let (total, begun) = fold_block_part(set, scan, lines, k);
     hold(cell, total, begun);
 }
 
@@ -205,47 +155,6 @@ fn fold_block_part(set: &BlockSet, scan: &Scan, lines: &Lines, k: u32) -> (u32, 
         return (identity(combine, unsigned), true);
     }
     fold_own(&set.blocks[k as usize], k, scan, lines.extent)
-}
-
-/// Holds the fold before each place, part by part, each from the fold that its first word holds.
-pub(crate) fn run_parts<R: Threads + Sync>(
-    rt: &R,
-    set: &BlockSet,
-    room: &mut Room,
-    task: &LineScan,
-    workers: u32,
-)
-    requires can { CanScan set.now.blocks.items task.now.scan task.now.lines }
-    requires few { length set.now.blocks.items < 2 ^ 16 }
-    requires workers { 1 ≤ workers }
-    ensures count { length room.new.cells.items ≡ length room.old.cells.items }
-    ensures runs { (k : ℕ) (none : Cell) → k < length set.now.blocks.items → k < length room.old.cells.items
-        → (i : ℕ) → i < part_size task.now.lines k → slice_index (slice_index_or room.new.cells.items k none).words i
-        ≡ part_fold set.now.blocks.items task.now.scan task.now.lines k (slice_index (slice_index_or room.old.cells.items k none).words 0) i }
-{
-    let blocks = set.blocks.len();
-    thread::for_each_mut(
-        rt,
-        room.cells.as_mut_slice(),
-        workers as usize,
-        &|k: usize, cell: &mut Cell|
-            requires { CanScan set.now.blocks.items task.now.scan task.now.lines × (blocks < 2 ^ 16) }
-            ensures { k < blocks → (i : ℕ) → i < part_size task.entry.now.lines k → slice_index cell.exit.now.words i
-                ≡ part_fold set.entry.now.blocks.items task.entry.now.scan task.entry.now.lines k (slice_index cell.entry.now.words 0) i }
-        {
-            if k < blocks {
-                let start = cell.words[0];
-                run_part(
-                    set,
-                    &task.scan,
-                    &task.lines,
-                    k as u32,
-                    start,
-                    &mut cell.words,
-                );
-            }
-        },
-    );
 }
 
 /// What a part hands on to the next one.

@@ -54,7 +54,7 @@ fn marks(block: &Block, mark: Option<Field>) -> u64x8
 }
 
 /// The lanes of a block at which a segment begins.
-fn segment_starts(block: &Block, scan: &Scan) -> u64x8
+pub(crate) fn segment_starts(block: &Block, scan: &Scan) -> u64x8
     requires fields { FieldsFit scan.now }
     requires planes { scan.now.context < length block.now.planes.items }
     ensures { (i : ℕ) → i < 512 → bit result i ≡ (if begins_in block.now.planes.items scan.now i then 1 else 0) }

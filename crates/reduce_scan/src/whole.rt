@@ -10,10 +10,9 @@ ghost use Rattle.phase_meaning.specs.Apply.{LiesIn};
 ghost use Rattle.block_store.specs.Stored.{shapes_in, memory_in, IsWhole, HasRoom};
 ghost use Rattle.reduce_scan.specs.Along.{scan_of, ScanFits};
 
+use crate::across::{hold_blocks, join_words, take_words};
 use crate::lines::{AxisScan, LineScan, Lines};
-use crate::places::is_straight;
-use crate::runs::{fold_parts, hand_on, run_parts};
-use crate::spread::spread;
+use crate::runs::{fold_parts, hand_on};
 use crate::straight::scan_blocks;
 use block_store::Store;
 use cstar_io::Gate;
@@ -49,13 +48,14 @@ pub fn scan<R: Threads + Sync, G: Gate + Sync>(
         lines: Lines::of(&plan.geometry, along.axis, along.direction),
         dest,
     };
-    let parts = store.sets[at].blocks.len();
-    fold_parts(rt, &store.sets[at], &mut store.room, &task, workers);
-    hand_on(&mut store.room, along.combiner, parts);
-    if is_straight(&task.lines) {
+    if task.lines.are_straight() {
+        let parts = store.sets[at].blocks.len();
+        fold_parts(rt, &store.sets[at], &mut store.room, &task, workers);
+        hand_on(&mut store.room, along.combiner, parts);
         scan_blocks(rt, &store.room, &mut store.sets[at], &task, workers, gate);
         return;
     }
-    run_parts(rt, &store.sets[at], &mut store.room, &task, workers);
-    spread(rt, &store.room, &mut store.sets[at], &task, workers, gate);
+    hold_blocks(rt, &store.sets[at], &mut store.room, &task, workers);
+    join_words(&mut store.room, along.combiner, &task.lines);
+    take_words(rt, &store.room, &mut store.sets[at], &task, workers, gate);
 }
