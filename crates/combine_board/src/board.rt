@@ -17,6 +17,13 @@ use cstar_base::{Combiner, Memory};
 use std::alloc::Global;
 use std::marker::Model;
 
+// So many cells stay near a processor. Of more, those of the next messages are read together before
+// the messages are delivered: a delivery waits for all reads before it, and no read for another.
+const NEAR_CELLS: usize = 1 << 16;
+
+// How many messages those are.
+const AHEAD: usize = 16;
+
 /// Cells that messages are combined into, and a number that tells which claims are taken. Threads
 /// share it. Contracts see which board it is, and its combiner, slots and home values.
 #[derive(Drop)]
@@ -42,7 +49,7 @@ fn opening_words<C: Combine>(alloc: Global, combiner: &C, home: &[u32]) -> Resul
     ensures words { IfOk result (λ v. v.items ≡ 0 ∷ map (encoded_home (C.combines combiner.now)) home.now) }
     ensures fits { (t : ℕ) → slice_index home.now t < 2 ^ 32 }
 {
-    let mut words = Vec::new(alloc);
+    let mut words = Vec::with_capacity(alloc, home.len() + 1)?;
     words.push(0)?;
     for w in home {
         words.push(combiner.encode_home(*w))?;
@@ -209,6 +216,17 @@ impl<C: Combine> Board<C> {
         pass.done = counted(pass.done, next);
     }
 
+    // Reads the cells that the messages of these slots go to, which brings them near.
+    fn bring_near(&self, from: usize, to: usize)
+        requires { to ≤ length self.now.plan.slots }
+    {
+        for index in from..to {
+            if let Some(message) = self.task.slots[index] {
+                self.table.shared.peek(message.target as usize + 1);
+            }
+        }
+    }
+
     // The atomic steps of the deliveries that are left of a claim, in the order of its slots: the
     // claim, with its slots passed up to the last one with a message.
     fn hand_over_rest(&self, seat: &mut Seat<u8, View>, held: Held) -> Held
@@ -226,8 +244,12 @@ impl<C: Combine> Board<C> {
         let slots = self.task.slots.as_slice();
         let start = held.claim as usize * CLAIM_SLOTS;
         let end = slots.len().min(start + CLAIM_SLOTS);
+        let is_far = self.task.home.len() > NEAR_CELLS;
         let mut last = held;
         'slots: for index in start + held.passed as usize..end {
+            if is_far && index % AHEAD == 0 {
+                self.bring_near(index, end.min(index + AHEAD));
+            }
             if let Some(message) = slots[index] {
                 self.hand_over(seat, index as u32, message);
                 last = Held {
