@@ -5,3 +5,4 @@ pub mod Passes
 pub mod Rises
 pub mod Workers
 pub mod Calls
+pub mod Rest

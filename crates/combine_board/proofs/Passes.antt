@@ -1,7 +1,7 @@
 -- What a pass keeps beside its view, after each step.
 use Rattle.std.proofs.Common.{◌≡◌, ℕ, ◌+◌, ◌-◌, ◌*◌, ◌%◌, ◌^◌, ◌<◌, ◌≤◌, max, min, bit_and, bit_or, bit_xor, true, if◌then◌else◌, nat_lt, is_some, List, [], ◌∷◌, ◌++◌, length, slice_index, drop, sum_by, option_map, option_to_list, Option, Some, None, refl, sym, ap, ◌∙◌, subst, arith}
 use Rattle.std.proofs.lemmas.List.Sums.{sum_by-cons}
-use Rattle.std.proofs.lemmas.Bool.{cond-true, cond-false, lt-ltb, le-ltb}
+use Rattle.std.proofs.lemmas.Bool.{cond-true, lt-ltb}
 use Rattle.atomic_table.specs.Table.{State as TableState, Final, Seen}
 use Rattle.cstar_base.specs.declared.operators.Combiner.TheVariants as combiner
 use Rattle.combine_core.specs.declared.kind.Kind.{Kind}
@@ -13,11 +13,11 @@ use Rattle.combine_core.specs.Encodings.{combiner_of, joined, decoded}
 use Rattle.combine_core.specs.Folded.{folded}
 use Rattle.combine_core.specs.Machine.{State, claims_of, held, held_by, worker_at, next_in, ahead_of, drawn, passed_to, IsComplete}
 use Rattle.combine_core.proofs.Sums.{sum_below-ones, weigh-both}
-use Rattle.combine_core.proofs.Steps.{with_claim, with_miss}
+use Rattle.combine_core.proofs.Steps.{with_claim}
 use Rattle.combine_core.proofs.Points.{complete_cell, complete_is_folded}
 use Rattle.combine_core.proofs.Folds.{decoded_fits}
 use Rattle.combine_board.specs.declared.view.View.{View}
-use Rattle.combine_board.specs.Values.{Plan, HoldsEvery}
+use Rattle.combine_board.specs.Values.{Plan, with_last, HoldsEvery}
 use Rattle.combine_board.specs.Rule.{plan_of, view_with, shown, Holds, first_view, claimed_view, kept_view, given_view, both_view, IsTold, IsPass, done_claim, done_in}
 use Rattle.combine_board.specs.Tree.{AllDone}
 use Rattle.combine_board.proofs.Views.{worker_shown, rest-get}
@@ -57,6 +57,31 @@ delivered_pass v h i last next number done p is_last is_next t =
           let old = weigh_last (done_claim v.slots) v.worker.last v.worker.others h is_last in
           let more = weigh_last (done_claim v.slots) (passed_to i v.worker).last v.worker.others new now in
           let none : done_claim v.slots h.claim h.passed ≡ 0 = ap (λ (o : Option ℕ). if is_some o then 0 else 1) is_next in
+          omega arith;
+      told = t;
+    }
+
+-- 1 for a claim, whether it is done before or now
+done_once : {X : Type 0} (o : Option X) → (if is_some o then 0 else 1) + (if is_some o then 1 else 0) ≡ 1
+done_once None = refl
+done_once (Some x) = refl
+
+pub rest_pass : (v : View) (h r : Held) (last : Option Held) (next number : Option ℕ) (done : ℕ) → IsPass v last next number done → v.worker.last ≡ Some h → r.claim ≡ h.claim → next_in v.slots r ≡ None
+    → IsTold (view_with v (with_last r v.worker)) → IsPass (view_with v (with_last r v.worker)) (Some r) None number (done + (if is_some next then 1 else 0))
+rest_pass v h r last next number done p is_last same none t =
+    let ahead : next ≡ next_in v.slots h = p.next_is ∙ ap (λ (o : Option Held). ahead_of v.slots record { live = true; last = o; others = []; number = None; misses = 0; draws = 0 }) is_last in
+    record {
+      live = p.live;
+      last_is = refl;
+      next_is = sym none;
+      number_is = p.number_is;
+      done_is =
+          let was = p.done_is in
+          let old = weigh_last (done_claim v.slots) v.worker.last v.worker.others h is_last in
+          let more = weigh_last (done_claim v.slots) (Some r) v.worker.others r refl in
+          let before : done_claim v.slots h.claim h.passed ≡ (if is_some next then 0 else 1) = ap (λ (o : Option ℕ). if is_some o then 0 else 1) (sym ahead) in
+          let now : done_claim v.slots r.claim r.passed ≡ 1 = ap (λ (o : Option ℕ). if is_some o then 0 else 1) none in
+          let once = done_once next in
           omega arith;
       told = t;
     }

@@ -1,5 +1,5 @@
 -- Each step of the board is one event of the machine, and keeps the rule.
-use Rattle.std.proofs.Common.{◌≡◌, ◌≢◌, ℕ, zero, suc, ◌+◌, ◌%◌, ◌^◌, ◌<◌, ◌≤◌, true, List, [], ◌∷◌, ◌++◌, length, map, get_or, set, drop, slice_index, slice_get, nat_lt, Option, Some, None, refl, sym, ap, ap₂, ◌∙◌, ⊎_elim, subst, length-set, mod-eq_of_lt, arith}
+use Rattle.std.proofs.Common.{◌≡◌, ◌≢◌, ℕ, zero, suc, ◌+◌, ◌%◌, ◌^◌, ◌<◌, true, List, [], ◌∷◌, ◌++◌, length, map, get_or, set, drop, slice_index, slice_get, nat_lt, Some, None, refl, sym, ap, ap₂, ◌∙◌, ⊎_elim, subst, length-set, mod-eq_of_lt, arith}
 use Rattle.std.proofs.lemmas.Option.{get_or_from_slice_get}
 use Rattle.std.proofs.lemmas.Bool.{false≢true, cond_both}
 use Rattle.std.proofs.lemmas.List.Sums.{get_or-le-sum_by}

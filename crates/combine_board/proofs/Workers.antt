@@ -1,15 +1,15 @@
 -- Workers of a tree: what a claim, a delivery and a join make of them.
 use Rattle.std.proofs.Common.{◌≡◌, ℕ, zero, suc, ◌+◌, ◌-◌, ◌*◌, ◌^◌, ◌<◌, ◌≤◌, true, nat_lt, List, ◌++◌, length, take, drop, option_map, option_to_list, option_and_then, Option, Some, None, refl, sym, ap, ◌∙◌, subst, append_assoc, length-append, arith}
-use Rattle.std.proofs.lemmas.Bool.{cond-true, cond-false, lt-ltb, le-ltb}
+use Rattle.std.proofs.lemmas.Bool.{cond-false, le-ltb}
 use Rattle.std.proofs.Math.Nat.{pow-succ'}
 use Rattle.std.proofs.lemmas.List.Elements.{All-append, All-cons}
 use Rattle.std.proofs.lemmas.Option.{option_and_then_some}
 use Rattle.combine_core.specs.declared.message.Message.{Message}
 use Rattle.combine_core.specs.declared.worker.Held.{Held}
 use Rattle.combine_core.specs.declared.worker.Worker.{Worker}
-use Rattle.combine_core.specs.Machine.{claims_of, held, held_by, idle, next_in, ahead_of, kept_part, drawn, passed_to, both_parts, IsComplete}
+use Rattle.combine_core.specs.Machine.{held, held_by, idle, next_in, ahead_of, kept_part, drawn, passed_to, both_parts, IsComplete}
 use Rattle.combine_core.proofs.Ahead.{first_message_some, slice_get-take}
-use Rattle.combine_core.proofs.Steps.{with_claim, with_miss}
+use Rattle.combine_core.proofs.Steps.{with_miss}
 use Rattle.combine_board.specs.Values.{WholeHoldsEvery}
 use Rattle.combine_board.specs.Tree.{AllDone, IsFinished}
 use Rattle.combine_board.proofs.Passes.{complete_when_all}

@@ -1,10 +1,11 @@
 -- Boards and passes, as contracts see them.
-use Rattle.std.specs.Prelude.{◌≡◌, ℕ, ◌<◌, ◌+◌, ◌^◌, List, length, Any, Option}
+use Rattle.std.specs.Prelude.{◌≡◌, ℕ, ◌<◌, ◌+◌, ◌^◌, List, length, Any, Option, Some, option_map}
 use Rattle.atomic_table.specs.Seated.{TableId}
 use Rattle.combine_core.specs.declared.kind.Kind.{Kind}
 use Rattle.combine_core.specs.declared.message.Message.{Message}
+use Rattle.combine_core.specs.declared.worker.Held.{Held}
 use Rattle.combine_core.specs.declared.worker.Worker.{Worker}
-use Rattle.combine_core.specs.Machine.{claims_of, held_by}
+use Rattle.combine_core.specs.Machine.{claims_of, held, held_by}
 
 -- what a board is about
 pub record Plan : Type 0 where
@@ -24,6 +25,14 @@ pub record PassValue : Type 0 where
 
 abbrev pub pass_with : PassValue → Worker → PassValue
 pass_with p v = record { board = p.board; worker = v }
+
+-- a worker to which this is the claim that it took last
+abbrev pub with_last : Held → Worker → Worker
+with_last h v = record { live = v.live; last = Some h; others = v.others; number = v.number; misses = v.misses; draws = v.draws }
+
+-- a worker with so many slots passed in the claim that it took last
+abbrev pub with_passed : ℕ → Worker → Worker
+with_passed p v = record { live = v.live; last = option_map (λ h. held h.claim p) v.last; others = v.others; number = v.number; misses = v.misses; draws = v.draws }
 
 -- the worker holds every claim
 abbrev pub HoldsEvery : List (Option Message) → Worker → Type 0

@@ -3,19 +3,26 @@ ghost use Rattle.std.specs.Mem.Slots.{slots_items, slots_len, IsFull};
 ghost use Rattle.combine_core.specs.Encodings.{encoded_home, decoded};
 ghost use Rattle.combine_core.specs.Cells.{RisesFrom, TargetsBelow};
 ghost use Rattle.combine_core.specs.Folded.{folded};
-ghost use Rattle.combine_core.specs.Machine.{claims_of, held_by, idle, ahead_of, kept_part, given_part, drawn, passed_to, both_parts, IsComplete};
-ghost use Rattle.combine_board.specs.Values.{pass_with, WholeHoldsEvery};
-ghost use Rattle.combine_board.specs.Rule.{plan_of, Delivered};
+ghost use Rattle.combine_core.specs.Machine.{claims_of, held_by, idle, next_in, ahead_of, kept_part, given_part, drawn, passed_to, both_parts, IsComplete};
+ghost use Rattle.combine_board.specs.Values.{pass_with, with_last, with_passed, WholeHoldsEvery};
+ghost use Rattle.combine_board.specs.Rule.{plan_of, view_with, IsTold, Delivered};
 
-use crate::pass::{Pass, counted};
+use crate::pass::{Pass, counted, with_rest};
 use crate::task::Task;
 use crate::view::{BoardRule, Claims, Delivers, Halves, Looks, Unites, View};
 use crate::words::Words;
 use atomic_table::{Closed, Seat, Table};
-use combine_core::{Combine, Held, Message, claim_count};
+use combine_core::{CLAIM_SLOTS, Combine, Held, Message, claim_count};
 use cstar_base::{Combiner, Memory};
 use std::alloc::Global;
 use std::marker::Model;
+
+// So many cells stay near a processor. Of more, those of the next messages are read together before
+// the messages are delivered: a delivery waits for all reads before it, and no read for another.
+const NEAR_CELLS: usize = 1 << 16;
+
+// How many messages those are.
+const AHEAD: usize = 16;
 
 /// Cells that messages are combined into, and a number that tells which claims are taken. Threads
 /// share it. Contracts see which board it is, and its combiner, slots and home values.
@@ -42,7 +49,7 @@ fn opening_words<C: Combine>(alloc: Global, combiner: &C, home: &[u32]) -> Resul
     ensures words { IfOk result (λ v. v.items ≡ 0 ∷ map (encoded_home (C.combines combiner.now)) home.now) }
     ensures fits { (t : ℕ) → slice_index home.now t < 2 ^ 32 }
 {
-    let mut words = Vec::new(alloc);
+    let mut words = Vec::with_capacity(alloc, home.len() + 1)?;
     words.push(0)?;
     for w in home {
         words.push(combiner.encode_home(*w))?;
@@ -207,6 +214,67 @@ impl<C: Combine> Board<C> {
         pass.last = Some(last);
         pass.next = next;
         pass.done = counted(pass.done, next);
+    }
+
+    // Reads the cells that the messages of these slots go to, which brings them near.
+    fn bring_near(&self, from: usize, to: usize)
+        requires { to ≤ length self.now.plan.slots }
+    {
+        for index in from..to {
+            if let Some(message) = self.task.slots[index] {
+                self.table.shared.peek(message.target as usize + 1);
+            }
+        }
+    }
+
+    // The atomic steps of the deliveries that are left of a claim, in the order of its slots: the
+    // claim, with its slots passed up to the last one with a message.
+    fn hand_over_rest(&self, seat: &mut Seat<u8, View>, held: Held) -> Held
+        requires table { seat.old.table_id ≡ self.now.id }
+        requires live { seat.old.me.0.worker.live ≡ true }
+        requires plan { plan_of seat.old.me.0 ≡ self.now.plan }
+        requires last { seat.old.me.0.worker.last ≡ Some held }
+        requires told { IsTold seat.old.me.0 }
+        ensures table { seat.new.table_id ≡ seat.old.table_id }
+        ensures me { seat.new.me ≡ (view_with seat.old.me.0 (with_last result seat.old.me.0.worker), seat.old.me.1) }
+        ensures told { IsTold seat.new.me.0 }
+        ensures claim { result.claim ≡ held.claim }
+        ensures none { next_in self.now.plan.slots result ≡ None }
+    {
+        let slots = self.task.slots.as_slice();
+        let start = held.claim as usize * CLAIM_SLOTS;
+        let end = slots.len().min(start + CLAIM_SLOTS);
+        let is_far = self.task.home.len() > NEAR_CELLS;
+        let mut last = held;
+        'slots: for index in start + held.passed as usize..end {
+            if is_far && index % AHEAD == 0 {
+                self.bring_near(index, end.min(index + AHEAD));
+            }
+            if let Some(message) = slots[index] {
+                self.hand_over(seat, index as u32, message);
+                last = Held {
+                    claim: held.claim,
+                    passed: (index + 1 - start) as u32,
+                };
+            }
+        }
+        last
+    }
+
+    /// Delivers all messages that are left of the claim that the pass took last, in the order of its
+    /// slots.
+    pub fn deliver_rest(&self, pass: &mut Pass)
+        requires { pass.old.board ≡ self.now }
+        ensures passed { (p : ℕ) × (pass.new ≡ pass_with pass.old (with_passed p pass.old.worker)) }
+        ensures none { ahead_of self.now.plan.slots pass.new.worker ≡ None }
+    {
+        let Some(held) = pass.last else {
+            return;
+        };
+        let last = self.hand_over_rest(&mut pass.seat, held);
+        pass.done = with_rest(pass.done, pass.next);
+        pass.last = Some(last);
+        pass.next = None;
     }
 
     /// The pass takes in all that another has: its claims, and what was delivered of them.

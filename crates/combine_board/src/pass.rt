@@ -36,3 +36,12 @@ pub(crate) fn counted(done: u32, next: Option<u32>) -> u32
 {
     if next.is_some() { done } else { done + 1 }
 }
+
+// How many claims are done, once the messages are delivered from this slot on that the claim taken
+// last has next.
+pub(crate) fn with_rest(done: u32, next: Option<u32>) -> u32
+    requires { done + 1 < 2 ^ 32 }
+    ensures { result ≡ done + (if is_some next then 1 else 0) }
+{
+    if next.is_some() { done + 1 } else { done }
+}

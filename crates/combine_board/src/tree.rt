@@ -21,9 +21,7 @@ fn take_claims<C: Combine, G: Gate>(board: &Board<C>, mut pass: Pass, gate: &G) 
 {
     'claims: while let Some(claim) = board.claim(&mut pass) {
         gate.at(claim);
-        'slots: while let Some(index) = board.ahead(&pass) {
-            board.deliver(&mut pass, index);
-        }
+        board.deliver_rest(&mut pass);
     }
     pass
 }

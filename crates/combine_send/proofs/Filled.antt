@@ -77,3 +77,11 @@ slot_is shapes sets v senders s slot blocks context same is =
     (sends_same _ (is_active shapes (stored sets v) a.set s) s s _ _ _ _ senders.targets slot
     (ap (λ bs. eqb (bit (plane_at (planes_at bs (s / 512)) senders.context) lane) 1) blocks ∙ ap (λ c. eqb (bit (plane_at (planes_at (blocks_at sets a.set) (s / 512)) c) lane) 1) context)
     refl (field a refl) (field senders.source same) is)
+
+-- one more element has what those before it have
+pub slot_set : (P : ℕ → Option Message → Type 0) (slots : List (Option Message)) (i : ℕ) (slot : Option Message) → i < length slots → ((j : ℕ) → j < i → P j (get_or slots j None)) → P i slot
+    → (j : ℕ) → j < i + 1 → P j (get_or (set slots i slot) j None)
+slot_set P slots i slot within before here j low = elim (cases_eq j i) [
+  | inl e ↦ subst (λ n. P n (get_or (set slots i slot) n None)) (sym e) (subst (P i) (sym (get_or-set_same slots i slot None within)) here)
+  | inr n ↦ subst (P j) (sym (get_or-set_other slots i j slot None n)) (before j (omega (arith, n, low)))
+]

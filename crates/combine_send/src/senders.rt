@@ -1,16 +1,17 @@
 //! The senders of a send, read from their blocks.
 
-ghost use Rattle.std.specs.Prelude.{◌≡◌, ℕ, ◌<◌, ◌≤◌, ◌+◌, ◌-◌, ◌*◌, ◌%◌, ◌^◌, None, IfOk, length, slice_index_or};
+ghost use Rattle.std.specs.Prelude.{◌≡◌, ℕ, ◌<◌, ◌≤◌, ◌+◌, ◌-◌, ◌*◌, ◌%◌, ◌^◌, ◌==◌, None, IfOk, length, slice_index_or};
+ghost use Rattle.bit_planes.specs.Bits.{bit};
 ghost use Rattle.combine_send.specs.Senders.{Sends, IsSlotOf, CanRead};
 
 use bit_planes::Block;
-use bit_planes::plane::lane;
 use block_store::words_of;
 use combine_core::Message;
 use cstar_base::Memory;
 use cstar_io::Gate;
 use paris_code::Field;
 use std::alloc::Global;
+use std::simd::prelude::*;
 use std::thread;
 use std::thread::Threads;
 use vp_sets::BLOCK_SIZE;
@@ -42,6 +43,38 @@ fn message(active: bool, sender: u32, address: u32, value: u32, count: u32) -> O
     }
 }
 
+/// Whether a lane of a plane is 1, by the words of the plane.
+#[inline(always)]
+fn is_one(words: &[u64; 8], i: usize) -> bool
+    requires { i < 512 }
+    ensures { result ≡ (bit words.now i == 1) }
+{
+    (words[i / 64] >> (i % 64)) % 2 == 1
+}
+
+/// The slots of the senders of block `k`.
+fn block_slots(senders: &Senders, k: u32) -> [Option<Message>; 512]
+    requires can { CanRead senders.now }
+    requires block { k < length senders.now.blocks.now }
+    ensures { (i : ℕ) → i < 512 → IsSlotOf senders.now (512 * k + i) (slice_index_or result i None) }
+{
+    let block = &senders.blocks[k as usize];
+    let active = block.plane(senders.context).to_array();
+    let addresses = words_of(block, senders.address.offset, senders.address.len);
+    let values = words_of(block, senders.source.offset, senders.source.len);
+    let mut slots = [None; 512];
+    for i in 0..512 {
+        slots[i] = message(
+            is_one(&active, i),
+            k * BLOCK_SIZE + i as u32,
+            addresses[i],
+            values[i],
+            senders.targets,
+        );
+    }
+    slots
+}
+
 /// Fills the slots of the senders of block `k`, of which the first is slot `from`.
 fn fill_block(senders: &Senders, k: u32, slots: &mut [Option<Message>], from: usize)
     requires can { CanRead senders.now }
@@ -51,18 +84,9 @@ fn fill_block(senders: &Senders, k: u32, slots: &mut [Option<Message>], from: us
         → IsSlotOf senders.now (512 * k + (i - from)) (slice_index_or slots.new i None) }
     ensures kept { (i : ℕ) → i < from → slice_index_or slots.new i None ≡ slice_index_or slots.old i None }
 {
-    let block = &senders.blocks[k as usize];
-    let active = block.plane(senders.context);
-    let addresses = words_of(block, senders.address.offset, senders.address.len);
-    let values = words_of(block, senders.source.offset, senders.source.len);
+    let filled = block_slots(senders, k);
     for i in 0..(slots.len() - from).min(512) {
-        slots[from + i] = message(
-            lane(active, i as u32) == 1,
-            k * BLOCK_SIZE + i as u32,
-            addresses[i],
-            values[i],
-            senders.targets,
-        );
+        slots[from + i] = filled[i];
     }
 }
 
@@ -77,6 +101,28 @@ fn fill_part<G: Gate>(senders: &Senders, first: u32, slots: &mut [Option<Message
         gate.at(k);
         fill_block(senders, k, slots, 512 * j);
     }
+}
+
+/// The slots of so many senders, filled by one worker.
+fn filled_by_one<G: Gate>(
+    alloc: Global,
+    senders: &Senders,
+    count: u32,
+    gate: &G,
+) -> Result<Vec<Option<Message>>, Memory>
+    requires can { CanRead senders.now }
+    requires within { count ≤ 512 * length senders.now.blocks.now }
+    ensures count { IfOk result (λ slots. length slots.items ≡ count) }
+    ensures slots { IfOk result (λ slots. (i : ℕ) → i < length slots.items → IsSlotOf senders.now i (slice_index_or slots.items i None)) }
+{
+    let mut slots = Vec::with_capacity(alloc, count as usize)?;
+    for k in 0..count.div_ceil(BLOCK_SIZE) {
+        gate.at(k);
+        let filled = block_slots(senders, k);
+        let some = (count - k * BLOCK_SIZE).min(BLOCK_SIZE);
+        slots.extend_from_slice(&filled[..some as usize])?;
+    }
+    Ok(slots)
 }
 
 /// The slots of so many senders, filled by so many workers. `Memory` is want of memory alone.
@@ -94,6 +140,9 @@ pub(crate) fn filled<R: Threads + Sync, G: Gate + Sync>(
     ensures count { IfOk result (λ slots. length slots.items ≡ count) }
     ensures slots { IfOk result (λ slots. (i : ℕ) → i < length slots.items → IsSlotOf senders.now i (slice_index_or slots.items i None)) }
 {
+    if workers == 1 {
+        return filled_by_one(alloc, senders, count, gate);
+    }
     let mut slots = vec![in alloc; None; count as usize]?;
     let part = 512 * senders.blocks.len().div_ceil(workers as usize);
     thread::for_each_chunk_mut(

@@ -1,7 +1,6 @@
 use Rattle.std.proofs.Common.{◌≡◌, ◌+◌, ◌^◌, ◌<◌, ◌≤◌, length}
 use Rattle.combine_core.specs.Machine.{held_by}
 use Rattle.combine_board.specs.Tree.{AllDone}
-use Rattle.combine_board.proofs.Workers.{room}
 use Rattle.combine_board.proofs.tree.take_claims.Given as goal
 
 abbrev pub invariant-claims : goal.invariant-claims
@@ -14,19 +13,5 @@ invariant-claims g l = record {
   enough : 2 ^ 32 ≤ l.fn.pass.worker.draws;
 }
 
-abbrev pub invariant-slots : goal.invariant-slots
-invariant-slots g l = record {
-  of : l.pass.board ≡ l.board;
-  done : AllDone l.board.plan.slots l.pass.worker.others;
-  none : l.pass.worker.misses ≡ 0;
-  all : length (held_by l.pass.worker) + l.pass.worker.draws ≡ l.fn.pass.worker.draws;
-  few : length (held_by l.pass.worker) < 2 ^ 32;
-  enough : 2 ^ 32 ≤ l.fn.pass.worker.draws;
-  draws : l.pass.worker.draws ≡ l.initial.pass.worker.draws;
-}
-
 abbrev pub decreases-claims : goal.decreases-claims
 decreases-claims g l = l.pass.worker.draws
-
-abbrev pub decreases-slots : goal.decreases-slots
-decreases-slots g l = room l.pass.worker
