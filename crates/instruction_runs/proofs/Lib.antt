@@ -1,3 +1,4 @@
 pub mod Composed
 pub mod Deferrals
 pub mod Settled
+pub mod Sources

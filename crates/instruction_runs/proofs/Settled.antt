@@ -1,5 +1,5 @@
 -- A batch that is done in each block of its set is done.
-use Rattle.std.proofs.Common.{◌≡◌, ℕ, ◌+◌, ◌*◌, ◌/◌, ◌<◌, ◌≤◌, false, eqb, List, [], ◌∷◌, length, map, get_or, refl, sym, ◌∙◌, ap, subst, inl, inr, arith}
+use Rattle.std.proofs.Common.{◌≡◌, ℕ, ◌+◌, ◌*◌, ◌/◌, ◌<◌, ◌≤◌, false, eqb, List, [], ◌∷◌, length, map, All, get_or, refl, sym, ◌∙◌, ap, subst, inl, inr, arith}
 use Rattle.std.proofs.Math.ListN.{set}
 use Rattle.std.proofs.lemmas.Bool.{cases_eq}
 use Rattle.std.proofs.lemmas.List.{get_or-map}
@@ -18,17 +18,27 @@ use Rattle.block_store.specs.Stored.{shape_of_plan, blocks_in, blocks_at, stored
 use Rattle.block_store.proofs.Fetches.{some_block}
 use Rattle.block_store.proofs.Stores.{blocks_old, blocks_new, blocks_other, block_exists, few_blocks, held, whole_kept, set_kept}
 use Rattle.elementwise.specs.Blocks.{block_memory}
+use Rattle.block_store.specs.declared.set.Cell.{Cell}
 use Rattle.instruction_runs.specs.declared.deferring.Deferred.{Deferred}
-use Rattle.instruction_runs.specs.Passes.{AllDoneInBlock}
-use Rattle.instruction_runs.specs.Waiting.{done_all, set_of, AreReady, IsReady}
-use Rattle.instruction_runs.proofs.Composed.{all_agree, destined, others_stay, winner_stays}
+use Rattle.instruction_runs.specs.declared.deferring.Work.{Work}
+use Rattle.instruction_runs.specs.declared.deferring.Work.TheVariants as W
+use Rattle.instruction_runs.specs.Passes.{held_in, AllDoneInBlock, PassFits}
+use Rattle.instruction_runs.specs.Waiting.{done_all, set_of_work, source_of, AreReady, IsWorkOf}
+use Rattle.instruction_runs.proofs.Composed.{all_means, first_ready, others_stay, run_agrees, winner_stays, IsOf, IsSourced}
+use Rattle.paris_code.specs.declared.instr.Instr.{Instr}
+use Rattle.paris_code.specs.declared.operands.Field.{Field}
+use Rattle.phase_meaning.specs.Apply.{CanApply}
 
 -- the set of some instructions exists
+work_exists : (shapes : List SetShape) (instr : Instr) (work : Work) → CanApply shapes instr [] → IsWorkOf shapes instr work → set_of_work work < length shapes
+work_exists shapes instr (W.Elementwise prepared) can is = subst (λ (r : Field). r.set < length shapes) (sym is.run) (destination_runs shapes instr [] can is.elementwise).0.0
+work_exists shapes instr (W.Shift news step) can is = is.dest.0
+
 pub set_exists : (shapes : List SetShape) (set : ℕ) (ds : List Deferred) → AreReady shapes set ds → eqb (length ds) 0 ≡ false → set < length shapes
 set_exists shapes set [] ready some = cc
 set_exists shapes set (d ∷ rest) ready some =
-    let is : IsReady shapes d × (set_of d ≡ set) = All-head (λ e. IsReady shapes e × (set_of e ≡ set)) d rest ready in
-    subst (λ s. s < length shapes) (destined shapes set d is) (destination_runs shapes d.instr [] is.0.can is.0.prepared.elementwise).0.0
+    let is : IsOf shapes set d = first_ready shapes set d rest ready in
+    subst (λ s. s < length shapes) is.1 (work_exists shapes d.instr d.work is.0.can is.0.work)
 
 -- the blocks of the set
 pub set_blocks : (shapes : List SetShape) (sets : List BlockSet) (old : BlockSet) (k own : ℕ) → AreWhole shapes sets → own < length shapes → k ≡ own → old ≡ get_or sets k old
@@ -38,15 +48,22 @@ set_blocks shapes sets old k own whole exists e at =
     let is_whole = whole.each own exists in
     (omega (arith, ap length same, few_blocks shapes sets own whole exists), ap length same ∙ is_whole.count, subst (λ (bs : List Block). HasPlanes (bits_at shapes own + 2) bs) (sym same) is_whole.planes)
 
--- what was done in each block of a set
-abbrev pub DidAll : List SetPlan → ℕ → List Deferred → BlockSet → BlockSet → Type 0
-DidAll plans set ds old new = (j : ℕ) (none : Block) → j < length (blocks_in old)
-    → AllDoneInBlock (map shape_of_plan plans) set ds j (planes_in (get_or (blocks_in old) j none)) (planes_in (get_or (blocks_in new) j none))
+-- and there is room for a pass over them
+pub pass_fits : (shapes : List SetShape) (sets : List BlockSet) (set : ℕ) (cells : List Cell) → AreWhole shapes sets → set < length shapes → length (blocks_at sets set) ≤ length cells → PassFits shapes set cells
+pass_fits shapes sets set cells whole exists much = record {
+  few = omega (arith, few_blocks shapes sets set whole exists, (whole.each set exists).count);
+  held = omega (arith, much, (whole.each set exists).count);
+}
 
-module _ (shapes : List SetShape) (sets : List BlockSet) (old new : BlockSet) (k own : ℕ) (ds : List Deferred)
+-- what was done in each block of a set
+abbrev pub DidAll : List SetPlan → List Cell → ℕ → List Deferred → BlockSet → BlockSet → Type 0
+DidAll plans cells set ds old new = (j : ℕ) (none : Block) → j < length (blocks_in old)
+    → AllDoneInBlock (map shape_of_plan plans) (held_in cells) set ds j (planes_in (get_or (blocks_in old) j none)) (planes_in (get_or (blocks_in new) j none))
+
+module _ (shapes : List SetShape) (sets : List BlockSet) (old new : BlockSet) (k own : ℕ) (ds : List Deferred) (held : Field → ℕ → ℕ)
     (whole : AreWhole shapes sets) (exists : own < length shapes) (e : k ≡ own) (at : old ≡ get_or sets k old) (ready : AreReady shapes own ds)
     (count : length (blocks_in new) ≡ length (blocks_in old))
-    (each : (j : ℕ) (none : Block) → j < length (blocks_in old) → AllDoneInBlock shapes own ds j (planes_in (get_or (blocks_in old) j none)) (planes_in (get_or (blocks_in new) j none))) where
+    (each : (j : ℕ) (none : Block) → j < length (blocks_in old) → AllDoneInBlock shapes held own ds j (planes_in (get_or (blocks_in old) j none)) (planes_in (get_or (blocks_in new) j none))) where
   there : k < length sets
   there = omega (arith, whole.count)
 
@@ -56,19 +73,19 @@ module _ (shapes : List SetShape) (sets : List BlockSet) (old new : BlockSet) (k
   long : length (blocks_in old) ≡ block_count (extents_at shapes own)
   long = ap length same ∙ (whole.each own exists).count
 
-  by_block : (j : ℕ) → j < length (blocks_in old) → AllDoneInBlock shapes own ds j (planes_at (blocks_in old) j) (planes_at (blocks_in new) j)
-  by_block j b = some_block (AllDoneInBlock shapes own ds j (planes_at (blocks_in old) j) (planes_at (blocks_in new) j)) (blocks_in old) j b (λ none.
-      subst (λ ps. AllDoneInBlock shapes own ds j (planes_at (blocks_in old) j) ps) (sym (get_or-map planes_in (blocks_in new) j none [] (omega (arith, b, count))))
-      (subst (λ ps. AllDoneInBlock shapes own ds j ps (planes_in (get_or (blocks_in new) j none))) (sym (get_or-map planes_in (blocks_in old) j none [] b)) (each j none b)))
+  by_block : (j : ℕ) → j < length (blocks_in old) → AllDoneInBlock shapes held own ds j (planes_at (blocks_in old) j) (planes_at (blocks_in new) j)
+  by_block j b = some_block (AllDoneInBlock shapes held own ds j (planes_at (blocks_in old) j) (planes_at (blocks_in new) j)) (blocks_in old) j b (λ none.
+      subst (λ ps. AllDoneInBlock shapes held own ds j (planes_at (blocks_in old) j) ps) (sym (get_or-map planes_in (blocks_in new) j none [] (omega (arith, b, count))))
+      (subst (λ ps. AllDoneInBlock shapes held own ds j ps (planes_in (get_or (blocks_in new) j none))) (sym (get_or-map planes_in (blocks_in old) j none [] b)) (each j none b)))
 
   -- a block is the memory at its positions
   agree : (v : Winner) (p : ℕ) → AgreeAt shapes own p (block_memory (planes_at (blocks_in old) (p / 512))) (stored sets v)
   unfolding stored block_bit block_memory
   agree v p = λ i _. ap (λ bs. block_bit bs p i) same
 
-  pub settled : (v : Winner) → SameBits shapes (stored (set sets k new) v) (done_all shapes ds (stored sets v))
+  pub settled : (v : Winner) → All (λ d. IsSourced shapes own held (stored sets v) (source_of d)) ds → SameBits shapes (stored (set sets k new) v) (done_all shapes ds (stored sets v))
   unfolding stored block_bit
-  settled v = record {
+  settled v sourced = record {
     bits = λ s p i in_sets in_set bound. elim (cases_eq s own) [
       | inr n ↦
           ap (λ bs. block_bit bs p i) (blocks_other sets k old new there at s (λ q. n (q ∙ e)))
@@ -80,7 +97,8 @@ module _ (shapes : List SetShape) (sets : List BlockSet) (old new : BlockSet) (k
           ap (λ j. block_bit (blocks_at (set sets k new) j) p i) (q ∙ sym e)
           ∙ ap (λ bs. block_bit bs p i) (blocks_new sets k old new there at)
           ∙ (by_block (p / 512) block).done p i refl within low
-          ∙ all_agree shapes own p ds (block_memory (planes_at (blocks_in old) (p / 512))) (stored sets v) ready (agree v p) i low
+          ∙ run_agrees shapes own p held ds (block_memory (planes_at (blocks_in old) (p / 512))) (stored sets v) ready (agree v p) i low
+          ∙ all_means shapes own held ds (stored sets v) (stored sets v) ready (λ _ _ _ _. refl) sourced p within i low
           ∙ ap (λ j. (done_all shapes ds (stored sets v)).bit j p i) (sym q)
     ];
     winner = sym (winner_stays shapes own ds (stored sets v) ready);

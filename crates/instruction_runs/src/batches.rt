@@ -5,10 +5,11 @@ ghost use Rattle.paris_code.specs.Meaning.{after};
 ghost use Rattle.paris_code.specs.Memory.{BitMemory};
 ghost use Rattle.paris_code.specs.Shapes.{SetShape};
 ghost use Rattle.instruction_runs.specs.declared.batches.TheConstants.{MOST};
-ghost use Rattle.instruction_runs.specs.Waiting.{done_all, takes, AreReady, IsReady};
+ghost use Rattle.instruction_runs.specs.Waiting.{all_let, done_all, source_of_all, takes, AreReady, IsReady};
 
 use crate::deferring::Deferred;
 use cstar_base::Memory;
+use paris_code::Field;
 use std::alloc::Global;
 
 /// At most how many instructions a batch holds.
@@ -55,11 +56,41 @@ impl Batch {
         self.deferred.as_slice()
     }
 
-    /// Whether the instruction can wait behind the others: there is room, and it is of their set.
+    /// Whether the instruction can wait behind the others: there is room, it is of their set, and
+    /// where it is a shift, none of them writes its source or is a shift from another field.
     pub fn takes(&self, deferred: &Deferred) -> bool
         ensures { result ≡ takes self.now.set self.now.deferred.items deferred.now }
     {
-        self.deferred.len() < MOST && (self.is_empty() || self.set == deferred.prepared.set())
+        self.deferred.len() < MOST
+            && (self.is_empty() || self.set == deferred.set())
+            && self.lets(deferred.source())
+    }
+
+    /// Whether one that takes from such a field, or from none, can wait behind each of them.
+    fn lets(&self, source: Option<Field>) -> bool
+        ensures { result ≡ all_let self.now.deferred.items source }
+    {
+        let Some(_) = source else {
+            return true;
+        };
+        'waiting: for d in self.as_slice() {
+            if !d.lets(source) {
+                return false;
+            }
+        }
+        true
+    }
+
+    /// The field from which the shifts take that wait; none where no shift waits.
+    pub(crate) fn source(&self) -> Option<Field>
+        ensures { result ≡ source_of_all self.now.deferred.items }
+    {
+        'waiting: for d in self.as_slice() {
+            if let Some(source) = d.source() {
+                return Some(source);
+            }
+        }
+        None
     }
 
     /// Lets the instruction wait behind the others.
@@ -70,7 +101,7 @@ impl Batch {
         ensures memory { (shapes : List SetShape) (m : BitMemory)
             → done_all shapes self.new.deferred.items m ≡ after shapes deferred.instr [] (done_all shapes self.old.deferred.items m) }
     {
-        self.set = deferred.prepared.set();
+        self.set = deferred.set();
         if self.deferred.push(deferred).is_err() {
             unreachable!();
         }

@@ -1,52 +1,132 @@
 //! A batch over all blocks of its set.
 
-ghost use Rattle.std.specs.Prelude.{◌≡◌, ℕ, ◌<◌, ◌≤◌, ◌+◌, ◌^◌, [], map, length, slice_index_or};
+ghost use Rattle.std.specs.Prelude.{◌≡◌, ℕ, true, ◌<◌, ◌≤◌, ◌+◌, ◌^◌, [], All, map, length, slice_index_or};
 ghost use Rattle.vp_sets.specs.Blocks.{block_count};
 ghost use Rattle.bit_planes.specs.declared.block.Block.{Block};
 ghost use Rattle.cstar_base.specs.declared.operators.Winner.{Winner};
+ghost use Rattle.cstar_base.specs.Numbers.{number_of};
+ghost use Rattle.paris_code.specs.declared.instr.Instr.{Instr};
 ghost use Rattle.paris_code.specs.Memory.{SameBits};
 ghost use Rattle.paris_code.specs.Shapes.{bits_at, extents_at};
+ghost use Rattle.phase_meaning.specs.Apply.{LiesIn};
+ghost use Rattle.block_store.specs.Phases.{WrittenInBlock};
 ghost use Rattle.block_store.specs.Planes.{HasPlanes};
 ghost use Rattle.block_store.specs.Stored.{shape_of_plan, shapes_in, memory_in, IsWhole, HasRoom};
-ghost use Rattle.instruction_runs.specs.Passes.{AllDoneInBlock};
-ghost use Rattle.instruction_runs.specs.Waiting.{done_all, AreReady};
+ghost use Rattle.elementwise.specs.Blocks.{block_memory};
+ghost use Rattle.news_grid.specs.Steps.{Leads};
+ghost use Rattle.instruction_runs.specs.declared.deferring.Work.TheVariants as W;
+ghost use Rattle.instruction_runs.specs.Passes.{held_in, write_from, write_of_work, AllDoneInBlock, IsFieldIn, IsHeldOf, PassFits};
+ghost use Rattle.instruction_runs.specs.Waiting.{done_all, set_of, source_of, AreInTurn, AreReady, IsReady};
 
 use crate::batches::Batch;
+use crate::deferring::{Deferred, Work};
 use bit_planes::Block;
-use block_store::{BlockSet, SetPlan, Store};
+use block_store::{BlockSet, Cell, Room, SetPlan, Store};
 use cstar_io::Gate;
+use news_grid::{News, Step, Taking, hold, step_block};
 use std::thread;
 use std::thread::Threads;
 
-/// Does the instructions in block `k` of their set.
-fn do_all_in_block(plans: &[SetPlan], block: &mut Block, batch: &Batch, k: u32)
-    requires ready { AreReady (map shape_of_plan plans.now) batch.now.set batch.now.deferred.items }
-    requires planes { bits_at (map shape_of_plan plans.now) batch.now.set + 2 ≤ length block.old.planes.items }
-    requires block { k < block_count (extents_at (map shape_of_plan plans.now) batch.now.set) }
-    ensures { AllDoneInBlock (map shape_of_plan plans.now) batch.now.set batch.now.deferred.items k block.old.planes.items block.new.planes.items }
+/// What a pass over the blocks of a batch's set needs: the sets, the instructions, and the planes
+/// that the cells hold of each block's field from which shifts take.
+#[derive(Clone, Copy)]
+struct Pass<'a> {
+    plans: &'a [SetPlan],
+    batch: &'a Batch,
+    cells: &'a [Cell],
+}
+
+impl Pass<'_> {
+    /// Does a shift by such a step in block `k` of its set.
+    fn shift(&self, block: &mut Block, k: u32, news: News, step: Step)
+        requires dest { LiesIn (map shape_of_plan self.now.plans.now) news.dest }
+        requires together { news.dest.set ≡ news.source.set }
+        requires lens { news.source.len ≡ news.dest.len }
+        requires leads { Leads (extents_at (map shape_of_plan self.now.plans.now) news.dest.set) news.axis (number_of 32 true news.by) step }
+        requires fits { PassFits (map shape_of_plan self.now.plans.now) news.dest.set self.now.cells.now }
+        requires planes { bits_at (map shape_of_plan self.now.plans.now) news.dest.set + 2 ≤ length block.old.planes.items }
+        requires block { k < block_count (extents_at (map shape_of_plan self.now.plans.now) news.dest.set) }
+        ensures { (instr : Instr) → WrittenInBlock (map shape_of_plan self.now.plans.now) (write_of_work (map shape_of_plan self.now.plans.now) (held_in self.now.cells.now) instr (block_memory block.old.planes.items) (W.Shift news step)) k
+            block.old.planes.items block.new.planes.items }
+    {
+        let plans = self.plans;
+        let plan = &plans[usize::from(news.dest.set)];
+        let taking = Taking {
+            plan,
+            blocks: plan.geometry.block_count(),
+            cells: self.cells,
+            shift: news,
+            step,
+        };
+        step_block(block, k, &taking);
+    }
+}
+
+/// Holds the field from which the shifts of the batch take, if one waits.
+fn hold_source<R: Threads + Sync>(
+    rt: &R,
+    set: &BlockSet,
+    room: &mut Room,
+    batch: &Batch,
+    workers: u32,
+)
+    requires workers { 1 ≤ workers }
+    requires sources { All (λ d. IsFieldIn (source_of d) set.now.blocks.items) batch.now.deferred.items }
+    requires turns { AreInTurn batch.now.deferred.items }
+    ensures count { length room.new.cells.items ≡ length room.old.cells.items }
+    ensures held { All (λ d. IsHeldOf (source_of d) set.now.blocks.items room.new.cells.items) batch.now.deferred.items }
 {
-    'deferred: for d in batch.as_slice() {
-        d.prepared.do_in_block(plans, block, &d.instr, &[], k);
+    let Some(source) = batch.source() else {
+        return;
+    };
+    hold(rt, set, room, source, workers);
+}
+
+/// Does an instruction in block `k` of its set.
+fn do_in_block(block: &mut Block, d: &Deferred, pass: &Pass, k: u32)
+    requires ready { IsReady (map shape_of_plan pass.now.plans.now) d.now }
+    requires fits { PassFits (map shape_of_plan pass.now.plans.now) (set_of d.now) pass.now.cells.now }
+    requires planes { bits_at (map shape_of_plan pass.now.plans.now) (set_of d.now) + 2 ≤ length block.old.planes.items }
+    requires block { k < block_count (extents_at (map shape_of_plan pass.now.plans.now) (set_of d.now)) }
+    ensures { WrittenInBlock (map shape_of_plan pass.now.plans.now) (write_from (map shape_of_plan pass.now.plans.now) (held_in pass.now.cells.now) d.now (block_memory block.old.planes.items)) k
+        block.old.planes.items block.new.planes.items }
+{
+    match &d.work {
+        Work::Elementwise(prepared) => prepared.do_in_block(pass.plans, block, &d.instr, &[], k),
+        Work::Shift { news, step } => pass.shift(block, k, *news, *step),
+    }
+}
+
+/// Does the instructions in block `k` of their set.
+fn do_all_in_block(block: &mut Block, pass: &Pass, k: u32)
+    requires ready { AreReady (map shape_of_plan pass.now.plans.now) pass.now.batch.now.set pass.now.batch.now.deferred.items }
+    requires fits { PassFits (map shape_of_plan pass.now.plans.now) pass.now.batch.now.set pass.now.cells.now }
+    requires planes { bits_at (map shape_of_plan pass.now.plans.now) pass.now.batch.now.set + 2 ≤ length block.old.planes.items }
+    requires block { k < block_count (extents_at (map shape_of_plan pass.now.plans.now) pass.now.batch.now.set) }
+    ensures { AllDoneInBlock (map shape_of_plan pass.now.plans.now) (held_in pass.now.cells.now) pass.now.batch.now.set pass.now.batch.now.deferred.items k block.old.planes.items block.new.planes.items }
+{
+    'deferred: for d in pass.batch.as_slice() {
+        do_in_block(block, d, pass, k);
     }
 }
 
 /// Does the instructions in all blocks of their set, with a call of the gate for each block.
 fn do_all_in_set<R: Threads + Sync, G: Gate + Sync>(
     rt: &R,
-    plans: &[SetPlan],
     set: &mut BlockSet,
-    batch: &Batch,
+    pass: &Pass,
     workers: u32,
     gate: &G,
 )
-    requires ready { AreReady (map shape_of_plan plans.now) batch.now.set batch.now.deferred.items }
+    requires ready { AreReady (map shape_of_plan pass.now.plans.now) pass.now.batch.now.set pass.now.batch.now.deferred.items }
+    requires fits { PassFits (map shape_of_plan pass.now.plans.now) pass.now.batch.now.set pass.now.cells.now }
     requires workers { 1 ≤ workers }
     requires few { length set.old.blocks.items < 2 ^ 32 }
-    requires count { length set.old.blocks.items ≡ block_count (extents_at (map shape_of_plan plans.now) batch.now.set) }
-    requires planes { HasPlanes (bits_at (map shape_of_plan plans.now) batch.now.set + 2) set.old.blocks.items }
+    requires count { length set.old.blocks.items ≡ block_count (extents_at (map shape_of_plan pass.now.plans.now) pass.now.batch.now.set) }
+    requires planes { HasPlanes (bits_at (map shape_of_plan pass.now.plans.now) pass.now.batch.now.set + 2) set.old.blocks.items }
     ensures count { length set.new.blocks.items ≡ length set.old.blocks.items }
     ensures each { (k : ℕ) (none : Block) → k < length set.old.blocks.items
-        → AllDoneInBlock (map shape_of_plan plans.now) batch.now.set batch.now.deferred.items k
+        → AllDoneInBlock (map shape_of_plan pass.now.plans.now) (held_in pass.now.cells.now) pass.now.batch.now.set pass.now.batch.now.deferred.items k
         (slice_index_or set.old.blocks.items k none).planes.items (slice_index_or set.new.blocks.items k none).planes.items }
 {
     thread::for_each_mut(
@@ -54,19 +134,21 @@ fn do_all_in_set<R: Threads + Sync, G: Gate + Sync>(
         set.blocks.as_mut_slice(),
         workers as usize,
         &|k: usize, block: &mut Block|
-            requires { (k < 2 ^ 32) × AreReady (map shape_of_plan plans.now) batch.now.set batch.now.deferred.items
-                × (bits_at (map shape_of_plan plans.now) batch.now.set + 2 ≤ length block.now.planes.items)
-                × (k < block_count (extents_at (map shape_of_plan plans.now) batch.now.set)) }
-            ensures { AllDoneInBlock (map shape_of_plan plans.entry.now) batch.entry.now.set batch.entry.now.deferred.items k block.entry.now.planes.items block.exit.now.planes.items }
+            requires { (k < 2 ^ 32) × AreReady (map shape_of_plan pass.now.plans.now) pass.now.batch.now.set pass.now.batch.now.deferred.items
+                × PassFits (map shape_of_plan pass.now.plans.now) pass.now.batch.now.set pass.now.cells.now
+                × (bits_at (map shape_of_plan pass.now.plans.now) pass.now.batch.now.set + 2 ≤ length block.now.planes.items)
+                × (k < block_count (extents_at (map shape_of_plan pass.now.plans.now) pass.now.batch.now.set)) }
+            ensures { AllDoneInBlock (map shape_of_plan pass.entry.now.plans.now) (held_in pass.entry.now.cells.now) pass.entry.now.batch.now.set pass.entry.now.batch.now.deferred.items k
+                block.entry.now.planes.items block.exit.now.planes.items }
         {
             gate.at(k as u32);
-            do_all_in_block(plans, block, batch, k as u32);
+            do_all_in_block(block, pass, k as u32);
         },
     );
 }
 
-/// Does the instructions that wait, in their order, by so many workers, and empties the batch. An
-/// empty one costs nothing.
+/// Does the instructions that wait, in their order, by so many workers, and empties the batch. The
+/// field from which shifts take is held first, in a pass of its own. An empty batch costs nothing.
 pub fn settle<R: Threads + Sync, G: Gate + Sync>(
     rt: &R,
     store: &mut Store,
@@ -87,7 +169,13 @@ pub fn settle<R: Threads + Sync, G: Gate + Sync>(
     if batch.is_empty() {
         return;
     }
-    let set = &mut store.sets[usize::from(batch.set())];
-    do_all_in_set(rt, &store.plans, set, batch, workers, gate);
+    let own = usize::from(batch.set());
+    hold_source(rt, &store.sets[own], &mut store.room, batch, workers);
+    let pass = Pass {
+        plans: store.plans.as_slice(),
+        batch,
+        cells: store.room.cells.as_slice(),
+    };
+    do_all_in_set(rt, &mut store.sets[own], &pass, workers, gate);
     batch.clear();
 }

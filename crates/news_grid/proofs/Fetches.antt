@@ -1,5 +1,5 @@
 -- What the blocks of a set have taken from the room is what the memory has at its places.
-use Rattle.std.proofs.Common.{◌≡◌, ℕ, ◌+◌, ◌*◌, ◌/◌, ◌%◌, ◌^◌, ◌<◌, ◌≤◌, true, false, eqb, List, [], length, get_or, sym, ◌∙◌, ap, subst, arith}
+use Rattle.std.proofs.Common.{◌≡◌, ℕ, ◌+◌, ◌*◌, ◌/◌, ◌%◌, ◌^◌, ◌<◌, ◌≤◌, Bool, true, false, eqb, List, [], length, get_or, sym, ◌∙◌, ap, subst, arith}
 use Rattle.std.specs.Prelude.{ℤ, ◌||◌}
 use Rattle.std.proofs.lemmas.List.{get_or-map}
 use Rattle.vp_sets.specs.Positions.{position_count, shifted}
@@ -12,7 +12,7 @@ use Rattle.bit_planes.specs.Bits.{bit}
 use Rattle.bit_planes.specs.Planes.{plane_at, number}
 use Rattle.paris_code.specs.declared.operands.Field.{Field}
 use Rattle.paris_code.specs.Fetching.{number_or_zero, of_named, of_neighbour}
-use Rattle.paris_code.specs.Memory.{field_number, is_active, processors}
+use Rattle.paris_code.specs.Memory.{BitMemory, field_number, is_active, processors}
 use Rattle.paris_code.specs.Shapes.{SetShape, no_shape, bits_at, extents_at, rank_at}
 use Rattle.phase_meaning.specs.Apply.{LiesIn}
 use Rattle.phase_meaning.specs.Gathered.{gathered}
@@ -32,6 +32,26 @@ use Rattle.news_grid.specs.declared.spread.Fetching.{Fetching}
 use Rattle.news_grid.specs.Places.{place, Taken}
 use Rattle.news_grid.specs.Steps.{planes_in_cell, number_held}
 use Rattle.news_grid.specs.Takings.{Stepped}
+
+-- a block that has taken the numbers of a NEWS shift is as the write of what is held a step away has it, in a memory in which its lanes are as active
+pub taken_steps : (shapes : List SetShape) (m : BitMemory) (taking : Taking) (k : ℕ) (old new : List Plane) → let d : Field = taking.shift.dest in
+    taking.plan.now.geometry ≡ extents_at shapes d.set → taking.plan.now.bits ≡ bits_at shapes d.set
+    → ((p : ℕ) → p / 512 ≡ k → is_active shapes m d.set p ≡ eqb (bit (plane_at old (bits_at shapes d.set)) (p % 512)) 1)
+    → (word : ℕ → ℕ) → ((p : ℕ) → p / 512 ≡ k → p < processors shapes d.set → number_held taking.cells.now d.len (shifted (extents_at shapes d.set) p taking.shift.axis (number_of 32 true taking.shift.by)) ≡ word p)
+    → Stepped taking k old new → WrittenInBlock shapes (gathered shapes m d taking.shift.always word) k old new
+taken_steps shapes m taking k old new grid at active word same done =
+    let d : Field = taking.shift.dest in
+    let always : Bool = taking.shift.always in
+    let by : ℤ = number_of 32 true taking.shift.by in
+    let inside : (p : ℕ) → p / 512 ≡ k → 512 * k + p % 512 ≡ p = λ p e. omega (arith, e) in
+    in_block shapes (gathered shapes m d always word) k done.mask done.numbers old new done.written
+    (λ p e b. done.lanes.takes (p % 512) (omega arith) (omega (arith, inside p e, b, ap position_count grid))
+    ∙ ap (λ c. always || eqb (bit (plane_at old c) (p % 512)) 1) at ∙ ap (λ t. always || t) (sym (active p e)))
+    (λ p e past off. done.lanes.quiet (p % 512) (omega arith) (omega (arith, inside p e, past, ap position_count grid)) (ap (λ c. bit (plane_at old c) (p % 512)) at ∙ off))
+    (λ p e b. ap (λ x. x % 2 ^ d.len) (done.there (p % 512) (omega arith) (omega (arith, inside p e, b, ap position_count grid))
+    ∙ ap (λ n. number_held taking.cells.now d.len (shifted taking.plan.now.geometry n taking.shift.axis by)) (inside p e)
+    ∙ ap (λ xs. number_held taking.cells.now d.len (shifted xs p taking.shift.axis by)) grid
+    ∙ same p e b))
 
 module _ (shapes : List SetShape) (sets : List BlockSet) (whole : AreWhole shapes sets) (source : Field) (within : LiesIn shapes source)
     (from : BlockSet) (is : blocks_in from ≡ blocks_at sets source.set) (cells : List Cell) (much : length (blocks_in from) ≤ length cells) where
@@ -60,7 +80,7 @@ module _ (shapes : List SetShape) (sets : List BlockSet) (whole : AreWhole shape
       ∙ ap (λ x. x % 2 ^ d.len) (ap (λ cs. word_or_zero cs taking.count n) (sym same_cells) ∙ fetched_is shapes sets whole source within from is cells much lifted v taking.count n all ∙ ap (number_or_zero shapes (stored sets v) source) named))
 
   -- what is held of the source is what the positions have
-  held_number : ((k i : ℕ) (none : Cell) (other : Block) → k < length (blocks_in from) → k < length cells → number (get_or cells k none).planes 0 source.len i ≡ number (planes_in (get_or (blocks_in from) k other)) source.offset source.len i)
+  pub held_number : ((k i : ℕ) (none : Cell) (other : Block) → k < length (blocks_in from) → k < length cells → number (get_or cells k none).planes 0 source.len i ≡ number (planes_in (get_or (blocks_in from) k other)) source.offset source.len i)
       → (v : Winner) (p : ℕ) → p < processors shapes source.set → number_held cells source.len p ≡ field_number (stored sets v) source p
   held_number held v p b =
       let k : ℕ = p / 512 in
@@ -88,19 +108,15 @@ module _ (shapes : List SetShape) (sets : List BlockSet) (whole : AreWhole shape
       let old : List Plane = planes_in (get_or blocks k none) in
       let here : (p : ℕ) → p / 512 ≡ k → old ≡ planes_at (blocks_at sets d.set) (p / 512) =
       λ p e. sym (get_or-map planes_in blocks k none [] b) ∙ ap (λ bs. planes_at bs k) same ∙ ap (planes_at (blocks_at sets d.set)) (sym e) in
-      let inside : (p : ℕ) → p / 512 ≡ k → 512 * k + p % 512 ≡ p = λ p e. omega (arith, e) in
-      in_block shapes (gathered shapes (stored sets v) d shift.always (of_neighbour shapes (stored sets v) shift.source shift.axis shift.by)) k done.mask done.numbers old new done.written
-      (λ p e b. done.lanes.takes (p % 512) (omega arith) (omega (arith, inside p e, b, ap position_count grid))
-      ∙ ap (λ c. shift.always || eqb (bit (plane_at old c) (p % 512)) 1) at ∙ ap (λ ps. shift.always || eqb (bit (plane_at ps (bits_at shapes d.set)) (p % 512)) 1) (here p e))
-      (λ p e past off. done.lanes.quiet (p % 512) (omega arith) (omega (arith, inside p e, past, ap position_count grid)) (ap (λ c. bit (plane_at old c) (p % 512)) at ∙ off))
+      taken_steps shapes (stored sets v) taking k old new grid at
+      (λ p e. ap (λ ps. eqb (bit (plane_at ps (bits_at shapes d.set)) (p % 512)) 1) (sym (here p e)))
+      (of_neighbour shapes (stored sets v) shift.source shift.axis shift.by)
       (λ p e b.
       let q : ℕ = shifted (extents_at shapes d.set) p shift.axis by in
       let q_there : q < processors shapes source.set =
       subst (λ s. q < processors shapes s) home (shifted_below (extents_at shapes d.set) p shift.axis by (geometry_parts (extents_at shapes d.set) (whole.grids d.set no_shape (omega (arith, within.0, home))).0).2 b axis) in
-      ap (λ x. x % 2 ^ d.len) (done.there (p % 512) (omega arith) (omega (arith, inside p e, b, ap position_count grid))
-      ∙ ap (λ n. number_held taking.cells.now d.len (shifted taking.plan.now.geometry n shift.axis by)) (inside p e)
-      ∙ ap (λ xs. number_held taking.cells.now d.len (shifted xs p shift.axis by)) grid
-      ∙ ap (λ cs. number_held cs d.len q) (sym same_cells) ∙ ap (λ l. number_held cells l q) (sym lens)
+      ap (λ cs. number_held cs d.len q) (sym same_cells) ∙ ap (λ l. number_held cells l q) (sym lens)
       ∙ held_number held v q q_there
       ∙ ap (λ s. field_number (stored sets v) source (shifted (extents_at shapes s) p shift.axis by)) home
-      ∙ ap (λ (f : Field). field_number (stored sets v) f (shifted (extents_at shapes f.set) p shift.axis by)) own))
+      ∙ ap (λ (f : Field). field_number (stored sets v) f (shifted (extents_at shapes f.set) p shift.axis by)) own)
+      done

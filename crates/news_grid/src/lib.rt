@@ -11,4 +11,5 @@ mod window;
 
 pub use get::{Get, gather};
 pub use instruction::run;
-pub use news::{News, shift};
+pub use news::{News, Taking, hold, shift, step_block};
+pub use step::Step;

@@ -44,12 +44,12 @@ pub struct News {
 /// What a pass over the blocks of a set needs for a shift: the planes that the cells hold of each of
 /// its blocks, and how far the step leads.
 #[derive(Clone, Copy)]
-struct Taking<'a> {
-    plan: &'a SetPlan,
-    blocks: u32,
-    cells: &'a [Cell],
-    shift: News,
-    step: Step,
+pub struct Taking<'a> {
+    pub plan: &'a SetPlan,
+    pub blocks: u32,
+    pub cells: &'a [Cell],
+    pub shift: News,
+    pub step: Step,
 }
 
 /// Copies the planes of a field of a block, from its lowest bit on.
@@ -64,7 +64,7 @@ fn copy_field(planes: &mut [Plane; 32], block: &Block, field: Field)
 }
 
 /// Holds the planes of a field of each block in its cell.
-fn hold<R: Threads + Sync>(rt: &R, set: &BlockSet, room: &mut Room, field: Field, workers: u32)
+pub fn hold<R: Threads + Sync>(rt: &R, set: &BlockSet, room: &mut Room, field: Field, workers: u32)
     requires len { (1 ≤ field.len) × (field.len ≤ 32) }
     requires planes { HasPlanes (field.offset + field.len) set.now.blocks.items }
     requires workers { 1 ≤ workers }
@@ -150,7 +150,7 @@ fn take_turn(block: &mut Block, dest: Field, lanes: u64x8, cells: &[Cell], turn:
 
 /// Block `k` takes what is held a step away: through one window in the lanes whose step stays in its
 /// turn of the axis, and through another in those that come round its end.
-fn step_block(block: &mut Block, k: u32, taking: &Taking)
+pub fn step_block(block: &mut Block, k: u32, taking: &Taking)
     requires block { (k < taking.now.blocks) × (k < 2 ^ 16) }
     requires taking { TakingFits taking.now }
     requires planes { taking.now.plan.now.bits + 1 ≤ length block.old.planes.items }

@@ -14,14 +14,14 @@ use vp_sets::{BLOCK_SIZE, Geometry};
 /// A step along an axis of a set. The axis begins anew after each `turn` positions; the step leads
 /// `ahead` positions on, fewer than a turn, and round the end of its turn.
 #[derive(Clone, Copy)]
-pub(crate) struct Step {
+pub struct Step {
     pub(crate) turn: u32,
     pub(crate) ahead: u32,
 }
 
 impl Step {
     /// So many steps along an axis.
-    pub(crate) fn along(geometry: &Geometry, axis: u32, by: i32) -> Step
+    pub fn along(geometry: &Geometry, axis: u32, by: i32) -> Step
         requires { axis < length geometry.now }
         ensures { Leads geometry.now axis by result }
     {

@@ -8,12 +8,11 @@ use Rattle.paris_code.specs.declared.instr.Instr.{Instr}
 use Rattle.paris_code.specs.declared.program.Reply.{Reply}
 use Rattle.paris_code.specs.declared.program.Reply.TheVariants as R
 use Rattle.paris_code.specs.Meaning.{after, Means}
-use Rattle.paris_code.specs.Memory.{BitMemory, SameBits}
+use Rattle.paris_code.specs.Memory.{BitMemory, SameBits, processors}
 use Rattle.paris_code.specs.Shapes.{SetShape, bits_at}
 use Rattle.paris_code.specs.Sound.{IsShape}
 use Rattle.phase_meaning.specs.Apply.{CanApply, ReplyFits}
 use Rattle.phase_meaning.proofs.Alike.{alike}
-use Rattle.phase_meaning.proofs.Replies.{plain}
 use Rattle.instruction_runs.specs.declared.deferring.Deferred.{Deferred}
 use Rattle.instruction_runs.specs.Waiting.{can_wait, done_all, takes, AreReady, IsDeferral}
 use Rattle.instruction_runs.proofs.Composed.{all_agree, others_stay, winner_stays}
@@ -42,7 +41,7 @@ means_from shapes instr args m n new (R.Bad position) grids can same means =
 
 -- none that wait are ready
 pub none_ready : (shapes : List SetShape) (set : ℕ) (ds : List Deferred) → ds ≡ [] → AreReady shapes set ds
-none_ready shapes set [] e = λ k d b. absurd (omega (arith, b))
+none_ready shapes set [] e = record { each = λ k d b. absurd (omega (arith, b)); turns = tt }
 none_ready shapes set (d ∷ ds) e = cc
 
 -- and any instruction can wait behind none
@@ -58,7 +57,7 @@ chosen shapes set ds m n ready same = record {
     | inr apart ↦ others_stay shapes set ds n ready s p i apart ∙ sym (same s p i) ∙ sym (others_stay shapes set ds m ready s p i apart)
     | inl e ↦
         ap (λ j. (done_all shapes ds n).bit j p i) e
-        ∙ all_agree shapes set p ds n m ready (λ k _. sym (same set p k)) i (subst (λ j. i < bits_at shapes j + 2) e c)
+        ∙ all_agree shapes set ds n m ready (λ q _ k _. sym (same set q k)) p (subst (λ j. p < processors shapes j) e b) i (subst (λ j. i < bits_at shapes j + 2) e c)
         ∙ ap (λ j. (done_all shapes ds m).bit j p i) (sym e)
   ];
   winner = winner_stays shapes set ds n ready;
@@ -102,7 +101,7 @@ waits_more shapes now instr args d m n new kept grids can is same e =
 
 -- it answers nothing
 pub nothing_fits : (shapes : List SetShape) (instr : Instr) (args : List ℕ) (m : BitMemory) → CanApply shapes instr args → can_wait instr ≡ true → ReplyFits instr R.Nothing
-nothing_fits shapes instr args m can waits = (plain shapes instr args m (stands_for shapes instr args can waits).was).1
+nothing_fits shapes instr args m can waits = ((stands_for shapes instr args can waits).answers m).0
 
 -- an instruction is done where none wait any more
 pub done_settled : (shapes now later : List SetShape) (instr : Instr) (args : List ℕ) (ds : List Deferred) (before settled new : BitMemory) (reply : Reply) → ds ≡ [] → now ≡ shapes

@@ -46,8 +46,9 @@ impl<'a, R, G> Crew<'a, R, G> {
 
 impl<'a, R: Threads + Sync, G: Gate + Sync> Crew<'a, R, G> {
     /// Does an instruction on a machine, by as many of the workers as pay; or lets it wait, where it
-    /// answers nothing and rests on each position's own bits. What waits is done first where one comes
-    /// that cannot, or that is of another set, or where no room is left. `Memory` at a send alone.
+    /// answers nothing and is elementwise or a NEWS shift. What waits is done first where one comes
+    /// that cannot, or that is of another set, or a shift whose source is written by one that waits or
+    /// is not that of the shifts that wait, or where no room is left. `Memory` at a send alone.
     pub fn apply(&self, machine: &mut Machine, instr: &Instr, args: &[u32], winner: Winner) -> Reply
         requires { CanDo machine.old instr.now args.now }
         ensures { Did machine.old instr.now args.now winner machine.new result }

@@ -13,7 +13,7 @@ use phase_elements::checked_set;
 
 /// A bit of each position, a plane at a time.
 const PLANE_NS: u32 = 8;
-/// The same from a neighbour, a window of lanes at a time.
+/// The same from a neighbour, a window of lanes at a time; its source is held first.
 const NEWS_NS: u32 = 20;
 /// A number of each position, one after the other.
 const LANES_NS: u32 = 4_000;

@@ -1,4 +1,4 @@
-use Rattle.std.proofs.Common.{ap, sym, ◌∙◌}
+use Rattle.std.proofs.Common.{sym, ◌∙◌}
 use Rattle.lane_kernels.proofs.Lifted.{same_change}
 use Rattle.news_grid.specs.Steps.{number_seen, number_taken}
 use Rattle.news_grid.proofs.Windows.{taken_staying}

@@ -1,4 +1,4 @@
-use Rattle.std.proofs.Common.{ap, ◌∙◌, min, max, arith}
+use Rattle.std.proofs.Common.{ap, ◌∙◌, min, max}
 use Rattle.bit_planes.specs.Bits.{bit}
 use Rattle.bit_planes.proofs.Words.{bit-lt}
 use Rattle.news_grid.specs.Steps.{seen_through}
