@@ -21,7 +21,7 @@ use image_check::Sound;
 use paris_code::Instr;
 
 /// The instruction at an index of the code.
-fn instr_at(sound: &Sound, at: u32) -> &Instr
+pub(crate) fn instr_at(sound: &Sound, at: u32) -> &Instr
     requires { at < length sound.now.code.items }
     ensures is { IsAt sound.now at result.now }
     ensures keeps { KeepsRules sound.now at result.now }
@@ -30,7 +30,7 @@ fn instr_at(sound: &Sound, at: u32) -> &Instr
 }
 
 /// Where a unit begins.
-fn start_of(sound: &Sound, unit: u32) -> u32
+pub(crate) fn start_of(sound: &Sound, unit: u32) -> u32
     requires { unit < length sound.now.units.items }
     ensures { result ≡ start_at sound.now unit }
 {
