@@ -276,6 +276,13 @@ pub empty_more : (first between now : Bool) (P Q : Type 0) → (first ≡ false 
 empty_more first true now P Q before still here f n = still refl (before f refl)
 empty_more first false now P Q before still here f n = here refl n
 
+-- an input that had ended before is read by neither of two stretches
+pub stays_more : (first between now : Bool) (result : Option RunEnd) (taken more : List ℕ) → StaysOver first None between taken → StaysOver between result now more → StaysOver first result now (taken ++ more)
+stays_more first between now result taken more one two = λ e.
+    let before = one e in
+    let behind = two before.0 in
+    (behind.0, ap (λ (l : List ℕ). l ++ more) before.1 ∙ behind.1, behind.2)
+
 -- runs between the same states
 runs_same : (image : Image) (from from' : Rest → CodeState) (end : RunEnd) (steps : ℕ) (to to' : Rest → CodeState) (ended : Bool) (taken : List ℕ) → ((rest : Rest) → from rest ≡ from' rest) → ((rest : Rest) → to rest ≡ to' rest)
     → Runs image from end steps to ended taken → Runs image from' end steps to' ended taken

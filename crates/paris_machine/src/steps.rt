@@ -215,7 +215,7 @@ fn drive<P: Phases, I: Source, O: Sink>(
     ensures over { ended.old ≡ true → (ended.new ≡ true) × (input.new ≡ input.old) }
     ensures empty { ended.old ≡ false → ended.new ≡ true → IfSome (I.left input.new) (λ rest. rest ≡ []) }
     ensures meaning { (taken : List ℕ) × ((printed : List ℕ)
-        × Took (I.left input.old) taken (I.left input.new) × Puts (Some result.0) O.agrees out.old out.new printed
+        × Took (I.left input.old) taken (I.left input.new) × Puts (Some result.0) O.agrees out.old out.new printed × StaysOver ended.old (Some result.0) ended.new taken
         × Runs sound.now (λ rest. joined (state_of front.old) (P.memory p.old) rest []) result.0 result.1
         (λ rest. joined (state_of front.new) (P.memory p.new) rest printed) ended.new taken) }
 {
@@ -232,7 +232,8 @@ fn drive<P: Phases, I: Source, O: Sink>(
 /// ended. Memory with 0 steps, and the kept state unchanged, is want of memory for the front end.
 /// Else the bytes that were taken, followed by what the input may have left, lead by this many
 /// instructions of the code to this end; the output took what they print, or the first of it where
-/// it failed.
+/// it failed. A run that stopped stands at the turn that had none left. A source that has ended is
+/// not asked.
 pub fn resume<P: Phases, I: Source, O: Sink>(
     alloc: Global,
     sound: &Sound,
@@ -255,8 +256,10 @@ pub fn resume<P: Phases, I: Source, O: Sink>(
     ensures over { kept.ended ≡ true → (result.1.ended ≡ true) × (input.new ≡ input.old) }
     ensures empty { kept.ended ≡ false → result.1.ended ≡ true → IfSome (I.left input.new) (λ rest. rest ≡ []) }
     ensures none { result.0.steps ≡ 0 → (result.0.end ≡ End.Memory) × (result.0.turns_left ≡ turns) × (result.1 ≡ kept) × (p.new ≡ p.old) × (input.new ≡ input.old) × (out.new ≡ out.old) }
+    ensures stopped { result.0.end ≡ End.Stopped → (result.0.turns_left ≡ 0) × IsAt sound.now result.1.at Instr.FrontTurn }
     ensures meaning { 0 < result.0.steps → (taken : List ℕ) × ((printed : List ℕ)
         × Took (I.left input.old) taken (I.left input.new) × Puts (Some result.0.end) O.agrees out.old out.new printed
+        × StaysOver kept.ended (Some result.0.end) result.1.ended taken
         × Runs sound.now (λ rest. kept_state kept turns (P.memory p.old) rest []) result.0.end result.0.steps
         (λ rest. kept_state result.1 result.0.turns_left (P.memory p.new) rest printed) result.1.ended taken) }
 {

@@ -1,8 +1,8 @@
-use Rattle.std.proofs.Common.{◌+◌, ◌≡◌, [], ◌++◌, refl, sym, ◌∙◌, subst, arith}
+use Rattle.std.proofs.Common.{◌+◌, ◌≡◌, [], ◌++◌, Some, None, refl, sym, ◌∙◌, subst, arith}
 use Rattle.std.specs.Prelude.{IfSome}
 use Rattle.front_end.specs.Front.{state_of, joined}
 use Rattle.paris_machine.proofs.Bound.{left_most}
-use Rattle.paris_machine.proofs.Following.{took_none, takes_none, took_more, takes_more, puts_more, reaches_more, runs_end, empty_more, exhausted, numbered_end}
+use Rattle.paris_machine.proofs.Following.{took_none, takes_none, took_more, takes_more, puts_more, reaches_more, runs_end, empty_more, stays_more, exhausted, numbered_end}
 use Rattle.paris_machine.proofs.Same.{runs_code}
 use Rattle.paris_machine.proofs.steps.drive.Goals as goal
 
@@ -21,6 +21,7 @@ steps-init g c = record {
   printed = [];
   took = took_none (g.I.Source.left c.args.input.now);
   takes = takes_none g.O.Sink.agrees c.args.out.now;
+  unread = λ e. (e, refl, refl);
   reaches = λ later left. refl;
 }
 
@@ -33,6 +34,7 @@ returns-in-Some-clause-meaning g c =
         kept.printed ++ moved.1.0,
         took_more (g.I.Source.left c.args.input.now) (g.I.Source.left c.steps.input) (g.I.Source.left c.advance.new.input) kept.taken moved.0 kept.took moved.1.1,
         puts_more c.in-Some.end g.O.Sink.agrees c.args.out.now c.steps.out c.advance.new.out kept.printed moved.1.0 kept.takes moved.1.2,
+        stays_more c.args.ended.now c.steps.ended c.advance.new.ended (Some c.in-Some.end) kept.taken moved.0 kept.unread moved.1.3,
         runs_code c.args.sound.now c.image-image.ensures.sound (λ rest. joined (state_of c.args.front.now) (g.P.Phases.memory c.args.p.now) rest []) c.in-Some.end (c.steps.begun + 1) (λ rest. joined (state_of c.advance.new.front) (g.P.Phases.memory c.advance.new.p) rest (kept.printed ++ moved.1.0)) c.advance.new.ended (kept.taken ++ moved.0) (
             runs_end c.args.sound.now (state_of c.args.front.now) (state_of c.steps.front) (state_of c.advance.new.front) (g.P.Phases.memory c.args.p.now) (g.P.Phases.memory c.steps.p) (g.P.Phases.memory c.advance.new.p)
             c.steps.begun c.steps.ended c.advance.new.ended c.in-Some.end kept.taken moved.0 kept.printed moved.1.0 kept.reaches moved.1.3 moved.1.4),
@@ -58,6 +60,7 @@ steps-preserved g c =
       printed = kept.printed ++ moved.1.0;
       took = took_more (g.I.Source.left c.args.input.now) (g.I.Source.left c.steps.input) (g.I.Source.left c.advance.new.input) kept.taken moved.0 kept.took moved.1.1;
       takes = takes_more g.O.Sink.agrees c.args.out.now c.steps.out c.advance.new.out kept.printed moved.1.0 kept.takes moved.1.2;
+      unread = stays_more c.args.ended.now c.steps.ended c.advance.new.ended None kept.taken moved.0 kept.unread moved.1.3;
       reaches = reaches_more c.args.sound.now (state_of c.args.front.now) (state_of c.steps.front) (state_of c.advance.new.front) (g.P.Phases.memory c.args.p.now) (g.P.Phases.memory c.steps.p) (g.P.Phases.memory c.advance.new.p)
           c.steps.begun c.steps.ended c.advance.new.ended kept.taken moved.0 kept.printed moved.1.0 kept.reaches moved.1.3 moved.1.4;
     }

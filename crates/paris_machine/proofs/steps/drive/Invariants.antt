@@ -6,7 +6,7 @@ use Rattle.cstar_io.specs.Input.{Took}
 use Rattle.cstar_io.specs.Output.{Takes}
 use Rattle.front_end.specs.Front.{state_of, Fits, joined}
 use Rattle.paris_machine.specs.Bound.{most_left}
-use Rattle.paris_machine.specs.Runs.{IsLeft, before}
+use Rattle.paris_machine.specs.Runs.{IsLeft, StaysOver, before}
 use Rattle.paris_machine.proofs.Following.{Reaches}
 use Rattle.paris_machine.proofs.steps.drive.Given as goal
 
@@ -25,5 +25,6 @@ invariant-steps g l = record {
   printed : List ℕ;
   took : Took (g.I.Source.left l.initial.input) taken (g.I.Source.left l.input);
   takes : Takes g.O.Sink.agrees l.initial.out l.out printed;
+  unread : StaysOver l.initial.ended None l.ended taken;
   reaches : (later : Rest) → IsLeft l.ended None later → Reaches l.sound (joined (state_of l.initial.front) (g.P.Phases.memory l.initial.p) (before taken later) []) l.begun (joined (state_of l.front) (g.P.Phases.memory l.p) later printed);
 }
