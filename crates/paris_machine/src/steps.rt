@@ -13,7 +13,7 @@ ghost use Rattle.front_end.specs.Kept.{KeptFits};
 ghost use Rattle.paris_machine.specs.Ends.{IsNumbered, input_broke, output_broke, input_broke_in, output_broke_in, Tells};
 ghost use Rattle.paris_machine.specs.Asked.{IsAsked};
 ghost use Rattle.paris_machine.specs.Bound.{most_left};
-ghost use Rattle.paris_machine.specs.Runs.{Advances, IsPutEnd, Puts, Reads, RepliesTo, Runs, Stays, StaysOver, kept_state};
+ghost use Rattle.paris_machine.specs.Runs.{AdvancesBy, IsPutEnd, Puts, Reads, RepliesTo, Runs, Stays, StaysOver, kept_state};
 
 use crate::outcome::{End, Outcome};
 use cstar_base::{Place, RunFault};
@@ -140,47 +140,55 @@ fn read<I: Source>(sound: &Sound, front: &mut Front, ended: &mut bool, input: &m
     None
 }
 
-/// Begins one instruction and does what it asks for. The end, where the run comes to it.
+/// Begins instructions, at most so many, up to the first that asks for something, and does what that
+/// asks for. The end, where the run comes to it, and how many instructions were begun.
 fn advance<P: Phases, I: Source, O: Sink>(
     sound: &Sound,
     front: &mut Front,
+    most: u64,
     ended: &mut bool,
     p: &mut P,
     input: &mut I,
     out: &mut O,
-) -> Option<End>
+) -> (Option<End>, u64)
+    requires some { 0 < most }
     requires fits { Fits sound.now (state_of front.old) }
     requires ready { front.old.wanted ≡ None }
     requires shapes { P.shapes p.old ≡ shapes_of sound.now }
     requires able { P.able p.old }
+    ensures most { result.1 ≤ most }
     ensures fits { Fits sound.now (state_of front.new) }
     ensures shapes { P.shapes p.new ≡ shapes_of sound.now }
     ensures able { P.able p.new }
-    ensures ready { IfNone result (front.new.wanted ≡ None) }
-    ensures input { Tells (input_broke_in result) (I.faults input.old) (I.faults input.new) }
-    ensures output { Tells (output_broke_in result) (O.faults out.old) (O.faults out.new) }
+    ensures ready { IfNone result.0 (front.new.wanted ≡ None) }
+    ensures input { Tells (input_broke_in result.0) (I.faults input.old) (I.faults input.new) }
+    ensures output { Tells (output_broke_in result.0) (O.faults out.old) (O.faults out.new) }
     ensures over { ended.old ≡ true → (ended.new ≡ true) × (input.new ≡ input.old) }
     ensures empty { ended.old ≡ false → ended.new ≡ true → IfSome (I.left input.new) (λ rest. rest ≡ []) }
-    ensures falls { IfNone result (most_left sound.now front.new.at front.new.returns.items front.new.turns + 1
+    ensures falls { IfNone result.0 (most_left sound.now front.new.at front.new.returns.items front.new.turns + result.1
         ≤ most_left sound.now front.old.at front.old.returns.items front.old.turns) }
     ensures meaning { (taken : List ℕ) × ((printed : List ℕ)
-        × Took (I.left input.old) taken (I.left input.new) × Puts result O.agrees out.old out.new printed × StaysOver ended.old result ended.new taken
-        × Advances sound.now (state_of front.old) (P.memory p.old) result (state_of front.new) (P.memory p.new) ended.new taken printed) }
+        × Took (I.left input.old) taken (I.left input.new) × Puts result.0 O.agrees out.old out.new printed × StaysOver ended.old result.0 ended.new taken
+        × AdvancesBy sound.now result.1 (state_of front.old) (P.memory p.old) result.0 (state_of front.new) (P.memory p.new) ended.new taken printed) }
 {
     let _image = sound.image();
-    match front.step(sound) {
-        Ask::Ran => None,
-        Ask::Apply { at } => apply(sound, front, at, p),
-        Ask::Literal { at } => put_literal(sound, at, out),
-        Ask::Digits { text, len } => put(&text[..usize::from(len)], out),
-        Ask::Byte => read(sound, front, ended, input),
-        Ask::Fault { kind, place } => Some(End::Fault {
-            kind,
-            place,
-            position: None,
-        }),
-        Ask::Stopped => Some(End::Stopped),
-        Ask::Halted => Some(End::Done),
+    let (ask, begun) = front.run(sound, most);
+    match ask {
+        Ask::Ran => (None, begun),
+        Ask::Apply { at } => (apply(sound, front, at, p), begun),
+        Ask::Literal { at } => (put_literal(sound, at, out), begun),
+        Ask::Digits { text, len } => (put(&text[..usize::from(len)], out), begun),
+        Ask::Byte => (read(sound, front, ended, input), begun),
+        Ask::Fault { kind, place } => {
+            let end = End::Fault {
+                kind,
+                place,
+                position: None,
+            };
+            (Some(end), begun)
+        }
+        Ask::Stopped => (Some(End::Stopped), begun),
+        Ask::Halted => (Some(End::Done), begun),
     }
 }
 
@@ -220,9 +228,14 @@ fn drive<P: Phases, I: Source, O: Sink>(
         (λ rest. joined (state_of front.new) (P.memory p.new) rest printed) ended.new taken) }
 {
     let _image = sound.image();
-    'steps: for begun in 0..most_steps(sound, front.turns_left()) {
-        if let Some(end) = advance(sound, front, ended, p, input, out) {
-            return (end, begun + 1);
+    let most = most_steps(sound, front.turns_left());
+    let mut begun = 0;
+    'steps: while begun < most {
+        let (end, more) = advance(sound, front, most - begun, ended, p, input, out);
+        begun += more;
+        match end {
+            Some(end) => return (end, begun),
+            None => {}
         }
     }
     (End::Stopped, 0)

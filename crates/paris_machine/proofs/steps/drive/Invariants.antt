@@ -1,4 +1,4 @@
-use Rattle.std.proofs.Common.{◌≡◌, ◌+◌, ◌*◌, ◌≤◌, None, true, false, List, ℕ, [], length}
+use Rattle.std.proofs.Common.{◌≡◌, ◌+◌, ◌-◌, ◌*◌, ◌≤◌, None, true, false, List, ℕ, [], length}
 use Rattle.std.specs.Prelude.{IfSome}
 use Rattle.paris_code.specs.Code.{Rest}
 use Rattle.paris_code.specs.Shapes.{shapes_of}
@@ -12,6 +12,7 @@ use Rattle.paris_machine.proofs.steps.drive.Given as goal
 
 abbrev pub invariant-steps : goal.invariant-steps
 invariant-steps g l = record {
+  most : l.begun ≤ l.most;
   fits : Fits l.sound (state_of l.front);
   ready : l.front.wanted ≡ None;
   shapes : g.P.Phases.shapes l.p ≡ shapes_of l.sound;
@@ -28,3 +29,6 @@ invariant-steps g l = record {
   unread : StaysOver l.initial.ended None l.ended taken;
   reaches : (later : Rest) → IsLeft l.ended None later → Reaches l.sound (joined (state_of l.initial.front) (g.P.Phases.memory l.initial.p) (before taken later) []) l.begun (joined (state_of l.front) (g.P.Phases.memory l.p) later printed);
 }
+
+abbrev pub decreases-steps : goal.decreases-steps
+decreases-steps g l = l.most - l.begun
