@@ -1,14 +1,17 @@
 -- How a place with its open calls changes by jumps, calls and returns.
-use Rattle.std.proofs.Common.{◌≡◌, ℕ, zero, suc, ◌+◌, ◌-◌, ◌<◌, ◌≤◌, List, [], ◌∷◌, ◌++◌, length, refl, sym, ◌∙◌, ap, subst, arith, slice_index, nat_le, true, false}
+use Rattle.std.proofs.Common.{◌≡◌, ℕ, zero, suc, ◌+◌, ◌-◌, ◌<◌, ◌≤◌, List, [], ◌∷◌, ◌++◌, length, refl, sym, ◌∙◌, ap, subst, arith, slice_index, get_or, drop, nat_le, true, false, ◌↔◌, inl, inr}
+use Rattle.std.proofs.Math.Seq.{drop-cons}
 use Rattle.std.proofs.lemmas.List.{length-map}
-use Rattle.std.proofs.lemmas.Bool.{le-leb}
+use Rattle.std.proofs.lemmas.Bool.{le-leb, cases_lt}
 use Rattle.std.proofs.lemmas.Bool.Decides.{nat_tests}
+use Rattle.paris_code.specs.declared.instr.Instr.{Instr}
 use Rattle.paris_code.specs.declared.instr.Instr.TheVariants as I
 use Rattle.paris_code.specs.declared.program.Image.{Image}
-use Rattle.paris_code.specs.Units.{unit_of, started, starts_of, start_at, IsAt, IsInUnitOf, Path}
-use Rattle.paris_code.specs.RuleTarget.{AreOrdered, AreStarts, HasUnits}
+use Rattle.paris_code.specs.Units.{unit_of, start_of, started, starts_of, start_at, IsAt, IsInUnitOf, Path}
+use Rattle.paris_code.specs.RuleTarget.{AreOrdered, AreStarts, HasUnits, KeepsTarget}
+use Rattle.paris_code.specs.Sound.{KeepsRules}
 use Rattle.paris_code.specs.RuleStack.{KeepsStack}
-use Rattle.front_end.specs.Fit.{IsChain, IsPlace}
+use Rattle.front_end.specs.Fit.{IsBehindCall, IsChain, IsPlace}
 
 -- a chain of calls is the same at each place of a unit
 pub chain_moved : (image : Image) (unit : ℕ) (places : List ℕ) (at to : ℕ) → IsChain image unit places at → unit_of image to ≡ unit_of image at → IsChain image unit places to
@@ -112,3 +115,119 @@ pub place_open : (image : Image) (returns : List ℕ) → HasUnits image → ret
 place_open image returns h e =
     let family : List ℕ → Type 0 = λ places. IsPlace image 0 places in
     subst family (sym e) (place_opening image h)
+
+started_empty : (place : ℕ) → started [] place ≡ 0
+unfolding started
+started_empty place = refl
+
+before_end : (first : ℕ) (starts : List ℕ) (end : ℕ) → AreOrdered first starts end → first < end
+before_end first [] end h = h
+before_end first (next ∷ starts) end h = omega (arith, h.0, before_end next starts end h.1)
+
+first_least : (first : ℕ) (starts : List ℕ) (end unit : ℕ) → AreOrdered first starts end → unit ≤ length starts → first ≤ slice_index (first ∷ starts) unit
+first_least first starts end zero h within = omega arith
+first_least first [] end (suc unit) h within = absurd (omega arith)
+first_least first (next ∷ starts) end (suc unit) h within = omega (arith, h.0, first_least next starts end unit h.1 (omega arith))
+
+-- from the start of the unit to the next one, or to the end of the code
+abbrev pub IsBetween : List ℕ → ℕ → ℕ → ℕ → Type 0
+IsBetween starts unit end place = (slice_index starts unit ≤ place) × (place < get_or starts (suc unit) end)
+
+-- the unit has so many starts before the place, behind the first
+abbrev IsCounted : List ℕ → ℕ → ℕ → ℕ → Type 0
+IsCounted starts unit end place = (place < end) × (started starts place ≡ unit)
+
+counted : (first : ℕ) (starts : List ℕ) (end unit place : ℕ) → AreOrdered first starts end → unit ≤ length starts → first ≤ place → IsCounted starts unit end place → (slice_index (first ∷ starts) unit ≤ place) × (place < get_or starts unit end)
+counted first [] end zero place h within low is = (low, is.0)
+counted first [] end (suc unit) place h within low is = absurd (omega arith)
+counted first (next ∷ starts) end zero place h within low is = elim (cases_lt place next) [
+  | inl lt ↦ (low, lt)
+  | inr le ↦ absurd (omega (arith, is.1, started_more next starts place le))
+]
+counted first (next ∷ starts) end (suc unit) place h within low is = elim (cases_lt place next) [
+  | inl lt ↦ absurd (omega (arith, is.1, started_none next starts place lt))
+  | inr le ↦ counted next starts end unit place h.1 (omega arith) le (is.0, omega (arith, is.1, started_more next starts place le))
+]
+
+between : (first : ℕ) (starts : List ℕ) (end unit place : ℕ) → AreOrdered first starts end → unit ≤ length starts → slice_index (first ∷ starts) unit ≤ place → place < get_or starts unit end → IsCounted starts unit end place
+between first [] end zero place h within low high = (high, started_empty place)
+between first [] end (suc unit) place h within low high = absurd (omega arith)
+between first (next ∷ starts) end zero place h within low high = (omega (arith, high, before_end next starts end h.1), started_none next starts place high)
+between first (next ∷ starts) end (suc unit) place h within low high =
+    let later = between next starts end unit place h.1 (omega arith) low high in
+    let le : next ≤ place = omega (arith, low, first_least next starts end unit h.1 (omega arith)) in
+    (later.0, started_more next starts place le ∙ ap suc later.1)
+
+in_unit : (starts : List ℕ) (end unit place : ℕ) → AreStarts starts end → unit < length starts → ((place < end) × (started starts place - 1 ≡ unit)) ↔ IsBetween starts unit end place
+in_unit [] end unit place h within = absurd h
+in_unit (first ∷ starts) end unit place h within =
+    let all : first ≤ place = omega (arith, h.0) in
+    let more = started_more first starts place all in (
+      λ is. counted first starts end unit place h.1 (omega arith) all (is.0, omega (arith, is.1, more)),
+      λ is. (let c = between first starts end unit place h.1 (omega arith) is.0 is.1 in (c.0, omega (arith, c.1, more))),
+    )
+
+pub tells_unit : (image : Image) (unit place start end : ℕ) → HasUnits image → unit < length image.units.items → start ≡ start_at image unit → end ≡ get_or (starts_of image) (unit + 1) (length image.code.items)
+    → ((start ≤ place) × (place < end)) ↔ ((place < length image.code.items) × (unit_of image place ≡ unit))
+tells_unit image unit place start end h within starts ends =
+    let both = in_unit (starts_of image) (length image.code.items) unit place h (rw length-map within) in
+    let next : unit + 1 ≡ suc unit = omega arith in
+    let last : end ≡ get_or (starts_of image) (suc unit) (length image.code.items) = ends ∙ ap (λ n. get_or (starts_of image) n (length image.code.items)) next in (
+      λ is. both.1 (omega (arith, is.0, starts), omega (arith, is.1, last)),
+      λ is. (omega (arith, (both.0 is).0, starts), omega (arith, (both.0 is).1, last)),
+    )
+
+-- a place behind a call is behind no other one
+pub behind_call : (image : Image) (place before unit : ℕ) (instr : Instr) → before + 1 ≡ place → IsAt image before instr → KeepsRules image before instr → instr ≡ I.FrontCall unit → IsBehindCall image place unit × (unit < length image.units.items)
+behind_call image place before unit instr next here keeps is =
+    let at_call : IsAt image before (I.FrontCall unit) = subst (λ (i : Instr). IsAt image before i) is here in
+    let target : KeepsTarget image before (I.FrontCall unit) = subst (λ (i : Instr). KeepsTarget image before i) is keeps.target in
+    ((before, next, at_call, subst (λ (p : ℕ). IsInUnitOf image p before) next target.1), target.0)
+
+call_here : (image : Image) (place before called : ℕ) → before + 1 ≡ place → IsBehindCall image place called → IsAt image before (I.FrontCall called)
+call_here image place before called next behind =
+    let same : behind.0 ≡ before = omega (arith, behind.1, next) in
+    subst (λ (p : ℕ). IsAt image p (I.FrontCall called)) same behind.2
+
+pub no_call : (image : Image) (place before : ℕ) (instr : Instr) → before + 1 ≡ place → IsAt image before instr → ((unit : ℕ) → instr ≡ I.FrontCall unit → ⊥) → (called : ℕ) → ¬ IsBehindCall image place called
+no_call image place before instr next here other called = λ behind.
+    let there : IsAt image before (I.FrontCall called) = call_here image place before called next behind in
+    let same : instr ≡ I.FrontCall called = cc in
+    other called same
+
+one_call : (image : Image) (place one other : ℕ) → IsBehindCall image place one → IsBehindCall image place other → one ≡ other
+one_call image place one other first second =
+    let here : IsAt image second.0 (I.FrontCall one) = call_here image place second.0 one second.1 first in
+    let there = second.2 in
+    let same : I.FrontCall one ≡ I.FrontCall other = cc in
+    cc
+
+dropped : (places : List ℕ) (index : ℕ) → index < length places → drop index places ≡ get_or places index 0 ∷ drop (index + 1) places
+dropped places index within =
+    let next : suc index ≡ index + 1 = omega arith in
+    drop-cons places index 0 within ∙ ap (λ n. get_or places index 0 ∷ drop n places) next
+
+-- the first place of a chain stands in the unit and behind a call
+pub chain_onward : (image : Image) (unit : ℕ) (places : List ℕ) (index at called : ℕ) → index < length places → unit_of image (get_or places index 0) ≡ unit → IsBehindCall image (get_or places index 0) called
+    → IsChain image unit (drop index places) at ↔ IsChain image called (drop (index + 1) places) at
+chain_onward image unit places index at called within inside behind =
+    subst (λ (list : List ℕ). IsChain image unit list at ↔ IsChain image called (drop (index + 1) places) at) (sym (dropped places index within)) (
+      λ chain. subst (λ (u : ℕ). IsChain image u (drop (index + 1) places) at) (one_call image (get_or places index 0) chain.1.0 called chain.1.1 behind) chain.1.2,
+      λ chain. (inside, (called, behind, chain)),
+    )
+
+pub chain_first : (image : Image) (unit : ℕ) (places : List ℕ) (index at : ℕ) → index < length places → IsChain image unit (drop index places) at
+    → (unit_of image (get_or places index 0) ≡ unit) × ((called : ℕ) × IsBehindCall image (get_or places index 0) called)
+chain_first image unit places index at within chain =
+    let first : IsChain image unit (get_or places index 0 ∷ drop (index + 1) places) at = subst (λ (list : List ℕ). IsChain image unit list at) (dropped places index within) chain in
+    (first.0, (first.1.0, first.1.1))
+
+some_start : (starts : List ℕ) (end : ℕ) → AreStarts starts end → 0 < length starts
+some_start [] end h = absurd h
+some_start (first ∷ starts) end h = omega arith
+
+pub some_unit : (image : Image) → HasUnits image → 0 < length image.units.items
+some_unit image h =
+    let some = some_start (starts_of image) (length image.code.items) h in
+    let all : length (starts_of image) ≡ length image.units.items = length-map image.units.items start_of in
+    omega (arith, some, all)

@@ -1,5 +1,5 @@
 -- What contracts see of the front end, and when it fits an image.
-use Rattle.std.specs.Prelude.{◌≡◌, ℕ, ◌<◌, ◌≤◌, ◌+◌, ◌-◌, ◌^◌, List, [], ◌∷◌, ◌++◌, length, take, All, Option, None, IfSome, IsSome, true}
+use Rattle.std.specs.Prelude.{◌≡◌, ℕ, zero, suc, ◌<◌, ◌≤◌, ◌+◌, ◌-◌, ◌^◌, List, [], ◌∷◌, ◌++◌, length, take, All, Option, None, IfSome, IsSome, true}
 use Rattle.cstar_base.specs.declared.faults.RunFault.{RunFault}
 use Rattle.cstar_base.specs.Faults.{run_number_of}
 use Rattle.paris_code.specs.declared.instr.Instr.{Instr}
@@ -106,6 +106,18 @@ AsksFor image old (A.Fault kind place) new =
     × Begins image old (λ m i o. Ends (Fault fault place None) (joined new m i o))
 AsksFor image old A.Stopped new = (new.wanted ≡ None) × Begins image old (λ m i o. Ends Stopped (joined new m i o))
 AsksFor image old A.Halted new = (new.wanted ≡ None) × Begins image old (λ m i o. Ends Done (joined new m i o))
+
+-- so many instructions, each done whole, lead from one state to the other
+abbrev pub RunsWhole : Image → State → ℕ → State → Type 0
+RunsWhole image s zero t = s ≡ t
+RunsWhole image s (suc n) t =
+    (last : State) × RunsWhole image s n last × IsPlace image last.at last.returns × AsksFor image last A.Ran t
+
+-- all of so many instructions but for the last are done whole, and the last comes to this ask
+abbrev pub AsksAfter : Image → State → Ask → ℕ → State → Type 0
+AsksAfter image old ask begun new =
+    (whole : ℕ) × (begun ≡ whole + 1)
+    × ((last : State) × RunsWhole image old whole last × IsPlace image last.at last.returns × AsksFor image last ask new)
 
 -- the first bytes of the digits are this text
 abbrev pub Prints : Ask → List ℕ → Type 0

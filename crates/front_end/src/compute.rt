@@ -39,6 +39,7 @@ fn extents_of(sound: &Sound, set: u16) -> &[u32]
 }
 
 impl Front {
+    #[inline(always)]
     pub(crate) fn register(&self, register: u32) -> u32
         requires { register < length self.now.registers.items }
         ensures { result ≡ slice_index self.now.registers.items register }
@@ -103,6 +104,7 @@ impl Front {
     }
 
     /// The register that a scalar instruction sets, and its value.
+    #[inline(always)]
     pub(crate) fn computed(&self, sound: &Sound, instr: &Instr) -> Option<(u32, u32)>
         requires fits { Fits sound.now (state_of self.now) }
         requires keeps { KeepsRules sound.now self.now.at instr.now }

@@ -4,6 +4,7 @@
 
 mod ask;
 mod compute;
+mod fit;
 mod front;
 mod kept;
 mod numerals;

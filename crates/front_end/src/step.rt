@@ -9,7 +9,7 @@ ghost use Rattle.cstar_base.specs.Numerals.{word_text};
 ghost use Rattle.paris_code.specs.Operands.{result_of};
 ghost use Rattle.paris_code.specs.Scalar.{computed};
 ghost use Rattle.paris_code.specs.Shapes.{shapes_of};
-ghost use Rattle.front_end.specs.Front.{state_of, Fits, AsksFor, Prints};
+ghost use Rattle.front_end.specs.Front.{state_of, Fits, AsksAfter, AsksFor, Prints};
 
 use crate::ask::Ask;
 use crate::compute::result_register;
@@ -21,7 +21,8 @@ use image_check::Sound;
 use paris_code::Instr;
 
 /// The instruction at an index of the code.
-fn instr_at(sound: &Sound, at: u32) -> &Instr
+#[inline(always)]
+pub(crate) fn instr_at(sound: &Sound, at: u32) -> &Instr
     requires { at < length sound.now.code.items }
     ensures is { IsAt sound.now at result.now }
     ensures keeps { KeepsRules sound.now at result.now }
@@ -30,7 +31,7 @@ fn instr_at(sound: &Sound, at: u32) -> &Instr
 }
 
 /// Where a unit begins.
-fn start_of(sound: &Sound, unit: u32) -> u32
+pub(crate) fn start_of(sound: &Sound, unit: u32) -> u32
     requires { unit < length sound.now.units.items }
     ensures { result ≡ start_at sound.now unit }
 {
@@ -39,6 +40,7 @@ fn start_of(sound: &Sound, unit: u32) -> u32
 
 impl Front {
     /// Goes to another instruction of the unit.
+    #[inline(always)]
     fn go_to(&mut self, sound: &Sound, target: u32)
         requires fits { Fits sound.now (state_of self.old) }
         requires inside { IsInUnitOf sound.now target self.old.at }
@@ -49,6 +51,7 @@ impl Front {
     }
 
     /// Goes on to the next instruction.
+    #[inline(always)]
     fn go_on(&mut self, sound: &Sound)
         requires fits { Fits sound.now (state_of self.old) }
         requires goes { GoesOn sound.now self.old.at }
@@ -60,6 +63,7 @@ impl Front {
     }
 
     /// Sets a register and goes on to the next instruction.
+    #[inline(always)]
     fn set(&mut self, sound: &Sound, dest: u32, value: u32) -> Ask
         requires fits { Fits sound.now (state_of self.old) }
         requires goes { GoesOn sound.now self.old.at }
@@ -111,6 +115,7 @@ impl Front {
     }
 
     /// Goes to the target where the jump is taken, else on.
+    #[inline(always)]
     fn jump(&mut self, sound: &Sound, taken: bool, target: u32) -> Ask
         requires fits { Fits sound.now (state_of self.old) }
         requires inside { IsInUnitOf sound.now target self.old.at }
@@ -130,6 +135,7 @@ impl Front {
     }
 
     /// Spends a turn and goes on, where one is left.
+    #[inline(always)]
     fn turn(&mut self, sound: &Sound) -> Ask
         requires fits { Fits sound.now (state_of self.old) }
         requires goes { GoesOn sound.now self.old.at }
@@ -228,6 +234,7 @@ impl Front {
     }
 
     /// Begins an instruction that does more than set a register.
+    #[inline(always)]
     fn control(&mut self, sound: &Sound, instr: &Instr) -> Ask
         requires fits { Fits sound.now (state_of self.old) }
         requires keeps { KeepsRules sound.now self.old.at instr.now }
@@ -273,6 +280,7 @@ impl Front {
     /// Begins the instruction at which the code stands. Ran where it is thereby done, Apply at a
     /// parallel instruction, Literal and Digits where it prints, Byte where it reads, Fault where
     /// its check fails, Stopped where it is a turn and none is left, Halted at the end.
+    #[inline(always)]
     pub fn step(&mut self, sound: &Sound) -> Ask
         requires fits { Fits sound.now (state_of self.old) }
         requires ready { self.old.wanted ≡ None }
@@ -287,5 +295,25 @@ impl Front {
             Some((dest, value)) => self.set(sound, dest, value),
             None => self.control(sound, instr),
         }
+    }
+
+    /// Begins instructions, at most so many, up to the first that asks for something or ends the
+    /// run. What the last of them came to, as `step`, and how many there were.
+    pub fn run(&mut self, sound: &Sound, most: u64) -> (Ask, u64)
+        requires some { 0 < most }
+        requires fits { Fits sound.now (state_of self.old) }
+        requires ready { self.old.wanted ≡ None }
+        ensures fits { Fits sound.now (state_of self.new) }
+        ensures most { result.1 ≤ most }
+        ensures all { result.0 ≡ Ask.Ran → result.1 ≡ most }
+        ensures asks { AsksAfter sound.now (state_of self.old) result.0 result.1 (state_of self.new) }
+    {
+        'instructions: for begun in 0..most - 1 {
+            match self.step(sound) {
+                Ask::Ran => {}
+                ask => return (ask, begun + 1),
+            }
+        }
+        (self.step(sound), most)
     }
 }

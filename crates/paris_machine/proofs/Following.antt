@@ -23,12 +23,12 @@ use Rattle.cstar_io.specs.Output.{Takes}
 use Rattle.front_end.specs.declared.ask.Ask.TheVariants as A
 use Rattle.front_end.specs.declared.kept.Kept.{Kept}
 use Rattle.front_end.specs.Fit.{IsPlace}
-use Rattle.front_end.specs.Front.{State, AsksFor, Begins, joined, answered}
+use Rattle.front_end.specs.Front.{State, RunsWhole, AsksFor, Begins, joined, answered}
 use Rattle.paris_machine.specs.declared.outcome.End.{End as RunEnd}
 use Rattle.paris_machine.specs.declared.outcome.End.TheVariants as E
 use Rattle.paris_machine.specs.Bound.{most_left}
 use Rattle.paris_machine.specs.Ends.{IsNumbered, input_broke_in, output_broke_in}
-use Rattle.paris_machine.specs.Runs.{SameState, SameNext, ComesTo, before, IsLeft, Puts, StaysOver, Advances, Runs, RepliesTo, IsPutEnd, Reads, Stays, kept_state}
+use Rattle.paris_machine.specs.Runs.{SameState, SameNext, ComesTo, before, IsLeft, Puts, StaysOver, Advances, AdvancesBy, Runs, RepliesTo, IsPutEnd, Reads, Stays, kept_state}
 use Rattle.paris_machine.proofs.Bound.{falls, falls_parallel, some_left}
 
 -- so many instructions of the code lead from one state to another, each but for bits that no set has
@@ -181,33 +181,46 @@ left_before true now result taken later over left =
     over_left (Some E.OutputBroken) later h left = left
     over_left (Some E.Memory) later h left = left
 
-one_more : (n : ℕ) → suc n ≡ n + 1
-one_more n = omega arith
+-- instructions that are done whole
+whole_reaches : (image : Image) (s : CodeState) (old last : State) (m : BitMemory) (begun whole : ℕ) (later : Rest) (printed : List ℕ)
+    → Reaches image s begun (joined old m later printed) → RunsWhole image old whole last → Reaches image s (begun + whole) (joined last m later printed)
+whole_reaches image s old last m begun zero later printed reaches runs =
+    let none : begun ≡ begun + zero = omega arith in
+    subst (λ (k : ℕ). Reaches image s k (joined last m later printed)) none (subst (λ (t : State). Reaches image s begun (joined t m later printed)) runs reaches)
+whole_reaches image s old last m begun (suc whole) later printed reaches runs =
+    let more : suc (begun + whole) ≡ begun + suc whole = omega arith in
+    subst (λ (k : ℕ). Reaches image s k (joined last m later printed)) more
+    (joined runs.0 m later printed, whole_reaches image s old runs.0 m begun whole later printed reaches runs.1, exact_goes (shapes_of image) _ _ (runs.3.1 m later printed))
 
--- one instruction more
-pub reaches_more : (image : Image) (start old new : State) (m0 m n : BitMemory) (begun : ℕ) (ended now : Bool) (taken more printed text : List ℕ)
+-- so many instructions more
+pub reaches_more : (image : Image) (start old new : State) (m0 m n : BitMemory) (begun count : ℕ) (ended now : Bool) (taken more printed text : List ℕ)
     → ((later : Rest) → IsLeft ended None later → Reaches image (joined start m0 (before taken later) []) begun (joined old m later printed))
-    → StaysOver ended None now more → Advances image old m None new n now more text
-    → (later : Rest) → IsLeft now None later → Reaches image (joined start m0 (before (taken ++ more) later) []) (begun + 1) (joined new n later (printed ++ text))
-reaches_more image start old new m0 m n begun ended now taken more printed text reaches over advances later left = subst (λ (k : ℕ). Reaches image (joined start m0 (before (taken ++ more) later) []) k (joined new n later (printed ++ text))) (one_more begun) (
-  joined old m (before more later) printed,
-  subst (λ (bytes : List ℕ). Reaches image (joined start m0 (record { bytes = bytes; mark = later.mark }) []) begun (joined old m (before more later) printed)) (sym (append_assoc taken more later.bytes)) (reaches (before more later) (left_before ended now None more later over left)),
-  advances later left printed,
-)
+    → StaysOver ended None now more → AdvancesBy image count old m None new n now more text
+    → (later : Rest) → IsLeft now None later → Reaches image (joined start m0 (before (taken ++ more) later) []) (begun + count) (joined new n later (printed ++ text))
+reaches_more image start old new m0 m n begun count ended now taken more printed text reaches over advances later left =
+    let steps : suc (begun + advances.0) ≡ begun + count = omega (arith, advances.1) in
+    let first = whole_reaches image (joined start m0 (before taken (before more later)) []) old advances.2.0 m begun advances.0 (before more later) printed (reaches (before more later) (left_before ended now None more later over left)) advances.2.1 in
+    subst (λ (k : ℕ). Reaches image (joined start m0 (before (taken ++ more) later) []) k (joined new n later (printed ++ text))) steps (
+      joined advances.2.0 m (before more later) printed,
+      subst (λ (bytes : List ℕ). Reaches image (joined start m0 (record { bytes = bytes; mark = later.mark }) []) (begun + advances.0) (joined advances.2.0 m (before more later) printed)) (sym (append_assoc taken more later.bytes)) first,
+      advances.2.2 later left printed,
+    )
 
-pub runs_end : (image : Image) (start old new : State) (m0 m n : BitMemory) (begun : ℕ) (ended now : Bool) (end : RunEnd) (taken more printed text : List ℕ)
+pub runs_end : (image : Image) (start old new : State) (m0 m n : BitMemory) (begun count : ℕ) (ended now : Bool) (end : RunEnd) (taken more printed text : List ℕ)
     → ((later : Rest) → IsLeft ended None later → Reaches image (joined start m0 (before taken later) []) begun (joined old m later printed))
-    → StaysOver ended (Some end) now more → Advances image old m (Some end) new n now more text
-    → Chains image (λ rest. joined start m0 rest []) end (begun + 1) (λ rest. joined new n rest (printed ++ text)) now (taken ++ more)
-runs_end image start old new m0 m n begun ended now end taken more printed text reaches over advances = λ later left. (
-  begun,
-  refl,
-  (
-    joined old m (before more later) printed,
-    subst (λ (bytes : List ℕ). Reaches image (joined start m0 (record { bytes = bytes; mark = later.mark }) []) begun (joined old m (before more later) printed)) (sym (append_assoc taken more later.bytes)) (reaches (before more later) (left_before ended now (Some end) more later over left)),
-    advances later left printed,
-  ),
-)
+    → StaysOver ended (Some end) now more → AdvancesBy image count old m (Some end) new n now more text
+    → Chains image (λ rest. joined start m0 rest []) end (begun + count) (λ rest. joined new n rest (printed ++ text)) now (taken ++ more)
+runs_end image start old new m0 m n begun count ended now end taken more printed text reaches over advances = λ later left.
+    let steps : begun + count ≡ (begun + advances.0) + 1 = omega (arith, advances.1) in
+    let first = whole_reaches image (joined start m0 (before taken (before more later)) []) old advances.2.0 m begun advances.0 (before more later) printed (reaches (before more later) (left_before ended now (Some end) more later over left)) advances.2.1 in (
+      begun + advances.0,
+      steps,
+      (
+        joined advances.2.0 m (before more later) printed,
+        subst (λ (bytes : List ℕ). Reaches image (joined start m0 (record { bytes = bytes; mark = later.mark }) []) (begun + advances.0) (joined advances.2.0 m (before more later) printed)) (sym (append_assoc taken more later.bytes)) first,
+        advances.2.2 later left printed,
+      ),
+    )
 
 -- bytes taken one after another
 pub took_more : (left between now : Option (List ℕ)) (taken more : List ℕ) → Took left taken between → Took between more now → Took left (taken ++ more) now
@@ -257,6 +270,18 @@ applied_falls image sound old between new instr place here parallel at returns t
     ap (λ at. most_left image at between.returns between.turns) at ∙ ap (λ (returns : List ℕ). most_left image (old.at + 1) returns between.turns) returns ∙ ap (λ turns. most_left image (old.at + 1) old.returns turns) turns in
     omega (arith, stays_left image between new stays, fell, same)
 
+-- instructions that are done whole, and one more
+whole_falls : (image : Image) (sound : IsSound image) (old last : State) (m : BitMemory) (whole : ℕ) → RunsWhole image old whole last → most_left image last.at last.returns last.turns + whole ≤ most_left image old.at old.returns old.turns
+whole_falls image sound old last m zero runs =
+    let same : most_left image last.at last.returns last.turns ≡ most_left image old.at old.returns old.turns = ap (λ (s : State). most_left image s.at s.returns s.turns) (sym runs) in
+    omega (arith, same)
+whole_falls image sound old last m (suc whole) runs =
+    omega (arith, whole_falls image sound old runs.0 m whole runs.1, ran_falls image sound runs.0 last m runs.2 runs.3)
+
+pub falls_behind : (image : Image) (sound : IsSound image) (old last new : State) (m : BitMemory) (whole begun : ℕ) → RunsWhole image old whole last → begun ≡ whole + 1
+    → most_left image new.at new.returns new.turns + 1 ≤ most_left image last.at last.returns last.turns → most_left image new.at new.returns new.turns + begun ≤ most_left image old.at old.returns old.turns
+falls_behind image sound old last new m whole begun runs count fell = omega (arith, whole_falls image sound old last m whole runs, count, fell)
+
 -- the same of what was asked for
 pub apply_falls : (image : Image) (sound : IsSound image) (old between new : State) (at : ℕ) → IsPlace image old.at old.returns → AsksFor image old (A.Apply at) between → Stays between new → most_left image new.at new.returns new.turns + 1 ≤ most_left image old.at old.returns old.turns
 apply_falls image sound old between new at place asks stays =
@@ -275,6 +300,13 @@ for_none (Some x) P h = tt
 pub empty_more : (first between now : Bool) (P Q : Type 0) → (first ≡ false → between ≡ true → P) → (between ≡ true → P → Q) → (between ≡ false → now ≡ true → Q) → first ≡ false → now ≡ true → Q
 empty_more first true now P Q before still here f n = still refl (before f refl)
 empty_more first false now P Q before still here f n = here refl n
+
+-- an input that had ended before is read by neither of two stretches
+pub stays_more : (first between now : Bool) (result : Option RunEnd) (taken more : List ℕ) → StaysOver first None between taken → StaysOver between result now more → StaysOver first result now (taken ++ more)
+stays_more first between now result taken more one two = λ e.
+    let before = one e in
+    let behind = two before.0 in
+    (behind.0, ap (λ (l : List ℕ). l ++ more) before.1 ∙ behind.1, behind.2)
 
 -- runs between the same states
 runs_same : (image : Image) (from from' : Rest → CodeState) (end : RunEnd) (steps : ℕ) (to to' : Rest → CodeState) (ended : Bool) (taken : List ℕ) → ((rest : Rest) → from rest ≡ from' rest) → ((rest : Rest) → to rest ≡ to' rest)
@@ -319,6 +351,13 @@ pub exhausted : (image : Image) (at : ℕ) (returns : List ℕ) (turns begun fir
     → left ≡ first → most ≡ (left + 1) * length image.code.items → most ≤ begun → ⊥
 exhausted image at returns turns begun first left most b bound same all over =
     omega (arith, some_left image at returns turns b, bound, all ∙ ap (λ t. (t + 1) * length image.code.items) same, over)
+
+-- an advance, at the end that it came to
+abbrev pub Moves : {I O : Type 0} → (I → Option (List ℕ)) → (O → List ℕ → Type 0) → Image → I → I → O → O → ℕ → State → BitMemory → Bool → Option RunEnd → State → BitMemory → Bool → Type 0
+Moves left agrees image input input' out out' count old m ended result new n now =
+    (taken : List ℕ) × ((printed : List ℕ)
+    × Took (left input) taken (left input') × Puts result agrees out out' printed × StaysOver ended result now taken
+    × AdvancesBy image count old m result new n now taken printed)
 
 -- the end of an instruction that is a fault has the number of one of a run
 pub numbered_end : (image : Image) (old : State) (m : BitMemory) (end : RunEnd) (new : State) (n : BitMemory) (ended : Bool) (taken printed : List ℕ) → Advances image old m (Some end) new n ended taken printed → IsNumbered end

@@ -28,7 +28,7 @@ use Rattle.paris_machine.specs.declared.outcome.End.TheVariants as E
 use Rattle.paris_machine.specs.Runs.{SameState, SameNext, ComesTo, Runs, before}
 use Rattle.paris_machine.proofs.Following.{Reaches, Chains}
 
-bits_after : (shapes : List SetShape) (l m n : BitMemory) → SameBits shapes n m → SameBits shapes m l → SameBits shapes n l
+pub bits_after : (shapes : List SetShape) (l m n : BitMemory) → SameBits shapes n m → SameBits shapes m l → SameBits shapes n l
 bits_after shapes l m n one two = record { bits = λ s p i a b c. one.bits s p i a b c ∙ two.bits s p i a b c; winner = one.winner ∙ two.winner }
 
 state_after : (shapes : List SetShape) (a b c : CodeState) → SameState shapes a b → SameState shapes b c → SameState shapes a c
@@ -37,7 +37,7 @@ state_after shapes a b c one two = record {
   rest = two.rest ∙ ap (λ (x : CodeState). record x { memory = c.memory }) one.rest;
 }
 
-next_after : (shapes : List SetShape) (a b c : Next) → SameNext shapes a b → SameNext shapes b c → SameNext shapes a c
+pub next_after : (shapes : List SetShape) (a b c : Next) → SameNext shapes a b → SameNext shapes b c → SameNext shapes a c
 next_after shapes (Goes a) (Goes b) (Goes c) one two = state_after shapes a b c one two
 next_after shapes (Ends e a) (Ends f b) (Ends g c) one two = (one.0 ∙ two.0, state_after shapes a b c one.1 two.1)
 next_after shapes (Goes a) (Goes b) (Ends g c) one two = absurd two
@@ -110,7 +110,7 @@ module _ (image : Image) (sound : IsSound image) (s : CodeState) (n : BitMemory)
   stepped_same (Some instr) here = begun_same instr (sound.each s.at instr here)
 
 -- a step keeps to the bits of the sets
-step_same : (image : Image) (sound : IsSound image) (s t : CodeState) → SameState (shapes_of image) s t → SameNext (shapes_of image) (step image s) (step image t)
+pub step_same : (image : Image) (sound : IsSound image) (s t : CodeState) → SameState (shapes_of image) s t → SameNext (shapes_of image) (step image s) (step image t)
 unfolding step
 step_same image sound s t same =
     subst (λ (x : CodeState). SameNext (shapes_of image) (begun_at image s (slice_get image.code.items s.at)) (begun_at image x (slice_get image.code.items x.at))) (sym same.rest)
@@ -163,7 +163,7 @@ reached image sound s (suc n) t h =
     reached_more image s n t h.0 met (step image met.0) refl (next_after (shapes_of image) (step image met.0) (step image h.0) (Goes t) (step_same image sound met.0 h.0 met.2) h.2)
 
 -- the last instruction comes to the same
-ends_same : (image : Image) (sound : IsSound image) (u mid : CodeState) (end : RunEnd) (t : CodeState) → SameState (shapes_of image) u mid → ComesTo image mid (Some end) t → ComesTo image u (Some end) t
+pub ends_same : (image : Image) (sound : IsSound image) (u mid : CodeState) (end : RunEnd) (t : CodeState) → SameState (shapes_of image) u mid → ComesTo image mid (Some end) t → ComesTo image u (Some end) t
 ends_same image sound u mid E.Memory t same h = (
   (h.0.0, subst (λ (at : ℕ). IsAt image at h.0.0) (ap (λ (x : CodeState). x.at) same.rest) h.0.1, h.0.2),
   h.1 ∙ ap (λ (x : CodeState). x.output) same.rest,

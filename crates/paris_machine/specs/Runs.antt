@@ -12,7 +12,7 @@ use Rattle.paris_code.specs.Units.{IsAt}
 use Rattle.cstar_io.specs.Output.{Takes, TakesPrefix}
 use Rattle.phase_meaning.specs.Apply.{is_send}
 use Rattle.front_end.specs.declared.kept.Kept.{Kept}
-use Rattle.front_end.specs.Front.{State, joined, answered_from}
+use Rattle.front_end.specs.Front.{State, RunsWhole, joined, answered_from}
 use Rattle.paris_machine.specs.Ends.{input_broke_in}
 use Rattle.paris_machine.specs.declared.outcome.End.{End as RunEnd}
 use Rattle.paris_machine.specs.declared.outcome.End.TheVariants as E
@@ -67,6 +67,11 @@ StaysOver ended result now taken = ended ≡ true → (now ≡ true) × (taken �
 abbrev pub Advances : Image → State → BitMemory → Option RunEnd → State → BitMemory → Bool → List ℕ → List ℕ → Type 0
 Advances image old m result new n ended taken printed =
     (later : Rest) → IsLeft ended result later → (output : List ℕ) → ComesTo image (joined old m (before taken later) output) result (joined new n later (output ++ printed))
+
+-- So many instructions are begun: all but the last are done whole, and the last comes to this.
+abbrev pub AdvancesBy : Image → ℕ → State → BitMemory → Option RunEnd → State → BitMemory → Bool → List ℕ → List ℕ → Type 0
+AdvancesBy image begun old m result new n ended taken printed =
+    (whole : ℕ) × (begun ≡ whole + 1) × ((last : State) × RunsWhole image old whole last × Advances image last m result new n ended taken printed)
 
 -- The bytes taken, followed by whatever may be left, lead the code by so many instructions, but for
 -- the last, to a state at which this one comes to the end.

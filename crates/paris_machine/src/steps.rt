@@ -13,7 +13,7 @@ ghost use Rattle.front_end.specs.Kept.{KeptFits};
 ghost use Rattle.paris_machine.specs.Ends.{IsNumbered, input_broke, output_broke, input_broke_in, output_broke_in, Tells};
 ghost use Rattle.paris_machine.specs.Asked.{IsAsked};
 ghost use Rattle.paris_machine.specs.Bound.{most_left};
-ghost use Rattle.paris_machine.specs.Runs.{Advances, IsPutEnd, Puts, Reads, RepliesTo, Runs, Stays, StaysOver, kept_state};
+ghost use Rattle.paris_machine.specs.Runs.{AdvancesBy, IsPutEnd, Puts, Reads, RepliesTo, Runs, Stays, StaysOver, kept_state};
 
 use crate::outcome::{End, Outcome};
 use cstar_base::{Place, RunFault};
@@ -140,47 +140,55 @@ fn read<I: Source>(sound: &Sound, front: &mut Front, ended: &mut bool, input: &m
     None
 }
 
-/// Begins one instruction and does what it asks for. The end, where the run comes to it.
+/// Begins instructions, at most so many, up to the first that asks for something, and does what that
+/// asks for. The end, where the run comes to it, and how many instructions were begun.
 fn advance<P: Phases, I: Source, O: Sink>(
     sound: &Sound,
     front: &mut Front,
+    most: u64,
     ended: &mut bool,
     p: &mut P,
     input: &mut I,
     out: &mut O,
-) -> Option<End>
+) -> (Option<End>, u64)
+    requires some { 0 < most }
     requires fits { Fits sound.now (state_of front.old) }
     requires ready { front.old.wanted ≡ None }
     requires shapes { P.shapes p.old ≡ shapes_of sound.now }
     requires able { P.able p.old }
+    ensures most { result.1 ≤ most }
     ensures fits { Fits sound.now (state_of front.new) }
     ensures shapes { P.shapes p.new ≡ shapes_of sound.now }
     ensures able { P.able p.new }
-    ensures ready { IfNone result (front.new.wanted ≡ None) }
-    ensures input { Tells (input_broke_in result) (I.faults input.old) (I.faults input.new) }
-    ensures output { Tells (output_broke_in result) (O.faults out.old) (O.faults out.new) }
+    ensures ready { IfNone result.0 (front.new.wanted ≡ None) }
+    ensures input { Tells (input_broke_in result.0) (I.faults input.old) (I.faults input.new) }
+    ensures output { Tells (output_broke_in result.0) (O.faults out.old) (O.faults out.new) }
     ensures over { ended.old ≡ true → (ended.new ≡ true) × (input.new ≡ input.old) }
     ensures empty { ended.old ≡ false → ended.new ≡ true → IfSome (I.left input.new) (λ rest. rest ≡ []) }
-    ensures falls { IfNone result (most_left sound.now front.new.at front.new.returns.items front.new.turns + 1
+    ensures falls { IfNone result.0 (most_left sound.now front.new.at front.new.returns.items front.new.turns + result.1
         ≤ most_left sound.now front.old.at front.old.returns.items front.old.turns) }
     ensures meaning { (taken : List ℕ) × ((printed : List ℕ)
-        × Took (I.left input.old) taken (I.left input.new) × Puts result O.agrees out.old out.new printed × StaysOver ended.old result ended.new taken
-        × Advances sound.now (state_of front.old) (P.memory p.old) result (state_of front.new) (P.memory p.new) ended.new taken printed) }
+        × Took (I.left input.old) taken (I.left input.new) × Puts result.0 O.agrees out.old out.new printed × StaysOver ended.old result.0 ended.new taken
+        × AdvancesBy sound.now result.1 (state_of front.old) (P.memory p.old) result.0 (state_of front.new) (P.memory p.new) ended.new taken printed) }
 {
     let _image = sound.image();
-    match front.step(sound) {
-        Ask::Ran => None,
-        Ask::Apply { at } => apply(sound, front, at, p),
-        Ask::Literal { at } => put_literal(sound, at, out),
-        Ask::Digits { text, len } => put(&text[..usize::from(len)], out),
-        Ask::Byte => read(sound, front, ended, input),
-        Ask::Fault { kind, place } => Some(End::Fault {
-            kind,
-            place,
-            position: None,
-        }),
-        Ask::Stopped => Some(End::Stopped),
-        Ask::Halted => Some(End::Done),
+    let (ask, begun) = front.run(sound, most);
+    match ask {
+        Ask::Ran => (None, begun),
+        Ask::Apply { at } => (apply(sound, front, at, p), begun),
+        Ask::Literal { at } => (put_literal(sound, at, out), begun),
+        Ask::Digits { text, len } => (put(&text[..usize::from(len)], out), begun),
+        Ask::Byte => (read(sound, front, ended, input), begun),
+        Ask::Fault { kind, place } => {
+            let end = End::Fault {
+                kind,
+                place,
+                position: None,
+            };
+            (Some(end), begun)
+        }
+        Ask::Stopped => (Some(End::Stopped), begun),
+        Ask::Halted => (Some(End::Done), begun),
     }
 }
 
@@ -215,14 +223,19 @@ fn drive<P: Phases, I: Source, O: Sink>(
     ensures over { ended.old ≡ true → (ended.new ≡ true) × (input.new ≡ input.old) }
     ensures empty { ended.old ≡ false → ended.new ≡ true → IfSome (I.left input.new) (λ rest. rest ≡ []) }
     ensures meaning { (taken : List ℕ) × ((printed : List ℕ)
-        × Took (I.left input.old) taken (I.left input.new) × Puts (Some result.0) O.agrees out.old out.new printed
+        × Took (I.left input.old) taken (I.left input.new) × Puts (Some result.0) O.agrees out.old out.new printed × StaysOver ended.old (Some result.0) ended.new taken
         × Runs sound.now (λ rest. joined (state_of front.old) (P.memory p.old) rest []) result.0 result.1
         (λ rest. joined (state_of front.new) (P.memory p.new) rest printed) ended.new taken) }
 {
     let _image = sound.image();
-    'steps: for begun in 0..most_steps(sound, front.turns_left()) {
-        if let Some(end) = advance(sound, front, ended, p, input, out) {
-            return (end, begun + 1);
+    let most = most_steps(sound, front.turns_left());
+    let mut begun = 0;
+    'steps: while begun < most {
+        let (end, more) = advance(sound, front, most - begun, ended, p, input, out);
+        begun += more;
+        match end {
+            Some(end) => return (end, begun),
+            None => {}
         }
     }
     (End::Stopped, 0)
@@ -232,7 +245,8 @@ fn drive<P: Phases, I: Source, O: Sink>(
 /// ended. Memory with 0 steps, and the kept state unchanged, is want of memory for the front end.
 /// Else the bytes that were taken, followed by what the input may have left, lead by this many
 /// instructions of the code to this end; the output took what they print, or the first of it where
-/// it failed.
+/// it failed. A run that stopped stands at the turn that had none left. A source that has ended is
+/// not asked.
 pub fn resume<P: Phases, I: Source, O: Sink>(
     alloc: Global,
     sound: &Sound,
@@ -255,8 +269,10 @@ pub fn resume<P: Phases, I: Source, O: Sink>(
     ensures over { kept.ended ≡ true → (result.1.ended ≡ true) × (input.new ≡ input.old) }
     ensures empty { kept.ended ≡ false → result.1.ended ≡ true → IfSome (I.left input.new) (λ rest. rest ≡ []) }
     ensures none { result.0.steps ≡ 0 → (result.0.end ≡ End.Memory) × (result.0.turns_left ≡ turns) × (result.1 ≡ kept) × (p.new ≡ p.old) × (input.new ≡ input.old) × (out.new ≡ out.old) }
+    ensures stopped { result.0.end ≡ End.Stopped → (result.0.turns_left ≡ 0) × IsAt sound.now result.1.at Instr.FrontTurn }
     ensures meaning { 0 < result.0.steps → (taken : List ℕ) × ((printed : List ℕ)
         × Took (I.left input.old) taken (I.left input.new) × Puts (Some result.0.end) O.agrees out.old out.new printed
+        × StaysOver kept.ended (Some result.0.end) result.1.ended taken
         × Runs sound.now (λ rest. kept_state kept turns (P.memory p.old) rest []) result.0.end result.0.steps
         (λ rest. kept_state result.1 result.0.turns_left (P.memory p.new) rest printed) result.1.ended taken) }
 {

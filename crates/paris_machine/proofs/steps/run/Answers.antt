@@ -16,7 +16,7 @@ returns-in-Ok-clause-meaning g c = λ some.
             c.resume.ensures.empty opens.3,
             ran.1.1,
             ran.1.2,
-            runs_open c.args.sound.now c.in-Ok.kept c.args.turns (g.P.Phases.memory c.args.p.now) c.resume.result.0.end c.resume.result.0.steps (λ rest. kept_state c.resume.result.1 c.resume.result.0.turns_left (g.P.Phases.memory c.resume.new.p) rest ran.1.0) c.resume.result.1.ended ran.0 opens.0 opens.1 opens.2 ran.1.3,
+            runs_open c.args.sound.now c.in-Ok.kept c.args.turns (g.P.Phases.memory c.args.p.now) c.resume.result.0.end c.resume.result.0.steps (λ rest. kept_state c.resume.result.1 c.resume.result.0.turns_left (g.P.Phases.memory c.resume.new.p) rest ran.1.0) c.resume.result.1.ended ran.0 opens.0 opens.1 opens.2 ran.1.4,
           ),
         ),
       ),
