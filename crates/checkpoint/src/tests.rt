@@ -33,7 +33,10 @@ fn left_at(alloc: Global, bytes: &[u8]) -> Option<u32> {
 
 #[test]
 fn saves(rt: HostRuntime) -> Result<(), Fail> {
-    let saved = save(rt.alloc(), &point(rt.alloc())?)?;
+    let point = point(rt.alloc())?;
+    assert_eq!(rt; point.regs.list().len(), 1);
+    assert_eq!(rt; point.returns.list().len(), 1);
+    let saved = save(rt.alloc(), &point)?;
     assert_eq!(rt; saved.as_slice(), BYTES.as_slice());
     Ok(())
 }
