@@ -1,5 +1,5 @@
 -- The parts of a point behind its head: those that were read are those of every point that the bytes begin with.
-use Rattle.std.proofs.Common.{◌≡◌, ◌++◌, ◌^◌, ◌<◌, ℕ, List, [], length, refl, sym, ◌∙◌, ap, append_assoc}
+use Rattle.std.proofs.Common.{◌≡◌, ◌++◌, ◌^◌, ◌<◌, ℕ, List, [], length, refl, sym, ◌∙◌, append_assoc}
 use Rattle.checkpoint.specs.declared.point.Point.{Point}
 use Rattle.checkpoint.specs.Bytes.{IsCounted, body_of, counted, four_bytes, measured}
 use Rattle.checkpoint.proofs.Numbers.{four_length}

@@ -1,8 +1,8 @@
 -- Bytes begin with an item as it is written, or they end within one: each beginning of bytes goes on to an item.
-use Rattle.std.proofs.Common.{◌≡◌, ◌⊎◌, Bool, ◌++◌, ◌+◌, ◌-◌, ◌*◌, ◌^◌, ◌<◌, ◌≤◌, ℕ, zero, suc, List, [], ◌∷◌, length, take, drop, get_or, refl, sym, ◌∙◌, ap, inl, inr, append_assoc, lit<, arith}
+use Rattle.std.proofs.Common.{◌≡◌, Bool, ◌++◌, ◌-◌, ◌^◌, ◌<◌, ℕ, zero, suc, List, [], ◌∷◌, length, take, drop, get_or, refl, sym, ◌∙◌, ap, inl, inr, append_assoc, lit<, arith}
 use Rattle.std.proofs.Math.ListN.{replicate}
 use Rattle.std.proofs.lemmas.Bool.{cases_lt}
-use Rattle.std.proofs.lemmas.List.{append-nil, length-append, length-replicate, length-take-le, take-append-drop}
+use Rattle.std.proofs.lemmas.List.{length-append, length-replicate, length-take-le, take-append-drop}
 use Rattle.std.specs.List.{flat_map}
 use Rattle.checkpoint.specs.Bytes.{IsCounted, body_of, counted, eight_bytes, four_bytes, measured}
 use Rattle.checkpoint.specs.declared.point.Point.{Point}

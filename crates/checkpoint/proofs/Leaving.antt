@@ -6,7 +6,7 @@ use Rattle.std.proofs.lemmas.Bool.{leb-true}
 use Rattle.cstar_base.specs.declared.operators.Winner.{Winner}
 use Rattle.checkpoint.specs.declared.loading.LoadFault.TheVariants.{Bad}
 use Rattle.checkpoint.specs.declared.point.Point.{Point}
-use Rattle.checkpoint.specs.Bytes.{BeginsPoint, IsCounted, IsOfPoint, LeavesAt, Stand, body_of, bytes_of, flag_byte, head_of, may_stand, winner_byte}
+use Rattle.checkpoint.specs.Bytes.{BeginsPoint, IsCounted, LeavesAt, Stand, body_of, bytes_of, flag_byte, head_of, may_stand, winner_byte}
 use Rattle.checkpoint.proofs.Numbers.{AreBytes}
 use Rattle.checkpoint.proofs.Bodies.{body_free}
 use Rattle.checkpoint.proofs.Ends.{Comes, HasHead, body_comes, drop_bytes}

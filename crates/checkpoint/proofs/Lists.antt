@@ -1,5 +1,5 @@
 -- The lists of a point, behind their counts, as they are put.
-use Rattle.std.proofs.Common.{◌≡◌, ◌++◌, ◌+◌, ◌<◌, ◌≤◌, ℕ, List, [], ◌∷◌, length, take, get_or, codes, refl, sym, ◌∙◌, ap, append_assoc, arith}
+use Rattle.std.proofs.Common.{◌≡◌, ◌++◌, ◌+◌, ◌<◌, ◌≤◌, ℕ, List, [], ◌∷◌, length, take, get_or, codes, refl, sym, ◌∙◌, ap, append_assoc}
 use Rattle.std.proofs.lemmas.List.{append-nil, flat_map_more, take_all, take_more}
 use Rattle.std.specs.List.{flat_map}
 use Rattle.checkpoint.specs.declared.point.Point.{Point}

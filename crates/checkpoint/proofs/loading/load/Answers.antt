@@ -1,7 +1,7 @@
-use Rattle.std.proofs.Common.{◌≡◌, ◌++◌, ◌<◌, ◌≤◌, List, ℕ, length, take, drop, ◌-◌, sym, ◌∙◌, ap, arith}
+use Rattle.std.proofs.Common.{◌≡◌, ◌<◌, List, ℕ, length, take, drop, ◌-◌, sym, ◌∙◌, ap, arith}
 use Rattle.std.proofs.lemmas.Bool.{eqb-true, eqb-false}
 use Rattle.std.proofs.lemmas.List.{length-drop, take_all}
-use Rattle.checkpoint.specs.Bytes.{Stand, bytes_of, flag_byte}
+use Rattle.checkpoint.specs.Bytes.{Stand, flag_byte}
 use Rattle.checkpoint.proofs.Leaving.{leaves_head, ends_in_head, whole_read, goes_on, ends_in_body, nothing_left, tested, told}
 use Rattle.checkpoint.proofs.loading.load.Goals as goal
 

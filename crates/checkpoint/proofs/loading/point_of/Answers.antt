@@ -1,7 +1,4 @@
-use Rattle.std.proofs.Common.{◌≡◌, ◌++◌, List, ℕ, sym, ◌∙◌, ap, append_assoc}
 use Rattle.std.proofs.lemmas.Result.{err_from_is_err_and}
-use Rattle.checkpoint.specs.Bytes.{body_of, counted, four_bytes, measured}
-use Rattle.checkpoint.specs.declared.point.Point.{Point}
 use Rattle.checkpoint.proofs.Bodies.{no_at, no_regs, no_returns, no_listing, no_bits, body_read}
 use Rattle.checkpoint.proofs.loading.point_of.Goals as goal
 

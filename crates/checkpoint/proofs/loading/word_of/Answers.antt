@@ -1,4 +1,4 @@
-use Rattle.std.proofs.Common.{◌≡◌, ◌≤◌, List, ℕ, length, sym, ◌∙◌, ap, arith}
+use Rattle.std.proofs.Common.{◌≡◌, ◌∙◌}
 use Rattle.std.proofs.lemmas.Result.{err_from_is_err_and}
 use Rattle.checkpoint.proofs.Reading.{no_length, word_short, word_cut, word_length, word_read}
 use Rattle.checkpoint.proofs.loading.word_of.Goals as goal

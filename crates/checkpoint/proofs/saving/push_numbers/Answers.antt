@@ -1,4 +1,3 @@
-use Rattle.std.proofs.Common.{◌≡◌, ap, sym, ◌∙◌, arith}
 use Rattle.checkpoint.proofs.Lists.{counted_more, counted_all}
 use Rattle.checkpoint.proofs.saving.push_numbers.Goals as goal
 
