@@ -7,6 +7,7 @@ mod errors;
 mod lines;
 mod open;
 mod pieces;
+mod real_keep;
 mod real_shelf;
 mod real_sink;
 mod real_source;

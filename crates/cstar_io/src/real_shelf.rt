@@ -6,7 +6,8 @@ ghost use Rattle.cstar_io.specs.declared.call.Call.{Call};
 
 use crate::call::Call;
 use crate::errors::ShelfErr;
-use crate::pieces::{PIECE, write_out};
+use crate::pieces::PIECE;
+use crate::real_keep::keep_whole;
 use crate::shelf::word_of;
 use crate::traits::Shelf;
 use std::alloc::Global;
@@ -109,14 +110,6 @@ fn read_file<R: Files>(rt: &R, alloc: Global, name: &str, most: usize) -> Result
     }
 }
 
-/// Whether these bytes could be written to the file of this name.
-fn write_file<R: Files>(rt: &R, name: &str, bytes: &[u8]) -> bool {
-    match File::create(rt, name) {
-        Ok(mut file) => write_out(&mut file, bytes).is_ok(),
-        Err(_) => false,
-    }
-}
-
 impl<'a, R: Files> Shelf for RealShelf<'a, R> {
     ghost faults = { λ shelf. shelf.faults };
 
@@ -137,10 +130,10 @@ impl<'a, R: Files> Shelf for RealShelf<'a, R> {
 
     fn keep(&mut self, name: &str, bytes: &[u8]) -> Result<(), ShelfErr> {
         let asked = word_of(self.alloc, name)?;
-        if write_file(self.rt, name, bytes) {
-            return Ok(());
+        let kept = keep_whole(self.rt, self.alloc, name, bytes);
+        if let Err(ShelfErr::Failed) = &kept {
+            self.fail(Call::Keep(asked));
         }
-        self.fail(Call::Keep(asked));
-        Err(ShelfErr::Failed)
+        kept
     }
 }

@@ -88,7 +88,28 @@ fn files_are_kept_and_fetched(rt: HostRuntime) -> Result<(), Fail> {
     assert_eq!(rt; shelf.fetch(name, 4)?.as_slice(), b"short".as_slice());
     assert_eq!(rt; shelf.fetch(name, 3)?.as_slice(), b"shor".as_slice());
     assert_eq!(rt; shelf.keep(".", b"short"), Err(ShelfErr::Failed));
+    assert!(rt; fs::metadata(&rt, "cstar_io_files_are_kept.0").is_err());
     fs::remove_file(&rt, name)?;
+    Ok(())
+}
+
+#[test]
+fn a_file_is_kept_beside_the_old_one_first(rt: HostRuntime) -> Result<(), Fail> {
+    let name = "cstar_io_kept_beside";
+    let other = "cstar_io_kept_beside.0";
+    fs::write(&rt, name, b"old")?;
+    fs::write(&rt, other, b"mine")?;
+    let mut shelf = RealShelf::new(&rt, rt.alloc());
+    assert_eq!(rt; shelf.keep(name, b"new"), Ok(()));
+    assert_eq!(rt; shelf.fetch(name, 9)?.as_slice(), b"new".as_slice());
+    assert_eq!(rt; shelf.fetch(other, 9)?.as_slice(), b"mine".as_slice());
+    assert!(rt; fs::metadata(&rt, "cstar_io_kept_beside.1").is_err());
+    assert_eq!(rt;
+        shelf.keep("cstar_io_no_folder/kept", b"new"),
+        Err(ShelfErr::Failed)
+    );
+    fs::remove_file(&rt, name)?;
+    fs::remove_file(&rt, other)?;
     Ok(())
 }
 

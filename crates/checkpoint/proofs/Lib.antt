@@ -1,0 +1,7 @@
+pub mod Bodies
+pub mod Ends
+pub mod Heads
+pub mod Leaving
+pub mod Lists
+pub mod Numbers
+pub mod Reading

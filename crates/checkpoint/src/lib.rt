@@ -1,0 +1,12 @@
+//! Saved points: a stopped run as bytes, and back.
+#![tactic(auto)]
+
+mod loading;
+mod point;
+mod saving;
+#[cfg(test)]
+mod tests;
+
+pub use loading::{LoadFault, load};
+pub use point::Point;
+pub use saving::save;

@@ -1,0 +1,97 @@
+//! From a point to its bytes.
+
+ghost use Rattle.std.specs.Prelude.{◌≡◌, ◌++◌, ◌<◌, ◌^◌, IfOk, OnOk, length};
+ghost use Rattle.checkpoint.specs.Bytes.{bytes_of, counted, eight_bytes, flag_byte, four_bytes, measured, winner_byte};
+
+use crate::point::Point;
+use cstar_base::{Memory, Numbers, Winner, Word};
+use std::alloc::Global;
+
+/// What the bytes of every point begin with.
+pub const MARK: &[u8; 8] = b"PARISCP1";
+
+/// The bytes of a point.
+#[tactic(auto, using(crate::proofs::Lists::all_parts))]
+pub fn save(alloc: Global, point: &Point) -> Result<Vec<u8>, Memory>
+    requires regs { length point.now.regs < 2 ^ 32 }
+    requires returns { length point.now.returns < 2 ^ 32 }
+    ensures { IfOk result (λ bytes. bytes.items ≡ bytes_of point.now) }
+{
+    let mut bytes = Vec::with_capacity(alloc, size(point))?;
+    bytes.extend_from_slice(MARK)?;
+    bytes.push(winner_byte(point.winner))?;
+    bytes.push(flag_byte(point.ended))?;
+    push_number(&mut bytes, point.at)?;
+    push_numbers(&mut bytes, &point.regs)?;
+    push_numbers(&mut bytes, &point.returns)?;
+    push_word(&mut bytes, &point.listing)?;
+    push_word(&mut bytes, &point.bits)?;
+    Ok(bytes)
+}
+
+/// How many bytes a point takes, so that the room for them is taken at once.
+fn size(point: &Point) -> usize {
+    let numbers = point
+        .regs
+        .list()
+        .len()
+        .saturating_add(point.returns.list().len());
+    let bytes = point
+        .listing
+        .bytes()
+        .len()
+        .saturating_add(point.bits.bytes().len());
+    numbers
+        .saturating_mul(4)
+        .saturating_add(bytes)
+        .saturating_add(38)
+}
+
+fn winner_byte(winner: Winner) -> u8
+    ensures { result ≡ winner_byte winner }
+{
+    match winner {
+        Winner::High => 0,
+        Winner::Low => 1,
+    }
+}
+
+fn flag_byte(flag: bool) -> u8
+    ensures { result ≡ flag_byte flag }
+{
+    u8::from(flag)
+}
+
+/// A number of 32 bits.
+#[tactic(auto, unfolding(crate::specs::Bytes::four_bytes))]
+fn push_number(bytes: &mut Vec<u8>, number: u32) -> Result<(), Memory>
+    ensures { OnOk result (bytes.new.items ≡ bytes.old.items ++ four_bytes number) }
+{
+    bytes.extend_from_slice(&number.to_le_bytes())?;
+    Ok(())
+}
+
+/// Numbers behind their count.
+#[tactic(auto, using(crate::proofs::Lists::counted_none, crate::proofs::Lists::counted_more, crate::proofs::Lists::counted_all))]
+fn push_numbers(bytes: &mut Vec<u8>, numbers: &Numbers) -> Result<(), Memory>
+    requires { length numbers.now < 2 ^ 32 }
+    ensures { OnOk result (bytes.new.items ≡ bytes.old.items ++ counted numbers.now) }
+{
+    let list = numbers.list();
+    push_number(bytes, list.len() as u32)?;
+    for number in list {
+        push_number(bytes, *number)?;
+    }
+    Ok(())
+}
+
+/// Bytes behind their length.
+#[tactic(auto, unfolding(crate::specs::Bytes::measured, crate::specs::Bytes::eight_bytes))]
+fn push_word(bytes: &mut Vec<u8>, word: &Word) -> Result<(), Memory>
+    ensures { OnOk result (bytes.new.items ≡ bytes.old.items ++ measured word.now) }
+{
+    let list = word.bytes();
+    bytes.extend_from_slice(&(list.len() as u64).to_le_bytes())?;
+    bytes.extend_from_slice(list)?;
+    Ok(())
+}
