@@ -4,3 +4,6 @@
 mod callers;
 
 pub use callers::{MOST_CALLERS, MOST_JOBS, call_all};
+
+#[cfg(test)]
+mod tests;
