@@ -1,11 +1,11 @@
-//! Two callers are at work at the same time.
+//! Two callers are at work at the same time, and the batch of their reports is in order.
 
 ghost use Rattle.std.specs.Prelude.{◌≡◌, ℕ};
 ghost use Rattle.job_board.specs.declared.report.Report.{Report};
 
 use super::*;
 use cstar_base::{Memory, Word};
-use cstar_io::Gate;
+use cstar_io::{Gate, MemSink};
 use job_board::{Book, Jobs, Judge, Report};
 use std::alloc::Global;
 use std::marker::Brand;
@@ -53,25 +53,36 @@ where
         calls: AtomicU64::new(0),
         late: AtomicU64::new(0),
     };
-    call_all(
-        rt,
-        2,
-        &book,
-        &gate,
-        &|_number: u32| -> Result<Report, Memory> { Ok(nothing(alloc)) },
-    );
+    let callers = Callers::new(rt, 2, &gate);
+    callers.call(&book, &|_number: u32| letter(alloc));
     let book = book.into_inner();
     assert_eq!(rt; gate.late.load(Ordering::SeqCst), 0);
     assert_eq!(rt; gate.calls.load(Ordering::SeqCst), 2);
     assert!(rt; book.report(0).is_some() && book.report(1).is_some());
+    let names = vec![in alloc;
+        String::from_str(alloc, "x.cs")?,
+        String::from_str(alloc, "y.cs")?,
+    ]?;
+    let mut out = MemSink::new(alloc, 64, Vec::new(alloc))?;
+    let put = callers.put_batch::<J, _, _>(
+        alloc,
+        names.as_slice(),
+        &|_number: u32| letter(alloc),
+        &mut out,
+    );
+    assert!(rt; put.is_ok());
+    assert_eq!(rt;
+        out.taken(),
+        b"== x.cs 0 1 0\na\n== y.cs 0 1 0\na\n".as_slice()
+    );
     Ok(())
 }
 
-/// The report of a job that went well and put nothing.
-fn nothing(alloc: Global) -> Report {
-    Report {
+/// The report of a job that went well and put a letter.
+fn letter(alloc: Global) -> Result<Report, Memory> {
+    Ok(Report {
         status: 0,
-        out: Word::of(Vec::new(alloc)),
+        out: Word::of(Vec::from_slice(alloc, b"a")?),
         err: Word::of(Vec::new(alloc)),
-    }
+    })
 }
