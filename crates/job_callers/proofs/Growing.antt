@@ -1,6 +1,6 @@
 -- What one more section adds to a batch.
-use Rattle.std.proofs.Common.{◌≡◌, ℕ, zero, suc, ◌+◌, ◌<◌, ◌≤◌, List, [], ◌∷◌, ◌++◌, length, get_or, refl, sym, ◌∙◌, ap, subst, arith, append_assoc, append-nil}
-use Rattle.std.proofs.Common.{◌⊎◌, inl, inr, map, take, length-append, Result, Ok, Err, OnOk, OnErr, IfOk}
+use Rattle.std.proofs.Common.{◌≡◌, ℕ, zero, suc, ◌+◌, ◌<◌, List, [], ◌∷◌, ◌++◌, length, get_or, refl, sym, ◌∙◌, ap, subst, arith, append_assoc, append-nil}
+use Rattle.std.proofs.Common.{◌⊎◌, inl, inr, map, length-append, Result, Ok, Err, OnOk, OnErr, IfOk}
 use Rattle.cstar_io.specs.Output.{Takes, TakesNothing, TakesPrefix}
 use Rattle.cstar_io.proofs.Taking.{prefix_of_none, prefix_then, takes_then}
 use Rattle.job_board.specs.declared.report.Report.{Report}

@@ -1,7 +1,6 @@
 ghost use Rattle.std.specs.Prelude.{◌≡◌};
 
 use cstar_base::Memory;
-use cstar_io::Failed;
 
 /// Why a batch was not put whole.
 #[derive(Clone, Copy)]
@@ -19,15 +18,5 @@ impl From<Memory> for Stop {
 
     fn from(_error: Memory) -> Stop {
         Stop::Memory
-    }
-}
-
-impl From<Failed> for Stop {
-    ghost use Rattle.job_callers.specs.declared.stop.Stop.TheVariants as S;
-
-    ghost from_gives = { λ _ stop. stop ≡ S.Failed };
-
-    fn from(_error: Failed) -> Stop {
-        Stop::Failed
     }
 }

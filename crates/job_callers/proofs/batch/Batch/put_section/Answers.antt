@@ -1,4 +1,4 @@
-use Rattle.std.proofs.Common.{◌≡◌, ℕ, ◌<◌, Result, IfOk, map, sym, ap, ◌∙◌, arith}
+use Rattle.std.proofs.Common.{◌<◌, map, sym, ap, ◌∙◌, arith}
 use Rattle.std.specs.String.{string_bytes}
 use Rattle.job_callers.proofs.Growing.{answers_well, named_at, section_part, section_taken}
 use Rattle.job_callers.proofs.batch.Batch.put_section.Goals as goal
