@@ -56,7 +56,7 @@ impl<J: Judge> Book<J> {
     /// Draws the next number. `None` exactly where all are drawn.
     pub fn draw(&mut self) -> Option<u32>
         ensures none { IfNone result ((length (drawn self.old) ≡ J.jobs) × (self.new ≡ self.old)) }
-        ensures next { IfSome result (λ number. (number ≡ length (drawn self.old)) × (self.new ≡ self.old ++ E.Drawn number ∷ [])) }
+        ensures next { IfSome result (λ number. (number ≡ length (drawn self.old)) × (number < J.jobs) × (self.new ≡ self.old ++ E.Drawn number ∷ [])) }
         ensures legal { IsLegal J.jobs J.answers self.new }
     {
         if self.drawn == self.count {
