@@ -1,41 +1,16 @@
 -- Workers of a tree: what a claim, a delivery and a join make of them.
-use Rattle.std.proofs.Common.{◌≡◌, ℕ, zero, suc, ◌+◌, ◌-◌, ◌*◌, ◌^◌, ◌<◌, ◌≤◌, true, nat_lt, List, ◌++◌, length, take, drop, option_map, option_to_list, option_and_then, Option, Some, None, refl, sym, ap, ◌∙◌, subst, append_assoc, length-append, arith}
+use Rattle.std.proofs.Common.{◌≡◌, ℕ, zero, suc, ◌+◌, ◌-◌, ◌*◌, ◌^◌, ◌≤◌, true, nat_lt, List, ◌++◌, length, option_map, option_to_list, option_and_then, Option, Some, None, refl, sym, ap, ◌∙◌, subst, append_assoc, length-append, arith}
 use Rattle.std.proofs.lemmas.Bool.{cond-false, le-ltb}
 use Rattle.std.proofs.Math.Nat.{pow-succ'}
 use Rattle.std.proofs.lemmas.List.Elements.{All-append, All-cons}
-use Rattle.std.proofs.lemmas.Option.{option_and_then_some}
 use Rattle.combine_core.specs.declared.message.Message.{Message}
 use Rattle.combine_core.specs.declared.worker.Held.{Held}
 use Rattle.combine_core.specs.declared.worker.Worker.{Worker}
-use Rattle.combine_core.specs.Machine.{held, held_by, idle, next_in, ahead_of, kept_part, drawn, passed_to, both_parts, IsComplete}
-use Rattle.combine_core.proofs.Ahead.{first_message_some, slice_get-take}
+use Rattle.combine_core.specs.Machine.{held_by, idle, next_in, kept_part, drawn, both_parts, IsComplete}
 use Rattle.combine_core.proofs.Steps.{with_miss}
 use Rattle.combine_board.specs.Values.{WholeHoldsEvery}
 use Rattle.combine_board.specs.Tree.{AllDone, IsFinished}
 use Rattle.combine_board.proofs.Passes.{complete_when_all}
-
--- how many slots of the last claim are not passed
-abbrev pub room_in : Option Held → ℕ
-room_in None = 0
-room_in (Some h) = 512 - h.passed
-
-abbrev pub room : Worker → ℕ
-room v = room_in v.last
-
-next_room : (os : List (Option Message)) (h : Held) (i : ℕ) → next_in os h ≡ Some i → 512 - (i + 1 - 512 * h.claim) < 512 - h.passed
-next_room os h i e =
-    let at : ℕ = 512 * h.claim + h.passed in
-    let r = first_message_some at (take (512 - h.passed) (drop at os)) i e in
-    let q = slice_get-take (drop at os) (512 - h.passed) r.offset (Some r.message) r.there in
-    let b : r.offset < 512 - h.passed = q.0 in
-    let is : i ≡ (512 * h.claim + h.passed) + r.offset = r.at in
-    omega arith
-
-pub room_smaller : (os : List (Option Message)) (v : Worker) (i : ℕ) → ahead_of os v ≡ Some i → room (passed_to i v) < room v
-room_smaller os v i e =
-    option_and_then_some (next_in os) v.last i e
-    (λ h is_last is_next.
-    subst (λ (o : Option Held). room_in (option_map (λ x. held x.claim (i + 1 - 512 * x.claim)) o) < room_in o) (sym is_last) (next_room os h i is_next))
 
 map_length : (f : Held → Held) (o : Option Held) (others : List Held) → length (option_to_list (option_map f o) ++ others) ≡ length (option_to_list o ++ others)
 map_length f None others = refl
