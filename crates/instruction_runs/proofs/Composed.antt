@@ -11,10 +11,10 @@ use Rattle.bit_planes.specs.Bits.{bit}
 use Rattle.bit_planes.specs.Planes.{plane_at}
 use Rattle.paris_code.specs.declared.operands.Field.{Field}
 use Rattle.paris_code.specs.declared.instr.Instr.{Instr}
-use Rattle.paris_code.specs.Elementwise.{destination, writes_always, element, elementwise}
+use Rattle.paris_code.specs.Elementwise.{destination, writes_always, elementwise}
 use Rattle.paris_code.specs.Fetching.{of_neighbour}
 use Rattle.paris_code.specs.Meaning.{after}
-use Rattle.paris_code.specs.Memory.{BitMemory, field_number, run_number, processors, is_active}
+use Rattle.paris_code.specs.Memory.{BitMemory, field_number, run_number, processors}
 use Rattle.paris_code.specs.Shapes.{SetShape, bits_at, extents_at}
 use Rattle.paris_code.specs.Writes.{Write, covers, written}
 use Rattle.phase_meaning.specs.Apply.{CanApply, LiesIn, active_set}
@@ -27,7 +27,7 @@ use Rattle.instruction_runs.specs.declared.deferring.Deferred.{Deferred}
 use Rattle.instruction_runs.specs.declared.deferring.Work.{Work}
 use Rattle.instruction_runs.specs.declared.deferring.Work.TheVariants as W
 use Rattle.instruction_runs.specs.Passes.{write_of_work, write_from, done_from, AllDoneInBlock}
-use Rattle.instruction_runs.specs.Waiting.{done_all, field_written, leaves, lets, set_of, shares, set_of_work, source_of, source_of_work, AreInTurn, AreReady, IsReady, IsWorkOf}
+use Rattle.instruction_runs.specs.Waiting.{done_all, field_written, leaves, lets, set_of, shares, set_of_work, source_of, source_of_work, AreReady, IsReady, IsWorkOf}
 use Rattle.instruction_runs.proofs.Deferrals.{field_is, Where}
 
 -- the numbers that a memory has

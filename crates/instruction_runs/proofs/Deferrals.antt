@@ -133,13 +133,6 @@ plain_set (I.GetFromNews d a axis k) is = cc
 plain_set (I.GetFromNewsAlways d a axis k) is = cc
 plain_set _ is = refl
 
--- neither a shift nor elementwise
-pub neither_waits : (instr : Instr) → news_of instr ≡ None → is_elementwise instr ≡ false → can_wait instr ≡ false
-neither_waits (I.GetFromNews d a axis k) e f = cc
-neither_waits (I.GetFromNewsAlways d a axis k) e f = cc
-neither_waits (I.MakeAddress d set coordinates) e f = refl
-neither_waits _ e f = f
-
 -- what is found of a shift
 pub shift_is : (shapes : List SetShape) (instr : Instr) (news : News) (step : Step) → CanApply shapes instr [] → news_of instr ≡ Some news → Leads (extents_at shapes news.dest.set) news.axis (number_of 32 true news.by) step
     → IsShiftOf shapes instr news step

@@ -3,7 +3,6 @@ use Rattle.std.proofs.Common.{◌≡◌, ℕ, ◌+◌, ◌*◌, ◌/◌, ◌<◌
 use Rattle.std.proofs.Math.ListN.{set}
 use Rattle.std.proofs.lemmas.Bool.{cases_eq}
 use Rattle.std.proofs.lemmas.List.{get_or-map}
-use Rattle.std.proofs.lemmas.List.Elements.{All-head}
 use Rattle.vp_sets.specs.Blocks.{block_count}
 use Rattle.cstar_base.specs.declared.operators.Winner.{Winner}
 use Rattle.bit_planes.specs.declared.block.Block.{Block}

@@ -1,5 +1,5 @@
 -- The one field from which all shifts take that wait, and what the room holds of it.
-use Rattle.std.proofs.Common.{◌≡◌, ℕ, ◌+◌, ◌/◌, ◌<◌, ◌≤◌, true, ◌&&◌, eqb, Option, Some, None, List, [], ◌∷◌, All, get_or, length, refl, sym, ◌∙◌, ap, subst, arith}
+use Rattle.std.proofs.Common.{◌≡◌, ℕ, ◌+◌, ◌<◌, ◌≤◌, true, eqb, Option, Some, None, List, [], ◌∷◌, All, get_or, length, refl, sym, ◌∙◌, ap, subst, arith}
 use Rattle.std.proofs.lemmas.Bool.{and_parts, eqb-true}
 use Rattle.std.proofs.lemmas.List.Elements.{All-cons, All-head, All-tail}
 use Rattle.cstar_base.specs.declared.operators.Winner.{Winner}
@@ -29,7 +29,7 @@ use Rattle.news_grid.proofs.Fetches.{held_number, taken_steps}
 use Rattle.instruction_runs.specs.declared.deferring.Deferred.{Deferred}
 use Rattle.instruction_runs.specs.Passes.{held_in, write_of_work, IsFieldIn, IsHeldOf}
 use Rattle.instruction_runs.specs.Waiting.{leaves, lets, or_source, shares, source_of, source_of_all, AreInTurn, AreReady}
-use Rattle.instruction_runs.proofs.Composed.{lies_of, IsOf, IsSourced, SourceLies}
+use Rattle.instruction_runs.proofs.Composed.{lies_of, IsSourced, SourceLies}
 
 -- what one takes from, if it is a shift, is the same bits as this field
 abbrev Shared : Field → Option Field → Type 0

@@ -1,4 +1,4 @@
-use Rattle.std.proofs.Common.{◌≡◌, true, false, [], map, subst, sym, ◌∙◌}
+use Rattle.std.proofs.Common.{◌≡◌, true, [], map, subst, sym}
 use Rattle.block_store.specs.Stored.{shape_of_plan}
 use Rattle.paris_code.specs.declared.instr.Instr.{Instr}
 use Rattle.phase_meaning.specs.Apply.{CanApply}

@@ -1,6 +1,6 @@
 use Rattle.std.proofs.Common.{map, sym}
 use Rattle.block_store.specs.Stored.{shape_of_plan}
-use Rattle.instruction_runs.proofs.Deferrals.{neither_waits, news_lies, shift_is}
+use Rattle.instruction_runs.proofs.Deferrals.{news_lies, shift_is}
 use Rattle.instruction_runs.proofs.deferring.work_of.Goals as goal
 
 pub step_of-step-requires-clause-set : goal.step_of-step-requires-clause-set

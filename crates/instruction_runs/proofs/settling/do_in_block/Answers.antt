@@ -1,4 +1,4 @@
-use Rattle.std.proofs.Common.{ℕ, ◌+◌, ◌<◌, ◌≤◌, true, List, length, map, refl, sym, ◌∙◌, ap, subst, arith}
+use Rattle.std.proofs.Common.{◌+◌, ◌<◌, ◌≤◌, length, map, sym, ◌∙◌, ap, subst}
 use Rattle.vp_sets.specs.Blocks.{block_count}
 use Rattle.paris_code.specs.Shapes.{bits_at, extents_at}
 use Rattle.block_store.specs.Phases.{WrittenInBlock}

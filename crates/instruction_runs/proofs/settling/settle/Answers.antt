@@ -1,8 +1,7 @@
-use Rattle.std.proofs.Common.{◌≡◌, ℕ, ◌+◌, ◌<◌, ◌≤◌, List, length, map, refl, sym, ◌∙◌, ap, subst, arith}
+use Rattle.std.proofs.Common.{◌≡◌, ◌+◌, ◌≤◌, List, length, map, refl, sym, ◌∙◌, ap, subst, arith}
 use Rattle.std.proofs.lemmas.List.{length-map}
 use Rattle.vp_sets.specs.Blocks.{block_count}
 use Rattle.paris_code.specs.Shapes.{bits_at, extents_at}
-use Rattle.block_store.specs.declared.set.BlockSet.{BlockSet}
 use Rattle.block_store.specs.declared.set.Cell.{Cell}
 use Rattle.block_store.specs.declared.set.SetPlan.{SetPlan}
 use Rattle.block_store.specs.Planes.{HasPlanes}

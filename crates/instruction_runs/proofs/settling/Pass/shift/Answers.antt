@@ -1,4 +1,4 @@
-use Rattle.std.proofs.Common.{ℕ, ◌+◌, ◌<◌, ◌≤◌, true, List, map, sym, ap, subst, arith}
+use Rattle.std.proofs.Common.{ℕ, true, List, map, sym, ap, subst, arith}
 use Rattle.vp_sets.specs.Blocks.{block_count}
 use Rattle.cstar_base.specs.Numbers.{number_of}
 use Rattle.block_store.specs.Stored.{shape_of_plan}
