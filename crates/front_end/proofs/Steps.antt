@@ -93,6 +93,11 @@ pub asks_turn : (image : Image) (old : State) → IsControl image old I.FrontTur
     → AsksFor image old (if old.turns == 0 then A.Stopped else A.Ran) (if old.turns == 0 then old else record old { at = old.at + 1; turns = old.turns - 1 })
 asks_turn image old is ready = turn_asks image old (old.turns == 0) ready (begins_control image I.FrontTurn old is)
 
+pub asks_turn_spent : (image : Image) (old : State) → IsControl image old I.FrontTurn → (old.turns == 0) ≡ false → old.wanted ≡ None
+    → AsksFor image old A.Ran (record old { at = old.at + 1; turns = old.turns - 1 })
+asks_turn_spent image old is some ready =
+    (ready, λ m i o. begins_control image I.FrontTurn old is m i o ∙ ap (λ b. if b then Ends Stopped (joined old m i o) else Goes (joined (record old { at = old.at + 1; turns = old.turns - 1 }) m i o)) some)
+
 check_asks : (image : Image) (old new : State) (fails : Bool) (fault : RunFault) (place : Place) → new.wanted ≡ None → Begins image old (λ m i o. if fails then Ends (Fault fault place None) (joined new m i o) else Goes (joined new m i o))
     → AsksFor image old (if fails then A.Fault (run_number_of fault) place else A.Ran) new
 check_asks image old new true fault place ready h = (fault, refl, ready, h)

@@ -297,6 +297,78 @@ impl Front {
         }
     }
 
+    /// Does an instruction that leads elsewhere or spends a turn. False, and nothing changed, at every
+    /// other one.
+    #[inline(always)]
+    fn moves(&mut self, sound: &Sound, instr: &Instr) -> bool
+        requires fits { Fits sound.now (state_of self.old) }
+        requires keeps { KeepsRules sound.now self.old.at instr.now }
+        requires here { IsAt sound.now self.old.at instr.now }
+        requires ready { self.old.wanted ≡ None }
+        requires scalar { is_parallel instr.now ≡ false }
+        requires other { computed (shapes_of sound.now) instr.now self.old.registers.items ≡ None }
+        ensures fits { Fits sound.now (state_of self.new) }
+        ensures ran { result ≡ true → AsksFor sound.now (state_of self.old) Ask.Ran (state_of self.new) }
+        ensures same { result ≡ false → state_of self.new ≡ state_of self.old }
+    {
+        match instr {
+            Instr::FrontJump { target } => {
+                let _ran = self.jump(sound, true, *target);
+                true
+            }
+            Instr::FrontJumpZero { test, target } => {
+                let value = self.register(*test);
+                let _ran = self.jump(sound, value == 0, *target);
+                true
+            }
+            Instr::FrontJumpNonzero { test, target } => {
+                let value = self.register(*test);
+                let _ran = self.jump(sound, value != 0, *target);
+                true
+            }
+            Instr::FrontTurn => {
+                if self.turns == 0 {
+                    return false;
+                }
+                let _ran = self.turn(sound);
+                true
+            }
+            Instr::FrontCall { unit } => {
+                let _ran = self.call(sound, *unit);
+                true
+            }
+            Instr::FrontReturn => {
+                let _ran = self.give_back(sound);
+                true
+            }
+            _ => false,
+        }
+    }
+
+    /// Does the instruction at which the code stands where it sets a register, leads elsewhere or
+    /// spends a turn, and answers nothing through memory. False, and nothing changed, at every other
+    /// one.
+    #[inline(always)]
+    fn done(&mut self, sound: &Sound) -> bool
+        requires fits { Fits sound.now (state_of self.old) }
+        requires ready { self.old.wanted ≡ None }
+        ensures fits { Fits sound.now (state_of self.new) }
+        ensures ran { result ≡ true → AsksFor sound.now (state_of self.old) Ask.Ran (state_of self.new) }
+        ensures same { result ≡ false → state_of self.new ≡ state_of self.old }
+    {
+        let instr = instr_at(sound, self.at);
+        if instr.parallel() {
+            return false;
+        }
+        match self.computed(sound, instr) {
+            Some((dest, value)) => {
+                let _ran = self.set(sound, dest, value);
+                true
+            }
+            None => self.moves(sound, instr),
+        }
+    }
+
     /// Begins instructions, at most so many, up to the first that asks for something or ends the
     /// run. What the last of them came to, as `step`, and how many there were.
     pub fn run(&mut self, sound: &Sound, most: u64) -> (Ask, u64)
@@ -309,6 +381,9 @@ impl Front {
         ensures asks { AsksAfter sound.now (state_of self.old) result.0 result.1 (state_of self.new) }
     {
         'instructions: for begun in 0..most - 1 {
+            if self.done(sound) {
+                continue;
+            }
             match self.step(sound) {
                 Ask::Ran => {}
                 ask => return (ask, begun + 1),
