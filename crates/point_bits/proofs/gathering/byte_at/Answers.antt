@@ -1,4 +1,4 @@
-use Rattle.std.proofs.Common.{◌≡◌, ◌*◌, ◌+◌, ℕ, refl, sym, ◌∙◌, ap, lit<, arith}
+use Rattle.std.proofs.Common.{◌≡◌, ◌*◌, ◌+◌, ℕ, refl, ◌∙◌, ap, lit<, arith}
 use Rattle.paris_code.specs.Memory.{run_number}
 use Rattle.point_bits.specs.Strings.{string_bit, string_byte}
 use Rattle.point_bits.proofs.Gathered.{byte_more, byte_small}

@@ -1,8 +1,8 @@
-use Rattle.std.proofs.Common.{◌≡◌, ◌*◌, ◌+◌, ◌++◌, ◌/◌, List, ℕ, refl, sym, ◌∙◌, ap, map, arith}
+use Rattle.std.proofs.Common.{◌≡◌, ◌*◌, ◌+◌, ◌++◌, ◌/◌, List, ℕ, ◌∙◌, ap, map, arith}
 use Rattle.std.specs.List.{range_with_len}
 use Rattle.paris_code.specs.Memory.{BitMemory}
 use Rattle.paris_code.specs.Shapes.{SetShape}
-use Rattle.point_bits.specs.Strings.{IsStringOf, bit_count, set_bytes, string_byte}
+use Rattle.point_bits.specs.Strings.{bit_count, set_bytes, string_byte}
 use Rattle.point_bits.proofs.Gathered.{counts, pushed, rounded}
 use Rattle.point_bits.proofs.gathering.push_set.Goals as goal
 
