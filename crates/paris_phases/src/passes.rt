@@ -15,18 +15,21 @@ use phase_elements::checked_set;
 const PLANE_NS: u32 = 8;
 /// The same from a neighbour, a window of lanes at a time; its source is held first.
 const NEWS_NS: u32 = 20;
+/// A product of each position: both numbers are lifted, and the product is put back.
+const PRODUCT_NS: u32 = 1_400;
 /// A number of each position, one after the other.
 const LANES_NS: u32 = 4_000;
 /// A check of each position.
 const CHECK_NS: u32 = 10_000;
 /// A get: numbers are lifted and fetched.
 const FETCH_NS: u32 = 10_000;
-/// A reduction to the least or the greatest: numbers are lifted and folded.
-const FOLD_NS: u32 = 4_000;
+/// A reduction to the least or the greatest: the lanes that stay are told plane by plane.
+const EXTREME_NS: u32 = 500;
 /// Each of the two passes of a scan upward: numbers are lifted and folded.
 const SCAN_NS: u32 = 1_500;
-/// A scan downward: numbers are fetched along their lines besides.
-const DOWN_SCAN_NS: u32 = 200_000;
+/// The two passes of a scan downward in which numbers are lifted and put back. The words are joined
+/// between them by one worker.
+const DOWN_SCAN_NS: u32 = 3_000;
 /// A send: its slots are filled. The claims are not counted, since messages that meet at few targets
 /// are combined no sooner by more workers.
 const SEND_NS: u32 = 1_800;
@@ -63,8 +66,8 @@ fn operation(op: Operation, set: u16, len: u8) -> Pass {
         | Operation::UMin
         | Operation::SMax
         | Operation::UMax => planes(set, len),
-        Operation::SMultiply
-        | Operation::STruncate
+        Operation::SMultiply => lanes(set, PRODUCT_NS),
+        Operation::STruncate
         | Operation::UTruncate
         | Operation::SRem
         | Operation::URem
@@ -94,7 +97,7 @@ fn reduction(combiner: Reduction, set: u16, len: u8) -> Pass {
             planes(set, len)
         }
         Reduction::SMin | Reduction::UMin | Reduction::SMax | Reduction::UMax => {
-            lanes(set, FOLD_NS)
+            lanes(set, EXTREME_NS)
         }
     }
 }
