@@ -1,5 +1,5 @@
 -- The lengths and the code of lists of expressions, as they stand in memory.
-use Rattle.std.proofs.Common.{◌≡◌, ℕ, ◌+◌, List, [], ◌∷◌, ◌++◌, length, slice_get, Vec, refl, ap, ◌∙◌, if◌then◌else◌}
+use Rattle.std.proofs.Common.{◌≡◌, ℕ, ◌+◌, List, [], ◌∷◌, ◌++◌, length, slice_get, Vec, refl, ap, ◌∙◌, Bool, ◌&&◌, if◌then◌else◌}
 use Rattle.std.specs.declared.alloc.Global.{Global}
 use mathlib.Core.Former.{Count}
 use Rattle.cstar_base.specs.declared.operators.Place.{Place}
@@ -18,6 +18,7 @@ use Rattle.lower_comm.specs.News.{goes_by_news}
 use Rattle.lower_expr.specs.declared.spots.Spot.TheVariants as S
 use Rattle.lower_expr.specs.Frames.{called}
 use Rattle.lower_expr.specs.Lengths.{length_of, spot_length_of, lengths_of, lengths_in, call_length, news_length, read_length}
+use Rattle.lower_expr.specs.Operands.{is_quiet, are_quiet, all_quiet, operand_by, operand_length}
 use Rattle.lower_expr.specs.Steps.{pieces_printed}
 use Rattle.lower_expr.specs.Values.{indexed_spot, news_by, read_by, value_of, spot_of, values_of, values_in}
 
@@ -28,46 +29,62 @@ row_of (T.LeftIndex' _ _ _ row _ _) = (_, row)
 row_of (T.Printf' _ _ _ row) = (_, row)
 row_of _ = (_, end_of-TExpr)
 
-lengths_of_row : (t : Typed) (l : Layout) (n : _) (row : Row_of-TExpr n) → lengths_of t l row ≡ lengths_in t l (items-the_row-TExpr n row)
+quiet_of_row : (n : _) (row : Row_of-TExpr n) → are_quiet row ≡ all_quiet (items-the_row-TExpr n row)
+unfolding are_quiet all_quiet
+quiet_of_row n end_of-TExpr = refl
+quiet_of_row n (more_of-TExpr e rest) = ap (λ q. is_quiet e && q) (quiet_of_row _ rest)
+
+pub quiet_left_index : (ty : ValueType) (place : Place) (indexes : Vec TExpr Global) (x : Variable) (of : ℕ) →
+    is_quiet (T.LeftIndex ty place indexes x of) ≡ all_quiet indexes.items
+unfolding is_quiet
+quiet_left_index ty place indexes x of =
+    let row = row_of (T.LeftIndex ty place indexes x of) in
+    quiet_of_row row.0 row.1 ∙ ap all_quiet (items_hidden-the_row-TExpr-0 indexes)
+
+lengths_of_row : (t : Typed) (l : Layout) (quiet : Bool) (n : _) (row : Row_of-TExpr n) →
+    lengths_of t l quiet row ≡ lengths_in t l quiet (items-the_row-TExpr n row)
 unfolding lengths_of lengths_in
-lengths_of_row t l n end_of-TExpr = refl
-lengths_of_row t l n (more_of-TExpr e rest) = ap (λ m. length_of t l e + m) (lengths_of_row t l _ rest)
+lengths_of_row t l quiet n end_of-TExpr = refl
+lengths_of_row t l quiet n (more_of-TExpr e rest) = ap (λ m. operand_length (length_of t l e) quiet e + m) (lengths_of_row t l quiet _ rest)
 
 lengths_of_items : (t : Typed) (l : Layout) (n : Count) (row : Row_of-TExpr n) (items : List TExpr) → items-the_row-TExpr n row ≡ items →
-    lengths_of t l row ≡ lengths_in t l items
-lengths_of_items t l n row items same = lengths_of_row t l n row ∙ ap (lengths_in t l) same
+    lengths_of t l (are_quiet row) row ≡ lengths_in t l (all_quiet items) items
+lengths_of_items t l n row items same =
+    lengths_of_row t l (are_quiet row) n row
+    ∙ (ap (λ (q : Bool). lengths_in t l q (items-the_row-TExpr n row)) (quiet_of_row n row)
+    ∙ ap (λ (xs : List TExpr). lengths_in t l (all_quiet xs) xs) same)
 
 pub length_of_call : (t : Typed) (l : Layout) (ty : ValueType) (instance : ℕ) (arguments : Vec TExpr Global) →
     length_of t l (T.Call ty instance arguments)
-    ≡ call_length (slice_get t.instances.items instance) (length arguments.items) + lengths_in t l arguments.items
+    ≡ call_length (slice_get t.instances.items instance) (length arguments.items) + lengths_in t l (all_quiet arguments.items) arguments.items
 unfolding length_of
 length_of_call t l ty instance arguments =
     let row = row_of (T.Call ty instance arguments) in
     let same = items_hidden-the_row-TExpr-0 arguments in
     ap (λ (m : ℕ). call_length (slice_get t.instances.items instance) (length (items-the_row-TExpr row.0 row.1)) + m) (lengths_of_items t l row.0 row.1 arguments.items same)
-    ∙ ap (λ (xs : List TExpr). call_length (slice_get t.instances.items instance) (length xs) + lengths_in t l arguments.items) same
+    ∙ ap (λ (xs : List TExpr). call_length (slice_get t.instances.items instance) (length xs) + lengths_in t l (all_quiet arguments.items) arguments.items) same
 
 pub length_of_left_index : (t : Typed) (l : Layout) (ty : ValueType) (place : Place) (indexes : Vec TExpr Global) (x : Variable) (of : ℕ) →
     length_of t l (T.LeftIndex ty place indexes x of)
     ≡ (if goes_by_news (T.LeftIndex ty place indexes x of) then news_length of indexes.items
-    else (2 + lengths_in t l indexes.items) + read_length ty.shape)
+    else (2 + lengths_in t l (all_quiet indexes.items) indexes.items) + read_length ty.shape)
 unfolding length_of
 length_of_left_index t l ty place indexes x of =
     let e = T.LeftIndex ty place indexes x of in
     let row = row_of e in
     let same = items_hidden-the_row-TExpr-0 indexes in
     ap (λ (m : ℕ). if goes_by_news e then news_length of (items-the_row-TExpr row.0 row.1) else (2 + m) + read_length ty.shape) (lengths_of_items t l row.0 row.1 indexes.items same)
-    ∙ ap (λ (xs : List TExpr). if goes_by_news e then news_length of xs else (2 + lengths_in t l indexes.items) + read_length ty.shape) same
+    ∙ ap (λ (xs : List TExpr). if goes_by_news e then news_length of xs else (2 + lengths_in t l (all_quiet indexes.items) indexes.items) + read_length ty.shape) same
 
 pub length_of_printf : (t : Typed) (l : Layout) (ty : ValueType) (pieces : Vec Piece Global) (arguments : Vec TExpr Global) →
-    length_of t l (T.Printf ty pieces arguments) ≡ length pieces.items + lengths_in t l arguments.items
+    length_of t l (T.Printf ty pieces arguments) ≡ length pieces.items + lengths_in t l (all_quiet arguments.items) arguments.items
 unfolding length_of
 length_of_printf t l ty pieces arguments =
     let row = row_of (T.Printf ty pieces arguments) in
     ap (λ (m : ℕ). length pieces.items + m) (lengths_of_items t l row.0 row.1 arguments.items (items_hidden-the_row-TExpr-0 arguments))
 
 pub spot_length_of_left_index : (t : Typed) (l : Layout) (ty : ValueType) (place : Place) (indexes : Vec TExpr Global) (x : Variable) (of : ℕ) →
-    spot_length_of t l (T.LeftIndex ty place indexes x of) ≡ 2 + lengths_in t l indexes.items
+    spot_length_of t l (T.LeftIndex ty place indexes x of) ≡ 2 + lengths_in t l (all_quiet indexes.items) indexes.items
 unfolding spot_length_of
 spot_length_of_left_index t l ty place indexes x of =
     let row = row_of (T.LeftIndex ty place indexes x of) in
@@ -79,34 +96,37 @@ unfolding then_make
 same_behind (Makes x d) f g same = same x d
 same_behind Fails f g same = refl
 
-values_of_row : (t : Typed) (l : Layout) (n : _) (row : Row_of-TExpr n) (outs : List Out) (d : Draft) →
-    values_of t l row outs d ≡ values_in t l (items-the_row-TExpr n row) outs d
+values_of_row : (t : Typed) (l : Layout) (quiet : Bool) (n : _) (row : Row_of-TExpr n) (outs : List Out) (d : Draft) →
+    values_of t l quiet row outs d ≡ values_in t l quiet (items-the_row-TExpr n row) outs d
 unfolding values_of values_in
-values_of_row t l n end_of-TExpr outs d = refl
-values_of_row t l n (more_of-TExpr e rest) outs d =
-    same_behind (value_of t l e d) (λ v after. values_of t l rest (outs ++ v ∷ []) after)
-    (λ v after. values_in t l (items-the_row-TExpr _ rest) (outs ++ v ∷ []) after)
-    (λ v after. values_of_row t l _ rest (outs ++ v ∷ []) after)
+values_of_row t l quiet n end_of-TExpr outs d = refl
+values_of_row t l quiet n (more_of-TExpr e rest) outs d =
+    same_behind (operand_by t l (value_of t l e) quiet e d) (λ v after. values_of t l quiet rest (outs ++ v ∷ []) after)
+    (λ v after. values_in t l quiet (items-the_row-TExpr _ rest) (outs ++ v ∷ []) after)
+    (λ v after. values_of_row t l quiet _ rest (outs ++ v ∷ []) after)
 
 values_of_items : (t : Typed) (l : Layout) (n : Count) (row : Row_of-TExpr n) (items : List TExpr) → items-the_row-TExpr n row ≡ items →
-    (outs : List Out) (d : Draft) → values_of t l row outs d ≡ values_in t l items outs d
-values_of_items t l n row items same outs d = values_of_row t l n row outs d ∙ ap (λ (xs : List TExpr). values_in t l xs outs d) same
+    (outs : List Out) (d : Draft) → values_of t l (are_quiet row) row outs d ≡ values_in t l (all_quiet items) items outs d
+values_of_items t l n row items same outs d =
+    values_of_row t l (are_quiet row) n row outs d
+    ∙ (ap (λ (q : Bool). values_in t l q (items-the_row-TExpr n row) outs d) (quiet_of_row n row)
+    ∙ ap (λ (xs : List TExpr). values_in t l (all_quiet xs) xs outs d) same)
 
 pub value_of_call : (t : Typed) (l : Layout) (ty : ValueType) (instance : ℕ) (arguments : Vec TExpr Global) (d : Draft) →
     value_of t l (T.Call ty instance arguments) d
-    ≡ then_make (fresh_for ty.shape d) (λ dest begun. then_make (values_in t l arguments.items [] begun)
+    ≡ then_make (fresh_for ty.shape d) (λ dest begun. then_make (values_in t l (all_quiet arguments.items) arguments.items [] begun)
     (λ given after. called t l instance given dest after))
 unfolding value_of
 value_of_call t l ty instance arguments d =
     let row = row_of (T.Call ty instance arguments) in
-    same_behind (fresh_for ty.shape d) (λ dest begun. then_make (values_of t l row.1 [] begun) (λ given after. called t l instance given dest after))
-    (λ dest begun. then_make (values_in t l arguments.items [] begun) (λ given after. called t l instance given dest after))
+    same_behind (fresh_for ty.shape d) (λ dest begun. then_make (values_of t l (are_quiet row.1) row.1 [] begun) (λ given after. called t l instance given dest after))
+    (λ dest begun. then_make (values_in t l (all_quiet arguments.items) arguments.items [] begun) (λ given after. called t l instance given dest after))
     (λ dest begun. ap (λ (m : Made (List Out)). then_make m (λ given after. called t l instance given dest after))
     (values_of_items t l row.0 row.1 arguments.items (items_hidden-the_row-TExpr-0 arguments) [] begun))
 
 pub value_of_printf : (t : Typed) (l : Layout) (ty : ValueType) (pieces : Vec Piece Global) (arguments : Vec TExpr Global) (d : Draft) →
     value_of t l (T.Printf ty pieces arguments) d
-    ≡ then_make (values_in t l arguments.items [] d) (λ given after. pieces_printed pieces.items given after)
+    ≡ then_make (values_in t l (all_quiet arguments.items) arguments.items [] d) (λ given after. pieces_printed pieces.items given after)
 unfolding value_of
 value_of_printf t l ty pieces arguments d =
     let row = row_of (T.Printf ty pieces arguments) in
@@ -121,13 +141,13 @@ unfolding value_of spot_of
 value_of_left_index t l ty place indexes x of d = refl
 
 pub spot_of_left_index : (t : Typed) (l : Layout) (ty : ValueType) (place : Place) (indexes : Vec TExpr Global) (x : Variable) (of : ℕ) (d : Draft) →
-    spot_of t l (T.LeftIndex ty place indexes x of) d ≡ indexed_spot (T.LeftIndex ty place indexes x of) (values_in t l indexes.items) d
+    spot_of t l (T.LeftIndex ty place indexes x of) d ≡ indexed_spot (T.LeftIndex ty place indexes x of) (values_in t l (all_quiet indexes.items) indexes.items) d
 unfolding spot_of indexed_spot
 spot_of_left_index t l ty place indexes x of d =
     let e = T.LeftIndex ty place indexes x of in
     let row = row_of e in
     same_behind (fresh_for (type_of e).shape d)
-    (λ at begun. then_make (values_of t l row.1 [] begun) (λ parts between. then_make (located e parts at between) (λ out after. Makes (S.Indexed out) after)))
-    (λ at begun. then_make (values_in t l indexes.items [] begun) (λ parts between. then_make (located e parts at between) (λ out after. Makes (S.Indexed out) after)))
+    (λ at begun. then_make (values_of t l (are_quiet row.1) row.1 [] begun) (λ parts between. then_make (located e parts at between) (λ out after. Makes (S.Indexed out) after)))
+    (λ at begun. then_make (values_in t l (all_quiet indexes.items) indexes.items [] begun) (λ parts between. then_make (located e parts at between) (λ out after. Makes (S.Indexed out) after)))
     (λ at begun. ap (λ (m : Made (List Out)). then_make m (λ parts between. then_make (located e parts at between) (λ out after. Makes (S.Indexed out) after)))
     (values_of_items t l row.0 row.1 indexes.items (items_hidden-the_row-TExpr-0 indexes) [] begun))

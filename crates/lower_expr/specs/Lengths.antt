@@ -1,6 +1,6 @@
 -- How many instructions an expression compiles to. Jumps are written once, since the lengths of
 -- what they pass over are known beforehand.
-use Rattle.std.specs.Prelude.{ℕ, ◌+◌, ◌-◌, Bool, true, false, ◌==◌, ◌&&◌, ◌||◌, if◌then◌else◌, List, [], ◌∷◌, length, slice_get, Option, Some, None, is_none, is_some}
+use Rattle.std.specs.Prelude.{ℕ, ◌+◌, ◌-◌, Bool, true, false, not, ◌==◌, ◌&&◌, ◌||◌, if◌then◌else◌, List, [], ◌∷◌, length, slice_get, Option, Some, None, is_none, is_some}
 use Rattle.cstar_base.specs.declared.elem.Elem.{Elem}
 use Rattle.cstar_base.specs.declared.operators.Op.{Op}
 use Rattle.cstar_base.specs.Operators.{divides}
@@ -20,6 +20,7 @@ use Rattle.lower_comm.specs.declared.news.NewsStep.{NewsStep}
 use Rattle.lower_comm.specs.Layouts.{Layout, elements_of}
 use Rattle.lower_comm.specs.News.{step_of, goes_by_news}
 use Rattle.lower_comm.specs.Operators.{assign_op_of}
+use Rattle.lower_expr.specs.Operands.{is_plus, is_quiet, are_quiet, operand_length}
 use Rattle.lower_expr.specs.Steps.{is_kept, word_of, relates, word_taken}
 
 -- a conversion in place
@@ -58,7 +59,7 @@ spare_length op kept = if kept && (relates op || divides op) then 1 else 0
 
 unfoldable pub right_length : ℕ → Op → TExpr → ℕ
 right_length n op e = elim (word_taken op e) [
-  | Some _ ↦ 1
+  | Some _ ↦ if relates op then 4 else 1
   | None ↦ n + (operate_length op false + spare_length op (is_kept e))
 ]
 
@@ -147,7 +148,7 @@ assign_length t l op target there n e =
     else elim (assign_op_of op) [
       | None ↦ set_length (is_none (type_of target).shape) (there + store_length t l target) n e
       | Some o ↦ compound_length (is_none (type_of target).shape) (type_of target).elem
-          ((there + store_length t l target) + load_length t l target) o n e
+          ((there + store_length t l target) + load_length t l target) o (operand_length n true e) e
     ]
 
 unfoldable pub step_once_length : Bool → ℕ
@@ -181,16 +182,22 @@ unfoldable mutual
   length_of t l (T.Assign' ty place op p target q value) =
       assign_length t l op target (spot_length_of t l target) (length_of t l value) value
   length_of t l (T.Choice' ty p test q first r second) =
-      (length_of t l test + (length_of t l first + length_of t l second)) + choice_length (is_kept test)
+      (operand_length (length_of t l test) (is_kept test || is_quiet first) test
+      + (operand_length (length_of t l first) true first + operand_length (length_of t l second) true second))
+      + choice_length (is_kept test)
   length_of t l (T.LogicalOr' ty p left q right) =
-      (length_of t l left + length_of t l right) + logical_length (is_none ty.shape) (is_kept left) (is_kept right)
+      (operand_length (length_of t l left) true left + operand_length (length_of t l right) true right)
+      + logical_length (is_none ty.shape) (is_kept left) (is_kept right)
   length_of t l (T.LogicalAnd' ty p left q right) =
-      (length_of t l left + length_of t l right) + logical_length (is_none ty.shape) (is_kept left) (is_kept right)
+      (operand_length (length_of t l left) true left + operand_length (length_of t l right) true right)
+      + logical_length (is_none ty.shape) (is_kept left) (is_kept right)
   length_of t l (T.Binary' ty place op p left q right) =
-      binary_length (is_none ty.shape) op (length_of t l left) left (length_of t l right) right
-  length_of t l (T.Unary' ty op p operand) = length_of t l operand + unary_length op (is_kept operand)
+      binary_length (is_none ty.shape) op (operand_length (length_of t l left) (is_quiet right) left) left
+      (operand_length (length_of t l right) true right) right
+  length_of t l (T.Unary' ty op p operand) =
+      operand_length (length_of t l operand) (not (is_plus op)) operand + unary_length op (is_kept operand)
   length_of t l (T.Step' ty op order p target) = step_length t l target (spot_length_of t l target)
-  length_of t l (T.Reduce' ty op p operand) = length_of t l operand + reduce_length op
+  length_of t l (T.Reduce' ty op p operand) = operand_length (length_of t l operand) true operand + reduce_length op
   length_of t l (T.Casts' ty elems p operand) = length_of t l operand + length elems.items
   length_of t l (T.ParallelCast' ty p operand) = spread_length (length_of t l operand) operand + conversion_length false ty.elem
   length_of t l (T.Convert' ty p operand) = length_of t l operand + conversion_length (is_kept operand) ty.elem
@@ -201,32 +208,33 @@ unfoldable mutual
   length_of t l (T.Dot ty axis) = 1
   length_of t l (T.Brackets' ty p inner) = length_of t l inner
   length_of t l (T.Call' ty instance p arguments) =
-      call_length (slice_get t.instances.items instance) (length (items-the_row-TExpr _ arguments)) + lengths_of t l arguments
+      call_length (slice_get t.instances.items instance) (length (items-the_row-TExpr _ arguments))
+      + lengths_of t l (are_quiet arguments) arguments
   length_of t l (T.LeftIndex' ty place p indexes x of) =
       if goes_by_news (T.LeftIndex' ty place p indexes x of) then news_length of (items-the_row-TExpr _ indexes)
-      else (2 + lengths_of t l indexes) + read_length ty.shape
+      else (2 + lengths_of t l (are_quiet indexes) indexes) + read_length ty.shape
   length_of t l (T.Pcoord ty axis) = 1
   length_of t l (T.PositionsOf ty shape value) = 1
   length_of t l (T.RankOf ty shape value) = 1
   length_of t l (T.DimOf ty shape axis value) = 1
-  length_of t l (T.Scan' ty p source axis combiner direction mode bit _) = length_of t l source + 1
+  length_of t l (T.Scan' ty p source axis combiner direction mode bit _) = operand_length (length_of t l source) true source + 1
   length_of t l (T.Enumerate ty axis direction _ mode bit) = 2
-  length_of t l (T.Printf' ty pieces p arguments) = length pieces.items + lengths_of t l arguments
+  length_of t l (T.Printf' ty pieces p arguments) = length pieces.items + lengths_of t l (are_quiet arguments) arguments
   length_of t l (T.GetChar ty) = 1
 
   -- what locates a target or a reference
   pub spot_length_of : Typed → Layout → TExpr → ℕ
   spot_length_of t l (T.Brackets' ty p inner) = spot_length_of t l inner
   spot_length_of t l (T.Element' ty place array p index) = length_of t l index + 5
-  spot_length_of t l (T.LeftIndex' ty place p indexes x of) = 2 + lengths_of t l indexes
+  spot_length_of t l (T.LeftIndex' ty place p indexes x of) = 2 + lengths_of t l (are_quiet indexes) indexes
   spot_length_of t l _ = 0
 
-  -- a list of expressions
-  pub lengths_of : {n : _} → Typed → Layout → Row_of-TExpr n → ℕ
-  lengths_of t l end_of-TExpr = 0
-  lengths_of t l (more_of-TExpr e rest) = length_of t l e + lengths_of t l rest
+  -- a list of expressions; whether all are quiet is told
+  pub lengths_of : {n : _} → Typed → Layout → Bool → Row_of-TExpr n → ℕ
+  lengths_of t l quiet end_of-TExpr = 0
+  lengths_of t l quiet (more_of-TExpr e rest) = operand_length (length_of t l e) quiet e + lengths_of t l quiet rest
 
 -- the same of a list as it stands in memory
-unfoldable pub lengths_in : Typed → Layout → List TExpr → ℕ
-lengths_in t l [] = 0
-lengths_in t l (e ∷ rest) = length_of t l e + lengths_in t l rest
+unfoldable pub lengths_in : Typed → Layout → Bool → List TExpr → ℕ
+lengths_in t l quiet [] = 0
+lengths_in t l quiet (e ∷ rest) = operand_length (length_of t l e) quiet e + lengths_in t l quiet rest

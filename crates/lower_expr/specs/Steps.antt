@@ -38,10 +38,13 @@ is_kept (T.Convert' ty p operand) = is_kept operand
 is_kept (T.Brackets' ty p inner) = is_kept inner
 is_kept e = is_none (type_of e).shape
 
--- the word that a promoted constant is at every position
+-- the word of a scalar constant, promoted to 32 bits, and that of a promoted one, which is the same
+-- at every position
+unfoldable pub register_word : TExpr → Option ℕ
+register_word e = then_value (constant_of e) (λ v. Some (converted int_type (type_of e).elem v))
+
 unfoldable pub word_of : TExpr → Option ℕ
-word_of (T.Promote' ty p operand) =
-    then_value (constant_of operand) (λ v. Some (converted int_type (type_of operand).elem v))
+word_of (T.Promote' ty p operand) = register_word operand
 word_of (T.Brackets' ty p inner) = word_of inner
 word_of _ = None
 
@@ -55,11 +58,9 @@ relates P.Gt = true
 relates P.Ge = true
 relates _ = false
 
--- the word of a right operand that the operation takes in itself: a relation takes none, and a
--- divisor of 0 is left to its check
+-- the word of a right operand that has no code of its own; a divisor of 0 is left to its check
 unfoldable pub word_taken : Op → TExpr → Option ℕ
-word_taken op e =
-    if relates op then None else then_value (word_of e) (λ w. if divides op && w == 0 then None else Some w)
+word_taken op e = then_value (word_of e) (λ w. if divides op && w == 0 then None else Some w)
 
 -- a number in a fresh register
 unfoldable pub constant_in : ℕ → Draft → Made Out
@@ -159,7 +160,8 @@ register_negated Un.Plus dest source d = Fails
 register_negated Un.Minus dest source d = Makes (O.Scalar dest) (with_instr (I.FrontNegate dest source) d)
 register_negated Un.Complement dest source d = Makes (O.Scalar dest) (with_instr (I.FrontLognot dest source) d)
 register_negated Un.Not dest source d =
-    Makes (O.Scalar dest) (with_instr (I.FrontCompare C.UEq dest source dest) (with_instr (I.FrontConst dest 0) d))
+    then_make (a_register d) (λ zero after. Makes (O.Scalar dest) (with_instr (I.FrontCompare C.UEq dest source zero)
+    (with_instr (I.FrontConst zero 0) after)))
 
 unfoldable pub field_negated : UnaryOp → Field → Field → Draft → Made Out
 field_negated Un.Plus dest source d = Fails

@@ -1,7 +1,7 @@
 -- The code of an expression. Its value goes to a register or a field that is taken first; those of
--- its parts are taken behind it, in the order of the text. A variable is copied, since a later part
--- may change it.
-use Rattle.std.specs.Prelude.{ℕ, ◌+◌, Bool, true, false, not, if◌then◌else◌, List, [], ◌∷◌, ◌++◌, Option, Some, None, unwrap_or}
+-- its parts are taken behind it, in the order of the text. An operand that is a variable is used where
+-- it stands, or copied where a later part may change it.
+use Rattle.std.specs.Prelude.{ℕ, ◌+◌, Bool, true, false, not, ◌||◌, if◌then◌else◌, List, [], ◌∷◌, ◌++◌, Option, Some, None, unwrap_or}
 use Rattle.std.specs.Int.{from_bool}
 use Rattle.cstar_base.specs.declared.elem.Elem.{Elem}
 use Rattle.cstar_base.specs.declared.operators.Op.{Op}
@@ -15,7 +15,6 @@ use Rattle.cstar_tree.specs.declared.typed.TExpr.{TExpr, Row_of-TExpr, end_of-TE
 use Rattle.cstar_tree.specs.declared.typed.TExpr as T
 use Rattle.cstar_tree.specs.declared.typed.Typed.{Typed}
 use Rattle.cstar_tree.specs.declared.typed.UnaryOp.{UnaryOp}
-use Rattle.cstar_tree.specs.declared.typed.UnaryOp.TheVariants as Un
 use Rattle.cstar_tree.specs.declared.typed.ValueType.{ValueType}
 use Rattle.cstar_tree.specs.declared.typed.Variable.{Variable}
 use Rattle.cstar_tree.specs.Typed.{type_of}
@@ -37,6 +36,7 @@ use Rattle.lower_expr.specs.declared.steps.Right.{Right}
 use Rattle.lower_expr.specs.declared.steps.Right.TheVariants as R
 use Rattle.lower_expr.specs.Frames.{called}
 use Rattle.lower_expr.specs.Lengths.{is_send, length_of}
+use Rattle.lower_expr.specs.Operands.{is_plus, is_quiet, are_quiet, operand_by, operand_length}
 use Rattle.lower_expr.specs.Spots.{variable_spot, index_checked, loaded, stored}
 use Rattle.lower_expr.specs.Steps.{is_kept, word_of, word_taken, constant_in, put_test, converted_in_place, put_value, operated, right_operated, in_a_field, negated, pieces_printed, assigned_signed}
 
@@ -87,23 +87,26 @@ casts_put [] r d = d
 casts_put (kind ∷ inner) r d = with_instr (I.FrontConvert r r kind) (casts_put inner r d)
 
 -- a unary operator; `+` has no code
-unfoldable pub is_plus : UnaryOp → Bool
-is_plus Un.Plus = true
-is_plus _ = false
-
-unfoldable pub unary_by : ValueType → UnaryOp → Code → Draft → Made Out
-unary_by ty op code d =
+unfoldable pub unary_by : ValueType → UnaryOp → Code → Code → Draft → Made Out
+unary_by ty op code operand d =
     if is_plus op then code d
-    else then_make (fresh_for ty.shape d) (λ dest between. then_make (code between) (λ v after. negated op dest v after))
+    else then_make (fresh_for ty.shape d) (λ dest between. then_make (operand between) (λ v after. negated op dest v after))
 
--- a binary operator
-unfoldable pub binary_at : Out → Op → Bool → Place → Code → TExpr → Code → TExpr → Draft → Made Out
-binary_at (O.Scalar r) op signed place first left second right d =
+-- a binary operator on registers, and one on fields: its last instruction writes the result, and a
+-- scalar operand that the operation does not take is spread into the spare field
+unfoldable pub registers_by : Op → Bool → Place → ℕ → Code → Code → Draft → Made Out
+registers_by op signed place r first second d =
     then_make (first d) (λ v between. in_register v (λ a. then_make (second between) (λ w after. in_register w
     (λ b. Makes (O.Scalar r) (operated op signed place r a b after)))))
-binary_at (O.Field f) op signed place first left second right d =
-    then_make (spread_into first left f d) (λ a between. then_make (right_by second op right between)
-    (λ b after. right_operated op signed place f a b f after))
+
+unfoldable pub fields_by : Op → Bool → Place → Field → Field → Code → TExpr → Code → TExpr → Draft → Made Out
+fields_by op signed place f spare first left second right d =
+    then_make (spread_into first left spare d) (λ a between. then_make (right_by second op right between)
+    (λ b after. right_operated op signed place f a b spare after))
+
+unfoldable pub binary_at : Out → Op → Bool → Place → Code → TExpr → Code → TExpr → Draft → Made Out
+binary_at (O.Scalar r) op signed place first left second right d = registers_by op signed place r first second d
+binary_at (O.Field f) op signed place first left second right d = fields_by op signed place f f first left second right d
 binary_at O.Nothing op signed place first left second right d = Fails
 
 -- a jump where the left operand of `&&` is zero, or that of `||` is not
@@ -251,10 +254,11 @@ register_folded t l e target dest there v d =
 unfoldable pub updated_by : Typed → Layout → TExpr → Op → Place → TExpr → TExpr → Option ℕ → (Draft → Made Spot) → Code → Draft → Made Out
 updated_by t l e op place target value (Some set) spot code d =
     then_make (a_field set d) (λ dest begun. then_make (a_field set begun) (λ spare next.
-    then_make (spot next) (λ there between. then_make (right_by code op value between) (λ v after.
+    then_make (spot next) (λ there between. then_make (right_by (operand_by t l code true value) op value between) (λ v after.
     field_updated t l e op (assigned_signed op (type_of target).elem (type_of value).elem) place target dest spare there v after))))
 updated_by t l e op place target value None spot code d =
-    then_make (a_register d) (λ dest begun. then_make (spot begun) (λ there between. then_make (code between) (λ v after.
+    then_make (a_register d) (λ dest begun. then_make (spot begun) (λ there between.
+    then_make (operand_by t l code true value between) (λ v after.
     if is_kept value then register_updated t l e op (assigned_signed op (type_of target).elem (type_of value).elem) place target dest there v after
     else register_folded t l e target dest there v after)))
 
@@ -315,18 +319,25 @@ unfoldable mutual
   value_of t l (T.Assign' ty place op p target q value) d =
       assign_by t l (T.Assign' ty place op p target q value) op place target value (spot_of t l target) (value_of t l value) d
   value_of t l (T.Choice' ty p test q first r second) d =
-      choice_by ty (is_kept test) (value_of t l test) (value_of t l first) (value_of t l second) (length_of t l first) (length_of t l second) d
+      choice_by ty (is_kept test) (operand_by t l (value_of t l test) (is_kept test || is_quiet first) test)
+      (operand_by t l (value_of t l first) true first) (operand_by t l (value_of t l second) true second)
+      (operand_length (length_of t l first) true first) (operand_length (length_of t l second) true second) d
   value_of t l (T.LogicalOr' ty p left q right) d =
-      logical_by true ty.shape (value_of t l left) (is_kept left) (value_of t l right) (is_kept right) (length_of t l right) d
+      logical_by true ty.shape (operand_by t l (value_of t l left) true left) (is_kept left)
+      (operand_by t l (value_of t l right) true right) (is_kept right) (operand_length (length_of t l right) true right) d
   value_of t l (T.LogicalAnd' ty p left q right) d =
-      logical_by false ty.shape (value_of t l left) (is_kept left) (value_of t l right) (is_kept right) (length_of t l right) d
+      logical_by false ty.shape (operand_by t l (value_of t l left) true left) (is_kept left)
+      (operand_by t l (value_of t l right) true right) (is_kept right) (operand_length (length_of t l right) true right) d
   value_of t l (T.Binary' ty place op p left q right) d =
       then_make (fresh_for ty.shape d)
-      (λ dest after. binary_at dest op (is_signed (type_of left).elem) place (value_of t l left) left (value_of t l right) right after)
-  value_of t l (T.Unary' ty op p operand) d = unary_by ty op (value_of t l operand) d
+      (λ dest after. binary_at dest op (is_signed (type_of left).elem) place
+      (operand_by t l (value_of t l left) (is_quiet right) left) left (operand_by t l (value_of t l right) true right) right after)
+  value_of t l (T.Unary' ty op p operand) d =
+      unary_by ty op (value_of t l operand) (operand_by t l (value_of t l operand) true operand) d
   value_of t l (T.Step' ty op order p target) d =
       step_by t l (T.Step' ty op order p target) op order target (spot_of t l target) d
-  value_of t l (T.Reduce' ty op p operand) d = message_by t l (T.Reduce' ty op p operand) ty (value_of t l operand) d
+  value_of t l (T.Reduce' ty op p operand) d =
+      message_by t l (T.Reduce' ty op p operand) ty (operand_by t l (value_of t l operand) true operand) d
   value_of t l (T.Casts' ty elems p operand) d =
       then_make (value_of t l operand d) (λ v after. in_register v (λ r. Makes v (casts_put elems.items r after)))
   value_of t l (T.ParallelCast' ty p operand) d =
@@ -340,22 +351,22 @@ unfoldable mutual
   value_of t l (T.Dot ty axis) d = coordinate_in ty.shape axis d
   value_of t l (T.Brackets' ty p inner) d = value_of t l inner d
   value_of t l (T.Call' ty instance p arguments) d =
-      then_make (fresh_for ty.shape d) (λ dest begun. then_make (values_of t l arguments [] begun)
+      then_make (fresh_for ty.shape d) (λ dest begun. then_make (values_of t l (are_quiet arguments) arguments [] begun)
       (λ given after. called t l instance given dest after))
   value_of t l (T.LeftIndex' ty place p indexes x of) d =
       if goes_by_news (T.LeftIndex' ty place p indexes x of) then news_by t l (T.LeftIndex' ty place p indexes x of) ty d
-      else read_by t l (T.LeftIndex' ty place p indexes x of) ty (indexed_spot (T.LeftIndex' ty place p indexes x of) (values_of t l indexes)) d
+      else read_by t l (T.LeftIndex' ty place p indexes x of) ty (indexed_spot (T.LeftIndex' ty place p indexes x of) (values_of t l (are_quiet indexes) indexes)) d
   value_of t l (T.Pcoord ty axis) d = coordinate_in ty.shape axis d
   value_of t l (T.PositionsOf ty shape value) d = constant_in value d
   value_of t l (T.RankOf ty shape value) d = constant_in value d
   value_of t l (T.DimOf ty shape axis value) d = constant_in value d
   value_of t l (T.Scan' ty p source axis combiner direction mode bit within) d =
-      message_by t l (T.Scan' ty p source axis combiner direction mode bit within) ty (value_of t l source) d
+      message_by t l (T.Scan' ty p source axis combiner direction mode bit within) ty (operand_by t l (value_of t l source) true source) d
   value_of t l (T.Enumerate ty axis direction within mode bit) d =
       then_make (fresh_for ty.shape d)
       (λ dest after. communicated t l (T.Enumerate ty axis direction within mode bit) O.Nothing [] dest after)
   value_of t l (T.Printf' ty pieces p arguments) d =
-      then_make (values_of t l arguments [] d) (λ given after. pieces_printed pieces.items given after)
+      then_make (values_of t l (are_quiet arguments) arguments [] d) (λ given after. pieces_printed pieces.items given after)
   value_of t l (T.GetChar ty) d = byte_in d
 
   -- where a target or a reference is: its indexes, their range check, and the address
@@ -364,45 +375,66 @@ unfoldable mutual
   spot_of t l (T.Variable ty x) d = Makes (variable_spot l ty x) d
   spot_of t l (T.Element' ty place array p index) d = element_spot t l ty place array (value_of t l index) d
   spot_of t l (T.LeftIndex' ty place p indexes x of) d =
-      indexed_spot (T.LeftIndex' ty place p indexes x of) (values_of t l indexes) d
+      indexed_spot (T.LeftIndex' ty place p indexes x of) (values_of t l (are_quiet indexes) indexes) d
   spot_of t l _ d = Fails
 
-  -- the values of a list of expressions, behind those that there are
-  pub values_of : {n : _} → Typed → Layout → Row_of-TExpr n → List Out → Draft → Made (List Out)
-  values_of t l end_of-TExpr outs d = Makes outs d
-  values_of t l (more_of-TExpr e rest) outs d =
-      then_make (value_of t l e d) (λ v after. values_of t l rest (outs ++ v ∷ []) after)
+  -- the values of a list of expressions, behind those that there are; whether all are quiet is told
+  pub values_of : {n : _} → Typed → Layout → Bool → Row_of-TExpr n → List Out → Draft → Made (List Out)
+  values_of t l quiet end_of-TExpr outs d = Makes outs d
+  values_of t l quiet (more_of-TExpr e rest) outs d =
+      then_make (operand_by t l (value_of t l e) quiet e d) (λ v after. values_of t l quiet rest (outs ++ v ∷ []) after)
 
 -- the same of a list as it stands in memory
-unfoldable pub values_in : Typed → Layout → List TExpr → List Out → Draft → Made (List Out)
-values_in t l [] outs d = Makes outs d
-values_in t l (e ∷ rest) outs d = then_make (value_of t l e d) (λ v after. values_in t l rest (outs ++ v ∷ []) after)
+unfoldable pub values_in : Typed → Layout → Bool → List TExpr → List Out → Draft → Made (List Out)
+values_in t l quiet [] outs d = Makes outs d
+values_in t l quiet (e ∷ rest) outs d =
+    then_make (operand_by t l (value_of t l e) quiet e d) (λ v after. values_in t l quiet rest (outs ++ v ∷ []) after)
 
 -- `||`, or else `&&`, of the operands of either: of scalars, and with a parallel operand; `?:` into
 -- this register or field
 unfoldable pub scalar_logical_of : Typed → Layout → Bool → TExpr → Draft → Made Out
 scalar_logical_of t l is_or (T.LogicalOr' ty p left q right) d =
-    scalar_logical_by is_or (value_of t l left) (value_of t l right) (length_of t l right) d
+    scalar_logical_by is_or (operand_by t l (value_of t l left) true left) (operand_by t l (value_of t l right) true right)
+    (operand_length (length_of t l right) true right) d
 scalar_logical_of t l is_or (T.LogicalAnd' ty p left q right) d =
-    scalar_logical_by is_or (value_of t l left) (value_of t l right) (length_of t l right) d
+    scalar_logical_by is_or (operand_by t l (value_of t l left) true left) (operand_by t l (value_of t l right) true right)
+    (operand_length (length_of t l right) true right) d
 scalar_logical_of t l is_or _ d = Fails
 
 unfoldable pub parallel_logical_of : Typed → Layout → Bool → TExpr → ℕ → Draft → Made Out
 parallel_logical_of t l is_or (T.LogicalOr' ty p left q right) set d =
-    parallel_logical_by is_or set (value_of t l left) (is_kept left) (value_of t l right) (is_kept right) (length_of t l right) d
+    parallel_logical_by is_or set (operand_by t l (value_of t l left) true left) (is_kept left)
+    (operand_by t l (value_of t l right) true right) (is_kept right) (operand_length (length_of t l right) true right) d
 parallel_logical_of t l is_or (T.LogicalAnd' ty p left q right) set d =
-    parallel_logical_by is_or set (value_of t l left) (is_kept left) (value_of t l right) (is_kept right) (length_of t l right) d
+    parallel_logical_by is_or set (operand_by t l (value_of t l left) true left) (is_kept left)
+    (operand_by t l (value_of t l right) true right) (is_kept right) (operand_length (length_of t l right) true right) d
 parallel_logical_of t l is_or _ set d = Fails
 
 unfoldable pub scalar_choice_of : Typed → Layout → TExpr → Out → Draft → Made Out
 scalar_choice_of t l (T.Choice' ty p test q first r second) dest d =
-    scalar_choice_by dest (value_of t l test) (value_of t l first) (value_of t l second) (length_of t l first) (length_of t l second) d
+    scalar_choice_by dest (operand_by t l (value_of t l test) true test)
+    (operand_by t l (value_of t l first) true first) (operand_by t l (value_of t l second) true second)
+    (operand_length (length_of t l first) true first) (operand_length (length_of t l second) true second) d
 scalar_choice_of t l _ dest d = Fails
 
 unfoldable pub parallel_choice_of : Typed → Layout → TExpr → Out → Draft → Made Out
 parallel_choice_of t l (T.Choice' ty p test q first r second) dest d =
-    parallel_choice_by dest (value_of t l test) (value_of t l first) (value_of t l second) d
+    parallel_choice_by dest (operand_by t l (value_of t l test) (is_quiet first) test)
+    (operand_by t l (value_of t l first) true first) (operand_by t l (value_of t l second) true second) d
 parallel_choice_of t l _ dest d = Fails
+
+-- a binary operator whose last instruction writes this register, or this field
+unfoldable pub register_binary_of : Typed → Layout → TExpr → ℕ → Draft → Made Out
+register_binary_of t l (T.Binary' ty place op p left q right) r d =
+    registers_by op (is_signed (type_of left).elem) place r
+    (operand_by t l (value_of t l left) (is_quiet right) left) (operand_by t l (value_of t l right) true right) d
+register_binary_of t l _ r d = Fails
+
+unfoldable pub field_binary_of : Typed → Layout → TExpr → Field → Field → Draft → Made Out
+field_binary_of t l (T.Binary' ty place op p left q right) f spare d =
+    fields_by op (is_signed (type_of left).elem) place f spare
+    (operand_by t l (value_of t l left) (is_quiet right) left) left (operand_by t l (value_of t l right) true right) right d
+field_binary_of t l _ f spare d = Fails
 
 -- an assignment with this operator
 unfoldable pub compound_of : Typed → Layout → TExpr → Op → Draft → Made Out

@@ -190,7 +190,7 @@ fn step_once(op: StepOp, before: Out, behind: Out, u: &mut Unit) -> Result<(), M
 
 /// The operation of a step, with 1 as its right operand.
 #[tactic(auto, unfolding(crate::specs::Values::step_operation))]
-fn step_operation(op: StepOp) -> paris_code::Operation
+pub fn step_operation(op: StepOp) -> paris_code::Operation
     ensures { result ≡ step_operation op }
 {
     match op {

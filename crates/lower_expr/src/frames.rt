@@ -39,7 +39,6 @@ pub fn enter(
         callee.params.as_slice(),
         arguments,
         *base,
-        0,
         dest,
         u,
     )
@@ -52,24 +51,24 @@ fn pass_all(
     callee: &Instance,
     params: &[VarInfo],
     arguments: &[Out],
-    register: u32,
-    index: u32,
+    base: u32,
     dest: Out,
     u: &mut Unit,
 ) -> Result<Out, Memory>
-    ensures draft { IfOk result (λ out. passed unit callee.now.result params.now arguments.now register index dest (draft u.old) ≡ Makes out (draft u.new)) }
+    ensures draft { IfOk result (λ out. passed unit callee.now.result params.now arguments.now base 0 dest (draft u.old) ≡ Makes out (draft u.new)) }
 {
-    match params {
-        [] => finish(callee, unit, register, index, dest, u),
-        [param, params @ ..] => match arguments {
-            [] => finish(callee, unit, register, index, dest, u),
-            [argument, arguments @ ..] => {
-                let next = pass(unit, param, register, index, *argument, u)?;
-                let register = plus(register, 1)?;
-                pass_all(unit, callee, params, arguments, register, next, dest, u)
-            }
-        },
+    let mut register = base;
+    let mut index = 0u32;
+    let mut next = 0usize;
+    for param in params {
+        let Some(argument) = arguments.get(next) else {
+            return finish(callee, unit, register, index, dest, u);
+        };
+        index = pass(unit, param, register, index, *argument, u)?;
+        register = plus(register, 1)?;
+        next = next.saturating_add(1);
     }
+    finish(callee, unit, register, index, dest, u)
 }
 
 /// A parameter takes its argument; answers the number of the next parallel one.

@@ -3,11 +3,11 @@
 ghost use Rattle.std.specs.Prelude.{◌≡◌, Some, IfOk, OnOk};
 ghost use Rattle.lower_comm.specs.Drafts.{Makes, draft};
 ghost use Rattle.lower_comm.specs.Layouts.{layout};
-ghost use Rattle.lower_expr.specs.Values.{right_given, coordinate_in, byte_in, casts_put, is_plus, news_by};
+ghost use Rattle.lower_expr.specs.Values.{right_given, coordinate_in, byte_in, casts_put, news_by};
 
 use crate::steps::Right;
 use cstar_base::{Elem, Memory};
-use cstar_tree::typed::{TExpr, Typed, UnaryOp, ValueType};
+use cstar_tree::typed::{TExpr, Typed, ValueType};
 use lower_comm::Out;
 use lower_comm::emit::{field, fresh, put, register};
 use lower_comm::messages::{check_grid, comm_in};
@@ -52,28 +52,17 @@ pub fn next_byte(u: &mut Unit) -> Result<Out, Memory>
 pub fn cast_all(elems: &[Elem], register: u32, u: &mut Unit) -> Result<(), Memory>
     ensures draft { OnOk result (casts_put elems.now register (draft u.old) ≡ draft u.new) }
 {
-    match elems {
-        [] => Ok(()),
-        [kind, inner @ ..] => {
-            cast_all(inner, register, u)?;
-            put(
-                u,
-                Instr::FrontConvert {
-                    dest: register,
-                    source: register,
-                    kind: *kind,
-                },
-            )
-        }
+    for kind in elems.iter().rev() {
+        put(
+            u,
+            Instr::FrontConvert {
+                dest: register,
+                source: register,
+                kind: *kind,
+            },
+        )?;
     }
-}
-
-/// Whether the operator is `+`, which has no code.
-#[tactic(auto, unfolding(crate::specs::Values::is_plus))]
-pub fn is_plus(op: UnaryOp) -> bool
-    ensures { result ≡ is_plus op }
-{
-    matches!(op, UnaryOp::Plus)
+    Ok(())
 }
 
 /// A get that goes by NEWS.

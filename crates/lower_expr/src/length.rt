@@ -3,10 +3,12 @@
 
 ghost use Rattle.std.specs.Prelude.{◌≡◌, IfOk, length, slice_get};
 ghost use Rattle.lower_comm.specs.Layouts.{layout};
+ghost use Rattle.lower_expr.specs.Operands.{operand_length};
 ghost use Rattle.lower_expr.specs.Steps.{is_kept};
 ghost use Rattle.lower_expr.specs.Lengths.{conversion_length, unary_length, operate_length, logical_length, spread_length, right_length, binary_length, spare_length, choice_length, step_once_length, params_length, news_move, is_checked, news_length, read_length, four_times, load_length, store_length, send_length, set_length, compound_length, assign_length, step_length, reduce_length, call_length, length_of, spot_length_of, lengths_in};
 
 use crate::assign::is_send;
+use crate::operands::{are_quiet, in_place, is_plus, is_quiet};
 use crate::spots::bare;
 use crate::steps::{constant_word, immediate, is_relation, stays_scalar};
 use cstar_base::{Elem, Memory, Op};
@@ -49,13 +51,13 @@ pub fn length(t: &Typed, names: &Names, e: &TExpr) -> Result<u32, Memory>
             plus(n, conversion(false, ty.elem))
         }
         TExpr::Unary { op, operand, .. } => {
-            let n = length(t, names, operand)?;
+            let n = used_length(t, names, !is_plus(*op), operand)?;
             plus(n, unary_length(*op, stays_scalar(operand)))
         }
         TExpr::Reduce { op, operand, .. } => {
-            plus(length(t, names, operand)?, reduce_length(*op))
+            plus(used_length(t, names, true, operand)?, reduce_length(*op))
         }
-        TExpr::Scan { source, .. } => plus(length(t, names, source)?, 1),
+        TExpr::Scan { source, .. } => plus(used_length(t, names, true, source)?, 1),
         TExpr::Element { array, index, .. } => {
             let located = plus(length(t, names, index)?, 5)?;
             plus(located, times_four(names.elements(t, *array))?)
@@ -84,6 +86,18 @@ pub fn length(t: &Typed, names: &Names, e: &TExpr) -> Result<u32, Memory>
     }
 }
 
+/// The instructions of an operand: none where it is used where it stands.
+#[cycle(length)]
+#[tactic(auto, unfolding(crate::specs::Operands::operand_length))]
+pub fn used_length(t: &Typed, names: &Names, quiet: bool, e: &TExpr) -> Result<u32, Memory>
+    ensures { IfOk result (λ n. n ≡ operand_length (length_of t.now (layout names.now) e.now) quiet e.now) }
+{
+    match in_place(quiet, e) {
+        Some(_) => Ok(0),
+        None => length(t, names, e),
+    }
+}
+
 /// A left index, a call or `printf`, with the expressions in its list.
 #[cycle(length)]
 #[tactic(auto, using(crate::proofs::Lists::length_of_call, crate::proofs::Lists::length_of_left_index, crate::proofs::Lists::length_of_printf))]
@@ -100,7 +114,8 @@ fn listed_length(t: &Typed, names: &Names, e: &TExpr) -> Result<u32, Memory>
             if goes_by_news(e) {
                 return news_length(*of, indexes.as_slice());
             }
-            let located = plus(2, lengths(t, names, indexes.as_slice())?)?;
+            let quiet = are_quiet(indexes.as_slice());
+            let located = plus(2, lengths(t, names, quiet, indexes.as_slice())?)?;
             plus(located, read_length(ty.shape))
         }
         TExpr::Call {
@@ -109,7 +124,8 @@ fn listed_length(t: &Typed, names: &Names, e: &TExpr) -> Result<u32, Memory>
             ..
         } => {
             let own = frame_length(t, *instance, arguments.len())?;
-            plus(own, lengths(t, names, arguments.as_slice())?)
+            let quiet = are_quiet(arguments.as_slice());
+            plus(own, lengths(t, names, quiet, arguments.as_slice())?)
         }
         TExpr::Printf {
             pieces,
@@ -117,7 +133,8 @@ fn listed_length(t: &Typed, names: &Names, e: &TExpr) -> Result<u32, Memory>
             ..
         } => {
             let own = count(pieces.len())?;
-            plus(own, lengths(t, names, arguments.as_slice())?)
+            let quiet = are_quiet(arguments.as_slice());
+            plus(own, lengths(t, names, quiet, arguments.as_slice())?)
         }
         _ => Err(Memory),
     }
@@ -137,18 +154,18 @@ fn operator_length(t: &Typed, names: &Names, e: &TExpr) -> Result<u32, Memory>
             right,
             ..
         } => {
-            let a = length(t, names, left)?;
-            let b = length(t, names, right)?;
+            let a = used_length(t, names, is_quiet(right), left)?;
+            let b = used_length(t, names, true, right)?;
             binary_length(ty.shape.is_none(), *op, a, left, b, right)
         }
         TExpr::LogicalOr { ty, left, right } => {
-            let a = length(t, names, left)?;
-            let b = length(t, names, right)?;
+            let a = used_length(t, names, true, left)?;
+            let b = used_length(t, names, true, right)?;
             plus(plus(a, b)?, logical_length(ty.shape.is_none(), left, right))
         }
         TExpr::LogicalAnd { ty, left, right } => {
-            let a = length(t, names, left)?;
-            let b = length(t, names, right)?;
+            let a = used_length(t, names, true, left)?;
+            let b = used_length(t, names, true, right)?;
             plus(plus(a, b)?, logical_length(ty.shape.is_none(), left, right))
         }
         TExpr::Choice {
@@ -157,9 +174,9 @@ fn operator_length(t: &Typed, names: &Names, e: &TExpr) -> Result<u32, Memory>
             otherwise,
             ..
         } => {
-            let c = length(t, names, test)?;
-            let a = length(t, names, then)?;
-            let b = length(t, names, otherwise)?;
+            let c = used_length(t, names, stays_scalar(test) || is_quiet(then), test)?;
+            let a = used_length(t, names, true, then)?;
+            let b = used_length(t, names, true, otherwise)?;
             let operands = plus(c, plus(a, b)?)?;
             plus(operands, choice_length(stays_scalar(test)))
         }
@@ -167,15 +184,15 @@ fn operator_length(t: &Typed, names: &Names, e: &TExpr) -> Result<u32, Memory>
     }
 }
 
-/// The instructions of a list of values.
+/// The instructions of a list of values, of which it is told whether all are quiet.
 #[cycle(length)]
 #[tactic(auto, unfolding(crate::specs::Lengths::lengths_in))]
-fn lengths(t: &Typed, names: &Names, es: &[TExpr]) -> Result<u32, Memory>
-    ensures { IfOk result (λ n. n ≡ lengths_in t.now (layout names.now) es.now) }
+fn lengths(t: &Typed, names: &Names, quiet: bool, es: &[TExpr]) -> Result<u32, Memory>
+    ensures { IfOk result (λ n. n ≡ lengths_in t.now (layout names.now) quiet es.now) }
 {
     let mut sum = 0u32;
     for e in es {
-        let next = length(t, names, e)?;
+        let next = used_length(t, names, quiet, e)?;
         sum = plus(sum, next)?;
     }
     Ok(sum)
@@ -203,14 +220,17 @@ fn indexed_length(t: &Typed, names: &Names, e: &TExpr) -> Result<u32, Memory>
     ensures { IfOk result (λ n. n ≡ spot_length_of t.now (layout names.now) e.now) }
 {
     match e {
-        TExpr::LeftIndex { indexes, .. } => plus(2, lengths(t, names, indexes.as_slice())?),
+        TExpr::LeftIndex { indexes, .. } => {
+            let quiet = are_quiet(indexes.as_slice());
+            plus(2, lengths(t, names, quiet, indexes.as_slice())?)
+        }
         _ => Err(Memory),
     }
 }
 
 /// An expression of this length, with its value in a field.
 #[tactic(auto, unfolding(crate::specs::Lengths::spread_length))]
-fn spread_by(n: u32, e: &TExpr) -> Result<u32, Memory>
+pub fn spread_by(n: u32, e: &TExpr) -> Result<u32, Memory>
     ensures { IfOk result (λ sum. sum ≡ spread_length n e.now) }
 {
     match constant_word(e) {
@@ -240,11 +260,11 @@ fn binary_length(
 
 /// A right operand of a parallel operation, and the operation.
 #[tactic(auto, unfolding(crate::specs::Lengths::right_length))]
-fn right_length(n: u32, op: Op, e: &TExpr) -> Result<u32, Memory>
+pub fn right_length(n: u32, op: Op, e: &TExpr) -> Result<u32, Memory>
     ensures { IfOk result (λ sum. sum ≡ right_length n op e.now) }
 {
     match immediate(op, e) {
-        Some(_) => Ok(1),
+        Some(_) => Ok(if is_relation(op) { 4 } else { 1 }),
         None => {
             let own = plus(operate_length(op, false), spare_length(op, stays_scalar(e)))?;
             plus(n, own)
@@ -254,7 +274,7 @@ fn right_length(n: u32, op: Op, e: &TExpr) -> Result<u32, Memory>
 
 /// The spreading of a word that the operation does not take.
 #[tactic(auto, unfolding(crate::specs::Lengths::spare_length))]
-fn spare_length(op: Op, scalar: bool) -> u32
+pub fn spare_length(op: Op, scalar: bool) -> u32
     ensures { result ≡ spare_length op scalar }
 {
     if scalar && (is_relation(op) || divides(op)) {
@@ -304,7 +324,7 @@ fn reduce_length(op: ReduceOp) -> u32
 
 /// A binary operator, with the check of its divisor.
 #[tactic(auto, unfolding(crate::specs::Lengths::operate_length))]
-fn operate_length(op: Op, scalar: bool) -> u32
+pub fn operate_length(op: Op, scalar: bool) -> u32
     ensures { result ≡ operate_length op scalar }
 {
     if divides(op) {
@@ -422,7 +442,7 @@ fn times_four(n: u32) -> Result<u32, Memory>
 }
 
 /// An assignment, by the lengths of its target and of its value.
-#[tactic(auto, unfolding(crate::specs::Lengths::assign_length))]
+#[tactic(auto, unfolding(crate::specs::Lengths::assign_length, crate::specs::Operands::operand_length))]
 fn assign_length(
     t: &Typed,
     names: &Names,
@@ -443,6 +463,11 @@ fn assign_length(
         None => set_length(ty.shape.is_none(), stored, n, value),
         Some(op) => {
             let both = plus(stored, load_length(t, names, target)?)?;
+            let n = if in_place(true, value).is_some() {
+                0
+            } else {
+                n
+            };
             compound_length(ty.shape.is_none(), ty.elem, both, op, n, value)
         }
     }

@@ -3,10 +3,13 @@
 
 mod assign;
 mod calls;
+pub mod effect_lengths;
+pub mod effects;
 mod frames;
 mod leaves;
 pub mod length;
 mod logical;
+pub mod operands;
 mod spots;
 pub mod steps;
 pub mod value;

@@ -3,7 +3,7 @@
 ghost use Rattle.std.specs.Prelude.{◌≡◌, IfOk, OnOk};
 ghost use Rattle.lower_comm.specs.declared.emit.Out.TheVariants as O;
 ghost use Rattle.lower_comm.specs.Drafts.{Makes, draft};
-ghost use Rattle.lower_expr.specs.Steps.{is_kept, word_of, relates, word_taken, constant_in, put_test, field_converted, converted_in_place, put_in_field, put_value, operated, fields_operated, right_operated, takes_word, in_a_field, register_negated, field_negated, negated, pieces_printed, assigned_signed};
+ghost use Rattle.lower_expr.specs.Steps.{is_kept, register_word, word_of, relates, word_taken, constant_in, put_test, field_converted, converted_in_place, put_in_field, put_value, operated, fields_operated, right_operated, takes_word, in_a_field, register_negated, field_negated, negated, pieces_printed, assigned_signed};
 
 use cstar_base::{Elem, Memory, Op, Place, numbers};
 use cstar_tree::typed::{Piece, TExpr, UnaryOp};
@@ -36,29 +36,32 @@ pub fn stays_scalar(e: &TExpr) -> bool
 }
 
 /// The word that a promoted constant is at every position, promoted to 32 bits.
-#[tactic(auto, unfolding(crate::specs::Steps::word_of, cstar_base::specs::Numbers::converted))]
+#[tactic(auto, unfolding(crate::specs::Steps::word_of))]
 pub fn constant_word(e: &TExpr) -> Option<u32>
     ensures value { result ≡ word_of e.now }
 {
     match e {
-        TExpr::Promote { operand, .. } => {
-            let value = constant_value(operand)?;
-            Some(numbers::convert(Elem::INT, operand.ty().elem, value))
-        }
+        TExpr::Promote { operand, .. } => register_word(operand),
         TExpr::Brackets { inner, .. } => constant_word(inner),
         _ => None,
     }
 }
 
-/// The word of a constant right operand that an instruction takes as an immediate: a relation takes
-/// none, and a divisor of 0 is left to its check.
+/// The word of a scalar constant, promoted to 32 bits.
+#[tactic(auto, unfolding(crate::specs::Steps::register_word, cstar_base::specs::Numbers::converted))]
+pub fn register_word(e: &TExpr) -> Option<u32>
+    ensures value { result ≡ register_word e.now }
+{
+    let value = constant_value(e)?;
+    Some(numbers::convert(Elem::INT, e.ty().elem, value))
+}
+
+/// The word of a constant right operand, which has no code of its own; a divisor of 0 is left to its
+/// check.
 #[tactic(auto, unfolding(crate::specs::Steps::word_taken))]
 pub fn immediate(op: Op, e: &TExpr) -> Option<u32>
     ensures { result ≡ word_taken op e.now }
 {
-    if is_relation(op) {
-        return None;
-    }
     let word = constant_word(e)?;
     if divides(op) && word == 0 {
         None
@@ -392,7 +395,7 @@ pub fn unary(op: UnaryOp, dest: Out, v: Out, u: &mut Unit) -> Result<(), Memory>
     }
 }
 
-#[tactic(auto, unfolding(crate::specs::Steps::register_negated))]
+#[tactic(auto, unfolding(crate::specs::Steps::register_negated, crate::specs::Steps::constant_in, lower_comm::specs::Drafts::then_make))]
 fn unary_register(op: UnaryOp, dest: u32, source: u32, u: &mut Unit) -> Result<(), Memory>
     ensures draft { OnOk result (register_negated op dest source (draft u.old) ≡ Makes (O.Scalar dest) (draft u.new)) }
 {
@@ -401,14 +404,14 @@ fn unary_register(op: UnaryOp, dest: u32, source: u32, u: &mut Unit) -> Result<(
         UnaryOp::Minus => put(u, Instr::FrontNegate { dest, source }),
         UnaryOp::Complement => put(u, Instr::FrontLognot { dest, source }),
         UnaryOp::Not => {
-            put(u, Instr::FrontConst { dest, value: 0 })?;
+            let zero = constant(0, u)?.register()?;
             put(
                 u,
                 Instr::FrontCompare {
                     relation: paris_code::Compare::UEq,
                     dest,
                     left: source,
-                    right: dest,
+                    right: zero,
                 },
             )
         }

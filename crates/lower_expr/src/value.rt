@@ -1,16 +1,19 @@
 //! The code of an expression. Its value goes to a register or a field that is taken first; those of
-//! its parts are taken behind it, in the order of the text. A variable is copied, since a later part
-//! may change it.
+//! its parts are taken behind it, in the order of the text. An operand that is a variable is used where
+//! it stands, or copied where a later part may change it.
 
-ghost use Rattle.std.specs.Prelude.{◌≡◌, [], IfOk, OnOk};
+ghost use Rattle.std.specs.Prelude.{◌≡◌, [], true, IfOk, OnOk};
+ghost use Rattle.lower_comm.specs.declared.emit.Out.TheVariants as O;
 ghost use Rattle.lower_comm.specs.Drafts.{Makes, draft};
 ghost use Rattle.lower_comm.specs.Layouts.{layout};
-ghost use Rattle.lower_expr.specs.Values.{spread_into, right_by, scalar_logical_of, parallel_logical_of, scalar_choice_of, parallel_choice_of, value_of, spot_of, read_by, values_in, compound_of, spread_of};
+ghost use Rattle.lower_expr.specs.Operands.{operand_by};
+ghost use Rattle.lower_expr.specs.Values.{spread_into, right_by, scalar_logical_of, parallel_logical_of, scalar_choice_of, parallel_choice_of, value_of, spot_of, read_by, values_in, compound_of, spread_of, register_binary_of, field_binary_of};
 
 use crate::assign::{fold_into_register, is_send, step_in, update_field, update_register};
-use crate::leaves::{by_news, cast_all, coordinate, is_plus, next_byte, right_value};
-use crate::length::length;
+use crate::leaves::{by_news, cast_all, coordinate, next_byte, right_value};
+use crate::length::used_length;
 use crate::logical::{decide, end_logical, end_parallel, limit, test_nonzero, turn_over};
+use crate::operands::{are_quiet, in_place, is_plus, is_quiet, standing};
 use crate::spots::{Spot, check_index, load, store};
 use crate::steps::{
     Right, as_field, assign_signed, constant, constant_word, convert, immediate, operate,
@@ -28,7 +31,7 @@ use std::alloc::Global;
 
 /// The value of a parallel expression in a field, that of a promoted scalar too.
 #[cycle(value)]
-#[tactic(auto, unfolding(crate::specs::Values::spread_of, crate::specs::Values::spread_by, lower_comm::specs::Drafts::then_make))]
+#[tactic(auto, unfolding(crate::specs::Values::spread_of, crate::specs::Values::spread_by, crate::specs::Values::spread_into, crate::specs::Operands::operand_by, crate::specs::Operands::in_place, lower_comm::specs::Drafts::then_make))]
 pub fn spread(
     alloc: Global,
     t: &Typed,
@@ -41,7 +44,7 @@ pub fn spread(
 {
     if stays_scalar(e) {
         let dest = field(u, shape)?;
-        Ok(Out::Field(spread_to(alloc, t, names, e, dest, u)?))
+        Ok(Out::Field(spread_to(alloc, t, names, false, e, dest, u)?))
     } else {
         value(alloc, t, names, e, u)
     }
@@ -50,15 +53,16 @@ pub fn spread(
 /// The value of a parallel operand in a field; that of a promoted scalar is spread into `dest`.
 #[cycle(value)]
 #[tactic(auto, unfolding(crate::specs::Values::spread_into, lower_comm::specs::Drafts::then_make))]
-fn spread_to(
+pub fn spread_to(
     alloc: Global,
     t: &Typed,
     names: &Names,
+    quiet: bool,
     e: &TExpr,
     dest: Field,
     u: &mut Unit,
 ) -> Result<Field, Memory>
-    ensures draft { IfOk result (λ f. spread_into (value_of t.now (layout names.now) e.now) e.now dest (draft u.old) ≡ Makes f (draft u.new)) }
+    ensures draft { IfOk result (λ f. spread_into (operand_by t.now (layout names.now) (value_of t.now (layout names.now) e.now) quiet e.now) e.now dest (draft u.old) ≡ Makes f (draft u.new)) }
 {
     match constant_word(e) {
         Some(word) => {
@@ -66,14 +70,14 @@ fn spread_to(
             put(u, Instr::MoveConstant { dest, value })?;
             Ok(dest)
         }
-        None => as_field(value(alloc, t, names, e, u)?, dest, u),
+        None => as_field(operand(alloc, t, names, quiet, e, u)?, dest, u),
     }
 }
 
 /// The right operand of a parallel operation: a constant that the instruction takes has no code.
 #[cycle(value)]
 #[tactic(auto, unfolding(crate::specs::Values::right_by, lower_comm::specs::Drafts::then_make, lower_comm::specs::Drafts::from))]
-fn right_operand(
+pub fn right_operand(
     alloc: Global,
     t: &Typed,
     names: &Names,
@@ -81,11 +85,31 @@ fn right_operand(
     e: &TExpr,
     u: &mut Unit,
 ) -> Result<Right, Memory>
-    ensures draft { IfOk result (λ right. right_by (value_of t.now (layout names.now) e.now) op e.now (draft u.old) ≡ Makes right (draft u.new)) }
+    ensures draft { IfOk result (λ right. right_by (operand_by t.now (layout names.now) (value_of t.now (layout names.now) e.now) true e.now) op e.now (draft u.old) ≡ Makes right (draft u.new)) }
 {
     match immediate(op, e) {
         Some(word) => Ok(Right::Word(Konst::Imm(word))),
-        None => right_value(value(alloc, t, names, e, u)?),
+        None => right_value(operand(alloc, t, names, true, e, u)?),
+    }
+}
+
+/// The value of an operand: a variable is used where it stands if all is quiet that is evaluated
+/// before its use.
+#[cycle(value)]
+#[tactic(auto, unfolding(crate::specs::Operands::operand_by))]
+pub fn operand(
+    alloc: Global,
+    t: &Typed,
+    names: &Names,
+    quiet: bool,
+    e: &TExpr,
+    u: &mut Unit,
+) -> Result<Out, Memory>
+    ensures draft { IfOk result (λ out. operand_by t.now (layout names.now) (value_of t.now (layout names.now) e.now) quiet e.now (draft u.old) ≡ Makes out (draft u.new)) }
+{
+    match in_place(quiet, e) {
+        Some(own) => standing(t, names, own, u),
+        None => value(alloc, t, names, e, u),
     }
 }
 
@@ -141,46 +165,97 @@ pub fn value(
 
 /// A unary or binary operator.
 #[cycle(value)]
-#[tactic(auto, unfolding(crate::specs::Values::value_of, crate::specs::Values::unary_by, crate::specs::Values::binary_at, lower_comm::specs::Drafts::then_make, lower_comm::specs::Drafts::in_register))]
+#[tactic(auto, unfolding(crate::specs::Values::value_of, crate::specs::Values::unary_by, crate::specs::Values::binary_at, crate::specs::Values::register_binary_of, crate::specs::Values::field_binary_of, lower_comm::specs::Drafts::then_make, lower_comm::specs::Drafts::in_register))]
 fn operator(alloc: Global, t: &Typed, names: &Names, e: &TExpr, u: &mut Unit) -> Result<Out, Memory>
     ensures draft { IfOk result (λ out. value_of t.now (layout names.now) e.now (draft u.old) ≡ Makes out (draft u.new)) }
 {
     match e {
-        TExpr::Unary { ty, op, operand } => {
+        TExpr::Unary {
+            ty,
+            op,
+            operand: inner,
+        } => {
             if is_plus(*op) {
-                return value(alloc, t, names, operand, u);
+                return value(alloc, t, names, inner, u);
             }
             let dest = fresh(*ty, u)?;
-            let v = value(alloc, t, names, operand, u)?;
+            let v = operand(alloc, t, names, true, inner, u)?;
             unary(*op, dest, v, u)?;
             Ok(dest)
         }
-        TExpr::Binary {
-            ty,
-            place,
-            op,
-            left,
-            right,
-        } => {
-            let signed = promoted_signed(left.ty().elem);
-            match fresh(*ty, u)? {
-                Out::Scalar(r) => {
-                    let a = value(alloc, t, names, left, u)?.register()?;
-                    let b = value(alloc, t, names, right, u)?.register()?;
-                    operate(*op, signed, *place, r, a, b, u)?;
-                    Ok(Out::Scalar(r))
-                }
-                Out::Field(f) => {
-                    let a = spread_to(alloc, t, names, left, f, u)?;
-                    let b = right_operand(alloc, t, names, *op, right, u)?;
-                    operate_right(*op, signed, *place, f, a, b, f, u)?;
-                    Ok(Out::Field(f))
-                }
-                Out::Nothing => Err(Memory),
+        TExpr::Binary { ty, .. } => match fresh(*ty, u)? {
+            Out::Scalar(r) => {
+                binary_in_register(alloc, t, names, e, r, u)?;
+                Ok(Out::Scalar(r))
             }
-        }
+            Out::Field(f) => {
+                binary_in_field(alloc, t, names, e, f, f, u)?;
+                Ok(Out::Field(f))
+            }
+            Out::Nothing => Err(Memory),
+        },
         _ => Err(Memory),
     }
+}
+
+/// A binary operator of scalars, whose last instruction writes this register.
+#[cycle(value)]
+#[tactic(auto, unfolding(crate::specs::Values::register_binary_of, crate::specs::Values::registers_by, lower_comm::specs::Drafts::then_make, lower_comm::specs::Drafts::in_register))]
+pub fn binary_in_register(
+    alloc: Global,
+    t: &Typed,
+    names: &Names,
+    e: &TExpr,
+    dest: u32,
+    u: &mut Unit,
+) -> Result<(), Memory>
+    ensures draft { OnOk result (register_binary_of t.now (layout names.now) e.now dest (draft u.old) ≡ Makes (O.Scalar dest) (draft u.new)) }
+{
+    let TExpr::Binary {
+        place,
+        op,
+        left,
+        right,
+        ..
+    } = e
+    else {
+        return Err(Memory);
+    };
+    let signed = promoted_signed(left.ty().elem);
+    let a = operand(alloc, t, names, is_quiet(right), left, u)?.register()?;
+    let b = operand(alloc, t, names, true, right, u)?.register()?;
+    operate(*op, signed, *place, dest, a, b, u)
+}
+
+/// A parallel binary operator, whose last instruction writes this field; a scalar operand that the
+/// operation does not take is spread into `spare`.
+#[cycle(value)]
+#[tactic(auto, unfolding(crate::specs::Values::field_binary_of, crate::specs::Values::fields_by, lower_comm::specs::Drafts::then_make))]
+pub fn binary_in_field(
+    alloc: Global,
+    t: &Typed,
+    names: &Names,
+    e: &TExpr,
+    dest: Field,
+    spare: Field,
+    u: &mut Unit,
+) -> Result<(), Memory>
+    ensures draft { OnOk result (field_binary_of t.now (layout names.now) e.now dest spare (draft u.old) ≡ Makes (O.Field dest) (draft u.new)) }
+{
+    let TExpr::Binary {
+        place,
+        op,
+        left,
+        right,
+        ..
+    } = e
+    else {
+        return Err(Memory);
+    };
+    let signed = promoted_signed(left.ty().elem);
+    let a = spread_to(alloc, t, names, is_quiet(right), left, spare, u)?;
+    let b = right_operand(alloc, t, names, *op, right, u)?;
+    operate_right(*op, signed, *place, dest, a, b, spare, u)
 }
 
 /// An operator that chooses which of its operands are evaluated, and where.
@@ -227,9 +302,9 @@ fn scalar_logical(
     match e {
         TExpr::LogicalOr { left, right, .. } | TExpr::LogicalAnd { left, right, .. } => {
             let dest = constant(u32::from(is_or), u)?.register()?;
-            let a = value(alloc, t, names, left, u)?;
-            let end = decide(is_or, a, length(t, names, right)?, 3, u)?;
-            let b = value(alloc, t, names, right, u)?;
+            let a = operand(alloc, t, names, true, left, u)?;
+            let end = decide(is_or, a, used_length(t, names, true, right)?, 3, u)?;
+            let b = operand(alloc, t, names, true, right, u)?;
             end_logical(is_or, dest, b, end, u)
         }
         _ => Err(Memory),
@@ -256,14 +331,14 @@ fn parallel_logical(
         TExpr::LogicalOr { left, right, .. } | TExpr::LogicalAnd { left, right, .. } => {
             let word = Konst::Imm(u32::from(is_or));
             put(u, Instr::MoveConstant { dest, value: word })?;
-            let a = value(alloc, t, names, left, u)?;
+            let a = operand(alloc, t, names, true, left, u)?;
             if stays_scalar(left) {
-                decide(is_or, a, length(t, names, right)?, 4, u)?;
-                let b = value(alloc, t, names, right, u)?;
+                decide(is_or, a, used_length(t, names, true, right)?, 4, u)?;
+                let b = operand(alloc, t, names, true, right, u)?;
                 test_nonzero(dest, b, u)
             } else {
                 limit(is_or, saved, a, u)?;
-                let b = value(alloc, t, names, right, u)?;
+                let b = operand(alloc, t, names, true, right, u)?;
                 end_parallel(is_or, dest, saved, stays_scalar(right), b, u)
             }
         }
@@ -293,13 +368,13 @@ fn scalar_choice(
     else {
         return Err(Memory);
     };
-    let c = value(alloc, t, names, test, u)?;
-    let other = decide(false, c, length(t, names, then)?, 3, u)?;
-    let a = value(alloc, t, names, then, u)?;
+    let c = operand(alloc, t, names, true, test, u)?;
+    let other = decide(false, c, used_length(t, names, true, then)?, 3, u)?;
+    let a = operand(alloc, t, names, true, then, u)?;
     set(dest, a, u)?;
-    let target = plus(plus(other, length(t, names, otherwise)?)?, 1)?;
+    let target = plus(plus(other, used_length(t, names, true, otherwise)?)?, 1)?;
     put(u, Instr::FrontJump { target })?;
-    let b = value(alloc, t, names, otherwise, u)?;
+    let b = operand(alloc, t, names, true, otherwise, u)?;
     set(dest, b, u)
 }
 
@@ -326,12 +401,12 @@ fn parallel_choice(
         return Err(Memory);
     };
     let saved = flag(u, dest.field()?.set)?;
-    let c = value(alloc, t, names, test, u)?;
+    let c = operand(alloc, t, names, is_quiet(then), test, u)?;
     let condition = limit(false, saved, c, u)?;
-    let a = value(alloc, t, names, then, u)?;
+    let a = operand(alloc, t, names, true, then, u)?;
     set(dest, a, u)?;
     turn_over(saved, condition, u)?;
-    let b = value(alloc, t, names, otherwise, u)?;
+    let b = operand(alloc, t, names, true, otherwise, u)?;
     set(dest, b, u)?;
     put(u, Instr::LoadContext { source: saved })
 }
@@ -416,28 +491,31 @@ fn indexed_spot(
     match e {
         TExpr::LeftIndex { indexes, .. } => {
             let at = fresh(e.ty(), u)?;
-            let parts = values(alloc, t, names, indexes.as_slice(), u)?;
+            let quiet = are_quiet(indexes.as_slice());
+            let parts = values(alloc, t, names, quiet, indexes.as_slice(), u)?;
             Ok(Spot::Indexed(locate_in(alloc, e, parts.as_slice(), at, u)?))
         }
         _ => Err(Memory),
     }
 }
 
-/// The values of a list of expressions, in the order of the text.
+/// The values of a list of expressions, in the order of the text. Variables are used where they stand
+/// if all are quiet.
 #[cycle(value)]
 #[tactic(auto, unfolding(crate::specs::Values::values_in, lower_comm::specs::Drafts::then_make))]
 fn values(
     alloc: Global,
     t: &Typed,
     names: &Names,
+    quiet: bool,
     es: &[TExpr],
     u: &mut Unit,
 ) -> Result<Vec<Out>, Memory>
-    ensures draft { IfOk result (λ outs. values_in t.now (layout names.now) es.now [] (draft u.old) ≡ Makes outs.items (draft u.new)) }
+    ensures draft { IfOk result (λ outs. values_in t.now (layout names.now) quiet es.now [] (draft u.old) ≡ Makes outs.items (draft u.new)) }
 {
     let mut outs = Vec::new(alloc);
     for e in es {
-        let v = value(alloc, t, names, e, u)?;
+        let v = operand(alloc, t, names, quiet, e, u)?;
         outs.push(v)?;
     }
     Ok(outs)
@@ -522,7 +600,7 @@ fn compound(
         None => {
             let dest = register(u)?;
             let spot = spot(alloc, t, names, target, u)?;
-            let v = value(alloc, t, names, right, u)?;
+            let v = operand(alloc, t, names, true, right, u)?;
             if stays_scalar(right) {
                 update_register(t, names, e, op, signed, *place, target, dest, spot, v, u)
             } else {
@@ -558,7 +636,7 @@ fn message(alloc: Global, t: &Typed, names: &Names, e: &TExpr, u: &mut Unit) -> 
         }
         | TExpr::Scan { ty, source, .. } => {
             let dest = fresh(*ty, u)?;
-            let v = value(alloc, t, names, source, u)?;
+            let v = operand(alloc, t, names, true, source, u)?;
             comm_in(t, names, e, Out::Nothing, &[v], dest, u)
         }
         TExpr::Enumerate { ty, .. } => {
@@ -582,7 +660,8 @@ fn called(alloc: Global, t: &Typed, names: &Names, e: &TExpr, u: &mut Unit) -> R
             arguments,
         } => {
             let dest = fresh(*ty, u)?;
-            let outs = values(alloc, t, names, arguments.as_slice(), u)?;
+            let quiet = are_quiet(arguments.as_slice());
+            let outs = values(alloc, t, names, quiet, arguments.as_slice(), u)?;
             crate::frames::enter(t, names, *instance, outs.as_slice(), dest, u)
         }
         TExpr::Printf {
@@ -590,7 +669,8 @@ fn called(alloc: Global, t: &Typed, names: &Names, e: &TExpr, u: &mut Unit) -> R
             arguments,
             ..
         } => {
-            let outs = values(alloc, t, names, arguments.as_slice(), u)?;
+            let quiet = are_quiet(arguments.as_slice());
+            let outs = values(alloc, t, names, quiet, arguments.as_slice(), u)?;
             print_pieces(alloc, pieces.as_slice(), outs.as_slice(), u)?;
             Ok(Out::Nothing)
         }

@@ -1,5 +1,5 @@
 -- How many instructions a statement compiles to.
-use Rattle.std.specs.Prelude.{ℕ, ◌+◌, Bool, List, [], ◌∷◌, Option, Some, None, if◌then◌else◌}
+use Rattle.std.specs.Prelude.{ℕ, ◌+◌, Bool, ◌||◌, ◌==◌, List, [], ◌∷◌, Option, Some, None, is_none, if◌then◌else◌}
 use Rattle.cstar_tree.specs.declared.typed.LocalVar.{LocalVar}
 use Rattle.cstar_tree.specs.declared.typed.TExpr.{TExpr}
 use Rattle.cstar_tree.specs.declared.typed.TStmt.{TStmt, Row_of-TStmt, end_of-TStmt, more_of-TStmt, Held-TStmt-If-2, None', Some'}
@@ -7,7 +7,7 @@ use Rattle.cstar_tree.specs.declared.typed.TStmt as S
 use Rattle.cstar_tree.specs.declared.typed.Typed.{Typed}
 use Rattle.cstar_tree.specs.declared.typed.VarInfo.{VarInfo}
 use Rattle.lower_comm.specs.Layouts.{Layout, entries_of}
-use Rattle.lower_expr.specs.Lengths.{length_of}
+use Rattle.lower_expr.specs.Effects.{effect_length_of, next_length, put_length, tested_length}
 use Rattle.lower_stmt.specs.declared.length.Saved.{Saved}
 
 -- one more context is saved
@@ -21,22 +21,28 @@ at_loop saved = record { in_loop = 0; in_all = saved.in_all }
 -- a part of a `for`, which may be left out
 unfoldable pub part_length_of : Typed → Layout → Option TExpr → ℕ
 part_length_of t l None = 0
-part_length_of t l (Some e) = length_of t l e
+part_length_of t l (Some e) = effect_length_of t l e
+
+-- its condition, which may be left out too
+unfoldable pub condition_length_of : Typed → Layout → Option TExpr → ℕ
+condition_length_of t l None = 0
+condition_length_of t l (Some e) = next_length t l e
 
 -- a variable becomes zero: one instruction, or one for each field
 unfoldable pub clear_length_of : VarInfo → ℕ
 clear_length_of info = elim info.shape [ None ↦ 1 | Some s ↦ entries_of info ]
 
--- its initialiser, and the instruction that stores the value
-unfoldable pub initial_length_of : Typed → Layout → Option TExpr → ℕ
-initial_length_of t l None = 0
-initial_length_of t l (Some e) = length_of t l e + 1
+-- its initialiser
+unfoldable pub initial_length_of : Typed → Layout → VarInfo → Option TExpr → ℕ
+initial_length_of t l info None = 0
+initial_length_of t l info (Some e) =
+    if is_none info.shape || info.elem.bits == 32 then put_length t l (is_none info.shape) e else next_length t l e + 1
 
 -- the variables of a block
 unfoldable pub locals_length_of : Typed → Layout → List LocalVar → ℕ
 locals_length_of t l [] = 0
 locals_length_of t l (local ∷ locals) =
-    clear_length_of local.info + initial_length_of t l local.initial + locals_length_of t l locals
+    clear_length_of local.info + initial_length_of t l local.info local.initial + locals_length_of t l locals
 
 -- how a returned value is stored: by one instruction, where the function has a result
 unfoldable pub storing_length : Bool → ℕ
@@ -47,27 +53,27 @@ unfoldable mutual
   pub statement_length_of : Typed → Layout → Bool → Saved → TStmt → ℕ
   statement_length_of t l has_result saved (S.Block' locals p statements) =
       locals_length_of t l locals.items + statements_length_of t l has_result saved statements
-  statement_length_of t l has_result saved (S.Expression e) = length_of t l e
+  statement_length_of t l has_result saved (S.Expression e) = effect_length_of t l e
   statement_length_of t l has_result saved S.Empty = 0
   statement_length_of t l has_result saved (S.If' test p first second) =
-      length_of t l test + 1 + statement_length_of t l has_result saved first + else_length_of t l has_result saved 1 second
+      next_length t l test + 1 + statement_length_of t l has_result saved first + else_length_of t l has_result saved 1 second
   statement_length_of t l has_result saved (S.While' test p body) =
-      length_of t l test + 3 + statement_length_of t l has_result (at_loop saved) body
+      next_length t l test + 3 + statement_length_of t l has_result (at_loop saved) body
   statement_length_of t l has_result saved (S.Do' p body test) =
-      length_of t l test + 2 + statement_length_of t l has_result (at_loop saved) body
+      next_length t l test + 2 + statement_length_of t l has_result (at_loop saved) body
   statement_length_of t l has_result saved (S.For' first test step p body) =
-      part_length_of t l first + part_length_of t l test + part_length_of t l step + 3 + statement_length_of t l has_result (at_loop saved) body
+      part_length_of t l first + condition_length_of t l test + part_length_of t l step + 3 + statement_length_of t l has_result (at_loop saved) body
   statement_length_of t l has_result saved S.Break = saved.in_loop + 1
   statement_length_of t l has_result saved S.Continue = saved.in_loop + 1
   statement_length_of t l has_result saved (S.Return None) = saved.in_all + 1
   statement_length_of t l has_result saved (S.Return (Some e)) =
-      length_of t l e + storing_length has_result + saved.in_all + 1
+      next_length t l e + storing_length has_result + saved.in_all + 1
   statement_length_of t l has_result saved (S.With' shape p body) = statement_length_of t l has_result saved body
   statement_length_of t l has_result saved (S.Everywhere' shape p body) =
       statement_length_of t l has_result (one_more saved) body + 3
   statement_length_of t l has_result saved (S.Where' shape test p first second) =
-      length_of t l test + 5 + statement_length_of t l has_result (one_more saved) first
-      + else_length_of t l has_result (one_more saved) 3 second
+      tested_length t l test + 3 + statement_length_of t l has_result (one_more saved) first
+      + else_length_of t l has_result (one_more saved) 4 second
 
   -- statements, one behind the other
   pub statements_length_of : {m : _} → Typed → Layout → Bool → Saved → Row_of-TStmt m → ℕ

@@ -10,17 +10,16 @@ use Rattle.paris_code.specs.declared.instr.Instr.TheVariants as I
 use Rattle.paris_code.specs.declared.operands.Field.{Field}
 use Rattle.lower_comm.specs.declared.emit.Out.{Out}
 use Rattle.lower_comm.specs.declared.emit.Out.TheVariants as O
-use Rattle.lower_comm.specs.Drafts.{Draft, Made, Makes, then_make, here, with_instr, an_entry, in_register, in_field}
+use Rattle.lower_comm.specs.Drafts.{Draft, Made, Makes, then_make, here, with_instr, an_entry, in_register}
 use Rattle.paris_code.specs.declared.program.Owner.TheVariants as W
 use Rattle.lower_comm.specs.Layouts.{Layout, result_register, own_field}
-use Rattle.lower_expr.specs.Lengths.{length_of}
+use Rattle.lower_expr.specs.Effects.{effect_of, next_length, next_operand, tested}
 use Rattle.lower_expr.specs.Steps.{put_value}
-use Rattle.lower_expr.specs.Values.{value_of}
 use Rattle.lower_stmt.specs.declared.statement.Frame.{Frame}
 use Rattle.lower_stmt.specs.declared.statement.Outcome.{Outcome}
 use Rattle.lower_stmt.specs.declared.statement.Outcome.TheVariants as R
 use Rattle.lower_stmt.specs.Frames.{has_result, in_loop, in_context, with_end}
-use Rattle.lower_stmt.specs.Lengths.{at_loop, part_length_of, statement_length_of}
+use Rattle.lower_stmt.specs.Lengths.{at_loop, condition_length_of, part_length_of, statement_length_of}
 use Rattle.lower_stmt.specs.Variables.{declared}
 
 -- loads contexts, the first of the list first
@@ -35,11 +34,11 @@ restored contexts newest d = loaded (take newest (reverse contexts)) d
 -- an expression whose value is not used, or nothing
 unfoldable pub part_of : Typed → Layout → Option TExpr → Draft → Made (Unit {0})
 part_of t l None d = Makes tt d
-part_of t l (Some e) d = then_make (value_of t l e d) (λ _ after. Makes tt after)
+part_of t l (Some e) d = then_make (effect_of t l e d) (λ _ after. Makes tt after)
 
 -- the value of a condition, in a register
 unfoldable pub condition_of : Typed → Layout → TExpr → Draft → Made ℕ
-condition_of t l e d = then_make (value_of t l e d) (λ v after. in_register v (λ r. Makes r after))
+condition_of t l e d = then_make (next_operand t l e d) (λ v after. in_register v (λ r. Makes r after))
 
 -- back to the turn of a loop, if its condition holds; one that is left out does
 unfoldable pub jump_back_of : Typed → Layout → Option TExpr → ℕ → Draft → Made (Unit {0})
@@ -54,7 +53,7 @@ stored_result l R.Parallel v d =
     then_make (own_field l.outcome d) (λ dest between. then_make (put_value (O.Field dest) v between) (λ _ after. Makes tt after))
 
 unfoldable pub given_back : Typed → Layout → TExpr → Outcome → Draft → Made (Unit {0})
-given_back t l e outcome d = then_make (value_of t l e d) (λ v after. stored_result l outcome v after)
+given_back t l e outcome d = then_make (next_operand t l e d) (λ v after. stored_result l outcome v after)
 
 -- the value of `return`, if it has one
 unfoldable pub returned : Typed → Layout → Option TExpr → Outcome → Draft → Made (Unit {0})
@@ -65,10 +64,19 @@ returned t l (Some e) outcome d = given_back t l e outcome d
 unfoldable pub widened : ℕ → Field → Draft → Draft
 widened set saved d = with_instr (I.SetContext set) (with_instr (I.StoreContext saved) d)
 
--- saves the context of a shape, keeps where the value is not zero, and makes the others inactive
-unfoldable pub narrowed : ℕ → Field → Field → Field → Draft → Draft
-narrowed set saved holds source d =
-    with_instr (I.LogandContextWithTest set) (with_instr (I.StoreTest holds) (with_instr (I.NeZero source) (with_instr (I.StoreContext saved) d)))
+-- the flag that keeps where a condition holds, for what is behind `else`
+unfoldable pub kept_for : Held-TStmt-If-2 → Field → Option Field
+kept_for None' holds = None
+kept_for (Some' p s) holds = Some holds
+
+unfoldable pub with_kept : Option Field → Draft → Draft
+with_kept None d = d
+with_kept (Some holds) d = with_instr (I.StoreTest holds) d
+
+-- saves the context of a shape, keeps the test flags, and makes inactive where they are 0
+unfoldable pub narrowed : ℕ → Field → Option Field → Draft → Draft
+narrowed set saved kept d =
+    with_instr (I.LogandContextWithTest set) (with_kept kept (with_instr (I.StoreContext saved) d))
 
 -- makes those inactive where the value was not zero
 unfoldable pub turned : ℕ → Field → Draft → Draft
@@ -97,24 +105,24 @@ unfoldable mutual
   statement_of t l (S.While' test p body) f contexts n d =
       let turn = here d + 1 in
       let next = turn + statement_length_of t l (has_result f) (at_loop f.saved) body + 1 in
-      let after = next + length_of t l test + 1 in
+      let after = next + next_length t l test + 1 in
       then_make
       (statement_of t l body (in_loop next after f) contexts n (with_instr I.FrontTurn (with_instr (I.FrontJump next) d)))
       (λ m behind. then_make (jump_back_of t l (Some test) turn behind) (λ _ end. Makes m end))
   statement_of t l (S.Do' p body test) f contexts n d =
       let turn = here d in
       let next = turn + statement_length_of t l (has_result f) (at_loop f.saved) body + 1 in
-      let after = next + length_of t l test + 1 in
+      let after = next + next_length t l test + 1 in
       then_make (statement_of t l body (in_loop next after f) contexts n (with_instr I.FrontTurn d))
       (λ m behind. then_make (jump_back_of t l (Some test) turn behind) (λ _ end. Makes m end))
   statement_of t l (S.For' first test step p body) f contexts n d =
       then_make (part_of t l first d) (λ _ begun.
       let turn = here begun + 1 in
       let next = turn + statement_length_of t l (has_result f) (at_loop f.saved) body + 1 in
-      let tested = next + part_length_of t l step in
-      let after = tested + part_length_of t l test + 1 in
+      let place = next + part_length_of t l step in
+      let after = place + condition_length_of t l test + 1 in
       then_make
-      (statement_of t l body (in_loop next after f) contexts n (with_instr I.FrontTurn (with_instr (I.FrontJump tested) begun)))
+      (statement_of t l body (in_loop next after f) contexts n (with_instr I.FrontTurn (with_instr (I.FrontJump place) begun)))
       (λ m behind. then_make (part_of t l step behind) (λ _ stepped. then_make (jump_back_of t l test turn stepped) (λ _ end. Makes m end))))
   statement_of t l S.Break f contexts n d = Makes n (with_instr (I.FrontJump f.after) (restored contexts f.saved.in_loop d))
   statement_of t l S.Continue f contexts n d = Makes n (with_instr (I.FrontJump f.next) (restored contexts f.saved.in_loop d))
@@ -126,9 +134,9 @@ unfoldable mutual
       closing saved (statement_of t l body (in_context f) (contexts ++ saved ∷ []) n (widened shape saved begun)))
   statement_of t l (S.Where' shape test p first second) f contexts n d =
       then_make (an_entry shape 1 W.Own d) (λ saved begun. then_make (an_entry shape 1 W.Own begun) (λ holds ready.
-      then_make (value_of t l test ready) (λ v tested. in_field v (λ source.
-      then_make (closing saved (statement_of t l first (in_context f) (contexts ++ saved ∷ []) n (narrowed shape saved holds source tested)))
-      (λ m behind. otherwise_of t l second f contexts shape saved holds m behind)))))
+      then_make (tested t l test ready) (λ _ known.
+      then_make (closing saved (statement_of t l first (in_context f) (contexts ++ saved ∷ []) n (narrowed shape saved (kept_for second holds) known)))
+      (λ m behind. otherwise_of t l second f contexts shape saved holds m behind))))
 
   -- statements, one behind the other
   pub statements_of : {k : _} → Typed → Layout → Row_of-TStmt k → Frame → List Field → ℕ → Draft → Made ℕ
@@ -151,6 +159,6 @@ unfoldable mutual
 -- the turns of a loop that begins here, whose body is followed by its condition, at a place
 unfoldable pub turns_of : Typed → Layout → TStmt → TExpr → ℕ → Frame → List Field → ℕ → Draft → Made ℕ
 turns_of t l body test next f contexts n d =
-    let after = next + length_of t l test + 1 in
+    let after = next + next_length t l test + 1 in
     then_make (statement_of t l body (in_loop next after f) contexts n (with_instr I.FrontTurn d))
     (λ m behind. then_make (jump_back_of t l (Some test) (here d) behind) (λ _ end. Makes m end))

@@ -1,6 +1,7 @@
 -- The variables of a block.
-use Rattle.std.specs.Prelude.{ℕ, zero, suc, ◌+◌, List, [], ◌∷◌, ◌++◌, length, Some, None}
+use Rattle.std.specs.Prelude.{ℕ, zero, suc, ◌+◌, List, [], ◌∷◌, ◌++◌, length, ◌||◌, ◌==◌, if◌then◌else◌, Some, None, is_none}
 use Rattle.cstar_tree.specs.declared.typed.LocalVar.{LocalVar}
+use Rattle.cstar_tree.specs.declared.typed.TExpr.{TExpr}
 use Rattle.cstar_tree.specs.declared.typed.Typed.{Typed}
 use Rattle.cstar_tree.specs.declared.typed.VarInfo.{VarInfo}
 use Rattle.cstar_tree.specs.declared.typed.Variable.TheVariants as V
@@ -10,8 +11,7 @@ use Rattle.lower_comm.specs.declared.emit.Out.{Out}
 use Rattle.lower_comm.specs.declared.emit.Out.TheVariants as O
 use Rattle.lower_comm.specs.Drafts.{Draft, Made, Makes, then_make, with_instr, an_entry}
 use Rattle.lower_comm.specs.Layouts.{Layout, entries_of, register_of, field_of}
-use Rattle.lower_expr.specs.Steps.{put_value}
-use Rattle.lower_expr.specs.Values.{value_of}
+use Rattle.lower_expr.specs.Effects.{moved, put_to}
 
 -- so many fresh fields of a shape, each of which becomes zero at every position
 unfoldable pub cleared_fields : ℕ → ℕ → ℕ → Draft → Made (Unit {0})
@@ -44,13 +44,18 @@ variable_of t l info n d =
       | Some s ↦ then_make (field_of t l (V.Local n) 0 d) (λ field after. Makes (O.Field field) after)
     ]
 
+-- a value becomes that of a variable: written there, or moved to a parallel one of a narrow type
+unfoldable pub initial_put : Typed → Layout → VarInfo → Out → TExpr → Draft → Made Out
+initial_put t l info dest e d =
+    if is_none info.shape || info.elem.bits == 32 then put_to t l dest e d else moved t l dest e d
+
 -- its initialiser, if it has one, stored in it
 unfoldable pub initialised : Typed → Layout → LocalVar → ℕ → Draft → Made (Unit {0})
 initialised t l local n d =
     elim local.initial [
       | None ↦ Makes tt d
-      | Some e ↦ then_make (value_of t l e d) (λ v between. then_make (variable_of t l local.info n between)
-          (λ dest after. then_make (put_value dest v after) (λ _ stored. Makes tt stored)))
+      | Some e ↦ then_make (variable_of t l local.info n d) (λ dest between. then_make (initial_put t l local.info dest e between)
+          (λ _ after. Makes tt after))
     ]
 
 -- the initialisers of a block, in order

@@ -2,13 +2,15 @@
 
 ghost use Rattle.std.specs.Prelude.{◌≡◌, IfOk};
 ghost use Rattle.lower_comm.specs.Layouts.{layout};
-ghost use Rattle.lower_stmt.specs.Lengths.{one_more, at_loop, part_length_of, clear_length_of, initial_length_of, locals_length_of, statement_length_of};
+ghost use Rattle.lower_stmt.specs.Lengths.{one_more, at_loop, condition_length_of, part_length_of, clear_length_of, initial_length_of, locals_length_of, statement_length_of};
 
+use crate::variables::is_written;
 use cstar_base::Memory;
 use cstar_tree::typed::{LocalVar, TExpr, TStmt, Typed, VarInfo};
 use lower_comm::emit::plus;
 use lower_comm::names::{Names, entries_of};
-use lower_expr::length::length;
+use lower_expr::effect_lengths::{effect_length, put_length, test_length};
+use lower_expr::length::used_length;
 
 /// How many saved contexts a jump has to load: those that were saved in the innermost loop, and
 /// those that were saved in the whole function.
@@ -44,7 +46,7 @@ impl Saved {
 
 /// The instructions of a statement of a function that has a result or none.
 #[cycle(statement_length)]
-#[tactic(auto, unfolding(crate::specs::Lengths::statement_length_of, crate::specs::Lengths::statements_length_of, crate::specs::Lengths::storing_length))]
+#[tactic(auto, unfolding(crate::specs::Lengths::statement_length_of, crate::specs::Lengths::statements_length_of, crate::specs::Lengths::storing_length, lower_expr::specs::Effects::next_length))]
 pub fn statement_length(
     t: &Typed,
     names: &Names,
@@ -63,16 +65,16 @@ pub fn statement_length(
             }
             Ok(sum)
         }
-        TStmt::Expression(e) => length(t, names, e),
+        TStmt::Expression(e) => effect_length(t, names, e),
         TStmt::Empty => Ok(0),
         TStmt::If { .. } => if_length(t, names, s, has_result, saved),
         TStmt::While { test, body } => {
             let body = statement_length(t, names, body, has_result, saved.at_loop())?;
-            plus(plus(length(t, names, test)?, body)?, 3)
+            plus(plus(used_length(t, names, true, test)?, body)?, 3)
         }
         TStmt::Do { body, test } => {
             let body = statement_length(t, names, body, has_result, saved.at_loop())?;
-            plus(plus(length(t, names, test)?, body)?, 2)
+            plus(plus(used_length(t, names, true, test)?, body)?, 2)
         }
         TStmt::For {
             first,
@@ -82,7 +84,7 @@ pub fn statement_length(
         } => {
             let body = statement_length(t, names, body, has_result, saved.at_loop())?;
             let first = part_length(t, names, first)?;
-            let test = part_length(t, names, test)?;
+            let test = condition_length(t, names, test)?;
             let step = part_length(t, names, step)?;
             plus(plus(plus(first, test)?, plus(step, body)?)?, 3)
         }
@@ -90,7 +92,7 @@ pub fn statement_length(
         TStmt::Return(None) => plus(saved.in_all, 1),
         TStmt::Return(Some(e)) => {
             let stored = if has_result { 2 } else { 1 };
-            plus(plus(length(t, names, e)?, saved.in_all)?, stored)
+            plus(plus(used_length(t, names, true, e)?, saved.in_all)?, stored)
         }
         TStmt::With { body, .. } => statement_length(t, names, body, has_result, saved),
         TStmt::Everywhere { body, .. } => {
@@ -104,7 +106,7 @@ pub fn statement_length(
 /// The instructions of an `if`: those of its parts, the jump behind its test, and the one in front of
 /// what `else` has.
 #[cycle(statement_length)]
-#[tactic(auto, unfolding(crate::specs::Lengths::statement_length_of, crate::specs::Lengths::else_length_of))]
+#[tactic(auto, unfolding(crate::specs::Lengths::statement_length_of, crate::specs::Lengths::else_length_of, lower_expr::specs::Effects::next_length))]
 fn if_length(
     t: &Typed,
     names: &Names,
@@ -122,7 +124,7 @@ fn if_length(
     else {
         return Err(Memory);
     };
-    let test = length(t, names, test)?;
+    let test = used_length(t, names, true, test)?;
     let then = statement_length(t, names, then, has_result, saved)?;
     let sum = plus(plus(test, then)?, 1)?;
     match otherwise {
@@ -134,8 +136,8 @@ fn if_length(
     }
 }
 
-/// The instructions of a `where`: those of its parts, four that narrow the context and one that loads
-/// the saved one, and three around what `else` has.
+/// The instructions of a `where`: those of its parts, two that save and narrow the context and one that
+/// loads the saved one, and four for what `else` has.
 #[cycle(statement_length)]
 #[tactic(auto, unfolding(crate::specs::Lengths::statement_length_of, crate::specs::Lengths::else_length_of))]
 fn where_length(
@@ -157,13 +159,13 @@ fn where_length(
         return Err(Memory);
     };
     let more = saved.one_more()?;
-    let test = length(t, names, test)?;
+    let test = test_length(t, names, test)?;
     let then = statement_length(t, names, then, has_result, more)?;
-    let sum = plus(plus(test, then)?, 5)?;
+    let sum = plus(plus(test, then)?, 3)?;
     match otherwise {
         Some(other) => {
             let other = statement_length(t, names, other, has_result, more)?;
-            plus(plus(sum, other)?, 3)
+            plus(plus(sum, other)?, 4)
         }
         None => Ok(sum),
     }
@@ -175,7 +177,18 @@ pub fn part_length(t: &Typed, names: &Names, part: &Option<TExpr>) -> Result<u32
     ensures { IfOk result (λ n. n ≡ part_length_of t.now (layout names.now) part.now) }
 {
     match part {
-        Some(e) => length(t, names, e),
+        Some(e) => effect_length(t, names, e),
+        None => Ok(0),
+    }
+}
+
+/// The optional condition of a `for`.
+#[tactic(auto, unfolding(crate::specs::Lengths::condition_length_of, lower_expr::specs::Effects::next_length))]
+pub fn condition_length(t: &Typed, names: &Names, test: &Option<TExpr>) -> Result<u32, Memory>
+    ensures { IfOk result (λ n. n ≡ condition_length_of t.now (layout names.now) test.now) }
+{
+    match test {
+        Some(e) => used_length(t, names, true, e),
         None => Ok(0),
     }
 }
@@ -188,7 +201,7 @@ fn locals_length(t: &Typed, names: &Names, locals: &[LocalVar]) -> Result<u32, M
     let mut sum = 0;
     for local in locals {
         let zeroed = clear_length(&local.info);
-        let stored = initial_length(t, names, &local.initial)?;
+        let stored = initial_length(t, names, &local.info, &local.initial)?;
         sum = plus(sum, plus(zeroed, stored)?)?;
     }
     Ok(sum)
@@ -206,12 +219,18 @@ fn clear_length(info: &VarInfo) -> u32
 }
 
 /// The initialiser of a variable.
-#[tactic(auto, unfolding(crate::specs::Lengths::initial_length_of))]
-fn initial_length(t: &Typed, names: &Names, initial: &Option<TExpr>) -> Result<u32, Memory>
-    ensures { IfOk result (λ n. n ≡ initial_length_of t.now (layout names.now) initial.now) }
+#[tactic(auto, unfolding(crate::specs::Lengths::initial_length_of, lower_expr::specs::Effects::next_length))]
+fn initial_length(
+    t: &Typed,
+    names: &Names,
+    info: &VarInfo,
+    initial: &Option<TExpr>,
+) -> Result<u32, Memory>
+    ensures { IfOk result (λ n. n ≡ initial_length_of t.now (layout names.now) info.now initial.now) }
 {
     match initial {
-        Some(e) => plus(length(t, names, e)?, 1),
+        Some(e) if is_written(info) => put_length(t, names, info.shape.is_none(), e),
+        Some(e) => plus(used_length(t, names, true, e)?, 1),
         None => Ok(0),
     }
 }

@@ -9,16 +9,17 @@ ghost use Rattle.lower_stmt.specs.Frames.{has_result, in_loop, in_context, with_
 ghost use Rattle.lower_stmt.specs.Lengths.{at_loop, statement_length_of};
 ghost use Rattle.lower_stmt.specs.Statements.{closing, condition_of, given_back, jump_back_of, narrowed, part_of, restored, returned, statement_of, stored_result, turned, turns_of, widened};
 
-use crate::length::{Saved, part_length, statement_length};
+use crate::length::{Saved, condition_length, part_length, statement_length};
 use crate::variables::declare;
 use cstar_base::Memory;
 use cstar_tree::typed::{TExpr, TStmt, Typed};
 use lower_comm::Out;
 use lower_comm::emit::{flag, here, plus, put};
 use lower_comm::names::{Names, own_entry};
-use lower_expr::length::length;
+use lower_expr::effects::{effect, test};
+use lower_expr::length::used_length;
 use lower_expr::steps::set;
-use lower_expr::value::value;
+use lower_expr::value::operand;
 use paris_code::{Field, Instr, Unit};
 use std::alloc::Global;
 
@@ -149,7 +150,7 @@ pub fn statement(
 fn evaluate(alloc: Global, t: &Typed, names: &Names, e: &TExpr, u: &mut Unit) -> Result<(), Memory>
     ensures draft { OnOk result (part_of t.now (layout names.now) (Some e.now) (draft u.old) ≡ Makes tt (draft u.new)) }
 {
-    value(alloc, t, names, e, u)?;
+    effect(alloc, t, names, e, u)?;
     Ok(())
 }
 
@@ -171,7 +172,7 @@ fn evaluate_part(
 }
 
 /// The value of a condition, in a register.
-#[tactic(auto, unfolding(crate::specs::Statements::condition_of, lower_comm::specs::Drafts::then_make, lower_comm::specs::Drafts::in_register))]
+#[tactic(auto, unfolding(crate::specs::Statements::condition_of, lower_expr::specs::Effects::next_operand, lower_comm::specs::Drafts::then_make, lower_comm::specs::Drafts::in_register))]
 fn condition(
     alloc: Global,
     t: &Typed,
@@ -181,7 +182,7 @@ fn condition(
 ) -> Result<u32, Memory>
     ensures draft { IfOk result (λ r. condition_of t.now (layout names.now) e.now (draft u.old) ≡ Makes r (draft u.new)) }
 {
-    value(alloc, t, names, e, u)?.register()
+    operand(alloc, t, names, true, e, u)?.register()
 }
 
 /// The end of a function, and that of `main`.
@@ -230,7 +231,7 @@ fn return_value(
 }
 
 /// The returned value becomes the result, that of a field at the active positions.
-#[tactic(auto, unfolding(crate::specs::Statements::given_back, lower_comm::specs::Drafts::then_make))]
+#[tactic(auto, unfolding(crate::specs::Statements::given_back, lower_expr::specs::Effects::next_operand, lower_comm::specs::Drafts::then_make))]
 fn give_back(
     alloc: Global,
     t: &Typed,
@@ -241,7 +242,7 @@ fn give_back(
 ) -> Result<(), Memory>
     ensures draft { OnOk result (given_back t.now (layout names.now) e.now outcome (draft u.old) ≡ Makes tt (draft u.new)) }
 {
-    let v = value(alloc, t, names, e, u)?;
+    let v = operand(alloc, t, names, true, e, u)?;
     store_result(names, outcome, v, u)
 }
 
@@ -309,7 +310,7 @@ fn branch(
 
 /// A loop. A `while` and a `for` begin with a jump to their test; a `do` does not.
 #[cycle(statement)]
-#[tactic(auto, using(crate::proofs::LoopPlaces::here_more), unfolding(crate::specs::Statements::statement_of, crate::specs::Statements::turns_of, crate::specs::Statements::jump_back_of, lower_comm::specs::Drafts::then_make))]
+#[tactic(auto, using(crate::proofs::LoopPlaces::here_more), unfolding(crate::specs::Statements::statement_of, crate::specs::Statements::turns_of, crate::specs::Statements::jump_back_of, lower_expr::specs::Effects::next_length, lower_comm::specs::Drafts::then_make))]
 fn repeat(
     alloc: Global,
     t: &Typed,
@@ -344,7 +345,7 @@ fn repeat(
             let turn = plus(here(u)?, 1)?;
             let next = behind_body(t, names, body, f, turn)?;
             let tested = plus(next, part_length(t, names, step)?)?;
-            let after = plus(plus(tested, part_length(t, names, test)?)?, 1)?;
+            let after = plus(plus(tested, condition_length(t, names, test)?)?, 1)?;
             put(u, Instr::FrontJump { target: tested })?;
             put(u, Instr::FrontTurn)?;
             statement(alloc, t, names, body, f.in_loop(next, after), p, u)?;
@@ -357,7 +358,7 @@ fn repeat(
 
 /// The turns of a `while` or a `do`, whose body begins here and whose test is at `next`.
 #[cycle(statement)]
-#[tactic(auto, unfolding(crate::specs::Statements::turns_of, crate::specs::Statements::jump_back_of, lower_comm::specs::Drafts::then_make))]
+#[tactic(auto, unfolding(crate::specs::Statements::turns_of, crate::specs::Statements::jump_back_of, lower_expr::specs::Effects::next_length, lower_comm::specs::Drafts::then_make))]
 fn turns(
     alloc: Global,
     t: &Typed,
@@ -373,7 +374,7 @@ fn turns(
     ensures contexts { OnOk result (p.new.contexts.items ≡ p.old.contexts.items) }
 {
     let turn = here(u)?;
-    let after = plus(plus(next, length(t, names, test)?)?, 1)?;
+    let after = plus(plus(next, used_length(t, names, true, test)?)?, 1)?;
     put(u, Instr::FrontTurn)?;
     statement(alloc, t, names, body, f.in_loop(next, after), p, u)?;
     let test = condition(alloc, t, names, test, u)?;
@@ -411,7 +412,7 @@ fn jump_back(
 
 /// `where`.
 #[cycle(statement)]
-#[tactic(auto, unfolding(crate::specs::Statements::statement_of, crate::specs::Statements::otherwise_of, lower_comm::specs::Drafts::then_make, lower_comm::specs::Drafts::in_field))]
+#[tactic(auto, unfolding(crate::specs::Statements::statement_of, crate::specs::Statements::otherwise_of, crate::specs::Statements::kept_for, lower_comm::specs::Drafts::then_make))]
 fn narrow_and_run(
     alloc: Global,
     t: &Typed,
@@ -426,7 +427,7 @@ fn narrow_and_run(
 {
     let TStmt::Where {
         shape,
-        test,
+        test: condition,
         then,
         otherwise,
     } = s
@@ -435,12 +436,15 @@ fn narrow_and_run(
     };
     let saved = flag(u, *shape)?;
     let holds = flag(u, *shape)?;
-    let source = value(alloc, t, names, test, u)?.field()?;
-    narrow(*shape, saved, holds, source, u)?;
-    within(alloc, t, names, then, f, saved, p, u)?;
+    test(alloc, t, names, condition, u)?;
     match otherwise {
-        None => Ok(()),
+        None => {
+            narrow(*shape, saved, None, u)?;
+            within(alloc, t, names, then, f, saved, p, u)
+        }
         Some(other) => {
+            narrow(*shape, saved, Some(holds), u)?;
+            within(alloc, t, names, then, f, saved, p, u)?;
             turn_over(*shape, holds, u)?;
             within(alloc, t, names, other, f, saved, p, u)
         }
@@ -478,14 +482,16 @@ fn widen(set: u16, saved: Field, u: &mut Unit) -> Result<(), Memory>
     put(u, Instr::SetContext { set })
 }
 
-/// Saves the context of a shape, and leaves active where the value is not zero.
-#[tactic(auto, unfolding(crate::specs::Statements::narrowed))]
-fn narrow(set: u16, saved: Field, holds: Field, source: Field, u: &mut Unit) -> Result<(), Memory>
-    ensures draft { OnOk result (narrowed set saved holds source (draft u.old) ≡ draft u.new) }
+/// Saves the context of a shape, keeps the test flags where there is a field for them, and leaves
+/// active where they are 1.
+#[tactic(auto, unfolding(crate::specs::Statements::narrowed, crate::specs::Statements::with_kept))]
+fn narrow(set: u16, saved: Field, kept: Option<Field>, u: &mut Unit) -> Result<(), Memory>
+    ensures draft { OnOk result (narrowed set saved kept (draft u.old) ≡ draft u.new) }
 {
     put(u, Instr::StoreContext { dest: saved })?;
-    put(u, Instr::NeZero { source })?;
-    put(u, Instr::StoreTest { dest: holds })?;
+    if let Some(dest) = kept {
+        put(u, Instr::StoreTest { dest })?;
+    }
     put(u, Instr::LogandContextWithTest { set })
 }
 

@@ -1,17 +1,16 @@
 //! The variables of a block.
 
-ghost use Rattle.std.specs.Prelude.{◌≡◌, IfOk, OnOk};
+ghost use Rattle.std.specs.Prelude.{◌≡◌, ◌||◌, ◌==◌, is_none, IfOk, OnOk};
 ghost use Rattle.lower_comm.specs.Drafts.{Makes, draft};
 ghost use Rattle.lower_comm.specs.Layouts.{layout};
-ghost use Rattle.lower_stmt.specs.Variables.{all_cleared, all_initialised, cleared, cleared_fields, declared, initialised, variable_of, with_home};
+ghost use Rattle.lower_stmt.specs.Variables.{all_cleared, all_initialised, cleared, cleared_fields, declared, initial_put, initialised, variable_of, with_home};
 
 use cstar_base::Memory;
-use cstar_tree::typed::{LocalVar, Typed, VarInfo, Variable};
+use cstar_tree::typed::{LocalVar, TExpr, Typed, VarInfo, Variable};
 use lower_comm::Out;
 use lower_comm::emit::{entry, plus, put};
 use lower_comm::names::{Names, count, entries_of};
-use lower_expr::steps::set;
-use lower_expr::value::value;
+use lower_expr::effects::{move_to, put_to};
 use paris_code::{Instr, Owner, Unit};
 use std::alloc::Global;
 
@@ -81,11 +80,38 @@ fn initialise(
     match &local.initial {
         None => Ok(()),
         Some(e) => {
-            let v = value(alloc, t, names, e, u)?;
             let dest = variable(t, names, &local.info, number, u)?;
-            set(dest, v, u)
+            put_initial(alloc, t, names, &local.info, dest, e, u)?;
+            Ok(())
         }
     }
+}
+
+/// A value becomes that of a variable: written there, or moved to a parallel one of a narrow type.
+#[tactic(auto, unfolding(crate::specs::Variables::initial_put))]
+fn put_initial(
+    alloc: Global,
+    t: &Typed,
+    names: &Names,
+    info: &VarInfo,
+    dest: Out,
+    e: &TExpr,
+    u: &mut Unit,
+) -> Result<Out, Memory>
+    ensures draft { IfOk result (λ out. initial_put t.now (layout names.now) info.now dest e.now (draft u.old) ≡ Makes out (draft u.new)) }
+{
+    if is_written(info) {
+        put_to(alloc, t, names, dest, e, u)
+    } else {
+        move_to(alloc, t, names, dest, e, u)
+    }
+}
+
+/// Whether a value is written into the variable itself: a scalar one, or a parallel one of 32 bits.
+pub fn is_written(info: &VarInfo) -> bool
+    ensures { result ≡ (is_none info.now.shape || info.now.elem.bits == 32) }
+{
+    info.shape.is_none() || info.elem.bits == 32
 }
 
 /// Where a variable of a block is.

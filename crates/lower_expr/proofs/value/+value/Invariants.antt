@@ -6,4 +6,4 @@ use Rattle.lower_expr.proofs.value.+value.Given as goal
 
 abbrev pub invariant-values-loop-e : goal.invariant-values-loop-e
 invariant-values-loop-e l =
-    values_in l.t (layout l.names) (drop l.e-index l.es) l.outs.items (draft l.u) ≡ values_in l.t (layout l.names) l.es [] (draft l.fn.u)
+    values_in l.t (layout l.names) l.quiet (drop l.e-index l.es) l.outs.items (draft l.u) ≡ values_in l.t (layout l.names) l.quiet l.es [] (draft l.fn.u)

@@ -1,0 +1,84 @@
+-- Operands that stand in a variable's own register or field, and when they may be used there.
+use Rattle.std.specs.Prelude.{ℕ, Bool, true, false, ◌==◌, ◌&&◌, ◌||◌, if◌then◌else◌, List, [], ◌∷◌, Option, Some, None, is_none}
+use Rattle.cstar_tree.specs.declared.typed.TExpr.{TExpr, Row_of-TExpr, end_of-TExpr, more_of-TExpr}
+use Rattle.cstar_tree.specs.declared.typed.TExpr as T
+use Rattle.cstar_tree.specs.declared.typed.Typed.{Typed}
+use Rattle.cstar_tree.specs.declared.typed.UnaryOp.{UnaryOp}
+use Rattle.cstar_tree.specs.declared.typed.UnaryOp.TheVariants as Un
+use Rattle.lower_comm.specs.declared.emit.Out.{Out}
+use Rattle.lower_comm.specs.declared.emit.Out.TheVariants as O
+use Rattle.lower_comm.specs.Drafts.{Draft, Made, Makes, then_make}
+use Rattle.lower_comm.specs.Layouts.{Layout, register_of, field_of}
+use Rattle.lower_expr.specs.declared.operands.Own.{Own}
+
+-- does the expression leave all variables, the turns, the input and the output as they are: it has
+-- no assignment, no step, no call, no `printf` and no `getchar`
+unfoldable mutual
+  pub is_quiet : TExpr → Bool
+  is_quiet (T.Choice' ty p test q first r second) = is_quiet test && is_quiet first && is_quiet second
+  is_quiet (T.LogicalOr' ty p left q right) = is_quiet left && is_quiet right
+  is_quiet (T.LogicalAnd' ty p left q right) = is_quiet left && is_quiet right
+  is_quiet (T.Binary' ty place op p left q right) = is_quiet left && is_quiet right
+  is_quiet (T.Unary' ty op p operand) = is_quiet operand
+  is_quiet (T.Reduce' ty op p operand) = is_quiet operand
+  is_quiet (T.Casts' ty elems p operand) = is_quiet operand
+  is_quiet (T.ParallelCast' ty p operand) = is_quiet operand
+  is_quiet (T.Convert' ty p operand) = is_quiet operand
+  is_quiet (T.Promote' ty p operand) = is_quiet operand
+  is_quiet (T.Variable ty x) = true
+  is_quiet (T.Element' ty place array p index) = is_quiet index
+  is_quiet (T.Number ty value) = true
+  is_quiet (T.Dot ty axis) = true
+  is_quiet (T.Brackets' ty p inner) = is_quiet inner
+  is_quiet (T.LeftIndex' ty place p indexes x of) = are_quiet indexes
+  is_quiet (T.Pcoord ty axis) = true
+  is_quiet (T.PositionsOf ty shape value) = true
+  is_quiet (T.RankOf ty shape value) = true
+  is_quiet (T.DimOf ty shape axis value) = true
+  is_quiet (T.Scan' ty p source axis combiner direction mode bit within) = is_quiet source
+  is_quiet (T.Enumerate ty axis direction within mode bit) = true
+  is_quiet _ = false
+
+  pub are_quiet : {n : _} → Row_of-TExpr n → Bool
+  are_quiet end_of-TExpr = true
+  are_quiet (more_of-TExpr e rest) = is_quiet e && are_quiet rest
+
+-- the same of a list as it stands in memory
+unfoldable pub all_quiet : List TExpr → Bool
+all_quiet [] = true
+all_quiet (e ∷ rest) = is_quiet e && all_quiet rest
+
+-- The variable in whose own register or field the value stands: a scalar one, or a parallel one of
+-- 32 bits; a conversion to 32 bits has no code.
+unfoldable pub own_of : TExpr → Option Own
+own_of (T.Variable ty x) =
+    if is_none ty.shape || ty.elem.bits == 32 then Some (record { shape = ty.shape; variable = x }) else None
+own_of (T.Brackets' ty p inner) = own_of inner
+own_of (T.Promote' ty p operand) = own_of operand
+own_of (T.Convert' ty p operand) = if ty.elem.bits == 32 then own_of operand else None
+own_of _ = None
+
+-- that register or field
+unfoldable pub standing : Typed → Layout → Own → Draft → Made Out
+standing t l own d =
+    elim own.shape [
+      | None ↦ Makes (O.Scalar (register_of l own.variable)) d
+      | Some _ ↦ then_make (field_of t l own.variable 0 d) (λ f after. Makes (O.Field f) after)
+    ]
+
+-- an operand is used where it stands if all is quiet that is evaluated before its use
+unfoldable pub in_place : Bool → TExpr → Option Own
+in_place quiet e = if quiet then own_of e else None
+
+-- the value of an operand, which has this code where it is copied
+unfoldable pub operand_by : Typed → Layout → (Draft → Made Out) → Bool → TExpr → Draft → Made Out
+operand_by t l code quiet e d = elim (in_place quiet e) [ Some own ↦ standing t l own d | None ↦ code d ]
+
+-- how many instructions it has, by the length of that code
+unfoldable pub operand_length : ℕ → Bool → TExpr → ℕ
+operand_length n quiet e = elim (in_place quiet e) [ Some _ ↦ 0 | None ↦ n ]
+
+-- the operator before an operand that has no code
+unfoldable pub is_plus : UnaryOp → Bool
+is_plus Un.Plus = true
+is_plus _ = false

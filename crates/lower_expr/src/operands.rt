@@ -1,0 +1,125 @@
+//! Operands that stand in a variable's own register or field, and when they may be used there.
+
+ghost use Rattle.std.specs.Prelude.{◌≡◌, IfOk};
+ghost use Rattle.lower_comm.specs.Drafts.{Makes, draft};
+ghost use Rattle.lower_comm.specs.Layouts.{layout};
+ghost use Rattle.lower_expr.specs.Operands.{all_quiet, in_place, is_plus, is_quiet, own_of, standing};
+
+use cstar_base::Memory;
+use cstar_tree::typed::{TExpr, Typed, UnaryOp, Variable};
+use lower_comm::Out;
+use lower_comm::names::Names;
+use paris_code::Unit;
+
+/// A variable whose own register or field is an operand; it has a shape if it is parallel.
+#[derive(Clone, Copy)]
+pub struct Own {
+    pub shape: Option<u16>,
+    pub variable: Variable,
+}
+
+/// Whether the expression leaves all variables, the turns, the input and the output as they are: it
+/// has no assignment, no step, no call, no `printf` and no `getchar`.
+#[cycle(quiet)]
+#[tactic(auto, unfolding(crate::specs::Operands::is_quiet))]
+pub fn is_quiet(e: &TExpr) -> bool
+    ensures { result ≡ is_quiet e.now }
+{
+    match e {
+        TExpr::Variable { .. }
+        | TExpr::Number { .. }
+        | TExpr::Dot { .. }
+        | TExpr::Pcoord { .. }
+        | TExpr::PositionsOf { .. }
+        | TExpr::RankOf { .. }
+        | TExpr::DimOf { .. }
+        | TExpr::Enumerate { .. } => true,
+        TExpr::Unary { operand, .. }
+        | TExpr::Reduce { operand, .. }
+        | TExpr::Casts { operand, .. }
+        | TExpr::ParallelCast { operand, .. }
+        | TExpr::Convert { operand, .. }
+        | TExpr::Promote { operand, .. }
+        | TExpr::Brackets { inner: operand, .. }
+        | TExpr::Element { index: operand, .. }
+        | TExpr::Scan {
+            source: operand,
+            ..
+        } => is_quiet(operand),
+        TExpr::Binary { left, right, .. }
+        | TExpr::LogicalOr { left, right, .. }
+        | TExpr::LogicalAnd { left, right, .. } => is_quiet(left) && is_quiet(right),
+        TExpr::Choice {
+            test,
+            then,
+            otherwise,
+            ..
+        } => is_quiet(test) && is_quiet(then) && is_quiet(otherwise),
+        TExpr::LeftIndex { indexes, .. } => are_quiet(indexes.as_slice()),
+        TExpr::Assign { .. }
+        | TExpr::Step { .. }
+        | TExpr::Call { .. }
+        | TExpr::Printf { .. }
+        | TExpr::GetChar { .. } => false,
+    }
+}
+
+/// Whether all expressions of a list are quiet.
+#[cycle(quiet)]
+#[tactic(auto, unfolding(crate::specs::Operands::all_quiet))]
+pub fn are_quiet(es: &[TExpr]) -> bool
+    ensures { result ≡ all_quiet es.now }
+{
+    for e in es {
+        if !is_quiet(e) {
+            return false;
+        }
+    }
+    true
+}
+
+/// The variable in whose own register or field the value stands: a scalar one, or a parallel one of
+/// 32 bits.
+#[tactic(auto, unfolding(crate::specs::Operands::own_of))]
+pub fn own_of(e: &TExpr) -> Option<Own>
+    ensures { result ≡ own_of e.now }
+{
+    match e {
+        TExpr::Variable { ty, variable } if ty.shape.is_none() || ty.elem.bits == 32 => {
+            Some(Own {
+                shape: ty.shape,
+                variable: *variable,
+            })
+        }
+        TExpr::Brackets { inner: operand, .. } | TExpr::Promote { operand, .. } => own_of(operand),
+        TExpr::Convert { ty, operand } if ty.elem.bits == 32 => own_of(operand),
+        _ => None,
+    }
+}
+
+/// The register or the field of a variable.
+#[tactic(auto, unfolding(crate::specs::Operands::standing, lower_comm::specs::Drafts::then_make))]
+pub fn standing(t: &Typed, names: &Names, own: Own, u: &mut Unit) -> Result<Out, Memory>
+    ensures draft { IfOk result (λ out. standing t.now (layout names.now) own (draft u.old) ≡ Makes out (draft u.new)) }
+{
+    match own.shape {
+        None => Ok(Out::Scalar(names.register(own.variable)?)),
+        Some(_) => Ok(Out::Field(names.field(t, own.variable, 0, u)?)),
+    }
+}
+
+/// An operand is used where it stands if all is quiet that is evaluated before its use.
+#[tactic(auto, unfolding(crate::specs::Operands::in_place))]
+pub fn in_place(quiet: bool, e: &TExpr) -> Option<Own>
+    ensures { result ≡ in_place quiet e.now }
+{
+    if quiet { own_of(e) } else { None }
+}
+
+/// Whether the operator is `+`, which has no code.
+#[tactic(auto, unfolding(crate::specs::Operands::is_plus))]
+pub fn is_plus(op: UnaryOp) -> bool
+    ensures { result ≡ is_plus op }
+{
+    matches!(op, UnaryOp::Plus)
+}
