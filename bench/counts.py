@@ -1,0 +1,81 @@
+#!/usr/bin/env python3
+"""Counts the instructions that statements compile to, and compares with the table below.
+
+Each statement stands alone in `with (S)` of a program with the variables below. Its count is that of the
+program's listing with it less that without it, so it holds the statement's own instructions and nothing
+else. The table says what the compiler makes today; a count that differs is printed, and the end is 1.
+"""
+import argparse
+import os
+import subprocess
+import sys
+import tempfile
+
+TOP = os.path.dirname(os.path.dirname(os.path.abspath(__file__)))
+
+FRAME = """shape [8]S;
+int:S a, b, d; bool:S g; char:S c;
+int s, i, n, x; char k;
+main() { with (S) { %s } }
+"""
+
+COUNTS = {
+    "d = d * a + b;": 2,
+    "d += a;": 1,
+    "d = a;": 1,
+    "d = 5;": 1,
+    "d = s;": 1,
+    "d -= s;": 1,
+    "d /= b;": 2,
+    "d = -a;": 1,
+    "d = a == b;": 3,
+    "d = pcoord(0);": 1,
+    "a++;": 1,
+    "c = a;": 4,
+    "g = a > b;": 7,
+    "where (a < b) d = a;": 5,
+    "where (a < b) d = a; else d = b;": 10,
+    "where (a < 3) d += 1;": 6,
+    "where (g) d = a;": 5,
+    "s = s * 5 + i;": 3,
+    "s += i;": 1,
+    "i++;": 2,
+    "k++;": 3,
+    "k = s;": 1,
+    "x = -1;": 1,
+    "x = !x;": 2,
+    "s = s / n;": 2,
+    "s = i ? n : x;": 5,
+    "s = += d;": 2,
+    "if (i < n) s = i;": 3,
+    "for (i = 0; i < n; i++) ;": 7,
+    "while (s > x && i) s = s - 1;": 10,
+}
+
+
+def instructions(command, statement):
+    """How many instructions the listing of the program with the statement has."""
+    with tempfile.TemporaryDirectory() as folder:
+        file = os.path.join(folder, "a.cs")
+        with open(file, "w", encoding="ascii") as it:
+            it.write(FRAME % statement)
+        ran = subprocess.run([command, "--mode", "list", file], capture_output=True, text=True, check=True)
+    return sum(line[:1].isdigit() for line in ran.stdout.splitlines())
+
+
+def main():
+    words = argparse.ArgumentParser(description=__doc__.splitlines()[0])
+    words.add_argument("--binary", default=os.path.join(TOP, "crates", "cstar", "out", "cstar"))
+    command = os.path.abspath(words.parse_args().binary)
+    without = instructions(command, "")
+    wrong = 0
+    for statement, wanted in COUNTS.items():
+        count = instructions(command, statement) - without
+        wrong += count != wanted
+        print(f"{count:4} {statement}" + ("" if count == wanted else f"   (the table has {wanted})"))
+    print(f"{len(COUNTS)} statements, {wrong} not as the table has them")
+    return 1 if wrong else 0
+
+
+if __name__ == "__main__":
+    sys.exit(main())
