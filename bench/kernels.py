@@ -4,11 +4,13 @@
 Five kernels run over 32,768 and over 1,048,576 positions: a masked multiply and add, a stencil on a
 grid, a scan, a send with collisions, and a scalar loop (which has no positions). Then the front reads
 1 MB of ordinary statements in mode check, beside gcc -fsyntax-only on the same text. Each line has the
-best time of one round in both, and how many times as long cstar takes. Both sides print a sum of their
-results, which have to agree. Run it on an idle machine.
+best time of one round in both, and how many times as long cstar takes; the scalar loop runs in Lua 5.4
+too, where that is there. All sides print a sum of their results, which have to agree. Run it on an idle
+machine.
 """
 import argparse
 import os
+import shutil
 import subprocess
 import sys
 import tempfile
@@ -137,6 +139,14 @@ int main(int count, char **words) {
 """
 
 
+LUA_PROGRAM = """local s = 0
+for i = 0, tonumber(arg[1]) - 1 do
+    s = s * 1103515245 + (i ~ (s >> 16)) & 0xffffffff
+end
+print(s)
+"""
+
+
 class TooSlow(Exception):
     """A run did not end within the limit."""
 
@@ -225,9 +235,22 @@ def duration(seconds):
     return f"{seconds * size:8.2f} {unit}"
 
 
-def show(name, ours_took, plain_took, said):
+def show(name, ours_took, plain_took, said, other="C"):
     times = ours_took / plain_took
-    print(f"{name:20} cstar {duration(ours_took)}   C {duration(plain_took)}   {times:8.1f} times{said}", flush=True)
+    print(f"{name:20} cstar {duration(ours_took)}   {other} {duration(plain_took)}   {times:8.1f} times{said}", flush=True)
+
+
+def beside_lua(folder, rounds, wanted, took):
+    """The scalar loop beside the same one in Lua."""
+    lua = shutil.which("lua5.4")
+    if lua is None:
+        return
+    with open(os.path.join(folder, "scalar.lua"), "w") as out:
+        out.write(LUA_PROGRAM)
+    _, start = best([lua, "scalar.lua", "0"], folder)
+    text, whole = best([lua, "scalar.lua", str(rounds)], folder)
+    said = "" if text == wanted else f"   WRONG: {text.strip()} where C has {wanted.strip()}"
+    show("scalar", took, (whole - start) / rounds, said, "Lua")
 
 
 def measure_front(binary, folder):
@@ -254,6 +277,8 @@ def measure(binary, folder, kernel, positions, workers):
     wanted, c_took = plain(folder, kernel, positions, rounds)
     said = f" ({rounds} rounds)" if text == wanted else f"   WRONG: {text.strip()} where C has {wanted.strip()}"
     show(name, took, c_took, said)
+    if kernel == "scalar":
+        beside_lua(folder, rounds, wanted, took)
 
 
 def built():
