@@ -30,8 +30,7 @@ const SCAN_NS: u32 = 1_500;
 /// The two passes of a scan downward in which numbers are lifted and put back. The words are joined
 /// between them by one worker.
 const DOWN_SCAN_NS: u32 = 3_000;
-/// A send: its slots are filled. The claims are not counted, since messages that meet at few targets
-/// are combined no sooner by more workers.
+/// A send: its slots are filled, and its claims are delivered.
 const SEND_NS: u32 = 1_800;
 
 /// The set that an instruction's passes go over, and how long a block of it keeps one worker.
@@ -175,15 +174,36 @@ fn workers_over(store: &Store, pass: Pass, given: u32) -> u32
     workers_for(pass.block_ns, plan.geometry.block_count(), given)
 }
 
-/// How many workers to give an instruction: one where it is about one position.
+/// How many positions a set has; none where there is no such set.
+fn positions(store: &Store, set: u16) -> u32 {
+    store
+        .plans
+        .get(usize::from(set))
+        .map_or(0, |plan| plan.geometry.positions())
+}
+
+/// Whether messages are sure to collide: a send has fewer targets than senders. Its workers would
+/// then take the targets' cells from each other, which takes longer than one worker for all.
+fn is_crowded(store: &Store, instr: &Instr) -> bool {
+    match instr {
+        Instr::SendWithOverwrite { dest, source, .. }
+        | Instr::SendWithCombiner { dest, source, .. } => {
+            positions(store, dest.set) < positions(store, source.set)
+        }
+        _ => false,
+    }
+}
+
+/// How many workers to give an instruction: one where it is about one position, or a send whose
+/// messages are sure to collide.
 pub(crate) fn workers_of(store: &Store, instr: &Instr, given: u32) -> u32
     requires { (1 ≤ given) × (given ≤ 64) }
     ensures { (1 ≤ result) × (result ≤ given) }
 {
-    let Some(pass) = pass_of(instr) else {
-        return 1;
-    };
-    workers_over(store, pass, given)
+    match pass_of(instr) {
+        Some(pass) if !is_crowded(store, instr) => workers_over(store, pass, given),
+        _ => 1,
+    }
 }
 
 /// How many workers to give the one pass of all that wait.
