@@ -1,11 +1,11 @@
--- The faults of a text, of a listing and of a run, by number and by name, as they are printed.
+-- The faults of a text, of a listing, of a saved point and of a run, by number and by name, as they are printed.
 use Rattle.std.specs.Prelude.{ℕ, List, codes}
 use Rattle.cstar_base.specs.declared.faults.Fault.{Fault}
 use Rattle.cstar_base.specs.declared.faults.Fault.TheVariants as F
 use Rattle.cstar_base.specs.declared.faults.RunFault.{RunFault}
 use Rattle.cstar_base.specs.declared.faults.RunFault.TheVariants as R
 
--- a text's from 0, a listing's from 40
+-- a text's from 0, a listing's from 40, a saved point's from 50
 abbrev pub number_of : Fault → ℕ
 number_of F.NotBuilt = 0
 number_of F.BadByte = 1
@@ -49,6 +49,8 @@ number_of F.Set = 45
 number_of F.Operands = 46
 number_of F.CodeSpace = 47
 number_of F.Slots = 48
+number_of F.Point = 50
+number_of F.State = 51
 
 -- what stands behind the number
 abbrev pub name_of : Fault → List ℕ
@@ -94,6 +96,8 @@ name_of F.Set = codes "Set"
 name_of F.Operands = codes "Operands"
 name_of F.CodeSpace = codes "Space"
 name_of F.Slots = codes "Slots"
+name_of F.Point = codes "Point"
+name_of F.State = codes "State"
 
 -- a run's
 abbrev pub run_number_of : RunFault → ℕ

@@ -1,10 +1,11 @@
-//! The faults of a text, of a listing and of a run: what each is called and by which number it is
+//! The faults of a text, of a listing, of a saved point and of a run: what each is called and by which number it is
 //! printed.
 ghost use Rattle.std.specs.Prelude.{◌≡◌};
 ghost use Rattle.cstar_base.specs.Faults.{name_of, number_of, run_name_of, run_number_of};
 
-/// Why a text or a listing is refused, named as it is printed: a text up to `ArrayUse`, a listing
-/// from `Listing` on. `CodeSpace` is a listing's `Space`.
+/// Why a text, a listing or a saved point is refused, named as it is printed: a text up to
+/// `ArrayUse`, a listing from `Listing` on, a saved point from `Point` on. `CodeSpace` is a
+/// listing's `Space`.
 #[derive(Clone, Copy, PartialEq, Eq)]
 pub enum Fault {
     NotBuilt,
@@ -49,6 +50,8 @@ pub enum Fault {
     Operands,
     CodeSpace,
     Slots,
+    Point,
+    State,
 }
 
 impl Fault {
@@ -99,6 +102,8 @@ impl Fault {
             Fault::Operands => 46,
             Fault::CodeSpace => 47,
             Fault::Slots => 48,
+            Fault::Point => 50,
+            Fault::State => 51,
         }
     }
 
@@ -149,6 +154,8 @@ impl Fault {
             Fault::Operands => "Operands",
             Fault::CodeSpace => "Space",
             Fault::Slots => "Slots",
+            Fault::Point => "Point",
+            Fault::State => "State",
         }
     }
 
@@ -200,7 +207,9 @@ impl Fault {
             45 => Fault::Set,
             46 => Fault::Operands,
             47 => Fault::CodeSpace,
-            _ => Fault::Slots,
+            48 => Fault::Slots,
+            50 => Fault::Point,
+            _ => Fault::State,
         }
     }
 }
