@@ -11,6 +11,7 @@
 
 shape [WIDTH]row;
 bool:row cell;
+int:row around;         /* a cell and its neighbours as three bits */
 
 /* A decimal number and the byte behind it. */
 int read_number()
@@ -51,7 +52,8 @@ main()
         read_row();
         for (i = 0; i < ROWS; i++) {
             show();
-            cell = (rule >> ([(. - 1) %% WIDTH]cell * 4 + cell * 2 + [(. + 1) %% WIDTH]cell)) & 1;
+            around = [(. - 1) %% dimof(row, 0)]cell * 4 + cell * 2 + [(. + 1) %% dimof(row, 0)]cell;
+            cell = (rule >> around) & 1;
         }
     }
 }

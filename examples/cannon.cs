@@ -20,8 +20,8 @@ void multiply()
     c = 0;
     for (step = 0; step < SIDE; step++) {
         c += a * b;
-        a = [.][(. + 1) %% SIDE]a;
-        b = [(. + 1) %% SIDE][.]b;
+        a = [.][(. + 1) %% dimof(torus, 1)]a;
+        b = [(. + 1) %% dimof(torus, 0)][.]b;
     }
 }
 

@@ -1,6 +1,8 @@
 /*
  * The game of life on a torus. Each cell is a position of a grid, and the
  * neighbours of all cells are counted at once. A glider crosses the corner.
+ * The sides are written as dimof, and not as SIDE, so that the neighbours that
+ * go round are reached by shifts of the grid and not by messages.
  */
 #include <stdio.h>
 
@@ -16,8 +18,8 @@ int:board neighbours()
 {
     int:board row;      /* a cell together with its left and right neighbour */
 
-    row = alive + [.][(. - 1) %% SIDE]alive + [.][(. + 1) %% SIDE]alive;
-    return row - alive + [(. - 1) %% SIDE][.]row + [(. + 1) %% SIDE][.]row;
+    row = alive + [.][(. - 1) %% dimof(board, 1)]alive + [.][(. + 1) %% dimof(board, 1)]alive;
+    return row - alive + [(. - 1) %% dimof(board, 0)][.]row + [(. + 1) %% dimof(board, 0)][.]row;
 }
 
 void advance()

@@ -2,12 +2,12 @@
  * The lengths of the shortest paths between all pairs of towns. Position i, j
  * holds the length of the best known way from i to j. For each town k, every
  * pair at once tries the way over k: it gets the two parts from row k and from
- * column k.
+ * column k. All lengths are shown where they fit on a page.
  */
 #include <stdio.h>
 
 #define TOWNS 8
-#define FAR 1000
+#define FAR 1000000
 
 shape [TOWNS][TOWNS]pairs;
 int:pairs length;
@@ -27,19 +27,27 @@ void build_roads()
         length = 4;
 }
 
+void show()
+{
+    int i, j;
+
+    for (i = 0; i < TOWNS; i++) {
+        for (j = 0; j < TOWNS; j++)
+            printf("%d\t", [i][j]length);
+        printf("\n");
+    }
+}
+
 main()
 {
-    int k, i, j;
+    int k;
 
     with (pairs) {
         build_roads();
         for (k = 0; k < TOWNS; k++)
             length <?= [.][k]length + [k][.]length;
-        for (i = 0; i < TOWNS; i++) {
-            for (j = 0; j < TOWNS; j++)
-                printf("%d\t", [i][j]length);
-            printf("\n");
-        }
+        if (TOWNS <= 16)
+            show();
         printf("the longest way: %d\n", >?= length);
     }
 }

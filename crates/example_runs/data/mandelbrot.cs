@@ -1,7 +1,8 @@
 /*
  * The Mandelbrot set in fixed point. Every point of the plane runs
  * z = z * z + c by itself, from 0, as long as z stays within the circle of
- * radius 2, and counts its rounds. Numbers are in 4096ths.
+ * radius 2, and counts its rounds. Numbers are in 4096ths. What comes out is
+ * letters, or a PGM file where PICTURE is 1.
  */
 #include <stdio.h>
 
@@ -10,6 +11,7 @@
 #define ONE 4096
 #define BITS 12
 #define ROUNDS 20
+#define PICTURE 0
 
 shape [ROWS][COLUMNS]plane;
 char:plane count;
@@ -17,8 +19,8 @@ char:plane count;
 void iterate()
 {
     int:plane x, y, next;
-    int:plane c_x = (pcoord(1) - 29) * ONE / 14;
-    int:plane c_y = (pcoord(0) - 7) * ONE / 6;
+    int:plane c_x = pcoord(1) * 3 * ONE / COLUMNS - 2 * ONE;
+    int:plane c_y = (2 * pcoord(0) + 1 - ROWS) * ONE * 6 / (5 * ROWS);
     int i;
 
     for (i = 0; i < ROUNDS; i++)
@@ -31,23 +33,37 @@ void iterate()
 }
 
 /* The longer a point stays, the darker. */
-int shade(int rounds)
+int letter(int rounds)
 {
     return rounds == ROUNDS ? '#' : rounds > 7 ? '+' : rounds > 4 ? ':' : rounds > 2 ? '.' : ' ';
 }
 
-main()
+int grey(int rounds)
+{
+    return 255 - rounds * 255 / ROUNDS;
+}
+
+void show()
 {
     int i, j;
 
+    if (PICTURE)
+        printf("P5\n%d %d\n255\n", COLUMNS, ROWS);
+    for (i = 0; i < ROWS; i++) {
+        for (j = 0; j < COLUMNS; j++)
+            printf("%c", PICTURE ? grey([i][j]count) : letter([i][j]count));
+        if (!PICTURE)
+            printf("|\n");
+    }
+}
+
+main()
+{
     with (plane) {
         iterate();
-        for (i = 0; i < ROWS; i++) {
-            for (j = 0; j < COLUMNS; j++)
-                printf("%c", shade([i][j]count));
-            printf("|\n");
-        }
+        show();
         where (count == ROUNDS)
-            printf("%d of %d points stay\n", += (int:plane)1, positionsof(plane));
+            if (!PICTURE)
+                printf("%d of %d points stay\n", += (int:plane)1, positionsof(plane));
     }
 }
