@@ -22,15 +22,15 @@ use Rattle.paris_code.specs.declared.operands.Reduction.TheVariants as F
 use Rattle.paris_code.specs.declared.operands.RegisterCoordinate.{RegisterCoordinate}
 use Rattle.paris_code.specs.declared.operands.SignedCoordinate.{SignedCoordinate}
 use Rattle.paris_code.specs.declared.program.Owner.TheVariants as W
-use Rattle.lower_comm.specs.declared.emit.Out.{Out}
-use Rattle.lower_comm.specs.declared.emit.Out.TheVariants as O
+use Rattle.lower_base.specs.declared.emit.Out.{Out}
+use Rattle.lower_base.specs.declared.emit.Out.TheVariants as O
 use Rattle.lower_comm.specs.declared.gets.Hop.{Hop}
 use Rattle.lower_comm.specs.declared.messages.Line.{Line}
 use Rattle.lower_comm.specs.declared.news.NewsStep.{NewsStep}
-use Rattle.lower_comm.specs.Drafts.{Draft, Made, Makes, Fails, then_make, from, with_instr, with_step, a_register, a_field, an_entry, fresh_for, in_register, in_field, ChecksGrid, ChecksTarget, MakesAddress, FrontChecksTarget, FrontMakesAddress}
-use Rattle.lower_comm.specs.Layouts.{Layout, field_of, first_named, layout_of}
+use Rattle.lower_base.specs.Drafts.{Draft, Made, Makes, Fails, then_make, from, with_instr, with_step, a_register, a_field, an_entry, fresh_for, in_register, in_field, ChecksGrid, ChecksTarget, MakesAddress, FrontChecksTarget, FrontMakesAddress}
+use Rattle.lower_base.specs.Layouts.{Layout, field_of, first_named, layout_of}
 use Rattle.lower_comm.specs.News.{step_of}
-use Rattle.lower_comm.specs.Operators.{operation_of, assign_op_of, fold_of, reduce_op_of, scan_fold_of, is_signed}
+use Rattle.lower_base.specs.Operators.{operation_of, assign_op_of, fold_of, reduce_op_of, scan_fold_of, is_signed}
 
 -- the register of a scalar index, and the coordinate of a parallel one
 unfoldable pub index_register : Out → ℕ

@@ -1,12 +1,12 @@
 //! The address of a left index: the check of its indexes, and the making of it.
 
 ghost use Rattle.std.specs.Prelude.{◌≡◌, ◌++◌, IfOk, OnOk, map};
-ghost use Rattle.lower_comm.specs.Drafts.{Makes, draft};
+ghost use Rattle.lower_base.specs.Drafts.{Makes, draft};
 ghost use Rattle.lower_comm.specs.Messages.{index_register, index_coordinate, signed_registers, signed_coordinates, front_located, each_located, located, checked_part, grid_steps, with_grid_check, checked_grid};
 
-use crate::emit::{Out, count, put};
+use lower_base::emit::{Out, count, put};
 use crate::news::{NewsStep, step_of};
-use crate::operators::promoted_signed;
+use lower_base::operators::promoted_signed;
 use cstar_base::{Memory, Place};
 use cstar_tree::typed::TExpr;
 use paris_code::{
@@ -50,7 +50,7 @@ pub fn locate_in(
 }
 
 /// The check of scalar indexes, and the address from them.
-#[tactic(auto, unfolding(crate::specs::Messages::front_located, crate::specs::Drafts::with_instr, crate::specs::Drafts::step))]
+#[tactic(auto, unfolding(crate::specs::Messages::front_located, lower_base::specs::Drafts::with_instr, lower_base::specs::Drafts::step))]
 fn front_locate(
     alloc: Global,
     place: Place,
@@ -82,7 +82,7 @@ fn front_locate(
 }
 
 /// The check of parallel indexes, and the address from them.
-#[tactic(auto, unfolding(crate::specs::Messages::each_located, crate::specs::Drafts::with_instr, crate::specs::Drafts::step))]
+#[tactic(auto, unfolding(crate::specs::Messages::each_located, lower_base::specs::Drafts::with_instr, lower_base::specs::Drafts::step))]
 fn each_locate(
     alloc: Global,
     place: Place,
@@ -217,7 +217,7 @@ pub fn check_grid(alloc: Global, e: &TExpr, u: &mut Unit) -> Result<Out, Memory>
 }
 
 /// The check of steps, where there are any.
-#[tactic(auto, unfolding(crate::specs::Messages::with_grid_check, crate::specs::Drafts::with_instr, crate::specs::Drafts::step))]
+#[tactic(auto, unfolding(crate::specs::Messages::with_grid_check, lower_base::specs::Drafts::with_instr, lower_base::specs::Drafts::step))]
 fn put_grid_check(set: u16, place: Place, steps: Vec<GridStep>, u: &mut Unit) -> Result<(), Memory>
     ensures draft { OnOk result (with_grid_check set place steps.items (draft u.old) ≡ draft u.new) }
 {

@@ -1,13 +1,13 @@
 //! The calls on a unit as `lower` has it when it comes to a communication.
 
 ghost use Rattle.std.specs.Prelude.{◌≡◌, IfOk};
-ghost use Rattle.lower_comm.specs.Drafts.{Makes, draft};
+ghost use Rattle.lower_base.specs.Drafts.{Makes, draft};
 ghost use Rattle.lower_comm.specs.Messages.{reached, communicated_by};
 ghost use Rattle.lower_comm.specs.News.{goes_by_news};
 
-use crate::emit::{Out, fresh};
+use lower_base::emit::{Out, fresh};
 use crate::messages::{check_grid, comm_in, goes_by_news, locate_in};
-use crate::names::{Names, named};
+use lower_base::names::{Names, named};
 use cstar_base::Memory;
 use cstar_tree::typed::{TExpr, Typed};
 use paris_code::Unit;
@@ -28,7 +28,7 @@ pub fn by_news(_t: &Typed, e: &TExpr) -> bool
 ///
 /// `Memory` comes where memory ends, where a number of a register, a field or an axis would be 2^32
 /// or more, and where `e` with these indexes is not what typing makes.
-#[tactic(auto, unfolding(crate::specs::Messages::reached, crate::specs::Drafts::then_make))]
+#[tactic(auto, unfolding(crate::specs::Messages::reached, lower_base::specs::Drafts::then_make))]
 pub fn locate(
     alloc: Global,
     _t: &Typed,
@@ -58,7 +58,7 @@ pub fn locate(
 /// `at` is `Nothing` for all but the first two, and for a read that goes by NEWS. `Memory` comes
 /// where memory ends, where a number of a register, a field or an axis would be 2^32 or more, where
 /// no instance has the unit's name, and where `e` with these parts is not what typing makes.
-#[tactic(auto, unfolding(crate::specs::Messages::communicated_by, crate::specs::Drafts::from))]
+#[tactic(auto, unfolding(crate::specs::Messages::communicated_by, lower_base::specs::Drafts::from))]
 pub fn comm(
     alloc: Global,
     t: &Typed,

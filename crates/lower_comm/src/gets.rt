@@ -1,17 +1,17 @@
 //! Reads through a left index.
 
 ghost use Rattle.std.specs.Prelude.{◌≡◌, IfOk};
-ghost use Rattle.lower_comm.specs.Drafts.{Makes, draft};
+ghost use Rattle.lower_base.specs.Drafts.{Makes, draft};
 ghost use Rattle.lower_comm.specs.Messages.{along, stepwise, gotten_by_steps, read_at};
 
-use crate::emit::{Out, count, entry, put};
+use lower_base::emit::{Out, count, entry, put};
 use crate::news::{NewsStep, step_of};
 use cstar_base::{Elem, Memory};
 use cstar_tree::typed::TExpr;
 use paris_code::{Field, Instr, Konst, Owner, Unit};
 
 /// A read through a left index: of one element, by the router, or by NEWS.
-#[tactic(auto, unfolding(crate::specs::Messages::read_at, crate::specs::Drafts::in_register, crate::specs::Drafts::in_field, crate::specs::Drafts::then_make))]
+#[tactic(auto, unfolding(crate::specs::Messages::read_at, lower_base::specs::Drafts::in_register, lower_base::specs::Drafts::in_field, lower_base::specs::Drafts::then_make))]
 pub fn read(
     of: u16,
     indexes: &[TExpr],
@@ -74,7 +74,7 @@ pub struct Hop {
 }
 
 /// A get by NEWS: one step along each axis, the values in between at every processor.
-#[tactic(auto, unfolding(crate::specs::Messages::gotten_by_steps, crate::specs::Drafts::then_make))]
+#[tactic(auto, unfolding(crate::specs::Messages::gotten_by_steps, lower_base::specs::Drafts::then_make))]
 fn by_steps(
     of: u16,
     indexes: &[TExpr],
@@ -105,7 +105,7 @@ fn by_steps(
 }
 
 /// The steps along all axes. Answers the field where the values are then.
-#[tactic(auto, unfolding(crate::specs::Messages::stepwise, crate::specs::Drafts::then_make))]
+#[tactic(auto, unfolding(crate::specs::Messages::stepwise, lower_base::specs::Drafts::then_make))]
 fn stepwise(of: u16, indexes: &[TExpr], start: Hop, u: &mut Unit) -> Result<Field, Memory>
     ensures draft { IfOk result (λ f. stepwise of 0 indexes.now start (draft u.old) ≡ Makes f (draft u.new)) }
 {

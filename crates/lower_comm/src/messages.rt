@@ -1,18 +1,18 @@
 //! The code of one communication, over parts that stand in registers and fields already.
 
 ghost use Rattle.std.specs.Prelude.{◌≡◌, IfOk, OnOk, Some, slice_get};
-ghost use Rattle.lower_comm.specs.declared.emit.Out.TheVariants as O;
-ghost use Rattle.lower_comm.specs.Drafts.{Makes, draft};
-ghost use Rattle.lower_comm.specs.Layouts.{layout};
+ghost use Rattle.lower_base.specs.declared.emit.Out.TheVariants as O;
+ghost use Rattle.lower_base.specs.Drafts.{Makes, draft};
+ghost use Rattle.lower_base.specs.Layouts.{layout};
 ghost use Rattle.lower_comm.specs.Messages.{folded_onto, negated_by, reduced, indexed, indexed_field, stored, sent_value, sent_to, sent, assigned, scanned, segment_field, enumerated, communicated};
 ghost use Rattle.lower_comm.specs.News.{goes_by_news};
 
 pub use crate::addresses::{check_grid, locate_in};
-use crate::emit::{Out, entry, field, put, register};
+use lower_base::emit::{Out, entry, field, put, register};
 use crate::gets::read;
-use crate::names::Names;
+use lower_base::names::Names;
 use crate::news::all_go_by_news;
-use crate::operators::{assign_op, fold_of, operation, promoted_signed, reduce_op, scan_fold};
+use lower_base::operators::{assign_op, fold_of, operation, promoted_signed, reduce_op, scan_fold};
 use cstar_base::{Direction, Elem, Inclusion, Memory, Op, SegmentMode};
 use cstar_tree::syntax::ReduceOp;
 use cstar_tree::typed::{TExpr, Typed, Variable};
@@ -39,7 +39,7 @@ pub fn goes_by_news(e: &TExpr) -> bool
 }
 
 /// The code of one communication.
-#[tactic(auto, unfolding(crate::specs::Messages::communicated, crate::specs::Messages::part_register, crate::specs::Messages::part_field, crate::specs::Drafts::from, crate::specs::Drafts::in_register, crate::specs::Drafts::in_field, crate::specs::Drafts::then_make))]
+#[tactic(auto, unfolding(crate::specs::Messages::communicated, crate::specs::Messages::part_register, crate::specs::Messages::part_field, lower_base::specs::Drafts::from, lower_base::specs::Drafts::in_register, lower_base::specs::Drafts::in_field, lower_base::specs::Drafts::then_make))]
 pub fn comm_in(
     t: &Typed,
     names: &Names,
@@ -82,7 +82,7 @@ pub fn comm_in(
 }
 
 /// The code of a scan or of an enumeration.
-#[tactic(auto, unfolding(crate::specs::Messages::communicated, crate::specs::Messages::part_field, crate::specs::Drafts::from, crate::specs::Drafts::in_field, crate::specs::Drafts::then_make))]
+#[tactic(auto, unfolding(crate::specs::Messages::communicated, crate::specs::Messages::part_field, lower_base::specs::Drafts::from, lower_base::specs::Drafts::in_field, lower_base::specs::Drafts::then_make))]
 fn along_axis(
     t: &Typed,
     names: &Names,
@@ -178,7 +178,7 @@ fn part_field(parts: &[Out], number: usize) -> Result<Field, Memory>
 }
 
 /// `s op= p`: the fold of the elements, and then the operator on the old value and it.
-#[tactic(auto, unfolding(crate::specs::Messages::folded_onto, crate::specs::Messages::part_register, crate::specs::Messages::part_field, crate::specs::Drafts::from, crate::specs::Drafts::in_register, crate::specs::Drafts::in_field, crate::specs::Drafts::then_make))]
+#[tactic(auto, unfolding(crate::specs::Messages::folded_onto, crate::specs::Messages::part_register, crate::specs::Messages::part_field, lower_base::specs::Drafts::from, lower_base::specs::Drafts::in_register, lower_base::specs::Drafts::in_field, lower_base::specs::Drafts::then_make))]
 fn fold_onto(
     op: Option<Op>,
     signed: bool,
@@ -223,7 +223,7 @@ fn fold_onto(
 }
 
 /// A unary reduction. With `-=` it is the negative of the sum.
-#[tactic(auto, unfolding(crate::specs::Messages::reduced, crate::specs::Messages::part_register, crate::specs::Messages::part_field, crate::specs::Drafts::from, crate::specs::Drafts::in_register, crate::specs::Drafts::in_field, crate::specs::Drafts::then_make))]
+#[tactic(auto, unfolding(crate::specs::Messages::reduced, crate::specs::Messages::part_register, crate::specs::Messages::part_field, lower_base::specs::Drafts::from, lower_base::specs::Drafts::in_register, lower_base::specs::Drafts::in_field, lower_base::specs::Drafts::then_make))]
 fn reduce(op: ReduceOp, elem: Elem, parts: &[Out], into: Out, u: &mut Unit) -> Result<Out, Memory>
     ensures draft { IfOk result (λ out. reduced op elem parts.now into (draft u.old) ≡ Makes out (draft u.new)) }
 {
@@ -265,7 +265,7 @@ fn indexed(e: &TExpr) -> Option<Variable>
 }
 
 /// The field of the variable of a left index.
-#[tactic(auto, unfolding(crate::specs::Messages::indexed_field, crate::specs::Drafts::from))]
+#[tactic(auto, unfolding(crate::specs::Messages::indexed_field, lower_base::specs::Drafts::from))]
 fn indexed_field(t: &Typed, names: &Names, e: &TExpr, u: &mut Unit) -> Result<Field, Memory>
     ensures draft { IfOk result (λ f. indexed_field t.now (layout names.now) e.now (draft u.old) ≡ Makes f (draft u.new)) }
 {
@@ -276,7 +276,7 @@ fn indexed_field(t: &Typed, names: &Names, e: &TExpr, u: &mut Unit) -> Result<Fi
 }
 
 /// A store to one element.
-#[tactic(auto, unfolding(crate::specs::Messages::stored, crate::specs::Messages::part_register, crate::specs::Messages::part_field, crate::specs::Drafts::from, crate::specs::Drafts::in_register, crate::specs::Drafts::in_field, crate::specs::Drafts::then_make))]
+#[tactic(auto, unfolding(crate::specs::Messages::stored, crate::specs::Messages::part_register, crate::specs::Messages::part_field, lower_base::specs::Drafts::from, lower_base::specs::Drafts::in_register, lower_base::specs::Drafts::in_field, lower_base::specs::Drafts::then_make))]
 fn store(
     t: &Typed,
     names: &Names,
@@ -301,7 +301,7 @@ fn store(
 }
 
 /// A send through a left index.
-#[tactic(auto, unfolding(crate::specs::Messages::sent, crate::specs::Messages::part_register, crate::specs::Messages::part_field, crate::specs::Drafts::from, crate::specs::Drafts::in_register, crate::specs::Drafts::in_field, crate::specs::Drafts::then_make))]
+#[tactic(auto, unfolding(crate::specs::Messages::sent, crate::specs::Messages::part_register, crate::specs::Messages::part_field, lower_base::specs::Drafts::from, lower_base::specs::Drafts::in_register, lower_base::specs::Drafts::in_field, lower_base::specs::Drafts::then_make))]
 fn send(
     t: &Typed,
     names: &Names,
@@ -320,7 +320,7 @@ fn send(
 }
 
 /// A send to a field: without a combiner of a value of the field's width, else of 32 bits.
-#[tactic(auto, unfolding(crate::specs::Messages::sent_to, crate::specs::Drafts::then_make))]
+#[tactic(auto, unfolding(crate::specs::Messages::sent_to, lower_base::specs::Drafts::then_make))]
 fn send_to(
     op: Option<Op>,
     signed: bool,
@@ -368,7 +368,7 @@ fn send_to(
 }
 
 /// What is sent with a combiner. What is to be subtracted is added as its negative.
-#[tactic(auto, unfolding(crate::specs::Messages::sent_value, crate::specs::Drafts::then_make))]
+#[tactic(auto, unfolding(crate::specs::Messages::sent_value, lower_base::specs::Drafts::then_make))]
 fn sent_value(op: Op, value: Field, u: &mut Unit) -> Result<Field, Memory>
     ensures draft { IfOk result (λ f. sent_value op value (draft u.old) ≡ Makes f (draft u.new)) }
 {
@@ -398,7 +398,7 @@ struct Line {
 }
 
 /// An enumeration: a scan of ones.
-#[tactic(auto, unfolding(crate::specs::Messages::enumerated, crate::specs::Drafts::in_field, crate::specs::Drafts::then_make))]
+#[tactic(auto, unfolding(crate::specs::Messages::enumerated, lower_base::specs::Drafts::in_field, lower_base::specs::Drafts::then_make))]
 fn enumerate(
     t: &Typed,
     names: &Names,
@@ -423,7 +423,7 @@ fn enumerate(
 }
 
 /// A scan along its lines.
-#[tactic(auto, unfolding(crate::specs::Messages::scanned, crate::specs::Drafts::in_field))]
+#[tactic(auto, unfolding(crate::specs::Messages::scanned, lower_base::specs::Drafts::in_field))]
 fn scan(
     combiner: Reduction,
     source: Field,
@@ -452,7 +452,7 @@ fn scan(
 }
 
 /// The field of a scan's segment bits.
-#[tactic(auto, unfolding(crate::specs::Messages::segment_field, crate::specs::Drafts::then_make))]
+#[tactic(auto, unfolding(crate::specs::Messages::segment_field, lower_base::specs::Drafts::then_make))]
 fn segment_field(
     t: &Typed,
     names: &Names,

@@ -2,7 +2,7 @@
 use Rattle.std.proofs.Common.{◌≡◌, ℕ, List, [], ◌∷◌, ◌++◌, length, refl, sym, ap, ◌∙◌}
 use Rattle.cstar_base.specs.declared.elem.Elem.{Elem}
 use Rattle.paris_code.specs.declared.instr.Instr.TheVariants as I
-use Rattle.lower_comm.specs.Drafts.{Draft, with_instr}
+use Rattle.lower_base.specs.Drafts.{Draft, with_instr}
 use Rattle.lower_expr.specs.Values.{casts_put}
 
 innermost_first : (xs : List Elem) (kind : Elem) (r : ℕ) (d : Draft) →

@@ -3,10 +3,10 @@ use Rattle.std.proofs.Common.{◌≡◌, ℕ, suc, ◌+◌, Bool, refl}
 use Rattle.cstar_tree.specs.declared.typed.Typed.{Typed}
 use Rattle.cstar_tree.specs.declared.typed.Variable.{Variable}
 use Rattle.paris_code.specs.declared.operands.Field.{Field}
-use Rattle.lower_comm.specs.declared.emit.Out.{Out}
-use Rattle.lower_comm.specs.declared.emit.Out.TheVariants as O
-use Rattle.lower_comm.specs.Drafts.{Draft, Makes, then_make}
-use Rattle.lower_comm.specs.Layouts.{Layout}
+use Rattle.lower_base.specs.declared.emit.Out.{Out}
+use Rattle.lower_base.specs.declared.emit.Out.TheVariants as O
+use Rattle.lower_base.specs.Drafts.{Draft, Makes, then_make}
+use Rattle.lower_base.specs.Layouts.{Layout}
 use Rattle.lower_expr.specs.Spots.{skips_unless, field_loaded, elements_loaded, field_stored, elements_stored}
 
 pub one_loaded : (t : Typed) (l : Layout) (signed : Bool) (array : Variable) (index : ℕ) (dest : Field) (more left element r : ℕ) (d between after : Draft) →

@@ -10,9 +10,9 @@ use Rattle.cstar_tree.specs.declared.typed.Typed.{Typed}
 use Rattle.cstar_tree.specs.declared.typed.ValueType.{ValueType}
 use Rattle.cstar_tree.specs.declared.typed.Variable.{Variable}
 use Rattle.cstar_tree.specs.Typed.{type_of}
-use Rattle.lower_comm.specs.declared.emit.Out.{Out}
-use Rattle.lower_comm.specs.Drafts.{Draft, Made, Makes, Fails, then_make, fresh_for}
-use Rattle.lower_comm.specs.Layouts.{Layout}
+use Rattle.lower_base.specs.declared.emit.Out.{Out}
+use Rattle.lower_base.specs.Drafts.{Draft, Made, Makes, Fails, then_make, fresh_for}
+use Rattle.lower_base.specs.Layouts.{Layout}
 use Rattle.lower_comm.specs.Messages.{located}
 use Rattle.lower_comm.specs.News.{goes_by_news}
 use Rattle.lower_expr.specs.declared.spots.Spot.TheVariants as S

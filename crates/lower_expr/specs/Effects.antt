@@ -12,13 +12,13 @@ use Rattle.cstar_tree.specs.Typed.{type_of}
 use Rattle.paris_code.specs.declared.instr.Instr.TheVariants as I
 use Rattle.paris_code.specs.declared.operands.Field.{Field}
 use Rattle.paris_code.specs.declared.operands.Konst.TheVariants as K
-use Rattle.lower_comm.specs.declared.emit.Out.{Out}
-use Rattle.lower_comm.specs.declared.emit.Out.TheVariants as O
-use Rattle.lower_comm.specs.declared.operators.Machine.{Machine}
-use Rattle.lower_comm.specs.declared.operators.Machine.TheVariants as M
-use Rattle.lower_comm.specs.Drafts.{Draft, Made, Makes, Fails, then_make, with_instr, a_register, a_field, in_register, in_field}
-use Rattle.lower_comm.specs.Layouts.{Layout, field_of}
-use Rattle.lower_comm.specs.Operators.{assign_op_of, is_signed, machine_of}
+use Rattle.lower_base.specs.declared.emit.Out.{Out}
+use Rattle.lower_base.specs.declared.emit.Out.TheVariants as O
+use Rattle.lower_base.specs.declared.operators.Machine.{Machine}
+use Rattle.lower_base.specs.declared.operators.Machine.TheVariants as M
+use Rattle.lower_base.specs.Drafts.{Draft, Made, Makes, Fails, then_make, with_instr, a_register, a_field, in_register, in_field}
+use Rattle.lower_base.specs.Layouts.{Layout, field_of}
+use Rattle.lower_base.specs.Operators.{assign_op_of, is_signed, machine_of}
 use Rattle.lower_expr.specs.declared.operands.Own.{Own}
 use Rattle.lower_expr.specs.declared.steps.Right.{Right}
 use Rattle.lower_expr.specs.declared.steps.Right.TheVariants as R

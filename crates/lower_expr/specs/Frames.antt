@@ -6,10 +6,10 @@ use Rattle.cstar_tree.specs.declared.typed.VarInfo.{VarInfo}
 use Rattle.paris_code.specs.declared.instr.Instr.TheVariants as I
 use Rattle.paris_code.specs.declared.operands.Field.{Field}
 use Rattle.paris_code.specs.declared.program.Owner.TheVariants as W
-use Rattle.lower_comm.specs.declared.emit.Out.{Out}
-use Rattle.lower_comm.specs.declared.emit.Out.TheVariants as O
-use Rattle.lower_comm.specs.Drafts.{Draft, Made, Makes, then_make, from, with_instr, an_entry, in_register, in_field}
-use Rattle.lower_comm.specs.Layouts.{Layout}
+use Rattle.lower_base.specs.declared.emit.Out.{Out}
+use Rattle.lower_base.specs.declared.emit.Out.TheVariants as O
+use Rattle.lower_base.specs.Drafts.{Draft, Made, Makes, then_make, from, with_instr, an_entry, in_register, in_field}
+use Rattle.lower_base.specs.Layouts.{Layout}
 use Rattle.lower_expr.specs.Steps.{put_value, put_in_field}
 
 -- a turn, and the call

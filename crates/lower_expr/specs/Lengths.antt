@@ -17,9 +17,9 @@ use Rattle.cstar_tree.specs.declared.typed.UnaryOp.TheVariants as Un
 use Rattle.cstar_tree.specs.declared.typed.VarInfo.{VarInfo}
 use Rattle.cstar_tree.specs.Typed.{type_of}
 use Rattle.lower_comm.specs.declared.news.NewsStep.{NewsStep}
-use Rattle.lower_comm.specs.Layouts.{Layout, elements_of}
+use Rattle.lower_base.specs.Layouts.{Layout, elements_of}
 use Rattle.lower_comm.specs.News.{step_of, goes_by_news}
-use Rattle.lower_comm.specs.Operators.{assign_op_of}
+use Rattle.lower_base.specs.Operators.{assign_op_of}
 use Rattle.lower_expr.specs.Operands.{is_plus, is_quiet, are_quiet, operand_length}
 use Rattle.lower_expr.specs.Steps.{is_kept, word_of, relates, word_taken}
 

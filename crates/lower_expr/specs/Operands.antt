@@ -5,10 +5,10 @@ use Rattle.cstar_tree.specs.declared.typed.TExpr as T
 use Rattle.cstar_tree.specs.declared.typed.Typed.{Typed}
 use Rattle.cstar_tree.specs.declared.typed.UnaryOp.{UnaryOp}
 use Rattle.cstar_tree.specs.declared.typed.UnaryOp.TheVariants as Un
-use Rattle.lower_comm.specs.declared.emit.Out.{Out}
-use Rattle.lower_comm.specs.declared.emit.Out.TheVariants as O
-use Rattle.lower_comm.specs.Drafts.{Draft, Made, Makes, then_make}
-use Rattle.lower_comm.specs.Layouts.{Layout, register_of, field_of}
+use Rattle.lower_base.specs.declared.emit.Out.{Out}
+use Rattle.lower_base.specs.declared.emit.Out.TheVariants as O
+use Rattle.lower_base.specs.Drafts.{Draft, Made, Makes, then_make}
+use Rattle.lower_base.specs.Layouts.{Layout, register_of, field_of}
 use Rattle.lower_expr.specs.declared.operands.Own.{Own}
 
 -- does the expression leave all variables, the turns, the input and the output as they are: it has

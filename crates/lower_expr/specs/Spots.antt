@@ -11,10 +11,10 @@ use Rattle.paris_code.specs.declared.instr.Instr.TheVariants as I
 use Rattle.paris_code.specs.declared.operands.Compare.TheVariants as C
 use Rattle.paris_code.specs.declared.operands.Field.{Field}
 use Rattle.paris_code.specs.declared.operands.RegisterCoordinate.{RegisterCoordinate}
-use Rattle.lower_comm.specs.declared.emit.Out.{Out}
-use Rattle.lower_comm.specs.declared.emit.Out.TheVariants as O
-use Rattle.lower_comm.specs.Drafts.{Draft, Made, Makes, FrontChecksTarget, then_make, from, here, with_step, with_instr, a_register, in_register, in_field}
-use Rattle.lower_comm.specs.Layouts.{Layout, elements_of, register_of, field_of}
+use Rattle.lower_base.specs.declared.emit.Out.{Out}
+use Rattle.lower_base.specs.declared.emit.Out.TheVariants as O
+use Rattle.lower_base.specs.Drafts.{Draft, Made, Makes, FrontChecksTarget, then_make, from, here, with_step, with_instr, a_register, in_register, in_field}
+use Rattle.lower_base.specs.Layouts.{Layout, elements_of, register_of, field_of}
 use Rattle.lower_comm.specs.Messages.{communicated}
 use Rattle.lower_expr.specs.declared.spots.Spot.{Spot}
 use Rattle.lower_expr.specs.declared.spots.Spot.TheVariants as S

@@ -22,12 +22,12 @@ use Rattle.paris_code.specs.declared.operands.Operation.{Operation}
 use Rattle.paris_code.specs.declared.operands.Operation.TheVariants as Act
 use Rattle.source_meaning.specs.Constants.{constant_of, then_value}
 use Rattle.source_meaning.specs.Reductions.{int_type}
-use Rattle.lower_comm.specs.declared.emit.Out.{Out}
-use Rattle.lower_comm.specs.declared.emit.Out.TheVariants as O
-use Rattle.lower_comm.specs.declared.operators.Machine.{Machine}
-use Rattle.lower_comm.specs.declared.operators.Machine.TheVariants as M
-use Rattle.lower_comm.specs.Drafts.{Draft, Made, Makes, Fails, then_make, with_instr, a_register, a_flag, in_register, in_field}
-use Rattle.lower_comm.specs.Operators.{machine_of, is_signed}
+use Rattle.lower_base.specs.declared.emit.Out.{Out}
+use Rattle.lower_base.specs.declared.emit.Out.TheVariants as O
+use Rattle.lower_base.specs.declared.operators.Machine.{Machine}
+use Rattle.lower_base.specs.declared.operators.Machine.TheVariants as M
+use Rattle.lower_base.specs.Drafts.{Draft, Made, Makes, Fails, then_make, with_instr, a_register, a_flag, in_register, in_field}
+use Rattle.lower_base.specs.Operators.{machine_of, is_signed}
 use Rattle.lower_expr.specs.declared.steps.Right.{Right}
 use Rattle.lower_expr.specs.declared.steps.Right.TheVariants as R
 

@@ -23,13 +23,13 @@ use Rattle.paris_code.specs.declared.operands.Field.{Field}
 use Rattle.paris_code.specs.declared.operands.Konst.TheVariants as K
 use Rattle.paris_code.specs.declared.operands.Operation.{Operation}
 use Rattle.paris_code.specs.declared.operands.Operation.TheVariants as Act
-use Rattle.lower_comm.specs.declared.emit.Out.{Out}
-use Rattle.lower_comm.specs.declared.emit.Out.TheVariants as O
-use Rattle.lower_comm.specs.Drafts.{Draft, Made, Makes, Fails, then_make, from, here, with_instr, a_register, a_field, a_flag, fresh_for, in_register, in_field}
-use Rattle.lower_comm.specs.Layouts.{Layout, first_named, layout_of}
+use Rattle.lower_base.specs.declared.emit.Out.{Out}
+use Rattle.lower_base.specs.declared.emit.Out.TheVariants as O
+use Rattle.lower_base.specs.Drafts.{Draft, Made, Makes, Fails, then_make, from, here, with_instr, a_register, a_field, a_flag, fresh_for, in_register, in_field}
+use Rattle.lower_base.specs.Layouts.{Layout, first_named, layout_of}
 use Rattle.lower_comm.specs.Messages.{located, checked_grid, communicated}
 use Rattle.lower_comm.specs.News.{goes_by_news}
-use Rattle.lower_comm.specs.Operators.{assign_op_of, is_signed}
+use Rattle.lower_base.specs.Operators.{assign_op_of, is_signed}
 use Rattle.lower_expr.specs.declared.spots.Spot.{Spot}
 use Rattle.lower_expr.specs.declared.spots.Spot.TheVariants as S
 use Rattle.lower_expr.specs.declared.steps.Right.{Right}

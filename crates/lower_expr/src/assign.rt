@@ -1,8 +1,8 @@
 //! What an assignment or a step does once its target is located and its value is there.
 
 ghost use Rattle.std.specs.Prelude.{◌≡◌, IfOk, OnOk};
-ghost use Rattle.lower_comm.specs.Drafts.{Makes, draft};
-ghost use Rattle.lower_comm.specs.Layouts.{layout};
+ghost use Rattle.lower_base.specs.Drafts.{Makes, draft};
+ghost use Rattle.lower_base.specs.Layouts.{layout};
 ghost use Rattle.lower_expr.specs.Lengths.{is_send};
 ghost use Rattle.lower_expr.specs.Values.{field_updated, register_updated, register_folded, step_operation, stepped_once, stepped_at, stepped_in};
 
@@ -11,14 +11,14 @@ use crate::steps::{Right, convert, operate, operate_right};
 use cstar_base::{Memory, Op, Place};
 use cstar_tree::syntax::StepOp;
 use cstar_tree::typed::{StepOrder, TExpr, Typed};
-use lower_comm::Out;
-use lower_comm::emit::{put, register};
+use lower_base::Out;
+use lower_base::emit::{put, register};
 use lower_comm::messages::comm_in;
-use lower_comm::names::Names;
+use lower_base::names::Names;
 use paris_code::{Field, Instr, Konst, Unit};
 
 /// A located parallel target takes the result of the operator on its old value and the new one.
-#[tactic(auto, unfolding(crate::specs::Values::field_updated, lower_comm::specs::Drafts::then_make))]
+#[tactic(auto, unfolding(crate::specs::Values::field_updated, lower_base::specs::Drafts::then_make))]
 pub fn update_field(
     t: &Typed,
     names: &Names,
@@ -43,7 +43,7 @@ pub fn update_field(
 }
 
 /// A located scalar target takes the result of the operator on its old value and a scalar one.
-#[tactic(auto, unfolding(crate::specs::Values::register_updated, lower_comm::specs::Drafts::then_make, lower_comm::specs::Drafts::in_register))]
+#[tactic(auto, unfolding(crate::specs::Values::register_updated, lower_base::specs::Drafts::then_make, lower_base::specs::Drafts::in_register))]
 pub fn update_register(
     t: &Typed,
     names: &Names,
@@ -68,7 +68,7 @@ pub fn update_register(
 
 /// A located scalar target takes the result of the operator on its old value and the elements of a
 /// parallel one.
-#[tactic(auto, unfolding(crate::specs::Values::register_folded, lower_comm::specs::Drafts::then_make))]
+#[tactic(auto, unfolding(crate::specs::Values::register_folded, lower_base::specs::Drafts::then_make))]
 pub fn fold_into_register(
     t: &Typed,
     names: &Names,
@@ -102,7 +102,7 @@ pub fn is_send(target: &TExpr) -> bool
 
 /// `++` or `--` of a located target: the value before it, and the value behind it in a second
 /// register or field.
-#[tactic(auto, unfolding(crate::specs::Values::stepped_in, lower_comm::specs::Drafts::then_make))]
+#[tactic(auto, unfolding(crate::specs::Values::stepped_in, lower_base::specs::Drafts::then_make))]
 pub fn step_in(
     t: &Typed,
     names: &Names,
@@ -130,7 +130,7 @@ pub fn step_in(
 }
 
 /// The step itself, from the old value to the new one.
-#[tactic(auto, unfolding(crate::specs::Values::stepped_at, lower_comm::specs::Drafts::then_make))]
+#[tactic(auto, unfolding(crate::specs::Values::stepped_at, lower_base::specs::Drafts::then_make))]
 fn step_at(
     t: &Typed,
     names: &Names,
@@ -152,7 +152,7 @@ fn step_at(
 }
 
 /// One more or one less.
-#[tactic(auto, unfolding(crate::specs::Values::stepped_once, lower_comm::specs::Drafts::in_register, lower_comm::specs::Drafts::in_field))]
+#[tactic(auto, unfolding(crate::specs::Values::stepped_once, lower_base::specs::Drafts::in_register, lower_base::specs::Drafts::in_field))]
 fn step_once(op: StepOp, before: Out, behind: Out, u: &mut Unit) -> Result<(), Memory>
     ensures draft { OnOk result (stepped_once op before behind (draft u.old) ≡ Makes behind (draft u.new)) }
 {

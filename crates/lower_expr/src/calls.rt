@@ -1,14 +1,14 @@
 //! The call on a unit as `lower` has it when it comes to an expression.
 
 ghost use Rattle.std.specs.Prelude.{◌≡◌, IfOk};
-ghost use Rattle.lower_comm.specs.Drafts.{Makes, draft};
+ghost use Rattle.lower_base.specs.Drafts.{Makes, draft};
 ghost use Rattle.lower_expr.specs.Values.{expression_of};
 
 use crate::value::{spread, value};
 use cstar_base::Memory;
 use cstar_tree::typed::{TExpr, Typed};
-use lower_comm::Out;
-use lower_comm::names::{Names, named};
+use lower_base::Out;
+use lower_base::names::{Names, named};
 use paris_code::Unit;
 use std::alloc::Global;
 
@@ -19,7 +19,7 @@ use std::alloc::Global;
 /// `Memory` comes where memory ends, where a count, the place that a jump leads to, or the number of
 /// a register or a field would be 2^32 or more, where no instance has the unit's name, and where the
 /// tree is not what typing makes.
-#[tactic(auto, unfolding(crate::specs::Values::expression_of, lower_comm::specs::Drafts::from))]
+#[tactic(auto, unfolding(crate::specs::Values::expression_of, lower_base::specs::Drafts::from))]
 pub fn expr(alloc: Global, t: &Typed, e: &TExpr, u: &mut Unit) -> Result<Out, Memory>
     ensures draft { IfOk result (λ out. expression_of t.now u.old.name e.now (draft u.old) ≡ Makes out (draft u.new)) }
 {

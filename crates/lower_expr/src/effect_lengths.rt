@@ -2,7 +2,7 @@
 //! context is narrowed, or is not used.
 
 ghost use Rattle.std.specs.Prelude.{◌≡◌, true, IfOk};
-ghost use Rattle.lower_comm.specs.Layouts.{layout};
+ghost use Rattle.lower_base.specs.Layouts.{layout};
 ghost use Rattle.lower_expr.specs.Effects.{compared_length, computed_length, effect_length_of, has_word, next_length, operated_length, put_length, settled_length, tested_length, written_length};
 
 use crate::effects::written;
@@ -11,9 +11,9 @@ use crate::operands::{is_plus, is_quiet};
 use crate::steps::{constant_word, immediate, is_relation, register_word, stays_scalar};
 use cstar_base::{Elem, Memory, Op};
 use cstar_tree::typed::{TExpr, Typed};
-use lower_comm::emit::plus;
-use lower_comm::names::Names;
-use lower_comm::operators::assign_op;
+use lower_base::emit::plus;
+use lower_base::names::Names;
+use lower_base::operators::assign_op;
 
 /// The instructions of an expression whose value is not used: what `effect` appends.
 #[tactic(auto, unfolding(crate::specs::Effects::effect_length_of, crate::specs::Effects::written_by))]

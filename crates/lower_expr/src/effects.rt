@@ -2,9 +2,9 @@
 //! is not used. The last instruction of a value writes the variable itself.
 
 ghost use Rattle.std.specs.Prelude.{◌≡◌, true, IfOk, OnOk};
-ghost use Rattle.lower_comm.specs.Drafts.{Makes, draft};
-ghost use Rattle.lower_comm.specs.Layouts.{layout};
-ghost use Rattle.lower_comm.specs.Operators.{machine_of};
+ghost use Rattle.lower_base.specs.Drafts.{Makes, draft};
+ghost use Rattle.lower_base.specs.Layouts.{layout};
+ghost use Rattle.lower_base.specs.Operators.{machine_of};
 ghost use Rattle.lower_expr.specs.Effects.{binary_to, compared, computed_to, converted_to, effect_of, field_operated, folds, moved, next_operand, put_to, register_converted, register_operated, relation_tested, tested, value_tested, variable_operated, variable_stepped, variable_written, with_settled, word_for, word_put, written_by, written_register};
 ghost use Rattle.lower_expr.specs.Operands.{operand_by};
 ghost use Rattle.lower_expr.specs.Values.{step_operation, value_of};
@@ -19,15 +19,15 @@ use crate::value::{binary_in_field, binary_in_register, operand, right_operand, 
 use cstar_base::{Elem, Memory, Op, Place};
 use cstar_tree::syntax::StepOp;
 use cstar_tree::typed::{TExpr, Typed};
-use lower_comm::Out;
-use lower_comm::emit::{field, put, register};
-use lower_comm::names::Names;
-use lower_comm::operators::{Machine, assign_op, machine_op, promoted_signed};
+use lower_base::Out;
+use lower_base::emit::{field, put, register};
+use lower_base::names::Names;
+use lower_base::operators::{Machine, assign_op, machine_op, promoted_signed};
 use paris_code::{Field, Instr, Konst, Unit};
 use std::alloc::Global;
 
 /// An expression whose value is not used.
-#[tactic(auto, unfolding(crate::specs::Effects::effect_of, crate::specs::Effects::written_by, lower_comm::specs::Drafts::then_make))]
+#[tactic(auto, unfolding(crate::specs::Effects::effect_of, crate::specs::Effects::written_by, lower_base::specs::Drafts::then_make))]
 pub fn effect(
     alloc: Global,
     t: &Typed,
@@ -74,7 +74,7 @@ fn folds(own: Own, value: &TExpr) -> bool
 }
 
 /// An assignment or a step that writes its variable itself.
-#[tactic(auto, unfolding(crate::specs::Effects::variable_written, lower_comm::specs::Drafts::then_make))]
+#[tactic(auto, unfolding(crate::specs::Effects::variable_written, lower_base::specs::Drafts::then_make))]
 fn write_variable(
     alloc: Global,
     t: &Typed,
@@ -147,7 +147,7 @@ fn put_word(dest: Out, word: u32, u: &mut Unit) -> Result<Out, Memory>
 }
 
 /// A value that is no constant becomes that of a register or a field.
-#[tactic(auto, unfolding(crate::specs::Effects::computed_to, crate::specs::Effects::next_operand, lower_comm::specs::Drafts::then_make, lower_comm::specs::Drafts::in_field))]
+#[tactic(auto, unfolding(crate::specs::Effects::computed_to, crate::specs::Effects::next_operand, lower_base::specs::Drafts::then_make, lower_base::specs::Drafts::in_field))]
 fn compute_to(
     alloc: Global,
     t: &Typed,
@@ -195,7 +195,7 @@ fn compute_to(
 }
 
 /// A value moved to a register or a field.
-#[tactic(auto, unfolding(crate::specs::Effects::moved, crate::specs::Effects::next_operand, lower_comm::specs::Drafts::then_make))]
+#[tactic(auto, unfolding(crate::specs::Effects::moved, crate::specs::Effects::next_operand, lower_base::specs::Drafts::then_make))]
 pub fn move_to(
     alloc: Global,
     t: &Typed,
@@ -233,7 +233,7 @@ fn convert_to(
 }
 
 /// A value converted into a register.
-#[tactic(auto, unfolding(crate::specs::Effects::register_converted, crate::specs::Effects::next_operand, lower_comm::specs::Drafts::then_make, lower_comm::specs::Drafts::in_register))]
+#[tactic(auto, unfolding(crate::specs::Effects::register_converted, crate::specs::Effects::next_operand, lower_base::specs::Drafts::then_make, lower_base::specs::Drafts::in_register))]
 fn convert_to_register(
     alloc: Global,
     t: &Typed,
@@ -251,7 +251,7 @@ fn convert_to_register(
 }
 
 /// A binary operator whose result goes to a register or a field.
-#[tactic(auto, unfolding(crate::specs::Effects::binary_to, lower_comm::specs::Drafts::then_make))]
+#[tactic(auto, unfolding(crate::specs::Effects::binary_to, lower_base::specs::Drafts::then_make))]
 fn binary_to(
     alloc: Global,
     t: &Typed,
@@ -323,7 +323,7 @@ fn operate_variable(
 }
 
 /// An operator on a scalar variable.
-#[tactic(auto, unfolding(crate::specs::Effects::register_operated, crate::specs::Effects::next_operand, lower_comm::specs::Drafts::then_make, lower_comm::specs::Drafts::in_register))]
+#[tactic(auto, unfolding(crate::specs::Effects::register_operated, crate::specs::Effects::next_operand, lower_base::specs::Drafts::then_make, lower_base::specs::Drafts::in_register))]
 fn operate_register(
     alloc: Global,
     t: &Typed,
@@ -346,7 +346,7 @@ fn operate_register(
 }
 
 /// An operator on a parallel variable of 32 bits.
-#[tactic(auto, unfolding(crate::specs::Effects::field_operated, lower_comm::specs::Drafts::then_make))]
+#[tactic(auto, unfolding(crate::specs::Effects::field_operated, lower_base::specs::Drafts::then_make))]
 fn operate_field(
     alloc: Global,
     t: &Typed,
@@ -367,7 +367,7 @@ fn operate_field(
 }
 
 /// A step of a variable.
-#[tactic(auto, unfolding(crate::specs::Effects::variable_stepped, crate::specs::Steps::constant_in, lower_comm::specs::Drafts::then_make))]
+#[tactic(auto, unfolding(crate::specs::Effects::variable_stepped, crate::specs::Steps::constant_in, lower_base::specs::Drafts::then_make))]
 fn step_variable(elem: Elem, op: StepOp, dest: Out, u: &mut Unit) -> Result<Out, Memory>
     ensures draft { IfOk result (λ out. variable_stepped elem op dest (draft u.old) ≡ Makes out (draft u.new)) }
 {
@@ -402,7 +402,7 @@ fn step_variable(elem: Elem, op: StepOp, dest: Out, u: &mut Unit) -> Result<Out,
 }
 
 /// The test flags become whether a parallel value is not zero.
-#[tactic(auto, unfolding(crate::specs::Effects::tested, lower_comm::specs::Drafts::then_make))]
+#[tactic(auto, unfolding(crate::specs::Effects::tested, lower_base::specs::Drafts::then_make))]
 pub fn test(alloc: Global, t: &Typed, names: &Names, e: &TExpr, u: &mut Unit) -> Result<(), Memory>
     ensures draft { OnOk result (tested t.now (layout names.now) e.now (draft u.old) ≡ Makes tt (draft u.new)) }
 {
@@ -431,7 +431,7 @@ pub fn test(alloc: Global, t: &Typed, names: &Names, e: &TExpr, u: &mut Unit) ->
 }
 
 /// The test flags become whether a value in a field is not zero.
-#[tactic(auto, unfolding(crate::specs::Effects::value_tested, crate::specs::Effects::next_operand, lower_comm::specs::Drafts::then_make, lower_comm::specs::Drafts::in_field))]
+#[tactic(auto, unfolding(crate::specs::Effects::value_tested, crate::specs::Effects::next_operand, lower_base::specs::Drafts::then_make, lower_base::specs::Drafts::in_field))]
 fn test_value(
     alloc: Global,
     t: &Typed,
@@ -446,7 +446,7 @@ fn test_value(
 }
 
 /// The test flags become whether a relation holds.
-#[tactic(auto, unfolding(crate::specs::Effects::relation_tested, lower_comm::specs::Drafts::then_make))]
+#[tactic(auto, unfolding(crate::specs::Effects::relation_tested, lower_base::specs::Drafts::then_make))]
 fn test_relation(
     alloc: Global,
     t: &Typed,

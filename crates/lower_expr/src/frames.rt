@@ -2,21 +2,21 @@
 //! parameters take the arguments, a turn is spent, and the result is copied back.
 
 ghost use Rattle.std.specs.Prelude.{◌≡◌, IfOk, OnOk};
-ghost use Rattle.lower_comm.specs.declared.emit.Out.TheVariants as O;
-ghost use Rattle.lower_comm.specs.Drafts.{Makes, draft};
-ghost use Rattle.lower_comm.specs.Layouts.{layout};
+ghost use Rattle.lower_base.specs.declared.emit.Out.TheVariants as O;
+ghost use Rattle.lower_base.specs.Drafts.{Makes, draft};
+ghost use Rattle.lower_base.specs.Layouts.{layout};
 ghost use Rattle.lower_expr.specs.Frames.{turn_and_call, zeroed_entry, register_given, field_given, result_given, finished, argument_passed, passed, called};
 
 use crate::steps::{set, set_field};
 use cstar_base::Memory;
 use cstar_tree::typed::{Instance, Typed, VarInfo};
-use lower_comm::Out;
-use lower_comm::emit::{entry, plus, put};
-use lower_comm::names::Names;
+use lower_base::Out;
+use lower_base::emit::{entry, plus, put};
+use lower_base::names::Names;
 use paris_code::{Field, Instr, Owner, Unit};
 
 /// Calls an instance with these arguments, and answers where its result is.
-#[tactic(auto, unfolding(crate::specs::Frames::called, lower_comm::specs::Layouts::layout, lower_comm::specs::Drafts::from))]
+#[tactic(auto, unfolding(crate::specs::Frames::called, lower_base::specs::Layouts::layout, lower_base::specs::Drafts::from))]
 pub fn enter(
     t: &Typed,
     names: &Names,
@@ -45,7 +45,7 @@ pub fn enter(
 }
 
 /// Each parameter takes its argument, and then the instance is called.
-#[tactic(auto, unfolding(crate::specs::Frames::passed, lower_comm::specs::Drafts::then_make))]
+#[tactic(auto, unfolding(crate::specs::Frames::passed, lower_base::specs::Drafts::then_make))]
 fn pass_all(
     unit: u32,
     callee: &Instance,
@@ -72,7 +72,7 @@ fn pass_all(
 }
 
 /// A parameter takes its argument; answers the number of the next parallel one.
-#[tactic(auto, unfolding(crate::specs::Frames::argument_passed, lower_comm::specs::Drafts::then_make))]
+#[tactic(auto, unfolding(crate::specs::Frames::argument_passed, lower_base::specs::Drafts::then_make))]
 fn pass(
     unit: u32,
     param: &VarInfo,
@@ -97,7 +97,7 @@ fn pass(
 }
 
 /// An entry for a field of the called unit, which becomes zero everywhere.
-#[tactic(auto, unfolding(crate::specs::Frames::zeroed_entry, lower_comm::specs::Drafts::then_make))]
+#[tactic(auto, unfolding(crate::specs::Frames::zeroed_entry, lower_base::specs::Drafts::then_make))]
 fn zeroed(unit: u32, set: u16, bits: u8, index: u32, u: &mut Unit) -> Result<Field, Memory>
     ensures draft { IfOk result (λ f. zeroed_entry unit set bits index (draft u.old) ≡ Makes f (draft u.new)) }
 {
@@ -131,7 +131,7 @@ fn finish(
 }
 
 /// The call, whose result is in a register.
-#[tactic(auto, unfolding(crate::specs::Frames::register_given, lower_comm::specs::Drafts::in_register))]
+#[tactic(auto, unfolding(crate::specs::Frames::register_given, lower_base::specs::Drafts::in_register))]
 fn give_register(unit: u32, source: u32, dest: Out, u: &mut Unit) -> Result<Out, Memory>
     ensures draft { IfOk result (λ out. register_given unit source dest (draft u.old) ≡ Makes out (draft u.new)) }
 {
@@ -155,7 +155,7 @@ fn give_register(unit: u32, source: u32, dest: Out, u: &mut Unit) -> Result<Out,
 }
 
 /// The call, whose result is in an entry of the called unit.
-#[tactic(auto, unfolding(crate::specs::Frames::field_given, lower_comm::specs::Drafts::then_make, lower_comm::specs::Drafts::in_field))]
+#[tactic(auto, unfolding(crate::specs::Frames::field_given, lower_base::specs::Drafts::then_make, lower_base::specs::Drafts::in_field))]
 fn give_field(
     unit: u32,
     info: &VarInfo,

@@ -1,17 +1,17 @@
 //! The code of an expression that has no parts, and what is taken before its parts.
 
 ghost use Rattle.std.specs.Prelude.{◌≡◌, Some, IfOk, OnOk};
-ghost use Rattle.lower_comm.specs.Drafts.{Makes, draft};
-ghost use Rattle.lower_comm.specs.Layouts.{layout};
+ghost use Rattle.lower_base.specs.Drafts.{Makes, draft};
+ghost use Rattle.lower_base.specs.Layouts.{layout};
 ghost use Rattle.lower_expr.specs.Values.{right_given, coordinate_in, byte_in, casts_put, news_by};
 
 use crate::steps::Right;
 use cstar_base::{Elem, Memory};
 use cstar_tree::typed::{TExpr, Typed, ValueType};
-use lower_comm::Out;
-use lower_comm::emit::{field, fresh, put, register};
+use lower_base::Out;
+use lower_base::emit::{field, fresh, put, register};
 use lower_comm::messages::{check_grid, comm_in};
-use lower_comm::names::Names;
+use lower_base::names::Names;
 use paris_code::{Instr, Konst, Unit};
 use std::alloc::Global;
 
@@ -28,7 +28,7 @@ pub fn right_value(v: Out) -> Result<Right, Memory>
 }
 
 /// The own coordinate along an axis.
-#[tactic(auto, unfolding(crate::specs::Values::coordinate_in, lower_comm::specs::Drafts::then_make))]
+#[tactic(auto, unfolding(crate::specs::Values::coordinate_in, lower_base::specs::Drafts::then_make))]
 pub fn coordinate(shape: Option<u16>, axis: u32, u: &mut Unit) -> Result<Out, Memory>
     ensures draft { IfOk result (λ out. coordinate_in shape axis (draft u.old) ≡ Makes out (draft u.new)) }
 {
@@ -38,7 +38,7 @@ pub fn coordinate(shape: Option<u16>, axis: u32, u: &mut Unit) -> Result<Out, Me
 }
 
 /// The next byte of the input.
-#[tactic(auto, unfolding(crate::specs::Values::byte_in, lower_comm::specs::Drafts::then_make))]
+#[tactic(auto, unfolding(crate::specs::Values::byte_in, lower_base::specs::Drafts::then_make))]
 pub fn next_byte(u: &mut Unit) -> Result<Out, Memory>
     ensures draft { IfOk result (λ out. byte_in (draft u.old) ≡ Makes out (draft u.new)) }
 {
@@ -66,7 +66,7 @@ pub fn cast_all(elems: &[Elem], register: u32, u: &mut Unit) -> Result<(), Memor
 }
 
 /// A get that goes by NEWS.
-#[tactic(auto, unfolding(crate::specs::Values::news_by, lower_comm::specs::Drafts::then_make))]
+#[tactic(auto, unfolding(crate::specs::Values::news_by, lower_base::specs::Drafts::then_make))]
 pub fn by_news(
     alloc: Global,
     t: &Typed,

@@ -2,7 +2,7 @@
 //! what they pass over are known beforehand.
 
 ghost use Rattle.std.specs.Prelude.{◌≡◌, IfOk, length, slice_get};
-ghost use Rattle.lower_comm.specs.Layouts.{layout};
+ghost use Rattle.lower_base.specs.Layouts.{layout};
 ghost use Rattle.lower_expr.specs.Operands.{operand_length};
 ghost use Rattle.lower_expr.specs.Steps.{is_kept};
 ghost use Rattle.lower_expr.specs.Lengths.{conversion_length, unary_length, operate_length, logical_length, spread_length, right_length, binary_length, spare_length, choice_length, step_once_length, params_length, news_move, is_checked, news_length, read_length, four_times, load_length, store_length, send_length, set_length, compound_length, assign_length, step_length, reduce_length, call_length, length_of, spot_length_of, lengths_in};
@@ -14,11 +14,11 @@ use crate::steps::{constant_word, immediate, is_relation, stays_scalar};
 use cstar_base::{Elem, Memory, Op};
 use cstar_tree::syntax::{AssignOp, ReduceOp};
 use cstar_tree::typed::{TExpr, Typed, UnaryOp, VarInfo};
-use lower_comm::emit::{count, plus};
+use lower_base::emit::{count, plus};
 use lower_comm::messages::goes_by_news;
-use lower_comm::names::Names;
+use lower_base::names::Names;
 use lower_comm::news::{NewsStep, step_of};
-use lower_comm::operators::{assign_op, divides};
+use lower_base::operators::{assign_op, divides};
 
 /// The instructions of a value: what `value` appends.
 #[cycle(length)]

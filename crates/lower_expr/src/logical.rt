@@ -1,13 +1,13 @@
 //! The jumps and the narrowed contexts of `&&`, `||` and `?:`.
 
 ghost use Rattle.std.specs.Prelude.{◌≡◌, IfOk, OnOk};
-ghost use Rattle.lower_comm.specs.Drafts.{Makes, draft};
+ghost use Rattle.lower_base.specs.Drafts.{Makes, draft};
 ghost use Rattle.lower_expr.specs.Values.{jump_if_decided, narrowed_by, decided, limited, logical_ended, nonzero_tested, narrowed_again, parallel_ended, turned_over};
 
 use crate::steps::test_value;
 use cstar_base::Memory;
-use lower_comm::Out;
-use lower_comm::emit::{here, plus, put};
+use lower_base::Out;
+use lower_base::emit::{here, plus, put};
 use paris_code::{Field, Instr, Konst, Unit};
 
 /// Jumps where the left operand of `&&` is zero, or that of `||` is not.
@@ -37,7 +37,7 @@ fn narrow(is_or: bool, source: Field, u: &mut Unit) -> Result<(), Memory>
 
 /// Jumps over `n` instructions and `own` where the first operand decides, and answers the place
 /// behind them.
-#[tactic(auto, unfolding(crate::specs::Values::decided, lower_comm::specs::Drafts::in_register))]
+#[tactic(auto, unfolding(crate::specs::Values::decided, lower_base::specs::Drafts::in_register))]
 pub fn decide(is_or: bool, v: Out, n: u32, own: u32, u: &mut Unit) -> Result<u32, Memory>
     ensures draft { IfOk result (λ end. decided is_or v n own (draft u.old) ≡ Makes end (draft u.new)) }
 {
@@ -48,7 +48,7 @@ pub fn decide(is_or: bool, v: Out, n: u32, own: u32, u: &mut Unit) -> Result<u32
 }
 
 /// Saves the context and narrows it by the first operand.
-#[tactic(auto, unfolding(crate::specs::Values::limited, lower_comm::specs::Drafts::in_field))]
+#[tactic(auto, unfolding(crate::specs::Values::limited, lower_base::specs::Drafts::in_field))]
 pub fn limit(is_or: bool, saved: Field, v: Out, u: &mut Unit) -> Result<Field, Memory>
     ensures draft { IfOk result (λ f. limited is_or saved v (draft u.old) ≡ Makes f (draft u.new)) }
 {
@@ -59,7 +59,7 @@ pub fn limit(is_or: bool, saved: Field, v: Out, u: &mut Unit) -> Result<Field, M
 }
 
 /// The right operand decides the result of `&&` or `||` of scalars.
-#[tactic(auto, unfolding(crate::specs::Values::logical_ended, lower_comm::specs::Drafts::in_register))]
+#[tactic(auto, unfolding(crate::specs::Values::logical_ended, lower_base::specs::Drafts::in_register))]
 pub fn end_logical(is_or: bool, dest: u32, w: Out, end: u32, u: &mut Unit) -> Result<Out, Memory>
     ensures draft { IfOk result (λ out. logical_ended is_or dest w end (draft u.old) ≡ Makes out (draft u.new)) }
 {
@@ -70,7 +70,7 @@ pub fn end_logical(is_or: bool, dest: u32, w: Out, end: u32, u: &mut Unit) -> Re
 }
 
 /// Whether the value is not zero.
-#[tactic(auto, unfolding(crate::specs::Values::nonzero_tested, lower_comm::specs::Drafts::in_field))]
+#[tactic(auto, unfolding(crate::specs::Values::nonzero_tested, lower_base::specs::Drafts::in_field))]
 pub fn test_nonzero(dest: Field, v: Out, u: &mut Unit) -> Result<Out, Memory>
     ensures draft { IfOk result (λ out. nonzero_tested dest v (draft u.old) ≡ Makes out (draft u.new)) }
 {
@@ -81,7 +81,7 @@ pub fn test_nonzero(dest: Field, v: Out, u: &mut Unit) -> Result<Out, Memory>
 }
 
 /// The right operand decides the result at the positions that are left, and the context is restored.
-#[tactic(auto, unfolding(crate::specs::Values::parallel_ended, lower_comm::specs::Drafts::then_make))]
+#[tactic(auto, unfolding(crate::specs::Values::parallel_ended, lower_base::specs::Drafts::then_make))]
 pub fn end_parallel(
     is_or: bool,
     dest: Field,
@@ -100,7 +100,7 @@ pub fn end_parallel(
 }
 
 /// Passes over the result where a scalar right operand decides, else narrows the context by it.
-#[tactic(auto, unfolding(crate::specs::Values::narrowed_again, lower_comm::specs::Drafts::in_register, lower_comm::specs::Drafts::in_field))]
+#[tactic(auto, unfolding(crate::specs::Values::narrowed_again, lower_base::specs::Drafts::in_register, lower_base::specs::Drafts::in_field))]
 fn narrow_again(is_or: bool, scalar: bool, w: Out, u: &mut Unit) -> Result<(), Memory>
     ensures draft { OnOk result (narrowed_again is_or scalar w (draft u.old) ≡ Makes w (draft u.new)) }
 {

@@ -1,14 +1,14 @@
 //! Operands that stand in a variable's own register or field, and when they may be used there.
 
 ghost use Rattle.std.specs.Prelude.{◌≡◌, IfOk};
-ghost use Rattle.lower_comm.specs.Drafts.{Makes, draft};
-ghost use Rattle.lower_comm.specs.Layouts.{layout};
+ghost use Rattle.lower_base.specs.Drafts.{Makes, draft};
+ghost use Rattle.lower_base.specs.Layouts.{layout};
 ghost use Rattle.lower_expr.specs.Operands.{all_quiet, in_place, is_plus, is_quiet, own_of, standing};
 
 use cstar_base::Memory;
 use cstar_tree::typed::{TExpr, Typed, UnaryOp, Variable};
-use lower_comm::Out;
-use lower_comm::names::Names;
+use lower_base::Out;
+use lower_base::names::Names;
 use paris_code::Unit;
 
 /// A variable whose own register or field is an operand; it has a shape if it is parallel.
@@ -98,7 +98,7 @@ pub fn own_of(e: &TExpr) -> Option<Own>
 }
 
 /// The register or the field of a variable.
-#[tactic(auto, unfolding(crate::specs::Operands::standing, lower_comm::specs::Drafts::then_make))]
+#[tactic(auto, unfolding(crate::specs::Operands::standing, lower_base::specs::Drafts::then_make))]
 pub fn standing(t: &Typed, names: &Names, own: Own, u: &mut Unit) -> Result<Out, Memory>
     ensures draft { IfOk result (λ out. standing t.now (layout names.now) own (draft u.old) ≡ Makes out (draft u.new)) }
 {

@@ -1,19 +1,19 @@
 //! What can be assigned to: a variable, an element of an array, or a left-indexed variable.
 
 ghost use Rattle.std.specs.Prelude.{◌≡◌, IfOk, OnOk};
-ghost use Rattle.lower_comm.specs.declared.emit.Out.TheVariants as O;
-ghost use Rattle.lower_comm.specs.Drafts.{Makes, draft};
-ghost use Rattle.lower_comm.specs.Layouts.{layout, elements_of};
+ghost use Rattle.lower_base.specs.declared.emit.Out.TheVariants as O;
+ghost use Rattle.lower_base.specs.Drafts.{Makes, draft};
+ghost use Rattle.lower_base.specs.Layouts.{layout, elements_of};
 ghost use Rattle.lower_expr.specs.Lengths.{bare};
 ghost use Rattle.lower_expr.specs.Spots.{skips_unless, field_loaded, elements_loaded, loaded, field_stored, elements_stored, stored, everywhere_at, index_checked};
 
 use crate::steps::{set, set_field};
 use cstar_base::{Memory, Place};
 use cstar_tree::typed::{TExpr, Typed, Variable};
-use lower_comm::Out;
-use lower_comm::emit::{here, plus, put, register};
+use lower_base::Out;
+use lower_base::emit::{here, plus, put, register};
 use lower_comm::messages::comm_in;
-use lower_comm::names::Names;
+use lower_base::names::Names;
 use paris_code::{Field, Instr, RegisterCoordinate, Unit};
 use std::alloc::Global;
 
@@ -43,7 +43,7 @@ pub fn bare(target: &TExpr) -> &TExpr
 
 /// The value that the spot has becomes that of `dest`, a register or a field. `target` is what was
 /// located there.
-#[tactic(auto, unfolding(crate::specs::Spots::loaded, lower_comm::specs::Drafts::then_make, lower_comm::specs::Drafts::in_register, lower_comm::specs::Drafts::in_field))]
+#[tactic(auto, unfolding(crate::specs::Spots::loaded, lower_base::specs::Drafts::then_make, lower_base::specs::Drafts::in_register, lower_base::specs::Drafts::in_field))]
 pub fn load(
     t: &Typed,
     names: &Names,
@@ -75,7 +75,7 @@ pub fn load(
 }
 
 /// The element of an array whose index the register has.
-#[tactic(auto, unfolding(crate::specs::Spots::elements_loaded, lower_comm::specs::Drafts::then_make))]
+#[tactic(auto, unfolding(crate::specs::Spots::elements_loaded, lower_base::specs::Drafts::then_make))]
 fn load_elements(
     t: &Typed,
     names: &Names,
@@ -96,7 +96,7 @@ fn load_elements(
 
 /// A value becomes that of the spot, at the active positions. `e` is the assignment or the step whose
 /// target was located there.
-#[tactic(auto, unfolding(crate::specs::Spots::stored, lower_comm::specs::Drafts::then_make))]
+#[tactic(auto, unfolding(crate::specs::Spots::stored, lower_base::specs::Drafts::then_make))]
 pub fn store(
     t: &Typed,
     names: &Names,
@@ -119,7 +119,7 @@ pub fn store(
 }
 
 /// The element of an array whose index the register has becomes the value.
-#[tactic(auto, unfolding(crate::specs::Spots::elements_stored, lower_comm::specs::Drafts::then_make))]
+#[tactic(auto, unfolding(crate::specs::Spots::elements_stored, lower_base::specs::Drafts::then_make))]
 fn store_elements(
     t: &Typed,
     names: &Names,
@@ -138,7 +138,7 @@ fn store_elements(
 }
 
 /// A copy of a variable's field, read signed or not.
-#[tactic(auto, unfolding(crate::specs::Spots::field_loaded, lower_comm::specs::Drafts::then_make))]
+#[tactic(auto, unfolding(crate::specs::Spots::field_loaded, lower_base::specs::Drafts::then_make))]
 fn load_field(
     t: &Typed,
     names: &Names,
@@ -162,7 +162,7 @@ fn load_field(
 }
 
 /// A variable's field becomes the value.
-#[tactic(auto, unfolding(crate::specs::Spots::field_stored, lower_comm::specs::Drafts::then_make))]
+#[tactic(auto, unfolding(crate::specs::Spots::field_stored, lower_base::specs::Drafts::then_make))]
 fn store_field(
     t: &Typed,
     names: &Names,
@@ -179,7 +179,7 @@ fn store_field(
 
 /// Jumps over the next instruction unless the index is this number; answers the register of the
 /// test.
-#[tactic(auto, unfolding(crate::specs::Spots::skips_unless, lower_comm::specs::Drafts::then_make))]
+#[tactic(auto, unfolding(crate::specs::Spots::skips_unless, lower_base::specs::Drafts::then_make))]
 fn skip_unless(index: u32, number: u32, u: &mut Unit) -> Result<u32, Memory>
     ensures draft { IfOk result (λ r. skips_unless index number (draft u.old) ≡ Makes r (draft u.new)) }
 {
@@ -207,7 +207,7 @@ fn skip_unless(index: u32, number: u32, u: &mut Unit) -> Result<u32, Memory>
 
 /// The range check of a right index: outside, coordinates of -1 are checked, which fails. Answers
 /// the register of the test.
-#[tactic(auto, unfolding(crate::specs::Spots::index_checked, lower_comm::specs::Drafts::then_make, lower_comm::specs::Drafts::from, lower_comm::specs::Drafts::step, lower_comm::specs::Drafts::with_instr))]
+#[tactic(auto, unfolding(crate::specs::Spots::index_checked, lower_base::specs::Drafts::then_make, lower_base::specs::Drafts::from, lower_base::specs::Drafts::step, lower_base::specs::Drafts::with_instr))]
 pub fn check_index(
     alloc: Global,
     t: &Typed,

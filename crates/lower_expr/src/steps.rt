@@ -1,15 +1,15 @@
 //! Short stretches of code over values that stand in registers and fields already.
 
 ghost use Rattle.std.specs.Prelude.{◌≡◌, IfOk, OnOk};
-ghost use Rattle.lower_comm.specs.declared.emit.Out.TheVariants as O;
-ghost use Rattle.lower_comm.specs.Drafts.{Makes, draft};
+ghost use Rattle.lower_base.specs.declared.emit.Out.TheVariants as O;
+ghost use Rattle.lower_base.specs.Drafts.{Makes, draft};
 ghost use Rattle.lower_expr.specs.Steps.{is_kept, register_word, word_of, relates, word_taken, constant_in, put_test, field_converted, converted_in_place, put_in_field, put_value, operated, fields_operated, right_operated, takes_word, in_a_field, register_negated, field_negated, negated, pieces_printed, assigned_signed};
 
 use cstar_base::{Elem, Memory, Op, Place, numbers};
 use cstar_tree::typed::{Piece, TExpr, UnaryOp};
-use lower_comm::Out;
-use lower_comm::emit::{flag, put};
-use lower_comm::operators::{Machine, divides, machine_op, promoted_signed};
+use lower_base::Out;
+use lower_base::emit::{flag, put};
+use lower_base::operators::{Machine, divides, machine_op, promoted_signed};
 use paris_code::{Field, Instr, Konst, Operation, Unit};
 use source_meaning::constant as constant_value;
 use std::alloc::Global;
@@ -79,11 +79,11 @@ pub fn is_relation(op: Op) -> bool
 }
 
 /// A value in a register.
-#[tactic(auto, unfolding(crate::specs::Steps::constant_in, lower_comm::specs::Drafts::then_make))]
+#[tactic(auto, unfolding(crate::specs::Steps::constant_in, lower_base::specs::Drafts::then_make))]
 pub fn constant(value: u32, u: &mut Unit) -> Result<Out, Memory>
     ensures draft { IfOk result (λ out. constant_in value (draft u.old) ≡ Makes out (draft u.new)) }
 {
-    let dest = lower_comm::emit::register(u)?;
+    let dest = lower_base::emit::register(u)?;
     put(u, Instr::FrontConst { dest, value })?;
     Ok(Out::Scalar(dest))
 }
@@ -152,7 +152,7 @@ fn convert_field(f: Field, elem: Elem, u: &mut Unit) -> Result<(), Memory>
 }
 
 /// The test flag as a value, 0 or 1.
-#[tactic(auto, unfolding(crate::specs::Steps::put_test, lower_comm::specs::Drafts::then_make))]
+#[tactic(auto, unfolding(crate::specs::Steps::put_test, lower_base::specs::Drafts::then_make))]
 pub fn test_value(dest: Field, u: &mut Unit) -> Result<(), Memory>
     ensures draft { OnOk result (put_test dest (draft u.old) ≡ Makes (O.Field dest) (draft u.new)) }
 {
@@ -194,7 +194,7 @@ pub fn set_field(dest: Field, v: Out, u: &mut Unit) -> Result<(), Memory>
 }
 
 /// A value becomes that of a register or a field.
-#[tactic(auto, unfolding(crate::specs::Steps::put_value, lower_comm::specs::Drafts::in_register))]
+#[tactic(auto, unfolding(crate::specs::Steps::put_value, lower_base::specs::Drafts::in_register))]
 pub fn set(dest: Out, v: Out, u: &mut Unit) -> Result<(), Memory>
     ensures draft { OnOk result (put_value dest v (draft u.old) ≡ Makes dest (draft u.new)) }
 {
@@ -378,7 +378,7 @@ pub fn as_field(v: Out, spare: Field, u: &mut Unit) -> Result<Field, Memory>
 }
 
 /// A unary operator other than `+`, which has no code: `Memory` for that one.
-#[tactic(auto, unfolding(crate::specs::Steps::negated, lower_comm::specs::Drafts::in_register, lower_comm::specs::Drafts::in_field))]
+#[tactic(auto, unfolding(crate::specs::Steps::negated, lower_base::specs::Drafts::in_register, lower_base::specs::Drafts::in_field))]
 pub fn unary(op: UnaryOp, dest: Out, v: Out, u: &mut Unit) -> Result<(), Memory>
     ensures draft { OnOk result (negated op dest v (draft u.old) ≡ Makes dest (draft u.new)) }
 {
@@ -395,7 +395,7 @@ pub fn unary(op: UnaryOp, dest: Out, v: Out, u: &mut Unit) -> Result<(), Memory>
     }
 }
 
-#[tactic(auto, unfolding(crate::specs::Steps::register_negated, crate::specs::Steps::constant_in, lower_comm::specs::Drafts::then_make))]
+#[tactic(auto, unfolding(crate::specs::Steps::register_negated, crate::specs::Steps::constant_in, lower_base::specs::Drafts::then_make))]
 fn unary_register(op: UnaryOp, dest: u32, source: u32, u: &mut Unit) -> Result<(), Memory>
     ensures draft { OnOk result (register_negated op dest source (draft u.old) ≡ Makes (O.Scalar dest) (draft u.new)) }
 {
@@ -434,7 +434,7 @@ fn unary_field(op: UnaryOp, dest: Field, source: Field, u: &mut Unit) -> Result<
 }
 
 /// Prints the pieces of a text; each conversion takes the next value.
-#[tactic(auto, unfolding(crate::specs::Steps::pieces_printed, lower_comm::specs::Drafts::in_register))]
+#[tactic(auto, unfolding(crate::specs::Steps::pieces_printed, lower_base::specs::Drafts::in_register))]
 pub fn print_pieces(
     alloc: Global,
     pieces: &[Piece],

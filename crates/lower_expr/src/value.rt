@@ -3,9 +3,9 @@
 //! it stands, or copied where a later part may change it.
 
 ghost use Rattle.std.specs.Prelude.{◌≡◌, [], true, IfOk, OnOk};
-ghost use Rattle.lower_comm.specs.declared.emit.Out.TheVariants as O;
-ghost use Rattle.lower_comm.specs.Drafts.{Makes, draft};
-ghost use Rattle.lower_comm.specs.Layouts.{layout};
+ghost use Rattle.lower_base.specs.declared.emit.Out.TheVariants as O;
+ghost use Rattle.lower_base.specs.Drafts.{Makes, draft};
+ghost use Rattle.lower_base.specs.Layouts.{layout};
 ghost use Rattle.lower_expr.specs.Operands.{operand_by};
 ghost use Rattle.lower_expr.specs.Values.{spread_into, right_by, scalar_logical_of, parallel_logical_of, scalar_choice_of, parallel_choice_of, value_of, spot_of, read_by, values_in, compound_of, spread_of, register_binary_of, field_binary_of};
 
@@ -21,17 +21,17 @@ use crate::steps::{
 };
 use cstar_base::{Memory, Op};
 use cstar_tree::typed::{TExpr, Typed, ValueType};
-use lower_comm::Out;
-use lower_comm::emit::{field, flag, fresh, plus, put, register};
+use lower_base::Out;
+use lower_base::emit::{field, flag, fresh, plus, put, register};
 use lower_comm::messages::{comm_in, goes_by_news, locate_in};
-use lower_comm::names::Names;
-use lower_comm::operators::{assign_op, promoted_signed};
+use lower_base::names::Names;
+use lower_base::operators::{assign_op, promoted_signed};
 use paris_code::{Field, Instr, Konst, Unit};
 use std::alloc::Global;
 
 /// The value of a parallel expression in a field, that of a promoted scalar too.
 #[cycle(value)]
-#[tactic(auto, unfolding(crate::specs::Values::spread_of, crate::specs::Values::spread_by, crate::specs::Values::spread_into, crate::specs::Operands::operand_by, crate::specs::Operands::in_place, lower_comm::specs::Drafts::then_make))]
+#[tactic(auto, unfolding(crate::specs::Values::spread_of, crate::specs::Values::spread_by, crate::specs::Values::spread_into, crate::specs::Operands::operand_by, crate::specs::Operands::in_place, lower_base::specs::Drafts::then_make))]
 pub fn spread(
     alloc: Global,
     t: &Typed,
@@ -52,7 +52,7 @@ pub fn spread(
 
 /// The value of a parallel operand in a field; that of a promoted scalar is spread into `dest`.
 #[cycle(value)]
-#[tactic(auto, unfolding(crate::specs::Values::spread_into, lower_comm::specs::Drafts::then_make))]
+#[tactic(auto, unfolding(crate::specs::Values::spread_into, lower_base::specs::Drafts::then_make))]
 pub fn spread_to(
     alloc: Global,
     t: &Typed,
@@ -76,7 +76,7 @@ pub fn spread_to(
 
 /// The right operand of a parallel operation: a constant that the instruction takes has no code.
 #[cycle(value)]
-#[tactic(auto, unfolding(crate::specs::Values::right_by, lower_comm::specs::Drafts::then_make, lower_comm::specs::Drafts::from))]
+#[tactic(auto, unfolding(crate::specs::Values::right_by, lower_base::specs::Drafts::then_make, lower_base::specs::Drafts::from))]
 pub fn right_operand(
     alloc: Global,
     t: &Typed,
@@ -115,7 +115,7 @@ pub fn operand(
 
 /// The value of an expression. That of a promoted scalar stays in its register.
 #[cycle(value)]
-#[tactic(auto, unfolding(crate::specs::Values::value_of, crate::specs::Values::spot_of, crate::specs::Values::spread_of, lower_comm::specs::Drafts::then_make, lower_comm::specs::Drafts::in_register))]
+#[tactic(auto, unfolding(crate::specs::Values::value_of, crate::specs::Values::spot_of, crate::specs::Values::spread_of, lower_base::specs::Drafts::then_make, lower_base::specs::Drafts::in_register))]
 pub fn value(
     alloc: Global,
     t: &Typed,
@@ -165,7 +165,7 @@ pub fn value(
 
 /// A unary or binary operator.
 #[cycle(value)]
-#[tactic(auto, unfolding(crate::specs::Values::value_of, crate::specs::Values::unary_by, crate::specs::Values::binary_at, crate::specs::Values::register_binary_of, crate::specs::Values::field_binary_of, lower_comm::specs::Drafts::then_make, lower_comm::specs::Drafts::in_register))]
+#[tactic(auto, unfolding(crate::specs::Values::value_of, crate::specs::Values::unary_by, crate::specs::Values::binary_at, crate::specs::Values::register_binary_of, crate::specs::Values::field_binary_of, lower_base::specs::Drafts::then_make, lower_base::specs::Drafts::in_register))]
 fn operator(alloc: Global, t: &Typed, names: &Names, e: &TExpr, u: &mut Unit) -> Result<Out, Memory>
     ensures draft { IfOk result (λ out. value_of t.now (layout names.now) e.now (draft u.old) ≡ Makes out (draft u.new)) }
 {
@@ -200,7 +200,7 @@ fn operator(alloc: Global, t: &Typed, names: &Names, e: &TExpr, u: &mut Unit) ->
 
 /// A binary operator of scalars, whose last instruction writes this register.
 #[cycle(value)]
-#[tactic(auto, unfolding(crate::specs::Values::register_binary_of, crate::specs::Values::registers_by, lower_comm::specs::Drafts::then_make, lower_comm::specs::Drafts::in_register))]
+#[tactic(auto, unfolding(crate::specs::Values::register_binary_of, crate::specs::Values::registers_by, lower_base::specs::Drafts::then_make, lower_base::specs::Drafts::in_register))]
 pub fn binary_in_register(
     alloc: Global,
     t: &Typed,
@@ -230,7 +230,7 @@ pub fn binary_in_register(
 /// A parallel binary operator, whose last instruction writes this field; a scalar operand that the
 /// operation does not take is spread into `spare`.
 #[cycle(value)]
-#[tactic(auto, unfolding(crate::specs::Values::field_binary_of, crate::specs::Values::fields_by, lower_comm::specs::Drafts::then_make))]
+#[tactic(auto, unfolding(crate::specs::Values::field_binary_of, crate::specs::Values::fields_by, lower_base::specs::Drafts::then_make))]
 pub fn binary_in_field(
     alloc: Global,
     t: &Typed,
@@ -260,7 +260,7 @@ pub fn binary_in_field(
 
 /// An operator that chooses which of its operands are evaluated, and where.
 #[cycle(value)]
-#[tactic(auto, unfolding(crate::specs::Values::value_of, crate::specs::Values::logical_by, crate::specs::Values::choice_by, crate::specs::Values::scalar_logical_of, crate::specs::Values::parallel_logical_of, crate::specs::Values::scalar_choice_of, crate::specs::Values::parallel_choice_of, lower_comm::specs::Drafts::then_make))]
+#[tactic(auto, unfolding(crate::specs::Values::value_of, crate::specs::Values::logical_by, crate::specs::Values::choice_by, crate::specs::Values::scalar_logical_of, crate::specs::Values::parallel_logical_of, crate::specs::Values::scalar_choice_of, crate::specs::Values::parallel_choice_of, lower_base::specs::Drafts::then_make))]
 fn chosen(alloc: Global, t: &Typed, names: &Names, e: &TExpr, u: &mut Unit) -> Result<Out, Memory>
     ensures draft { IfOk result (λ out. value_of t.now (layout names.now) e.now (draft u.old) ≡ Makes out (draft u.new)) }
 {
@@ -288,7 +288,7 @@ fn chosen(alloc: Global, t: &Typed, names: &Names, e: &TExpr, u: &mut Unit) -> R
 
 /// `||`, or else `&&`, of scalars. The result begins as what a decided left operand gives.
 #[cycle(value)]
-#[tactic(auto, unfolding(crate::specs::Values::scalar_logical_of, crate::specs::Values::scalar_logical_by, lower_comm::specs::Drafts::then_make, lower_comm::specs::Drafts::in_register))]
+#[tactic(auto, unfolding(crate::specs::Values::scalar_logical_of, crate::specs::Values::scalar_logical_by, lower_base::specs::Drafts::then_make, lower_base::specs::Drafts::in_register))]
 fn scalar_logical(
     alloc: Global,
     t: &Typed,
@@ -313,7 +313,7 @@ fn scalar_logical(
 
 /// `||`, or else `&&`, with a parallel operand.
 #[cycle(value)]
-#[tactic(auto, unfolding(crate::specs::Values::parallel_logical_of, crate::specs::Values::parallel_logical_by, crate::specs::Values::decided_by, crate::specs::Values::limited_by, lower_comm::specs::Drafts::then_make))]
+#[tactic(auto, unfolding(crate::specs::Values::parallel_logical_of, crate::specs::Values::parallel_logical_by, crate::specs::Values::decided_by, crate::specs::Values::limited_by, lower_base::specs::Drafts::then_make))]
 fn parallel_logical(
     alloc: Global,
     t: &Typed,
@@ -348,7 +348,7 @@ fn parallel_logical(
 
 /// `?:` with a scalar condition: one of the two is evaluated.
 #[cycle(value)]
-#[tactic(auto, unfolding(crate::specs::Values::scalar_choice_of, crate::specs::Values::scalar_choice_by, lower_comm::specs::Drafts::then_make))]
+#[tactic(auto, unfolding(crate::specs::Values::scalar_choice_of, crate::specs::Values::scalar_choice_by, lower_base::specs::Drafts::then_make))]
 fn scalar_choice(
     alloc: Global,
     t: &Typed,
@@ -380,7 +380,7 @@ fn scalar_choice(
 
 /// `?:` with a parallel condition: both are evaluated, each where it counts.
 #[cycle(value)]
-#[tactic(auto, unfolding(crate::specs::Values::parallel_choice_of, crate::specs::Values::parallel_choice_by, lower_comm::specs::Drafts::then_make, lower_comm::specs::Drafts::in_field))]
+#[tactic(auto, unfolding(crate::specs::Values::parallel_choice_of, crate::specs::Values::parallel_choice_by, lower_base::specs::Drafts::then_make, lower_base::specs::Drafts::in_field))]
 fn parallel_choice(
     alloc: Global,
     t: &Typed,
@@ -413,7 +413,7 @@ fn parallel_choice(
 
 /// The value of a variable, of an element of an array, or through a left index.
 #[cycle(value)]
-#[tactic(auto, unfolding(crate::specs::Values::read_by, lower_comm::specs::Drafts::then_make))]
+#[tactic(auto, unfolding(crate::specs::Values::read_by, lower_base::specs::Drafts::then_make))]
 fn read(
     alloc: Global,
     t: &Typed,
@@ -450,7 +450,7 @@ fn indexed(alloc: Global, t: &Typed, names: &Names, e: &TExpr, u: &mut Unit) -> 
 
 /// Locates a target or a reference: its indexes, their range check, and the address.
 #[cycle(value)]
-#[tactic(auto, unfolding(crate::specs::Values::spot_of, crate::specs::Values::element_spot, crate::specs::Spots::variable_spot, lower_comm::specs::Drafts::then_make, lower_comm::specs::Drafts::in_register))]
+#[tactic(auto, unfolding(crate::specs::Values::spot_of, crate::specs::Values::element_spot, crate::specs::Spots::variable_spot, lower_base::specs::Drafts::then_make, lower_base::specs::Drafts::in_register))]
 fn spot(alloc: Global, t: &Typed, names: &Names, e: &TExpr, u: &mut Unit) -> Result<Spot, Memory>
     ensures draft { IfOk result (λ there. spot_of t.now (layout names.now) e.now (draft u.old) ≡ Makes there (draft u.new)) }
 {
@@ -478,7 +478,7 @@ fn spot(alloc: Global, t: &Typed, names: &Names, e: &TExpr, u: &mut Unit) -> Res
 
 /// Locates a left index.
 #[cycle(value)]
-#[tactic(auto, using(crate::proofs::Lists::spot_of_left_index), unfolding(crate::specs::Values::indexed_spot, lower_comm::specs::Drafts::then_make))]
+#[tactic(auto, using(crate::proofs::Lists::spot_of_left_index), unfolding(crate::specs::Values::indexed_spot, lower_base::specs::Drafts::then_make))]
 fn indexed_spot(
     alloc: Global,
     t: &Typed,
@@ -502,7 +502,7 @@ fn indexed_spot(
 /// The values of a list of expressions, in the order of the text. Variables are used where they stand
 /// if all are quiet.
 #[cycle(value)]
-#[tactic(auto, unfolding(crate::specs::Values::values_in, lower_comm::specs::Drafts::then_make))]
+#[tactic(auto, unfolding(crate::specs::Values::values_in, lower_base::specs::Drafts::then_make))]
 fn values(
     alloc: Global,
     t: &Typed,
@@ -523,7 +523,7 @@ fn values(
 
 /// An assignment.
 #[cycle(value)]
-#[tactic(auto, unfolding(crate::specs::Values::value_of, crate::specs::Values::spread_of, crate::specs::Values::assign_by, crate::specs::Values::sent_by, crate::specs::Values::assigned_by, crate::specs::Values::plainly_set_by, crate::specs::Values::set_by, crate::specs::Values::compound_of, lower_comm::specs::Drafts::then_make))]
+#[tactic(auto, unfolding(crate::specs::Values::value_of, crate::specs::Values::spread_of, crate::specs::Values::assign_by, crate::specs::Values::sent_by, crate::specs::Values::assigned_by, crate::specs::Values::plainly_set_by, crate::specs::Values::set_by, crate::specs::Values::compound_of, lower_base::specs::Drafts::then_make))]
 fn assignment(
     alloc: Global,
     t: &Typed,
@@ -565,7 +565,7 @@ fn assignment(
 
 /// An assignment with an operator.
 #[cycle(value)]
-#[tactic(auto, unfolding(crate::specs::Values::compound_of, crate::specs::Values::updated_by, lower_comm::specs::Drafts::then_make))]
+#[tactic(auto, unfolding(crate::specs::Values::compound_of, crate::specs::Values::updated_by, lower_base::specs::Drafts::then_make))]
 fn compound(
     alloc: Global,
     t: &Typed,
@@ -612,7 +612,7 @@ fn compound(
 
 /// A step, a reduction, a scan or an enumeration.
 #[cycle(value)]
-#[tactic(auto, unfolding(crate::specs::Values::value_of, crate::specs::Values::step_by, crate::specs::Values::message_by, lower_comm::specs::Drafts::then_make))]
+#[tactic(auto, unfolding(crate::specs::Values::value_of, crate::specs::Values::step_by, crate::specs::Values::message_by, lower_base::specs::Drafts::then_make))]
 fn message(alloc: Global, t: &Typed, names: &Names, e: &TExpr, u: &mut Unit) -> Result<Out, Memory>
     ensures draft { IfOk result (λ out. value_of t.now (layout names.now) e.now (draft u.old) ≡ Makes out (draft u.new)) }
 {
@@ -649,7 +649,7 @@ fn message(alloc: Global, t: &Typed, names: &Names, e: &TExpr, u: &mut Unit) -> 
 
 /// A call or `printf`, behind the values of its arguments.
 #[cycle(value)]
-#[tactic(auto, using(crate::proofs::Lists::value_of_call, crate::proofs::Lists::value_of_printf), unfolding(lower_comm::specs::Drafts::then_make))]
+#[tactic(auto, using(crate::proofs::Lists::value_of_call, crate::proofs::Lists::value_of_printf), unfolding(lower_base::specs::Drafts::then_make))]
 fn called(alloc: Global, t: &Typed, names: &Names, e: &TExpr, u: &mut Unit) -> Result<Out, Memory>
     ensures draft { IfOk result (λ out. value_of t.now (layout names.now) e.now (draft u.old) ≡ Makes out (draft u.new)) }
 {

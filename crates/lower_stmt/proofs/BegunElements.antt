@@ -5,8 +5,8 @@ use Rattle.cstar_tree.specs.declared.typed.Variable.TheVariants as V
 use Rattle.paris_code.specs.declared.instr.Instr.TheVariants as I
 use Rattle.paris_code.specs.declared.operands.Field.{Field}
 use Rattle.paris_code.specs.declared.operands.Konst.TheVariants as K
-use Rattle.lower_comm.specs.Drafts.{Draft, Makes, then_make, with_instr}
-use Rattle.lower_comm.specs.Layouts.{Layout, field_of}
+use Rattle.lower_base.specs.Drafts.{Draft, Makes, then_make, with_instr}
+use Rattle.lower_base.specs.Layouts.{Layout, field_of}
 use Rattle.lower_stmt.specs.Programs.{elements_begun}
 
 pub begun_step : (t : Typed) (l : Layout) (number value n i : ℕ) (d between after : Draft) (dest : Field) → i < n →

@@ -3,7 +3,7 @@ use Rattle.std.proofs.Common.{◌≡◌, ℕ, suc, ◌+◌, ◌-◌, ◌<◌, ap
 use Rattle.paris_code.specs.declared.instr.Instr.TheVariants as I
 use Rattle.paris_code.specs.declared.operands.Field.{Field}
 use Rattle.paris_code.specs.declared.program.Owner.TheVariants as W
-use Rattle.lower_comm.specs.Drafts.{Draft, Makes, then_make, an_entry, with_instr}
+use Rattle.lower_base.specs.Drafts.{Draft, Makes, then_make, an_entry, with_instr}
 use Rattle.lower_stmt.specs.Variables.{cleared_fields}
 
 pub cleared_step : (n i set len : ℕ) (d between after : Draft) (dest : Field) → i < n →

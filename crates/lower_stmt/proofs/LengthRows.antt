@@ -5,7 +5,7 @@ use Rattle.cstar_tree.specs.declared.typed.LocalVar.{LocalVar}
 use Rattle.cstar_tree.specs.declared.typed.TStmt.{TStmt, Row_of-TStmt, end_of-TStmt, more_of-TStmt, items-the_row-TStmt, items_hidden-the_row-TStmt-0}
 use Rattle.cstar_tree.specs.declared.typed.TStmt as S
 use Rattle.cstar_tree.specs.declared.typed.Typed.{Typed}
-use Rattle.lower_comm.specs.Layouts.{Layout}
+use Rattle.lower_base.specs.Layouts.{Layout}
 use Rattle.lower_stmt.specs.Lengths.{locals_length_of, statement_length_of, statements_length_of}
 use Rattle.lower_stmt.specs.declared.length.Saved.{Saved}
 

@@ -3,7 +3,7 @@ use Rattle.std.proofs.Common.{◌≡◌, ℕ, zero, suc, ◌-◌, ◌<◌, List,
 use Rattle.std.proofs.lemmas.List.{reverse-append}
 use Rattle.paris_code.specs.declared.instr.Instr.TheVariants as I
 use Rattle.paris_code.specs.declared.operands.Field.{Field}
-use Rattle.lower_comm.specs.Drafts.{Draft, with_instr}
+use Rattle.lower_base.specs.Drafts.{Draft, with_instr}
 use Rattle.lower_stmt.specs.Statements.{loaded, restored}
 
 pub restored_none : (contexts : List Field) (newest : ℕ) (d : Draft) → newest ≡ 0 → restored contexts newest d ≡ d

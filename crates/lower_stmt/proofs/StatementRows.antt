@@ -6,8 +6,8 @@ use Rattle.cstar_tree.specs.declared.typed.TStmt.{TStmt, Row_of-TStmt, end_of-TS
 use Rattle.cstar_tree.specs.declared.typed.TStmt as S
 use Rattle.cstar_tree.specs.declared.typed.Typed.{Typed}
 use Rattle.paris_code.specs.declared.operands.Field.{Field}
-use Rattle.lower_comm.specs.Drafts.{Draft, Made, Makes, Fails, then_make}
-use Rattle.lower_comm.specs.Layouts.{Layout}
+use Rattle.lower_base.specs.Drafts.{Draft, Made, Makes, Fails, then_make}
+use Rattle.lower_base.specs.Layouts.{Layout}
 use Rattle.lower_stmt.specs.declared.statement.Frame.{Frame}
 use Rattle.lower_stmt.specs.Statements.{statement_of, statements_of}
 use Rattle.lower_stmt.specs.Variables.{declared}

@@ -4,8 +4,8 @@ use Rattle.std.proofs.lemmas.List.{length-map}
 use Rattle.cstar_tree.specs.declared.typed.Instance.{Instance}
 use Rattle.cstar_tree.specs.declared.typed.Typed.{Typed}
 use Rattle.paris_code.specs.declared.program.Unit as U
-use Rattle.lower_comm.specs.Drafts.{Draft, Makes, draft, step}
-use Rattle.lower_comm.specs.Layouts.{layout_of}
+use Rattle.lower_base.specs.Drafts.{Draft, Makes, draft, step}
+use Rattle.lower_base.specs.Layouts.{layout_of}
 use Rattle.lower_stmt.specs.Programs.{instructions_in, joined, slots_behind, unit_of, units_of}
 
 pub first_unit : (t : Typed) (instance : Instance) (instances : List Instance) (number regs : ℕ) (u : U.Unit) →

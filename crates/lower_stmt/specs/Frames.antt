@@ -1,7 +1,7 @@
 -- Where a statement stands in its function.
 use Rattle.std.specs.Prelude.{ℕ, Bool, true, false, if◌then◌else◌}
 use Rattle.paris_code.specs.declared.instr.Instr.TheVariants as I
-use Rattle.lower_comm.specs.Drafts.{Draft, with_instr}
+use Rattle.lower_base.specs.Drafts.{Draft, with_instr}
 use Rattle.lower_stmt.specs.declared.statement.Frame.{Frame}
 use Rattle.lower_stmt.specs.declared.statement.Outcome.TheVariants as R
 use Rattle.lower_stmt.specs.Lengths.{at_loop, one_more}

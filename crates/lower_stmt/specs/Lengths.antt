@@ -6,7 +6,7 @@ use Rattle.cstar_tree.specs.declared.typed.TStmt.{TStmt, Row_of-TStmt, end_of-TS
 use Rattle.cstar_tree.specs.declared.typed.TStmt as S
 use Rattle.cstar_tree.specs.declared.typed.Typed.{Typed}
 use Rattle.cstar_tree.specs.declared.typed.VarInfo.{VarInfo}
-use Rattle.lower_comm.specs.Layouts.{Layout, entries_of}
+use Rattle.lower_base.specs.Layouts.{Layout, entries_of}
 use Rattle.lower_expr.specs.Effects.{effect_length_of, next_length, put_length, tested_length}
 use Rattle.lower_stmt.specs.declared.length.Saved.{Saved}
 

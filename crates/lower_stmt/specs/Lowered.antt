@@ -1,8 +1,8 @@
 -- What lowering makes of a typed program.
 use Rattle.std.specs.Prelude.{◌≡◌, ℕ, ◌-◌, map, length}
 use Rattle.cstar_tree.specs.declared.typed.Typed.{Typed}
-use Rattle.lower_comm.specs.Drafts.{draft}
-use Rattle.lower_comm.specs.Layouts.{layout_of}
+use Rattle.lower_base.specs.Drafts.{draft}
+use Rattle.lower_base.specs.Layouts.{layout_of}
 use Rattle.paris_code.specs.declared.program.Program.{Program}
 use Rattle.lower_stmt.specs.Programs.{finals_of, slots_behind, space, spaces_of, units_of}
 

@@ -10,8 +10,8 @@ use Rattle.paris_code.specs.declared.operands.Konst.TheVariants as K
 use Rattle.paris_code.specs.declared.program.Final.{Final}
 use Rattle.paris_code.specs.declared.program.Owner.TheVariants as W
 use Rattle.paris_code.specs.declared.program.ShapeBits.{ShapeBits}
-use Rattle.lower_comm.specs.Drafts.{Draft, Made, Makes, Fails, then_make, with_instr, an_entry}
-use Rattle.lower_comm.specs.Layouts.{Layout, layout_of, entries_of, register_of, field_of}
+use Rattle.lower_base.specs.Drafts.{Draft, Made, Makes, Fails, then_make, with_instr, an_entry}
+use Rattle.lower_base.specs.Layouts.{Layout, layout_of, entries_of, register_of, field_of}
 use Rattle.lower_stmt.specs.declared.statement.Frame.{Frame}
 use Rattle.lower_stmt.specs.declared.statement.Outcome.{Outcome}
 use Rattle.lower_stmt.specs.declared.statement.Outcome.TheVariants as R

@@ -8,11 +8,11 @@ use Rattle.cstar_tree.specs.declared.typed.TStmt as S
 use Rattle.cstar_tree.specs.declared.typed.Typed.{Typed}
 use Rattle.paris_code.specs.declared.instr.Instr.TheVariants as I
 use Rattle.paris_code.specs.declared.operands.Field.{Field}
-use Rattle.lower_comm.specs.declared.emit.Out.{Out}
-use Rattle.lower_comm.specs.declared.emit.Out.TheVariants as O
-use Rattle.lower_comm.specs.Drafts.{Draft, Made, Makes, then_make, here, with_instr, an_entry, in_register}
+use Rattle.lower_base.specs.declared.emit.Out.{Out}
+use Rattle.lower_base.specs.declared.emit.Out.TheVariants as O
+use Rattle.lower_base.specs.Drafts.{Draft, Made, Makes, then_make, here, with_instr, an_entry, in_register}
 use Rattle.paris_code.specs.declared.program.Owner.TheVariants as W
-use Rattle.lower_comm.specs.Layouts.{Layout, result_register, own_field}
+use Rattle.lower_base.specs.Layouts.{Layout, result_register, own_field}
 use Rattle.lower_expr.specs.Effects.{effect_of, next_length, next_operand, tested}
 use Rattle.lower_expr.specs.Steps.{put_value}
 use Rattle.lower_stmt.specs.declared.statement.Frame.{Frame}

@@ -7,10 +7,10 @@ use Rattle.cstar_tree.specs.declared.typed.VarInfo.{VarInfo}
 use Rattle.cstar_tree.specs.declared.typed.Variable.TheVariants as V
 use Rattle.paris_code.specs.declared.instr.Instr.TheVariants as I
 use Rattle.paris_code.specs.declared.program.Owner.TheVariants as W
-use Rattle.lower_comm.specs.declared.emit.Out.{Out}
-use Rattle.lower_comm.specs.declared.emit.Out.TheVariants as O
-use Rattle.lower_comm.specs.Drafts.{Draft, Made, Makes, then_make, with_instr, an_entry}
-use Rattle.lower_comm.specs.Layouts.{Layout, entries_of, register_of, field_of}
+use Rattle.lower_base.specs.declared.emit.Out.{Out}
+use Rattle.lower_base.specs.declared.emit.Out.TheVariants as O
+use Rattle.lower_base.specs.Drafts.{Draft, Made, Makes, then_make, with_instr, an_entry}
+use Rattle.lower_base.specs.Layouts.{Layout, entries_of, register_of, field_of}
 use Rattle.lower_expr.specs.Effects.{moved, put_to}
 
 -- so many fresh fields of a shape, each of which becomes zero at every position

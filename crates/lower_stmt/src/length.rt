@@ -1,14 +1,14 @@
 //! How many instructions a statement compiles to.
 
 ghost use Rattle.std.specs.Prelude.{◌≡◌, IfOk};
-ghost use Rattle.lower_comm.specs.Layouts.{layout};
+ghost use Rattle.lower_base.specs.Layouts.{layout};
 ghost use Rattle.lower_stmt.specs.Lengths.{one_more, at_loop, condition_length_of, part_length_of, clear_length_of, initial_length_of, locals_length_of, statement_length_of};
 
 use crate::variables::is_written;
 use cstar_base::Memory;
 use cstar_tree::typed::{LocalVar, TExpr, TStmt, Typed, VarInfo};
-use lower_comm::emit::plus;
-use lower_comm::names::{Names, entries_of};
+use lower_base::emit::plus;
+use lower_base::names::{Names, entries_of};
 use lower_expr::effect_lengths::{effect_length, put_length, test_length};
 use lower_expr::length::used_length;
 

@@ -1,8 +1,8 @@
 //! A program from a typed program: one unit for each instance.
 
 ghost use Rattle.std.specs.Prelude.{◌≡◌, ◌<◌, ◌+◌, ◌-◌, ◌^◌, ◌++◌, length, map, IfOk, OnOk};
-ghost use Rattle.lower_comm.specs.Drafts.{Makes, draft};
-ghost use Rattle.lower_comm.specs.Layouts.{layout, layout_of, entries_of};
+ghost use Rattle.lower_base.specs.Drafts.{Makes, draft};
+ghost use Rattle.lower_base.specs.Layouts.{layout, layout_of, entries_of};
 ghost use Rattle.lower_stmt.specs.Lowered.{IsLowered};
 ghost use Rattle.lower_stmt.specs.Programs.{begun, blank, elements_begun, element_finals, final_name_of, finals_of, instructions_in, outcome_of, own_field_of, own_fields_of, own_result_of, slots_behind, space, spaces_of, start_value_of, start_values_of, unit_of, units_of, variable_finals};
 
@@ -11,8 +11,8 @@ use crate::statement::{Frame, Outcome, Progress, leave, statement};
 use cstar_base::{Memory, Word};
 use cstar_tree::typed::{Instance, Typed, VarInfo, Variable};
 use itoa::Buffer;
-use lower_comm::emit::{count, entry, plus, put};
-use lower_comm::names::{Names, entries_of};
+use lower_base::emit::{count, entry, plus, put};
+use lower_base::names::{Names, entries_of};
 use paris_code::{Field, Final, Instr, Konst, Owner, Program, ShapeBits, Unit};
 use std::alloc::Global;
 
@@ -51,7 +51,7 @@ pub fn lower(alloc: Global, t: &Typed) -> Result<Program, Memory>
 }
 
 /// The unit of an instance, whose registers begin at `regs`.
-#[tactic(auto, unfolding(crate::specs::Programs::unit_of, crate::specs::Programs::body_frame, lower_comm::specs::Drafts::then_make))]
+#[tactic(auto, unfolding(crate::specs::Programs::unit_of, crate::specs::Programs::body_frame, lower_base::specs::Drafts::then_make))]
 fn lower_unit(
     alloc: Global,
     t: &Typed,
@@ -94,7 +94,7 @@ fn lower_unit(
 }
 
 /// A unit that has nothing yet but its name.
-#[tactic(auto, unfolding(crate::specs::Programs::blank, lower_comm::specs::Drafts::draft))]
+#[tactic(auto, unfolding(crate::specs::Programs::blank, lower_base::specs::Drafts::draft))]
 fn blank(alloc: Global, name: &Word, regs: u32) -> Result<Unit, Memory>
     ensures draft { IfOk result (λ unit. draft unit ≡ blank name.now regs) }
 {
@@ -108,7 +108,7 @@ fn blank(alloc: Global, name: &Word, regs: u32) -> Result<Unit, Memory>
 }
 
 /// The entries of parallel parameters.
-#[tactic(auto, using(std::proofs::lemmas::List::drop_more), unfolding(crate::specs::Programs::own_fields_of, lower_comm::specs::Drafts::then_make))]
+#[tactic(auto, using(std::proofs::lemmas::List::drop_more), unfolding(crate::specs::Programs::own_fields_of, lower_base::specs::Drafts::then_make))]
 fn own_fields(params: &[VarInfo], u: &mut Unit) -> Result<(), Memory>
     ensures draft { OnOk result (own_fields_of params.now (draft u.old) ≡ Makes tt (draft u.new)) }
 {
@@ -130,7 +130,7 @@ fn own_result(info: &Option<VarInfo>, u: &mut Unit) -> Result<(), Memory>
 }
 
 /// The entry of a parallel parameter or result.
-#[tactic(auto, unfolding(crate::specs::Programs::own_field_of, lower_comm::specs::Drafts::then_make))]
+#[tactic(auto, unfolding(crate::specs::Programs::own_field_of, lower_base::specs::Drafts::then_make))]
 fn own_field(info: &VarInfo, u: &mut Unit) -> Result<(), Memory>
     ensures draft { OnOk result (own_field_of info.now (draft u.old) ≡ Makes tt (draft u.new)) }
 {
@@ -170,7 +170,7 @@ fn begin(t: &Typed, names: &Names, is_main: bool, u: &mut Unit) -> Result<(), Me
 }
 
 /// The variables of the file that do not begin as zero.
-#[tactic(auto, using(std::proofs::lemmas::List::drop_more), unfolding(crate::specs::Programs::start_values_of, lower_comm::specs::Drafts::then_make))]
+#[tactic(auto, using(std::proofs::lemmas::List::drop_more), unfolding(crate::specs::Programs::start_values_of, lower_base::specs::Drafts::then_make))]
 fn start_values(t: &Typed, names: &Names, u: &mut Unit) -> Result<(), Memory>
     ensures draft { OnOk result (start_values_of t.now (layout names.now) t.now.vars.items 0 (draft u.old) ≡ Makes tt (draft u.new)) }
 {
@@ -276,7 +276,7 @@ fn finals(alloc: Global, t: &Typed) -> Result<Vec<Final>, Memory>
 }
 
 /// The elements of a variable, where it is parallel.
-#[tactic(auto, unfolding(crate::specs::Programs::variable_finals, lower_comm::specs::Layouts::entries_of))]
+#[tactic(auto, unfolding(crate::specs::Programs::variable_finals, lower_base::specs::Layouts::entries_of))]
 fn add_finals(alloc: Global, info: &VarInfo, finals: &mut Vec<Final>) -> Result<(), Memory>
     ensures items { OnOk result (finals.new.items ≡ finals.old.items ++ variable_finals info.now (length finals.old.items)) }
     ensures count { OnOk result (length finals.new.items ≡ length finals.old.items + entries_of info.now) }

@@ -3,8 +3,8 @@
 //! the contexts that they saved, the innermost first, so that the outermost one stays.
 
 ghost use Rattle.std.specs.Prelude.{◌≡◌, ◌+◌, ◌++◌, [], ◌∷◌, IfOk, OnOk, Some};
-ghost use Rattle.lower_comm.specs.Drafts.{Makes, draft};
-ghost use Rattle.lower_comm.specs.Layouts.{layout};
+ghost use Rattle.lower_base.specs.Drafts.{Makes, draft};
+ghost use Rattle.lower_base.specs.Layouts.{layout};
 ghost use Rattle.lower_stmt.specs.Frames.{has_result, in_loop, in_context, with_end};
 ghost use Rattle.lower_stmt.specs.Lengths.{at_loop, statement_length_of};
 ghost use Rattle.lower_stmt.specs.Statements.{closing, condition_of, given_back, jump_back_of, narrowed, part_of, restored, returned, statement_of, stored_result, turned, turns_of, widened};
@@ -13,9 +13,9 @@ use crate::length::{Saved, condition_length, part_length, statement_length};
 use crate::variables::declare;
 use cstar_base::Memory;
 use cstar_tree::typed::{TExpr, TStmt, Typed};
-use lower_comm::Out;
-use lower_comm::emit::{flag, here, plus, put};
-use lower_comm::names::{Names, own_entry};
+use lower_base::Out;
+use lower_base::emit::{flag, here, plus, put};
+use lower_base::names::{Names, own_entry};
 use lower_expr::effects::{effect, test};
 use lower_expr::length::used_length;
 use lower_expr::steps::set;
@@ -95,7 +95,7 @@ pub struct Progress {
 
 /// Appends the code of a statement.
 #[cycle(statement)]
-#[tactic(auto, unfolding(crate::specs::Statements::statement_of, crate::specs::Statements::part_of, lower_comm::specs::Drafts::then_make))]
+#[tactic(auto, unfolding(crate::specs::Statements::statement_of, crate::specs::Statements::part_of, lower_base::specs::Drafts::then_make))]
 pub fn statement(
     alloc: Global,
     t: &Typed,
@@ -146,7 +146,7 @@ pub fn statement(
 }
 
 /// An expression whose value is not used.
-#[tactic(auto, unfolding(crate::specs::Statements::part_of, lower_comm::specs::Drafts::then_make))]
+#[tactic(auto, unfolding(crate::specs::Statements::part_of, lower_base::specs::Drafts::then_make))]
 fn evaluate(alloc: Global, t: &Typed, names: &Names, e: &TExpr, u: &mut Unit) -> Result<(), Memory>
     ensures draft { OnOk result (part_of t.now (layout names.now) (Some e.now) (draft u.old) ≡ Makes tt (draft u.new)) }
 {
@@ -172,7 +172,7 @@ fn evaluate_part(
 }
 
 /// The value of a condition, in a register.
-#[tactic(auto, unfolding(crate::specs::Statements::condition_of, lower_expr::specs::Effects::next_operand, lower_comm::specs::Drafts::then_make, lower_comm::specs::Drafts::in_register))]
+#[tactic(auto, unfolding(crate::specs::Statements::condition_of, lower_expr::specs::Effects::next_operand, lower_base::specs::Drafts::then_make, lower_base::specs::Drafts::in_register))]
 fn condition(
     alloc: Global,
     t: &Typed,
@@ -231,7 +231,7 @@ fn return_value(
 }
 
 /// The returned value becomes the result, that of a field at the active positions.
-#[tactic(auto, unfolding(crate::specs::Statements::given_back, lower_expr::specs::Effects::next_operand, lower_comm::specs::Drafts::then_make))]
+#[tactic(auto, unfolding(crate::specs::Statements::given_back, lower_expr::specs::Effects::next_operand, lower_base::specs::Drafts::then_make))]
 fn give_back(
     alloc: Global,
     t: &Typed,
@@ -247,7 +247,7 @@ fn give_back(
 }
 
 /// A value becomes the function's result.
-#[tactic(auto, unfolding(crate::specs::Statements::stored_result, lower_comm::specs::Drafts::then_make, lower_comm::specs::Layouts::layout))]
+#[tactic(auto, unfolding(crate::specs::Statements::stored_result, lower_base::specs::Drafts::then_make, lower_base::specs::Layouts::layout))]
 fn store_result(names: &Names, outcome: Outcome, v: Out, u: &mut Unit) -> Result<(), Memory>
     ensures draft { OnOk result (stored_result (layout names.now) outcome v (draft u.old) ≡ Makes tt (draft u.new)) }
 {
@@ -263,7 +263,7 @@ fn store_result(names: &Names, outcome: Outcome, v: Out, u: &mut Unit) -> Result
 
 /// `if`.
 #[cycle(statement)]
-#[tactic(auto, unfolding(crate::specs::Statements::statement_of, crate::specs::Statements::else_of, crate::specs::Statements::past, lower_comm::specs::Drafts::then_make))]
+#[tactic(auto, unfolding(crate::specs::Statements::statement_of, crate::specs::Statements::else_of, crate::specs::Statements::past, lower_base::specs::Drafts::then_make))]
 fn branch(
     alloc: Global,
     t: &Typed,
@@ -310,7 +310,7 @@ fn branch(
 
 /// A loop. A `while` and a `for` begin with a jump to their test; a `do` does not.
 #[cycle(statement)]
-#[tactic(auto, using(crate::proofs::LoopPlaces::here_more), unfolding(crate::specs::Statements::statement_of, crate::specs::Statements::turns_of, crate::specs::Statements::jump_back_of, lower_expr::specs::Effects::next_length, lower_comm::specs::Drafts::then_make))]
+#[tactic(auto, using(crate::proofs::LoopPlaces::here_more), unfolding(crate::specs::Statements::statement_of, crate::specs::Statements::turns_of, crate::specs::Statements::jump_back_of, lower_expr::specs::Effects::next_length, lower_base::specs::Drafts::then_make))]
 fn repeat(
     alloc: Global,
     t: &Typed,
@@ -358,7 +358,7 @@ fn repeat(
 
 /// The turns of a `while` or a `do`, whose body begins here and whose test is at `next`.
 #[cycle(statement)]
-#[tactic(auto, unfolding(crate::specs::Statements::turns_of, crate::specs::Statements::jump_back_of, lower_expr::specs::Effects::next_length, lower_comm::specs::Drafts::then_make))]
+#[tactic(auto, unfolding(crate::specs::Statements::turns_of, crate::specs::Statements::jump_back_of, lower_expr::specs::Effects::next_length, lower_base::specs::Drafts::then_make))]
 fn turns(
     alloc: Global,
     t: &Typed,
@@ -390,7 +390,7 @@ fn behind_body(t: &Typed, names: &Names, body: &TStmt, f: Frame, turn: u32) -> R
 }
 
 /// The end of a `for`: back to its turn, if its condition is there and not zero, or always.
-#[tactic(auto, unfolding(crate::specs::Statements::jump_back_of, lower_comm::specs::Drafts::then_make))]
+#[tactic(auto, unfolding(crate::specs::Statements::jump_back_of, lower_base::specs::Drafts::then_make))]
 fn jump_back(
     alloc: Global,
     t: &Typed,
@@ -412,7 +412,7 @@ fn jump_back(
 
 /// `where`.
 #[cycle(statement)]
-#[tactic(auto, unfolding(crate::specs::Statements::statement_of, crate::specs::Statements::otherwise_of, crate::specs::Statements::kept_for, lower_comm::specs::Drafts::then_make))]
+#[tactic(auto, unfolding(crate::specs::Statements::statement_of, crate::specs::Statements::otherwise_of, crate::specs::Statements::kept_for, lower_base::specs::Drafts::then_make))]
 fn narrow_and_run(
     alloc: Global,
     t: &Typed,
@@ -453,7 +453,7 @@ fn narrow_and_run(
 
 /// A statement where one more context is saved, which is loaded behind it.
 #[cycle(statement)]
-#[tactic(auto, unfolding(crate::specs::Statements::closing, lower_comm::specs::Drafts::then_make))]
+#[tactic(auto, unfolding(crate::specs::Statements::closing, lower_base::specs::Drafts::then_make))]
 fn within(
     alloc: Global,
     t: &Typed,

@@ -1,22 +1,22 @@
 //! The variables of a block.
 
 ghost use Rattle.std.specs.Prelude.{◌≡◌, ◌||◌, ◌==◌, is_none, IfOk, OnOk};
-ghost use Rattle.lower_comm.specs.Drafts.{Makes, draft};
-ghost use Rattle.lower_comm.specs.Layouts.{layout};
+ghost use Rattle.lower_base.specs.Drafts.{Makes, draft};
+ghost use Rattle.lower_base.specs.Layouts.{layout};
 ghost use Rattle.lower_stmt.specs.Variables.{all_cleared, all_initialised, cleared, cleared_fields, declared, initial_put, initialised, variable_of, with_home};
 
 use cstar_base::Memory;
 use cstar_tree::typed::{LocalVar, TExpr, Typed, VarInfo, Variable};
-use lower_comm::Out;
-use lower_comm::emit::{entry, plus, put};
-use lower_comm::names::{Names, count, entries_of};
+use lower_base::Out;
+use lower_base::emit::{entry, plus, put};
+use lower_base::names::{Names, count, entries_of};
 use lower_expr::effects::{move_to, put_to};
 use paris_code::{Instr, Owner, Unit};
 use std::alloc::Global;
 
 /// The variables of a block, from a number on: all become zero, and then the initialisers run in
 /// order. Answers the number of the variable that is declared next.
-#[tactic(auto, unfolding(crate::specs::Variables::declared, lower_comm::specs::Drafts::then_make))]
+#[tactic(auto, unfolding(crate::specs::Variables::declared, lower_base::specs::Drafts::then_make))]
 pub fn declare(
     alloc: Global,
     t: &Typed,
@@ -33,7 +33,7 @@ pub fn declare(
 }
 
 /// All become zero.
-#[tactic(auto, using(std::proofs::lemmas::List::drop_more), unfolding(crate::specs::Variables::all_cleared, lower_comm::specs::Drafts::then_make))]
+#[tactic(auto, using(std::proofs::lemmas::List::drop_more), unfolding(crate::specs::Variables::all_cleared, lower_base::specs::Drafts::then_make))]
 fn clear_all(names: &Names, locals: &[LocalVar], first: u32, u: &mut Unit) -> Result<(), Memory>
     ensures draft { OnOk result (all_cleared (layout names.now) locals.now first (draft u.old) ≡ Makes tt (draft u.new)) }
 {
@@ -46,7 +46,7 @@ fn clear_all(names: &Names, locals: &[LocalVar], first: u32, u: &mut Unit) -> Re
 }
 
 /// The initialisers.
-#[tactic(auto, using(std::proofs::lemmas::List::drop_more), unfolding(crate::specs::Variables::all_initialised, lower_comm::specs::Drafts::then_make))]
+#[tactic(auto, using(std::proofs::lemmas::List::drop_more), unfolding(crate::specs::Variables::all_initialised, lower_base::specs::Drafts::then_make))]
 fn initialise_all(
     alloc: Global,
     t: &Typed,
@@ -66,7 +66,7 @@ fn initialise_all(
 }
 
 /// The initialiser of a variable, if it has one.
-#[tactic(auto, unfolding(crate::specs::Variables::initialised, lower_comm::specs::Drafts::then_make))]
+#[tactic(auto, unfolding(crate::specs::Variables::initialised, lower_base::specs::Drafts::then_make))]
 fn initialise(
     alloc: Global,
     t: &Typed,
@@ -115,7 +115,7 @@ pub fn is_written(info: &VarInfo) -> bool
 }
 
 /// Where a variable of a block is.
-#[tactic(auto, unfolding(crate::specs::Variables::variable_of, lower_comm::specs::Drafts::then_make))]
+#[tactic(auto, unfolding(crate::specs::Variables::variable_of, lower_base::specs::Drafts::then_make))]
 fn variable(
     t: &Typed,
     names: &Names,
@@ -145,7 +145,7 @@ fn clear(names: &Names, info: &VarInfo, number: u32, u: &mut Unit) -> Result<(),
 }
 
 /// The next parallel variable of the blocks has its first entry here.
-#[tactic(auto, unfolding(crate::specs::Variables::with_home, lower_comm::specs::Drafts::draft))]
+#[tactic(auto, unfolding(crate::specs::Variables::with_home, lower_base::specs::Drafts::draft))]
 fn begin_home(u: &mut Unit) -> Result<(), Memory>
     ensures draft { OnOk result (with_home (draft u.old) ≡ draft u.new) }
 {

@@ -8,7 +8,7 @@ use Rattle.paris_code.specs.declared.program.Image.{Image}
 use Rattle.paris_code.specs.Listing.{listing, shape_line, slots_line, depth_line, final_line, unit_line, instruction_line}
 use Rattle.paris_code.specs.Plain.{IsPlain, IsName, IsElementName, unit_name, final_name}
 use Rattle.paris_code.specs.Shapes.{shape_of, shapes_of}
-use Rattle.lower_comm.specs.Drafts.{step}
+use Rattle.lower_base.specs.Drafts.{step}
 use Rattle.plain_listings.specs.Contents.{ShapeHasWords, FinalHasWords, EntryHasWords, InstrHasWords, HasWords, DeterminesImage}
 use Rattle.plain_listings.proofs.OperandTexts.{first_of_all, others_of_all, all_back}
 use Rattle.plain_listings.proofs.Lines.{Row, line_of, IsRow, Each, each_append, rows_in, rows_back, no_word, numbered_rows, numbered_lines, numbered_each, numbered_back, pick, pick_append, pick_same, pick_other, Labelled}

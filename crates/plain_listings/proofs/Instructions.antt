@@ -14,9 +14,9 @@ use Rattle.paris_code.specs.declared.instr.Instr.{Instr}
 use Rattle.paris_code.specs.declared.instr.Instr.TheVariants as I
 use Rattle.paris_code.specs.Mnemonics.{sign_name, operation_name, relation_name, reduction_name, format_name, mnemonic_of}
 use Rattle.paris_code.specs.Listing.{operands_of, register_text, coordinate_text, checked_text, checked_register_text, step_text, mode_text, bit_text, inclusion_text}
-use Rattle.lower_comm.specs.Drafts.{step}
+use Rattle.lower_base.specs.Drafts.{step}
 use Rattle.plain_listings.specs.Contents.{IsWord, CoordinateHasWords, CheckedHasWords, RegisterHasWords, StepHasWords, InstrHasWords}
-use Rattle.lower_comm.specs.Drafts.Step.{Plain, MakesAddress, ChecksTarget, ChecksGrid, FrontMakesAddress, FrontChecksTarget}
+use Rattle.lower_base.specs.Drafts.Step.{Plain, MakesAddress, ChecksTarget, ChecksGrid, FrontMakesAddress, FrontChecksTarget}
 use Rattle.plain_listings.proofs.Cuts.{only_append}
 use Rattle.plain_listings.proofs.Numbers.{is_solid}
 use Rattle.plain_listings.proofs.OperandTexts.{Solid, AreSolid, all_back, all_solid, field_back, konst_back, marked_back, place_back, kind_back, direction_back, mode_back, inclusion_back, bit_back, bytes_back, coordinate_back, checked_back, step_back, checked_register_back, field_solid, konst_solid, marked_solid, place_solid, kind_solid, direction_solid, mode_solid, inclusion_solid, bit_solid, bytes_solid, coordinate_solid, checked_solid, step_solid, checked_register_solid, coordinate_in, checked_in, step_in, checked_register_in, marked_in, mode_in, bit_in, inclusion_in}

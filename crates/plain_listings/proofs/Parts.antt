@@ -12,7 +12,7 @@ use Rattle.paris_code.specs.Listing.{shape_line, final_line, unit_line, instruct
 use Rattle.paris_code.specs.Mnemonics.{mnemonic_of}
 use Rattle.paris_code.specs.Plain.{IsName, IsNumeral, IsElementName, begins_name, goes_on_name, is_digit, unit_name, final_name}
 use Rattle.paris_code.specs.Shapes.{SetShape, shape_of}
-use Rattle.lower_comm.specs.Drafts.{Step, step}
+use Rattle.lower_base.specs.Drafts.{Step, step}
 use Rattle.plain_listings.specs.Contents.{IsWord, ShapeHasWords, FinalHasWords, EntryHasWords, InstrHasWords}
 use Rattle.plain_listings.proofs.Cuts.{only, only_append, both, and_left, off, lacks, cut, cut_first}
 use Rattle.plain_listings.proofs.Numbers.{value, value_back, digits, other, without, is_solid, number_solid, solid_digit}

@@ -13,8 +13,8 @@ use Rattle.cstar_base.specs.declared.formats.NumberFormat.{NumberFormat}
 use Rattle.cstar_base.specs.declared.formats.NumberFormat.TheVariants as N
 use Rattle.paris_code.specs.declared.instr.Instr.TheVariants as I
 use Rattle.paris_code.specs.Mnemonics.{sign_name, operation_name, relation_name, reduction_name, format_name}
-use Rattle.lower_comm.specs.Drafts.{Step}
-use Rattle.lower_comm.specs.Drafts.Step.{Plain, MakesAddress, ChecksTarget, ChecksGrid, FrontMakesAddress, FrontChecksTarget}
+use Rattle.lower_base.specs.Drafts.{Step}
+use Rattle.lower_base.specs.Drafts.Step.{Plain, MakesAddress, ChecksTarget, ChecksGrid, FrontMakesAddress, FrontChecksTarget}
 use Rattle.plain_listings.proofs.OperandTexts.{piece, field_in, konst_in, marked_in, place_in, kind_in, direction_in, mode_in, inclusion_in, bit_in, bytes_in, coordinate_in, checked_in, step_in, checked_register_in}
 
 -- a mnemonic, and what is read of the operands behind it

@@ -19,7 +19,7 @@ use Rattle.paris_code.specs.declared.program.ShapeBits.{ShapeBits}
 use Rattle.paris_code.specs.Listing.{listing}
 use Rattle.paris_code.specs.Plain.{IsPlain}
 use Rattle.paris_code.specs.Shapes.{shapes_of}
-use Rattle.lower_comm.specs.Drafts.{step}
+use Rattle.lower_base.specs.Drafts.{step}
 
 -- two images hold the same, item by item
 pub record SameImage (one other : Image) : Type 0 where

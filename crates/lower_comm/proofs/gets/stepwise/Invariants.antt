@@ -1,5 +1,5 @@
 use Rattle.std.proofs.Common.{◌≡◌, drop}
-use Rattle.lower_comm.specs.Drafts.{draft}
+use Rattle.lower_base.specs.Drafts.{draft}
 use Rattle.lower_comm.specs.Messages.{stepwise}
 use Rattle.lower_comm.proofs.gets.stepwise.Given as goal
 

@@ -1,5 +1,5 @@
 use Rattle.std.proofs.Common.{◌≡◌, ◌≤◌, length, drop}
-use Rattle.lower_comm.specs.Drafts.{draft}
+use Rattle.lower_base.specs.Drafts.{draft}
 use Rattle.lower_expr.specs.Frames.{passed}
 use Rattle.lower_expr.proofs.frames.pass_all.Given as goal
 

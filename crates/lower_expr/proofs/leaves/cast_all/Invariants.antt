@@ -1,5 +1,5 @@
 use Rattle.std.proofs.Common.{◌≡◌}
-use Rattle.lower_comm.specs.Drafts.{draft}
+use Rattle.lower_base.specs.Drafts.{draft}
 use Rattle.lower_expr.specs.Values.{casts_put}
 use Rattle.lower_expr.proofs.leaves.cast_all.Given as goal
 

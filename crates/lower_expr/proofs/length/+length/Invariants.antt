@@ -1,5 +1,5 @@
 use Rattle.std.proofs.Common.{◌≡◌, ◌+◌, drop}
-use Rattle.lower_comm.specs.Layouts.{layout}
+use Rattle.lower_base.specs.Layouts.{layout}
 use Rattle.lower_expr.specs.Lengths.{lengths_in}
 use Rattle.lower_expr.proofs.length.+length.Given as goal
 

@@ -1,5 +1,5 @@
 use Rattle.std.proofs.Common.{◌≡◌, ◌≤◌, length, drop}
-use Rattle.lower_comm.specs.Drafts.{draft}
+use Rattle.lower_base.specs.Drafts.{draft}
 use Rattle.lower_expr.specs.Steps.{pieces_printed}
 use Rattle.lower_expr.proofs.steps.print_pieces.Given as goal
 

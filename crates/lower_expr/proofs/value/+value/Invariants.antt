@@ -1,6 +1,6 @@
 use Rattle.std.proofs.Common.{◌≡◌, [], drop}
-use Rattle.lower_comm.specs.Drafts.{draft}
-use Rattle.lower_comm.specs.Layouts.{layout}
+use Rattle.lower_base.specs.Drafts.{draft}
+use Rattle.lower_base.specs.Layouts.{layout}
 use Rattle.lower_expr.specs.Values.{values_in}
 use Rattle.lower_expr.proofs.value.+value.Given as goal
 

@@ -1,7 +1,7 @@
 use Rattle.std.proofs.Common.{◌<◌, length, arith}
 use Rattle.std.proofs.lemmas.Grind.{common_steps}
 use Rattle.std.proofs.lemmas.List.{at_drop_more}
-use Rattle.lower_comm.specs.Layouts.{layout}
+use Rattle.lower_base.specs.Layouts.{layout}
 use Rattle.lower_stmt.proofs.LengthRows.{listed_length, block_length}
 use Rattle.lower_stmt.proofs.length.+statement_length.Goals as goal
 

@@ -1,5 +1,5 @@
 use Rattle.std.proofs.Common.{◌≡◌, ◌+◌, drop}
-use Rattle.lower_comm.specs.Layouts.{layout}
+use Rattle.lower_base.specs.Layouts.{layout}
 use Rattle.lower_stmt.proofs.LengthRows.{listed_length}
 use Rattle.lower_stmt.specs.Lengths.{statement_length_of}
 use Rattle.lower_stmt.proofs.length.+statement_length.Given as goal

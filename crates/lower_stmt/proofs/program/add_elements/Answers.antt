@@ -1,6 +1,6 @@
 use Rattle.std.proofs.Common.{◌<◌, ◌∙◌, arith}
 use Rattle.std.proofs.lemmas.Grind.{common_steps}
-use Rattle.lower_comm.specs.Layouts.{entries_of}
+use Rattle.lower_base.specs.Layouts.{entries_of}
 use Rattle.lower_stmt.proofs.ElementFinals.{final_is, one_more_final}
 use Rattle.lower_stmt.proofs.program.add_elements.Goals as goal
 

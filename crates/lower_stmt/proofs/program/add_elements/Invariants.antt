@@ -1,5 +1,5 @@
 use Rattle.std.proofs.Common.{◌≡◌, ◌+◌, ◌-◌, ◌++◌, length}
-use Rattle.lower_comm.specs.Layouts.{entries_of}
+use Rattle.lower_base.specs.Layouts.{entries_of}
 use Rattle.lower_stmt.specs.Programs.{element_finals}
 use Rattle.lower_stmt.proofs.program.add_elements.Given as goal
 

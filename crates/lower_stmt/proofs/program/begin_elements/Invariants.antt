@@ -1,6 +1,6 @@
 use Rattle.std.proofs.Common.{◌≡◌, ◌-◌}
-use Rattle.lower_comm.specs.Drafts.{draft}
-use Rattle.lower_comm.specs.Layouts.{layout}
+use Rattle.lower_base.specs.Drafts.{draft}
+use Rattle.lower_base.specs.Layouts.{layout}
 use Rattle.lower_stmt.specs.Programs.{elements_begun}
 use Rattle.lower_stmt.proofs.program.begin_elements.Given as goal
 

@@ -1,8 +1,8 @@
 use Rattle.std.proofs.Common.{◌≡◌, ◌+◌, ◌<◌, ◌==◌, drop, length, ap, arith}
 use Rattle.std.proofs.lemmas.Grind.{common_steps}
 use Rattle.std.proofs.lemmas.List.{at_drop_more}
-use Rattle.lower_comm.specs.Drafts.{Makes, draft}
-use Rattle.lower_comm.specs.Layouts.{Layout, layout, layout_of}
+use Rattle.lower_base.specs.Drafts.{Makes, draft}
+use Rattle.lower_base.specs.Layouts.{Layout, layout, layout_of}
 use Rattle.lower_stmt.specs.Programs.{instructions_in, slots_behind, unit_of, units_of}
 use Rattle.lower_stmt.proofs.UnitsPushed.{first_unit, instructions_more, one_more_unit, slots_more}
 use Rattle.lower_stmt.proofs.program.lower.Goals as goal

@@ -1,6 +1,6 @@
 use Rattle.std.proofs.Common.{◌≡◌, ℕ, ◌<◌, ◌^◌, ◌++◌, drop, length, map}
-use Rattle.lower_comm.specs.Drafts.{draft}
-use Rattle.lower_comm.specs.Layouts.{layout, layout_of}
+use Rattle.lower_base.specs.Drafts.{draft}
+use Rattle.lower_base.specs.Layouts.{layout, layout_of}
 use Rattle.lower_stmt.specs.Programs.{instructions_in, slots_behind, units_of}
 use Rattle.lower_stmt.proofs.program.lower.Given as goal
 

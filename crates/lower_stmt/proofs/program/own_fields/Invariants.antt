@@ -1,5 +1,5 @@
 use Rattle.std.proofs.Common.{◌≡◌, drop}
-use Rattle.lower_comm.specs.Drafts.{draft}
+use Rattle.lower_base.specs.Drafts.{draft}
 use Rattle.lower_stmt.specs.Programs.{own_fields_of}
 use Rattle.lower_stmt.proofs.program.own_fields.Given as goal
 

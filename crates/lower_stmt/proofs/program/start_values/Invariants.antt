@@ -1,6 +1,6 @@
 use Rattle.std.proofs.Common.{◌≡◌, drop}
-use Rattle.lower_comm.specs.Drafts.{draft}
-use Rattle.lower_comm.specs.Layouts.{layout}
+use Rattle.lower_base.specs.Drafts.{draft}
+use Rattle.lower_base.specs.Layouts.{layout}
 use Rattle.lower_stmt.specs.Programs.{start_values_of}
 use Rattle.lower_stmt.proofs.program.start_values.Given as goal
 

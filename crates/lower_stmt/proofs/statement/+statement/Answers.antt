@@ -1,8 +1,8 @@
 use Rattle.std.proofs.Common.{◌<◌, length, refl, arith}
 use Rattle.std.proofs.lemmas.Grind.{common_steps}
 use Rattle.std.proofs.lemmas.List.{at_drop_more}
-use Rattle.lower_comm.specs.Drafts.{draft, then_make}
-use Rattle.lower_comm.specs.Layouts.{layout}
+use Rattle.lower_base.specs.Drafts.{draft, then_make}
+use Rattle.lower_base.specs.Layouts.{layout}
 use Rattle.lower_stmt.proofs.StatementRows.{listed, block_code}
 use Rattle.lower_stmt.proofs.statement.+statement.Goals as goal
 

@@ -1,6 +1,6 @@
 use Rattle.std.proofs.Common.{◌≡◌, drop}
-use Rattle.lower_comm.specs.Drafts.{draft}
-use Rattle.lower_comm.specs.Layouts.{layout}
+use Rattle.lower_base.specs.Drafts.{draft}
+use Rattle.lower_base.specs.Layouts.{layout}
 use Rattle.lower_stmt.proofs.StatementRows.{listed}
 use Rattle.lower_stmt.specs.Statements.{statement_of}
 use Rattle.lower_stmt.proofs.statement.+statement.Given as goal

@@ -1,5 +1,5 @@
 use Rattle.std.proofs.Common.{◌≡◌, ◌-◌}
-use Rattle.lower_comm.specs.Drafts.{draft}
+use Rattle.lower_base.specs.Drafts.{draft}
 use Rattle.lower_stmt.specs.Variables.{cleared_fields}
 use Rattle.lower_stmt.proofs.variables.clear_fields.Given as goal
 

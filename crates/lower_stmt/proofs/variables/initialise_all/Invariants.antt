@@ -1,6 +1,6 @@
 use Rattle.std.proofs.Common.{◌≡◌, drop}
-use Rattle.lower_comm.specs.Drafts.{draft}
-use Rattle.lower_comm.specs.Layouts.{layout}
+use Rattle.lower_base.specs.Drafts.{draft}
+use Rattle.lower_base.specs.Layouts.{layout}
 use Rattle.lower_stmt.specs.Variables.{all_initialised}
 use Rattle.lower_stmt.proofs.variables.initialise_all.Given as goal
 

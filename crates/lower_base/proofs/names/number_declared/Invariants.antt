@@ -1,7 +1,7 @@
 use Rattle.std.proofs.Common.{◌≡◌, map, take}
 use Rattle.cstar_tree.specs.declared.typed.LocalVar.{LocalVar}
-use Rattle.lower_comm.specs.Layouts.{Numbering, numbered}
-use Rattle.lower_comm.proofs.names.number_declared.Given as goal
+use Rattle.lower_base.specs.Layouts.{Numbering, numbered}
+use Rattle.lower_base.proofs.names.number_declared.Given as goal
 
 abbrev pub invariant-loop-local : goal.invariant-loop-local
 invariant-loop-local l =

@@ -13,8 +13,8 @@ use Rattle.paris_code.specs.declared.program.Owner.{Owner}
 use Rattle.paris_code.specs.declared.program.Owner.TheVariants as W
 use Rattle.paris_code.specs.declared.program.Unit.{Unit}
 use Rattle.paris_code.specs.declared.program.Virtual.{Virtual}
-use Rattle.lower_comm.specs.declared.emit.Out.{Out}
-use Rattle.lower_comm.specs.declared.emit.Out.TheVariants as O
+use Rattle.lower_base.specs.declared.emit.Out.{Out}
+use Rattle.lower_base.specs.declared.emit.Out.TheVariants as O
 
 -- An instruction, wherever its list of coordinates is kept: one with such a list has its items here.
 pub data Step : Type 0 where

@@ -7,10 +7,10 @@
 ghost use Rattle.std.specs.Prelude.{◌≡◌, ℕ, ◌+◌, ◌++◌, length, map, fold, IfOk, OnOk};
 ghost use Rattle.cstar_tree.specs.declared.typed.LocalVar.{LocalVar};
 ghost use Rattle.cstar_tree.specs.TypedParts.{concat};
-ghost use Rattle.lower_comm.specs.Drafts.{Makes, draft, from, an_entry};
+ghost use Rattle.lower_base.specs.Drafts.{Makes, draft, from, an_entry};
 ghost use Rattle.paris_code.specs.declared.program.Owner.TheVariants as W;
 ghost use Rattle.cstar_tree.specs.Variables.{variables_of};
-ghost use Rattle.lower_comm.specs.Layouts.{layout, entries_of, elements_of, result_register, register_of, own_field, field_of, first_fields, behind, param_entries, numbered, nothing_numbered, with_local, first_named, earlier_base, with_instance, registers_of, entered, layout_of};
+ghost use Rattle.lower_base.specs.Layouts.{layout, entries_of, elements_of, result_register, register_of, own_field, field_of, first_fields, behind, param_entries, numbered, nothing_numbered, with_local, first_named, earlier_base, with_instance, registers_of, entered, layout_of};
 
 pub use crate::emit::count;
 use crate::emit::{entry, plus};

@@ -2,8 +2,8 @@
 
 ghost use Rattle.std.specs.Prelude.{◌≡◌, ◌+◌, IfOk, OnOk};
 ghost use Rattle.paris_code.specs.declared.program.Owner.TheVariants as W;
-ghost use Rattle.lower_comm.specs.declared.emit.Out.TheVariants as O;
-ghost use Rattle.lower_comm.specs.Drafts.{Makes, draft, here, with_instr, a_register, an_entry, fresh_for};
+ghost use Rattle.lower_base.specs.declared.emit.Out.TheVariants as O;
+ghost use Rattle.lower_base.specs.Drafts.{Makes, draft, here, with_instr, a_register, an_entry, fresh_for};
 
 use cstar_base::Memory;
 use cstar_tree::typed::ValueType;

@@ -1,8 +1,8 @@
 use Rattle.std.proofs.Common.{◌≡◌, map, drop}
 use Rattle.cstar_tree.specs.TypedParts.{concat}
 use Rattle.cstar_tree.specs.Variables.{variables_of}
-use Rattle.lower_comm.specs.Layouts.{Numbering, numbered}
-use Rattle.lower_comm.proofs.names.+locals.Given as goal
+use Rattle.lower_base.specs.Layouts.{Numbering, numbered}
+use Rattle.lower_base.proofs.names.+locals.Given as goal
 
 abbrev pub invariant-number_each-loop-statement : goal.invariant-number_each-loop-statement
 invariant-number_each-loop-statement l =

@@ -2,7 +2,7 @@
 
 ghost use Rattle.std.specs.Prelude.{◌≡◌};
 ghost use Rattle.cstar_base.specs.Operators.{divides};
-ghost use Rattle.lower_comm.specs.Operators.{operation_of, machine_of, assign_op_of, fold_of, reduce_op_of, scan_fold_of, is_signed};
+ghost use Rattle.lower_base.specs.Operators.{operation_of, machine_of, assign_op_of, fold_of, reduce_op_of, scan_fold_of, is_signed};
 
 use cstar_base::{Combiner, Elem, Op};
 use cstar_tree::syntax::{AssignOp, ReduceOp};

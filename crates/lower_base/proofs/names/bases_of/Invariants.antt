@@ -1,6 +1,6 @@
 use Rattle.std.proofs.Common.{◌≡◌, fold, take, []}
-use Rattle.lower_comm.specs.Layouts.{Registers, with_instance}
-use Rattle.lower_comm.proofs.names.bases_of.Given as goal
+use Rattle.lower_base.specs.Layouts.{Registers, with_instance}
+use Rattle.lower_base.proofs.names.bases_of.Given as goal
 
 abbrev pub invariant-loop-instance : goal.invariant-loop-instance
 invariant-loop-instance l =

@@ -2,8 +2,8 @@ use Rattle.std.proofs.Common.{◌≡◌, ◌++◌, map, ap, ◌∙◌, arith, ru
 use Rattle.cstar_tree.specs.declared.typed.LocalVar.{LocalVar}
 use Rattle.cstar_tree.specs.TypedParts.{concat}
 use Rattle.cstar_tree.specs.Variables.{variables_of}
-use Rattle.lower_comm.proofs.Numbering.{each_step, each_done, variables_block, numbered_append}
-use Rattle.lower_comm.proofs.names.+locals.Goals as goal
+use Rattle.lower_base.proofs.Numbering.{each_step, each_done, variables_block, numbered_append}
+use Rattle.lower_base.proofs.names.+locals.Goals as goal
 
 pub number_each-loop-statement-preserved : goal.number_each-loop-statement-preserved
 number_each-loop-statement-preserved t c = each_step c.args.statements.now c.loop-statement.statement-index c.statement-item.result _ _ _ (omega arith) c.statement-item.is c.in_ok-number_locals.ensures c.loop-statement.invariant

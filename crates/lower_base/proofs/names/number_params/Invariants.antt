@@ -1,6 +1,6 @@
 use Rattle.std.proofs.Common.{◌≡◌, ◌++◌, drop, take, fold}
-use Rattle.lower_comm.specs.Layouts.{behind, param_entries}
-use Rattle.lower_comm.proofs.names.number_params.Given as goal
+use Rattle.lower_base.specs.Layouts.{behind, param_entries}
+use Rattle.lower_base.proofs.names.number_params.Given as goal
 
 abbrev pub invariant-loop-info : goal.invariant-loop-info
 invariant-loop-info l = record {

@@ -14,7 +14,7 @@ use Rattle.cstar_tree.specs.declared.typed.Typed.{Typed}
 use Rattle.cstar_tree.specs.declared.typed.VarInfo.{VarInfo}
 use Rattle.cstar_tree.specs.TypedParts.{concat}
 use Rattle.cstar_tree.specs.Variables.{declared_by, variables_step, variables_of}
-use Rattle.lower_comm.specs.Layouts.{Layout, Numbering, numbered, with_local, entered, layout_of}
+use Rattle.lower_base.specs.Layouts.{Layout, Numbering, numbered, with_local, entered, layout_of}
 
 pub numbered_append : (xs ys : List VarInfo) (n : Numbering) → numbered (xs ++ ys) n ≡ numbered ys (numbered xs n)
 unfolding numbered

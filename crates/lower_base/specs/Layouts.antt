@@ -9,9 +9,9 @@ use Rattle.cstar_tree.specs.declared.typed.Variable.TheVariants as V
 use Rattle.cstar_tree.specs.Variables.{variables_of}
 use Rattle.paris_code.specs.declared.operands.Field.{Field}
 use Rattle.paris_code.specs.declared.program.Owner.TheVariants as W
-use Rattle.lower_comm.specs.declared.names.LocalName.{LocalName}
-use Rattle.lower_comm.specs.declared.names.Names.{Names}
-use Rattle.lower_comm.specs.Drafts.{Draft, Made, Makes, from, an_entry}
+use Rattle.lower_base.specs.declared.names.LocalName.{LocalName}
+use Rattle.lower_base.specs.declared.names.Names.{Names}
+use Rattle.lower_base.specs.Drafts.{Draft, Made, Makes, from, an_entry}
 
 -- For each variable of the file the number of its first field, for each instance its first register
 -- with the first that no variable has behind them, and of this instance: its first register, the

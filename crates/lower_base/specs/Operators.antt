@@ -13,8 +13,8 @@ use Rattle.paris_code.specs.declared.operands.Operation.{Operation}
 use Rattle.paris_code.specs.declared.operands.Operation.TheVariants as N
 use Rattle.paris_code.specs.declared.operands.Reduction.{Reduction}
 use Rattle.paris_code.specs.declared.operands.Reduction.TheVariants as F
-use Rattle.lower_comm.specs.declared.operators.Machine.{Machine}
-use Rattle.lower_comm.specs.declared.operators.Machine.TheVariants as M
+use Rattle.lower_base.specs.declared.operators.Machine.{Machine}
+use Rattle.lower_base.specs.declared.operators.Machine.TheVariants as M
 
 -- The operation of an operator that is no relation, for operands that are read signed or unsigned.
 -- Sum, difference, product and shift to the left are the same for both, and modulo by an unsigned

@@ -1,0 +1,9 @@
+//! What all of the lowering stands on: how a unit grows, where the variables have their registers
+//! and fields, and which operator of the machine an operator of the language is.
+#![tactic(auto)]
+
+pub mod emit;
+pub mod names;
+pub mod operators;
+
+pub use emit::Out;
