@@ -30,7 +30,7 @@ use Rattle.elementwise.proofs.Written.{agree_in_block}
 
 -- the set that a check is about exists
 pub checked_exists : (shapes : List SetShape) (instr : Instr) (args : List ℕ) → CanApply shapes instr args → is_check instr ≡ true → checked_set instr < length shapes
-checked_exists shapes (I.CheckTarget set place coordinates) args can is = own_exists shapes set coordinates.items can.set.0 can.set.1
+checked_exists shapes (I.CheckTarget set place coordinates) args can is = own_exists shapes set coordinates.items can.set.0 can.set.1.0
 checked_exists shapes (I.CheckGrid set place steps) args can is = can.set.0
 checked_exists shapes (I.CheckDivisor place a) args can is = can.set
 checked_exists shapes _ args can is = cc

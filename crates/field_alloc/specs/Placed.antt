@@ -2,85 +2,18 @@
 -- was. `places` are the bits at which the entries of a unit begin, in the order of the entries.
 use Rattle.std.specs.Prelude.{◌≡◌, ◌≢◌, ◌⊎◌, ℕ, ◌+◌, ◌<◌, ◌≤◌, List, [], ◌∷◌, length, map, Option, Some, None}
 use Rattle.std.specs.List.{AllZip, slice_get, slice_index, slice_index_or}
-use Rattle.paris_code.specs.declared.operands.Coordinate.{Coordinate}
-use Rattle.paris_code.specs.declared.operands.Coordinate.TheVariants as C
-use Rattle.paris_code.specs.declared.operands.Field.{Field}
-use Rattle.paris_code.specs.declared.operands.SignedCoordinate.{SignedCoordinate}
-use Rattle.paris_code.specs.declared.instr.Instr.{Instr}
 use Rattle.paris_code.specs.declared.instr.Instr.TheVariants as I
 use Rattle.paris_code.specs.declared.program.Final.{Final}
 use Rattle.paris_code.specs.declared.program.Owner.TheVariants as O
 use Rattle.paris_code.specs.declared.program.Program.{Program}
 use Rattle.paris_code.specs.declared.program.Unit.{Unit as CodeUnit}
 use Rattle.paris_code.specs.declared.program.Virtual.{Virtual}
+use Rattle.paris_code.specs.Moving.{IsMoved}
 use Rattle.paris_code.specs.Proper.{EndsWith, IsCallChain, IsUnit, IsEntry, IsLent, IsOwn}
 use Rattle.paris_code.specs.Spans.{StandsAt}
 use Rattle.field_alloc.specs.Files.{AreFilesStacked}
 use Rattle.field_alloc.specs.Lasting.{LastsThrough}
 use Rattle.field_alloc.specs.Named.{AreApart}
-
--- the field at the bits of its entry
-abbrev pub moved : List ℕ → Field → Field
-moved places f = record { set = f.set; offset = slice_index places f.offset; len = f.len }
-
-abbrev pub moved_coordinate : List ℕ → Coordinate → Coordinate
-moved_coordinate places (C.Field f) = C.Field (moved places f)
-moved_coordinate places (C.Reg r) = C.Reg r
-
-abbrev pub moved_signed : List ℕ → SignedCoordinate → SignedCoordinate
-moved_signed places c = record { coordinate = moved_coordinate places c.coordinate; signed = c.signed }
-
-abbrev pub moved_bit : List ℕ → Option Field → Option Field
-moved_bit places None = None
-moved_bit places (Some f) = Some (moved places f)
-
--- communication over bits; what names no field stays as it is
-abbrev pub moved_message : List ℕ → Instr → Instr
-moved_message p (I.GetFromNews d a axis k) = I.GetFromNews (moved p d) (moved p a) axis k
-moved_message p (I.GetFromNewsAlways d a axis k) = I.GetFromNewsAlways (moved p d) (moved p a) axis k
-moved_message p (I.Get d address a) = I.Get (moved p d) (moved p address) (moved p a)
-moved_message p (I.SendWithOverwrite d kind address a) = I.SendWithOverwrite (moved p d) kind (moved p address) (moved p a)
-moved_message p (I.SendWithCombiner c d kind address a) = I.SendWithCombiner c (moved p d) kind (moved p address) (moved p a)
-moved_message p (I.Global c r a) = I.Global c r (moved p a)
-moved_message p (I.Scan c d a axis direction mode bit inclusion) = I.Scan c (moved p d) (moved p a) axis direction mode (moved_bit p bit) inclusion
-moved_message p (I.ReadFromProcessor signed r processor a) = I.ReadFromProcessor signed r processor (moved p a)
-moved_message p (I.WriteToProcessor d processor k) = I.WriteToProcessor (moved p d) processor k
-moved_message p instr = instr
-
--- arithmetic and comparisons over bits, or one of the above
-abbrev pub moved_arithmetic : List ℕ → Instr → Instr
-moved_arithmetic p (I.Operate op d a b) = I.Operate op (moved p d) (moved p a) (moved p b)
-moved_arithmetic p (I.OperateConstant op d a k) = I.OperateConstant op (moved p d) (moved p a) k
-moved_arithmetic p (I.Negate d a) = I.Negate (moved p d) (moved p a)
-moved_arithmetic p (I.Lognot d a) = I.Lognot (moved p d) (moved p a)
-moved_arithmetic p (I.Compare relation a b) = I.Compare relation (moved p a) (moved p b)
-moved_arithmetic p instr = moved_message p instr
-
--- an instruction without a list of coordinates over bits
-abbrev pub moved_instr : List ℕ → Instr → Instr
-moved_instr p (I.Move signed d a) = I.Move signed (moved p d) (moved p a)
-moved_instr p (I.MoveConstant d k) = I.MoveConstant (moved p d) k
-moved_instr p (I.MoveZeroAlways d) = I.MoveZeroAlways (moved p d)
-moved_instr p (I.MoveAlways d a) = I.MoveAlways (moved p d) (moved p a)
-moved_instr p (I.MyNewsCoordinate d axis) = I.MyNewsCoordinate (moved p d) axis
-moved_instr p (I.EqZero a) = I.EqZero (moved p a)
-moved_instr p (I.NeZero a) = I.NeZero (moved p a)
-moved_instr p (I.LoadTest a) = I.LoadTest (moved p a)
-moved_instr p (I.StoreTest d) = I.StoreTest (moved p d)
-moved_instr p (I.LoadContext a) = I.LoadContext (moved p a)
-moved_instr p (I.StoreContext d) = I.StoreContext (moved p d)
-moved_instr p (I.CheckDivisor place a) = I.CheckDivisor place (moved p a)
-moved_instr p instr = moved_arithmetic p instr
-
--- an instruction, and the same over bits
-abbrev pub IsPlacedInstr : List ℕ → Instr → Instr → Type 0
-IsPlacedInstr p (I.MakeAddress d set coordinates) (I.MakeAddress e t over) =
-    (e ≡ moved p d) × (t ≡ set) × (over.items ≡ map (moved_coordinate p) coordinates.items)
-IsPlacedInstr p (I.MakeAddress d set coordinates) over = ⊥
-IsPlacedInstr p (I.CheckTarget set place coordinates) (I.CheckTarget t at over) =
-    (t ≡ set) × (at ≡ place) × (over.items ≡ map (moved_signed p) coordinates.items)
-IsPlacedInstr p (I.CheckTarget set place coordinates) over = ⊥
-IsPlacedInstr p instr over = over ≡ moved_instr p instr
 
 -- a unit, and the same over bits
 pub record IsPlacedUnit (p : List ℕ) (unit over : CodeUnit) : Type 0 where
@@ -88,7 +21,7 @@ pub record IsPlacedUnit (p : List ℕ) (unit over : CodeUnit) : Type 0 where
   pub regs : over.regs ≡ unit.regs
   pub homes : over.homes ≡ unit.homes
   pub fields : over.fields ≡ unit.fields
-  pub code : AllZip (IsPlacedInstr p) unit.code.items over.code.items
+  pub code : AllZip (IsMoved p) unit.code.items over.code.items
 
 -- the units from one of a number, and the same over bits; `places` has a list for each unit
 unfoldable pub ArePlacedUnits : List (List ℕ) → ℕ → List CodeUnit → List CodeUnit → Type 0

@@ -3,10 +3,10 @@
 ghost use Rattle.std.specs.Prelude.{◌≡◌, IfOk, map};
 ghost use Rattle.std.specs.List.{AllZip};
 ghost use Rattle.field_alloc.specs.OverBits.{IsOverBits};
-ghost use Rattle.field_alloc.specs.Placed.{ArePlacedUnits, IsPlacedInstr, IsPlacedUnit};
+ghost use Rattle.paris_code.specs.Moving.{IsMoved};
+ghost use Rattle.field_alloc.specs.Placed.{ArePlacedUnits, IsPlacedUnit};
 ghost use Rattle.field_alloc.specs.Places.{items_of};
 
-use crate::fields::placed;
 use crate::finals::placed_finals;
 use crate::owns::own_places;
 use crate::places::{places_of_units, row};
@@ -80,11 +80,12 @@ fn placed_unit(alloc: Global, unit: Unit, places: &[u32]) -> Result<Unit, Memory
 
 /// The code over bits.
 fn placed_code(alloc: Global, code: Vec<Instr>, places: &[u32]) -> Result<Vec<Instr>, Memory>
-    ensures { IfOk result (λ v. AllZip (IsPlacedInstr places.now) code.items v.items) }
+    ensures { IfOk result (λ v. AllZip (IsMoved places.now) code.items v.items) }
 {
     let mut over = Vec::new(alloc);
     for instr in code {
-        let instr = placed(alloc, instr, places)?;
+        let mut instr = instr;
+        instr.move_fields(places);
         over.push(instr)?;
     }
     Ok(over)

@@ -17,7 +17,7 @@ pub fn note_stretch(instr: &Instr, at: u32, loops: &mut Vec<Span>) -> Result<(),
     ensures kept { OnOk result ((first last : ℕ) → HasSpan loops.old.items first last → HasSpan loops.new.items first last) }
     ensures noted { OnOk result ((place : ℕ) → JumpsTo instr.now place → place ≤ at → HasSpan loops.new.items place at) }
 {
-    if let Some(target) = target_of(instr) {
+    if let Some(target) = instr.target() {
         if target <= at {
             loops.push(Span {
                 first: target,
@@ -26,17 +26,6 @@ pub fn note_stretch(instr: &Instr, at: u32, loops: &mut Vec<Span>) -> Result<(),
         }
     }
     Ok(())
-}
-
-fn target_of(i: &Instr) -> Option<u32>
-    ensures { (place : ℕ) → JumpsTo i.now place → result ≡ Some place }
-{
-    match i {
-        Instr::FrontJump { target }
-        | Instr::FrontJumpZero { target, .. }
-        | Instr::FrontJumpNonzero { target, .. } => Some(*target),
-        _ => None,
-    }
 }
 
 /// For each of so many instructions, the number of the one behind the last, up to it, at which a

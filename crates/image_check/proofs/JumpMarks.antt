@@ -1,15 +1,26 @@
 -- Marks at the targets of jumps.
-use Rattle.std.proofs.Common.{◌≡◌, ◌≢◌, ℕ, ◌+◌, ◌<◌, List, length, replicate, refl, sym, ◌∙◌, subst, inl, inr, arith, below_more}
-use Rattle.std.specs.Prelude.{Bool, true, false, not, IsTrue, Some, ◌↔◌, ◌⊎◌}
+use Rattle.std.proofs.Common.{◌≡◌, ◌≢◌, ℕ, ◌+◌, ◌<◌, List, length, replicate, refl, sym, ◌∙◌, subst, inl, inr, ap, arith, below_more, is_some}
+use Rattle.std.specs.Prelude.{Bool, true, false, not, IsTrue, Some, None, unwrap_or, ◌↔◌, ◌⊎◌}
 use Rattle.std.specs.List.{slice_get}
 use Rattle.std.proofs.lemmas.Bool.{false≢true}
 use Rattle.std.proofs.lemmas.List.{get_or-replicate, length-replicate}
 use Rattle.std.proofs.lemmas.Option.{slice_get_within}
 use Rattle.paris_code.specs.declared.instr.Instr.{Instr}
 use Rattle.paris_code.specs.declared.program.Image.{Image}
+use Rattle.paris_code.specs.Rows.{target_of}
 use Rattle.paris_code.specs.RuleBackEdge.{IsNoJumpTo, IsNoTarget}
 use Rattle.image_check.specs.Marks.{IsMarked}
 use Rattle.image_check.specs.Tables.{MarksTargets}
+
+-- what the target of an instruction, or its want of one, says of the places to which it leads
+pub leads_to : (instr : Instr) (target place : ℕ) → target_of instr ≡ Some target → IsNoJumpTo place instr ↔ (target ≢ place)
+leads_to instr target place is = (
+  (λ none e. none (is ∙ ap (λ n. Some n) e)),
+  (λ other e. other (ap (λ o. unwrap_or o 0) (sym is ∙ e))),
+)
+
+pub leads_nowhere : (instr : Instr) (place : ℕ) → target_of instr ≡ None → IsNoJumpTo place instr
+leads_nowhere instr place is e = false≢true (ap is_some (sym is ∙ e))
 
 -- a mark at the target of a jump
 pub mark_told : (old new : List Bool) (target place : ℕ) (instr : Instr) → ((other : ℕ) → IsMarked old other → IsMarked new other) →

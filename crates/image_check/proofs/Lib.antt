@@ -1,6 +1,7 @@
 pub mod CallLaws
 pub mod FaultLaws
 pub mod JumpMarks
+pub mod Operands
 pub mod Shapes
 pub mod StackLaws
 pub mod Starts

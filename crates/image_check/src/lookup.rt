@@ -32,13 +32,13 @@ pub fn is_axis(shapes: &[ShapeBits], set: u16, axis: u32) -> bool
     }
 }
 
-/// Whether the set exists and its grid has this many axes.
-pub fn has_rank(shapes: &[ShapeBits], set: u16, axes: usize) -> bool
-    ensures { IsTrue result ↔ (SetExists (map shape_of shapes.now) set × (axes ≡ rank_at (map shape_of shapes.now) set)) }
+/// Whether the set's grid has this many axes; one that does not exist has none.
+pub fn is_rank(shapes: &[ShapeBits], set: u16, axes: usize) -> bool
+    ensures { IsTrue result ↔ (axes ≡ rank_at (map shape_of shapes.now) set) }
 {
     match shape_at(shapes, set) {
         Some(shape) => shape.extents.len() == axes,
-        None => false,
+        None => axes == 0,
     }
 }
 

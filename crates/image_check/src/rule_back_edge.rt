@@ -11,24 +11,12 @@ use crate::units::instruction;
 use paris_code::{Image, Instr};
 use std::alloc::{AllocError, Global};
 
-/// Where a jump leads.
-fn jump_target(instr: &Instr) -> Option<u32>
-    ensures { MatchOption result ((place : ℕ) → IsNoJumpTo place instr.now) (λ target. (place : ℕ) → IsNoJumpTo place instr.now ↔ (target ≢ place)) }
-{
-    match instr {
-        Instr::FrontJump { target } => Some(*target),
-        Instr::FrontJumpZero { target, .. } => Some(*target),
-        Instr::FrontJumpNonzero { target, .. } => Some(*target),
-        _ => None,
-    }
-}
-
 /// Marks the target of the instruction, if it is a jump.
 fn mark(marks: &mut Vec<bool>, instr: &Instr)
     ensures same { length marks.new.items ≡ length marks.old.items }
     ensures marked { (place : ℕ) → place < length marks.old.items → (¬ IsMarked marks.new.items place) ↔ ((¬ IsMarked marks.old.items place) × IsNoJumpTo place instr.now) }
 {
-    match jump_target(instr) {
+    match instr.target() {
         Some(target) => set_mark(marks, target as usize),
         None => {}
     }
@@ -108,9 +96,9 @@ pub fn keeps_back_edge(
     ensures { IsTrue result ↔ KeepsBackEdge image.now place instr.now }
 {
     match instr {
-        Instr::FrontJump { target } => goes_back_to_turn(image, place, *target as usize),
-        Instr::FrontJumpZero { target, .. } => goes_back_to_turn(image, place, *target as usize),
-        Instr::FrontJumpNonzero { target, .. } => {
+        Instr::FrontJump { target }
+        | Instr::FrontJumpZero { target, .. }
+        | Instr::FrontJumpNonzero { target, .. } => {
             goes_back_to_turn(image, place, *target as usize)
         }
         Instr::FrontCall { .. } => {

@@ -2,14 +2,14 @@
 
 ghost use Rattle.std.specs.Prelude.{◌≡◌, ◌≢◌, ◌↔◌, ◌<◌, ◌≤◌, IsTrue, length, map, take, All, Some};
 ghost use Rattle.std.specs.List.{slice_get};
-ghost use Rattle.paris_code.specs.Shapes.{shape_of, rank_at};
+ghost use Rattle.paris_code.specs.Shapes.{shape_of};
 ghost use Rattle.paris_code.specs.Operands.{coordinate_of};
-ghost use Rattle.paris_code.specs.RuleSet.{SetExists, FieldExists, IsAxis, CoordinateExists, AreSteps, BitExists, axis_of, KeepsSet};
+ghost use Rattle.paris_code.specs.RuleSet.{IsAxis, CoordinateExists, AreSteps, OperandExists, axis_of, KeepsSet};
+ghost use Rattle.paris_code.specs.Rows.{shown};
 ghost use Rattle.image_check.specs.Steps.{AreDistinct};
 
-use crate::lookup::{coordinate_exists, has_rank, is_axis, scan_bit_exists, set_exists};
-use cstar_base::SegmentMode;
-use paris_code::{Coordinate, Field, GridStep, Instr, ShapeBits, SignedCoordinate};
+use crate::lookup::{coordinate_exists, is_axis, is_rank, scan_bit_exists, set_exists};
+use paris_code::{Coordinate, GridStep, Instr, Operand, ShapeBits, SignedCoordinate};
 
 fn coordinates_exist(shapes: &[ShapeBits], coordinates: &[Coordinate]) -> bool
     ensures { IsTrue result ↔ All (CoordinateExists (map shape_of shapes.now)) coordinates.now }
@@ -23,57 +23,6 @@ fn signed_coordinates_exist(shapes: &[ShapeBits], coordinates: &[SignedCoordinat
     coordinates
         .iter()
         .all(|c| coordinate_exists(shapes, c.coordinate))
-}
-
-fn both_exist(shapes: &[ShapeBits], dest: Field, source: Field) -> bool
-    ensures { IsTrue result ↔ (FieldExists (map shape_of shapes.now) dest × FieldExists (map shape_of shapes.now) source) }
-{
-    set_exists(shapes, dest.set) && set_exists(shapes, source.set)
-}
-
-fn three_exist(shapes: &[ShapeBits], dest: Field, left: Field, right: Field) -> bool
-    ensures { IsTrue result ↔ (FieldExists (map shape_of shapes.now) dest × FieldExists (map shape_of shapes.now) left × FieldExists (map shape_of shapes.now) right) }
-{
-    set_exists(shapes, dest.set) && both_exist(shapes, left, right)
-}
-
-fn axis_exists(shapes: &[ShapeBits], dest: Field, axis: u32) -> bool
-    ensures { IsTrue result ↔ (FieldExists (map shape_of shapes.now) dest × IsAxis (map shape_of shapes.now) dest.set axis) }
-{
-    set_exists(shapes, dest.set) && is_axis(shapes, dest.set, axis)
-}
-
-fn news_exists(shapes: &[ShapeBits], dest: Field, source: Field, axis: u32) -> bool
-    ensures { IsTrue result ↔ (FieldExists (map shape_of shapes.now) dest × FieldExists (map shape_of shapes.now) source × IsAxis (map shape_of shapes.now) dest.set axis) }
-{
-    both_exist(shapes, dest, source) && is_axis(shapes, dest.set, axis)
-}
-
-fn scan_exists(
-    shapes: &[ShapeBits],
-    dest: Field,
-    source: Field,
-    axis: u32,
-    mode: SegmentMode,
-    bit: Option<Field>,
-) -> bool
-    ensures { IsTrue result ↔ (FieldExists (map shape_of shapes.now) dest × FieldExists (map shape_of shapes.now) source × IsAxis (map shape_of shapes.now) dest.set axis × BitExists (map shape_of shapes.now) mode bit) }
-{
-    news_exists(shapes, dest, source, axis) && scan_bit_exists(shapes, mode, bit)
-}
-
-fn address_exists(shapes: &[ShapeBits], dest: Field, set: u16, coordinates: &[Coordinate]) -> bool
-    ensures { IsTrue result ↔ (FieldExists (map shape_of shapes.now) dest × SetExists (map shape_of shapes.now) set × All (CoordinateExists (map shape_of shapes.now)) coordinates.now × (length coordinates.now ≡ rank_at (map shape_of shapes.now) set)) }
-{
-    set_exists(shapes, dest.set)
-        && has_rank(shapes, set, coordinates.len())
-        && coordinates_exist(shapes, coordinates)
-}
-
-fn target_exists(shapes: &[ShapeBits], set: u16, coordinates: &[SignedCoordinate]) -> bool
-    ensures { IsTrue result ↔ (SetExists (map shape_of shapes.now) set × All (λ c. CoordinateExists (map shape_of shapes.now) (coordinate_of c)) coordinates.now × (length coordinates.now ≡ rank_at (map shape_of shapes.now) set)) }
-{
-    has_rank(shapes, set, coordinates.len()) && signed_coordinates_exist(shapes, coordinates)
 }
 
 /// Whether none of the steps names the axis.
@@ -116,120 +65,55 @@ fn steps_name_axes(shapes: &[ShapeBits], set: u16, steps: &[GridStep]) -> bool
     steps.iter().all(|s| is_axis(shapes, set, s.axis))
 }
 
-fn grid_exists(shapes: &[ShapeBits], set: u16, steps: &[GridStep]) -> bool
-    ensures { IsTrue result ↔ (SetExists (map shape_of shapes.now) set × AreSteps (map shape_of shapes.now) set steps.now) }
+fn are_axes(shapes: &[ShapeBits], set: u16, steps: &[GridStep]) -> bool
+    ensures { IsTrue result ↔ AreSteps (map shape_of shapes.now) set steps.now }
 {
-    set_exists(shapes, set) && steps_name_axes(shapes, set, steps) && are_distinct(steps)
+    steps_name_axes(shapes, set, steps) && are_distinct(steps)
+}
+
+/// Whether the set and the axis that an operand names exist, and a list has a coordinate for each axis.
+fn operand_exists(shapes: &[ShapeBits], operand: &Operand<'_>) -> bool
+    ensures { IsTrue result ↔ OperandExists (map shape_of shapes.now) (shown operand.now) }
+{
+    match operand {
+        Operand::Bits(field, _) => set_exists(shapes, field.set),
+        Operand::Bit(mode, bit) => scan_bit_exists(shapes, *mode, *bit),
+        Operand::Set(set) => set_exists(shapes, *set),
+        Operand::Axis(set, axis) => is_axis(shapes, *set, *axis),
+        Operand::Coordinates(set, list) => {
+            coordinates_exist(shapes, list) && is_rank(shapes, *set, list.len())
+        }
+        Operand::Checked(set, list) => {
+            signed_coordinates_exist(shapes, list) && is_rank(shapes, *set, list.len())
+        }
+        Operand::Steps(set, list) => are_axes(shapes, *set, list),
+        Operand::Registers(set, list) => is_rank(shapes, *set, list.len()),
+        Operand::CheckedRegisters(set, list) => is_rank(shapes, *set, list.len()),
+        Operand::Register(_)
+        | Operand::Result(_)
+        | Operand::Constant(_)
+        | Operand::Immediate(_)
+        | Operand::Target(_)
+        | Operand::Callee(_)
+        | Operand::At(_)
+        | Operand::Kind(_)
+        | Operand::Way(_)
+        | Operand::Mode(_)
+        | Operand::Bound(_)
+        | Operand::Bytes(_) => true,
+    }
+}
+
+fn operands_exist(shapes: &[ShapeBits], operands: &[Operand<'_>]) -> bool
+    ensures { IsTrue result ↔ All (λ o. OperandExists (map shape_of shapes.now) (shown o)) operands.now }
+{
+    operands.iter().all(|operand| operand_exists(shapes, operand))
 }
 
 /// Whether an instruction keeps image rule 5.
 pub fn keeps_set(shapes: &[ShapeBits], instr: &Instr) -> bool
     ensures { IsTrue result ↔ KeepsSet (map shape_of shapes.now) instr.now }
 {
-    match instr {
-        Instr::Move { dest, source, .. } => both_exist(shapes, *dest, *source),
-        Instr::MoveConstant { dest, .. } => set_exists(shapes, dest.set),
-        Instr::MoveZeroAlways { dest } => set_exists(shapes, dest.set),
-        Instr::MoveAlways { dest, source } => both_exist(shapes, *dest, *source),
-        Instr::MyNewsCoordinate { dest, axis } => axis_exists(shapes, *dest, *axis),
-        Instr::MakeAddress {
-            dest,
-            set,
-            coordinates,
-        } => address_exists(shapes, *dest, *set, coordinates.as_slice()),
-        Instr::Operate {
-            dest,
-            left,
-            right,
-            ..
-        } => three_exist(shapes, *dest, *left, *right),
-        Instr::OperateConstant { dest, left, .. } => both_exist(shapes, *dest, *left),
-        Instr::Negate { dest, source } => both_exist(shapes, *dest, *source),
-        Instr::Lognot { dest, source } => both_exist(shapes, *dest, *source),
-        Instr::Compare { left, right, .. } => both_exist(shapes, *left, *right),
-        Instr::EqZero { source } => set_exists(shapes, source.set),
-        Instr::NeZero { source } => set_exists(shapes, source.set),
-        Instr::LoadTest { source } => set_exists(shapes, source.set),
-        Instr::StoreTest { dest } => set_exists(shapes, dest.set),
-        Instr::LoadContext { source } => set_exists(shapes, source.set),
-        Instr::StoreContext { dest } => set_exists(shapes, dest.set),
-        Instr::SetContext { set } => set_exists(shapes, *set),
-        Instr::LogandContextWithTest { set } => set_exists(shapes, *set),
-        Instr::LogandcContextWithTest { set } => set_exists(shapes, *set),
-        Instr::CheckTarget {
-            set,
-            coordinates,
-            ..
-        } => target_exists(shapes, *set, coordinates.as_slice()),
-        Instr::CheckGrid { set, steps, .. } => grid_exists(shapes, *set, steps.as_slice()),
-        Instr::CheckDivisor { source, .. } => set_exists(shapes, source.set),
-        Instr::GetFromNews {
-            dest,
-            source,
-            axis,
-            ..
-        } => news_exists(shapes, *dest, *source, *axis),
-        Instr::GetFromNewsAlways {
-            dest,
-            source,
-            axis,
-            ..
-        } => news_exists(shapes, *dest, *source, *axis),
-        Instr::Get {
-            dest,
-            address,
-            source,
-        } => three_exist(shapes, *dest, *address, *source),
-        Instr::SendWithOverwrite {
-            dest,
-            address,
-            source,
-            ..
-        } => three_exist(shapes, *dest, *address, *source),
-        Instr::SendWithCombiner {
-            dest,
-            address,
-            source,
-            ..
-        } => three_exist(shapes, *dest, *address, *source),
-        Instr::Global { source, .. } => set_exists(shapes, source.set),
-        Instr::Scan {
-            dest,
-            source,
-            axis,
-            mode,
-            bit,
-            ..
-        } => scan_exists(shapes, *dest, *source, *axis, *mode, *bit),
-        Instr::ReadFromProcessor { source, .. } => set_exists(shapes, source.set),
-        Instr::WriteToProcessor { dest, .. } => set_exists(shapes, dest.set),
-        Instr::FrontMakeAddress {
-            set,
-            coordinates,
-            ..
-        } => has_rank(shapes, *set, coordinates.len()),
-        Instr::FrontCheckTarget {
-            set,
-            coordinates,
-            ..
-        } => has_rank(shapes, *set, coordinates.len()),
-        Instr::FrontConst { .. }
-        | Instr::FrontMove { .. }
-        | Instr::FrontOperate { .. }
-        | Instr::FrontCompare { .. }
-        | Instr::FrontNegate { .. }
-        | Instr::FrontLognot { .. }
-        | Instr::FrontConvert { .. }
-        | Instr::FrontCheckDivisor { .. }
-        | Instr::FrontJump { .. }
-        | Instr::FrontJumpZero { .. }
-        | Instr::FrontJumpNonzero { .. }
-        | Instr::FrontTurn
-        | Instr::FrontCall { .. }
-        | Instr::FrontReturn
-        | Instr::FrontPutBytes { .. }
-        | Instr::FrontPut { .. }
-        | Instr::FrontGetByte { .. }
-        | Instr::FrontHalt => true,
-    }
+    let row = instr.row();
+    operands_exist(shapes, row.operands())
 }

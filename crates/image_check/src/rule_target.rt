@@ -32,10 +32,7 @@ pub fn keeps_target(image: &Image, numbers: &[u32], place: usize, instr: &Instr)
 {
     match instr {
         Instr::FrontJump { target } => is_in_unit_of(image, numbers, *target as usize, place),
-        Instr::FrontJumpZero { target, .. } => {
-            is_in_unit_of(image, numbers, *target as usize, place) && goes_on(image, numbers, place)
-        }
-        Instr::FrontJumpNonzero { target, .. } => {
+        Instr::FrontJumpZero { target, .. } | Instr::FrontJumpNonzero { target, .. } => {
             is_in_unit_of(image, numbers, *target as usize, place) && goes_on(image, numbers, place)
         }
         Instr::FrontCall { unit } => {

@@ -1,1 +1,2 @@
 pub mod Stacks
+mod Moves

@@ -10,10 +10,12 @@ pub mod Listing
 pub mod Meaning
 pub mod Memory
 pub mod Mnemonics
+pub mod Moving
 pub mod Operands
 pub mod Operators
 pub mod Plain
 pub mod Proper
+pub mod Rows
 pub mod RuleBackEdge
 pub mod RuleField
 pub mod RuleOperands

@@ -1,7 +1,7 @@
 -- Programs that can be placed: which entries of a unit's fields live together, how high they reach,
 -- and what a program over virtual fields keeps.
 use Rattle.std.specs.Prelude.{◌≡◌, ◌≢◌, ℕ, ◌+◌, ◌<◌, ◌≤◌, ◌⊎◌, ◌==◌, if◌then◌else◌, List, [], ◌∷◌, length, sum_by, All, Option, Some, None}
-use Rattle.std.specs.List.{slice_get}
+use Rattle.std.specs.List.{flat_map, slice_get}
 use Rattle.paris_code.specs.declared.operands.Field.{Field}
 use Rattle.paris_code.specs.declared.instr.Instr.{Instr}
 use Rattle.paris_code.specs.declared.instr.Instr.TheVariants as I
@@ -11,6 +11,8 @@ use Rattle.paris_code.specs.declared.program.Owner.TheVariants as O
 use Rattle.paris_code.specs.declared.program.Program.{Program}
 use Rattle.paris_code.specs.declared.program.Unit.{Unit as CodeUnit}
 use Rattle.paris_code.specs.declared.program.Virtual.{Virtual}
+use Rattle.paris_code.specs.Rows.{Operand, row_of}
+use Rattle.paris_code.specs.Rows as Row
 use Rattle.paris_code.specs.Spans.{fields_of, AreInUseTogether, StandsAt, Span, Holds, Meet, IsSpan}
 
 -- a unit of the program, and an entry of it
@@ -110,16 +112,12 @@ EndsWith last (x ∷ []) = x ≡ last
 EndsWith last (x ∷ (y ∷ ys)) = EndsWith last (y ∷ ys)
 
 -- the sets that an instruction names itself, not by a field
+abbrev pub sets_of_operand : Operand → List ℕ
+sets_of_operand (Row.Set set) = set ∷ []
+sets_of_operand _ = []
+
 abbrev pub sets_of : Instr → List ℕ
-sets_of (I.MakeAddress d set coordinates) = set ∷ []
-sets_of (I.SetContext set) = set ∷ []
-sets_of (I.LogandContextWithTest set) = set ∷ []
-sets_of (I.LogandcContextWithTest set) = set ∷ []
-sets_of (I.CheckTarget set place coordinates) = set ∷ []
-sets_of (I.CheckGrid set place steps) = set ∷ []
-sets_of (I.FrontMakeAddress r set registers) = set ∷ []
-sets_of (I.FrontCheckTarget set place registers) = set ∷ []
-sets_of _ = []
+sets_of instr = flat_map sets_of_operand (row_of instr)
 
 -- what each unit keeps; each borrowed entry is named, so that it has a span, those of two units do
 -- not live together, each lives round a call of its unit alone, and each call stands within the spans

@@ -1,16 +1,14 @@
 -- Image rule 4, back edge: each way back, and each call, costs a turn.
-use Rattle.std.specs.Prelude.{◌≡◌, ◌≢◌, ℕ, ◌+◌, ◌≤◌}
+use Rattle.std.specs.Prelude.{◌≡◌, ◌≢◌, ℕ, ◌+◌, ◌≤◌, Some}
 use Rattle.paris_code.specs.declared.instr.Instr.{Instr}
 use Rattle.paris_code.specs.declared.instr.Instr.TheVariants as I
 use Rattle.paris_code.specs.declared.program.Image.{Image}
+use Rattle.paris_code.specs.Rows.{target_of}
 use Rattle.paris_code.specs.Units.{unit_of, IsAt}
 
--- the target of a jump that stands at a place, by the kind of jump
+-- the instruction is no jump that leads to a place
 abbrev pub IsNoJumpTo : ℕ → Instr → Type 0
-IsNoJumpTo place (I.FrontJump target) = target ≢ place
-IsNoJumpTo place (I.FrontJumpZero x target) = target ≢ place
-IsNoJumpTo place (I.FrontJumpNonzero x target) = target ≢ place
-IsNoJumpTo place _ = Unit {0}
+IsNoJumpTo place instr = target_of instr ≢ Some place
 
 -- no jump of the image leads to the place
 abbrev pub IsNoTarget : Image → ℕ → Type 0

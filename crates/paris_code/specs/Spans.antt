@@ -7,45 +7,26 @@ use Rattle.paris_code.specs.declared.operands.Field.{Field}
 use Rattle.paris_code.specs.declared.instr.Instr.{Instr}
 use Rattle.paris_code.specs.declared.instr.Instr.TheVariants as I
 use Rattle.paris_code.specs.declared.program.Owner.{Owner}
-use Rattle.paris_code.specs.declared.program.Owner.TheVariants as O
+use Rattle.paris_code.specs.declared.program.Owner.TheVariants as Owns
 use Rattle.paris_code.specs.declared.program.Unit.{Unit as CodeUnit}
 use Rattle.paris_code.specs.Operands.{coordinate_of}
+use Rattle.paris_code.specs.Rows.{Operand, row_of, target_of}
+use Rattle.paris_code.specs.Rows as O
 
 abbrev pub fields_of_coordinate : Coordinate → List Field
 fields_of_coordinate (C.Field f) = f ∷ []
 fields_of_coordinate (C.Reg r) = []
 
--- the fields that an instruction names
+-- the fields of an operand, and those that an instruction names
+abbrev pub fields_of_operand : Operand → List Field
+fields_of_operand (O.Bits f length) = f ∷ []
+fields_of_operand (O.Bit mode bit) = option_to_list bit
+fields_of_operand (O.Coordinates set list) = flat_map fields_of_coordinate list
+fields_of_operand (O.Checked set list) = flat_map (λ c. fields_of_coordinate (coordinate_of c)) list
+fields_of_operand _ = []
+
 abbrev pub fields_of : Instr → List Field
-fields_of (I.Move signed d a) = d ∷ (a ∷ [])
-fields_of (I.MoveConstant d k) = d ∷ []
-fields_of (I.MoveZeroAlways d) = d ∷ []
-fields_of (I.MoveAlways d a) = d ∷ (a ∷ [])
-fields_of (I.MyNewsCoordinate d axis) = d ∷ []
-fields_of (I.MakeAddress d set coordinates) = d ∷ flat_map fields_of_coordinate coordinates.items
-fields_of (I.Operate op d a b) = d ∷ (a ∷ (b ∷ []))
-fields_of (I.OperateConstant op d a k) = d ∷ (a ∷ [])
-fields_of (I.Negate d a) = d ∷ (a ∷ [])
-fields_of (I.Lognot d a) = d ∷ (a ∷ [])
-fields_of (I.Compare relation a b) = a ∷ (b ∷ [])
-fields_of (I.EqZero a) = a ∷ []
-fields_of (I.NeZero a) = a ∷ []
-fields_of (I.LoadTest a) = a ∷ []
-fields_of (I.StoreTest d) = d ∷ []
-fields_of (I.LoadContext a) = a ∷ []
-fields_of (I.StoreContext d) = d ∷ []
-fields_of (I.CheckTarget set place coordinates) = flat_map (λ c. fields_of_coordinate (coordinate_of c)) coordinates.items
-fields_of (I.CheckDivisor place a) = a ∷ []
-fields_of (I.GetFromNews d a axis k) = d ∷ (a ∷ [])
-fields_of (I.GetFromNewsAlways d a axis k) = d ∷ (a ∷ [])
-fields_of (I.Get d address a) = d ∷ (address ∷ (a ∷ []))
-fields_of (I.SendWithOverwrite d kind address a) = d ∷ (address ∷ (a ∷ []))
-fields_of (I.SendWithCombiner c d kind address a) = d ∷ (address ∷ (a ∷ []))
-fields_of (I.Global c r a) = a ∷ []
-fields_of (I.Scan c d a axis direction mode bit _) = d ∷ (a ∷ option_to_list bit)
-fields_of (I.ReadFromProcessor signed r processor a) = a ∷ []
-fields_of (I.WriteToProcessor d processor k) = d ∷ []
-fields_of _ = []
+fields_of instr = flat_map fields_of_operand (row_of instr)
 
 -- before placing, the offset of a field is the number of an entry
 abbrev pub entry_of : Field → ℕ
@@ -74,10 +55,7 @@ LiesWithin inner outer = (outer.first ≤ inner.first) × (inner.last ≤ outer.
 
 -- the stretch of a jump that does not lead forward
 abbrev pub JumpsTo : Instr → ℕ → Type 0
-JumpsTo (I.FrontJump target) place = target ≡ place
-JumpsTo (I.FrontJumpZero x target) place = target ≡ place
-JumpsTo (I.FrontJumpNonzero x target) place = target ≡ place
-JumpsTo _ place = ⊥
+JumpsTo instr place = target_of instr ≡ Some place
 
 abbrev pub IsStretch : CodeUnit → Span → Type 0
 IsStretch unit span = (jump : Instr) × StandsAt unit span.last jump × JumpsTo jump span.first × (span.first ≤ span.last)
@@ -92,7 +70,7 @@ IsNextCall unit called behind at =
 
 -- the entry of another unit is in use up to the call of that unit
 abbrev pub LastsToCall : CodeUnit → ℕ → Owner → Span → Type 0
-LastsToCall unit entry (O.Of called index) span = (first at : ℕ) → IsFirstNamed unit entry first → IsNextCall unit called first at → Holds span at
+LastsToCall unit entry (Owns.Of called index) span = (first at : ℕ) → IsFirstNamed unit entry first → IsNextCall unit called first at → Holds span at
 LastsToCall unit entry owner span = Unit {0}
 
 -- A stretch of instructions in which an entry is in use: it holds each that names the entry, the
@@ -113,4 +91,4 @@ pub record IsSpan (unit : CodeUnit) (entry : ℕ) (owner : Owner) (span : Span) 
 abbrev pub AreInUseTogether : CodeUnit → ℕ → ℕ → Type 0
 AreInUseTogether unit one other =
     ((at : ℕ) × IsNamedAt unit one at) × ((at : ℕ) × IsNamedAt unit other at)
-    × ((a b : Span) → IsInUse unit one O.Own a → IsInUse unit other O.Own b → Meet a b)
+    × ((a b : Span) → IsInUse unit one Owns.Own a → IsInUse unit other Owns.Own b → Meet a b)

@@ -3,8 +3,10 @@
 
 mod instr;
 pub mod laws;
+mod moving;
 mod operands;
 mod program;
+mod rows;
 
 pub use instr::Instr;
 pub use operands::{
@@ -12,3 +14,4 @@ pub use operands::{
     SignedCoordinate,
 };
 pub use program::{Entry, Final, Image, Owner, Program, Reply, ShapeBits, Unit, Virtual};
+pub use rows::{Length, Operand, Row};

@@ -39,7 +39,7 @@ outside_same shapes m n p (e ∷ es) (c ∷ cs) args at =
 pub fails_same : (shapes : List SetShape) (instr : Instr) (args : List ℕ) (m n : BitMemory) (p : ℕ) → CanApply shapes instr args → AgreeAt shapes (checked_set instr) p m n
     → fails shapes instr args m p ≡ fails shapes instr args n p
 fails_same shapes (I.CheckTarget set place coordinates) args m n p can agree =
-    outside_same shapes m n p (extents_at shapes set) coordinates.items args (checked_in shapes can.slots set coordinates.items (AgreesAt shapes p m n) can.field can.set.1 can.operands agree)
+    outside_same shapes m n p (extents_at shapes set) coordinates.items args (checked_in shapes can.slots set coordinates.items (AgreesAt shapes p m n) can.field can.set.1.0 can.operands agree)
 fails_same shapes (I.CheckGrid set place steps) args m n p can agree = refl
 fails_same shapes (I.CheckDivisor place a) args m n p can agree = ap (λ x. eqb x 0) (field_same shapes m n a p (lies shapes a can.field can.set) agree)
 fails_same shapes _ args m n p can agree = refl

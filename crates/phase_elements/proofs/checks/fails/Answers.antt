@@ -15,4 +15,4 @@ any_outside-requires g c =
     let set = c.in-CheckTarget.set in
     let can = subst (λ (i : Instr). CanApply shapes i c.args.args.now) c.in-CheckTarget.is c.requires.can in
     subst (λ (cs : List SignedCoordinate). All (λ e. IsCoordinateIn shapes reads (coordinate_of e)) cs) (sym c.as_slice.ensures.value)
-    (checked_in shapes can.slots set c.in-CheckTarget.coordinates.items reads can.field can.set.1 can.operands (subst (λ (i : Instr). reads (checked_set i)) c.in-CheckTarget.is c.requires.reads))
+    (checked_in shapes can.slots set c.in-CheckTarget.coordinates.items reads can.field can.set.1.0 can.operands (subst (λ (i : Instr). reads (checked_set i)) c.in-CheckTarget.is c.requires.reads))

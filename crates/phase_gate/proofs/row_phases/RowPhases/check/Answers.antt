@@ -37,8 +37,8 @@ check_target-requires-clause-fields c = λ p b.
     let can = subst (λ (i : Instr). CanApply now i c.args.args.now) c.in-CheckTarget.is c.requires in
     let own : c.checking_set.result ≡ set_of_coordinates set list = c.checking_set.ensures ∙ ap (set_of_coordinates set) c.as_slice-list.ensures.value in
     subst (λ (cs : List SignedCoordinate). All (λ e. IsCoordinateAt now p (coordinate_of e)) cs) (sym c.as_slice-list.ensures.value)
-    (checked_at now can.slots set list can.field can.set.1 can.operands p
-    (own_exists now set list can.set.0 can.set.1, subst (λ s. p < processors now s) own b))
+    (checked_at now can.slots set list can.field can.set.1.0 can.operands p
+    (own_exists now set list can.set.0 can.set.1.0, subst (λ s. p < processors now s) own b))
 
 pub returns-in-CheckTarget-clause-least : goal.returns-in-CheckTarget-clause-least
 returns-in-CheckTarget-clause-least c =
