@@ -1,0 +1,257 @@
+-- The code of communication is as long as described.
+use Rattle.std.proofs.Common.{◌≡◌, ℕ, ◌+◌, Bool, true, false, ◌||◌, ◌==◌, List, [], ◌∷◌, ◌++◌, Option, Some, None, is_none, refl, sym, ap, ◌∙◌, subst, arith, if◌then◌else◌}
+use denote.Hole.Carrier
+use Rattle.cstar_base.specs.declared.elem.Elem.{Elem}
+use Rattle.cstar_base.specs.declared.operators.Op.{Op}
+use Rattle.cstar_base.specs.declared.operators.Op.TheVariants as P
+use Rattle.cstar_base.specs.declared.operators.Place.{Place}
+use Rattle.cstar_tree.specs.declared.syntax.AssignOp.{AssignOp}
+use Rattle.cstar_tree.specs.declared.syntax.AssignOp.TheVariants as A
+use Rattle.cstar_tree.specs.declared.syntax.ReduceOp.{ReduceOp}
+use Rattle.cstar_tree.specs.declared.syntax.ReduceOp.TheVariants as Rd
+use Rattle.cstar_tree.specs.declared.typed.TExpr.{TExpr, out-TExpr}
+use Rattle.cstar_tree.specs.declared.typed.TExpr as T
+use Rattle.cstar_tree.specs.declared.typed.Typed.{Typed}
+use Rattle.cstar_tree.specs.declared.typed.Variable.{Variable}
+use Rattle.cstar_tree.specs.declared.typed.Variable.TheVariants as V
+use Rattle.paris_code.specs.declared.operands.Field.{Field}
+use Rattle.paris_code.specs.declared.operands.GridStep.{GridStep}
+use Rattle.paris_code.specs.declared.operands.Reduction.{Reduction}
+use Rattle.lower_base.specs.declared.emit.Out.{Out}
+use Rattle.lower_base.specs.declared.emit.Out.TheVariants as O
+use Rattle.lower_comm.specs.declared.gets.Hop.{Hop}
+use Rattle.lower_comm.specs.declared.news.NewsStep.{NewsStep}
+use Rattle.lower_base.specs.Drafts.{Draft, Made, Makes, then_make, from, in_register, a_register, fresh_for}
+use Rattle.lower_base.specs.Layouts.{Layout, field_of, own_field}
+use Rattle.lower_comm.specs.Messages.{front_located, each_located, located_at, located, checked_part, grid_steps, with_grid_check, along, stepwise, gotten_by_steps, read_at, part_register, part_field, folded_onto, negated_by, reduced, indexed_field, stored, sent_value, sent_to, sent, scanned, segment_field, enumerated, communicated}
+use Rattle.lower_comm.specs.News.{step_of}
+use Rattle.lower_base.specs.Operators.{assign_op_of}
+use Rattle.lower_expr.specs.Lengths.{load_length_of, reduce_length, send_length, read_length, news_move, is_checked, news_moves, news_checked}
+use Rattle.code_lengths.specs.Growth.{Extended, Grows, Stands, Anything}
+use Rattle.code_lengths.proofs.Drafting.{as_it_was, and_step, and_instr, makes, sized, behind, bind, weaker, in_register_grows, in_field_grows, from_grows, register_grows, entry_grows}
+use Rattle.code_lengths.proofs.Pieces.{InRegister, InField, kind_of, stands, fails_grow}
+
+-- a value that stands in a register, or in a field
+abbrev pub Is : Bool → Out → Type 0
+Is kept (O.Scalar r) = kept ≡ true
+Is kept (O.Field f) = kept ≡ false
+Is kept O.Nothing = ⊥
+
+pub is_stands : (k : Bool) (v : Out) → Is k v → Stands k v
+is_stands k (O.Scalar r) h = h
+is_stands k (O.Field f) h = h
+is_stands k O.Nothing h = tt
+
+pub fresh_is : (shape : Option ℕ) (d : Draft) → Grows d 0 (Is (is_none shape)) (fresh_for shape d)
+unfolding fresh_for a_register
+fresh_is None d = bind Anything _ d 0 0 _ _ (register_grows d) (λ r e _. makes _ (O.Scalar r) e e 0 refl (as_it_was e))
+fresh_is (Some s) d = bind Anything _ d 0 0 _ _ (entry_grows _ _ _ d) (λ f e _. makes _ (O.Field f) e e 0 refl (as_it_was e))
+
+-- fields of variables have no code
+pub own_field_grows : (index : ℕ) (d : Draft) → Grows d 0 Anything (own_field index d)
+unfolding own_field
+own_field_grows index d = from_grows Anything d 0 _ _ (λ entry. makes Anything _ d d 0 tt (as_it_was d))
+
+pub field_of_grows : (t : Typed) (l : Layout) (x : Variable) (element : ℕ) (d : Draft) → Grows d 0 Anything (field_of t l x element d)
+unfolding field_of
+field_of_grows t l (V.File k) element d =
+    from_grows Anything d 0 _ _ (λ info. from_grows Anything d 0 _ _ (λ first. from_grows Anything d 0 _ _ (λ set. entry_grows _ _ _ d)))
+field_of_grows t l (V.Param k) element d = from_grows Anything d 0 _ _ (λ index. own_field_grows index d)
+field_of_grows t l (V.Local k) element d = from_grows Anything d 0 _ _ (λ name. from_grows Anything d 0 _ _ (λ home. own_field_grows _ d))
+
+-- an address
+located_at_grows : (k : Bool) (place : Place) (of : ℕ) (indexes : List TExpr) (outs : List Out) (at : Out) (d : Draft) → Is k at → Grows d 2 (Is k) (located_at place of indexes outs at d)
+unfolding located_at front_located each_located
+located_at_grows k place of indexes outs (O.Scalar r) d h = makes (Is k) (O.Scalar r) d _ 2 h (and_step _ d _ 1 (and_step _ d d 0 (as_it_was d)))
+located_at_grows k place of indexes outs (O.Field f) d h = makes (Is k) (O.Field f) d _ 2 h (and_step _ d _ 1 (and_step _ d d 0 (as_it_was d)))
+located_at_grows k place of indexes outs O.Nothing d h = fails_grow _ d 2
+
+pub located_grows : (k : Bool) (e : TExpr) (outs : List Out) (at : Out) (d : Draft) → Is k at → Grows d 2 (Is k) (located e outs at d)
+unfolding located out-TExpr Carrier.out
+located_grows k (T.LeftIndex' ty place p indexes x of) outs at d h = located_at_grows k place of _ outs at d h
+located_grows k _ outs at d h = fails_grow _ d 2
+
+-- the check of a get by NEWS
+pub some_in : {A : Type 0} → List A → Bool
+some_in [] = false
+some_in (x ∷ xs) = true
+
+some_in_two : {A : Type 0} (xs ys : List A) → some_in (xs ++ ys) ≡ (some_in xs || some_in ys)
+unfolding some_in
+some_in_two [] ys = refl
+some_in_two (x ∷ xs) ys = refl
+
+checked_by : (b : Bool) (s : GridStep) → some_in (if b then s ∷ [] else []) ≡ b
+unfolding some_in
+checked_by true s = refl
+checked_by false s = refl
+
+part_checked : (axis : ℕ) (s : Option NewsStep) → some_in (checked_part axis s) ≡ is_checked s
+unfolding checked_part is_checked some_in
+part_checked axis None = refl
+part_checked axis (Some s) = checked_by s.checked _
+
+pub grid_checked : (of axis : ℕ) (indexes : List TExpr) → some_in (grid_steps of axis indexes) ≡ news_checked of axis indexes
+unfolding grid_steps news_checked some_in
+grid_checked of axis [] = refl
+grid_checked of axis (e ∷ rest) =
+    some_in_two (checked_part axis (step_of of axis e)) (grid_steps of (axis + 1) rest)
+    ∙ ap (λ (b : Bool). b || some_in (grid_steps of (axis + 1) rest)) (part_checked axis (step_of of axis e))
+    ∙ ap (λ (b : Bool). is_checked (step_of of axis e) || b) (grid_checked of (axis + 1) rest)
+
+pub grid_check_more : (set : ℕ) (place : Place) (steps : List GridStep) (d : Draft) → Extended d (if some_in steps then 1 else 0) (with_grid_check set place steps d)
+unfolding with_grid_check some_in
+grid_check_more set place [] d = as_it_was d
+grid_check_more set place (s ∷ steps) d = and_step _ d d 0 (as_it_was d)
+
+-- the moves
+moved_by : (b : Bool) (axis : ℕ) (s : NewsStep) (hop other : Hop) (d e : Draft) → Extended d 1 e → Grows d (if b then 0 else 1) (λ (h : Hop). Unit {0}) (if b then Makes hop d else Makes other e)
+moved_by true axis s hop other d e x = makes _ hop d d 0 tt (as_it_was d)
+moved_by false axis s hop other d e x = makes _ other d e 1 tt x
+
+along_grows : (axis : ℕ) (s : Option NewsStep) (hop : Hop) (d : Draft) → Grows d (news_move s) (λ (h : Hop). Unit {0}) (along axis s hop d)
+unfolding along news_move
+along_grows axis None hop d = makes _ hop d d 0 tt (as_it_was d)
+along_grows axis (Some s) hop d = moved_by (s.by == 0) axis s hop _ d _ (and_instr _ d d 0 (as_it_was d))
+
+stepwise_grows : (of axis : ℕ) (indexes : List TExpr) (hop : Hop) (d : Draft) → Grows d (news_moves of axis indexes) (λ (f : Field). Unit {0}) (stepwise of axis indexes hop d)
+unfolding stepwise news_moves
+stepwise_grows of axis [] hop d = makes _ hop.source d d 0 tt (as_it_was d)
+stepwise_grows of axis (e ∷ rest) hop d =
+    bind (λ (h : Hop). Unit {0}) (λ (f : Field). Unit {0}) d _ _ _ _ (along_grows axis (step_of of axis e) hop d) (λ next after _. stepwise_grows of (axis + 1) rest next after)
+
+steps_grow : (of : ℕ) (indexes : List TExpr) (elem : Elem) (source dest : Field) (d : Draft) → Grows d (news_moves of 0 indexes + 1) InField (gotten_by_steps of indexes elem source dest d)
+unfolding gotten_by_steps
+steps_grow of indexes elem source dest d =
+    sized InField d _ _ _ (nothing_more (news_moves of 0 indexes + 1))
+    (bind Anything InField d 0 _ _ _ (entry_grows _ _ _ d) (λ one b _.
+    sized InField b _ _ _ (nothing_more (news_moves of 0 indexes + 1))
+    (bind Anything InField b 0 _ _ _ (entry_grows _ _ _ b) (λ other c _.
+    bind (λ (f : Field). Unit {0}) InField c (news_moves of 0 indexes) 1 _ _ (stepwise_grows of 0 indexes _ c)
+    (λ last after _. makes InField (O.Field dest) after _ 1 refl (and_instr _ after after 0 (as_it_was after)))))))
+  where
+    nothing_more : (n : ℕ) → 0 + n ≡ n
+    nothing_more n = omega arith
+
+-- a read through a left index
+pub nothing_more : (n : ℕ) → 0 + n ≡ n
+nothing_more n = omega arith
+
+pub read_grows : (k : Bool) (shape : Option ℕ) (of : ℕ) (indexes : List TExpr) (elem : Elem) (source : Field) (at into : Out) (d : Draft) → Is (is_none shape) at → Stands k into →
+    Grows d (read_length shape) (Stands k) (read_at of indexes elem source at into d)
+unfolding read_at read_length
+read_grows k None of indexes elem source (O.Scalar r) into d h s =
+    in_register_grows _ d 1 k into _ s (λ dest _. makes (Stands k) into d _ 1 s (and_instr _ d d 0 (as_it_was d)))
+read_grows k (Some _) of indexes elem source (O.Scalar r) into d h s = cc
+read_grows k None of indexes elem source (O.Field f) into d h s = cc
+read_grows k (Some _) of indexes elem source (O.Field f) into d h s =
+    in_field_grows _ d 2 k into _ s (λ dest _. bind Anything (Stands k) d 0 2 _ _ (entry_grows _ _ _ d)
+    (λ got after _. makes (Stands k) into after _ 2 s (and_instr _ after _ 1 (and_instr _ after after 0 (as_it_was after)))))
+read_grows k shape of indexes elem source O.Nothing into d h s = absurd h
+
+pub read_by_news_grows : (k : Bool) (of : ℕ) (indexes : List TExpr) (elem : Elem) (source : Field) (into : Out) (d : Draft) → Stands k into →
+    Grows d (news_moves of 0 indexes + 1) (Stands k) (read_at of indexes elem source O.Nothing into d)
+unfolding read_at
+read_by_news_grows k of indexes elem source into d s =
+    in_field_grows _ d _ k into _ s (λ dest h. weaker InField (Stands k) d _ _ (λ v f. subst (λ b. Stands b v) (sym h) f) (steps_grow of indexes elem source dest d))
+
+-- parts
+pub part_register_grows : {B : Type 0} (Q : B → Type 0) (d : Draft) (n : ℕ) (parts : List Out) (k : ℕ) (next : ℕ → Made B) → ((r : ℕ) → Grows d n Q (next r)) → Grows d n Q (part_register parts k next)
+unfolding part_register
+part_register_grows Q d n parts k next f = from_grows Q d n _ _ (λ out. in_register_grows Q d n (kind_of out) out next (stands out) (λ r _. f r))
+
+pub part_field_grows : {B : Type 0} (Q : B → Type 0) (d : Draft) (n : ℕ) (parts : List Out) (k : ℕ) (next : Field → Made B) → ((r : Field) → Grows d n Q (next r)) → Grows d n Q (part_field parts k next)
+unfolding part_field
+part_field_grows Q d n parts k next f = from_grows Q d n _ _ (λ out. in_field_grows Q d n (kind_of out) out next (stands out) (λ r _. f r))
+
+-- folds onto a register, and unary reductions
+pub folded_onto_grows : (k : Bool) (op : Option Op) (signed : Bool) (elem : Elem) (parts : List Out) (into : Out) (d : Draft) → Stands k into → Grows d 3 (Stands k) (folded_onto op signed elem parts into d)
+unfolding folded_onto
+folded_onto_grows k op signed elem parts into d s =
+    part_field_grows _ d 3 parts 0 _ (λ source. part_register_grows _ d 3 parts 1 _ (λ old. in_register_grows _ d 3 k into _ s (λ dest _.
+    bind Anything (Stands k) d 0 3 _ _ (register_grows d) (λ folded after _.
+    makes (Stands k) into after _ 3 s (and_instr _ after _ 2 (and_instr _ after _ 1 (and_instr _ after after 0 (as_it_was after))))))))
+
+negated_more : (op : ReduceOp) (dest n : ℕ) (d e : Draft) → Extended d 1 e → Extended d (reduce_length op) (negated_by op dest e)
+unfolding negated_by reduce_length
+negated_more Rd.Sub dest n d e x = and_instr _ d e 1 x
+negated_more _ dest n d e x = x
+
+pub reduced_grows : (k : Bool) (op : ReduceOp) (elem : Elem) (parts : List Out) (into : Out) (d : Draft) → Stands k into → Grows d (reduce_length op) (Stands k) (reduced op elem parts into d)
+unfolding reduced
+reduced_grows k op elem parts into d s =
+    part_field_grows _ d _ parts 0 _ (λ source. in_register_grows _ d _ k into _ s (λ dest _.
+    makes (Stands k) into d _ _ s (negated_more op dest 0 d _ (and_instr _ d d 0 (as_it_was d)))))
+
+-- stores to one element, and sends
+indexed_field_grows : (t : Typed) (l : Layout) (e : TExpr) (d : Draft) → Grows d 0 Anything (indexed_field t l e d)
+unfolding indexed_field
+indexed_field_grows t l e d = from_grows Anything d 0 _ _ (λ x. field_of_grows t l x 0 d)
+
+pub element_stored_grows : (t : Typed) (l : Layout) (target : TExpr) (processor : ℕ) (parts : List Out) (d : Draft) → Grows d 1 (λ (v : Out). Unit {0}) (stored t l target processor parts d)
+unfolding stored
+element_stored_grows t l target processor parts d =
+    bind Anything _ d 0 1 _ _ (indexed_field_grows t l target d) (λ dest after _. part_register_grows _ after 1 parts 0 _ (λ value.
+    makes _ O.Nothing after _ 1 tt (and_instr _ after after 0 (as_it_was after))))
+
+-- it is of a part that stands in a register
+pub one_part_stored_grows : (t : Typed) (l : Layout) (target : TExpr) (processor : ℕ) (v : Out) (d : Draft) → Grows d 1 (λ (w : Out). InRegister v) (stored t l target processor (v ∷ []) d)
+unfolding stored part_register from in_register
+one_part_stored_grows t l target processor (O.Scalar r) d =
+    bind Anything _ d 0 1 _ _ (indexed_field_grows t l target d) (λ dest after _. makes _ O.Nothing after _ 1 refl (and_instr _ after after 0 (as_it_was after)))
+one_part_stored_grows t l target processor (O.Field f) d =
+    bind Anything _ d 0 1 _ _ (indexed_field_grows t l target d) (λ dest after _. fails_grow _ after 1)
+one_part_stored_grows t l target processor O.Nothing d =
+    bind Anything _ d 0 1 _ _ (indexed_field_grows t l target d) (λ dest after _. fails_grow _ after 1)
+
+combined_grows : (op : Op) (n : ℕ) (value : Field) (d : Draft) (next : Field → Draft → Made Out) → Grows d n (λ (f : Field). Unit {0}) (sent_value op value d) →
+    ((f : Field) (e : Draft) → Grows e 1 (λ (v : Out). Unit {0}) (next f e)) → Grows d (n + 1) (λ (v : Out). Unit {0}) (then_make (sent_value op value d) next)
+combined_grows op n value d next g f = bind _ _ d n 1 _ next g (λ x e _. f x e)
+
+negative_grows : (value : Field) (d : Draft) → Grows d 1 (λ (f : Field). Unit {0}) (sent_value P.Sub value d)
+unfolding sent_value
+negative_grows value d = bind Anything _ d 0 1 _ _ (entry_grows _ _ _ d) (λ source after _. makes _ source after _ 1 tt (and_instr _ after after 0 (as_it_was after)))
+
+send_to_grows : (op : AssignOp) (signed : Bool) (kind : Elem) (dest to value : Field) (d : Draft) → Grows d (send_length op) (λ (v : Out). Unit {0}) (sent_to (assign_op_of op) signed kind dest to value d)
+unfolding sent_to assign_op_of send_length sent_value
+send_to_grows A.Set signed kind dest to value d =
+    bind Anything _ d 0 2 _ _ (entry_grows _ _ _ d) (λ source after _. makes _ O.Nothing after _ 2 tt (and_instr _ after _ 1 (and_instr _ after after 0 (as_it_was after))))
+send_to_grows A.Sub signed kind dest to value d =
+    combined_grows P.Sub 1 value d _ (negative_grows value d) (λ source after. makes _ O.Nothing after _ 1 tt (and_instr _ after after 0 (as_it_was after)))
+send_to_grows _ signed kind dest to value d =
+    bind (λ (f : Field). Unit {0}) _ d 0 1 (Makes value d) _ (makes _ value d d 0 tt (as_it_was d)) (λ source after _. makes _ O.Nothing after _ 1 tt (and_instr _ after after 0 (as_it_was after)))
+
+pub sent_grows : (t : Typed) (l : Layout) (target : TExpr) (op : AssignOp) (signed : Bool) (to : Field) (parts : List Out) (d : Draft) → Grows d (send_length op) (λ (v : Out). Unit {0}) (sent t l target (assign_op_of op) signed to parts d)
+unfolding sent
+sent_grows t l target op signed to parts d =
+    sized _ d _ _ _ (nothing_more (send_length op)) (bind Anything _ d 0 _ _ _ (indexed_field_grows t l target d)
+    (λ dest after _. part_field_grows _ after _ parts 0 _ (λ value. send_to_grows op signed _ dest to value after)))
+
+-- scans
+pub scanned_grows : (k : Bool) (combiner : Reduction) (source : Field) (line : _) (bit : Option Field) (into : Out) (d : Draft) → Stands k into → Grows d 1 (Stands k) (scanned combiner source line bit into d)
+unfolding scanned
+scanned_grows k combiner source line bit into d s =
+    in_field_grows _ d 1 k into _ s (λ dest _. makes (Stands k) into d _ 1 s (and_instr _ d d 0 (as_it_was d)))
+
+pub segment_field_grows : (t : Typed) (l : Layout) (x : Option Variable) (d : Draft) → Grows d 0 (λ (f : Option Field). Unit {0}) (segment_field t l x d)
+unfolding segment_field
+segment_field_grows t l None d = makes _ None d d 0 tt (as_it_was d)
+segment_field_grows t l (Some x) d = bind Anything _ d 0 0 _ _ (field_of_grows t l x 0 d) (λ f after _. makes _ (Some f) after after 0 tt (as_it_was after))
+
+pub enumerated_grows : (k : Bool) (t : Typed) (l : Layout) (line : _) (bit : Option Variable) (into : Out) (d : Draft) → Stands k into → Grows d 2 (Stands k) (enumerated t l line bit into d)
+unfolding enumerated
+enumerated_grows k t l line bit into d s =
+    in_field_grows _ d 2 k into _ s (λ dest _. bind Anything (Stands k) d 0 2 _ _ (entry_grows _ _ _ d)
+    (λ ones b _. behind (Stands k) b _ 1 1 _ (and_instr _ b b 0 (as_it_was b))
+    (bind (λ (f : Option Field). Unit {0}) (Stands k) _ 0 1 _ _ (segment_field_grows t l bit _) (λ bits after _. scanned_grows k _ ones line bits into after s))))
+
+-- a read through a left index that is located there
+abbrev pub IsAddress : TExpr → Out → Type 0
+IsAddress (T.LeftIndex' ty place p indexes x of) at = Is (is_none ty.shape) at
+IsAddress _ at = ⊥
+
+pub left_index_read_grows : (k : Bool) (t : Typed) (l : Layout) (b : TExpr) (at into : Out) (d : Draft) → IsAddress b at → Stands k into → Grows d (load_length_of t l b) (Stands k) (communicated t l b at [] into d)
+unfolding communicated load_length_of out-TExpr Carrier.out
+left_index_read_grows k t l (T.LeftIndex' ty place p indexes x of) at into d h s =
+    sized _ d _ _ _ (nothing_more (read_length ty.shape)) (bind Anything (Stands k) d 0 _ _ _ (field_of_grows t l x 0 d) (λ source after _. read_grows k ty.shape of _ ty.elem source at into after h s))
+left_index_read_grows k t l _ at into d h s = absurd h

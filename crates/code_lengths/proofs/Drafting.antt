@@ -1,0 +1,103 @@
+-- Drafts that grow: by so many instructions, with what was there unchanged.
+use Rattle.std.proofs.Common.{◌≡◌, ℕ, ◌+◌, Bool, true, false, List, [], ◌∷◌, ◌++◌, length, Option, Some, None, is_none, refl, ap, ◌∙◌, subst, arith, append_assoc, length-append}
+use Rattle.paris_code.specs.declared.instr.Instr.{Instr}
+use Rattle.paris_code.specs.declared.operands.Field.{Field}
+use Rattle.paris_code.specs.declared.program.Owner.{Owner}
+use Rattle.paris_code.specs.declared.program.Virtual.{Virtual}
+use Rattle.lower_base.specs.declared.emit.Out.{Out}
+use Rattle.lower_base.specs.declared.emit.Out.TheVariants as O
+use Rattle.lower_base.specs.Drafts.{Draft, Step, Made, Makes, Fails, then_make, from, step, with_step, with_instr, a_register, an_entry, fresh_for, in_register, in_field}
+use Rattle.code_lengths.specs.Growth.{Extended, Grows, Stands, Anything}
+
+pub append_nothing : {A : Type 0} (xs : List A) → xs ≡ xs ++ []
+append_nothing [] = refl
+append_nothing (x ∷ xs) = ap (λ ys. x ∷ ys) (append_nothing xs)
+
+pub as_it_was : (d : Draft) → Extended d 0 d
+as_it_was d = record { name = refl; more = []; code = append_nothing d.code; long = refl; entries = []; fields = append_nothing d.fields; regs = omega arith; later = []; homes = append_nothing _ }
+
+pub extended : (d e f : Draft) (a b : ℕ) → Extended d a e → Extended e b f → Extended d (a + b) f
+extended d e f a b x y = record {
+  name = y.name ∙ x.name;
+  more = x.more ++ y.more;
+  code = y.code ∙ ap (λ (c : List Step). c ++ y.more) x.code ∙ append_assoc d.code x.more y.more;
+  long = length-append x.more y.more ∙ ap (λ (k : ℕ). k + length y.more) x.long ∙ ap (λ (k : ℕ). a + k) y.long;
+  entries = x.entries ++ y.entries;
+  fields = y.fields ∙ ap (λ (c : List Virtual). c ++ y.entries) x.fields ∙ append_assoc d.fields x.entries y.entries;
+  regs = let r1 = x.regs in let r2 = y.regs in omega (arith, r1, r2);
+  later = x.later ++ y.later;
+  homes = y.homes ∙ ap (λ (c : List ℕ). c ++ y.later) x.homes ∙ append_assoc d.homes x.later y.later;
+}
+
+pub resized : (d e : Draft) (a b : ℕ) → a ≡ b → Extended d a e → Extended d b e
+resized d e a b h x = subst (λ k. Extended d k e) h x
+
+pub and_step : (s : Step) (d e : Draft) (n : ℕ) → Extended d n e → Extended d (n + 1) (with_step s e)
+unfolding with_step
+and_step s d e n x = extended d e (with_step s e) n 1 x (record {
+  name = refl;
+  more = s ∷ [];
+  code = refl;
+  long = refl;
+  entries = [];
+  fields = append_nothing e.fields;
+  regs = omega arith;
+  later = [];
+  homes = append_nothing _;
+})
+
+pub and_instr : (i : Instr) (d e : Draft) (n : ℕ) → Extended d n e → Extended d (n + 1) (with_instr i e)
+unfolding with_instr
+and_instr i d e n x = and_step (step i) d e n x
+
+pub makes : {A : Type 0} (P : A → Type 0) (x : A) (d e : Draft) (n : ℕ) → P x → Extended d n e → Grows d n P (Makes x e)
+unfolding Grows
+makes P x d e n p g = (p, g)
+
+pub sized : {A : Type 0} (P : A → Type 0) (d : Draft) (a b : ℕ) (m : Made A) → a ≡ b → Grows d a P m → Grows d b P m
+sized P d a b m h g = subst (λ k. Grows d k P m) h g
+
+pub behind : {A : Type 0} (P : A → Type 0) (d e : Draft) (a b : ℕ) (m : Made A) → Extended d a e → Grows e b P m → Grows d (a + b) P m
+unfolding Grows
+behind P d e a b (Makes x f) x1 g = (g.0, extended d e f a b x1 g.1)
+behind P d e a b Fails x1 g = tt
+
+pub bind : {A B : Type 0} (P : A → Type 0) (Q : B → Type 0) (d : Draft) (a b : ℕ) (m : Made A) (next : A → Draft → Made B) → Grows d a P m → ((x : A) (e : Draft) → P x → Grows e b Q (next x e)) → Grows d (a + b) Q (then_make m next)
+unfolding Grows then_make
+bind P Q d a b (Makes x e) next g f = behind Q d e a b (next x e) g.1 (f x e g.0)
+bind P Q d a b Fails next g f = tt
+
+pub weaker : {A : Type 0} (P Q : A → Type 0) (d : Draft) (n : ℕ) (m : Made A) → ((x : A) → P x → Q x) → Grows d n P m → Grows d n Q m
+unfolding Grows
+weaker P Q d n (Makes x e) f g = (f x g.0, g.1)
+weaker P Q d n Fails f g = tt
+
+pub in_register_grows : {B : Type 0} (Q : B → Type 0) (d : Draft) (n : ℕ) (k : Bool) (v : Out) (next : ℕ → Made B) → Stands k v → ((r : ℕ) → k ≡ true → Grows d n Q (next r)) → Grows d n Q (in_register v next)
+unfolding Grows in_register
+in_register_grows Q d n k (O.Scalar r) next s f = f r s
+in_register_grows Q d n k (O.Field g) next s f = tt
+in_register_grows Q d n k O.Nothing next s f = tt
+
+pub in_field_grows : {B : Type 0} (Q : B → Type 0) (d : Draft) (n : ℕ) (k : Bool) (v : Out) (next : Field → Made B) → Stands k v → ((r : Field) → k ≡ false → Grows d n Q (next r)) → Grows d n Q (in_field v next)
+unfolding Grows in_field
+in_field_grows Q d n k (O.Scalar r) next s f = tt
+in_field_grows Q d n k (O.Field g) next s f = f g s
+in_field_grows Q d n k O.Nothing next s f = tt
+
+pub from_grows : {A B : Type 0} (Q : B → Type 0) (d : Draft) (n : ℕ) (o : Option A) (next : A → Made B) → ((x : A) → Grows d n Q (next x)) → Grows d n Q (from o next)
+unfolding Grows from
+from_grows Q d n (Some x) next f = f x
+from_grows Q d n None next f = tt
+
+pub register_grows : (d : Draft) → Grows d 0 Anything (a_register d)
+unfolding Grows a_register
+register_grows d = (tt, record { name = refl; more = []; code = append_nothing d.code; long = refl; entries = []; fields = append_nothing d.fields; regs = omega arith; later = []; homes = append_nothing _ })
+
+pub entry_grows : (set len : ℕ) (owner : Owner) (d : Draft) → Grows d 0 Anything (an_entry set len owner d)
+unfolding Grows an_entry
+entry_grows set len owner d = (tt, record { name = refl; more = []; code = append_nothing d.code; long = refl; entries = record { set = set; len = len; owner = owner } ∷ []; fields = refl; regs = omega arith; later = []; homes = append_nothing _ })
+
+pub fresh_grows : (shape : Option ℕ) (d : Draft) → Grows d 0 (Stands (is_none shape)) (fresh_for shape d)
+unfolding Grows fresh_for a_register an_entry then_make
+fresh_grows None d = (refl, record { name = refl; more = []; code = append_nothing d.code; long = refl; entries = []; fields = append_nothing d.fields; regs = omega arith; later = []; homes = append_nothing _ })
+fresh_grows (Some s) d = (refl, record { name = refl; more = []; code = append_nothing d.code; long = refl; entries = _; fields = refl; regs = omega arith; later = []; homes = append_nothing _ })

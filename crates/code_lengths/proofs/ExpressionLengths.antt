@@ -1,0 +1,196 @@
+-- The code of every expression is as long as described, and its value stands where the expression says.
+use denote.Hole.Carrier
+use Rattle.std.proofs.Common.{◌≡◌, ℕ, suc, ◌+◌, Bool, true, false, List, [], ◌∷◌, ◌++◌, length, Option, is_none, slice_get, refl, sym, ap, ◌∙◌, subst, arith, if◌then◌else◌, length-append}
+use mathlib.Core.Former.{Count}
+use Rattle.cstar_base.specs.declared.operators.Place.{Place}
+use Rattle.cstar_tree.specs.declared.typed.TExpr.{TExpr, Row_of-TExpr, end_of-TExpr, more_of-TExpr, items-the_row-TExpr, items_shown-the_row-TExpr-0, out-TExpr}
+use Rattle.cstar_tree.specs.declared.typed.TExpr as T
+use Rattle.cstar_tree.specs.declared.typed.Piece.{Piece}
+use Rattle.cstar_tree.specs.declared.typed.Typed.{Typed}
+use Rattle.cstar_tree.specs.declared.typed.ValueType.{ValueType}
+use Rattle.cstar_tree.specs.declared.typed.Variable.{Variable}
+use Rattle.cstar_tree.specs.Typed.{type_of}
+use Rattle.paris_code.specs.declared.operands.Field.{Field}
+use Rattle.lower_base.specs.declared.emit.Out.{Out}
+use Rattle.lower_base.specs.declared.emit.Out.TheVariants as O
+use Rattle.lower_base.specs.Drafts.{Draft, Made, Makes, then_make, fresh_for}
+use Rattle.lower_base.specs.Layouts.{Layout, elements_of}
+use Rattle.lower_comm.specs.Messages.{communicated, checked_grid}
+use Rattle.lower_comm.specs.News.{goes_by_news}
+use Rattle.lower_expr.specs.Frames.{called}
+use Rattle.lower_expr.specs.declared.spots.Spot.TheVariants as S
+use Rattle.lower_expr.specs.Lengths.{length_of, spot_length_of, lengths_of, call_length, bare, load_length, load_length_of, read_length, news_length, news_moves, news_checked, four_times}
+use Rattle.lower_expr.specs.Spots.{variable_spot}
+use Rattle.lower_expr.specs.Steps.{is_kept, pieces_printed}
+use Rattle.lower_expr.specs.Values.{Code, Codes, value_of, spot_of, values_of, element_spot, indexed_spot, news_by, read_by, message_by}
+use Rattle.code_lengths.specs.Shaped.{HasShape, IsShaped, IsTarget, AreShaped}
+use Rattle.code_lengths.specs.Growth.{Grows, Stands, Anything}
+use Rattle.code_lengths.proofs.Drafting.{as_it_was, makes, sized, bind, weaker, fresh_grows}
+use Rattle.code_lengths.proofs.Pieces.{InField, constant_grows, in_place_grows, printed_grows}
+use Rattle.code_lengths.proofs.Communication.{Is, fresh_is, located_grows, nothing_more, field_of_grows, read_by_news_grows, grid_check_more, grid_checked, reduced_grows, scanned_grows, segment_field_grows, enumerated_grows, part_field_grows}
+use Rattle.code_lengths.proofs.SpotPieces.{Fits, variable_fits, bare_type}
+use Rattle.code_lengths.proofs.CallPieces.{called_grows}
+use Rattle.code_lengths.proofs.OperandPieces.{operand_grows}
+use Rattle.code_lengths.proofs.ValuePieces.{IsCode, binary_grows, logical_grows, choice_grows, unary_grows, casts_grow, spread_by_grows, coordinate_grows, byte_grows}
+use Rattle.code_lengths.proofs.AssignPieces.{IsSpotCode, element_spot_grows, read_by_grows, assign_grows, step_grows}
+
+-- the codes of a list of values are so long, and give so many
+abbrev pub AreCodes : ℕ → ℕ → Codes → Type 0
+AreCodes n count codes = (outs : List Out) (d : Draft) → Grows d n (λ (given : List Out). length given ≡ length outs + count) (codes outs d)
+
+-- a value of a kind that is said otherwise
+of_kind : (k b : Bool) (d : Draft) (n : ℕ) (m : Made Out) → k ≡ b → Grows d n (Stands k) m → Grows d n (Stands b) m
+of_kind k b d n m h g = weaker (Stands k) (Stands b) d n m (λ v s. subst (λ x. Stands x v) h s) g
+
+-- left indexes
+indexed_spot_grows : (e : TExpr) (codes : Codes) (n count : ℕ) (d : Draft) → AreCodes n count codes → ((at : Out) → Is (is_none (type_of e).shape) at → Fits (bare e) (S.Indexed at)) →
+    Grows d (2 + n) (Fits (bare e)) (indexed_spot e codes d)
+unfolding indexed_spot
+indexed_spot_grows e codes n count d c f =
+    sized _ d _ _ _ (sum n) (bind (Is (is_none (type_of e).shape)) _ d 0 _ _ _ (fresh_is (type_of e).shape d) (λ at begun h.
+    bind (λ (given : List Out). length given ≡ 0 + count) _ begun n _ _ _ (c [] begun) (λ parts between _.
+    bind (Is (is_none (type_of e).shape)) _ between 2 0 _ _ (located_grows (is_none (type_of e).shape) e parts at between h) (λ out after k. makes _ (S.Indexed out) after after 0 (f out k) (as_it_was after)))))
+  where
+    sum : (n : ℕ) → 0 + (n + (2 + 0)) ≡ 2 + n
+    sum n = omega arith
+
+message_grows : (t : Typed) (l : Layout) (e : TExpr) (ty : ValueType) (code : Code) (n m : ℕ) (k : Bool) (d : Draft) → IsCode n k code →
+    ((v into : Out) (b : Draft) → Stands (is_none ty.shape) into → Grows b m (Stands (is_none ty.shape)) (communicated t l e O.Nothing (v ∷ []) into b)) →
+    Grows d (n + m) (Stands (is_none ty.shape)) (message_by t l e ty code d)
+unfolding message_by
+message_grows t l e ty code n m k d c f =
+    sized _ d _ _ _ (nothing_more _) (bind (Stands (is_none ty.shape)) _ d 0 _ _ _ (fresh_grows ty.shape d) (λ dest begun s. bind (Stands k) _ begun n m _ _ (c begun) (λ v after _. f v dest after s)))
+
+-- reads of variables and of elements
+one_read : (t : Typed) (l : Layout) (ty : ValueType) (x : Variable) → 0 + load_length t l (T.Variable ty x) ≡ 1
+unfolding load_length load_length_of bare
+one_read t l ty x = refl
+
+variable_spots : (l : Layout) (ty : ValueType) (x : Variable) → IsSpotCode 0 (bare (T.Variable ty x)) (λ between. Makes (variable_spot l ty x) between)
+unfolding bare
+variable_spots l ty x d = makes _ _ d d 0 (variable_fits l ty x) (as_it_was d)
+
+variable_value : (t : Typed) (l : Layout) (ty : ValueType) (x : Variable) (d : Draft) → Grows d 1 (Stands (is_none ty.shape)) (read_by t l (T.Variable ty x) ty (λ between. Makes (variable_spot l ty x) between) d)
+variable_value t l ty x d = sized _ d _ _ _ (one_read t l ty x) (read_by_grows t l (T.Variable ty x) ty _ 0 d (variable_spots l ty x))
+
+element_value : (t : Typed) (l : Layout) (ty : ValueType) (place : Place) (array : Variable) (p : _) (index : TExpr) (d : Draft) → HasShape ty → (k : Bool) (code : Code) (n : ℕ) → IsCode n k code →
+    Grows d ((n + 5) + four_times (elements_of t l array)) (Stands (is_none ty.shape)) (read_by t l (T.Element' ty place array p index) ty (element_spot t l ty place array code) d)
+unfolding load_length load_length_of bare
+element_value t l ty place array p index d h k code n c =
+    read_by_grows t l (T.Element' ty place array p index) ty _ (n + 5) d (λ b. element_spot_grows t l ty place array p index k code n b h c)
+
+nothing_behind : (n : ℕ) → n ≡ n + 0
+nothing_behind n = omega arith
+
+one_behind : (n m : ℕ) → (n + 1) + m ≡ n + suc m
+one_behind n m = omega arith
+
+call_value : (t : Typed) (l : Layout) (shape : Option ℕ) (instance : ℕ) (codes : Codes) (n count : ℕ) (d : Draft) → AreCodes n count codes →
+    Grows d (call_length (slice_get t.instances.items instance) count + n) (Stands (is_none shape)) (then_make (fresh_for shape d) (λ dest begun. then_make (codes [] begun) (λ given after. called t l instance given dest after)))
+call_value t l shape instance codes n count d c =
+    sized _ d _ _ _ (sum n (call_length (slice_get t.instances.items instance) count)) (bind (Stands (is_none shape)) _ d 0 _ _ _ (fresh_grows shape d) (λ dest begun s.
+    bind (λ (given : List Out). length given ≡ 0 + count) _ begun n _ _ _ (c [] begun) (λ given after h.
+    sized _ after _ _ _ (ap (call_length (slice_get t.instances.items instance)) (h ∙ nothing_more count)) (called_grows (is_none shape) t l instance given dest after s))))
+  where
+    sum : (n m : ℕ) → 0 + (n + m) ≡ m + n
+    sum n m = omega arith
+
+-- a get by NEWS
+grid_value : (ty : ValueType) (place : Place) (p : _) (indexes : Row_of-TExpr _) (x : Variable) (of : ℕ) (d : Draft) →
+    Grows d (if news_checked of 0 (items-the_row-TExpr _ indexes) then 1 else 0) (λ (v : Out). Unit {0}) (checked_grid (T.LeftIndex' ty place p indexes x of) d)
+unfolding checked_grid out-TExpr Carrier.out
+grid_value ty place p indexes x of d =
+    sized _ d _ _ _ (ap (λ (b : Bool). if b then 1 else 0) (grid_checked of 0 _ ∙ ap (λ (xs : List TExpr). news_checked of 0 xs) (items_shown-the_row-TExpr-0 p indexes))) (makes _ O.Nothing d _ _ tt (grid_check_more _ place _ d))
+
+news_read : (k : Bool) (t : Typed) (l : Layout) (ty : ValueType) (place : Place) (p : _) (indexes : Row_of-TExpr _) (x : Variable) (of : ℕ) (into : Out) (d : Draft) → Stands k into →
+    Grows d (news_moves of 0 (items-the_row-TExpr _ indexes) + 1) (Stands k) (communicated t l (T.LeftIndex' ty place p indexes x of) O.Nothing [] into d)
+unfolding communicated out-TExpr Carrier.out
+news_read k t l ty place p indexes x of into d s =
+    sized _ d _ _ _ (nothing_more _ ∙ ap (λ (xs : List TExpr). news_moves of 0 xs + 1) (items_shown-the_row-TExpr-0 p indexes))
+    (bind Anything (Stands k) d 0 _ _ _ (field_of_grows t l x 0 d) (λ source after _. read_by_news_grows k of _ ty.elem source into after s))
+
+left_index_value : (b : Bool) (t : Typed) (l : Layout) (ty : ValueType) (place : Place) (p : _) (indexes : Row_of-TExpr _) (x : Variable) (of : ℕ) (codes : Codes) (n count : ℕ) (d : Draft) → AreCodes n count codes →
+    Grows d (if b then news_length of (items-the_row-TExpr _ indexes) else (2 + n) + read_length ty.shape) (Stands (is_none ty.shape))
+    (if b then news_by t l (T.LeftIndex' ty place p indexes x of) ty d else read_by t l (T.LeftIndex' ty place p indexes x of) ty (indexed_spot (T.LeftIndex' ty place p indexes x of) codes) d)
+unfolding news_by news_length load_length load_length_of bare
+left_index_value true t l ty place p indexes x of codes n count d c =
+    sized _ d _ _ _ (sum (news_moves of 0 (items-the_row-TExpr _ indexes) + 1) (if news_checked of 0 (items-the_row-TExpr _ indexes) then 1 else 0)) (bind (Stands (is_none ty.shape)) _ d 0 _ _ _ (fresh_grows ty.shape d) (λ dest begun s.
+    bind (λ (v : Out). Unit {0}) _ begun _ _ _ _ (grid_value ty place p indexes x of begun) (λ _ after _. news_read (is_none ty.shape) t l ty place p indexes x of dest after s)))
+  where
+    sum : (a b : ℕ) → 0 + (b + a) ≡ a + b
+    sum a b = omega arith
+left_index_value false t l ty place p indexes x of codes n count d c =
+    read_by_grows t l (T.LeftIndex' ty place p indexes x of) ty _ (2 + n) d (λ b. indexed_spot_grows (T.LeftIndex' ty place p indexes x of) codes n count b c (λ at h. h))
+
+printed_value : (k : Bool) (pieces : List Piece) (codes : Codes) (n count : ℕ) (d : Draft) → AreCodes n count codes →
+    Grows d (length pieces + n) (Stands k) (then_make (codes [] d) (λ given after. pieces_printed pieces given after))
+printed_value k pieces codes n count d c =
+    sized _ d _ _ _ (sum n (length pieces)) (bind (λ (given : List Out). length given ≡ 0 + count) _ d n _ _ _ (c [] d) (λ given after _.
+    weaker (λ (v : Out). v ≡ O.Nothing) (Stands k) after _ _ (λ v e. subst (λ x. Stands k x) (sym e) tt) (printed_grows pieces given after)))
+  where
+    sum : (n m : ℕ) → n + m ≡ m + n
+    sum n m = omega arith
+
+mutual
+  unfolding value_of spot_of values_of length_of spot_length_of lengths_of is_kept bare IsShaped IsTarget AreShaped communicated out-TExpr Carrier.out
+
+  pub value_grows : (t : Typed) (l : Layout) (e : TExpr) → IsShaped e → (d : Draft) → Grows d (length_of t l e) (Stands (is_kept e)) (value_of t l e d)
+  value_grows t l (T.Assign' ty place op p target q value) h d =
+      of_kind _ _ d _ _ (ap (λ (y : ValueType). is_none y.shape) (bare_type target h.2) ∙ ap is_none (sym h.0)) (assign_grows t l ty place op p target q value _ _ _ _ d (bare_type target h.2) (spot_grows t l target h.2) (value_grows t l value h.3)
+      (operand_grows t l true value _ _ h.3 (value_grows t l value h.3)))
+  value_grows t l (T.Choice' ty p test q first r second) h d =
+      choice_grows ty (is_kept test) (is_kept first) (is_kept second) _ _ _ _ _ _ d (operand_grows t l _ test _ _ h.0 (value_grows t l test h.0))
+      (operand_grows t l _ first _ _ h.1 (value_grows t l first h.1)) (operand_grows t l _ second _ _ h.2 (value_grows t l second h.2))
+  value_grows t l (T.LogicalOr' ty p left q right) h d =
+      logical_grows true (is_kept left) (is_kept right) ty.shape _ _ _ _ d (operand_grows t l _ left _ _ h.0 (value_grows t l left h.0)) (operand_grows t l _ right _ _ h.1 (value_grows t l right h.1))
+  value_grows t l (T.LogicalAnd' ty p left q right) h d =
+      logical_grows false (is_kept left) (is_kept right) ty.shape _ _ _ _ d (operand_grows t l _ left _ _ h.0 (value_grows t l left h.0)) (operand_grows t l _ right _ _ h.1 (value_grows t l right h.1))
+  value_grows t l (T.Binary' ty place op p left q right) h d =
+      sized _ d _ _ _ (nothing_more _) (bind (Stands (is_none ty.shape)) _ d 0 _ _ _ (fresh_grows ty.shape d) (λ dest after s.
+      binary_grows (is_none ty.shape) dest op _ place _ left _ _ right _ after s
+      (operand_grows t l _ left _ _ h.0 (value_grows t l left h.0)) (operand_grows t l _ right _ _ h.1 (value_grows t l right h.1))))
+  value_grows t l (T.Unary' ty op p operand) h d = unary_grows ty op (is_kept operand) operand _ _ _ d h.0 (value_grows t l operand h.1) (operand_grows t l true operand _ _ h.1 (value_grows t l operand h.1))
+  value_grows t l (T.Step' ty op order p target) h d =
+      of_kind _ _ d _ _ (ap is_none (sym h.0)) (step_grows t l ty op order p target _ _ d (bare_type target h.1) (spot_grows t l target h.1))
+  value_grows t l (T.Reduce' ty op p operand) h d =
+      message_grows t l (T.Reduce' ty op p operand) ty _ _ _ (is_kept operand) d (operand_grows t l true operand _ _ h (value_grows t l operand h)) (λ v into b s. reduced_grows _ op _ (v ∷ []) into b s)
+  value_grows t l (T.Casts' ty elems p operand) h d =
+      bind (Stands (is_kept operand)) _ d _ _ _ _ (value_grows t l operand h.1 d) (λ v after s. of_kind true _ after _ _ (sym h.0) (casts_grow (is_kept operand) elems.items v after s))
+  value_grows t l (T.ParallelCast' ty p operand) h d =
+      of_kind false _ d _ _ (sym h.0) (bind InField InField d _ _ _ _ (spread_by_grows _ operand _ _ d (value_grows t l operand h.1)) (λ v after s. in_place_grows false v ty.elem after s))
+  value_grows t l (T.Convert' ty p operand) h d =
+      bind (Stands (is_kept operand)) _ d _ _ _ _ (value_grows t l operand h.1 d) (λ v after s. in_place_grows (is_kept operand) v ty.elem after s)
+  value_grows t l (T.Promote' ty p operand) h d = of_kind _ _ d _ _ h.0 (value_grows t l operand h.1 d)
+  value_grows t l (T.Variable ty x) h d = variable_value t l ty x d
+  value_grows t l (T.Element' ty place array p index) h d = element_value t l ty place array p index d h.0 _ _ _ (value_grows t l index h.1)
+  value_grows t l (T.Number ty value) h d = of_kind true _ d _ _ (sym h) (constant_grows value d)
+  value_grows t l (T.Dot ty axis) h d = of_kind false _ d _ _ (sym h) (coordinate_grows ty.shape axis d)
+  value_grows t l (T.Brackets' ty p inner) h d = value_grows t l inner h.1 d
+  value_grows t l (T.Call' ty instance p arguments) h d = call_value t l ty.shape instance _ _ _ d (values_grow t l _ arguments h)
+  value_grows t l (T.LeftIndex' ty place p indexes x of) h d = left_index_value (goes_by_news (T.LeftIndex' ty place p indexes x of)) t l ty place p indexes x of _ _ _ d (values_grow t l _ indexes h)
+  value_grows t l (T.Pcoord ty axis) h d = of_kind false _ d _ _ (sym h) (coordinate_grows ty.shape axis d)
+  value_grows t l (T.PositionsOf ty shape value) h d = of_kind true _ d _ _ (sym h) (constant_grows value d)
+  value_grows t l (T.RankOf ty shape value) h d = of_kind true _ d _ _ (sym h) (constant_grows value d)
+  value_grows t l (T.DimOf ty shape axis value) h d = of_kind true _ d _ _ (sym h) (constant_grows value d)
+  value_grows t l (T.Scan' ty p source axis combiner direction mode bit within) h d =
+      message_grows t l (T.Scan' ty p source axis combiner direction mode bit within) ty _ _ 1 (is_kept source) d (operand_grows t l true source _ _ h (value_grows t l source h)) (λ v into b s.
+      part_field_grows _ b 1 (v ∷ []) 0 _ (λ values. bind (λ (f : Option Field). Unit {0}) _ b 0 1 _ _ (segment_field_grows t l bit b) (λ bits after _. scanned_grows _ _ values _ bits into after s)))
+  value_grows t l (T.Enumerate ty axis direction within mode bit) h d =
+      bind (Stands (is_none ty.shape)) _ d 0 2 _ _ (fresh_grows ty.shape d) (λ dest after s. enumerated_grows (is_none ty.shape) t l _ bit dest after s)
+  value_grows t l (T.Printf' ty pieces p arguments) h d = printed_value _ pieces.items _ _ _ d (values_grow t l _ arguments h)
+  value_grows t l (T.GetChar ty) h d = of_kind true _ d _ _ (sym h) (byte_grows d)
+
+  pub spot_grows : (t : Typed) (l : Layout) (e : TExpr) → IsTarget e → (d : Draft) → Grows d (spot_length_of t l e) (Fits (bare e)) (spot_of t l e d)
+  spot_grows t l (T.Variable ty x) h d = makes _ _ d d 0 (variable_fits l ty x) (as_it_was d)
+  spot_grows t l (T.Element' ty place array p index) h d = element_spot_grows t l ty place array p index _ _ _ d h.0 (value_grows t l index h.1)
+  spot_grows t l (T.LeftIndex' ty place p indexes x of) h d =
+      indexed_spot_grows (T.LeftIndex' ty place p indexes x of) _ _ _ d (values_grow t l _ indexes h) (λ at k. k)
+  spot_grows t l (T.Brackets' ty p inner) h d = spot_grows t l inner h.1 d
+  spot_grows t l _ h d = absurd h
+
+  pub values_grow : (t : Typed) (l : Layout) (quiet : Bool) {n : Count} (row : Row_of-TExpr n) → AreShaped row → AreCodes (lengths_of t l quiet row) (length (items-the_row-TExpr n row)) (values_of t l quiet row)
+  values_grow t l quiet end_of-TExpr h outs d = makes _ outs d d 0 (nothing_behind (length outs)) (as_it_was d)
+  values_grow t l quiet (more_of-TExpr e rest) h outs d =
+      bind (Stands (is_kept e)) _ d _ _ _ _ (operand_grows t l quiet e _ _ h.0 (value_grows t l e h.0) d) (λ v after _.
+      weaker (λ (given : List Out). length given ≡ length (outs ++ v ∷ []) + length (items-the_row-TExpr _ rest)) _ after _ _ (λ given g. g ∙ ap (λ (k : ℕ). k + length (items-the_row-TExpr _ rest)) (length-append outs (v ∷ [])) ∙ one_behind (length outs) (length (items-the_row-TExpr _ rest)))
+      (values_grow t l quiet rest h.1 (outs ++ v ∷ []) after))

@@ -1,0 +1,13 @@
+pub mod Drafting
+pub mod Pieces
+pub mod Communication
+pub mod SpotPieces
+pub mod CallPieces
+pub mod OperandPieces
+pub mod ValuePieces
+pub mod AssignPieces
+pub mod ExpressionLengths
+pub mod EffectLengths
+pub mod StatementLengths
+pub mod UnitLengths
+pub mod Agreeing

@@ -1,0 +1,267 @@
+-- Short stretches of code are as long as described.
+use Rattle.std.proofs.Common.{◌≡◌, ℕ, suc, ◌+◌, ◌≤◌, ◌-◌, Bool, true, false, not, ◌==◌, List, [], ◌∷◌, length, refl, arith, if◌then◌else◌, ◌⊎◌, inl, inr}
+use Rattle.std.specs.Prelude.{nat_lt}
+use Rattle.cstar_base.specs.declared.elem.Elem.{Elem}
+use Rattle.cstar_base.specs.declared.operators.Op.{Op}
+use Rattle.cstar_base.specs.declared.operators.Op.TheVariants as P
+use Rattle.cstar_base.specs.declared.operators.Place.{Place}
+use Rattle.cstar_base.specs.Operators.{divides}
+use Rattle.cstar_base.proofs.NumberLaws.{kind_bits}
+use Rattle.cstar_tree.specs.declared.typed.Piece.{Piece}
+use Rattle.cstar_tree.specs.declared.typed.Piece.TheVariants as Pc
+use Rattle.cstar_tree.specs.declared.typed.UnaryOp.{UnaryOp}
+use Rattle.cstar_tree.specs.declared.typed.UnaryOp.TheVariants as Un
+use Rattle.paris_code.specs.declared.instr.Instr.TheVariants as I
+use Rattle.paris_code.specs.declared.operands.Field.{Field}
+use Rattle.paris_code.specs.declared.operands.Konst.{Konst}
+use Rattle.paris_code.specs.declared.operands.Konst.TheVariants as K
+use Rattle.paris_code.specs.declared.operands.Operation.TheVariants as Act
+use Rattle.lower_base.specs.declared.emit.Out.{Out}
+use Rattle.lower_base.specs.declared.emit.Out.TheVariants as O
+use Rattle.lower_base.specs.declared.operators.Machine.{Machine}
+use Rattle.lower_base.specs.declared.operators.Machine.TheVariants as M
+use Rattle.lower_base.specs.Drafts.{Draft, Makes, Fails, with_instr, in_register, in_field}
+use Rattle.lower_base.specs.Operators.{machine_of}
+use Rattle.lower_expr.specs.declared.steps.Right.TheVariants as R
+use Rattle.lower_expr.specs.Steps.{constant_in, put_test, field_converted, converted_in_place, put_in_field, put_value, with_register_check, with_field_check, on_registers, operated, on_fields, fields_operated, takes_word, on_word, right_operated, in_a_field, register_negated, field_negated, negated, pieces_printed, relates, shifted_back}
+use Rattle.lower_expr.specs.Lengths.{conversion_length, unary_length, operate_length, spare_length}
+use Rattle.code_lengths.specs.Growth.{Extended, Grows, Stands, Anything}
+use Rattle.code_lengths.proofs.Drafting.{as_it_was, resized, and_instr, makes, sized, behind, bind, in_register_grows, register_grows, entry_grows}
+
+-- a value that stands in a register or nowhere, or in a field or nowhere
+abbrev pub InRegister : Out → Type 0
+InRegister v = Stands true v
+
+abbrev pub InField : Out → Type 0
+InField v = Stands false v
+
+pub constant_grows : (value : ℕ) (d : Draft) → Grows d 1 InRegister (constant_in value d)
+unfolding constant_in
+constant_grows value d =
+    bind Anything InRegister d 0 1 _ _ (register_grows d) (λ r e _. makes InRegister (O.Scalar r) e _ 1 refl (and_instr _ e e 0 (as_it_was e)))
+
+pub test_grows : (dest : Field) (d : Draft) → Grows d 2 InField (put_test dest d)
+unfolding put_test
+test_grows dest d =
+    bind Anything InField d 0 2 _ _ (entry_grows _ _ _ d)
+    (λ kept e _. makes InField (O.Field dest) e _ 2 refl (and_instr _ e _ 1 (and_instr _ e e 0 (as_it_was e))))
+
+-- a width is 32, or narrower
+below_32 : (n : ℕ) → n ≤ 32 → (b : Bool) → (n == 32) ≡ b → (nat_lt n 32 ≡ not b)
+below_32 n h b e = grind (arith, h, e)
+
+bool_cases : (b : Bool) → (b ≡ true) ⊎ (b ≡ false)
+bool_cases true = inl refl
+bool_cases false = inr refl
+
+pub width : (elem : Elem) → nat_lt elem.bits 32 ≡ not (elem.bits == 32)
+width elem = below_32 elem.bits (kind_bits elem.bits elem.signed elem.kind).1 (elem.bits == 32) refl
+
+in_place_by : (b : Bool) (r : ℕ) (elem : Elem) (d : Draft) → Grows d (if b then 0 else 1) InRegister (Makes (O.Scalar r) (if not b then with_instr (I.FrontConvert r r elem) d else d))
+in_place_by true r elem d = makes InRegister (O.Scalar r) d d 0 refl (as_it_was d)
+in_place_by false r elem d = makes InRegister (O.Scalar r) d _ 1 refl (and_instr _ d d 0 (as_it_was d))
+
+one_is_narrow : (n : ℕ) → (n == 1) ≡ true → (n == 32) ≡ false
+one_is_narrow n e = grind (arith, e)
+
+field_by : (one full : Bool) (f : Field) (elem : Elem) (d : Draft) → (one ≡ true → full ≡ false) →
+    Grows d (if full then 0 else (if one then 3 else 2)) InField
+    (if one then put_test f (with_instr (I.NeZero f) d) else (if not full then Makes (O.Field f)
+    (with_instr (I.OperateConstant (shifted_back elem.signed) f f (K.Imm (32 - elem.bits)))
+    (with_instr (I.OperateConstant Act.UShiftLeft f f (K.Imm (32 - elem.bits))) d)) else Makes (O.Field f) d))
+field_by true true f elem d h = absurd (no (h refl))
+  where
+    no : true ≡ false → ⊥
+    no e = cc
+field_by true false f elem d h = behind InField d _ 1 2 _ (and_instr _ d d 0 (as_it_was d)) (test_grows f _)
+field_by false true f elem d h = makes InField (O.Field f) d d 0 refl (as_it_was d)
+field_by false false f elem d h = makes InField (O.Field f) d _ 2 refl (and_instr _ d _ 1 (and_instr _ d d 0 (as_it_was d)))
+
+pub in_place_grows : (k : Bool) (v : Out) (elem : Elem) (d : Draft) → Stands k v → Grows d (conversion_length k elem) (Stands k) (converted_in_place v elem d)
+unfolding converted_in_place conversion_length field_converted Grows
+in_place_grows true (O.Scalar r) elem d s =
+    rw (width elem) (in_place_by (elem.bits == 32) r elem d)
+in_place_grows false (O.Scalar r) elem d s = cc
+in_place_grows true (O.Field f) elem d s = cc
+in_place_grows false (O.Field f) elem d s =
+    rw (width elem) (field_by (elem.bits == 1) (elem.bits == 32) f elem d (one_is_narrow elem.bits))
+in_place_grows k O.Nothing elem d s = tt
+
+-- which kind a value is of
+unfoldable pub kind_of : Out → Bool
+kind_of (O.Scalar r) = true
+kind_of (O.Field f) = false
+kind_of O.Nothing = true
+
+pub stands : (v : Out) → Stands (kind_of v) v
+unfolding kind_of
+stands (O.Scalar r) = refl
+stands (O.Field f) = refl
+stands O.Nothing = tt
+
+-- copies
+pub put_in_field_grows : (dest : Field) (v : Out) (d : Draft) → Grows d 1 InField (put_in_field dest v d)
+unfolding put_in_field Grows
+put_in_field_grows dest (O.Scalar r) d = (refl, and_instr _ d d 0 (as_it_was d))
+put_in_field_grows dest (O.Field f) d = (refl, and_instr _ d d 0 (as_it_was d))
+put_in_field_grows dest O.Nothing d = tt
+
+pub put_value_grows : (k : Bool) (dest v : Out) (d : Draft) → Stands k dest → Grows d 1 (Stands k) (put_value dest v d)
+unfolding put_value in_register Grows
+put_value_grows true (O.Scalar r) (O.Scalar q) d s = (refl, and_instr _ d d 0 (as_it_was d))
+put_value_grows true (O.Scalar r) (O.Field f) d s = tt
+put_value_grows true (O.Scalar r) O.Nothing d s = tt
+put_value_grows true (O.Field f) v d s = cc
+put_value_grows false (O.Scalar r) v d s = cc
+put_value_grows false (O.Field f) v d s = put_in_field_grows f v d
+put_value_grows k O.Nothing v d s = tt
+
+-- what is put in a register was in one
+pub put_register_grows : (r : ℕ) (v : Out) (d : Draft) → Grows d 1 (λ _. InRegister v) (put_value (O.Scalar r) v d)
+unfolding put_value in_register Grows
+put_register_grows r (O.Scalar q) d = (refl, and_instr _ d d 0 (as_it_was d))
+put_register_grows r (O.Field f) d = tt
+put_register_grows r O.Nothing d = tt
+
+-- binary operators
+check_by : (b : Bool) (op : Op) (place : Place) (r : ℕ) (d : Draft) → Extended d (if b then 1 else 0) (if b then with_instr (I.FrontCheckDivisor place r) d else d)
+check_by true op place r d = and_instr _ d d 0 (as_it_was d)
+check_by false op place r d = as_it_was d
+
+field_check_by : (b : Bool) (op : Op) (place : Place) (r : Field) (d : Draft) → Extended d (if b then 1 else 0) (if b then with_instr (I.CheckDivisor place r) d else d)
+field_check_by true op place r d = and_instr _ d d 0 (as_it_was d)
+field_check_by false op place r d = as_it_was d
+
+on_registers_more : (m : Machine) (dest left right n : ℕ) (d e : Draft) → Extended d n e → Extended d (n + 1) (on_registers m dest left right e)
+unfolding on_registers
+on_registers_more (M.Operate act) dest left right n d e x = and_instr _ d e n x
+on_registers_more (M.Compare relation) dest left right n d e x = and_instr _ d e n x
+
+one_or_two : (b : Bool) → (if b then 1 else 0) + 1 ≡ (if b then 2 else 1)
+one_or_two true = refl
+one_or_two false = refl
+
+pub operated_more : (op : Op) (signed : Bool) (place : Place) (dest left right : ℕ) (d : Draft) → Extended d (operate_length op true) (operated op signed place dest left right d)
+unfolding operated operate_length with_register_check
+operated_more op signed place dest left right d =
+    resized d _ _ _ (one_or_two (divides op)) (on_registers_more (machine_of op signed) dest left right _ d _ (check_by (divides op) op place right d))
+
+machine_length : Machine → ℕ
+machine_length (M.Operate act) = 1
+machine_length (M.Compare relation) = 3
+
+on_fields_grows : (m : Machine) (dest left right : Field) (d : Draft) → Grows d (machine_length m) InField (on_fields m dest left right d)
+unfolding on_fields machine_length
+on_fields_grows (M.Operate act) dest left right d = makes InField (O.Field dest) d _ 1 refl (and_instr _ d d 0 (as_it_was d))
+on_fields_grows (M.Compare relation) dest left right d = behind InField d _ 1 2 _ (and_instr _ d d 0 (as_it_was d)) (test_grows dest _)
+
+fields_length : (op : Op) (signed : Bool) → (if divides op then 1 else 0) + machine_length (machine_of op signed) ≡ operate_length op false
+unfolding divides relates operate_length machine_of machine_length
+fields_length P.Eq signed = refl
+fields_length P.Ne signed = refl
+fields_length P.Lt signed = refl
+fields_length P.Le signed = refl
+fields_length P.Gt signed = refl
+fields_length P.Ge signed = refl
+fields_length P.Div signed = refl
+fields_length P.Rem signed = refl
+fields_length P.Mod signed = refl
+fields_length _ signed = refl
+
+pub fields_operated_grows : (op : Op) (signed : Bool) (place : Place) (dest left right : Field) (d : Draft) → Grows d (operate_length op false) InField (fields_operated op signed place dest left right d)
+unfolding fields_operated with_field_check
+fields_operated_grows op signed place dest left right d =
+    sized InField d _ _ _ (fields_length op signed) (behind InField d _ _ _ _ (field_check_by (divides op) op place right d) (on_fields_grows (machine_of op signed) dest left right _))
+
+-- an operand that stands in a register
+relation_on_word : (relation : _) (dest left spare : Field) (word : Konst) (d : Draft) → Grows d 4 InField (on_fields (M.Compare relation) dest left spare (with_instr (I.MoveConstant spare word) d))
+unfolding machine_length
+relation_on_word relation dest left spare word d =
+    behind InField d _ 1 3 _ (and_instr _ d d 0 (as_it_was d)) (on_fields_grows (M.Compare relation) dest left spare _)
+
+divided : (act : _) (place : Place) (dest left spare : Field) (word : Konst) (d : Draft) →
+    Grows d 3 InField (on_fields (M.Operate act) dest left spare (with_instr (I.CheckDivisor place spare) (with_instr (I.MoveConstant spare word) d)))
+unfolding machine_length
+divided act place dest left spare word d =
+    behind InField d _ 2 1 _ (and_instr _ d _ 1 (and_instr _ d d 0 (as_it_was d))) (on_fields_grows (M.Operate act) dest left spare _)
+
+pub word_grows : (op : Op) (signed : Bool) (place : Place) (dest left : Field) (r : ℕ) (spare : Field) (d : Draft) →
+    Grows d (operate_length op false + spare_length op true) InField (right_operated op signed place dest left (R.Word (K.Reg r)) spare d)
+unfolding right_operated on_word machine_of operate_length spare_length relates divides takes_word with_field_check
+word_grows P.Eq signed place dest left r spare d = relation_on_word _ dest left spare (K.Reg r) d
+word_grows P.Ne signed place dest left r spare d = relation_on_word _ dest left spare (K.Reg r) d
+word_grows P.Lt signed place dest left r spare d = relation_on_word _ dest left spare (K.Reg r) d
+word_grows P.Le signed place dest left r spare d = relation_on_word _ dest left spare (K.Reg r) d
+word_grows P.Gt signed place dest left r spare d = relation_on_word _ dest left spare (K.Reg r) d
+word_grows P.Ge signed place dest left r spare d = relation_on_word _ dest left spare (K.Reg r) d
+word_grows P.Div signed place dest left r spare d = divided _ place dest left spare (K.Reg r) d
+word_grows P.Rem signed place dest left r spare d = divided _ place dest left spare (K.Reg r) d
+word_grows P.Mod signed place dest left r spare d = divided _ place dest left spare (K.Reg r) d
+word_grows _ signed place dest left r spare d = makes InField (O.Field dest) d _ 1 refl (and_instr _ d d 0 (as_it_was d))
+
+pub number_grows : (op : Op) (signed : Bool) (place : Place) (dest left : Field) (w : ℕ) (spare : Field) (d : Draft) →
+    Grows d (if relates op then 4 else 1) InField (right_operated op signed place dest left (R.Word (K.Imm w)) spare d)
+unfolding right_operated on_word machine_of relates divides takes_word with_field_check
+number_grows P.Eq signed place dest left w spare d = relation_on_word _ dest left spare (K.Imm w) d
+number_grows P.Ne signed place dest left w spare d = relation_on_word _ dest left spare (K.Imm w) d
+number_grows P.Lt signed place dest left w spare d = relation_on_word _ dest left spare (K.Imm w) d
+number_grows P.Le signed place dest left w spare d = relation_on_word _ dest left spare (K.Imm w) d
+number_grows P.Gt signed place dest left w spare d = relation_on_word _ dest left spare (K.Imm w) d
+number_grows P.Ge signed place dest left w spare d = relation_on_word _ dest left spare (K.Imm w) d
+number_grows _ signed place dest left w spare d = makes InField (O.Field dest) d _ 1 refl (and_instr _ d d 0 (as_it_was d))
+
+pub in_a_field_grows : (k : Bool) (v : Out) (spare : Field) (d : Draft) → Stands k v → Grows d (if k then 1 else 0) Anything (in_a_field v spare d)
+unfolding in_a_field Grows
+in_a_field_grows true (O.Scalar r) spare d s = (tt, and_instr _ d d 0 (as_it_was d))
+in_a_field_grows false (O.Scalar r) spare d s = cc
+in_a_field_grows true (O.Field f) spare d s = cc
+in_a_field_grows false (O.Field f) spare d s = (tt, as_it_was d)
+in_a_field_grows k O.Nothing spare d s = tt
+
+-- unary operators
+register_negated_grows : (op : UnaryOp) (dest source : ℕ) (d : Draft) → Grows d (unary_length op true) InRegister (register_negated op dest source d)
+unfolding unary_length register_negated Grows
+register_negated_grows Un.Plus dest source d = tt
+register_negated_grows Un.Minus dest source d = (refl, and_instr _ d d 0 (as_it_was d))
+register_negated_grows Un.Complement dest source d = (refl, and_instr _ d d 0 (as_it_was d))
+register_negated_grows Un.Not dest source d =
+    bind Anything InRegister d 0 2 _ _ (register_grows d) (λ zero e _. makes InRegister (O.Scalar dest) e _ 2 refl (and_instr _ e _ 1 (and_instr _ e e 0 (as_it_was e))))
+
+field_negated_grows : (op : UnaryOp) (dest source : Field) (d : Draft) → Grows d (unary_length op false) InField (field_negated op dest source d)
+unfolding unary_length field_negated Grows
+field_negated_grows Un.Plus dest source d = tt
+field_negated_grows Un.Minus dest source d = (refl, and_instr _ d d 0 (as_it_was d))
+field_negated_grows Un.Complement dest source d = (refl, and_instr _ d d 0 (as_it_was d))
+field_negated_grows Un.Not dest source d = behind InField d _ 1 2 _ (and_instr _ d d 0 (as_it_was d)) (test_grows dest _)
+
+pub negated_grows : (op : UnaryOp) (k kept : Bool) (dest v : Out) (d : Draft) → Stands k dest → Stands kept v → Grows d (unary_length op kept) (Stands k) (negated op dest v d)
+unfolding negated in_register in_field Grows
+negated_grows op true true (O.Scalar r) (O.Scalar q) d s t = register_negated_grows op r q d
+negated_grows op false kept (O.Scalar r) v d s t = cc
+negated_grows op true false (O.Scalar r) (O.Scalar q) d s t = cc
+negated_grows op true kept (O.Scalar r) (O.Field f) d s t = tt
+negated_grows op true kept (O.Scalar r) O.Nothing d s t = tt
+negated_grows op true kept (O.Field f) v d s t = cc
+negated_grows op false false (O.Field f) (O.Field g) d s t = field_negated_grows op f g d
+negated_grows op false true (O.Field f) (O.Field g) d s t = cc
+negated_grows op false kept (O.Field f) (O.Scalar q) d s t = tt
+negated_grows op false kept (O.Field f) O.Nothing d s t = tt
+negated_grows op k kept O.Nothing v d s t = tt
+
+-- printing
+pub one_and : (n : ℕ) → 1 + n ≡ suc n
+one_and n = omega arith
+
+pub fails_grow : {A : Type 0} (P : A → Type 0) (d : Draft) (n : ℕ) → Grows d n P Fails
+unfolding Grows
+fails_grow P d n = tt
+
+pub printed_grows : (pieces : List Piece) (values : List Out) (d : Draft) → Grows d (length pieces) (λ (v : Out). v ≡ O.Nothing) (pieces_printed pieces values d)
+unfolding pieces_printed
+printed_grows [] values d = makes _ O.Nothing d d 0 refl (as_it_was d)
+printed_grows (Pc.Bytes bytes ∷ rest) values d =
+    sized _ d _ _ _ (one_and (length rest)) (behind _ d _ 1 (length rest) _ (and_instr _ d d 0 (as_it_was d)) (printed_grows rest values _))
+printed_grows (Pc.Argument format ∷ rest) [] d = fails_grow _ d _
+printed_grows (Pc.Argument format ∷ rest) (v ∷ values) d =
+    in_register_grows _ d _ (kind_of v) v _ (stands v)
+    (λ r h. sized _ d _ _ _ (one_and (length rest)) (behind _ d _ 1 (length rest) _ (and_instr _ d d 0 (as_it_was d)) (printed_grows rest values _)))

@@ -1,0 +1,324 @@
+-- The code of every statement is as long as described.
+use Rattle.std.proofs.Common.{◌≡◌, ℕ, suc, zero, ◌+◌, ◌≤◌, Bool, true, false, List, [], ◌∷◌, ◌++◌, length, reverse, take, Option, Some, None, is_none, ◌||◌, ◌==◌, refl, sym, ap, ◌∙◌, subst, arith, if◌then◌else◌, length-append, add_comm}
+use Rattle.cstar_tree.specs.declared.typed.LocalVar.{LocalVar}
+use Rattle.cstar_tree.specs.declared.typed.TExpr.{TExpr}
+use Rattle.cstar_tree.specs.declared.typed.TStmt.{TStmt, Row_of-TStmt, end_of-TStmt, more_of-TStmt, Held-TStmt-If-2, None', Some'}
+use Rattle.cstar_tree.specs.declared.typed.TStmt as S
+use Rattle.cstar_tree.specs.declared.typed.Typed.{Typed}
+use Rattle.cstar_tree.specs.declared.typed.VarInfo.{VarInfo}
+use Rattle.cstar_tree.specs.declared.typed.Variable.TheVariants as V
+use Rattle.std.proofs.lemmas.List.{length-reverse}
+use Rattle.cstar_tree.specs.Typed.{type_of}
+use Rattle.paris_code.specs.declared.instr.Instr.TheVariants as I
+use Rattle.paris_code.specs.declared.operands.Field.{Field}
+use Rattle.lower_base.specs.declared.emit.Out.{Out}
+use Rattle.lower_base.specs.declared.emit.Out.TheVariants as O
+use Rattle.lower_base.specs.Drafts.{Draft, Made, Makes, then_make, with_instr}
+use Rattle.lower_base.specs.Layouts.{Layout, entries_of, register_of, field_of}
+use Rattle.lower_expr.specs.Effects.{next_length, put_length, effect_length_of, tested_length}
+use Rattle.lower_expr.specs.Steps.{is_kept, put_value}
+use Rattle.lower_stmt.specs.declared.length.Saved.{Saved}
+use Rattle.lower_stmt.specs.declared.statement.Frame.{Frame}
+use Rattle.lower_stmt.specs.declared.statement.Outcome.{Outcome}
+use Rattle.lower_stmt.specs.declared.statement.Outcome.TheVariants as R
+use Rattle.lower_stmt.specs.Frames.{has_result, in_loop, in_context, with_end}
+use Rattle.lower_stmt.specs.Lengths.{one_more, at_loop, part_length_of, condition_length_of, clear_length_of, initial_length_of, locals_length_of, storing_length, statement_length_of, statements_length_of, else_length_of}
+use Rattle.lower_stmt.specs.Statements as L
+use Rattle.lower_stmt.specs.Statements.{statement_of, statements_of, else_of, otherwise_of, part_of, condition_of, jump_back_of, stored_result, given_back, returned, closing}
+use Rattle.lower_stmt.specs.Variables.{cleared_fields, with_home, cleared, all_cleared, variable_of, initial_put, initialised, all_initialised, declared}
+use Rattle.code_lengths.specs.Shaped.{IsShaped}
+use Rattle.code_lengths.specs.ShapedStatements.{IsShapedPart, IsShapedInitial, AreShapedLocals, IsShapedStatement, AreShapedStatements, IsShapedElse}
+use Rattle.code_lengths.specs.Agreement.{StandsAmong}
+use Rattle.code_lengths.specs.Growth.{Extended, Grows, Stands, Anything}
+use Rattle.code_lengths.proofs.Drafting.{append_nothing, as_it_was, resized, and_instr, makes, sized, behind, bind, weaker, in_register_grows, entry_grows}
+use Rattle.code_lengths.proofs.Pieces.{kind_of, stands, put_value_grows}
+use Rattle.code_lengths.proofs.Communication.{Is, field_of_grows, own_field_grows, nothing_more}
+use Rattle.code_lengths.proofs.EffectLengths.{either_grows, next_grows, moved_grows, put_grows, suits_by, scalar_kept, effect_grows, tested_grows}
+
+abbrev pub Done : {A : Type 0} → A → Type 0
+Done x = Unit {0}
+
+-- contexts that are loaded
+loaded_more : (fields : List Field) (n : ℕ) (d e : Draft) → Extended d n e → Extended d (n + length fields) (L.loaded fields e)
+unfolding L.loaded
+loaded_more [] n d e x = resized d e n (n + 0) (omega arith) x
+loaded_more (f ∷ fields) n d e x = resized d _ _ _ (next n (length fields)) (loaded_more fields (n + 1) d _ (and_instr _ d e n x))
+  where
+    next : (n k : ℕ) → (n + 1) + k ≡ n + suc k
+    next n k = omega arith
+
+take_long : (xs : List Field) (n : ℕ) → n ≤ length xs → length (take n xs) ≡ n
+take_long xs zero h = refl
+take_long [] (suc n) h = absurd (no n h)
+  where
+    no : (n : ℕ) → suc n ≤ 0 → ⊥
+    no n h = omega (arith, h)
+take_long (x ∷ xs) (suc n) h = ap suc (take_long xs n (omega (arith, h)))
+
+restored_more : (contexts : List Field) (newest n : ℕ) (d e : Draft) → newest ≤ length contexts → Extended d n e → Extended d (n + newest) (L.restored contexts newest e)
+unfolding L.restored
+restored_more contexts newest n d e h x =
+    resized d _ _ _ (ap (λ (k : ℕ). n + k) (take_long (reverse contexts) newest (subst (λ (k : ℕ). newest ≤ k) (sym (length-reverse contexts)) h))) (loaded_more (take newest (reverse contexts)) n d e x)
+
+and_nothing : (n : ℕ) → n + 0 ≡ n
+and_nothing n = omega arith
+
+-- parts
+part_grows : (t : Typed) (l : Layout) (e : Option TExpr) (d : Draft) → IsShapedPart e → Grows d (part_length_of t l e) Done (part_of t l e d)
+unfolding part_length_of part_of IsShapedPart
+part_grows t l None d h = makes Done tt d d 0 tt (as_it_was d)
+part_grows t l (Some e) d h = sized Done d _ _ _ (and_nothing _) (bind Done Done d (effect_length_of t l e) 0 _ _ (effect_grows t l e d h) (λ v after _. makes Done tt after after 0 tt (as_it_was after)))
+
+condition_grows : (t : Typed) (l : Layout) (e : TExpr) (d : Draft) → IsShaped e → Grows d (next_length t l e) Done (condition_of t l e d)
+unfolding condition_of
+condition_grows t l e d h =
+    sized Done d _ _ _ (and_nothing _) (bind (Stands (is_kept e)) Done d (next_length t l e) 0 _ _ (next_grows t l e h d) (λ v after s. in_register_grows Done after 0 (is_kept e) v _ s (λ r _. makes Done r after after 0 tt (as_it_was after))))
+
+back_grows : (t : Typed) (l : Layout) (e : Option TExpr) (turn : ℕ) (d : Draft) → IsShapedPart e → Grows d (condition_length_of t l e + 1) Done (jump_back_of t l e turn d)
+unfolding condition_length_of jump_back_of IsShapedPart
+back_grows t l None turn d h = makes Done tt d _ 1 tt (and_instr _ d d 0 (as_it_was d))
+back_grows t l (Some e) turn d h = bind Done Done d (next_length t l e) 1 _ _ (condition_grows t l e d h) (λ r after _. makes Done tt after _ 1 tt (and_instr _ after after 0 (as_it_was after)))
+
+put_any : (dest v : Out) (d : Draft) → Grows d 1 Done (put_value dest v d)
+put_any dest v d = weaker (Stands (kind_of dest)) Done d 1 _ (λ _ _. tt) (put_value_grows (kind_of dest) dest v d (stands dest))
+
+result_by : (o : Outcome) → ℕ
+result_by R.Nothing = 0
+result_by R.Scalar = 1
+result_by R.Parallel = 1
+
+result_grows : (l : Layout) (o : Outcome) (v : Out) (d : Draft) → Grows d (result_by o) Done (stored_result l o v d)
+unfolding stored_result result_by
+result_grows l R.Nothing v d = makes Done tt d d 0 tt (as_it_was d)
+result_grows l R.Scalar v d = bind Done Done d 1 0 _ _ (put_any _ v d) (λ _ after _. makes Done tt after after 0 tt (as_it_was after))
+result_grows l R.Parallel v d = bind Anything Done d 0 1 _ _ (own_field_grows _ d) (λ dest between _. bind Done Done between 1 0 _ _ (put_any _ v between) (λ _ after _. makes Done tt after after 0 tt (as_it_was after)))
+
+result_length : (f : Frame) → result_by f.outcome ≡ storing_length (has_result f)
+unfolding result_by storing_length has_result
+result_length f = by f.outcome
+  where
+    by : (o : Outcome) → result_by o ≡ (if (elim o as (λ _. Bool) [ R.Nothing ↦ false | R.Scalar ↦ true | R.Parallel ↦ true ]) then 1 else 0)
+    by R.Nothing = refl
+    by R.Scalar = refl
+    by R.Parallel = refl
+
+returned_length : Typed → Layout → Option TExpr → Outcome → ℕ
+returned_length t l None o = 0
+returned_length t l (Some e) o = next_length t l e + result_by o
+
+returned_grows : (t : Typed) (l : Layout) (e : Option TExpr) (o : Outcome) (d : Draft) → IsShapedPart e → Grows d (returned_length t l e o) Done (returned t l e o d)
+unfolding returned given_back returned_length IsShapedPart
+returned_grows t l None o d h = makes Done tt d d 0 tt (as_it_was d)
+returned_grows t l (Some e) o d h = bind (Stands (is_kept e)) Done d (next_length t l e) _ _ _ (next_grows t l e h d) (λ v after _. result_grows l o v after)
+
+-- variables of blocks
+home_more : (d : Draft) → Extended d 0 (with_home d)
+unfolding with_home
+home_more d = record { name = refl; more = []; code = append_nothing d.code; long = refl; entries = []; fields = append_nothing d.fields; regs = omega arith; later = _; homes = refl }
+
+cleared_fields_grow : (n set len : ℕ) (d : Draft) → Grows d n Done (cleared_fields n set len d)
+unfolding cleared_fields
+cleared_fields_grow zero set len d = makes Done tt d d 0 tt (as_it_was d)
+cleared_fields_grow (suc n) set len d =
+    sized Done d _ _ _ (one_and n) (bind Anything Done d 0 (1 + n) _ _ (entry_grows set len _ d) (λ dest after _. behind Done after _ 1 n _ (and_instr _ after after 0 (as_it_was after)) (cleared_fields_grow n set len _)))
+  where
+    one_and : (n : ℕ) → 0 + (1 + n) ≡ suc n
+    one_and n = omega arith
+
+cleared_by : (shape : Option ℕ) (l : Layout) (info : VarInfo) (n : ℕ) (d : Draft) →
+    Grows d (elim shape as (λ _. ℕ) [ None ↦ 1 | Some s ↦ entries_of info ]) Done (elim shape as (λ _. Made (Unit {0})) [
+      | None ↦ Makes tt (with_instr (I.FrontConst (register_of l (V.Local n)) 0) d)
+      | Some s ↦ cleared_fields (entries_of info) s info.elem.bits (with_home d)
+    ])
+cleared_by None l info n d = makes Done tt d _ 1 tt (and_instr _ d d 0 (as_it_was d))
+cleared_by (Some s) l info n d = sized Done d _ _ _ (nothing_more _) (behind Done d _ 0 (entries_of info) _ (home_more d) (cleared_fields_grow (entries_of info) s _ _))
+
+cleared_grows : (l : Layout) (info : VarInfo) (n : ℕ) (d : Draft) → Grows d (clear_length_of info) Done (cleared l info n d)
+unfolding cleared clear_length_of
+cleared_grows l info n d = cleared_by info.shape l info n d
+
+clears : List LocalVar → ℕ
+clears [] = 0
+clears (local ∷ locals) = clear_length_of local.info + clears locals
+
+initials : Typed → Layout → List LocalVar → ℕ
+initials t l [] = 0
+initials t l (local ∷ locals) = initial_length_of t l local.info local.initial + initials t l locals
+
+all_cleared_grow : (l : Layout) (locals : List LocalVar) (n : ℕ) (d : Draft) → Grows d (clears locals) Done (all_cleared l locals n d)
+unfolding all_cleared clears
+all_cleared_grow l [] n d = makes Done tt d d 0 tt (as_it_was d)
+all_cleared_grow l (local ∷ locals) n d = bind Done Done d _ _ _ _ (cleared_grows l local.info n d) (λ _ after _. all_cleared_grow l locals (n + 1) after)
+
+variable_by : (shape : Option ℕ) (t : Typed) (l : Layout) (n : ℕ) (d : Draft) → Grows d 0 (Is (is_none shape)) (elim shape as (λ _. Made Out) [
+  | None ↦ Makes (O.Scalar (register_of l (V.Local n))) d
+  | Some s ↦ then_make (field_of t l (V.Local n) 0 d) (λ field after. Makes (O.Field field) after)
+])
+variable_by None t l n d = makes _ _ d d 0 refl (as_it_was d)
+variable_by (Some s) t l n d = bind Anything _ d 0 0 _ _ (field_of_grows t l (V.Local n) 0 d) (λ field after _. makes _ (O.Field field) after after 0 refl (as_it_was after))
+
+-- a value is written to the variable, or moved to a narrow parallel one
+initial_put_grows : (t : Typed) (l : Layout) (info : VarInfo) (dest : Out) (e : TExpr) (d : Draft) → Is (is_none info.shape) dest → IsShaped e → is_none info.shape ≡ is_none (type_of e).shape →
+    Grows d (if is_none info.shape || info.elem.bits == 32 then put_length t l (is_none info.shape) e else next_length t l e + 1) Done (initial_put t l info dest e d)
+unfolding initial_put
+initial_put_grows t l info dest e d s h a =
+    either_grows Done (is_none info.shape || info.elem.bits == 32) d _ _ _ _
+    (λ _. weaker (Stands (is_none info.shape)) Done d _ _ (λ _ _. tt) (put_grows (is_none info.shape) t l dest e d s h (suits_by (is_none info.shape) e (λ k. scalar_kept e h (sym a ∙ k)) (λ k. sym a ∙ k))))
+    (λ _. weaker (Stands (is_none info.shape)) Done d _ _ (λ _ _. tt) (moved_grows (is_none info.shape) t l dest e d s h))
+
+initial_by : (e : Option TExpr) (t : Typed) (l : Layout) (info : VarInfo) (n : ℕ) (d : Draft) → IsShapedInitial info e → Grows d (initial_length_of t l info e) Done (elim e as (λ _. Made (Unit {0})) [
+  | None ↦ Makes tt d
+  | Some e ↦ then_make (variable_of t l info n d) (λ dest between. then_make (initial_put t l info dest e between) (λ _ after. Makes tt after))
+])
+unfolding initial_length_of IsShapedInitial variable_of
+initial_by None t l info n d h = makes Done tt d d 0 tt (as_it_was d)
+initial_by (Some e) t l info n d h =
+    sized Done d _ _ _ (nothing_more _ ∙ and_nothing _) (bind (Is (is_none info.shape)) Done d 0 _ _ _ (variable_by info.shape t l n d) (λ dest between s.
+    bind Done Done between _ 0 _ _ (initial_put_grows t l info dest e between s h.1 h.0) (λ _ after _. makes Done tt after after 0 tt (as_it_was after))))
+
+all_initialised_grow : (t : Typed) (l : Layout) (locals : List LocalVar) (n : ℕ) (d : Draft) → AreShapedLocals locals → Grows d (initials t l locals) Done (all_initialised t l locals n d)
+unfolding all_initialised initialised initials AreShapedLocals
+all_initialised_grow t l [] n d h = makes Done tt d d 0 tt (as_it_was d)
+all_initialised_grow t l (local ∷ locals) n d h = bind Done Done d _ _ _ _ (initial_by local.initial t l local.info n d h.0) (λ _ after _. all_initialised_grow t l locals (n + 1) after h.1)
+
+locals_sum : (t : Typed) (l : Layout) (locals : List LocalVar) → clears locals + (initials t l locals + 0) ≡ locals_length_of t l locals
+unfolding clears initials locals_length_of
+locals_sum t l [] = refl
+locals_sum t l (local ∷ locals) = swap (clear_length_of local.info) (clears locals) (initial_length_of t l local.info local.initial) (initials t l locals) ∙ ap (λ (n : ℕ). clear_length_of local.info + initial_length_of t l local.info local.initial + n) (locals_sum t l locals)
+  where
+    swap : (a b c d : ℕ) → (a + b) + ((c + d) + 0) ≡ (a + c) + (b + (d + 0))
+    swap a b c d = omega arith
+
+declared_grows : (t : Typed) (l : Layout) (locals : List LocalVar) (n : ℕ) (d : Draft) → AreShapedLocals locals → Grows d (locals_length_of t l locals) Done (declared t l locals n d)
+unfolding declared
+declared_grows t l locals n d h =
+    sized Done d _ _ _ (locals_sum t l locals) (bind Done Done d _ _ _ _ (all_cleared_grow l locals n d) (λ _ between _. bind Done Done between _ 0 _ _ (all_initialised_grow t l locals n between h) (λ _ after _. makes Done _ after after 0 tt (as_it_was after))))
+
+-- how many contexts a jump loads is how many are saved
+pub deeper : (f : Frame) (contexts : List Field) (saved : Field) → StandsAmong f contexts → StandsAmong (in_context f) (contexts ++ saved ∷ [])
+unfolding in_context one_more
+deeper f contexts saved h =
+    let l : length (contexts ++ saved ∷ []) ≡ length contexts + 1 = length-append contexts (saved ∷ []) in
+    let a = h.loop in
+    let b = h.all in
+    record { loop = omega (arith, l, a); all = omega (arith, l, b) }
+
+pub looped : (f : Frame) (contexts : List Field) (next after : ℕ) → StandsAmong f contexts → StandsAmong (in_loop next after f) contexts
+unfolding in_loop at_loop
+looped f contexts next after h = record { loop = omega arith; all = h.all }
+
+all_of : (f : Frame) (contexts : List Field) → StandsAmong f contexts → f.saved.in_all ≤ length contexts
+all_of f contexts k = let a = k.all in omega (arith, a)
+
+pub end_more : (is_main : Bool) (n : ℕ) (d e : Draft) → Extended d n e → Extended d (n + 1) (with_end is_main e)
+unfolding with_end
+end_more is_main n d e x = and_instr _ d e n x
+
+-- lengths with `in_loop` and `in_context` of a frame
+same_result : (f : Frame) (next after : ℕ) → has_result (in_loop next after f) ≡ has_result f
+unfolding has_result in_loop
+same_result f next after = refl
+
+assoc3 : (a b c : ℕ) → a + ((1 + b) + c) ≡ ((a + 1) + b) + c
+assoc3 a b c = omega arith
+
+while_sum : (a b : ℕ) → (2 + b) + ((a + 1) + 0) ≡ (a + 3) + b
+while_sum a b = omega arith
+
+do_sum : (a b : ℕ) → (1 + b) + ((a + 1) + 0) ≡ (a + 2) + b
+do_sum a b = omega arith
+
+for_sum : (a b c e : ℕ) → a + ((2 + e) + (c + ((b + 1) + 0))) ≡ (((a + b) + c) + 3) + e
+for_sum a b c e = omega arith
+
+add_assoc : (a b c : ℕ) → a + (b + c) ≡ (a + b) + c
+add_assoc a b c = omega arith
+
+everywhere_sum : (a : ℕ) → 0 + ((2 + a) + 1) ≡ a + 3
+everywhere_sum a = omega arith
+
+where_sum : (a k b c e : ℕ) → k + c ≡ e → 0 + (0 + (a + ((((1 + k) + 1) + b) + 1) + c)) ≡ ((a + 3) + b) + e
+where_sum a k b c e h = omega (arith, h)
+
+-- where a condition holds is kept for what is behind `else`, by one instruction
+kept_length : Held-TStmt-If-2 → ℕ
+kept_length None' = 0
+kept_length (Some' p s) = 1
+
+narrowed_more : (second : Held-TStmt-If-2) (shape : ℕ) (saved holds : Field) (d : Draft) → Extended d ((1 + kept_length second) + 1) (L.narrowed shape saved (L.kept_for second holds) d)
+unfolding kept_length L.narrowed L.kept_for L.with_kept
+narrowed_more None' shape saved holds d = and_instr _ d _ 1 (and_instr _ d d 0 (as_it_was d))
+narrowed_more (Some' p s) shape saved holds d = and_instr _ d _ 2 (and_instr _ d _ 1 (and_instr _ d d 0 (as_it_was d)))
+
+kept_and_other : (t : Typed) (l : Layout) (r : Bool) (saved : Saved) (second : Held-TStmt-If-2) → kept_length second + else_length_of t l r saved 3 second ≡ else_length_of t l r saved 4 second
+unfolding kept_length else_length_of
+kept_and_other t l r saved None' = refl
+kept_and_other t l r saved (Some' p s) = one_more_around (statement_length_of t l r saved s)
+  where
+    one_more_around : (n : ℕ) → 1 + (n + 3) ≡ n + 4
+    one_more_around n = omega arith
+
+else_sum : (a : ℕ) → (2 + a) + 1 ≡ a + 3
+else_sum a = omega arith
+
+return_sum : (a b : ℕ) → a + (b + 1) ≡ (a + b) + 1
+return_sum a b = omega arith
+
+return_grows : (t : Typed) (l : Layout) (e : Option TExpr) (f : Frame) (contexts : List Field) (n : ℕ) (d : Draft) → IsShapedPart e → StandsAmong f contexts → Grows d (statement_length_of t l (has_result f) f.saved (S.Return e)) Done (statement_of t l (S.Return e) f contexts n d)
+unfolding statement_length_of statement_of returned_length
+return_grows t l None f contexts n d h k = sized Done d _ _ _ (nothing_more _) (bind Done Done d 0 _ _ _ (returned_grows t l None f.outcome d h) (λ _ after _. makes Done n after _ _ tt (end_more f.is_main _ after _ (resized after _ _ _ (nothing_more _) (restored_more contexts f.saved.in_all 0 after after (all_of f contexts k) (as_it_was after))))))
+return_grows t l (Some e) f contexts n d h k =
+    sized Done d _ _ _ (ap (λ (m : ℕ). (next_length t l e + m) + (f.saved.in_all + 1)) (result_length f) ∙ sum (next_length t l e + storing_length (has_result f)) f.saved.in_all)
+    (bind Done Done d (next_length t l e + result_by f.outcome) _ _ _ (returned_grows t l (Some e) f.outcome d h) (λ _ after _. makes Done n after _ _ tt (end_more f.is_main _ after _ (resized after _ _ _ (nothing_more _) (restored_more contexts f.saved.in_all 0 after after (all_of f contexts k) (as_it_was after))))))
+  where
+    sum : (a b : ℕ) → a + (b + 1) ≡ (a + b) + 1
+    sum a b = omega arith
+
+mutual
+  unfolding statement_of statements_of else_of otherwise_of statement_length_of statements_length_of else_length_of IsShapedStatement AreShapedStatements IsShapedElse IsShapedPart closing has_result in_loop in_context L.widened L.turned part_length_of condition_length_of
+
+  pub statement_grows : (t : Typed) (l : Layout) (s : TStmt) (f : Frame) (contexts : List Field) (n : ℕ) (d : Draft) → IsShapedStatement s → StandsAmong f contexts → Grows d (statement_length_of t l (has_result f) f.saved s) Done (statement_of t l s f contexts n d)
+  statement_grows t l (S.Block' locals p statements) f contexts n d h k =
+      bind Done Done d _ _ _ _ (declared_grows t l locals.items n d h.0) (λ m after _. statements_grow t l statements f contexts m after h.1 k)
+  statement_grows t l (S.Expression e) f contexts n d h k = sized Done d _ _ _ (and_nothing _) (bind Done Done d _ 0 _ _ (part_grows t l (Some e) d h) (λ _ after _. makes Done n after after 0 tt (as_it_was after)))
+  statement_grows t l S.Empty f contexts n d h k = makes Done n d d 0 tt (as_it_was d)
+  statement_grows t l (S.If' test p first second) f contexts n d h k =
+      sized Done d _ _ _ (assoc3 (next_length t l test) (statement_length_of t l (has_result f) f.saved first) (else_length_of t l (has_result f) f.saved 1 second)) (bind Done Done d _ _ _ _ (condition_grows t l test d h.0) (λ r after _.
+      bind Done Done after _ _ _ _ (behind Done after _ 1 _ _ (and_instr _ after after 0 (as_it_was after)) (statement_grows t l first f contexts n _ h.1 k)) (λ m last _. else_grows t l second f contexts _ m last h.2 k)))
+  statement_grows t l (S.While' test p body) f contexts n d h k =
+      sized Done d _ _ _ (while_sum (next_length t l test) (statement_length_of t l (has_result f) (at_loop f.saved) body)) (bind Done Done d _ _ _ _ (behind Done d _ 2 _ _ (and_instr _ d _ 1 (and_instr _ d d 0 (as_it_was d))) (statement_grows t l body (in_loop _ _ f) contexts n _ h.1 (looped f contexts _ _ k)))
+      (λ m last _. bind Done Done last _ 0 _ _ (back_grows t l (Some test) _ last h.0) (λ _ end _. makes Done m end end 0 tt (as_it_was end))))
+  statement_grows t l (S.Do' p body test) f contexts n d h k =
+      sized Done d _ _ _ (do_sum (next_length t l test) (statement_length_of t l (has_result f) (at_loop f.saved) body)) (bind Done Done d _ _ _ _ (behind Done d _ 1 _ _ (and_instr _ d d 0 (as_it_was d)) (statement_grows t l body (in_loop _ _ f) contexts n _ h.0 (looped f contexts _ _ k)))
+      (λ m last _. bind Done Done last _ 0 _ _ (back_grows t l (Some test) _ last h.1) (λ _ end _. makes Done m end end 0 tt (as_it_was end))))
+  statement_grows t l (S.For' first test step p body) f contexts n d h k =
+      sized Done d _ _ _ (for_sum (part_length_of t l first) (condition_length_of t l test) (part_length_of t l step) (statement_length_of t l (has_result f) (at_loop f.saved) body)) (bind Done Done d _ _ _ _ (part_grows t l first d h.0) (λ _ begun _.
+      bind Done Done begun _ _ _ _ (behind Done begun _ 2 _ _ (and_instr _ begun _ 1 (and_instr _ begun begun 0 (as_it_was begun))) (statement_grows t l body (in_loop _ _ f) contexts n _ h.3 (looped f contexts _ _ k)))
+      (λ m last _. bind Done Done last _ _ _ _ (part_grows t l step last h.2) (λ _ stepped _. bind Done Done stepped _ 0 _ _ (back_grows t l test _ stepped h.1) (λ _ end _. makes Done m end end 0 tt (as_it_was end))))))
+  statement_grows t l S.Break f contexts n d h k = makes Done n d _ _ tt (and_instr _ d _ _ (resized d _ _ _ (nothing_more _) (restored_more contexts f.saved.in_loop 0 d d k.loop (as_it_was d))))
+  statement_grows t l S.Continue f contexts n d h k = makes Done n d _ _ tt (and_instr _ d _ _ (resized d _ _ _ (nothing_more _) (restored_more contexts f.saved.in_loop 0 d d k.loop (as_it_was d))))
+  statement_grows t l (S.Return e) f contexts n d h k = return_grows t l e f contexts n d h k
+  statement_grows t l (S.With' shape p body) f contexts n d h k = statement_grows t l body f contexts n d h k
+  statement_grows t l (S.Everywhere' shape p body) f contexts n d h k =
+      sized Done d _ _ _ (everywhere_sum (statement_length_of t l (has_result f) (one_more f.saved) body)) (bind Anything Done d 0 _ _ _ (entry_grows shape 1 _ d) (λ saved begun _.
+      bind Done Done begun _ 1 _ _ (behind Done begun _ 2 _ _ (and_instr _ begun _ 1 (and_instr _ begun begun 0 (as_it_was begun))) (statement_grows t l body (in_context f) (contexts ++ saved ∷ []) n _ h (deeper f contexts saved k)))
+      (λ m last _. makes Done m last _ 1 tt (and_instr _ last last 0 (as_it_was last)))))
+  statement_grows t l (S.Where' shape test p first second) f contexts n d h k =
+      sized Done d _ _ _ (where_sum (tested_length t l test) (kept_length second) (statement_length_of t l (has_result f) (one_more f.saved) first) (else_length_of t l (has_result f) (one_more f.saved) 3 second) (else_length_of t l (has_result f) (one_more f.saved) 4 second) (kept_and_other t l (has_result f) (one_more f.saved) second)) (bind Anything Done d 0 _ _ _ (entry_grows shape 1 _ d) (λ saved begun _. bind Anything Done begun 0 _ _ _ (entry_grows shape 1 _ begun) (λ holds ready _.
+      sized Done ready _ _ _ (add_assoc (tested_length t l test) _ _) (bind Done Done ready _ _ _ _ (tested_grows t l test ready h.0) (λ _ known _.
+      bind Done Done known _ _ _ _ (bind Done Done known _ 1 _ _ (behind Done known _ _ _ _ (narrowed_more second shape saved holds known) (statement_grows t l first (in_context f) (contexts ++ saved ∷ []) n _ h.1 (deeper f contexts saved k)))
+      (λ m last _. makes Done m last _ 1 tt (and_instr _ last last 0 (as_it_was last)))) (λ m last _. otherwise_grows t l second f contexts shape saved holds m last h.2 k))))))
+
+  pub statements_grow : (t : Typed) (l : Layout) {i : _} (row : Row_of-TStmt i) (f : Frame) (contexts : List Field) (n : ℕ) (d : Draft) → AreShapedStatements row → StandsAmong f contexts → Grows d (statements_length_of t l (has_result f) f.saved row) Done (statements_of t l row f contexts n d)
+  statements_grow t l end_of-TStmt f contexts n d h k = makes Done n d d 0 tt (as_it_was d)
+  statements_grow t l (more_of-TStmt s rest) f contexts n d h k = bind Done Done d _ _ _ _ (statement_grows t l s f contexts n d h.0 k) (λ m after _. statements_grow t l rest f contexts m after h.1 k)
+
+  pub else_grows : (t : Typed) (l : Layout) (e : Held-TStmt-If-2) (f : Frame) (contexts : List Field) (place n : ℕ) (d : Draft) → IsShapedElse e → StandsAmong f contexts → Grows d (else_length_of t l (has_result f) f.saved 1 e) Done (else_of t l e f contexts place n d)
+  else_grows t l None' f contexts place n d h k = makes Done n d d 0 tt (as_it_was d)
+  else_grows t l (Some' p s) f contexts place n d h k = sized Done d _ _ _ (add_comm 1 _) (behind Done d _ 1 _ _ (and_instr _ d d 0 (as_it_was d)) (statement_grows t l s f contexts n _ h k))
+
+  pub otherwise_grows : (t : Typed) (l : Layout) (e : Held-TStmt-If-2) (f : Frame) (contexts : List Field) (shape : ℕ) (saved holds : Field) (n : ℕ) (d : Draft) → IsShapedElse e → StandsAmong f contexts → Grows d (else_length_of t l (has_result f) (one_more f.saved) 3 e) Done (otherwise_of t l e f contexts shape saved holds n d)
+  otherwise_grows t l None' f contexts shape saved holds n d h k = makes Done n d d 0 tt (as_it_was d)
+  otherwise_grows t l (Some' p s) f contexts shape saved holds n d h k =
+      sized Done d _ _ _ (else_sum (statement_length_of t l (has_result f) (one_more f.saved) s)) (bind Done Done d _ 1 _ _ (behind Done d _ 2 _ _ (and_instr _ d _ 1 (and_instr _ d d 0 (as_it_was d))) (statement_grows t l s (in_context f) (contexts ++ saved ∷ []) n _ h (deeper f contexts saved k)))
+      (λ m last _. makes Done m last _ 1 tt (and_instr _ last last 0 (as_it_was last))))

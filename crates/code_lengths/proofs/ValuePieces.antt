@@ -1,0 +1,361 @@
+-- The code of the forms of expressions, over the code of their parts, is as long as described.
+use Rattle.std.proofs.Common.{◌≡◌, ℕ, suc, ◌+◌, Bool, true, false, not, List, [], ◌∷◌, length, Option, Some, None, is_none, is_some, refl, sym, ap, ◌∙◌, subst, arith, if◌then◌else◌}
+use Rattle.cstar_base.specs.declared.elem.Elem.{Elem}
+use Rattle.cstar_base.specs.declared.operators.Op.{Op}
+use Rattle.cstar_base.specs.declared.operators.Place.{Place}
+use Rattle.cstar_tree.specs.declared.typed.TExpr.{TExpr}
+use Rattle.cstar_tree.specs.declared.typed.TExpr as T
+use Rattle.cstar_tree.specs.declared.typed.UnaryOp.{UnaryOp}
+use Rattle.cstar_tree.specs.declared.typed.UnaryOp.TheVariants as Un
+use Rattle.cstar_tree.specs.declared.typed.ValueType.{ValueType}
+use Rattle.paris_code.specs.declared.instr.Instr.TheVariants as I
+use Rattle.paris_code.specs.declared.operands.Field.{Field}
+use Rattle.paris_code.specs.declared.operands.Konst.TheVariants as K
+use Rattle.lower_base.specs.declared.emit.Out.{Out}
+use Rattle.lower_base.specs.declared.emit.Out.TheVariants as O
+use Rattle.lower_base.specs.Drafts.{Draft, Makes, then_make, from, with_instr, in_register, a_field, fresh_for}
+use Rattle.lower_expr.specs.declared.steps.Right.{Right}
+use Rattle.lower_expr.specs.declared.steps.Right.TheVariants as R
+use Rattle.lower_expr.specs.Lengths.{unary_length, operate_length, logical_length, choice_length, spread_length, spare_length, right_length, binary_length}
+use Rattle.lower_expr.specs.Operands.{is_plus, in_place, operand_length}
+use Rattle.lower_expr.specs.Steps.{is_kept, word_of, word_taken, relates, put_value, right_operated, in_a_field, negated}
+use Rattle.lower_expr.specs.Values.{Code, spread_into, spread_by, right_given, right_by, coordinate_in, byte_in, casts_put, unary_by, registers_by, fields_by, binary_at, jump_if_decided, narrowed_by, decided, limited, logical_ended, scalar_logical_by, nonzero_tested, decided_by, narrowed_again, parallel_ended, limited_by, parallel_logical_by, logical_by, scalar_choice_by, turned_over, parallel_choice_by, choice_by}
+use Rattle.code_lengths.specs.Growth.{Extended, Grows, Stands, Anything}
+use Rattle.code_lengths.proofs.Drafting.{as_it_was, resized, and_instr, makes, sized, behind, bind, weaker, in_register_grows, in_field_grows, register_grows, entry_grows, fresh_grows}
+use Rattle.code_lengths.proofs.Pieces.{InRegister, InField, fails_grow, constant_grows, test_grows, put_value_grows, operated_more, fields_operated_grows, word_grows, number_grows, in_a_field_grows, negated_grows}
+use Rattle.code_lengths.proofs.Communication.{nothing_more}
+
+-- the code of an expression is so long, and its value stands where the expression says
+abbrev pub IsCode : ℕ → Bool → Code → Type 0
+IsCode n kept code = (d : Draft) → Grows d n (Stands kept) (code d)
+
+-- a promoted constant stands in a register
+no_constant : (b : Bool) (e : TExpr) → is_kept e ≡ false → word_of e ≡ None
+unfolding word_of is_kept
+no_constant b (T.Promote' ty p operand) h = cc
+no_constant b (T.Brackets' ty p inner) h = no_constant b inner h
+no_constant b _ h = refl
+
+-- parallel operands
+spread_into_by : (w : Option ℕ) (code : Code) (n : ℕ) (k : Bool) (dest : Field) (d : Draft) → IsCode n k code →
+    Grows d (elim w [ Some _ ↦ 1 | None ↦ n + (if k then 1 else 0) ]) (λ (f : Field). Unit {0})
+    (elim w [ Some word ↦ Makes dest (with_instr (I.MoveConstant dest (K.Imm word)) d) | None ↦ then_make (code d) (λ v after. in_a_field v dest after) ])
+spread_into_by (Some word) code n k dest d h = makes _ dest d _ 1 tt (and_instr _ d d 0 (as_it_was d))
+spread_into_by None code n k dest d h = bind (Stands k) _ d n _ _ _ (h d) (λ v after s. in_a_field_grows k v dest after s)
+
+pub spread_into_grows : (code : Code) (e : TExpr) (n : ℕ) (dest : Field) (d : Draft) → IsCode n (is_kept e) code → Grows d (spread_length n e) (λ (f : Field). Unit {0}) (spread_into code e dest d)
+unfolding spread_into spread_length
+spread_into_grows code e n dest d h = spread_into_by (word_of e) code n (is_kept e) dest d h
+
+spread_alone : (n : ℕ) (e : TExpr) → is_kept e ≡ false → n ≡ spread_length n e
+unfolding spread_length
+spread_alone n e h = by (word_of e) (is_kept e) n (no_constant true e h) h
+  where
+    by : (w : Option ℕ) (k : Bool) (n : ℕ) → w ≡ None → k ≡ false → n ≡ (elim w as (λ _. ℕ) [ Some _ ↦ 1 | None ↦ n + (if k then 1 else 0) ])
+    by (Some x) k n e f = cc
+    by None true n e f = cc
+    by None false n e f = omega arith
+
+spread_by_kept : (k : Bool) (code : Code) (e : TExpr) (n set : ℕ) (d : Draft) → is_kept e ≡ k → IsCode n (is_kept e) code →
+    Grows d (spread_length n e) InField (if k then then_make (a_field set d) (λ dest between. then_make (spread_into code e dest between) (λ f after. Makes (O.Field f) after)) else code d)
+spread_by_kept true code e n set d h c =
+    sized InField d _ _ _ (nothing_more (spread_length n e)) (bind Anything InField d 0 _ _ _ (entry_grows _ _ _ d) (λ dest between _.
+    sized InField between _ _ _ (and_nothing (spread_length n e)) (bind (λ (f : Field). Unit {0}) InField between _ 0 _ _ (spread_into_grows code e n dest between c)
+    (λ f after _. makes InField (O.Field f) after after 0 refl (as_it_was after)))))
+  where
+    and_nothing : (n : ℕ) → n + 0 ≡ n
+    and_nothing n = omega arith
+spread_by_kept false code e n set d h c =
+    sized InField d _ _ _ (spread_alone n e h) (weaker (Stands (is_kept e)) InField d n _ (λ v s. subst (λ b. Stands b v) h s) (c d))
+
+pub spread_by_grows : (code : Code) (e : TExpr) (n set : ℕ) (d : Draft) → IsCode n (is_kept e) code → Grows d (spread_length n e) InField (spread_by code e set d)
+unfolding spread_by
+spread_by_grows code e n set d h = spread_by_kept (is_kept e) code e n set d refl h
+
+-- the right operand, as it is given
+abbrev pub IsRight : Op → TExpr → Right → Type 0
+IsRight op e (R.Field f) = (word_taken op e ≡ None) × (is_kept e ≡ false)
+IsRight op e (R.Word (K.Imm w)) = is_some (word_taken op e) ≡ true
+IsRight op e (R.Word (K.Reg r)) = (word_taken op e ≡ None) × (is_kept e ≡ true)
+
+-- how long its code is, without the operation
+abbrev pub before_length : ℕ → Op → TExpr → ℕ
+before_length n op e = elim (word_taken op e) [ Some _ ↦ 0 | None ↦ n ]
+
+abbrev pub after_length : Op → TExpr → ℕ
+after_length op e = elim (word_taken op e) [ Some _ ↦ if relates op then 4 else 1 | None ↦ operate_length op false + spare_length op (is_kept e) ]
+
+right_out : (op : Op) (e : TExpr) (v : Out) (d : Draft) → word_taken op e ≡ None → Stands (is_kept e) v → Grows d 0 (IsRight op e) (from (right_given v) (λ right. Makes right d))
+unfolding right_given from
+right_out op e (O.Scalar r) d h s = makes (IsRight op e) (R.Word (K.Reg r)) d d 0 (h, s) (as_it_was d)
+right_out op e (O.Field f) d h s = makes (IsRight op e) (R.Field f) d d 0 (h, s) (as_it_was d)
+right_out op e O.Nothing d h s = fails_grow _ d 0
+
+right_by_word : (w : Option ℕ) (code : Code) (n : ℕ) (op : Op) (e : TExpr) (d : Draft) → word_taken op e ≡ w → IsCode n (is_kept e) code →
+    Grows d (elim w [ Some _ ↦ 0 | None ↦ n ]) (IsRight op e)
+    (elim w [ Some word ↦ Makes (R.Word (K.Imm word)) d | None ↦ then_make (code d) (λ v after. from (right_given v) (λ right. Makes right after)) ])
+right_by_word (Some word) code n op e d h c = makes (IsRight op e) (R.Word (K.Imm word)) d d 0 (ap is_some h) (as_it_was d)
+right_by_word None code n op e d h c =
+    sized _ d _ _ _ (and_nothing n) (bind (Stands (is_kept e)) (IsRight op e) d n 0 _ _ (c d) (λ v after s. right_out op e v after h s))
+  where
+    and_nothing : (n : ℕ) → n + 0 ≡ n
+    and_nothing n = omega arith
+
+pub right_by_grows : (code : Code) (n : ℕ) (op : Op) (e : TExpr) (d : Draft) → IsCode n (is_kept e) code → Grows d (before_length n op e) (IsRight op e) (right_by code op e d)
+unfolding right_by
+right_by_grows code n op e d c = right_by_word (word_taken op e) code n op e d refl c
+
+constant_taken : (o : Option ℕ) (k n : ℕ) → is_some o ≡ true → k ≡ (elim o as (λ _. ℕ) [ Some _ ↦ k | None ↦ n ])
+constant_taken (Some w) k n h = refl
+constant_taken None k n h = cc
+
+none_taken : (o : Option ℕ) (k n : ℕ) → o ≡ None → n ≡ (elim o as (λ _. ℕ) [ Some _ ↦ k | None ↦ n ])
+none_taken (Some w) k n h = cc
+none_taken None k n h = refl
+
+no_spare : (op : Op) → operate_length op false ≡ operate_length op false + spare_length op false
+unfolding spare_length
+no_spare op = omega arith
+
+field_operated : (op : Op) (signed : Bool) (place : Place) (dest left f spare : Field) (d : Draft) → Grows d (operate_length op false) InField (right_operated op signed place dest left (R.Field f) spare d)
+unfolding right_operated
+field_operated op signed place dest left f spare d = fields_operated_grows op signed place dest left f d
+
+pub right_operated_grows : (op : Op) (signed : Bool) (place : Place) (e : TExpr) (dest left : Field) (right : Right) (spare : Field) (d : Draft) → IsRight op e right →
+    Grows d (after_length op e) InField (right_operated op signed place dest left right spare d)
+right_operated_grows op signed place e dest left (R.Field f) spare d h =
+    sized InField d _ _ _ (no_spare op ∙ ap (λ b. operate_length op false + spare_length op b) (sym h.1) ∙ none_taken (word_taken op e) _ _ h.0) (field_operated op signed place dest left f spare d)
+right_operated_grows op signed place e dest left (R.Word (K.Imm w)) spare d h =
+    sized InField d _ _ _ (constant_taken (word_taken op e) _ _ h) (number_grows op signed place dest left w spare d)
+right_operated_grows op signed place e dest left (R.Word (K.Reg r)) spare d h =
+    sized InField d _ _ _ (ap (λ b. operate_length op false + spare_length op b) (sym h.1) ∙ none_taken (word_taken op e) _ _ h.0) (word_grows op signed place dest left r spare d)
+
+pub right_together : (n : ℕ) (op : Op) (e : TExpr) → before_length n op e + after_length op e ≡ right_length n op e
+unfolding right_length
+right_together n op e = by (word_taken op e) n _ _
+  where
+    by : (o : Option ℕ) (n k m : ℕ) → (elim o as (λ _. ℕ) [ Some _ ↦ 0 | None ↦ n ]) + (elim o as (λ _. ℕ) [ Some _ ↦ k | None ↦ m ]) ≡ (elim o as (λ _. ℕ) [ Some _ ↦ k | None ↦ n + m ])
+    by (Some w) n k m = nothing_more k
+    by None n k m = refl
+
+-- binary operators
+pub registers_grow : (op : Op) (signed : Bool) (place : Place) (r : ℕ) (left_kept right_kept : Bool) (first second : Code) (n m : ℕ) (d : Draft) → IsCode n left_kept first → IsCode m right_kept second →
+    Grows d ((n + m) + operate_length op true) InRegister (registers_by op signed place r first second d)
+unfolding registers_by
+registers_grow op signed place r left_kept right_kept first second n m d a b =
+    sized InRegister d _ _ _ (three n m (operate_length op true)) (bind (Stands left_kept) InRegister d n _ _ _ (a d) (λ v between sv. in_register_grows _ between _ left_kept v _ sv (λ x _.
+    bind (Stands right_kept) InRegister between m _ _ _ (b between) (λ w after sw. in_register_grows _ after _ right_kept w _ sw (λ y _.
+    makes InRegister (O.Scalar r) after _ _ refl (operated_more op signed place r x y after))))))
+  where
+    three : (n m k : ℕ) → n + (m + k) ≡ (n + m) + k
+    three n m k = omega arith
+
+pub fields_grow : (op : Op) (signed : Bool) (place : Place) (f spare : Field) (first : Code) (left : TExpr) (n : ℕ) (second : Code) (right : TExpr) (m : ℕ) (d : Draft) →
+    IsCode n (is_kept left) first → IsCode m (is_kept right) second →
+    Grows d (spread_length n left + right_length m op right) InField (fields_by op signed place f spare first left second right d)
+unfolding fields_by
+fields_grow op signed place f spare first left n second right m d a b =
+    sized InField d _ _ _ (ap (λ x. spread_length n left + x) (right_together m op right)) (bind (λ (f : Field). Unit {0}) InField d (spread_length n left) _ _ _ (spread_into_grows first left n spare d a) (λ x between _.
+    bind (IsRight op right) InField between _ _ _ _ (right_by_grows second m op right between b) (λ y after sy.
+    right_operated_grows op signed place right f x y spare after sy)))
+
+pub binary_grows : (k : Bool) (dest : Out) (op : Op) (signed : Bool) (place : Place) (first : Code) (left : TExpr) (n : ℕ) (second : Code) (right : TExpr) (m : ℕ) (d : Draft) →
+    Stands k dest → IsCode n (is_kept left) first → IsCode m (is_kept right) second →
+    Grows d (binary_length k op n left m right) (Stands k) (binary_at dest op signed place first left second right d)
+unfolding binary_at binary_length
+binary_grows true (O.Scalar r) op signed place first left n second right m d s a b = registers_grow op signed place r (is_kept left) (is_kept right) first second n m d a b
+binary_grows false (O.Field f) op signed place first left n second right m d s a b = fields_grow op signed place f f first left n second right m d a b
+binary_grows true (O.Field f) op signed place first left n second right m d s a b = cc
+binary_grows false (O.Scalar r) op signed place first left n second right m d s a b = cc
+binary_grows k O.Nothing op signed place first left n second right m d s a b = fails_grow _ d _
+
+-- jumps and narrower contexts
+jump_more : (is_or : Bool) (test target n : ℕ) (d e : Draft) → Extended d n e → Extended d (n + 1) (jump_if_decided is_or test target e)
+unfolding jump_if_decided
+jump_more true test target n d e x = and_instr _ d e n x
+jump_more false test target n d e x = and_instr _ d e n x
+
+narrowed_more : (is_or : Bool) (source : Field) (n : ℕ) (d e : Draft) → Extended d n e → Extended d ((n + 1) + 1) (narrowed_by is_or source e)
+unfolding narrowed_by
+narrowed_more true source n d e x = and_instr _ d _ (n + 1) (and_instr _ d e n x)
+narrowed_more false source n d e x = and_instr _ d _ (n + 1) (and_instr _ d e n x)
+
+decided_grows : (is_or k : Bool) (v : Out) (n own : ℕ) (d : Draft) → Stands k v → Grows d 1 (λ (m : ℕ). Unit {0}) (decided is_or v n own d)
+unfolding decided
+decided_grows is_or k v n own d s = in_register_grows _ d 1 k v _ s (λ a _. makes _ _ d _ 1 tt (jump_more is_or a _ 0 d d (as_it_was d)))
+
+limited_grows : (is_or k : Bool) (saved : Field) (v : Out) (d : Draft) → Stands k v → Grows d 3 (λ (f : Field). Unit {0}) (limited is_or saved v d)
+unfolding limited
+limited_grows is_or k saved v d s = in_field_grows _ d 3 k v _ s (λ a _. makes _ a d _ 3 tt (narrowed_more is_or a 1 d _ (and_instr _ d d 0 (as_it_was d))))
+
+logical_ended_grows : (is_or k : Bool) (dest : ℕ) (w : Out) (end : ℕ) (d : Draft) → Stands k w → Grows d 2 InRegister (logical_ended is_or dest w end d)
+unfolding logical_ended
+logical_ended_grows is_or k dest w end d s = in_register_grows _ d 2 k w _ s (λ b _. makes InRegister (O.Scalar dest) d _ 2 refl (and_instr _ d _ 1 (jump_more is_or b _ 0 d d (as_it_was d))))
+
+scalar_logical_grows : (is_or left_kept right_kept : Bool) (first second : Code) (n m : ℕ) (d : Draft) → IsCode n left_kept first → IsCode m right_kept second →
+    Grows d ((n + m) + 4) InRegister (scalar_logical_by is_or first second m d)
+unfolding scalar_logical_by
+scalar_logical_grows is_or left_kept right_kept first second n m d a b =
+    sized InRegister d _ _ _ (sum n m) (bind InRegister InRegister d 1 (n + (1 + (m + 2))) _ _ (constant_grows _ d) (λ out begun so. in_register_grows _ begun _ true out _ so (λ dest _.
+    bind (Stands left_kept) InRegister begun n _ _ _ (a begun) (λ v between sv. bind (λ (k : ℕ). Unit {0}) InRegister between 1 _ _ _ (decided_grows is_or left_kept v m 3 between sv) (λ end next _.
+    bind (Stands right_kept) InRegister next m 2 _ _ (b next) (λ w after sw. logical_ended_grows is_or right_kept dest w end after sw))))))
+  where
+    sum : (n m : ℕ) → 1 + (n + (1 + (m + 2))) ≡ (n + m) + 4
+    sum n m = omega arith
+
+nonzero_tested_grows : (k : Bool) (dest : Field) (w : Out) (d : Draft) → Stands k w → Grows d 3 InField (nonzero_tested dest w d)
+unfolding nonzero_tested
+nonzero_tested_grows k dest w d s = in_field_grows _ d 3 k w _ s (λ b _. behind InField d _ 1 2 _ (and_instr _ d d 0 (as_it_was d)) (test_grows dest _))
+
+decided_by_grows : (is_or left_kept right_kept : Bool) (dest : Field) (v : Out) (second : Code) (m : ℕ) (d : Draft) → Stands left_kept v → IsCode m right_kept second →
+    Grows d (1 + (m + 3)) InField (decided_by is_or dest v second m d)
+unfolding decided_by
+decided_by_grows is_or left_kept right_kept dest v second m d s b =
+    bind (λ (k : ℕ). Unit {0}) InField d 1 _ _ _ (decided_grows is_or left_kept v m 4 d s) (λ _ next _. bind (Stands right_kept) InField next m 3 _ _ (b next) (λ w after sw. nonzero_tested_grows right_kept dest w after sw))
+
+again_by : (is_or kept : Bool) (w : Out) (d : Draft) → Stands kept w → Grows d (if kept then 1 else 2) (λ (v : Out). Unit {0}) (narrowed_again is_or kept w d)
+unfolding narrowed_again
+again_by is_or true w d s = in_register_grows _ d 1 true w _ s (λ b _. makes _ w d _ 1 tt (jump_more is_or b _ 0 d d (as_it_was d)))
+again_by is_or false w d s = in_field_grows _ d 2 false w _ s (λ b _. makes _ w d _ 2 tt (narrowed_more is_or b 0 d d (as_it_was d)))
+
+parallel_ended_grows : (is_or kept : Bool) (dest saved : Field) (w : Out) (d : Draft) → Stands kept w → Grows d ((if kept then 1 else 2) + 2) InField (parallel_ended is_or dest saved kept w d)
+unfolding parallel_ended
+parallel_ended_grows is_or kept dest saved w d s =
+    bind (λ (v : Out). Unit {0}) InField d _ 2 _ _ (again_by is_or kept w d s) (λ _ after _. makes InField (O.Field dest) after _ 2 refl (and_instr _ after _ 1 (and_instr _ after after 0 (as_it_was after))))
+
+limited_by_grows : (is_or left_kept kept : Bool) (dest saved : Field) (v : Out) (second : Code) (m : ℕ) (d : Draft) → Stands left_kept v → IsCode m kept second →
+    Grows d (3 + (m + ((if kept then 1 else 2) + 2))) InField (limited_by is_or dest saved v second kept d)
+unfolding limited_by
+limited_by_grows is_or left_kept kept dest saved v second m d s b =
+    bind (λ (f : Field). Unit {0}) InField d 3 _ _ _ (limited_grows is_or left_kept saved v d s) (λ _ next _. bind (Stands kept) InField next m _ _ _ (b next) (λ w after sw. parallel_ended_grows is_or kept dest saved w after sw))
+
+logical_rest : (is_or left_kept right_kept : Bool) (dest saved : Field) (v : Out) (second : Code) (m : ℕ) (d : Draft) → Stands left_kept v → IsCode m right_kept second →
+    Grows d (m + (if left_kept then 4 else (if right_kept then 6 else 7))) InField (if left_kept then decided_by is_or dest v second m d else limited_by is_or dest saved v second right_kept d)
+logical_rest is_or true right_kept dest saved v second m d s b = sized InField d _ _ _ (sum m) (decided_by_grows is_or true right_kept dest v second m d s b)
+  where
+    sum : (m : ℕ) → 1 + (m + 3) ≡ m + 4
+    sum m = omega arith
+logical_rest is_or false true dest saved v second m d s b = sized InField d _ _ _ (sum m) (limited_by_grows is_or false true dest saved v second m d s b)
+  where
+    sum : (m : ℕ) → 3 + (m + (1 + 2)) ≡ m + 6
+    sum m = omega arith
+logical_rest is_or false false dest saved v second m d s b = sized InField d _ _ _ (sum m) (limited_by_grows is_or false false dest saved v second m d s b)
+  where
+    sum : (m : ℕ) → 3 + (m + (2 + 2)) ≡ m + 7
+    sum m = omega arith
+
+logical_sum : (left_kept right_kept : Bool) (n m : ℕ) → 1 + (n + (m + (if left_kept then 4 else (if right_kept then 6 else 7)))) ≡ (n + m) + (if left_kept then 5 else (if right_kept then 7 else 8))
+logical_sum true right_kept n m = omega arith
+logical_sum false true n m = omega arith
+logical_sum false false n m = omega arith
+
+parallel_logical_grows : (is_or left_kept right_kept : Bool) (set : ℕ) (first second : Code) (n m : ℕ) (d : Draft) → IsCode n left_kept first → IsCode m right_kept second →
+    Grows d ((n + m) + (if left_kept then 5 else (if right_kept then 7 else 8))) InField (parallel_logical_by is_or set first left_kept second right_kept m d)
+unfolding parallel_logical_by
+parallel_logical_grows is_or left_kept right_kept set first second n m d a b =
+    sized InField d _ _ _ (zeros (1 + (n + (m + (if left_kept then 4 else (if right_kept then 6 else 7))))) ∙ logical_sum left_kept right_kept n m)
+    (bind Anything InField d 0 _ _ _ (entry_grows _ _ _ d) (λ dest begun _. bind Anything InField begun 0 _ _ _ (entry_grows _ _ _ begun) (λ saved next _.
+    sized InField next _ _ _ (sum n _) (bind (Stands left_kept) InField next (1 + n) _ _ _ (behind (Stands left_kept) next _ 1 n _ (and_instr _ next next 0 (as_it_was next)) (a _)) (λ v between sv.
+    logical_rest is_or left_kept right_kept dest saved v second m between sv b)))))
+  where
+    zeros : (x : ℕ) → 0 + (0 + x) ≡ x
+    zeros x = omega arith
+
+    sum : (n x : ℕ) → (1 + n) + x ≡ 1 + (n + x)
+    sum n x = omega arith
+
+pub logical_grows : (is_or left_kept right_kept : Bool) (shape : Option ℕ) (first second : Code) (n m : ℕ) (d : Draft) → IsCode n left_kept first → IsCode m right_kept second →
+    Grows d ((n + m) + logical_length (is_none shape) left_kept right_kept) (Stands (is_none shape)) (logical_by is_or shape first left_kept second right_kept m d)
+unfolding logical_by logical_length
+logical_grows is_or left_kept right_kept None first second n m d a b = scalar_logical_grows is_or left_kept right_kept first second n m d a b
+logical_grows is_or left_kept right_kept (Some set) first second n m d a b = parallel_logical_grows is_or left_kept right_kept set first second n m d a b
+
+-- `?:`
+put_then : (k : Bool) (dest v : Out) (d : Draft) → Stands k dest → Grows d 1 (Stands k) (put_value dest v d)
+put_then k dest v d s = put_value_grows k dest v d s
+
+scalar_choice_grows : (k kt ka kb : Bool) (dest : Out) (test first second : Code) (i n m : ℕ) (d : Draft) → Stands k dest → IsCode i kt test → IsCode n ka first → IsCode m kb second →
+    Grows d ((i + (n + m)) + 4) (Stands k) (scalar_choice_by dest test first second n m d)
+unfolding scalar_choice_by
+scalar_choice_grows k kt ka kb dest test first second i n m d s c a b =
+    sized (Stands k) d _ _ _ (sum i n m) (bind (Stands kt) (Stands k) d i _ _ _ (c d) (λ v begun sv. bind (λ (x : ℕ). Unit {0}) (Stands k) begun 1 _ _ _ (decided_grows false kt v n 3 begun sv) (λ other next _.
+    bind (Stands ka) (Stands k) next n _ _ _ (a next) (λ x between sx. bind (Stands k) (Stands k) between 1 _ _ _ (put_then k dest x between s) (λ _ half _.
+    bind (Stands kb) (Stands k) half (1 + m) 1 _ _ (behind (Stands kb) half _ 1 m _ (and_instr _ half half 0 (as_it_was half)) (b _)) (λ w after sw. put_then k dest w after s))))))
+  where
+    sum : (i n m : ℕ) → i + (1 + (n + (1 + ((1 + m) + 1)))) ≡ (i + (n + m)) + 4
+    sum i n m = omega arith
+
+turned_over_more : (saved condition : Field) (d : Draft) → Extended d 3 (turned_over saved condition d)
+unfolding turned_over
+turned_over_more saved condition d = narrowed_more true condition 1 d _ (and_instr _ d d 0 (as_it_was d))
+
+parallel_choice_grows : (k kt ka kb : Bool) (dest : Out) (test first second : Code) (i n m : ℕ) (d : Draft) → Stands k dest → IsCode i kt test → IsCode n ka first → IsCode m kb second →
+    Grows d ((i + (n + m)) + 9) (Stands k) (parallel_choice_by dest test first second d)
+unfolding parallel_choice_by
+parallel_choice_grows k kt ka kb dest test first second i n m d s c a b =
+    in_field_grows _ d _ k dest _ s (λ f _. sized (Stands k) d _ _ _ (sum i n m) (bind Anything (Stands k) d 0 _ _ _ (entry_grows _ _ _ d) (λ saved begun _.
+    bind (Stands kt) (Stands k) begun i _ _ _ (c begun) (λ v next sv. bind (λ (x : Field). Unit {0}) (Stands k) next 3 _ _ _ (limited_grows false kt saved v next sv) (λ condition third _.
+    bind (Stands ka) (Stands k) third n _ _ _ (a third) (λ x fourth sx. bind (Stands k) (Stands k) fourth 1 _ _ _ (put_then k dest x fourth s) (λ _ fifth _.
+    bind (Stands kb) (Stands k) fifth (3 + m) 2 _ _ (behind (Stands kb) fifth _ 3 m _ (turned_over_more saved condition fifth) (b _)) (λ w sixth sw.
+    bind (Stands k) (Stands k) sixth 1 1 _ _ (put_then k dest w sixth s) (λ _ last _. makes (Stands k) dest last _ 1 s (and_instr _ last last 0 (as_it_was last)))))))))))
+  where
+    sum : (i n m : ℕ) → 0 + (i + (3 + (n + (1 + ((3 + m) + 2))))) ≡ (i + (n + m)) + 9
+    sum i n m = omega arith
+
+choice_rest : (k kt ka kb : Bool) (dest : Out) (test first second : Code) (i n m : ℕ) (d : Draft) → Stands k dest → IsCode i kt test → IsCode n ka first → IsCode m kb second →
+    Grows d ((i + (n + m)) + choice_length kt) (Stands k) (if kt then scalar_choice_by dest test first second n m d else parallel_choice_by dest test first second d)
+unfolding choice_length
+choice_rest k true ka kb dest test first second i n m d s c a b = scalar_choice_grows k true ka kb dest test first second i n m d s c a b
+choice_rest k false ka kb dest test first second i n m d s c a b = parallel_choice_grows k false ka kb dest test first second i n m d s c a b
+
+pub choice_grows : (ty : ValueType) (kt ka kb : Bool) (test first second : Code) (i n m : ℕ) (d : Draft) → IsCode i kt test → IsCode n ka first → IsCode m kb second →
+    Grows d ((i + (n + m)) + choice_length kt) (Stands (is_none ty.shape)) (choice_by ty kt test first second n m d)
+unfolding choice_by
+choice_grows ty kt ka kb test first second i n m d c a b =
+    sized _ d _ _ _ (nothing_more _) (bind (Stands (is_none ty.shape)) _ d 0 _ _ _ (fresh_grows ty.shape d) (λ dest after s. choice_rest (is_none ty.shape) kt ka kb dest test first second i n m after s c a b))
+
+-- casts, unary operators, coordinates
+casts_more : (elems : List Elem) (r : ℕ) (d : Draft) → Extended d (length elems) (casts_put elems r d)
+unfolding casts_put
+casts_more [] r d = as_it_was d
+casts_more (kind ∷ inner) r d = resized d _ _ _ (one (length inner)) (and_instr _ d _ _ (casts_more inner r d))
+  where
+    one : (n : ℕ) → n + 1 ≡ suc n
+    one n = omega arith
+
+pub casts_grow : (k : Bool) (elems : List Elem) (v : Out) (d : Draft) → Stands k v → Grows d (length elems) InRegister (in_register v (λ r. Makes v (casts_put elems r d)))
+casts_grow k elems v d s = in_register_grows _ d _ k v _ s (λ r h. makes InRegister v d _ _ (subst (λ b. Stands b v) h s) (casts_more elems r d))
+
+plus_length : (op : UnaryOp) (k : Bool) (n : ℕ) → is_plus op ≡ true → n ≡ n + unary_length op k
+unfolding is_plus unary_length
+plus_length Un.Plus k n h = omega arith
+plus_length Un.Minus k n h = cc
+plus_length Un.Complement k n h = cc
+plus_length Un.Not k n h = cc
+
+unary_rest : (b : Bool) (ty : ValueType) (op : UnaryOp) (k : Bool) (code operand : Code) (n m : ℕ) (d : Draft) → is_plus op ≡ b → is_none ty.shape ≡ k → IsCode n k code → IsCode m k operand →
+    Grows d ((if b then n else m) + unary_length op k) (Stands (is_none ty.shape)) (if b then code d else then_make (fresh_for ty.shape d) (λ dest between. then_make (operand between) (λ v after. negated op dest v after)))
+unary_rest true ty op k code operand n m d h e c o = sized _ d _ _ _ (plus_length op k n h) (weaker (Stands k) _ d n _ (λ v s. subst (λ b. Stands b v) (sym e) s) (c d))
+unary_rest false ty op k code operand n m d h e c o =
+    sized _ d _ _ _ (nothing_more _) (bind (Stands (is_none ty.shape)) _ d 0 _ _ _ (fresh_grows ty.shape d) (λ dest between s.
+    bind (Stands k) _ between m _ _ _ (o between) (λ v after t. negated_grows op (is_none ty.shape) k dest v after s t)))
+
+-- the operand of `+` is the value, and that of another operator may stand where it is
+either_operand : (b : Bool) (n : ℕ) (e : TExpr) → (if b then n else operand_length n true e) ≡ operand_length n (not b) e
+unfolding operand_length in_place
+either_operand true n e = refl
+either_operand false n e = refl
+
+pub unary_grows : (ty : ValueType) (op : UnaryOp) (k : Bool) (e : TExpr) (code operand : Code) (n : ℕ) (d : Draft) → is_none ty.shape ≡ k → IsCode n k code → IsCode (operand_length n true e) k operand →
+    Grows d (operand_length n (not (is_plus op)) e + unary_length op k) (Stands (is_none ty.shape)) (unary_by ty op code operand d)
+unfolding unary_by
+unary_grows ty op k e code operand n d h c o =
+    sized _ d _ _ _ (ap (λ (x : ℕ). x + unary_length op k) (either_operand (is_plus op) n e)) (unary_rest (is_plus op) ty op k code operand n (operand_length n true e) d refl h c o)
+
+pub coordinate_grows : (shape : Option ℕ) (axis : ℕ) (d : Draft) → Grows d 1 InField (coordinate_in shape axis d)
+unfolding coordinate_in
+coordinate_grows shape axis d = bind Anything InField d 0 1 _ _ (entry_grows _ _ _ d) (λ f after _. makes InField (O.Field f) after _ 1 refl (and_instr _ after after 0 (as_it_was after)))
+
+pub byte_grows : (d : Draft) → Grows d 1 InRegister (byte_in d)
+unfolding byte_in
+byte_grows d = bind Anything InRegister d 0 1 _ _ (register_grows d) (λ r after _. makes InRegister (O.Scalar r) after _ 1 refl (and_instr _ after after 0 (as_it_was after)))

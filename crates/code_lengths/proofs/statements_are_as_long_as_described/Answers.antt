@@ -1,0 +1,5 @@
+use Rattle.code_lengths.proofs.Agreeing.{statements}
+use Rattle.code_lengths.proofs.statements_are_as_long_as_described.Goals as goal
+
+pub returns : goal.returns
+returns c = statements

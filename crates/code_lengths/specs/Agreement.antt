@@ -1,0 +1,70 @@
+-- The code of an expression, and of a statement, is as long as described, and only appends: what the
+-- unit had is as it was, and the jumps that were written by these lengths lead behind the code.
+use Rattle.std.specs.Prelude.{◌≡◌, ◌≤◌, ℕ, ◌+◌, Bool, true, false, List, [], length}
+use mathlib.Core.Former.{Count}
+use Rattle.cstar_tree.specs.declared.typed.Instance.{Instance}
+use Rattle.cstar_tree.specs.declared.typed.TExpr.{TExpr, Row_of-TExpr, items-the_row-TExpr}
+use Rattle.cstar_tree.specs.declared.typed.TStmt.{TStmt}
+use Rattle.cstar_tree.specs.declared.typed.Typed.{Typed}
+use Rattle.cstar_tree.specs.Typed.{type_of}
+use Rattle.paris_code.specs.declared.operands.Field.{Field}
+use Rattle.lower_base.specs.declared.emit.Out.{Out}
+use Rattle.lower_base.specs.declared.emit.Out.TheVariants as O
+use Rattle.lower_base.specs.Drafts.{Draft, Made, Makes, then_make}
+use Rattle.lower_base.specs.Layouts.{Layout}
+use Rattle.lower_expr.specs.Effects.{effect_of, effect_length_of, put_to, put_length, tested, tested_length}
+use Rattle.lower_expr.specs.Lengths.{length_of, lengths_of}
+use Rattle.lower_expr.specs.Operands.{operand_by, operand_length}
+use Rattle.lower_expr.specs.Steps.{is_kept}
+use Rattle.lower_expr.specs.Values.{value_of, values_of}
+use Rattle.lower_stmt.specs.declared.statement.Frame.{Frame}
+use Rattle.lower_stmt.specs.Frames.{has_result}
+use Rattle.lower_stmt.specs.Lengths.{statement_length_of}
+use Rattle.lower_stmt.specs.Programs.{begun, blank, body_frame, own_fields_of, own_result_of, unit_of}
+use Rattle.lower_stmt.specs.Statements.{statement_of}
+use Rattle.code_lengths.specs.Growth.{Extended, Grows, Stands, Anything}
+use Rattle.code_lengths.specs.Shaped.{HasShape, IsShaped, AreShaped}
+use Rattle.code_lengths.specs.ShapedStatements.{IsShapedStatement}
+
+-- The code of an expression: its value, which stands in a register exactly where it is kept there;
+-- the same as an operand, copied or where it stands; the values of a list; its effect, where the
+-- value is not used; its test; and its value put in a register, if it stands in one, or in a field,
+-- if it has a shape.
+pub record ExpressionLengths (t : Typed) (l : Layout) : Type 0 where
+  pub value : (e : TExpr) (d : Draft) → IsShaped e → Grows d (length_of t l e) (Stands (is_kept e)) (value_of t l e d)
+  pub operand : (quiet : Bool) (e : TExpr) (d : Draft) → IsShaped e →
+      Grows d (operand_length (length_of t l e) quiet e) (Stands (is_kept e)) (operand_by t l (value_of t l e) quiet e d)
+  pub list : (quiet : Bool) (n : Count) (row : Row_of-TExpr n) (d : Draft) → AreShaped row →
+      Grows d (lengths_of t l quiet row) (λ (given : List Out). length given ≡ length (items-the_row-TExpr n row)) (values_of t l quiet row [] d)
+  pub effect : (e : TExpr) (d : Draft) → IsShaped e → Grows d (effect_length_of t l e) (λ (v : Out). Anything v) (effect_of t l e d)
+  pub test : (e : TExpr) (d : Draft) → IsShaped e → Grows d (tested_length t l e) (λ (u : Unit {0}). Anything u) (tested t l e d)
+  pub put_register : (r : ℕ) (e : TExpr) (d : Draft) → IsShaped e → is_kept e ≡ true → Grows d (put_length t l true e) (Stands true) (put_to t l (O.Scalar r) e d)
+  pub put_field : (f : Field) (e : TExpr) (d : Draft) → IsShaped e → HasShape (type_of e) → Grows d (put_length t l false e) (Stands false) (put_to t l (O.Field f) e d)
+
+abbrev pub ExpressionsAreAsLongAsDescribed : Type 0
+ExpressionsAreAsLongAsDescribed = (t : Typed) (l : Layout) → ExpressionLengths t l
+
+-- a statement stands among as many saved contexts as its frame says
+pub record StandsAmong (f : Frame) (contexts : List Field) : Type 0 where
+  pub loop : f.saved.in_loop ≤ length contexts
+  pub all : f.saved.in_all ≡ length contexts
+
+-- the code of a statement of a function that has a result or none
+abbrev pub StatementsAreAsLongAsDescribed : Type 0
+StatementsAreAsLongAsDescribed =
+    (t : Typed) (l : Layout) (s : TStmt) (f : Frame) (contexts : List Field) (n : ℕ) (d : Draft) → IsShapedStatement s → StandsAmong f contexts →
+    Grows d (statement_length_of t l (has_result f) f.saved s) (λ (m : ℕ). Anything m) (statement_of t l s f contexts n d)
+
+-- what a unit begins with: the entries of its parameters and of its result, and in `main` the values
+-- that the file's variables begin with
+unfoldable pub opening_of : Typed → Layout → Bool → ℕ → Instance → Made (Unit {0})
+opening_of t l is_main regs instance =
+    then_make (own_fields_of instance.params.items (blank instance.name regs))
+    (λ _ d. then_make (own_result_of instance.result d) (λ _ ready. begun t l is_main ready))
+
+-- behind what a unit begins with stand its body, as long as described, and the instruction that ends it
+abbrev pub UnitsAreAsLongAsDescribed : Type 0
+UnitsAreAsLongAsDescribed =
+    (t : Typed) (l : Layout) (is_main : Bool) (regs : ℕ) (instance : Instance) (start unit : Draft) → IsShapedStatement instance.body →
+    opening_of t l is_main regs instance ≡ Makes tt start → unit_of t l is_main regs instance ≡ Makes tt unit →
+    Extended start (statement_length_of t l (has_result (body_frame is_main instance)) (body_frame is_main instance).saved instance.body + 1) unit

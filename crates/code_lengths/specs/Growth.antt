@@ -1,0 +1,34 @@
+-- How a unit grows by a piece of code: what stood is as it was, and so many instructions stand behind it.
+use Rattle.std.specs.Prelude.{◌≡◌, ◌≤◌, ℕ, Bool, true, false, List, ◌++◌, length}
+use Rattle.paris_code.specs.declared.program.Virtual.{Virtual}
+use Rattle.lower_base.specs.declared.emit.Out.{Out}
+use Rattle.lower_base.specs.declared.emit.Out.TheVariants as O
+use Rattle.lower_base.specs.Drafts.{Draft, Step, Made, Makes, Fails}
+
+-- The second draft is the first with so many instructions more: it has the same name, the code, the
+-- entries and the homes begin with those that stood, and no register is given back.
+pub record Extended (d : Draft) (n : ℕ) (e : Draft) : Type 0 where
+  pub name : e.name ≡ d.name
+  pub more : List Step
+  pub code : e.code ≡ d.code ++ more
+  pub long : length more ≡ n
+  pub entries : List Virtual
+  pub fields : e.fields ≡ d.fields ++ entries
+  pub regs : d.regs ≤ e.regs
+  pub later : List ℕ
+  pub homes : e.homes ≡ d.homes ++ later
+
+-- a piece of code that is made has so many instructions, behind this draft, and its answer passes
+unfoldable pub Grows : {A : Type 0} → Draft → ℕ → (A → Type 0) → Made A → Type 0
+Grows d n P (Makes x e) = P x × Extended d n e
+Grows d n P Fails = Unit {0}
+
+-- whether a value stands in a register, or in a field; one that is nowhere counts as either
+abbrev pub Stands : Bool → Out → Type 0
+Stands kept (O.Scalar r) = kept ≡ true
+Stands kept (O.Field f) = kept ≡ false
+Stands kept O.Nothing = Unit {0}
+
+-- an answer of which nothing is said
+abbrev pub Anything : {A : Type 0} → A → Type 0
+Anything x = Unit {0}

@@ -1,0 +1,4 @@
+pub mod Agreement
+pub mod Growth
+pub mod Shaped
+pub mod ShapedStatements

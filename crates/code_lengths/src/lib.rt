@@ -1,0 +1,22 @@
+//! The code of every expression and statement is as long as its described length, by which its jumps
+//! are written, and only appends. Readers find the laws here by name.
+#![tactic(auto)]
+
+ghost use Rattle.code_lengths.specs.Agreement.{ExpressionsAreAsLongAsDescribed, StatementsAreAsLongAsDescribed, UnitsAreAsLongAsDescribed};
+
+/// The code of every expression, as a value, an operand, an effect, a test or put in its place, has
+/// as many instructions as its length says, behind those that stood.
+pub fn expressions_are_as_long_as_described()
+    ensures { ExpressionsAreAsLongAsDescribed }
+{}
+
+/// The code of every statement has as many instructions as its length says, behind those that stood.
+pub fn statements_are_as_long_as_described()
+    ensures { StatementsAreAsLongAsDescribed }
+{}
+
+/// The code of every unit has, behind what it begins with, its body, as long as described, and the
+/// instruction that ends it: the places to which its jumps lead are counted from its start.
+pub fn units_are_as_long_as_described()
+    ensures { UnitsAreAsLongAsDescribed }
+{}
