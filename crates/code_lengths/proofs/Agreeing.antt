@@ -1,7 +1,8 @@
 -- Lengths, as the laws say them.
-use Rattle.std.proofs.Common.{true, false, [], length, refl, ◌∙◌}
+use Rattle.std.proofs.Common.{ℕ, ◌+◌, true, false, [], length, length-append, refl, ap, ◌∙◌}
 use Rattle.lower_base.specs.declared.emit.Out.TheVariants as O
-use Rattle.code_lengths.specs.Agreement.{ExpressionsAreAsLongAsDescribed, StatementsAreAsLongAsDescribed}
+use Rattle.lower_base.specs.Drafts.{here}
+use Rattle.code_lengths.specs.Agreement.{ExpressionsAreAsLongAsDescribed, StatementsAreAsLongAsDescribed, CodeEndsWhereItsLengthSays}
 use Rattle.code_lengths.proofs.Drafting.{weaker}
 use Rattle.code_lengths.proofs.Communication.{nothing_more}
 use Rattle.code_lengths.proofs.OperandPieces.{operand_grows}
@@ -22,3 +23,7 @@ expressions t l = record {
 
 pub statements : StatementsAreAsLongAsDescribed
 statements t l s f contexts n d h k = statement_grows t l s f contexts n d h k
+
+pub places : CodeEndsWhereItsLengthSays
+unfolding here
+places before after n x = ap length x.code ∙ length-append before.code x.more ∙ ap (λ (k : ℕ). length before.code + k) x.long

@@ -10,7 +10,7 @@ use Rattle.cstar_tree.specs.Typed.{type_of}
 use Rattle.paris_code.specs.declared.operands.Field.{Field}
 use Rattle.lower_base.specs.declared.emit.Out.{Out}
 use Rattle.lower_base.specs.declared.emit.Out.TheVariants as O
-use Rattle.lower_base.specs.Drafts.{Draft, Made, Makes, then_make}
+use Rattle.lower_base.specs.Drafts.{Draft, Made, Makes, here, then_make}
 use Rattle.lower_base.specs.Layouts.{Layout}
 use Rattle.lower_expr.specs.Effects.{effect_of, effect_length_of, put_to, put_length, tested, tested_length}
 use Rattle.lower_expr.specs.Lengths.{length_of, lengths_of}
@@ -68,3 +68,7 @@ UnitsAreAsLongAsDescribed =
     (t : Typed) (l : Layout) (is_main : Bool) (regs : ℕ) (instance : Instance) (start unit : Draft) → IsShapedStatement instance.body →
     opening_of t l is_main regs instance ≡ Makes tt start → unit_of t l is_main regs instance ≡ Makes tt unit →
     Extended start (statement_length_of t l (has_result (body_frame is_main instance)) (body_frame is_main instance).saved instance.body + 1) unit
+
+-- the place behind a piece of code, to which a jump over it leads, is that before it and its length
+abbrev pub CodeEndsWhereItsLengthSays : Type 0
+CodeEndsWhereItsLengthSays = (before after : Draft) (n : ℕ) → Extended before n after → here after ≡ here before + n

@@ -2,7 +2,7 @@
 //! are written, and only appends. Readers find the laws here by name.
 #![tactic(auto)]
 
-ghost use Rattle.code_lengths.specs.Agreement.{ExpressionsAreAsLongAsDescribed, StatementsAreAsLongAsDescribed, UnitsAreAsLongAsDescribed};
+ghost use Rattle.code_lengths.specs.Agreement.{CodeEndsWhereItsLengthSays, ExpressionsAreAsLongAsDescribed, StatementsAreAsLongAsDescribed, UnitsAreAsLongAsDescribed};
 
 /// The code of every expression, as a value, an operand, an effect, a test or put in its place, has
 /// as many instructions as its length says, behind those that stood.
@@ -19,4 +19,10 @@ pub fn statements_are_as_long_as_described()
 /// instruction that ends it: the places to which its jumps lead are counted from its start.
 pub fn units_are_as_long_as_described()
     ensures { UnitsAreAsLongAsDescribed }
+{}
+
+/// The place behind a piece of code, to which a jump over it leads, is the place before it and its
+/// length.
+pub fn code_ends_where_its_length_says()
+    ensures { CodeEndsWhereItsLengthSays }
 {}
