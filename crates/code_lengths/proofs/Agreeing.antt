@@ -6,7 +6,7 @@ use Rattle.code_lengths.specs.Agreement.{ExpressionsAreAsLongAsDescribed, Statem
 use Rattle.code_lengths.proofs.Drafting.{weaker}
 use Rattle.code_lengths.proofs.Communication.{nothing_more}
 use Rattle.code_lengths.proofs.OperandPieces.{operand_grows}
-use Rattle.code_lengths.proofs.ExpressionLengths.{value_grows, values_grow}
+use Rattle.code_lengths.proofs.ExpressionLengths.{value_grows, values_grow, spot_grows}
 use Rattle.code_lengths.proofs.EffectLengths.{put_grows, effect_grows, tested_grows}
 use Rattle.code_lengths.proofs.StatementLengths.{statement_grows}
 
@@ -15,6 +15,7 @@ expressions t l = record {
   value = λ e d h. value_grows t l e h d;
   operand = λ quiet e d h. operand_grows t l quiet e _ _ h (value_grows t l e h) d;
   list = λ quiet n row d h. weaker _ _ d _ _ (λ given g. g ∙ nothing_more (length _)) (values_grow t l quiet row h [] d);
+  spot = λ e d h. weaker _ _ d _ _ (λ s _. tt) (spot_grows t l e h d);
   effect = λ e d h. effect_grows t l e d h;
   test = λ e d h. tested_grows t l e d h;
   put_register = λ r e d h k. put_grows true t l (O.Scalar r) e d refl h k;

@@ -12,30 +12,32 @@ use Rattle.lower_base.specs.declared.emit.Out.{Out}
 use Rattle.lower_base.specs.declared.emit.Out.TheVariants as O
 use Rattle.lower_base.specs.Drafts.{Draft, Made, Makes, here, then_make}
 use Rattle.lower_base.specs.Layouts.{Layout}
+use Rattle.lower_expr.specs.declared.spots.Spot.{Spot}
 use Rattle.lower_expr.specs.Effects.{effect_of, effect_length_of, put_to, put_length, tested, tested_length}
-use Rattle.lower_expr.specs.Lengths.{length_of, lengths_of}
+use Rattle.lower_expr.specs.Lengths.{length_of, lengths_of, spot_length_of}
 use Rattle.lower_expr.specs.Operands.{operand_by, operand_length}
 use Rattle.lower_expr.specs.Steps.{is_kept}
-use Rattle.lower_expr.specs.Values.{value_of, values_of}
+use Rattle.lower_expr.specs.Values.{value_of, values_of, spot_of}
 use Rattle.lower_stmt.specs.declared.statement.Frame.{Frame}
 use Rattle.lower_stmt.specs.Frames.{has_result}
 use Rattle.lower_stmt.specs.Lengths.{statement_length_of}
 use Rattle.lower_stmt.specs.Programs.{begun, blank, body_frame, own_fields_of, own_result_of, unit_of}
 use Rattle.lower_stmt.specs.Statements.{statement_of}
 use Rattle.code_lengths.specs.Growth.{Extended, Grows, Stands, Anything}
-use Rattle.code_lengths.specs.Shaped.{HasShape, IsShaped, AreShaped}
+use Rattle.code_lengths.specs.Shaped.{HasShape, IsShaped, IsTarget, AreShaped}
 use Rattle.code_lengths.specs.ShapedStatements.{IsShapedStatement}
 
 -- The code of an expression: its value, which stands in a register exactly where it is kept there;
--- the same as an operand, copied or where it stands; the values of a list; its effect, where the
--- value is not used; its test; and its value put in a register, if it stands in one, or in a field,
--- if it has a shape.
+-- the same as an operand, copied or where it stands; the values of a list; what locates a target; its
+-- effect, where the value is not used; its test; and its value put in a register, if it stands in one,
+-- or in a field, if it has a shape.
 pub record ExpressionLengths (t : Typed) (l : Layout) : Type 0 where
   pub value : (e : TExpr) (d : Draft) → IsShaped e → Grows d (length_of t l e) (Stands (is_kept e)) (value_of t l e d)
   pub operand : (quiet : Bool) (e : TExpr) (d : Draft) → IsShaped e →
       Grows d (operand_length (length_of t l e) quiet e) (Stands (is_kept e)) (operand_by t l (value_of t l e) quiet e d)
   pub list : (quiet : Bool) (n : Count) (row : Row_of-TExpr n) (d : Draft) → AreShaped row →
       Grows d (lengths_of t l quiet row) (λ (given : List Out). length given ≡ length (items-the_row-TExpr n row)) (values_of t l quiet row [] d)
+  pub spot : (e : TExpr) (d : Draft) → IsTarget e → Grows d (spot_length_of t l e) (λ (s : Spot). Anything s) (spot_of t l e d)
   pub effect : (e : TExpr) (d : Draft) → IsShaped e → Grows d (effect_length_of t l e) (λ (v : Out). Anything v) (effect_of t l e d)
   pub test : (e : TExpr) (d : Draft) → IsShaped e → Grows d (tested_length t l e) (λ (u : Unit {0}). Anything u) (tested t l e d)
   pub put_register : (r : ℕ) (e : TExpr) (d : Draft) → IsShaped e → is_kept e ≡ true → Grows d (put_length t l true e) (Stands true) (put_to t l (O.Scalar r) e d)
