@@ -1,6 +1,6 @@
 //! Instructions, from their names and operands.
 
-use crate::operands::{Checked, CheckedRegisters, Coordinates, Registers, Steps};
+use crate::operands::{Checked, CheckedRegisters, Coordinates, Registers, Steps, push};
 use crate::words::{Stop, Words};
 use paris_code::Instr;
 use paris_text::{Keyword, instructions, keyword_of};
@@ -13,7 +13,7 @@ fn keyword_between<K: Keyword>(name: &[u8], head: &[u8], tail: &[u8]) -> Option<
 
 /// Whether a mnemonic is this one, and the keyword in its middle, if it has one.
 macro_rules! named {
-    ($name:ident $whole:literal) => { ($name == $whole).then_some(()) };
+    ($name:ident $whole:literal) => { ($name == $whole.as_slice()).then_some(()) };
     ($name:ident $head:literal $tail:literal) => { keyword_between($name, $head, $tail) };
 }
 
@@ -41,10 +41,10 @@ macro_rules! list {
     ($words:ident $alloc:ident $kind:ident) => { $words.list::<_, $kind>($alloc)? };
 }
 
-/// The instruction of this name whose operands are the next words, by the table.
+/// Where the name is that of a row, reads the operands, adds the instruction to the code and returns.
 macro_rules! read {
     (
-        ($alloc:ident $name:ident $words:ident)
+        ($alloc:ident $name:ident $words:ident $code:ident)
         $(
             $variant:ident = $head:literal $($keyword:ident $tail:literal)?
             ($($operand:ident: $kind:ident),* $(; $list:ident: $lists:ident)?);
@@ -54,15 +54,83 @@ macro_rules! read {
             if let Some(($($keyword)?)) = named!($name $head $($tail)?) {
                 $(let $operand = operand!($words $kind);)*
                 $(let $list = list!($words $alloc $lists);)?
-                return Ok(Instr::$variant { $($keyword,)? $($operand,)* $($list)? });
+                push($code, Instr::$variant { $($keyword,)? $($operand,)* $($list)? })?;
+                return Ok(true);
             }
         )*
     };
 }
 
-/// The instruction of a line, behind its index.
-pub fn instruction(alloc: Global, words: &mut Words<'_>) -> Result<Instr, Stop> {
+/// Reads the instruction of a line, behind its index, and adds it to the code.
+pub fn instruction(
+    alloc: Global,
+    words: &mut Words<'_>,
+    code: &mut Vec<Instr>,
+) -> Result<(), Stop> {
     let name = words.word()?;
-    instructions!(read(alloc name words));
-    Err(Stop::NoLine)
+    if moves(alloc, name, words, code)?
+        || flags(alloc, name, words, code)?
+        || messages(alloc, name, words, code)?
+        || registers(alloc, name, words, code)?
+        || control(alloc, name, words, code)?
+    {
+        Ok(())
+    } else {
+        Err(Stop::NoLine)
+    }
+}
+
+/// Whether the name is that of a move, an address or an operation; then that is read.
+fn moves(
+    alloc: Global,
+    name: &[u8],
+    words: &mut Words<'_>,
+    code: &mut Vec<Instr>,
+) -> Result<bool, Stop> {
+    instructions!(read(alloc name words code) in moves);
+    Ok(false)
+}
+
+/// Whether the name is that of a comparison, an instruction on flags or a check; then that is read.
+fn flags(
+    alloc: Global,
+    name: &[u8],
+    words: &mut Words<'_>,
+    code: &mut Vec<Instr>,
+) -> Result<bool, Stop> {
+    instructions!(read(alloc name words code) in flags);
+    Ok(false)
+}
+
+/// Whether the name is that of an instruction between processors; then that is read.
+fn messages(
+    alloc: Global,
+    name: &[u8],
+    words: &mut Words<'_>,
+    code: &mut Vec<Instr>,
+) -> Result<bool, Stop> {
+    instructions!(read(alloc name words code) in messages);
+    Ok(false)
+}
+
+/// Whether the name is that of an operation or a check of the front end; then that is read.
+fn registers(
+    alloc: Global,
+    name: &[u8],
+    words: &mut Words<'_>,
+    code: &mut Vec<Instr>,
+) -> Result<bool, Stop> {
+    instructions!(read(alloc name words code) in registers);
+    Ok(false)
+}
+
+/// Whether the name is that of a jump, a call, or an instruction of the front end on the outside; then that is read.
+fn control(
+    alloc: Global,
+    name: &[u8],
+    words: &mut Words<'_>,
+    code: &mut Vec<Instr>,
+) -> Result<bool, Stop> {
+    instructions!(read(alloc name words code) in control);
+    Ok(false)
 }

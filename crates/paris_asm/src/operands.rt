@@ -146,7 +146,8 @@ impl<'a> Words<'a> {
     }
 }
 
-fn push<T: Drop>(list: &mut Vec<T>, item: T) -> Result<(), Stop> {
+/// Adds an item to a list.
+pub fn push<T: Drop>(list: &mut Vec<T>, item: T) -> Result<(), Stop> {
     match list.push(item) {
         Ok(()) => Ok(()),
         Err(_failed) => Err(Stop::Memory),

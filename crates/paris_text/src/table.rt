@@ -1,14 +1,25 @@
 //! The table of instructions, from which listings are printed and read.
 
-/// Calls `$with!` with the arguments in parentheses and a row for each instruction: its variant of
-/// `Instr`, its mnemonic, and its operands in order, each with its kind. A mnemonic that stands for
-/// several instructions has a keyword in its middle. Some instructions end with a list of operands,
-/// which stands behind a `;`.
+/// Calls `$with!` with the arguments in parentheses and a row for each instruction, of all groups
+/// or of the groups that are named behind `in`. A row is the instruction's variant of `Instr`, its
+/// mnemonic, and its operands in order, each with its kind. A mnemonic that several instructions
+/// have a form of has a keyword between its two ends. The list of operands that some instructions
+/// end with stands behind a `;`.
 #[macro_export]
 macro_rules! instructions {
-    ($with:ident($($argument:tt)*)) => {
-        $with! {
-            ($($argument)*)
+    ($with:ident $arguments:tt) => {
+        $crate::instructions! { $with $arguments in moves flags messages registers control }
+    };
+    ($with:ident $arguments:tt in $($groups:ident)+) => {
+        $crate::instructions! { $with $arguments [$($groups)+] }
+    };
+    ($with:ident $arguments:tt [] $($rows:tt)*) => {
+        $with! { $arguments $($rows)* }
+    };
+    ($with:ident $arguments:tt [moves $($groups:ident)*] $($rows:tt)*) => {
+        $crate::instructions! {
+            $with $arguments [$($groups)*]
+            $($rows)*
             Move = b"CM_" signed b"_move_2L" (dest: Field, source: Field);
             MoveConstant = b"CM_u_move_constant_1L" (dest: Field, value: Konst);
             MoveZeroAlways = b"CM_u_move_zero_always_1L" (dest: Field);
@@ -19,6 +30,12 @@ macro_rules! instructions {
             OperateConstant = b"CM_" op b"_constant_3_1L" (dest: Field, left: Field, right: Konst);
             Negate = b"CM_s_negate_2_1L" (dest: Field, source: Field);
             Lognot = b"CM_lognot_2_1L" (dest: Field, source: Field);
+        }
+    };
+    ($with:ident $arguments:tt [flags $($groups:ident)*] $($rows:tt)*) => {
+        $crate::instructions! {
+            $with $arguments [$($groups)*]
+            $($rows)*
             Compare = b"CM_" relation b"_1L" (left: Field, right: Field);
             EqZero = b"CM_u_eq_zero_1L" (source: Field);
             NeZero = b"CM_u_ne_zero_1L" (source: Field);
@@ -32,6 +49,12 @@ macro_rules! instructions {
             CheckTarget = b"X_check_target" (set: Set, place: Place; coordinates: Checked);
             CheckGrid = b"X_check_grid" (set: Set, place: Place; steps: Steps);
             CheckDivisor = b"X_check_divisor" (place: Place, source: Field);
+        }
+    };
+    ($with:ident $arguments:tt [messages $($groups:ident)*] $($rows:tt)*) => {
+        $crate::instructions! {
+            $with $arguments [$($groups)*]
+            $($rows)*
             GetFromNews = b"X_get_from_news_1L"
                 (dest: Field, source: Field, axis: Axis, by: Konst);
             GetFromNewsAlways = b"X_get_from_news_always_1L"
@@ -49,6 +72,12 @@ macro_rules! instructions {
                 (dest: Register, processor: Register, source: Field);
             WriteToProcessor = b"CM_u_write_to_processor_1L"
                 (dest: Field, processor: Register, value: Konst);
+        }
+    };
+    ($with:ident $arguments:tt [registers $($groups:ident)*] $($rows:tt)*) => {
+        $crate::instructions! {
+            $with $arguments [$($groups)*]
+            $($rows)*
             FrontConst = b"FE_const" (dest: Register, value: Immediate);
             FrontMove = b"FE_move" (dest: Register, source: Register);
             FrontOperate = b"FE_" op b"" (dest: Register, left: Register, right: Register);
@@ -60,6 +89,12 @@ macro_rules! instructions {
             FrontCheckTarget = b"FE_check_target"
                 (set: Set, place: Place; coordinates: CheckedRegisters);
             FrontCheckDivisor = b"FE_check_divisor" (place: Place, source: Register);
+        }
+    };
+    ($with:ident $arguments:tt [control $($groups:ident)*] $($rows:tt)*) => {
+        $crate::instructions! {
+            $with $arguments [$($groups)*]
+            $($rows)*
             FrontJump = b"FE_jump" (target: Target);
             FrontJumpZero = b"FE_jump_zero" (test: Register, target: Target);
             FrontJumpNonzero = b"FE_jump_nonzero" (test: Register, target: Target);

@@ -78,17 +78,11 @@ pub fn put_operand<O: Sink>(operand: Operand, out: &mut O) -> Result<(), Failed>
         }
         Operand::Kind(kind) => put_kind(kind, out),
         Operand::Direction(direction) => {
-            put_pieces(
-                &[Piece::Text(b" "), Piece::Text(direction.spelling())],
-                out,
-            )
+            put_pieces(&[Piece::Text(b" "), Piece::Text(direction.spelling())], out)
         }
         Operand::Mode(mode) => put_pieces(&[Piece::Text(b" "), Piece::Text(mode.spelling())], out),
         Operand::Inclusion(inclusion) => {
-            put_pieces(
-                &[Piece::Text(b" "), Piece::Text(inclusion.spelling())],
-                out,
-            )
+            put_pieces(&[Piece::Text(b" "), Piece::Text(inclusion.spelling())], out)
         }
     }
 }
