@@ -11,7 +11,7 @@ fn keyword_between<K: Keyword>(name: &[u8], head: &[u8], tail: &[u8]) -> Option<
     keyword_of(name.strip_prefix(head)?.strip_suffix(tail)?)
 }
 
-/// Whether a mnemonic is this one, and the keyword in its middle, if it has one.
+/// The keyword in the middle of a mnemonic that is this one, or `()` where it has none.
 macro_rules! named {
     ($name:ident $whole:literal) => { ($name == $whole.as_slice()).then_some(()) };
     ($name:ident $head:literal $tail:literal) => { keyword_between($name, $head, $tail) };
@@ -41,7 +41,8 @@ macro_rules! list {
     ($words:ident $alloc:ident $kind:ident) => { $words.list::<_, $kind>($alloc)? };
 }
 
-/// Where the name is that of a row, reads the operands, adds the instruction to the code and returns.
+/// Where the name is that of a row, reads the operands, adds the instruction to the code and
+/// returns.
 macro_rules! read {
     (
         ($alloc:ident $name:ident $words:ident $code:ident)
@@ -80,7 +81,7 @@ pub fn instruction(
     }
 }
 
-/// Whether the name is that of a move, an address or an operation; then that is read.
+/// Reads a move, an address or an operation, and answers whether the name is that of one.
 fn moves(
     alloc: Global,
     name: &[u8],
@@ -91,7 +92,8 @@ fn moves(
     Ok(false)
 }
 
-/// Whether the name is that of a comparison, an instruction on flags or a check; then that is read.
+/// Reads a comparison, an instruction on flags or a check, and answers whether the name is that of
+/// one.
 fn flags(
     alloc: Global,
     name: &[u8],
@@ -102,7 +104,7 @@ fn flags(
     Ok(false)
 }
 
-/// Whether the name is that of an instruction between processors; then that is read.
+/// Reads an instruction between processors, and answers whether the name is that of one.
 fn messages(
     alloc: Global,
     name: &[u8],
@@ -113,7 +115,7 @@ fn messages(
     Ok(false)
 }
 
-/// Whether the name is that of an operation or a check of the front end; then that is read.
+/// Reads an operation or a check of the front end, and answers whether the name is that of one.
 fn registers(
     alloc: Global,
     name: &[u8],
@@ -124,7 +126,8 @@ fn registers(
     Ok(false)
 }
 
-/// Whether the name is that of a jump, a call, or an instruction of the front end on the outside; then that is read.
+/// Reads a jump, a call, or an instruction of the front end on the outside, and answers whether the
+/// name is that of one.
 fn control(
     alloc: Global,
     name: &[u8],
