@@ -2,11 +2,9 @@
 #![tactic(auto)]
 
 mod differences;
-mod forms;
 mod instructions;
 mod lines;
 mod listing;
-mod names;
 mod operands;
 mod plain;
 mod words;

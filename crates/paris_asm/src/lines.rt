@@ -134,11 +134,7 @@ impl Reading {
             Part::Shapes | Part::Depth => return Err(Stop::NoLine),
         }
         let _index = number(words.word()?)?;
-        let instr = instruction(alloc, words)?;
-        match self.image.code.push(instr) {
-            Ok(()) => Ok(()),
-            Err(_failed) => Err(Stop::Memory),
-        }
+        instruction(alloc, words, &mut self.image.code)
     }
 }
 

@@ -3,34 +3,84 @@
 ghost use Rattle.std.specs.Prelude.{◌<◌, IfOk};
 
 use crate::words::{Stop, Words, marked, number, parted};
-use cstar_base::{Direction, Elem, Inclusion, Place, SegmentMode, Word};
+use cstar_base::{Elem, Place, Word};
 use paris_code::{Coordinate, Field, GridStep, Konst, RegisterCoordinate, SignedCoordinate};
+use paris_text::{Keyword, keyword_of};
 use std::alloc::Global;
 
+/// What one word of a list of operands says.
+pub trait Item<T> {
+    fn read(word: &[u8]) -> Result<T, Stop>;
+}
+
+/// Coordinates, each a field or a register.
+pub struct Coordinates;
+
+impl Item<Coordinate> for Coordinates {
+    fn read(word: &[u8]) -> Result<Coordinate, Stop> {
+        match word {
+            [b'r', rest @ ..] => Ok(Coordinate::Reg(number(rest)?)),
+            _ => Ok(Coordinate::Field(field(word)?)),
+        }
+    }
+}
+
+/// Coordinates, each with how it is read.
+pub struct Checked;
+
+impl Item<SignedCoordinate> for Checked {
+    fn read(word: &[u8]) -> Result<SignedCoordinate, Stop> {
+        let (text, sign) = parted(word, b'/')?;
+        Ok(SignedCoordinate {
+            coordinate: Coordinates::read(text)?,
+            signed: keyword(sign)?,
+        })
+    }
+}
+
+/// Steps, each along an axis.
+pub struct Steps;
+
+impl Item<GridStep> for Steps {
+    fn read(word: &[u8]) -> Result<GridStep, Stop> {
+        let (axis, step) = parted(word, b'=')?;
+        Ok(GridStep {
+            axis: marked(axis, b'a')?,
+            step: konst(step)?,
+        })
+    }
+}
+
+/// Registers.
+pub struct Registers;
+
+impl Item<u32> for Registers {
+    fn read(word: &[u8]) -> Result<u32, Stop> {
+        marked(word, b'r')
+    }
+}
+
+/// Registers, each with how it is read.
+pub struct CheckedRegisters;
+
+impl Item<RegisterCoordinate> for CheckedRegisters {
+    fn read(word: &[u8]) -> Result<RegisterCoordinate, Stop> {
+        let (text, sign) = parted(word, b'/')?;
+        Ok(RegisterCoordinate {
+            register: marked(text, b'r')?,
+            signed: keyword(sign)?,
+        })
+    }
+}
+
 impl<'a> Words<'a> {
-    /// A register.
-    pub fn register(&mut self) -> Result<u32, Stop> {
-        marked(self.word()?, b'r')
-    }
-
-    pub fn target(&mut self) -> Result<u32, Stop> {
-        marked(self.word()?, b'@')
-    }
-
-    pub fn unit(&mut self) -> Result<u32, Stop> {
-        marked(self.word()?, b'u')
-    }
-
-    pub fn axis(&mut self) -> Result<u32, Stop> {
-        marked(self.word()?, b'a')
-    }
-
-    pub fn immediate(&mut self) -> Result<u32, Stop> {
-        marked(self.word()?, b'#')
+    /// The number behind a mark.
+    pub fn marked(&mut self, mark: u8) -> Result<u32, Stop> {
+        marked(self.word()?, mark)
     }
 
     pub fn set(&mut self) -> Result<u16, Stop> {
-        small(marked(self.word()?, b's')?)
+        small(self.marked(b's')?)
     }
 
     pub fn field(&mut self) -> Result<Field, Stop> {
@@ -41,6 +91,7 @@ impl<'a> Words<'a> {
         konst(self.word()?)
     }
 
+    /// `LINE,COL`
     pub fn place(&mut self) -> Result<Place, Stop> {
         let (line, col) = parted(self.word()?, b',')?;
         Ok(Place {
@@ -53,35 +104,15 @@ impl<'a> Words<'a> {
         kind(self.word()?)
     }
 
-    pub fn direction(&mut self) -> Result<Direction, Stop> {
-        match self.word()? {
-            b"up" => Ok(Direction::Upward),
-            b"down" => Ok(Direction::Downward),
-            _ => Err(Stop::NoLine),
-        }
+    pub fn keyword<K: Keyword>(&mut self) -> Result<K, Stop> {
+        keyword(self.word()?)
     }
 
-    pub fn mode(&mut self) -> Result<SegmentMode, Stop> {
-        match self.word()? {
-            b"none" => Ok(SegmentMode::NoSegments),
-            b"start" => Ok(SegmentMode::StartBit),
-            b"segment" => Ok(SegmentMode::SegmentBit),
-            _ => Err(Stop::NoLine),
-        }
-    }
-
+    /// The field of a bit; `-` is none.
     pub fn bit(&mut self) -> Result<Option<Field>, Stop> {
         match self.word()? {
             b"-" => Ok(None),
             word => Ok(Some(field(word)?)),
-        }
-    }
-
-    pub fn inclusion(&mut self) -> Result<Inclusion, Stop> {
-        match self.word()? {
-            b"in" => Ok(Inclusion::Inclusive),
-            b"ex" => Ok(Inclusion::Exclusive),
-            _ => Err(Stop::NoLine),
         }
     }
 
@@ -101,80 +132,22 @@ impl<'a> Words<'a> {
         Ok(Word::of(bytes))
     }
 
-    pub fn coordinates(&mut self, alloc: Global) -> Result<Vec<Coordinate>, Stop> {
+    /// What the words that are left say, each an item.
+    pub fn list<T: Drop, I: Item<T>>(&mut self, alloc: Global) -> Result<Vec<T>, Stop> {
         let mut list = Vec::new(alloc);
         let Some(tail) = self.tail() else {
             return Ok(list);
         };
         for word in tail.split(|byte| *byte == b' ') {
-            let item = coordinate(word)?;
-            push(&mut list, item)?;
-        }
-        Ok(list)
-    }
-
-    pub fn checked(&mut self, alloc: Global) -> Result<Vec<SignedCoordinate>, Stop> {
-        let mut list = Vec::new(alloc);
-        let Some(tail) = self.tail() else {
-            return Ok(list);
-        };
-        for word in tail.split(|byte| *byte == b' ') {
-            let (text, sign) = parted(word, b'/')?;
-            let item = SignedCoordinate {
-                coordinate: coordinate(text)?,
-                signed: signed(sign)?,
-            };
-            push(&mut list, item)?;
-        }
-        Ok(list)
-    }
-
-    pub fn steps(&mut self, alloc: Global) -> Result<Vec<GridStep>, Stop> {
-        let mut list = Vec::new(alloc);
-        let Some(tail) = self.tail() else {
-            return Ok(list);
-        };
-        for word in tail.split(|byte| *byte == b' ') {
-            let (axis, step) = parted(word, b'=')?;
-            let item = GridStep {
-                axis: marked(axis, b'a')?,
-                step: konst(step)?,
-            };
-            push(&mut list, item)?;
-        }
-        Ok(list)
-    }
-
-    pub fn registers(&mut self, alloc: Global) -> Result<Vec<u32>, Stop> {
-        let mut list = Vec::new(alloc);
-        let Some(tail) = self.tail() else {
-            return Ok(list);
-        };
-        for word in tail.split(|byte| *byte == b' ') {
-            let item = marked(word, b'r')?;
-            push(&mut list, item)?;
-        }
-        Ok(list)
-    }
-
-    pub fn checked_registers(&mut self, alloc: Global) -> Result<Vec<RegisterCoordinate>, Stop> {
-        let mut list = Vec::new(alloc);
-        let Some(tail) = self.tail() else {
-            return Ok(list);
-        };
-        for word in tail.split(|byte| *byte == b' ') {
-            let (text, sign) = parted(word, b'/')?;
-            let item = RegisterCoordinate {
-                register: marked(text, b'r')?,
-                signed: signed(sign)?,
-            };
+            let item = I::read(word)?;
             push(&mut list, item)?;
         }
         Ok(list)
     }
 }
 
-fn push<T: Drop>(list: &mut Vec<T>, item: T) -> Result<(), Stop> {
+/// Adds an item to a list.
+pub fn push<T: Drop>(list: &mut Vec<T>, item: T) -> Result<(), Stop> {
     match list.push(item) {
         Ok(()) => Ok(()),
         Err(_failed) => Err(Stop::Memory),
@@ -205,19 +178,8 @@ fn konst(word: &[u8]) -> Result<Konst, Stop> {
     }
 }
 
-fn coordinate(word: &[u8]) -> Result<Coordinate, Stop> {
-    match word {
-        [b'r', rest @ ..] => Ok(Coordinate::Reg(number(rest)?)),
-        _ => Ok(Coordinate::Field(field(word)?)),
-    }
-}
-
-fn signed(word: &[u8]) -> Result<bool, Stop> {
-    match word {
-        b"s" => Ok(true),
-        b"u" => Ok(false),
-        _ => Err(Stop::NoLine),
-    }
+fn keyword<K: Keyword>(word: &[u8]) -> Result<K, Stop> {
+    keyword_of(word).ok_or(Stop::NoLine)
 }
 
 /// One of the seven kinds of numbers.

@@ -2,10 +2,13 @@
 #![tactic(auto)]
 
 mod image;
+mod keywords;
 mod lines;
 mod mnemonics;
 mod operands;
 mod pieces;
+mod table;
 mod words;
 
 pub use image::print;
+pub use keywords::{Keyword, keyword_of};

@@ -1,15 +1,15 @@
 //! The words of a line.
 
 ghost use Rattle.std.specs.Prelude.{◌≡◌, ℕ, ◌==◌, if◌then◌else◌, [], ◌∷◌, map, flat_map, codes};
-ghost use Rattle.paris_code.specs.Listing.{spaced, field_text, coordinate_text, read_text, checked_text, step_text, register_text, checked_register_text, kind_text, direction_text, mode_text, inclusion_text, hex_text, bytes_text};
+ghost use Rattle.paris_code.specs.Listing.{spaced, field_text, coordinate_text, read_text, checked_text, step_text, register_text, checked_register_text, kind_text, hex_text, bytes_text};
 ghost use Rattle.paris_code.specs.Mnemonics.{sign_name};
 ghost use Rattle.paris_text.specs.Operands.{operand_text, fixed_list, rest_words};
 ghost use Rattle.paris_text.specs.Puts.{Puts};
 
-use crate::mnemonics::sign;
+use crate::keywords::Keyword;
 use crate::operands::{Fixed, Operand, Rest};
 use crate::pieces::{Piece, Style, put_list, put_pieces};
-use cstar_base::{Direction, Elem, Inclusion, SegmentMode};
+use cstar_base::Elem;
 use cstar_io::{Failed, Sink};
 use paris_code::{Coordinate, Field, GridStep, Konst, RegisterCoordinate, SignedCoordinate};
 
@@ -19,35 +19,7 @@ fn kind_letter(kind: Elem) -> &'static [u8]
     if kind.bits == 1 {
         b"b"
     } else {
-        sign(kind.signed)
-    }
-}
-
-fn direction_word(direction: Direction) -> &'static [u8]
-    ensures { result.now ≡ direction_text direction }
-{
-    match direction {
-        Direction::Upward => b"up",
-        Direction::Downward => b"down",
-    }
-}
-
-fn mode_word(mode: SegmentMode) -> &'static [u8]
-    ensures { result.now ≡ mode_text mode }
-{
-    match mode {
-        SegmentMode::NoSegments => b"none",
-        SegmentMode::StartBit => b"start",
-        SegmentMode::SegmentBit => b"segment",
-    }
-}
-
-fn inclusion_word(inclusion: Inclusion) -> &'static [u8]
-    ensures { result.now ≡ inclusion_text inclusion }
-{
-    match inclusion {
-        Inclusion::Inclusive => b"in",
-        Inclusion::Exclusive => b"ex",
+        kind.signed.spelling()
     }
 }
 
@@ -106,17 +78,11 @@ pub fn put_operand<O: Sink>(operand: Operand, out: &mut O) -> Result<(), Failed>
         }
         Operand::Kind(kind) => put_kind(kind, out),
         Operand::Direction(direction) => {
-            put_pieces(
-                &[Piece::Text(b" "), Piece::Text(direction_word(direction))],
-                out,
-            )
+            put_pieces(&[Piece::Text(b" "), Piece::Text(direction.spelling())], out)
         }
-        Operand::Mode(mode) => put_pieces(&[Piece::Text(b" "), Piece::Text(mode_word(mode))], out),
+        Operand::Mode(mode) => put_pieces(&[Piece::Text(b" "), Piece::Text(mode.spelling())], out),
         Operand::Inclusion(inclusion) => {
-            put_pieces(
-                &[Piece::Text(b" "), Piece::Text(inclusion_word(inclusion))],
-                out,
-            )
+            put_pieces(&[Piece::Text(b" "), Piece::Text(inclusion.spelling())], out)
         }
     }
 }
@@ -139,7 +105,7 @@ impl Style<Coordinate> for SpacedCoordinates {
 fn put_sign<O: Sink>(signed: bool, out: &mut O) -> Result<(), Failed>
     ensures { Puts O.agrees O.faults out.old out.new result (read_text signed) }
 {
-    put_pieces(&[Piece::Text(b"/"), Piece::Text(sign(signed))], out)
+    put_pieces(&[Piece::Text(b"/"), Piece::Text(signed.spelling())], out)
 }
 
 /// Each checked coordinate behind a space.
@@ -199,7 +165,7 @@ impl Style<RegisterCoordinate> for SpacedCheckedRegisters {
             Piece::Text(b" r"),
             Piece::Number(u64::from(item.register)),
             Piece::Text(b"/"),
-            Piece::Text(sign(item.signed)),
+            Piece::Text(item.signed.spelling()),
         ];
         put_pieces(&pieces, out)
     }
