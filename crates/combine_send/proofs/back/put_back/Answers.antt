@@ -9,7 +9,7 @@ use Rattle.block_store.specs.Stored.{shape_of_plan, shapes_in, blocks_in}
 use Rattle.block_store.proofs.AllBlocks.{blocks_written, blocks_whole}
 use Rattle.block_store.proofs.Fetches.{bits_of}
 use Rattle.combine_send.proofs.Taken.{taken}
-use Rattle.combine_send.proofs.back.write_back.Goals as goal
+use Rattle.combine_send.proofs.back.put_back.Goals as goal
 
 pub returns : goal.returns
 returns c =
