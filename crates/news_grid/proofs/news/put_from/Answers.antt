@@ -3,7 +3,7 @@ use Rattle.lane_kernels.proofs.Lifted.{one_up}
 use Rattle.lane_kernels.proofs.Steps.{all_small}
 use Rattle.news_grid.specs.Steps.{number_seen}
 use Rattle.news_grid.proofs.Windows.{seen_bit, seen-lt}
-use Rattle.news_grid.proofs.news.put_window.Goals as goal
+use Rattle.news_grid.proofs.news.put_from.Goals as goal
 
 pub loop-j-preserved : goal.loop-j-preserved
 loop-j-preserved c =
