@@ -4,7 +4,7 @@ use Rattle.std.proofs.lemmas.Nat.Bits.{bit_at-lt}
 use Rattle.bit_planes.specs.Bits.{bit}
 use Rattle.bit_planes.specs.Planes.{plane_at}
 use Rattle.reduce_scan.proofs.WordRuns.{Chosen, chosen_more, digit_is, number_chosen}
-use Rattle.reduce_scan.proofs.words.words_or.Goals as goal
+use Rattle.reduce_scan.proofs.words.rows_or.Goals as goal
 
 pub loop-j-preserved : goal.loop-j-preserved
 loop-j-preserved c =
@@ -21,6 +21,6 @@ pub returns : goal.returns
 returns c = λ i b.
     let planes = c.args.block.now.planes.items in
     let last : c.loop-j.j ≡ 32 = omega (arith, c.loop-j-test.false, c.loop-j.auto.j-end) in
-    c.values.ensures i b
+    c.of_field.ensures i b
     ∙ number_chosen planes c.args.offset c.args.context c.args.other c.loop-j.planes c.ranges.other.fits
     (subst (λ n. Chosen planes c.args.offset c.args.context c.args.other n c.loop-j.planes) last c.loop-j.invariant) i b
