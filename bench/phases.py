@@ -32,6 +32,7 @@ LIMIT = 120  # seconds that one run may take
 ENOUGH = 0.4  # seconds that a measured run should take
 ENOUGH_SMALL = 0.1  # the same for a few blocks
 RUNS = 3
+MOST_ROUNDS = 1 << 20
 PYTHON = os.environ.get("NUMPY_PYTHON", sys.executable)
 
 
@@ -415,7 +416,7 @@ class Bench:
         count = 1
         while True:
             _, took = self.whole(kernel, 1, count, 1)
-            if took - start > enough or took > 20:
+            if took - start > enough or took > 20 or count >= MOST_ROUNDS:
                 return count
             count *= 4
 
