@@ -2,10 +2,19 @@
 """Measures the machine's phases against plain C loops, and against NumPy where it is there.
 
 Each kernel is a listing that `cstar --mode asm` runs: the instructions that a good compiler makes of
-the C* above it, without a copy of an operand and with fields no longer than they have to be. It runs on
-one, two and four workers over 32,768 and 1,048,576 positions. A line has the least time of one round
-with each number of workers, the time of the C loop (gcc -O2) and of NumPy, and how many times as long as
-C one worker takes. All print a sum of their results, which has to agree. Run it on an idle machine.
+the C* above it, without a copy of an operand and with fields no longer than they have to be. One run
+prints three tables, or those that --tables names:
+
+  large    one, two and four workers over 32,768 and 1,048,576 positions. A line has the least time of
+           one round with each number of workers, the time of the C loop (gcc -O2) and of NumPy, and how
+           many times as long as C one worker takes. All print a sum of their results, which has to agree.
+  small    sets of 2 to 63 blocks: the time of one worker, and that of more as a part of it. Where more
+           workers take a tenth longer than one, the line says so.
+  machine  a C program with threads of its own that does the same on planes, in one pass over the blocks:
+           how much sooner this machine's processors are done at all when two and four work, and what
+           it costs to start them.
+
+Run it on an idle machine; it takes some minutes.
 """
 import argparse
 import os
@@ -16,10 +25,14 @@ import time
 
 TOP = os.path.dirname(os.path.dirname(os.path.abspath(__file__)))
 GRIDS = {32768: (128, 256), 1048576: (1024, 1024)}
+BLOCK = 512  # positions of a block
+COLUMNS = 64  # of a grid of few blocks
 TARGETS = 1024
 LIMIT = 120  # seconds that one run may take
 ENOUGH = 0.4  # seconds that a measured run should take
+ENOUGH_SMALL = 0.1  # the same for a few blocks
 RUNS = 3
+MOST_ROUNDS = 1 << 20
 PYTHON = os.environ.get("NUMPY_PYTHON", sys.executable)
 
 
@@ -260,6 +273,109 @@ print(took)
 """
 
 
+PLANES_PROGRAM = r"""
+#include <pthread.h>
+#include <stdint.h>
+#include <stdio.h>
+#include <stdlib.h>
+#include <time.h>
+
+typedef uint64_t plane __attribute__((vector_size(64)));
+enum { A = 0, B = 32, D = 64, T = 96, P = 128, CONTEXT, BITS };
+typedef struct { plane planes[BITS]; } block;
+typedef void (*work)(block *, int);
+
+static void empty(block *b, int count) { (void)b, (void)count; }
+
+// where (a & 64) d = d + (a ^ b); else d -= b;
+static void chain(block *b, int count) {
+    for (block *end = b + count; b < end; b++) {
+        plane *p = b->planes, all = p[CONTEXT], test = {0}, carry = {0};
+        for (int j = 0; j < 32; j++) {
+            plane v = j == 6 ? p[A + j] : (plane){0};
+            p[T + j] ^= all & (v ^ p[T + j]), test |= p[T + j];
+        }
+        plane on = all & test, off = all & ~test;
+        for (int j = 0; j < 32; j++) p[T + j] ^= on & (p[A + j] ^ p[B + j] ^ p[T + j]);
+        for (int j = 0; j < 32; j++) {
+            plane x = p[D + j], y = p[T + j], sum = x ^ y ^ carry;
+            carry = (x & y) | (carry & (x ^ y)), p[D + j] ^= on & (sum ^ x);
+        }
+        carry = ~(plane){0};
+        for (int j = 0; j < 32; j++) {
+            plane x = p[D + j], y = ~p[B + j], sum = x ^ y ^ carry;
+            carry = (x & y) | (carry & (x ^ y)), p[D + j] ^= off & (sum ^ x);
+        }
+    }
+}
+
+// d = a && !b || c && d; on one plane each
+static void logic(block *b, int count) {
+    for (block *end = b + count; b < end; b++) {
+        plane *p = b->planes;
+        p[P] ^= p[CONTEXT] & (((p[A] & ~p[B]) | (p[D] & p[P])) ^ p[P]);
+    }
+}
+
+// d = a, plane by plane
+static void copy(block *b, int count) {
+    for (block *end = b + count; b < end; b++)
+        for (int j = 0; j < 32; j++) b->planes[D + j] = b->planes[A + j];
+}
+
+typedef struct { work work; block *from; int count; } part;
+
+static void *do_part(void *given) {
+    part *p = given;
+    p->work(p->from, p->count);
+    return 0;
+}
+
+static void one_round(work work, block *blocks, int count, int threads) {
+    pthread_t started[64];
+    part parts[64];
+    for (int w = 0; w < threads; w++) {
+        int from = (int)((long)count * w / threads), til = (int)((long)count * (w + 1) / threads);
+        parts[w] = (part){work, blocks + from, til - from};
+        if (w) pthread_create(&started[w], 0, do_part, &parts[w]);
+    }
+    do_part(&parts[0]);
+    for (int w = 1; w < threads; w++) pthread_join(started[w], 0);
+}
+
+static double now(void) {
+    struct timespec t;
+    clock_gettime(CLOCK_MONOTONIC, &t);
+    return t.tv_sec + t.tv_nsec * 1e-9;
+}
+
+int main(int count, char **words) {
+    static const struct { const char *name; work work; } all[] = {{"empty", empty}, {"copy", copy}, {"logic", logic}, {"chain", chain}};
+    static const int sizes[] = {16, 64, 2048}, threads[] = {1, 2, 4};
+    (void)count, (void)words;
+    for (int s = 0; s < 3; s++) {
+        block *blocks = aligned_alloc(64, sizes[s] * sizeof *blocks);
+        uint64_t *all_words = (uint64_t *)blocks, seed = 1;
+        for (size_t n = 0; n < sizes[s] * sizeof *blocks / 8; n++) all_words[n] = seed = seed * 6364136223846793005u + 1442695040888963407u;
+        for (int k = 0; k < 4; k++) {
+            double best[3] = {1e9, 1e9, 1e9};
+            for (int repeat = 0; repeat < 7; repeat++)
+                for (int t = 0; t < 3; t++) {
+                    int rounds = 1 + 4096 / sizes[s];
+                    double began = now();
+                    for (int r = 0; r < rounds; r++) one_round(all[k].work, blocks, sizes[s], threads[t]);
+                    double took = (now() - began) / rounds;
+                    if (took < best[t]) best[t] = took;
+                }
+            printf("%s %d %.9f %.9f %.9f\n", all[k].name, sizes[s], best[0], best[1], best[2]);
+        }
+        free(blocks);
+    }
+    return 0;
+}
+"""
+
+
 def timed(command, folder):
     """The output and the wall clock time of a command that has to end well."""
     began = time.perf_counter()
@@ -280,25 +396,27 @@ class Bench:
     def __init__(self, binary, folder, numpy):
         self.binary, self.folder, self.numpy = binary, folder, numpy
 
+    def whole(self, kernel, workers, rounds, runs=RUNS):
+        """What a run of so many rounds prints, and the least time that it takes."""
+        _, sets, before, loop, after = kernel
+        with open(os.path.join(self.folder, "kernel.paris"), "w") as out:
+            out.write(listing(sets, before, loop, after, rounds))
+        words = [self.binary, "--mode", "asm", "--workers", str(workers), "--turns", "4294967295", "kernel.paris"]
+        return least(words, self.folder, runs)
+
     def ours(self, kernel, workers, rounds):
         """The sum, and the time of one round, the start taken off."""
-        _, sets, before, loop, after = kernel
-        times = []
-        for count in (0, rounds):
-            with open(os.path.join(self.folder, "kernel.paris"), "w") as out:
-                out.write(listing(sets, before, loop, after, count))
-            words = [self.binary, "--mode", "asm", "--workers", str(workers), "--turns", "4294967295", "kernel.paris"]
-            text, took = least(words, self.folder)
-            times.append(took)
-        return text.strip(), (times[1] - times[0]) / rounds
+        _, start = self.whole(kernel, workers, 0)
+        text, took = self.whole(kernel, workers, rounds)
+        return text.strip(), (took - start) / rounds
 
-    def rounds(self, kernel):
+    def rounds(self, kernel, enough=ENOUGH):
         """So many rounds that one worker is busy for a while."""
+        _, start = self.whole(kernel, 1, 0, 1)
         count = 1
         while True:
-            began = time.perf_counter()
-            _, took = self.ours(kernel, 1, count)
-            if took * count > ENOUGH or time.perf_counter() - began > 20:
+            _, took = self.whole(kernel, 1, count, 1)
+            if took - start > enough or took > 20 or count >= MOST_ROUNDS:
                 return count
             count *= 4
 
@@ -335,17 +453,60 @@ class Bench:
         print(line + ("" if len(texts) == 1 else f"   WRONG: {texts}"), flush=True)
 
 
-def build_plain(folder, positions):
-    source = os.path.join(folder, "plain.c")
+    def show_small(self, name, kernel, blocks, all_workers):
+        """The time of one worker on a few blocks, and that of more as a part of it."""
+        rounds = self.rounds(kernel, ENOUGH_SMALL)
+        times, texts = {}, set()
+        for workers in all_workers:
+            text, times[workers] = self.ours(kernel, workers, rounds)
+            texts.add(text)
+        parts = {workers: took / times[1] for workers, took in times.items() if workers != 1}
+        shown = "  ".join(f"{workers} workers {part:5.2f}" for workers, part in parts.items())
+        line = f"{name:9} {blocks:3} blocks  one worker {times[1] * 1e6:8.2f} us  {shown}"
+        line += "   SLOWER" if max(parts.values(), default=0) > 1.1 else ""
+        print(line + ("" if len(texts) == 1 else f"   WRONG: {texts}"), flush=True)
+
+
+def built(folder, name, text, *flags):
+    """A program in C, once it is built."""
+    source, program = os.path.join(folder, "source.c"), os.path.join(folder, name)
     with open(source, "w") as out:
-        out.write(C_PROGRAM)
+        out.write(text)
+    subprocess.run(["gcc", "-O2", *flags, "-o", program, source], check=True)
+    return program
+
+
+def build_plain(folder, positions):
     rows, columns = GRIDS[positions]
-    sizes = [f"-DPOSITIONS={positions}", f"-DROWS={rows}", f"-DCOLUMNS={columns}"]
-    subprocess.run(["gcc", "-O2", *sizes, "-o", os.path.join(folder, f"plain{positions}"), source], check=True)
+    built(folder, f"plain{positions}", C_PROGRAM, f"-DPOSITIONS={positions}", f"-DROWS={rows}", f"-DCOLUMNS={columns}")
 
 
 def has_numpy():
     return subprocess.run([PYTHON, "-c", "import numpy"], capture_output=True).returncode == 0
+
+
+def show_large(bench, all_workers, wanted):
+    for positions, grid in GRIDS.items():
+        build_plain(bench.folder, positions)
+        for name, kernel in kernels(*grid).items():
+            if name in wanted:
+                bench.show(name, kernel, grid, all_workers)
+
+
+def show_small(bench, all_workers, wanted, sizes):
+    for blocks in sizes:
+        for name, kernel in kernels(blocks * BLOCK // COLUMNS, COLUMNS).items():
+            if name in wanted:
+                bench.show_small(name, kernel, blocks, all_workers)
+
+
+def show_machine(folder):
+    program = built(folder, "planes", PLANES_PROGRAM, "-pthread")
+    for line in timed([program], folder)[0].splitlines():
+        name, blocks, *times = line.split()
+        one, two, four = map(float, times)
+        shown = f"planes in C: {name:6} {int(blocks):5} blocks  one thread {one * 1e6:9.2f} us, two {two * 1e6:9.2f}, four {four * 1e6:9.2f}"
+        print(shown + ("" if name == "empty" else f"   {one / two:5.2f} and {one / four:5.2f} times as fast"), flush=True)
 
 
 def main():
@@ -353,17 +514,23 @@ def main():
     words.add_argument("binary", nargs="?", default=os.path.join(TOP, "crates", "cstar", "out", "cstar"), help="the built command")
     words.add_argument("--workers", default="1,2,4", help="numbers of workers, the first 1")
     words.add_argument("--only", help="kernels, with commas between")
+    words.add_argument("--tables", default="large,small,machine", help="which tables, with commas between")
+    words.add_argument("--sizes", default="2,4,8,16,32,63", help="blocks of the small sets")
     given = words.parse_args()
     all_workers = [int(word) for word in given.workers.split(",")]
+    wanted = given.only.split(",") if given.only else list(kernels(*GRIDS[32768]))
+    tables = given.tables.split(",")
     binary = os.path.abspath(given.binary)
-    print(f"command: {binary}; processors: {os.cpu_count()}", flush=True)
+    numpy = has_numpy()
+    print(f"command: {binary}; processors: {os.cpu_count()}; NumPy: {'yes' if numpy else 'not here'}", flush=True)
     with tempfile.TemporaryDirectory() as folder:
-        bench = Bench(binary, folder, has_numpy())
-        for positions, grid in GRIDS.items():
-            build_plain(folder, positions)
-            for name, kernel in kernels(*grid).items():
-                if not given.only or name in given.only.split(","):
-                    bench.show(name, kernel, grid, all_workers)
+        bench = Bench(binary, folder, numpy)
+        if "large" in tables:
+            show_large(bench, all_workers, wanted)
+        if "small" in tables:
+            show_small(bench, all_workers, wanted, [int(word) for word in given.sizes.split(",")])
+        if "machine" in tables:
+            show_machine(folder)
 
 
 if __name__ == "__main__":

@@ -23,6 +23,20 @@ impl Words {
         Words { values }
     }
 
+    /// The folded values, as a list of their own.
+    pub fn into_values(self) -> Vec<u32>
+        ensures { result.items ≡ self }
+    {
+        self.values
+    }
+
+    /// The folded values, that of target 0 first.
+    pub fn as_slice(&self) -> &[u32]
+        ensures { result.now ≡ self.now }
+    {
+        self.values.as_slice()
+    }
+
     /// The folded value of this target.
     pub fn get(&self, target: u32) -> u32
         requires { target < length self.now }

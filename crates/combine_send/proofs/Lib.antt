@@ -1,3 +1,4 @@
+pub mod Combining
 pub mod Board
 pub mod Filled
 pub mod Homes

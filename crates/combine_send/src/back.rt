@@ -24,7 +24,7 @@ use cstar_base::numbers::convert;
 use vp_sets::Geometry;
 
 /// The words of the positions of block `k`, converted to the type of the destination.
-fn converted_words(geometry: &Geometry, k: u32, kind: Elem, words: &Words) -> [u32; 512]
+fn converted_words(geometry: &Geometry, k: u32, kind: Elem, words: &[u32]) -> [u32; 512]
     requires block { k < block_count geometry.now }
     requires words { length words.now ≡ position_count geometry.now }
     ensures { (i : ℕ) → i < 512 → 512 * k + i < position_count geometry.now
@@ -33,13 +33,13 @@ fn converted_words(geometry: &Geometry, k: u32, kind: Elem, words: &Words) -> [u
     let (start, end) = geometry.block_range(k);
     let mut numbers = [0; 512];
     for i in 0..end - start {
-        numbers[i as usize] = convert(kind, Elem::INT, words.get(start + i));
+        numbers[i as usize] = convert(kind, Elem::INT, words[(start + i) as usize]);
     }
     numbers
 }
 
 /// The positions of block `k` take their words.
-fn take_words(block: &mut Block, k: u32, plan: &SetPlan, send: &Send, words: &Words)
+fn take_words(block: &mut Block, k: u32, plan: &SetPlan, send: &Send, words: &[u32])
     requires block { k < block_count plan.now.geometry }
     requires words { length words.now ≡ position_count plan.now.geometry }
     requires len { (1 ≤ send.now.dest.len) × (send.now.dest.len ≤ 32) }
@@ -53,7 +53,7 @@ fn take_words(block: &mut Block, k: u32, plan: &SetPlan, send: &Send, words: &Wo
 }
 
 /// The positions of a set take their words.
-fn take_all(set: &mut BlockSet, plan: &SetPlan, send: &Send, words: &Words)
+fn take_all(set: &mut BlockSet, plan: &SetPlan, send: &Send, words: &[u32])
     requires words { length words.now ≡ position_count plan.now.geometry }
     requires len { (1 ≤ send.now.dest.len) × (send.now.dest.len ≤ 32) }
     requires within { send.now.dest.offset + send.now.dest.len ≤ plan.now.bits }
@@ -66,6 +66,22 @@ fn take_all(set: &mut BlockSet, plan: &SetPlan, send: &Send, words: &Words)
     for k in 0..plan.geometry.block_count() {
         take_words(&mut set.blocks[k as usize], k, plan, send, words);
     }
+}
+
+/// Each position of the destination's set takes its word, as `write_back` says.
+pub(crate) fn put_back(store: &mut Store, send: &Send, words: &[u32])
+    requires whole { IsWhole store.old }
+    requires room { HasRoom store.old }
+    requires dest { LiesIn (shapes_in store.old) send.now.dest }
+    requires words { length words.now ≡ processors (shapes_in store.old) send.now.dest.set }
+    ensures whole { IsWhole store.new }
+    ensures room { HasRoom store.new }
+    ensures shapes { shapes_in store.new ≡ shapes_in store.old }
+    ensures memory { (w : Winner) → SameBits (shapes_in store.old) (memory_in store.new w)
+        (written (at_all send.now.dest (λ t. converted send.now.kind word_kind (slice_index words.now t))) (memory_in store.old w)) }
+{
+    let set = usize::from(send.dest.set);
+    take_all(&mut store.sets[set], &store.plans[set], send, words);
 }
 
 /// Each position of the destination's set takes its word, converted to the type of the destination,
@@ -81,6 +97,5 @@ pub fn write_back(store: &mut Store, send: &Send, words: &Words)
     ensures memory { (w : Winner) → SameBits (shapes_in store.old) (memory_in store.new w)
         (written (at_all send.now.dest (λ t. converted send.now.kind word_kind (slice_index words.now t))) (memory_in store.old w)) }
 {
-    let set = usize::from(send.dest.set);
-    take_all(&mut store.sets[set], &store.plans[set], send, words);
+    put_back(store, send, words.as_slice());
 }

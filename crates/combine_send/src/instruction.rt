@@ -1,12 +1,15 @@
 //! The instructions that send.
 
-ghost use Rattle.std.specs.Prelude.{◌≡◌, ℕ, List, true, ◌≤◌};
+ghost use Rattle.std.specs.Prelude.{◌≡◌, ℕ, List, true, ◌≤◌, IfOk};
 ghost use Rattle.paris_code.specs.Meaning.{Means};
 ghost use Rattle.paris_code.specs.declared.program.Reply.TheVariants as reply;
 ghost use Rattle.phase_meaning.specs.Apply.{CanApply, ReplyFits, is_send};
 ghost use Rattle.block_store.specs.Stored.{shapes_in, memory_in, IsWhole, HasRoom};
+ghost use Rattle.combine_send.specs.Alone.{AreWordsOf};
+ghost use Rattle.combine_send.specs.Sends.{SendFits};
 
-use crate::back::write_back;
+use crate::alone::words_by_one;
+use crate::back::put_back;
 use crate::ready::{go, prepare};
 use crate::send::Send;
 use block_store::Store;
@@ -15,6 +18,29 @@ use cstar_io::Gate;
 use paris_code::{Instr, Reply};
 use std::alloc::Global;
 use std::thread::Threads;
+
+/// The words of all targets once all messages are combined: by one worker in plain words, and by
+/// several on a board, each message by one atomic operation. `Memory` is want of memory alone.
+fn words_sent<R: Threads + Sync, G: Gate + Sync>(
+    rt: &R,
+    alloc: Global,
+    store: &Store,
+    send: &Send,
+    workers: u32,
+    gate: &G,
+    winner: Winner,
+) -> Result<Vec<u32>, Memory>
+    requires whole { IsWhole store.now }
+    requires send { SendFits (shapes_in store.now) send.now }
+    requires workers { (1 ≤ workers) × (workers ≤ 64) }
+    ensures { IfOk result (λ words. AreWordsOf (shapes_in store.now) (memory_in store.now winner) send.now words.items) }
+{
+    if workers == 1 {
+        return words_by_one(alloc, store, send, gate, winner);
+    }
+    let ready = prepare(rt, alloc, store, send, workers, gate, winner)?;
+    Ok(go(rt, ready, workers, gate).into_values())
+}
 
 /// Does a send, by so many workers; it reads no register. It takes memory, and where there is none
 /// the reply is `Memory` and the store is as it was.
@@ -42,10 +68,9 @@ pub fn run<R: Threads + Sync, G: Gate + Sync>(
     let Some(send) = Send::of(instr) else {
         return Reply::Nothing;
     };
-    match prepare(rt, alloc, store, &send, workers, gate, winner) {
-        Ok(ready) => {
-            let words = go(rt, ready, workers, gate);
-            write_back(store, &send, &words);
+    match words_sent(rt, alloc, store, &send, workers, gate, winner) {
+        Ok(words) => {
+            put_back(store, &send, words.as_slice());
             Reply::Nothing
         }
         Err(Memory) => Reply::Memory,

@@ -34,7 +34,7 @@ pub enum Ready {
 }
 
 /// The kind of board that a send asks for.
-fn kind_for(combiner: Option<Reduction>, winner: Winner) -> Kind
+pub(crate) fn kind_for(combiner: Option<Reduction>, winner: Winner) -> Kind
     ensures { result ≡ kind_for combiner winner }
 {
     match (combiner, winner) {

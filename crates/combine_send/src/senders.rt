@@ -28,7 +28,14 @@ pub(crate) struct Senders<'a> {
 }
 
 /// The message of a sender: none if it is not active, or if there is no position of its address.
-fn message(active: bool, sender: u32, address: u32, value: u32, count: u32) -> Option<Message>
+#[inline(always)]
+pub(crate) fn message(
+    active: bool,
+    sender: u32,
+    address: u32,
+    value: u32,
+    count: u32,
+) -> Option<Message>
     requires { sender < 2 ^ 32 - 1 }
     ensures { Sends active sender address value count result }
 {
@@ -45,7 +52,7 @@ fn message(active: bool, sender: u32, address: u32, value: u32, count: u32) -> O
 
 /// Whether a lane of a plane is 1, by the words of the plane.
 #[inline(always)]
-fn is_one(words: &[u64; 8], i: usize) -> bool
+pub(crate) fn is_one(words: &[u64; 8], i: usize) -> bool
     requires { i < 512 }
     ensures { result ≡ (bit words.now i == 1) }
 {

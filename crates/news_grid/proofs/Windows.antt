@@ -1,24 +1,22 @@
 -- Lanes of planes side by side, and of windows on the planes that are held.
-use Rattle.std.proofs.Common.{◌≡◌, ℕ, zero, suc, ◌+◌, ◌-◌, ◌*◌, ◌/◌, ◌%◌, ◌^◌, ◌<◌, ◌≤◌, true, false, cond, eqb, ltb, max, min, List, [], ◌∷◌, length, get_or, sym, ◌∙◌, ap, subst, inl, inr, zero-add, arith}
+use Rattle.std.proofs.Common.{◌≡◌, ℕ, zero, suc, eqb, ◌⊎◌, ◌+◌, ◌-◌, ◌*◌, ◌/◌, ◌%◌, ◌^◌, ◌<◌, ◌≤◌, cond, ltb, max, min, List, [], ◌∷◌, length, get_or, sym, ◌∙◌, ap, subst, inl, inr, zero-add, arith}
 use Rattle.std.specs.Int.{bit_at}
-use Rattle.std.specs.Prelude.{bit_or}
 use Rattle.std.proofs.Math.Nat.{mod-eq_of_lt, add-mul-mod_self_right}
 use Rattle.std.proofs.lemmas.Bool.{cases_lt, cases_eq, eq-eqb, ne_eqb}
 use Rattle.std.proofs.lemmas.List.{get_or-map}
-use Rattle.std.proofs.lemmas.Nat.{pow_pos}
-use Rattle.std.proofs.lemmas.Nat.Bits.{bit_at_or, bit_at_above}
-use Rattle.cstar_base.proofs.BitCuts.{bit_at-cut, bit_at-shr}
-use Rattle.bit_planes.proofs.Planes.{number-bits, number-lt}
-use Rattle.bit_planes.proofs.Words.{bit_at-shl_low, bit_at-shl_high}
+use Rattle.bit_planes.proofs.Planes.{number-bits, number-lt, number-same}
+use Rattle.bit_planes.proofs.Words.{bit-lt}
 use Rattle.bit_planes.specs.declared.plane.Plane.{Plane}
 use Rattle.bit_planes.specs.Bits.{bit}
 use Rattle.bit_planes.specs.Planes.{plane_at, number}
+use Rattle.lane_kernels.specs.declared.target.Target.{Target}
+use Rattle.lane_kernels.specs.Kernels.{Becomes}
 use Rattle.lane_kernels.specs.Numbers.{ones_before}
 use Rattle.phase_meaning.proofs.Tests.{less, not_less}
 use Rattle.block_store.specs.declared.set.Cell.{Cell}
 use Rattle.news_grid.specs.declared.window.Turn.{Turn}
 use Rattle.news_grid.specs.declared.window.Window.{Window}
-use Rattle.news_grid.specs.Steps.{number_taken, seen_through, planes_in_cell, planes_held, number_held, number_seen, beside, Views}
+use Rattle.news_grid.specs.Steps.{number_taken, planes_in_cell, planes_held, number_held, number_seen, beside, Views}
 
 -- a word of the first plane, or of the second
 pub word_low : (low high : List ℕ) (at : ℕ) → at < 8 → (i : ℕ) → i < 64 → bit_at (get_or low at 0) i ≡ beside low high (64 * at + i)
@@ -36,36 +34,12 @@ word_high low high at b i ib =
     ∙ ap (λ j. bit_at (get_or high (n / 64) 0) j) (let e : i ≡ n % 64 = omega arith in e)
     ∙ not_less (64 * at + i) 512 (bit low (64 * at + i)) (bit high n) (omega arith)
 
--- two words, shifted and put together
-pub shifted_pair : (low high from : ℕ) → low < 2 ^ 64 → from < 64 → 0 < from → (i : ℕ) → i < 64
-    → bit_at (bit_or (low / 2 ^ from) (high * 2 ^ (64 - from) % 2 ^ 64)) i ≡ cond (ltb (from + i) 64) (bit_at low (from + i)) (bit_at high (from + i - 64))
-shifted_pair low high from fits f p i ib =
-    let cut : bit_at (high * 2 ^ (64 - from) % 2 ^ 64) i ≡ bit_at (high * 2 ^ (64 - from)) i = bit_at-cut (high * 2 ^ (64 - from)) 64 i ib in
-    bit_at_or (low / 2 ^ from) (high * 2 ^ (64 - from) % 2 ^ 64) i
-    ∙ ap (λ x. max x (bit_at (high * 2 ^ (64 - from) % 2 ^ 64) i)) (bit_at-shr low from i)
-    ∙ ap (max (bit_at low (from + i))) cut
-    ∙ elim (cases_lt (from + i) 64) [
-      | inl l ↦ ap (max (bit_at low (from + i))) (bit_at-shl_low high (64 - from) i (omega arith)) ∙ (let e : max (bit_at low (from + i)) 0 ≡ bit_at low (from + i) = omega arith in e)
-          ∙ less (from + i) 64 (bit_at low (from + i)) (bit_at high (from + i - 64)) l
-      | inr g ↦ ap (λ x. max x (bit_at (high * 2 ^ (64 - from)) i)) (bit_at_above low 64 (from + i) fits g)
-          ∙ ap (max 0) (bit_at-shl_high high (64 - from) i (pow_pos (64 - from)) (omega arith) ∙ ap (bit_at high) (let e : i - (64 - from) ≡ from + i - 64 = omega arith in e))
-          ∙ (let e : max 0 (bit_at high (from + i - 64)) ≡ bit_at high (from + i - 64) = omega arith in e)
-          ∙ not_less (from + i) 64 (bit_at low (from + i)) (bit_at high (from + i - 64)) g
-    ]
+abbrev pub WordFrom : List ℕ → List ℕ → ℕ → ℕ → ℕ → Type 0
+WordFrom low high from x w = (i : ℕ) → i < 64 → bit_at x i ≡ beside low high (from + 64 * w + i)
 
--- a word of the lanes that begin at a lane
-pub word_is : (low high : List ℕ) (from w a b x : ℕ)
-    → ((i : ℕ) → i < 64 → bit_at a i ≡ beside low high (64 * (from / 64 + w) + i)) → ((i : ℕ) → i < 64 → bit_at b i ≡ beside low high (64 * (from / 64 + w + 1) + i))
-    → ((i : ℕ) → i < 64 → bit_at x i ≡ cond (ltb (from % 64 + i) 64) (bit_at a (from % 64 + i)) (bit_at b (from % 64 + i - 64)))
-    → (i : ℕ) → i < 64 → bit_at x i ≡ beside low high (from + 64 * w + i)
-word_is low high from w a b x is_a is_b is_x i ib =
-    let r : ℕ = from % 64 in
-    is_x i ib ∙ elim (cases_lt (r + i) 64) [
-      | inl l ↦ sym (less (r + i) 64 (bit_at a (r + i)) (bit_at b (r + i - 64)) l) ∙ is_a (r + i) l
-          ∙ ap (beside low high) (let q : 64 * (from / 64 + w) + (r + i) ≡ from + 64 * w + i = omega arith in q)
-      | inr g ↦ sym (not_less (r + i) 64 (bit_at a (r + i)) (bit_at b (r + i - 64)) g) ∙ is_b (r + i - 64) (omega arith)
-          ∙ ap (beside low high) (let q : 64 * (from / 64 + w + 1) + (r + i - 64) ≡ from + 64 * w + i = omega (arith, g) in q)
-    ]
+-- the word so many behind another
+pub word_behind : (low high : List ℕ) (skip w at x : ℕ) → at ≡ skip + w → ((i : ℕ) → i < 64 → bit_at x i ≡ beside low high (64 * at + i)) → WordFrom low high (64 * skip) x w
+word_behind low high skip w at x e is i ib = is i ib ∙ ap (beside low high) (let q : 64 * at + i ≡ 64 * skip + 64 * w + i = omega (arith, e) in q)
 
 -- eight words, each by its place
 eight : (P : ℕ → ℕ → Type 0) (a b c d e g h k : ℕ) → P a 0 → P b 1 → P c 2 → P d 3 → P e 4 → P g 5 → P h 6 → P k 7 → (w : ℕ) → w < 8 → P (get_or (a ∷ b ∷ c ∷ d ∷ e ∷ g ∷ h ∷ k ∷ []) w 0) w
@@ -79,9 +53,6 @@ eight P a b c d e g h k p0 p1 p2 p3 p4 p5 p6 p7 (suc (suc (suc (suc (suc (suc ze
 eight P a b c d e g h k p0 p1 p2 p3 p4 p5 p6 p7 (suc (suc (suc (suc (suc (suc (suc zero))))))) l = p7
 eight P a b c d e g h k p0 p1 p2 p3 p4 p5 p6 p7 (suc (suc (suc (suc (suc (suc (suc (suc w)))))))) l = absurd (omega arith)
 
-abbrev pub WordFrom : List ℕ → List ℕ → ℕ → ℕ → ℕ → Type 0
-WordFrom low high from x w = (i : ℕ) → i < 64 → bit_at x i ≡ beside low high (from + 64 * w + i)
-
 pub all_words : (low high : List ℕ) (from a b c d e g h k : ℕ) → WordFrom low high from a 0 → WordFrom low high from b 1 → WordFrom low high from c 2 → WordFrom low high from d 3
     → WordFrom low high from e 4 → WordFrom low high from g 5 → WordFrom low high from h 6 → WordFrom low high from k 7
     → (i : ℕ) → i < 512 → bit (a ∷ b ∷ c ∷ d ∷ e ∷ g ∷ h ∷ k ∷ []) i ≡ beside low high (from + i)
@@ -89,6 +60,30 @@ unfolding bit
 all_words low high from a b c d e g h k p0 p1 p2 p3 p4 p5 p6 p7 i ib =
     eight (WordFrom low high from) a b c d e g h k p0 p1 p2 p3 p4 p5 p6 p7 (i / 64) (omega arith) (i % 64) (omega arith)
     ∙ ap (beside low high) (let q : from + 64 * (i / 64) + i % 64 ≡ from + i = omega arith in q)
+
+-- the lanes that begin at a word, and those some lanes behind it
+pub lanes_shifted : (low high first next up down x : List ℕ) (skip by : ℕ) → skip < 8 → by < 64
+    → ((i : ℕ) → i < 512 → bit first i ≡ beside low high (64 * skip + i)) → ((i : ℕ) → i < 512 → bit next i ≡ beside low high (64 * (skip + 1) + i))
+    → ((i : ℕ) → i < 512 → bit down i ≡ cond (ltb (i % 64 + by) 64) (bit first (i + by)) 0)
+    → ((i : ℕ) → i < 512 → bit up i ≡ cond (ltb (i % 64) (64 - by)) 0 (bit next (i - (64 - by))))
+    → ((i : ℕ) → i < 512 → bit x i ≡ max (bit down i) (bit up i))
+    → (i : ℕ) → i < 512 → bit x i ≡ beside low high (64 * skip + by + i)
+lanes_shifted low high first next up down x skip by sb bb is_first is_next is_down is_up is i ib =
+    is i ib ∙ ap (λ d. max d (bit up i)) (is_down i ib) ∙ ap (max (cond (ltb (i % 64 + by) 64) (bit first (i + by)) 0)) (is_up i ib)
+    ∙ elim (cases_lt (i % 64 + by) 64) [
+      | inl l ↦
+          ap (λ d. max d (cond (ltb (i % 64) (64 - by)) 0 (bit next (i - (64 - by))))) (sym (less (i % 64 + by) 64 (bit first (i + by)) 0 l))
+          ∙ ap (max (bit first (i + by))) (sym (less (i % 64) (64 - by) 0 (bit next (i - (64 - by))) (omega (arith, l, bb))))
+          ∙ (let e : max (bit first (i + by)) 0 ≡ bit first (i + by) = omega arith in e)
+          ∙ is_first (i + by) (omega (arith, l, ib))
+          ∙ ap (beside low high) (let q : 64 * skip + (i + by) ≡ 64 * skip + by + i = omega arith in q)
+      | inr g ↦
+          ap (λ d. max d (cond (ltb (i % 64) (64 - by)) 0 (bit next (i - (64 - by))))) (sym (not_less (i % 64 + by) 64 (bit first (i + by)) 0 g))
+          ∙ ap (max 0) (sym (not_less (i % 64) (64 - by) 0 (bit next (i - (64 - by))) (omega (arith, g, bb))))
+          ∙ (let e : max 0 (bit next (i - (64 - by))) ≡ bit next (i - (64 - by)) = omega arith in e)
+          ∙ is_next (i - (64 - by)) (omega (arith, ib))
+          ∙ ap (beside low high) (let q : 64 * (skip + 1) + (i - (64 - by)) ≡ 64 * skip + by + i = omega (arith, g, bb) in q)
+    ]
 
 -- a plane of a cell that was read
 pub plane_held : (cells : List Cell) (k j : ℕ) (none : Cell) → k < length cells → plane_at (get_or cells k none).planes j ≡ plane_at (planes_held cells k) j
@@ -139,34 +134,30 @@ seen-lt cells window len i =
       | inr g ↦ subst (λ x. x < 2 ^ len) (not_less n 512 low high g) (number-lt (planes_held cells window.next) 0 len (n - 512))
     ]
 
--- a bit of the number that a lane takes
-pub taken_bit : (cells : List Cell) (turn : Turn) (len i j : ℕ) → j < len
-    → bit_at (number_taken cells turn len i) j ≡ cond (eqb (bit turn.crossing i) 1) (seen_through turn.round cells j i) (seen_through turn.staying cells j i)
-taken_bit cells turn len i j jb = elim (cases_eq (bit turn.crossing i) 1) [
-  | inl e ↦
-      let on : eqb (bit turn.crossing i) 1 ≡ true = eq-eqb (bit turn.crossing i) 1 e in
-      ap (λ t. bit_at (cond t (number_seen cells turn.round len i) (number_seen cells turn.staying len i)) j) on ∙ seen_bit cells turn.round len i j jb
-      ∙ sym (ap (λ t. cond t (seen_through turn.round cells j i) (seen_through turn.staying cells j i)) on)
-  | inr n ↦
-      let off : eqb (bit turn.crossing i) 1 ≡ false = ne_eqb (bit turn.crossing i) 1 n in
-      ap (λ t. bit_at (cond t (number_seen cells turn.round len i) (number_seen cells turn.staying len i)) j) off ∙ seen_bit cells turn.staying len i j jb
-      ∙ sym (ap (λ t. cond t (seen_through turn.round cells j i) (seen_through turn.staying cells j i)) off)
-]
-
--- it fits
-pub taken-lt : (cells : List Cell) (turn : Turn) (len i : ℕ) → number_taken cells turn len i < 2 ^ len
-taken-lt cells turn len i = elim (eqb (bit turn.crossing i) 1) as (λ t. cond t (number_seen cells turn.round len i) (number_seen cells turn.staying len i) < 2 ^ len) [
-  | true ↦ seen-lt cells turn.round len i
-  | false ↦ seen-lt cells turn.staying len i
-]
-
--- the planes of two windows, one in the lanes of a mask and one in the others
-pub chosen_bit : (mask one other x : ℕ) (one_is other_is : ℕ) → mask < 2 → one < 2 → other < 2 → one ≡ one_is → other ≡ other_is → x ≡ max (min mask one) (min (1 - mask) other)
-    → x ≡ cond (eqb mask 1) one_is other_is
-chosen_bit mask one other x one_is other_is small a b e f is = is ∙ elim (cases_eq mask 1) [
-  | inl on ↦ (let q : max (min mask one) (min (1 - mask) other) ≡ one_is = omega (arith, on, a, e) in q) ∙ sym (ap (λ t. cond t one_is other_is) (eq-eqb mask 1 on))
-  | inr n ↦ (let q : max (min mask one) (min (1 - mask) other) ≡ other_is = omega (arith, n, small, b, f) in q) ∙ sym (ap (λ t. cond t one_is other_is) (ne_eqb mask 1 n))
-]
+-- what one window puts in some lanes and another in the others of a target is what a turn takes
+pub both_put : (cells : List Cell) (turn : Turn) (to staying round : Target) (old mid new : List Plane)
+    → staying.offset ≡ to.offset → staying.len ≡ to.len → round.offset ≡ to.offset → round.len ≡ to.len
+    → ((i : ℕ) → i < 512 → bit staying.lanes i ≡ min (bit to.lanes i) (1 - bit turn.crossing i)) → ((i : ℕ) → i < 512 → bit round.lanes i ≡ min (bit to.lanes i) (bit turn.crossing i))
+    → Becomes staying (λ i. number_seen cells turn.staying staying.len i) old mid → Becomes round (λ i. number_seen cells turn.round round.len i) mid new
+    → Becomes to (λ i. number_taken cells turn to.len i) old new
+both_put cells turn to staying round old mid new so sl ro rl stays rounds first second = record {
+  long = second.long ∙ first.long;
+  written = λ i ib on. elim (cases_eq (bit turn.crossing i) 1) [
+    | inl e ↦
+        let it : bit round.lanes i ≡ 1 = omega (arith, rounds i ib, on, e) in
+        ap (λ o. number new o to.len i) (sym ro) ∙ ap (λ n. number new round.offset n i) (sym rl) ∙ second.written i ib it ∙ ap (λ n. number_seen cells turn.round n i) rl
+        ∙ sym (ap (λ t. cond t (number_seen cells turn.round to.len i) (number_seen cells turn.staying to.len i)) (eq-eqb (bit turn.crossing i) 1 e))
+    | inr n ↦
+        let out : bit round.lanes i ≡ 0 = omega (arith, rounds i ib, on, n, bit-lt turn.crossing i) in
+        let it : bit staying.lanes i ≡ 1 = omega (arith, stays i ib, on, n, bit-lt turn.crossing i) in
+        number-same new mid to.offset to.offset to.len i (λ j jb. second.kept (to.offset + j) i ib out)
+        ∙ ap (λ o. number mid o to.len i) (sym so) ∙ ap (λ n. number mid staying.offset n i) (sym sl) ∙ first.written i ib it ∙ ap (λ n. number_seen cells turn.staying n i) sl
+        ∙ sym (ap (λ t. cond t (number_seen cells turn.round to.len i) (number_seen cells turn.staying to.len i)) (ne_eqb (bit turn.crossing i) 1 n))
+  ];
+  kept = λ j i ib off. second.kept j i ib (omega (arith, rounds i ib, off)) ∙ first.kept j i ib (omega (arith, stays i ib, off));
+  outside = λ j far. second.outside j (subst (λ o. (j < o) ⊎ (o + round.len ≤ j)) (sym ro) (subst (λ n. (j < to.offset) ⊎ (to.offset + n ≤ j)) (sym rl) far))
+      ∙ first.outside j (subst (λ o. (j < o) ⊎ (o + staying.len ≤ j)) (sym so) (subst (λ n. (j < to.offset) ⊎ (to.offset + n ≤ j)) (sym sl) far));
+}
 
 -- where none is 1, each is 0
 pub no_lane : (mask : List ℕ) (n i : ℕ) → 0 ≡ ones_before mask n → i < n → bit mask i ≡ 0

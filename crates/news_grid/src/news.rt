@@ -1,6 +1,6 @@
 //! A NEWS shift over all blocks of a set, by planes.
 
-ghost use Rattle.std.specs.Prelude.{◌≡◌, ℕ, ◌<◌, ◌≤◌, ◌+◌, ◌*◌, ◌^◌, length, slice_index_or};
+ghost use Rattle.std.specs.Prelude.{◌≡◌, ℕ, ◌<◌, ◌≤◌, ◌+◌, ◌*◌, ◌/◌, ◌^◌, length, slice_index_or};
 ghost use Rattle.cstar_base.specs.declared.operators.Winner.{Winner};
 ghost use Rattle.bit_planes.specs.declared.block.Block.{Block};
 ghost use Rattle.bit_planes.specs.Planes.{number};
@@ -20,6 +20,7 @@ ghost use Rattle.news_grid.specs.Takings.{TakingFits, Stepped};
 
 use crate::step::Step;
 use crate::window::{Turn, Window};
+use bit_planes::plane::{both, opposite};
 use bit_planes::{Block, Plane};
 use block_store::{BlockSet, Cell, Room, SetPlan, Store, taking_lanes};
 use cstar_io::Gate;
@@ -89,37 +90,56 @@ pub fn hold<R: Threads + Sync>(rt: &R, set: &BlockSet, room: &mut Room, field: F
     );
 }
 
-/// The target becomes, in its lanes, what a window shows of the planes that the cells hold.
-fn put_window(planes: &mut [Plane], to: &Target, cells: &[Cell], window: &Window)
+/// The target becomes, in its lanes, what a window shows of the planes that the cells hold; the window
+/// begins in this word of its first block.
+#[inline(always)]
+fn put_from(planes: &mut [Plane], to: &Target, cells: &[Cell], window: &Window, word: usize)
     requires target { HasTarget to.now planes.old }
     requires cells { HasCells window.now cells.now }
+    requires word { word ≡ window.now.from / 64 }
     ensures { Becomes to.now (λ i. number_seen cells.now window.now to.now.len i) planes.old planes.new }
 {
     for j in 0..to.len as usize {
         write(
             planes,
             to.offset as usize + j,
-            window.plane(cells, j),
+            window.plane(cells, j, word),
             to.lanes,
         );
     }
 }
 
-/// The same of the two windows of a turn.
+/// The target becomes, in its lanes, what a window shows of the planes that the cells hold: by a loop
+/// of its own for each word in which the window may begin.
+fn put_window(planes: &mut [Plane], to: &Target, cells: &[Cell], window: &Window)
+    requires target { HasTarget to.now planes.old }
+    requires cells { HasCells window.now cells.now }
+    ensures { Becomes to.now (λ i. number_seen cells.now window.now to.now.len i) planes.old planes.new }
+{
+    match window.word() {
+        0 => put_from(planes, to, cells, window, 0),
+        1 => put_from(planes, to, cells, window, 1),
+        2 => put_from(planes, to, cells, window, 2),
+        3 => put_from(planes, to, cells, window, 3),
+        4 => put_from(planes, to, cells, window, 4),
+        5 => put_from(planes, to, cells, window, 5),
+        6 => put_from(planes, to, cells, window, 6),
+        _ => put_from(planes, to, cells, window, 7),
+    }
+}
+
+/// The same of the two windows of a turn, one after the other.
 fn put_both(planes: &mut [Plane], to: &Target, cells: &[Cell], turn: &Turn)
     requires target { HasTarget to.now planes.old }
     requires staying { HasCells turn.now.staying cells.now }
     requires round { HasCells turn.now.round cells.now }
     ensures { Becomes to.now (λ i. number_taken cells.now turn.now to.now.len i) planes.old planes.new }
 {
-    for j in 0..to.len as usize {
-        write(
-            planes,
-            to.offset as usize + j,
-            turn.plane(cells, j),
-            to.lanes,
-        );
-    }
+    let staying = both(to.lanes, opposite(turn.crossing));
+    let staying = Target::at(to.offset, to.len, staying);
+    put_window(planes, &staying, cells, &turn.staying);
+    let round = Target::at(to.offset, to.len, both(to.lanes, turn.crossing));
+    put_window(planes, &round, cells, &turn.round);
 }
 
 /// The same, and where no lane crosses the end of its turn, through the one window alone.

@@ -1,12 +1,12 @@
 //! Windows of 512 lanes on the planes that the room holds, from any lane on.
 
-ghost use Rattle.std.specs.Prelude.{◌≡◌, ◌==◌, ℕ, ◌<◌, ◌≤◌, ◌+◌, ◌-◌, ◌*◌, ◌/◌, ◌%◌, length, nat_lt, if◌then◌else◌};
+ghost use Rattle.std.specs.Prelude.{◌≡◌, ℕ, ◌<◌, ◌≤◌, ◌+◌, ◌*◌, ◌/◌, ◌%◌};
 ghost use Rattle.std.specs.Int.{bit_at};
 ghost use Rattle.bit_planes.specs.Bits.{bit};
 ghost use Rattle.bit_planes.specs.Planes.{plane_at};
 ghost use Rattle.news_grid.specs.Steps.{beside, planes_held, seen_through, HasCells, Views};
 
-use bit_planes::plane::{both, either, opposite};
+use bit_planes::plane::{either, moved_down, moved_up};
 use block_store::Cell;
 use std::simd::prelude::*;
 use vp_sets::BLOCK_SIZE;
@@ -20,49 +20,47 @@ fn word_beside(low: &[u64; 8], high: &[u64; 8], at: usize) -> u64
     if at < 8 { low[at] } else { high[at - 8] }
 }
 
-/// The 64 bits of two words side by side that begin at a bit of the first.
+/// The eight words of two planes side by side that begin at word `skip` of the first.
 #[inline(always)]
-fn joined(low: u64, high: u64, from: u32) -> u64
-    requires { from < 64 }
-    ensures { (i : ℕ) → i < 64 → bit_at result i ≡ (if nat_lt (from + i) 64 then bit_at low (from + i) else bit_at high (from + i - 64)) }
-{
-    if from == 0 {
-        return low;
-    }
-    (low >> from) | (high << (64 - from))
-}
-
-/// One of the 8 words of the lanes that begin at a lane of the first of two planes side by side.
-#[inline(always)]
-fn word_from(low: &[u64; 8], high: &[u64; 8], from: u32, word: usize) -> u64
-    requires { (from < 512) × (word < 8) }
-    ensures { (i : ℕ) → i < 64 → bit_at result i ≡ beside low.now high.now (from + 64 * word + i) }
-{
-    let at = from as usize / 64 + word;
-    let first = word_beside(low, high, at);
-    let next = word_beside(low, high, at + 1);
-    joined(first, next, from % 64)
-}
-
-/// The 512 lanes of two planes side by side that begin at a lane of the first: by whole words
-/// where they begin at one, and else with shifts.
-#[inline(always)]
-pub(crate) fn lanes_beside(low: u64x8, high: u64x8, from: u32) -> u64x8
-    requires { from < 512 }
-    ensures { (i : ℕ) → i < 512 → bit result i ≡ beside low high (from + i) }
+fn words_beside(low: u64x8, high: u64x8, skip: usize) -> u64x8
+    requires { skip ≤ 8 }
+    ensures { (i : ℕ) → i < 512 → bit result i ≡ beside low high (64 * skip + i) }
 {
     let low = low.to_array();
     let high = high.to_array();
     u64x8::from_array([
-        word_from(&low, &high, from, 0),
-        word_from(&low, &high, from, 1),
-        word_from(&low, &high, from, 2),
-        word_from(&low, &high, from, 3),
-        word_from(&low, &high, from, 4),
-        word_from(&low, &high, from, 5),
-        word_from(&low, &high, from, 6),
-        word_from(&low, &high, from, 7),
+        word_beside(&low, &high, skip),
+        word_beside(&low, &high, skip + 1),
+        word_beside(&low, &high, skip + 2),
+        word_beside(&low, &high, skip + 3),
+        word_beside(&low, &high, skip + 4),
+        word_beside(&low, &high, skip + 5),
+        word_beside(&low, &high, skip + 6),
+        word_beside(&low, &high, skip + 7),
     ])
+}
+
+/// The 512 lanes of two planes side by side that begin `by` lanes behind word `skip` of the first: by
+/// whole words where they begin at one, and else with shifts.
+#[inline(always)]
+fn lanes_behind(low: u64x8, high: u64x8, skip: usize, by: u32) -> u64x8
+    requires { (skip < 8) × (by < 64) }
+    ensures { (i : ℕ) → i < 512 → bit result i ≡ beside low high (64 * skip + by + i) }
+{
+    let first = words_beside(low, high, skip);
+    if by == 0 {
+        return first;
+    }
+    let next = words_beside(low, high, skip + 1);
+    either(moved_down(first, by as u64), moved_up(next, 64 - by as u64))
+}
+
+/// The 512 lanes of two planes side by side that begin at a lane of the first.
+pub(crate) fn lanes_beside(low: u64x8, high: u64x8, from: u32) -> u64x8
+    requires { from < 512 }
+    ensures { (i : ℕ) → i < 512 → bit result i ≡ beside low high (from + i) }
+{
+    lanes_behind(low, high, from as usize / 64, from % 64)
 }
 
 /// 512 lanes of a set, from a lane on and round its end: they begin in one block and end in the
@@ -88,18 +86,30 @@ impl Window {
         }
     }
 
-    /// Its lanes on a plane that the cells hold: nothing is shifted where it begins with a block.
+    /// The word of the first block in which it begins.
+    pub(crate) fn word(&self) -> usize
+        requires { self.now.from < 512 }
+        ensures is { result ≡ self.now.from / 64 }
+        ensures few { result < 8 }
+    {
+        self.from as usize / 64
+    }
+
+    /// Its lanes on a plane that the cells hold, where it begins in this word. In a loop over planes the
+    /// word is to be a constant: then the words of a plane are picked without a look at where.
     #[inline(always)]
-    pub(crate) fn plane(&self, cells: &[Cell], j: usize) -> u64x8
+    pub(crate) fn plane(&self, cells: &[Cell], j: usize, word: usize) -> u64x8
         requires plane { j < 32 }
-        requires cells { (self.now.first < length cells.now) × (self.now.next < length cells.now) × (self.now.from < 512) }
+        requires cells { HasCells self.now cells.now }
+        requires word { word ≡ self.now.from / 64 }
         ensures { (i : ℕ) → i < 512 → bit result i ≡ seen_through self.now cells.now j i }
     {
-        let first = cells[self.first].planes[j].bits;
-        if self.from == 0 {
-            return first;
-        }
-        lanes_beside(first, cells[self.next].planes[j].bits, self.from)
+        lanes_behind(
+            cells[self.first].planes[j].bits,
+            cells[self.next].planes[j].bits,
+            word,
+            self.from % 64,
+        )
     }
 }
 
@@ -110,21 +120,4 @@ pub(crate) struct Turn {
     pub(crate) staying: Window,
     pub(crate) round: Window,
     pub(crate) crossing: u64x8,
-}
-
-impl Turn {
-    /// Its lanes on a plane that the cells hold.
-    #[inline(always)]
-    pub(crate) fn plane(&self, cells: &[Cell], j: usize) -> u64x8
-        requires plane { j < 32 }
-        requires staying { HasCells self.now.staying cells.now }
-        requires round { HasCells self.now.round cells.now }
-        ensures { (i : ℕ) → i < 512
-            → bit result i ≡ (if bit self.now.crossing i == 1 then seen_through self.now.round cells.now j i else seen_through self.now.staying cells.now j i) }
-    {
-        either(
-            both(self.crossing, self.round.plane(cells, j)),
-            both(opposite(self.crossing), self.staying.plane(cells, j)),
-        )
-    }
 }

@@ -15,7 +15,7 @@ ghost use Rattle.reduce_scan.specs.Parts.{AreLines, CanScan, FitsBelow};
 
 use crate::cuts::cuts;
 use crate::lines::{LineScan, Lines, Scan, steps_before};
-use crate::words::words_or;
+use crate::words::rows_or;
 use bit_planes::plane::lane;
 use bit_planes::{Block, Plane};
 use block_store::{BlockSet, Cell, Room, put_words};
@@ -47,7 +47,7 @@ fn hold_block(set: &BlockSet, scan: &Scan, lines: &Lines, k: u32, cell: &mut Cel
     let block = &set.blocks[k as usize];
     let (combine, unsigned) = scan.combiner.combiner();
     let none = identity(combine, unsigned);
-    let words = words_or(block, scan.source.offset, scan.context, none);
+    let words = rows_or(block, scan.source.offset, scan.context, none).values();
     keep(cell, words, cuts(set, scan, lines, k));
 }
 

@@ -3,6 +3,7 @@
 ghost use Rattle.std.specs.Prelude.{◌≡◌, ℕ, ◌<◌, ◌≤◌, ◌+◌, ◌*◌, ◌%◌, ◌^◌, ◌==◌, Bool, IfSome, length, slice_index, slice_index_or, if◌then◌else◌};
 ghost use Rattle.bit_planes.specs.Bits.{bit};
 ghost use Rattle.bit_planes.specs.Planes.{plane_at};
+ghost use Rattle.bit_planes.specs.Rows.{held};
 ghost use Rattle.cstar_base.specs.Folds.{identity_of};
 ghost use Rattle.cstar_base.specs.Orders.{any_of};
 ghost use Rattle.paris_code.specs.Operators.{combiner_of};
@@ -15,14 +16,14 @@ ghost use Rattle.reduce_scan.specs.WithinBlocks.{begins_in, bit_in, cut_in, fold
 
 use crate::folds::FieldFold;
 use crate::lines::{LineScan, Scan};
-use crate::words::{Run, words_or};
-use bit_planes::Block;
+use crate::words::{Run, rows_or};
 use bit_planes::plane::{both, either, repeated, with_lane};
-use block_store::{BlockSet, Cell, Room, put_words};
+use bit_planes::{Block, Rows};
+use block_store::{BlockSet, Cell, Room};
 use cstar_base::numbers::identity;
 use cstar_base::{Inclusion, SegmentMode};
 use cstar_io::Gate;
-use lane_kernels::count;
+use lane_kernels::{Target, count, in_place};
 use paris_code::Field;
 use std::simd::prelude::*;
 use std::thread;
@@ -100,7 +101,7 @@ pub(crate) fn fold_own(block: &Block, k: u32, scan: &Scan, extent: u32) -> (u32,
     }
     let (combine, unsigned) = scan.combiner.combiner();
     let start = identity(combine, unsigned);
-    let mut words = words_or(block, scan.source.offset, scan.context, start);
+    let mut words = rows_or(block, scan.source.offset, scan.context, start).values();
     let run = Run {
         combiner: scan.combiner,
         inclusion: Inclusion::Exclusive,
@@ -108,6 +109,16 @@ pub(crate) fn fold_own(block: &Block, k: u32, scan: &Scan, extent: u32) -> (u32,
         cuts,
     };
     (run.over(&mut words), true)
+}
+
+/// Makes a field of a block the numbers that rows hold, in these lanes.
+fn put_rows(block: &mut Block, dest: Field, lanes: u64x8, rows: Rows)
+    requires len { (1 ≤ dest.len) × (dest.len ≤ 32) }
+    requires within { dest.offset + dest.len ≤ length block.old.planes.items }
+    ensures { LanesWritten dest.offset dest.len lanes (λ i. held rows.planes i % 2 ^ dest.len) block.old.planes.items block.new.planes.items }
+{
+    let to = Target::at(dest.offset, dest.len, lanes);
+    in_place::put(&mut block.planes, &to, &rows.column(dest.len));
 }
 
 /// Gives the active lanes of block `k` the scan, from the fold before its first lane.
@@ -122,16 +133,16 @@ fn scan_block(block: &mut Block, k: u32, dest: Field, scan: &Scan, extent: u32, 
 {
     let (combine, unsigned) = scan.combiner.combiner();
     let none = identity(combine, unsigned);
-    let mut words = words_or(block, scan.source.offset, scan.context, none);
+    let mut rows = rows_or(block, scan.source.offset, scan.context, none);
     let run = Run {
         combiner: scan.combiner,
         inclusion: scan.inclusion,
         start,
         cuts: inner_cuts(block, k, scan, extent),
     };
-    run.over(&mut words);
+    run.over_rows(&mut rows);
     let active = block.plane(scan.context);
-    put_words(block, dest.offset, dest.len, active, &words);
+    put_rows(block, dest, active, rows);
 }
 
 /// The fold before the first lane of block `k`, as its cell holds it.

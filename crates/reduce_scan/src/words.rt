@@ -1,15 +1,19 @@
 //! Running folds over the words of a block.
 
-ghost use Rattle.std.specs.Prelude.{◌≡◌, ℕ, ◌<◌, ◌≤◌, ◌+◌, ◌%◌, ◌^◌, ◌==◌, true, length, slice_index, if◌then◌else◌};
+ghost use Rattle.std.specs.Prelude.{◌≡◌, ℕ, ◌<◌, ◌≤◌, ◌+◌, ◌%◌, ◌^◌, ◌==◌, true, IsTrue, length, slice_index, if◌then◌else◌};
+ghost use Rattle.paris_code.specs.declared.operands.Reduction.TheVariants as R;
 ghost use Rattle.bit_planes.specs.Bits.{bit};
 ghost use Rattle.bit_planes.specs.Planes.{plane_at, number};
 ghost use Rattle.cstar_base.specs.Folds.{fold_once};
 ghost use Rattle.paris_code.specs.Operators.{combiner_of};
 ghost use Rattle.paris_code.specs.Scanning.{with_own};
+ghost use Rattle.bit_planes.specs.Rows.{held};
+ghost use Rattle.reduce_scan.specs.Sums.{HasRun};
 ghost use Rattle.reduce_scan.specs.WithinBlocks.{run_to, run_word};
 
+use crate::sums::sum_all;
 use bit_planes::plane::{Plane, both, either, lane, opposite, repeated};
-use bit_planes::{Block, Lanes};
+use bit_planes::{Block, Rows};
 use cstar_base::numbers::{fold_step, identity};
 use cstar_base::{Combiner, Inclusion};
 use lane_kernels::count;
@@ -25,10 +29,10 @@ fn chosen(mask: u64x8, a: u64x8, b: u64x8) -> u64x8
 }
 
 /// The numbers of a field of 32 bits in the active lanes of a block, and another one in the others.
-pub(crate) fn words_or(block: &Block, offset: u32, context: u32, other: u32) -> [u32; 512]
+pub(crate) fn rows_or(block: &Block, offset: u32, context: u32, other: u32) -> Rows
     requires field { offset + 32 ≤ context }
     requires context { context < length block.now.planes.items }
-    ensures { (i : ℕ) → i < 512 → slice_index result i
+    ensures { (i : ℕ) → i < 512 → held result.planes i
         ≡ (if bit (plane_at block.now.planes.items context) i == 1 then number block.now.planes.items offset 32 i else other) }
 {
     let active = block.plane(context);
@@ -40,7 +44,7 @@ pub(crate) fn words_or(block: &Block, offset: u32, context: u32, other: u32) -> 
             bits: chosen(active, own, elsewhere),
         };
     }
-    Lanes { planes, len: 32 }.values()
+    Rows::of_field(&planes, 0, 32)
 }
 
 /// A running fold: from which start, at which lanes it begins anew (lane 0 stands for the place behind
@@ -54,6 +58,28 @@ pub(crate) struct Run {
 }
 
 impl Run {
+    /// Runs over the numbers that rows hold: sums without a cut as they stand there, and all else over
+    /// their words.
+    pub(crate) fn over_rows(&self, rows: &mut Rows)
+        ensures { HasRun self.now rows.old.planes rows.new.planes }
+    {
+        if self.is_plain_sum() {
+            sum_all(&mut rows.planes, self.inclusion, self.start);
+            return;
+        }
+        let mut words = rows.values();
+        self.over(&mut words);
+        *rows = Rows::from_values(&words);
+    }
+
+    /// Whether it adds, and begins nowhere anew.
+    #[tactic(auto, using(crate::proofs::WordRuns::none_before))]
+    fn is_plain_sum(&self) -> bool
+        ensures { IsTrue result → (self.now.combiner ≡ R.SAdd) × ((i : ℕ) → i < 512 → bit self.now.cuts i ≡ 0) }
+    {
+        self.combiner == Reduction::SAdd && count(self.cuts) == 0
+    }
+
     /// Runs over the words, and gives the fold behind the last one.
     pub(crate) fn over(&self, words: &mut [u32; 512]) -> u32
         ensures words { (i : ℕ) → i < 512 → slice_index words.new i ≡ run_word self.now words.old i }

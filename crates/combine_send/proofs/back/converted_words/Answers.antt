@@ -8,9 +8,9 @@ use Rattle.cstar_base.specs.Numbers.{converted}
 use Rattle.paris_code.specs.Sending.{word_kind}
 use Rattle.combine_send.proofs.back.converted_words.Goals as goal
 
-pub get-requires : goal.get-requires
+pub bounds-words-start : goal.bounds-words-start
 unfolding block_start block_end
-get-requires c = omega (arith, c.requires.words, c.loop-i-test.true, c.block_range-start.ensures.start, c.block_range-start.ensures.end)
+bounds-words-start c = omega (arith, c.requires.words, c.loop-i-test.true, c.block_range-start.ensures.start, c.block_range-start.ensures.end)
 
 pub bounds-numbers-i : goal.bounds-numbers-i
 unfolding block_start block_end
@@ -29,7 +29,7 @@ loop-i-preserved c =
       λ j h. elim (cases_eq j i) [
         | inl e ↦
             ap (λ n. slice_index (set numbers i word) n) e ∙ get_or-set_same numbers i word 0 (omega (arith, inside, c.loop-i.invariant.0))
-            ∙ c.convert.ensures.value ∙ ap (converted c.args.kind word_kind) (c.get.ensures ∙ ap (λ n. slice_index words (start + n)) (sym e))
+            ∙ c.convert.ensures.value ∙ ap (converted c.args.kind word_kind) (ap (λ n. slice_index words (start + n)) (sym e))
         | inr n ↦ get_or-set_other numbers i j word 0 n ∙ c.loop-i.invariant.1 j (omega (arith, n, h))
       ],
     )

@@ -1,16 +1,13 @@
-use Rattle.std.proofs.Common.{◌∙◌, sym, arith}
-use Rattle.lane_kernels.proofs.Lifted.{one_up}
-use Rattle.lane_kernels.proofs.Steps.{all_small}
-use Rattle.news_grid.specs.Steps.{number_taken}
-use Rattle.news_grid.proofs.Windows.{taken_bit, taken-lt}
+use Rattle.std.proofs.Common.{◌∙◌, ap, min}
+use Rattle.bit_planes.specs.Bits.{bit}
+use Rattle.news_grid.proofs.Windows.{both_put}
 use Rattle.news_grid.proofs.news.put_both.Goals as goal
-
-pub loop-j-preserved : goal.loop-j-preserved
-loop-j-preserved c =
-    one_up c.args.to.now c.loop-j.j (λ i. number_taken c.args.cells.now c.args.turn.now c.args.to.now.len i) c.args.planes.now c.loop-j.planes c.write.new.planes c.plane.result c.loop-j.invariant c.write.ensures
-    (λ i ib on. c.plane.ensures i ib ∙ sym (taken_bit c.args.cells.now c.args.turn.now c.args.to.now.len i c.loop-j.j c.loop-j-test.true))
 
 pub returns : goal.returns
 returns c =
-    all_small c.args.to.now c.loop-j.j (λ i. number_taken c.args.cells.now c.args.turn.now c.args.to.now.len i) c.args.planes.now c.loop-j.planes (omega arith)
-    (λ i. taken-lt c.args.cells.now c.args.turn.now c.args.to.now.len i) c.loop-j.invariant
+    let to = c.args.to.now in
+    both_put c.args.cells.now c.args.turn.now to c.at-staying.result c.at-round.result c.args.planes.now c.put_window.new.planes c.put_window-2.new.planes
+    c.at-staying.ensures.offset c.at-staying.ensures.len c.at-round.ensures.offset c.at-round.ensures.len
+    (λ i ib. ap (λ p. bit p i) c.at-staying.ensures.lanes ∙ c.both-staying.ensures i ib ∙ ap (min (bit to.lanes i)) (c.opposite.ensures i ib))
+    (λ i ib. ap (λ p. bit p i) c.at-round.ensures.lanes ∙ c.both.ensures i ib)
+    c.put_window.ensures c.put_window-2.ensures

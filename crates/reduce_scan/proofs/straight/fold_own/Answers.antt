@@ -33,8 +33,8 @@ returns-clause-total c =
     let start = c.identity-start.result in
     let same : start ≡ none r = c.identity-start.ensures.value ∙ ap (λ o. identity_of o.0 o.1) c.combiner-combine.ensures in
     c.over.ensures.total
-    ∙ run_is_fold planes scan c.args.extent c.args.k found.result found.ensures.first found.ensures.others c.words_or-words.result start (omega (arith, same, none_below r)) c.requires.fields.word
-    (λ i b. c.words_or-words.ensures i b ∙ ap (λ s. cond (eqb (bit (plane_at planes scan.context) i) 1) (number planes scan.source.offset 32 i) s) same)
+    ∙ run_is_fold planes scan c.args.extent c.args.k found.result found.ensures.first found.ensures.others c.values-words.result start (omega (arith, same, none_below r)) c.requires.fields.word
+    (λ i b. c.values-words.ensures i b ∙ c.rows_or.ensures i b ∙ ap (λ s. cond (eqb (bit (plane_at planes scan.context) i) 1) (number planes scan.source.offset 32 i) s) same)
     (record { combiner = r; inclusion = N.Exclusive; start = start; cuts = found.result }) refl refl refl 512 (omega arith)
     ∙ ap (λ s. fold_in planes scan c.args.extent c.args.k s 512) same
 
