@@ -51,44 +51,26 @@ fn placed_units(alloc: Global, units: Vec<Unit>, places: &[Vec<u32>]) -> Result<
 {
     let mut over = Vec::new(alloc);
     for unit in units {
-        let unit = placed_unit(alloc, unit, row(places, over.len()))?;
+        let mut unit = unit;
+        place_unit(&mut unit, row(places, over.len()));
         over.push(unit)?;
     }
     Ok(over)
 }
 
-/// The unit over bits.
-fn placed_unit(alloc: Global, unit: Unit, places: &[u32]) -> Result<Unit, Memory>
-    ensures { IfOk result (λ v. IsPlacedUnit places.now unit v) }
+/// Moves the fields of the unit's instructions to their bits.
+fn place_unit(unit: &mut Unit, places: &[u32])
+    ensures { IsPlacedUnit places.now unit.old unit.new }
 {
-    let Unit {
-        name,
-        regs,
-        homes,
-        fields,
-        code,
-    } = unit;
-    let code = placed_code(alloc, code, places)?;
-    Ok(Unit {
-        name,
-        regs,
-        homes,
-        fields,
-        code,
-    })
+    place_code(unit.code.as_mut_slice(), places);
 }
 
-/// The code over bits.
-fn placed_code(alloc: Global, code: Vec<Instr>, places: &[u32]) -> Result<Vec<Instr>, Memory>
-    ensures { IfOk result (λ v. AllZip (IsMoved places.now) code.items v.items) }
+fn place_code(code: &mut [Instr], places: &[u32])
+    ensures { AllZip (IsMoved places.now) code.old code.new }
 {
-    let mut over = Vec::new(alloc);
-    for instr in code {
-        let mut instr = instr;
+    for instr in code.iter_mut() {
         instr.move_fields(places);
-        over.push(instr)?;
     }
-    Ok(over)
 }
 
 #[cfg(test)]

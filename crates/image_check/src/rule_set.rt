@@ -107,7 +107,9 @@ fn operand_exists(shapes: &[ShapeBits], operand: &Operand<'_>) -> bool
 fn operands_exist(shapes: &[ShapeBits], operands: &[Operand<'_>]) -> bool
     ensures { IsTrue result ↔ All (λ o. OperandExists (map shape_of shapes.now) (shown o)) operands.now }
 {
-    operands.iter().all(|operand| operand_exists(shapes, operand))
+    operands
+        .iter()
+        .all(|operand| operand_exists(shapes, operand))
 }
 
 /// Whether an instruction keeps image rule 5.

@@ -15,7 +15,7 @@ loop-unit-preserved c =
     let over = c.loop-unit.over.items in
     let number : c.len.result ≡ 0 + length over = omega arith in
     let same = c.row.ensures ∙ ap (λ n. get_or rows n []) number in
-    let last = subst (λ (p : List ℕ). IsPlacedUnit p c.in-Some.unit c.in_ok-unit.unit) same c.in_ok-unit.ensures in
+    let last = subst (λ (p : List ℕ). IsPlacedUnit p c.in-Some.unit c.place_unit.new.unit) same c.place_unit.ensures in
     subst (λ (os : List CodeUnit). ArePlacedUnits rows 0 (c.loop-unit.yielded ++ c.in-Some.unit ∷ []) os)
     (sym c.in_ok-push.ensures.items)
-    (ArePlacedUnits-snoc rows 0 c.loop-unit.yielded over c.in-Some.unit c.in_ok-unit.unit c.loop-unit.invariant last)
+    (ArePlacedUnits-snoc rows 0 c.loop-unit.yielded over c.in-Some.unit c.place_unit.new.unit c.loop-unit.invariant last)
