@@ -24,6 +24,7 @@ use type_scopes::file::File;
 use type_scopes::standing::Standing;
 
 /// Why a file has no types: the least of its faults by place and then number, or want of memory.
+#[derive(Drop)]
 pub enum TypeFault {
     Fault { number: u8, place: Place },
     Memory,
@@ -50,6 +51,23 @@ pub fn check(alloc: Global, tree: &Tree) -> Result<Typed, TypeFault>
     ensures fault { IfErr result IsListedFault }
     ensures typed { IfOk result IsTyped }
 {
+    let typed = types(alloc, tree)?;
+    if has_room(typed.shapes.as_slice(), typed.need.as_slice()) {
+        Ok(typed)
+    } else {
+        Err(answered(Standing {
+            fault: Fault::Space,
+            place: tree.end,
+        }))
+    }
+}
+
+/// Types a file, whatever room its shapes want. The fault is the least of all that stand, want of
+/// room aside.
+pub fn types(alloc: Global, tree: &Tree) -> Result<Typed, TypeFault>
+    ensures fault { IfErr result IsListedFault }
+    ensures typed { IfOk result IsTyped }
+{
     let mut found = Found::new(alloc);
     let mut file = File::new(alloc, tree);
     let typing = match type_file(&mut found, &mut file) {
@@ -65,13 +83,12 @@ pub fn check(alloc: Global, tree: &Tree) -> Result<Typed, TypeFault>
     if let Some(fault) = faults.least {
         return Err(answered(fault));
     }
-    roomy(alloc, tree, shapes, declared, program)
+    with_needs(alloc, shapes, declared, program)
 }
 
-/// The typed program, if the machine has room for it.
-fn roomy(
+/// The typed program with the room that it needs.
+fn with_needs(
     alloc: Global,
-    tree: &Tree,
     shapes: Vec<ShapeInfo>,
     declared: Declared,
     program: Program,
@@ -93,12 +110,6 @@ fn roomy(
         Ok(need) => need,
         Err(_memory) => return Err(TypeFault::Memory),
     };
-    if !has_room(shapes.as_slice(), need.as_slice()) {
-        return Err(answered(Standing {
-            fault: Fault::Space,
-            place: tree.end,
-        }));
-    }
     Ok(Typed {
         shapes,
         vars,
