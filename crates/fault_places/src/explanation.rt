@@ -3,7 +3,7 @@
 use crate::excerpt::excerpt;
 use crate::index::extents;
 use crate::room::room;
-use crate::said::{Located, Said, said};
+use crate::said::{Located, Said, read_line};
 use crate::wanted::wanted;
 use cstar_base::{Memory, Place};
 use fault_catalogue::{entry_of, other_word};
@@ -33,7 +33,7 @@ pub fn explain(alloc: Global, file: Option<&[u8]>, line: &[u8]) -> Result<Explan
     let Ok(text) = str::from_utf8(line) else {
         return nothing(alloc);
     };
-    match said(text) {
+    match read_line(text) {
         Some(Said::Fault(located)) => explain_fault(alloc, file, text, located),
         Some(other) => Ok(Explanation {
             text: format!(in alloc; "{text}\n{}\n", without_place(&other))?,

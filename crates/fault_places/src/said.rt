@@ -26,7 +26,7 @@ pub struct Located<'a> {
 }
 
 /// What a line says, without its newline. None where it is no line of `cstar`.
-pub fn said(line: &str) -> Option<Said<'_>> {
+pub fn read_line(line: &str) -> Option<Said<'_>> {
     match line {
         "out of memory" => Some(Said::OutOfMemory),
         "input fault" => Some(Said::InputFault),
@@ -36,7 +36,7 @@ pub fn said(line: &str) -> Option<Said<'_>> {
 
 /// The same of a line that names a file, a place or a number.
 fn named(line: &str) -> Option<Said<'_>> {
-    if let Some(located) = located(line) {
+    if let Some(located) = read_fault(line) {
         return Some(Said::Fault(located));
     }
     if line.strip_prefix("usage: cstar ").is_some() {
@@ -53,7 +53,7 @@ fn named(line: &str) -> Option<Said<'_>> {
 }
 
 /// The fault of a line `FILE:LINE:COLUMN: E05 Syntax`, or `.. F1 Index at position 7`.
-fn located(line: &str) -> Option<Located<'_>> {
+fn read_fault(line: &str) -> Option<Located<'_>> {
     let (before, fault) = line.rsplit_once(": ")?;
     let (before, column) = before.rsplit_once(":")?;
     let (_file, row) = before.rsplit_once(":")?;

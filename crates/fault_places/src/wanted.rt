@@ -140,7 +140,7 @@ fn number_at(tokens: &Tokens, place: Place) -> Option<usize> {
 }
 
 /// The tokens before a place of a file. None where no token stands there, or the file has none.
-fn before(alloc: Global, file: &[u8], place: Place) -> Result<Option<Before<'_>>, Memory> {
+fn tokens_before(alloc: Global, file: &[u8], place: Place) -> Result<Option<Before<'_>>, Memory> {
     if MOST < file.len() {
         return Ok(None);
     }
@@ -178,7 +178,8 @@ fn wanted_words(alloc: Global, before: &mut Before<'_>) -> Result<String, Memory
             add(&mut words, name)?;
         }
     }
-    if begins(alloc, &before.tokens, before.tokens.list.len())? {
+    let count = before.tokens.list.len();
+    if begins(alloc, &before.tokens, count)? {
         add(&mut words, "the end of the file")?;
     }
     Ok(words)
@@ -259,7 +260,7 @@ fn is_type_word(word: &str) -> bool {
 /// substitute where C has such a form and this language has not. None where the file has no such
 /// token.
 pub fn wanted(alloc: Global, file: &[u8], place: Place) -> Result<Option<String>, Memory> {
-    let Some(mut before) = before(alloc, file, place)? else {
+    let Some(mut before) = tokens_before(alloc, file, place)? else {
         return Ok(None);
     };
     let mut text = String::from_str(alloc, "Here stands ")?;
@@ -286,7 +287,7 @@ pub fn wanted(alloc: Global, file: &[u8], place: Place) -> Result<Option<String>
 
 /// The token that stands at a place, as text. None where the file has none there.
 pub fn word_at(alloc: Global, file: &[u8], place: Place) -> Result<Option<&str>, Memory> {
-    let Some(before) = before(alloc, file, place)? else {
+    let Some(before) = tokens_before(alloc, file, place)? else {
         return Ok(None);
     };
     Ok(match before.there {
