@@ -27,7 +27,14 @@ pub fn excerpt(alloc: Global, file: &[u8], place: Place) -> Result<Option<String
         }
         Err(_) => {
             for (at, byte) in line.iter().enumerate() {
-                shown.push(at, if byte.is_ascii() { char::from(*byte) } else { '?' })?;
+                shown.push(
+                    at,
+                    if byte.is_ascii() {
+                        char::from(*byte)
+                    } else {
+                        '?'
+                    },
+                )?;
             }
         }
     }
@@ -77,7 +84,11 @@ impl Shown {
         if at.abs_diff(self.column) > REACH {
             return Ok(());
         }
-        self.text.push(if letter.is_ascii_control() { ' ' } else { letter })?;
+        self.text.push(if letter.is_ascii_control() {
+            ' '
+        } else {
+            letter
+        })?;
         if at < self.column {
             self.under.push(' ')?;
         }
@@ -86,7 +97,11 @@ impl Shown {
 
     /// Both lines.
     fn lines(self) -> Result<String, Memory> {
-        let Shown { mut text, under, .. } = self;
+        let Shown {
+            mut text,
+            under,
+            ..
+        } = self;
         text.push_str("\n")?;
         text.push_str(under.as_str())?;
         text.push_str("^\n")?;

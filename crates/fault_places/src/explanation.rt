@@ -46,7 +46,10 @@ pub fn explain(alloc: Global, file: Option<&[u8]>, line: &[u8]) -> Result<Explan
 /// The answer to what is no line of `cstar`.
 fn nothing(alloc: Global) -> Result<Explanation, Memory> {
     Ok(Explanation {
-        text: String::from_str(alloc, "This is no line that `cstar` puts on its error output.\n")?,
+        text: String::from_str(
+            alloc,
+            "This is no line that `cstar` puts on its error output.\n",
+        )?,
         found: Found::Nothing,
     })
 }
@@ -54,18 +57,27 @@ fn nothing(alloc: Global) -> Result<Explanation, Memory> {
 /// What a line means that tells no place.
 fn without_place(said: &Said<'_>) -> &'static str {
     match said {
-        Said::Stopped => "The run spent its turns: each round of a loop and each call spends one. Give it more by `--turns N`, or keep its state by `--save NAME` and go on by `--mode resume`.",
+        Said::Stopped =>
+            "The run spent its turns: each round of a loop and each call spends one. Give it more by `--turns N`, or keep its state by `--save NAME` and go on by `--mode resume`.",
         Said::CannotRead => "There is no file of that name, or it may not be read.",
-        Said::CannotSave => "The state of the stopped run could not be written under that name; an old file of that name stays as it was.",
+        Said::CannotSave =>
+            "The state of the stopped run could not be written under that name; an old file of that name stays as it was.",
         Said::InputFault => "Standard input could not be read.",
-        Said::OutOfMemory => "There is too little memory. Use fewer or smaller variables, or another machine.",
-        Said::Usage => "The words are no command: look for an option that is given twice or misspelled, a number out of its range, or a second FILE.",
+        Said::OutOfMemory =>
+            "There is too little memory. Use fewer or smaller variables, or another machine.",
+        Said::Usage =>
+            "The words are no command: look for an option that is given twice or misspelled, a number out of its range, or a second FILE.",
         Said::Fault(_) => "",
     }
 }
 
 /// What a fault means at its place.
-fn explain_fault(alloc: Global, file: Option<&[u8]>, line: &str, located: Located<'_>) -> Result<Explanation, Memory> {
+fn explain_fault(
+    alloc: Global,
+    file: Option<&[u8]>,
+    line: &str,
+    located: Located<'_>,
+) -> Result<Explanation, Memory> {
     let Some(entry) = entry_of(located.number, located.name) else {
         return nothing(alloc);
     };
@@ -80,7 +92,9 @@ fn explain_fault(alloc: Global, file: Option<&[u8]>, line: &str, located: Locate
             Found::All
         }
         None => {
-            text.push_str("The file is not there, or has no such place: it may have changed since.\n")?;
+            text.push_str(
+                "The file is not there, or has no such place: it may have changed since.\n",
+            )?;
             Found::NoPlace
         }
     };
@@ -96,12 +110,19 @@ fn explain_fault(alloc: Global, file: Option<&[u8]>, line: &str, located: Locate
 }
 
 /// What there is to say of a fault in this file beside what it means everywhere.
-fn in_this_place(alloc: Global, file: &[u8], located: Located<'_>) -> Result<Option<String>, Memory> {
+fn in_this_place(
+    alloc: Global,
+    file: &[u8],
+    located: Located<'_>,
+) -> Result<Option<String>, Memory> {
     match located.number {
         "E05" => wanted(alloc, file, located.place),
         "E07" => unknown_name(alloc, file, located.place),
         "E28" => room(alloc, file),
-        "E31" => Ok(Some(String::from_str(alloc, "Scalars have no arrays: write a shape of that many positions, `shape [10]S; int:S a;`, and elements as `[i]a`.")?)),
+        "E31" => Ok(Some(String::from_str(
+            alloc,
+            "Scalars have no arrays: write a shape of that many positions, `shape [10]S; int:S a;`, and elements as `[i]a`.",
+        )?)),
         "F1" => extents(alloc, file, located.place, located.position),
         _ => Ok(None),
     }

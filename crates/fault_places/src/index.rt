@@ -33,7 +33,11 @@ pub fn extents(
     let Some(typed) = typed(alloc, file)? else {
         return Ok(None);
     };
-    let mut same = Same { name, first: None, differs: false };
+    let mut same = Same {
+        name,
+        first: None,
+        differs: false,
+    };
     same.see_program(&typed);
     match (same.first, same.differs) {
         (Some(info), false) => sentences(alloc, &typed, info, position),
@@ -43,7 +47,12 @@ pub fn extents(
 
 fn is_mark(token: Option<&Token>, mark: Mark) -> bool {
     match token {
-        Some(Token { kind: Kind::Mark(found), .. }) => *found == mark,
+        Some(
+            Token {
+                kind: Kind::Mark(found),
+                ..
+            },
+        ) => *found == mark,
         _ => false,
     }
 }
@@ -122,7 +131,9 @@ impl<'a> Same<'a> {
         match self.first {
             None => self.first = Some(info),
             Some(first) => {
-                self.differs = self.differs || first.shape != info.shape || first.array != info.array;
+                self.differs = self.differs
+                    || first.shape != info.shape
+                    || first.array != info.array;
             }
         }
     }
@@ -134,7 +145,16 @@ impl<'a> Same<'a> {
                 self.see_locals(locals.as_slice());
                 self.see_statements(statements.as_slice());
             }
-            TStmt::If { then, otherwise, .. } | TStmt::Where { then, otherwise, .. } => {
+            TStmt::If {
+                then,
+                otherwise,
+                ..
+            }
+            | TStmt::Where {
+                then,
+                otherwise,
+                ..
+            } => {
                 self.see_statement(then);
                 if let Some(otherwise) = otherwise {
                     self.see_statement(otherwise);
@@ -177,8 +197,11 @@ fn sentences(
     let name = word(alloc, &info.name)?;
     let mut text = String::new(alloc);
     if let Some(length) = info.array {
-        let sentence = format!(in alloc; "`{}` is an array of {length} elements, `[0]` to `[{}]` on its right. ",
-            name.as_str(), length.saturating_sub(1))?;
+        let sentence = format!(in alloc;
+            "`{}` is an array of {length} elements, `[0]` to `[{}]` on its right. ",
+            name.as_str(),
+            length.saturating_sub(1)
+        )?;
         text.push_str(sentence.as_str())?;
     }
     let shape = match info.shape {
@@ -190,8 +213,12 @@ fn sentences(
     };
     let of = word(alloc, &shape.name)?;
     let extents = brackets(alloc, shape.extents.as_slice())?;
-    let sentence = format!(in alloc; "`{}` has the shape {}, `{}`: on each axis an index goes from 0 to one less.",
-        name.as_str(), of.as_str(), extents.as_str())?;
+    let sentence = format!(in alloc;
+        "`{}` has the shape {}, `{}`: on each axis an index goes from 0 to one less.",
+        name.as_str(),
+        of.as_str(),
+        extents.as_str()
+    )?;
     text.push_str(sentence.as_str())?;
     if let (Some(position), 1) = (position, typed.shapes.len()) {
         let at = coordinates(alloc, shape.extents.as_slice(), position)?;

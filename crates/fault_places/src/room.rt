@@ -52,10 +52,11 @@ pub fn room(alloc: Global, file: &[u8]) -> Result<Option<String>, Memory> {
             text.push_str(" ")?;
         }
         let positions = positions_of(shape);
-        let bits = u64::from(*need).saturating_mul(BLOCK).saturating_mul(positions.div_ceil(BLOCK));
+        let bits = u64::from(*need)
+            .saturating_mul(BLOCK)
+            .saturating_mul(positions.div_ceil(BLOCK));
         let name = word(alloc, &shape.name)?;
-        let sentence = format!(
-            in alloc;
+        let sentence = format!(in alloc;
             "Shape {} of {positions} positions wants {need} bits at each, {bits} in all{}.",
             name.as_str(),
             greatest_of(alloc, &typed, number)?.as_str()

@@ -22,24 +22,82 @@ static GROUPS: [Group; 5] = [
     Group {
         name: "a statement",
         words: &[
-            "while", "if", "do", "for", "with", "where", "everywhere", "break", "continue", "return",
-            "{", ";", "x", "1", "(", "-", "+", "!", "~", "[", "++", "--", "+=", "-=", "&=", "|=", "^=",
-            "<?=", ">?=", "pcoord", "positionsof", "rankof", "dimof", "scan", "enumerate", "printf",
-            "getchar", ".",
+            "while",
+            "if",
+            "do",
+            "for",
+            "with",
+            "where",
+            "everywhere",
+            "break",
+            "continue",
+            "return",
+            "{",
+            ";",
+            "x",
+            "1",
+            "(",
+            "-",
+            "+",
+            "!",
+            "~",
+            "[",
+            "++",
+            "--",
+            "+=",
+            "-=",
+            "&=",
+            "|=",
+            "^=",
+            "<?=",
+            ">?=",
+            "pcoord",
+            "positionsof",
+            "rankof",
+            "dimof",
+            "scan",
+            "enumerate",
+            "printf",
+            "getchar",
+            ".",
         ],
     },
     Group {
         name: "an expression",
         words: &[
-            "1", "x", "(", "-", "+", "!", "~", "[", "++", "--", "+=", "-=", "&=", "|=", "^=", "<?=",
-            ">?=", "pcoord", "positionsof", "rankof", "dimof", "scan", "enumerate", "printf", "getchar", ".",
+            "1",
+            "x",
+            "(",
+            "-",
+            "+",
+            "!",
+            "~",
+            "[",
+            "++",
+            "--",
+            "+=",
+            "-=",
+            "&=",
+            "|=",
+            "^=",
+            "<?=",
+            ">?=",
+            "pcoord",
+            "positionsof",
+            "rankof",
+            "dimof",
+            "scan",
+            "enumerate",
+            "printf",
+            "getchar",
+            ".",
         ],
     },
     Group {
         name: "an operator",
         words: &[
-            "*", "/", "%", "%%", "+", "-", "<<", ">>", "<", ">", "<=", ">=", "==", "!=", "&", "^", "|",
-            "&&", "||", "?", "<?", ">?", "++", "--",
+            "*", "/", "%", "%%", "+", "-", "<<", ">>", "<", ">", "<=", ">=", "==", "!=", "&", "^",
+            "|", "&&", "||", "?", "<?", ">?", "++", "--",
         ],
     },
     Group {
@@ -77,7 +135,10 @@ static WORDS: [(&str, &str); 24] = [
     (".", "`.`"),
     ("CMC_upward", "`CMC_upward` or `CMC_downward`"),
     ("CMC_inclusive", "`CMC_inclusive` or `CMC_exclusive`"),
-    ("CMC_none", "`CMC_none`, `CMC_start_bit` or `CMC_segment_bit`"),
+    (
+        "CMC_none",
+        "`CMC_none`, `CMC_start_bit` or `CMC_segment_bit`",
+    ),
     ("CMC_no_field", "`CMC_no_field`"),
     ("CMC_combiner_add", "a combiner, as `CMC_combiner_add`"),
 ];
@@ -220,14 +281,22 @@ fn known_form(before: &Before<'_>) -> Option<&'static str> {
             Some("A function is known in the whole file: leave out its prototype.")
         }
         "*" if ends_with_type(last) => {
-            Some("There are no pointers: a function answers its result, and parallel data is indexed.")
+            Some(
+                "There are no pointers: a function answers its result, and parallel data is indexed.",
+            )
         }
-        "[" => Some("Arrays of scalars are a shape of that many positions, `shape [10]S; int:S a;`, and elements are `[i]a`."),
+        "[" => Some(
+            "Arrays of scalars are a shape of that many positions, `shape [10]S; int:S a;`, and elements are `[i]a`.",
+        ),
         _ if there.strip_prefix("\"").is_some() => {
-            Some("A text stands only as the first argument of `printf`, which has no `%s`: write it there.")
+            Some(
+                "A text stands only as the first argument of `printf`, which has no `%s`: write it there.",
+            )
         }
         _ if is_type_word(there) => {
-            Some("Declarations stand at the beginning of a block, before its statements, and not in the brackets of `for`.")
+            Some(
+                "Declarations stand at the beginning of a block, before its statements, and not in the brackets of `for`.",
+            )
         }
         _ => None,
     }
@@ -235,7 +304,12 @@ fn known_form(before: &Before<'_>) -> Option<&'static str> {
 
 fn ends_with(last: Option<&Token>, mark: Mark) -> bool {
     match last {
-        Some(Token { kind: Kind::Mark(found), .. }) => *found == mark,
+        Some(
+            Token {
+                kind: Kind::Mark(found),
+                ..
+            },
+        ) => *found == mark,
         _ => false,
     }
 }
