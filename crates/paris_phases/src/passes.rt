@@ -30,27 +30,41 @@ const SCAN_NS: u32 = 1_500;
 /// The two passes of a scan downward in which numbers are lifted and put back. The words are joined
 /// between them by one worker.
 const DOWN_SCAN_NS: u32 = 3_000;
-/// A send: its slots are filled, and its claims are delivered.
-const SEND_NS: u32 = 1_800;
+/// A send on a board, as several workers do it: its slots are filled, and its claims are delivered.
+const BOARD_NS: u32 = 6_600;
+/// A send by one worker, who needs no board.
+const SEND_NS: u32 = 2_800;
 
-/// The set that an instruction's passes go over, and how long a block of it keeps one worker.
+/// The set that an instruction's passes go over, how long a block of it keeps one worker, and the set
+/// that its messages go to, where it sends.
 #[derive(Clone, Copy)]
 struct Pass {
     set: u16,
     block_ns: u32,
+    targets: Option<u16>,
 }
 
 /// The same for so many planes of a set.
 fn planes(set: u16, count: u8) -> Pass {
-    Pass {
-        set,
-        block_ns: PLANE_NS * u32::from(count),
-    }
+    lanes(set, PLANE_NS * u32::from(count))
 }
 
 /// The same for a block that takes so long.
 fn lanes(set: u16, block_ns: u32) -> Pass {
-    Pass { set, block_ns }
+    Pass {
+        set,
+        block_ns,
+        targets: None,
+    }
+}
+
+/// The same for a send on a board.
+fn send(set: u16, targets: u16) -> Pass {
+    Pass {
+        set,
+        block_ns: BOARD_NS,
+        targets: Some(targets),
+    }
 }
 
 /// The pass of an operation on two fields into one of so many bits.
@@ -154,9 +168,8 @@ fn pass_of(instr: &Instr) -> Option<Pass> {
             direction,
             ..
         } => scan(*direction, dest.set),
-        Instr::SendWithOverwrite { source, .. } | Instr::SendWithCombiner { source, .. } => {
-            lanes(source.set, SEND_NS)
-        }
+        Instr::SendWithOverwrite { dest, source, .. }
+        | Instr::SendWithCombiner { dest, source, .. } => send(source.set, dest.set),
         // Single positions, and the front end's instructions.
         _ => return None,
     };
@@ -182,27 +195,35 @@ fn positions(store: &Store, set: u16) -> u32 {
         .map_or(0, |plan| plan.geometry.positions())
 }
 
-/// Whether messages are sure to collide: a send has fewer targets than senders. Its workers would
-/// then take the targets' cells from each other, which takes longer than one worker for all.
-fn is_crowded(store: &Store, instr: &Instr) -> bool {
-    match instr {
-        Instr::SendWithOverwrite { dest, source, .. }
-        | Instr::SendWithCombiner { dest, source, .. } => {
-            positions(store, dest.set) < positions(store, source.set)
-        }
-        _ => false,
+/// How many workers to give a send. One has no board to keep, so fewer than make up for that do not
+/// pay; nor do any where there are fewer targets than senders: their messages are sure to collide, and
+/// workers would take the targets' cells from each other.
+fn workers_to_send(store: &Store, pass: Pass, targets: u16, given: u32) -> u32
+    requires { (1 ≤ given) × (given ≤ 64) }
+    ensures { (1 ≤ result) × (result ≤ given) }
+{
+    if positions(store, targets) < positions(store, pass.set) {
+        return 1;
+    }
+    let workers = workers_over(store, pass, given);
+    if workers * SEND_NS < BOARD_NS {
+        1
+    } else {
+        workers
     }
 }
 
-/// How many workers to give an instruction: one where it is about one position, or a send whose
-/// messages are sure to collide.
+/// How many workers to give an instruction: one where it is about one position.
 pub(crate) fn workers_of(store: &Store, instr: &Instr, given: u32) -> u32
     requires { (1 ≤ given) × (given ≤ 64) }
     ensures { (1 ≤ result) × (result ≤ given) }
 {
-    match pass_of(instr) {
-        Some(pass) if !is_crowded(store, instr) => workers_over(store, pass, given),
-        _ => 1,
+    let Some(pass) = pass_of(instr) else {
+        return 1;
+    };
+    match pass.targets {
+        None => workers_over(store, pass, given),
+        Some(targets) => workers_to_send(store, pass, targets, given),
     }
 }
 
