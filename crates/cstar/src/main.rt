@@ -1,13 +1,16 @@
-//! The command `cstar`: the top call over the system's files and streams.
+//! The command `cstar`: the top call, or that of a batch, over the system's files and streams.
 #![tactic(auto)]
 
 mod prompt;
 
 use crate::prompt::Prompt;
+use batch_top::cstar_batch;
 use cstar_io::{Open, RealShelf, RealSink, RealSource};
+use cstar_top::cstar;
 use std::io::{ErrorKind, IsTerminal, Read, Write};
 use std::process::ExitCode;
 use std::rt::{Env, Files};
+use std::sync::Wait;
 use std::thread::Threads;
 use std::{env, io};
 
@@ -24,11 +27,19 @@ fn words<R: Env + AllocGlobal>(rt: &R) -> io::Result<Vec<String>> {
     Ok(args.collect(rt.alloc())?)
 }
 
-/// The status of the command on these words. Where the input is a terminal, output is sent on at
-/// once.
+/// The words behind the word `batch`, where it is the first.
+fn batch_words(words: &[String]) -> Option<&[String]> {
+    match words.split_first() {
+        Some((first, rest)) if first.as_str() == "batch" => Some(rest),
+        _ => None,
+    }
+}
+
+/// The status of the command on these words: those behind the word `batch` are the words of a batch.
+/// Where the input is a terminal, output is sent on at once.
 fn status<R, I, O, E>(rt: &R, words: &[String], input: I, out: O, err: E) -> u8
 where
-    R: Files + AllocGlobal + Threads + Sync,
+    R: Files + AllocGlobal + Threads + Wait + Sync,
     I: Read + IsTerminal + Drop,
     O: Write + Drop,
     E: Write + Drop,
@@ -44,9 +55,12 @@ where
     };
     let mut out = Prompt::new(out, is_typed);
     let mut shelf = RealShelf::new(rt, alloc);
-    cstar_top::cstar(
-        rt, alloc, words, &mut shelf, &mut input, &mut out, &mut err, &Open,
-    )
+    match batch_words(words) {
+        Some(words) => cstar_batch(rt, alloc, words, &mut shelf, &mut out, &mut err, &Open),
+        None => cstar(
+            rt, alloc, words, &mut shelf, &mut input, &mut out, &mut err, &Open,
+        ),
+    }
 }
 
 fn main(rt: HostRuntime) -> ExitCode {

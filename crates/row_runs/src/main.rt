@@ -8,10 +8,13 @@ mod row;
 
 use crate::late::Late;
 use crate::row::{Row, rows_of};
+use batch_top::cstar_batch;
 use cstar_base::{Memory, Word};
 use cstar_io::{MemShelf, MemSink, MemSource, RealShelf, Shelf, ShelfErr};
+use cstar_top::cstar;
 use std::alloc::Global;
 use std::rt::{Env, Files};
+use std::sync::Wait;
 use std::thread::Threads;
 use std::{env, io};
 
@@ -21,18 +24,28 @@ const PAGE: u32 = 1_048_576;
 /// The greatest number of bytes of an output.
 const ROOM: u32 = 65_536;
 
-/// A shelf that holds the text under both names: `a.paris` is what rows call a listing.
-fn shelf_with(alloc: Global, text: &[u8]) -> Result<MemShelf, Memory> {
-    let source = Word::of(Vec::from_slice(alloc, b"a.cs")?);
-    let listing = Word::of(Vec::from_slice(alloc, b"a.paris")?);
+/// A shelf that holds a row's file under both names, where `a.paris` is what rows call a listing, and
+/// its other files.
+fn shelf_with(alloc: Global, row: &Row) -> Result<MemShelf, Memory> {
     let mut files = Vec::new(alloc);
-    files.push((source, Vec::from_slice(alloc, text)?))?;
-    files.push((listing, Vec::from_slice(alloc, text)?))?;
+    for name in ["a.cs", "a.paris"] {
+        files.push(named_file(alloc, name, row.file.as_slice())?)?;
+    }
+    for other in &row.others {
+        files.push(named_file(alloc, other.name.as_str(), other.text.as_slice())?)?;
+    }
     Ok(MemShelf::new(files, Vec::new(alloc)))
 }
 
-/// Whether a command, its words divided by blanks, does on a row's file and input what the row says.
-fn is_kept<R: Threads + Sync>(
+/// A file of this name.
+fn named_file(alloc: Global, name: &str, text: &[u8]) -> Result<(Word, Vec<u8>), Memory> {
+    let name = Word::of(Vec::from_slice(alloc, name.as_bytes())?);
+    Ok((name, Vec::from_slice(alloc, text)?))
+}
+
+/// Whether a command, its words divided by blanks, does on a row's files and input what the row says.
+/// The words behind `batch` are those of a batch.
+fn is_kept<R: Threads + Wait + Sync>(
     rt: &R,
     alloc: Global,
     row: &Row,
@@ -42,23 +55,22 @@ fn is_kept<R: Threads + Sync>(
     for word in command.split_whitespace() {
         words.push(String::from_str(alloc, word)?)?;
     }
-    let mut shelf = shelf_with(alloc, row.file.as_slice())?;
+    let mut shelf = shelf_with(alloc, row)?;
     let mut input = MemSource::new(
         Vec::from_slice(alloc, row.input.as_slice())?,
         Vec::new(alloc),
     );
     let mut out = MemSink::new(alloc, ROOM, Vec::new(alloc))?;
     let mut err = MemSink::new(alloc, ROOM, Vec::new(alloc))?;
-    let status = cstar_top::cstar(
-        rt,
-        alloc,
-        words.as_slice(),
-        &mut shelf,
-        &mut input,
-        &mut out,
-        &mut err,
-        &Late::new(),
-    );
+    let gate = Late::new();
+    let status = match words.as_slice() {
+        [first, rest @ ..] if first.as_str() == "batch" => {
+            cstar_batch(rt, alloc, rest, &mut shelf, &mut out, &mut err, &gate)
+        }
+        words => cstar(
+            rt, alloc, words, &mut shelf, &mut input, &mut out, &mut err, &gate,
+        ),
+    };
     Ok(
         status == row.status
             && out.taken() == row.out.as_slice()
@@ -67,7 +79,7 @@ fn is_kept<R: Threads + Sync>(
 }
 
 /// A line for each command of the rows that does something else, and one that counts the others.
-fn report<R: Threads + Sync>(
+fn report<R: Threads + Wait + Sync>(
     rt: &R,
     alloc: Global,
     page: &str,
@@ -93,7 +105,7 @@ fn report<R: Threads + Sync>(
 /// The lines on a page, which is none where it cannot be read or is no text.
 fn lines_on<R>(rt: &R, page: &str) -> Result<Vec<String>, Memory>
 where
-    R: Files + AllocGlobal + Threads + Sync,
+    R: Files + AllocGlobal + Threads + Wait + Sync,
 {
     let alloc = rt.alloc();
     let bytes = match RealShelf::new(rt, alloc).fetch(page, PAGE) {

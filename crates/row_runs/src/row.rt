@@ -2,6 +2,7 @@
 //!
 //! - `$ WORDS` is a command, its words divided by blanks; each command of a row is to do the same;
 //! - `|TEXT` is a line of the file, which is there as `a.cs` and as `a.paris`;
+//! - `@NAME` begins another file of this name: the lines `|TEXT` behind it are lines of that;
 //! - `<TEXT` is a line of the input;
 //! - `>TEXT` and `!TEXT` are lines that stand on the output and on the error output in the end;
 //! - `= 3` is the status, which is 0 where no such line stands.
@@ -22,13 +23,21 @@ use crate::bytes::push_line;
 use cstar_base::Memory;
 use std::alloc::Global;
 
-/// A row: commands, the file and the input that each finds, and what it is to put and to give.
+/// A further file of a row.
+#[derive(Drop)]
+pub struct NamedFile {
+    pub name: String,
+    pub text: Vec<u8>,
+}
+
+/// A row: commands, the files and the input that each finds, and what it is to put and to give.
 #[derive(Drop)]
 pub struct Row {
     alloc: Global,
     pub name: String,
     pub commands: Vec<String>,
     pub file: Vec<u8>,
+    pub others: Vec<NamedFile>,
     instructions: u32,
     pub input: Vec<u8>,
     pub out: Vec<u8>,
@@ -59,6 +68,7 @@ impl Row {
             name: String::from_str(alloc, name)?,
             commands: Vec::new(alloc),
             file: Vec::new(alloc),
+            others: Vec::new(alloc),
             instructions: 0,
             input: Vec::new(alloc),
             out: Vec::new(alloc),
@@ -69,9 +79,14 @@ impl Row {
 
     fn line(&mut self, line: &str) -> Result<(), Memory> {
         if let Some(words) = line.strip_prefix("$") {
-            self.commands.push(String::from_str(self.alloc, words)?)?;
+            self.command(words)?;
         } else if let Some(text) = line.strip_prefix("|") {
-            push_line(&mut self.file, text)?;
+            push_line(self.last_file(), text)?;
+        } else if let Some(name) = line.strip_prefix("@") {
+            self.others.push(NamedFile {
+                name: String::from_str(self.alloc, name)?,
+                text: Vec::new(self.alloc),
+            })?;
         } else if let Some(text) = line.strip_prefix("<") {
             push_line(&mut self.input, text)?;
         } else if let Some(text) = line.strip_prefix(">") {
@@ -84,6 +99,23 @@ impl Row {
             self.tried(tried)?;
         }
         Ok(())
+    }
+
+    fn command(&mut self, words: &str) -> Result<(), Memory> {
+        let mut bytes = Vec::new(self.alloc);
+        push_line(&mut bytes, words)?;
+        if let Ok(words) = str::from_utf8(bytes.as_slice()) {
+            self.commands.push(String::from_str(self.alloc, words)?)?;
+        }
+        Ok(())
+    }
+
+    /// The file that was begun last.
+    fn last_file(&mut self) -> &mut Vec<u8> {
+        match self.others.last_mut() {
+            Some(other) => &mut other.text,
+            None => &mut self.file,
+        }
     }
 
     fn tried(&mut self, line: &str) -> Result<(), Memory> {

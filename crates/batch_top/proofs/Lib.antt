@@ -1,0 +1,4 @@
+pub mod Endings
+pub mod Fetching
+pub mod Naming
+pub mod Taking
