@@ -1,3 +1,4 @@
+pub mod CharacterLemmas
 pub mod ConstantLemmas
 pub mod Longest
 pub mod MarkLemmas
@@ -6,3 +7,4 @@ pub mod PlaceLemmas
 pub mod QuotedLemmas
 pub mod ReadingLemmas
 pub mod Table
+pub mod TextLemmas

@@ -27,3 +27,7 @@ first_glued c small g = record {
   first = λ other at h. omega (arith, (after_glued c small h).0);
   least = λ other at h e. (after_glued c small h).1;
 }
+
+-- the first fault under other names
+pub told : {Stands : Fault → ℕ → Type 0} {fault other : Fault} {offset at : ℕ} → other ≡ fault → at ≡ offset → IsFirst Stands fault offset → IsFirst Stands other at
+told {Stands} {fault} {other} {offset} {at} e f first = subst (λ (o : Fault). IsFirst Stands o at) (sym e) (subst (λ (n : ℕ). IsFirst Stands fault n) (sym f) first)

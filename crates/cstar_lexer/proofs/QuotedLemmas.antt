@@ -15,7 +15,7 @@ use Rattle.cstar_lexer.proofs.Longest.{byte_within}
 use Rattle.std.proofs.lemmas.List.{get_or_default, length-drop, take-take}
 use Rattle.cstar_lexer.specs.Quoted as Q
 
-drop_one : (bytes : List ℕ) → get_or (drop 1 bytes) 0 0 ≡ get_or bytes 1 0
+pub drop_one : (bytes : List ℕ) → get_or (drop 1 bytes) 0 0 ≡ get_or bytes 1 0
 drop_one [] = refl
 drop_one (x ∷ bytes) = refl
 
@@ -109,7 +109,7 @@ digit_on_line : (r x : ℕ) → is_digit r x ≡ true → (x ≡ 0 → ⊥) × (
 unfolding is_digit
 digit_on_line r x d = (λ z. grind (arith, nat_tests), λ z. grind (arith, nat_tests))
 
-drop_two : (bytes : List ℕ) → get_or (drop 2 bytes) 0 0 ≡ get_or bytes 2 0
+pub drop_two : (bytes : List ℕ) → get_or (drop 2 bytes) 0 0 ≡ get_or bytes 2 0
 drop_two [] = refl
 drop_two (x ∷ []) = refl
 drop_two (x ∷ y ∷ bytes) = refl

@@ -1,8 +1,8 @@
 //! The classes of bytes, and the parts of a text from a position on.
 
-ghost use Rattle.std.specs.Prelude.{ℕ, true, false, slice_index, slice_index_or, ◌==◌, ◌≡◌, ◌≤◌, ◌<◌, ◌+◌, length, drop, IfSome, IfNone};
+ghost use Rattle.std.specs.Prelude.{ℕ, true, false, slice_index, ◌≡◌, ◌≤◌, ◌<◌, ◌+◌, length, drop, IfSome, IfNone};
 ghost use Rattle.std.specs.List.{prefix_len};
-ghost use Rattle.cstar_lexer.specs.Bytes.{goes_on, is_figure, is_inner_blank, is_letter};
+ghost use Rattle.cstar_lexer.specs.Bytes.{LineEnds, goes_on, is_figure, is_inner_blank, is_letter};
 ghost use Rattle.cstar_lexer.specs.Constants.{digit_of, is_digit};
 ghost use Rattle.cstar_lexer.specs.Reading.{IsComment};
 
@@ -72,7 +72,8 @@ pub fn byte_or_zero(bytes: &[u8], at: usize) -> u8
 /// Whether the line or the text ends at a position.
 pub fn ends_line(bytes: &[u8], at: usize) -> bool
     ensures within { result ≡ false → at < length bytes.now }
-    ensures ends { result ≡ (slice_index_or bytes.now at 10 == 10) }
+    ensures ends { result ≡ true → LineEnds bytes.now at }
+    ensures goes_on { result ≡ false → LineEnds bytes.now at → ⊥ }
 {
     match bytes.get(at) {
         Some(byte) => *byte == b'\n',
