@@ -1,6 +1,6 @@
 -- A text is read from its first byte on, and its first fault kept.
 use Rattle.std.proofs.Common.{◌≡◌, ℕ, ◌+◌, ◌<◌, ◌≤◌, ◌⊎◌, inl, inr, Bool, true, false, List, [], ◌∷◌, ◌++◌, append_assoc, append-nil, length, drop, get_or, get_or-drop, arith, lit≤, refl, sym, ap, ◌∙◌, subst}
-use Rattle.std.specs.Prelude.{slice_index, Option, Some, None}
+use Rattle.std.specs.Prelude.{slice_index, Option, Some, None, unwrap_or}
 use Rattle.cstar_base.specs.Faults.{number_of}
 use Rattle.cstar_base.specs.declared.faults.Fault.{Fault}
 use Rattle.cstar_base.specs.declared.faults.Fault.TheVariants as F
@@ -14,7 +14,7 @@ use Rattle.cstar_lexer.proofs.QuotedLemmas.{cut_no_escape, escape_begins, escape
 here : (bytes : List ℕ) (at : ℕ) → get_or (drop at bytes) 0 0 ≡ get_or bytes at 0
 here bytes at = let e : get_or (drop at bytes) 0 0 ≡ get_or bytes (at + 0) 0 = get_or-drop at bytes 0 0 in let z : at + 0 ≡ at = omega arith in subst (λ (i : ℕ). get_or (drop at bytes) 0 0 ≡ get_or bytes i 0) z e
 
-escape_here : {bytes : List ℕ} {at n v : ℕ} → IsEscape (drop at bytes) n v → slice_index bytes at ≡ 92
+escape_here : (bytes : List ℕ) (at : ℕ) {n v : ℕ} → IsEscape (drop at bytes) n v → slice_index bytes at ≡ 92
 escape_here bytes at e = sym (here bytes at) ∙ escape_begins e
 
 bad_here : (bytes : List ℕ) (at : ℕ) → IsBad (drop at bytes) → slice_index bytes at ≡ 92
@@ -100,3 +100,70 @@ SoFar bytes at word (Some flaw) = Flawed bytes at flaw
 -- and every fault from there on is one of the text
 abbrev pub Back : List ℕ → ℕ → Type 0
 Back bytes at = (fault : Fault) (offset : ℕ) → FaultInside bytes at fault offset → FaultInside bytes 1 fault offset
+
+pub plain_step : (bytes : List ℕ) (at : ℕ) (word : List ℕ) (first : Option Flaw) → IsPlain bytes at 34 → SoFar bytes at word first → SoFar bytes (at + 1) (word ++ slice_index bytes at ∷ []) first
+plain_step bytes at word None p so = record {
+  whole = λ end rest i. subst (λ (w : List ℕ). IsInside bytes 1 end w) (sym (append_assoc word (slice_index bytes at ∷ []) rest)) (so.whole end (slice_index bytes at ∷ rest) (Q.plain p i refl));
+  later = λ fault offset h. behind_plain p (so.later fault offset h);
+}
+plain_step bytes at word (Some flaw) p so = record {
+  stands = so.stands;
+  before = omega (arith, so.before);
+  later = λ fault offset h. elim (so.later fault offset h) [ inl i ↦ inl (behind_plain p i) | inr r ↦ inr r ];
+}
+
+pub escape_step : (bytes : List ℕ) (at n v : ℕ) (word : List ℕ) (first : Option Flaw) → IsEscape (drop at bytes) n v → v < 256 → SoFar bytes at word first → SoFar bytes (at + n) (word ++ v ∷ []) first
+escape_step bytes at n v word None e small so = record {
+  whole = λ end rest i. subst (λ (w : List ℕ). IsInside bytes 1 end w) (sym (append_assoc word (v ∷ []) rest)) (so.whole end (v ∷ rest) (Q.escape e small i refl));
+  later = λ fault offset h. behind_escape e small (so.later fault offset h);
+}
+escape_step bytes at n v word (Some flaw) e small so = record {
+  stands = so.stands;
+  before = omega (arith, so.before);
+  later = λ fault offset h. elim (so.later fault offset h) [ inl i ↦ inl (behind_escape e small i) | inr r ↦ inr r ];
+}
+
+pub wide_step : (bytes : List ℕ) (at n v : ℕ) (word : List ℕ) (first : Option Flaw) (flaw : Flaw) → IsEscape (drop at bytes) n v → 256 ≤ v → flaw.fault ≡ F.Wide → flaw.offset ≡ at → Back bytes at → SoFar bytes at word first → Flawed bytes (at + n) (unwrap_or first flaw)
+wide_step bytes at n v word None flaw e large is place back so = record {
+  stands = subst (λ (f : Fault). FaultInside bytes 1 f flaw.offset) (sym is) (back F.Wide flaw.offset (Q.wide e large place));
+  before = omega (arith, escape_long e);
+  later = λ fault offset h. elim (behind_wide e (so.later fault offset h)) [
+      inl i ↦ inl i
+    | inr r ↦ inr (omega (arith, r.0), λ same. subst (λ (f : Fault). number_of f ≤ number_of fault) (sym is) r.1) ];
+}
+wide_step bytes at n v word (Some met) flaw e large is place back so = record {
+  stands = so.stands;
+  before = omega (arith, so.before);
+  later = λ fault offset h. elim (so.later fault offset h) [
+      inl i ↦ elim (behind_wide e i) [ inl j ↦ inl j | inr r ↦ inr (omega (arith, r.0, so.before), λ same. absurd (omega (arith, r.0, so.before, same))) ]
+    | inr r ↦ inr r ];
+}
+
+pub bad_step : (bytes : List ℕ) (at : ℕ) (word : List ℕ) (first : Option Flaw) (flaw : Flaw) → IsBad (drop at bytes) → flaw.fault ≡ F.BadByte → flaw.offset ≡ at + 1 → Back bytes at → SoFar bytes at word first → Flawed bytes (at + 2) (unwrap_or first flaw)
+bad_step bytes at word None flaw b is place back so = record {
+  stands = subst (λ (f : Fault). FaultInside bytes 1 f flaw.offset) (sym is) (back F.BadByte flaw.offset (Q.bad b place));
+  before = omega arith;
+  later = λ fault offset h. elim (behind_bad b (so.later fault offset h)) [
+      inl i ↦ inl i
+    | inr r ↦ inr (omega (arith, r.0), λ same. subst (λ (f : Fault). number_of f ≤ number_of fault) (sym is) r.1) ];
+}
+bad_step bytes at word (Some met) flaw b is place back so = record {
+  stands = so.stands;
+  before = omega (arith, so.before);
+  later = λ fault offset h. elim (so.later fault offset h) [
+      inl i ↦ elim (behind_bad b i) [ inl j ↦ inl j | inr r ↦ inr (omega (arith, r.0, so.before), λ same. absurd (omega (arith, r.0, so.before, same))) ]
+    | inr r ↦ inr r ];
+}
+
+pub first_open : {bytes : List ℕ} → slice_index bytes 0 ≡ 34 → FaultInside bytes 1 F.Open 0 → IsFirst (TextFault bytes) F.Open 0
+first_open q stands = record { stands = (q, stands); first = λ other at h. omega arith; least = λ other at h e. open_first (lit≤ tt) h.1 e }
+
+pub first_flaw : {bytes : List ℕ} {at : ℕ} (flaw : Flaw) → slice_index bytes 0 ≡ 34 → slice_index bytes at ≡ 34 → Flawed bytes at flaw → IsFirst (TextFault bytes) flaw.fault flaw.offset
+first_flaw flaw q closes so = record {
+  stands = (q, so.stands);
+  first = λ other offset h. elim (so.later other offset h.1) [ inl i ↦ absurd (no_fault_closed closes i) | inr r ↦ r.0 ];
+  least = λ other offset h same. elim (so.later other offset h.1) [ inl i ↦ absurd (no_fault_closed closes i) | inr r ↦ r.1 same ];
+}
+
+pub whole_text : (bytes : List ℕ) (at : ℕ) (word : List ℕ) → slice_index bytes 0 ≡ 34 → slice_index bytes at ≡ 34 → Unflawed bytes at word → IsQuoted bytes (at + 1) word
+whole_text bytes at word q closes so = (q, subst (λ (w : List ℕ). IsInside bytes 1 (at + 1) w) (append-nil word) (so.whole (at + 1) [] (Q.closes closes refl refl)))
