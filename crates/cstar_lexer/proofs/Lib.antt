@@ -2,6 +2,7 @@ pub mod CharacterLemmas
 pub mod ConstantLemmas
 pub mod Longest
 pub mod MarkLemmas
+pub mod NameLemmas
 pub mod NumberLemmas
 pub mod PlaceLemmas
 pub mod QuotedLemmas
