@@ -4,7 +4,7 @@ ghost use Rattle.std.specs.Prelude.{ℕ, true, false, slice_index, ◌≡◌, �
 ghost use Rattle.std.specs.List.{prefix_len};
 ghost use Rattle.cstar_lexer.specs.Bytes.{LineEnds, goes_on, is_figure, is_inner_blank, is_letter};
 ghost use Rattle.cstar_lexer.specs.Constants.{digit_of, is_digit};
-ghost use Rattle.cstar_lexer.specs.Reading.{IsComment};
+ghost use Rattle.cstar_lexer.specs.Comments.{IsComment, OpensComment};
 
 /// A blank that does not end its line.
 #[tactic(auto, unfolding(crate::specs::Bytes::is_inner_blank))]
@@ -83,7 +83,8 @@ pub fn ends_line(bytes: &[u8], at: usize) -> bool
 
 /// The length of the run of letters, digits and `_` at the beginning.
 pub fn name_length(rest: &[u8]) -> usize
-    ensures { result ≡ prefix_len goes_on rest.now }
+    ensures within { result ≤ length rest.now }
+    ensures run { result ≡ prefix_len goes_on rest.now }
 {
     for (at, byte) in rest.iter().enumerate() {
         if !continues_name(*byte) {
@@ -95,7 +96,8 @@ pub fn name_length(rest: &[u8]) -> usize
 
 /// The length of the run of blanks at the beginning, none of which ends its line.
 pub fn blank_length(rest: &[u8]) -> usize
-    ensures { result ≡ prefix_len is_inner_blank rest.now }
+    ensures within { result ≤ length rest.now }
+    ensures run { result ≡ prefix_len is_inner_blank rest.now }
 {
     for (at, byte) in rest.iter().enumerate() {
         if !is_blank(*byte) {
@@ -121,16 +123,15 @@ pub fn line_length(rest: &[u8]) -> usize
 
 /// Whether a comment opens here.
 pub fn opens_comment(rest: &[u8]) -> bool
-    ensures slash { result ≡ true → slice_index rest.now 0 ≡ 47 }
-    ensures star { result ≡ true → slice_index rest.now 1 ≡ 42 }
+    ensures opens { result ≡ true → OpensComment rest.now }
+    ensures none { result ≡ false → OpensComment rest.now → ⊥ }
 {
-    rest.len() > 1 && rest[0] == b'/' && rest[1] == b'*'
+    byte_or_zero(rest, 0) == b'/' && byte_or_zero(rest, 1) == b'*'
 }
 
 /// The length of the comment that opens here, or None where it is not closed.
 pub fn comment_length(rest: &[u8]) -> Option<usize>
-    requires slash { slice_index rest.now 0 ≡ 47 }
-    requires star { slice_index rest.now 1 ≡ 42 }
+    requires { OpensComment rest.now }
     ensures { IfSome result (IsComment rest.now) }
 {
     let mut last: usize = 3;
