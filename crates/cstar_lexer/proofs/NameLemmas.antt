@@ -16,7 +16,7 @@ lookup_map view test (row ∷ rows) = step (test (view row.0)) refl (lookup_map 
   step false e same = rw e same
 
 -- a new name stands last
-pub defined_last : {V X : Type 0} (items : V → List ℕ) (key : V) (number : X) (rows new : List (V × X)) (name : List ℕ) → lookup (pointwise nat_eq name) (map (λ row. (items row.0, row.1)) rows) ≡ None → items key ≡ name → new ≡ insert_entry (λ a b. pointwise nat_eq (items a) (items b)) rows key number → map (λ row. (items row.0, row.1)) new ≡ map (λ row. (items row.0, row.1)) rows ++ (name, number) ∷ []
+pub defined_last : {V X : Type 0} (items : V → List ℕ) (key : V) (number : X) (rows new : List (V × X)) (name : List ℕ) → lookup (pointwise nat_eq name) (map {B = List ℕ × X} (λ row. (items row.0, row.1)) rows) ≡ None → items key ≡ name → new ≡ insert_entry (λ a b. pointwise nat_eq (items a) (items b)) rows key number → map {B = List ℕ × X} (λ row. (items row.0, row.1)) new ≡ map {B = List ℕ × X} (λ row. (items row.0, row.1)) rows ++ (name, number) ∷ []
 defined_last {V} {X} items key number rows new name none is entries =
     let absent : lookup (λ k. pointwise nat_eq (items key) (items k)) rows ≡ None = subst (λ (n : List ℕ). lookup (λ k. pointwise nat_eq n (items k)) rows ≡ None) (sym is) (sym (lookup_map items (pointwise nat_eq name) rows) ∙ none) in
     let last = insert_entry-absent (λ a b. pointwise nat_eq (items a) (items b)) key number rows (absent_from_lookup (λ k. pointwise nat_eq (items key) (items k)) rows absent) in

@@ -173,6 +173,7 @@ fn read_suffix(rest: &[u8]) -> Suffix
 pub fn read_number(rest: &[u8]) -> Result<(Number, usize), Flaw>
     requires { is_figure (slice_index rest.now 0) ≡ true }
     ensures taken { IfOk result (λ found. IsNumber rest.now found.1 found.0) }
+    ensures within { IfErr result (λ flaw. flaw.offset < length rest.now) }
     ensures refused { IfErr result (λ flaw. IsFirst (NumberFault rest.now) flaw.fault flaw.offset) }
 {
     let constant = read_constant(rest);

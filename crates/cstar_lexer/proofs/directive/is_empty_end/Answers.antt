@@ -1,4 +1,6 @@
-use Rattle.std.proofs.Common.{◌≡◌, ℕ, List, sym, subst}
+use Rattle.std.proofs.Common.{◌≡◌, ◌∙◌, ℕ, List, sym, subst}
+use Rattle.std.proofs.lemmas.Bool.{eqb-true}
+use Rattle.std.proofs.lemmas.List.{nil_from_length}
 use Rattle.cstar_lexer.specs.Directives.{IsEmptyEnd}
 use Rattle.cstar_lexer.specs.Directives as D
 use Rattle.cstar_lexer.proofs.DirectiveLemmas.{empty_behind}
@@ -13,4 +15,4 @@ loop-length-preserved c = λ h.
     c.loop-length.invariant (D.comment c.in-Some.ensures (subst (λ (xs : List ℕ). IsEmptyEnd xs) c.tail.ensures (empty_behind c.tail.result.now behind)))
 
 pub returns : goal.returns
-returns c = λ h. c.loop-length.invariant (D.nothing ?)
+returns c = λ h. c.loop-length.invariant (D.nothing (nil_from_length c.loop-length.rest.now (eqb-true _ _ (sym c.is_empty.ensures ∙ h))))
