@@ -7,5 +7,7 @@ pub mod NameLemmas
 pub mod NumberLemmas
 pub mod PlaceLemmas
 pub mod QuotedLemmas
+pub mod ReadingLemmas
 pub mod Table
 pub mod TextLemmas
+pub mod TokenLemmas

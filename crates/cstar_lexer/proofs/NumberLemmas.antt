@@ -4,6 +4,7 @@ use Rattle.std.specs.Prelude.{slice_index}
 use Rattle.cstar_base.specs.Faults.{number_of}
 use Rattle.cstar_base.specs.declared.faults.Fault.{Fault}
 use Rattle.cstar_base.specs.declared.faults.Fault.TheVariants as F
+use Rattle.cstar_lexer.specs.Bytes.{goes_on, is_figure, is_letter}
 use Rattle.cstar_lexer.specs.Constants.{IsLongestConstant}
 use Rattle.cstar_lexer.specs.Faults.{IsFirst}
 use Rattle.cstar_lexer.specs.Numbers.{NumberFault, is_glued}
@@ -31,3 +32,7 @@ first_glued c small g = record {
 -- the first fault under other names
 pub told : {Stands : Fault → ℕ → Type 0} {fault other : Fault} {offset at : ℕ} → other ≡ fault → at ≡ offset → IsFirst Stands fault offset → IsFirst Stands other at
 told {Stands} {fault} {other} {offset} {at} e f first = subst (λ (o : Fault). IsFirst Stands o at) (sym e) (subst (λ (n : ℕ). IsFirst Stands fault n) (sym f) first)
+
+pub glued_some : (x : ℕ) → is_glued x ≡ true → x ≡ 0 → ⊥
+unfolding is_glued goes_on is_letter is_figure
+glued_some x h e = absurd (let f = rw e at h in cc)

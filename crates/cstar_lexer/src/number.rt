@@ -49,7 +49,7 @@ pub struct Constant {
 }
 
 /// A number as a token has it.
-#[derive(Clone, Copy, PartialEq, Eq)]
+#[derive(Clone, Copy)]
 pub struct Number {
     pub value: u32,
     pub unsigned: bool,
@@ -68,6 +68,15 @@ impl Constant {
         let value = self.value as u32;
         let unsigned = self.suffixed || value > 0x7fff_ffff;
         Some(Number { value, unsigned })
+    }
+}
+
+impl Number {
+    /// Whether it is the same number, unsigned where the other is.
+    pub fn is(self, other: Number) -> bool
+        ensures { result ≡ true → self ≡ other }
+    {
+        self.value == other.value && self.unsigned == other.unsigned
     }
 }
 

@@ -1,12 +1,14 @@
-use Rattle.std.proofs.Common.{◌≡◌, ◌∙◌, ap, sym}
+use Rattle.std.proofs.Common.{◌≡◌, ◌∙◌, List, ℕ, take, Some, ap, subst, sym}
 use Rattle.cstar_lexer.specs.Directives as D
+use Rattle.cstar_lexer.specs.Pieces.{DirectiveIs}
+use Rattle.cstar_lexer.specs.declared.directive.Directive.{Directive}
 use Rattle.cstar_lexer.proofs.DirectiveLemmas.{number_of_kept}
 use Rattle.cstar_lexer.proofs.lexer.directive_line.Goals as goal
 
 pub returns-in_ok-define-in-Some-None-clause-names : goal.returns-in_ok-define-in-Some-None-clause-names
 returns-in_ok-define-in-Some-None-clause-names c =
-    let define = c.in-Some-Define.ensures in
+    let define = subst (λ (d : Directive). DirectiveIs d (take c.line_length-length.result c.args.rest.now)) c.in-Some-Define.field-0-is c.in-Some-Define.ensures in
     D.define define.2 (number_of_kept define.0 _ _ c.number.result _ define.1 c.in-Some-None.is-0 c.number.ensures) (sym c.get.ensures ∙ c.in-Some-None.is-1) c.in_ok-define-in-Some-None.ensures
 
 pub returns-in-Some-Some-clause-names : goal.returns-in-Some-Some-clause-names
-returns-in-Some-Some-clause-names c = let a = c.in-Some-Some.is-0 in let b = c.in-Some-Some.is-1 in let e = c.eq.ensures in let n = c.in-Some-Some.number-is in ?
+returns-in-Some-Some-clause-names c = let a = c.in-Some-Some.is-0 in ?
