@@ -11,7 +11,7 @@ use Rattle.cstar_lexer.specs.Constants.{IsConstant, IsLongestConstant, IsLongest
 use Rattle.cstar_lexer.specs.Constants as C
 
 -- a byte of a constant without its suffix
-pub is_inner : ℕ → Bool
+unfoldable pub is_inner : ℕ → Bool
 is_inner byte = is_digit 16 byte || is_x byte
 
 wider : (r x : ℕ) → r ≤ 16 → is_digit r x ≡ true → is_digit 16 x ≡ true

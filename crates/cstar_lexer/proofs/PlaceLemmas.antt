@@ -36,3 +36,11 @@ take_plus bytes at n = sym (take-append-drop at (take (at + n) bytes)) ∙ (ap (
 pub place_behind : (bytes : List ℕ) (at n : ℕ) → place_at bytes (at + n) ≡ behind (place_at bytes at) (take n (drop at bytes))
 unfolding place_at behind
 place_behind bytes at n = rw (take_plus bytes at n) (fold-append behind_byte text_start (take at bytes) (take n (drop at bytes)))
+
+pub place_start : (bytes : List ℕ) (at : ℕ) → at ≡ 0 → text_start ≡ place_at bytes at
+unfolding place_at behind
+place_start bytes at e = subst (λ (i : ℕ). text_start ≡ place_at bytes i) (sym e) refl
+
+pub place_next : (bytes : List ℕ) (at : ℕ) → at < length bytes → place_at bytes (at + 1) ≡ behind_byte (place_at bytes at) (get_or bytes at 0)
+unfolding place_at
+place_next bytes at h = behind_more text_start bytes at h
