@@ -16,10 +16,10 @@ scaled v w r some h = let one : v * 1 ≤ v * r = mul-le-mul_left v (omega arith
 -- a value that is cut off at 2 ^ 32 goes on as one that is not
 pub capped_more : (v r d x y : ℕ) → 0 < r → x ≡ min (2 ^ 32) v → y ≡ min (x * r + d) (2 ^ 32) → y ≡ min (2 ^ 32) (v * r + d)
 capped_more v r d x y some is y_is = elim (nat_le (2 ^ 32) v) as (λ b. nat_le (2 ^ 32) v ≡ b → y ≡ min (2 ^ 32) (v * r + d)) [
-    true ↦ λ h. let above : 2 ^ 32 ≤ v = grind (arith, nat_tests, h) in
-        let x_is : x ≡ 2 ^ 32 = omega arith in
-        let far : 2 ^ 32 ≤ x * r = scaled x (2 ^ 32) r some (omega arith) in
-        let too : 2 ^ 32 ≤ v * r = scaled v (2 ^ 32) r some above in omega arith
+  | true ↦ λ h. let above : 2 ^ 32 ≤ v = grind (arith, nat_tests, h) in
+      let x_is : x ≡ 2 ^ 32 = omega arith in
+      let far : 2 ^ 32 ≤ x * r = scaled x (2 ^ 32) r some (omega arith) in
+      let too : 2 ^ 32 ≤ v * r = scaled v (2 ^ 32) r some above in omega arith
   | false ↦ λ h. let below : v < 2 ^ 32 = grind (arith, nat_tests, h) in
-        let x_is : x ≡ v = omega arith in rw y_is (rw x_is (omega arith))
-  ] refl
+      let x_is : x ≡ v = omega arith in rw y_is (rw x_is (omega arith))
+] refl

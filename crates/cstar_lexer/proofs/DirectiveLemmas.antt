@@ -29,9 +29,9 @@ pub empty_behind : (bytes : List ℕ) → IsEmptyEnd (behind_blanks bytes) → I
 empty_behind [] h = D.nothing refl
 empty_behind (x ∷ xs) h = step (is_inner_blank x) refl (empty_behind xs)
   where
-  step : (b : Bool) → is_inner_blank x ≡ b → (IsEmptyEnd (behind_blanks xs) → IsEmptyEnd xs) → IsEmptyEnd (x ∷ xs)
-  step true e more = D.blank e (more (subst (λ (ys : List ℕ). IsEmptyEnd ys) (past_blank x xs e) h))
-  step false e more = subst (λ (ys : List ℕ). IsEmptyEnd ys) (at_once x xs e) h
+    step : (b : Bool) → is_inner_blank x ≡ b → (IsEmptyEnd (behind_blanks xs) → IsEmptyEnd xs) → IsEmptyEnd (x ∷ xs)
+    step true e more = D.blank e (more (subst (λ (ys : List ℕ). IsEmptyEnd ys) (past_blank x xs e) h))
+    step false e more = subst (λ (ys : List ℕ). IsEmptyEnd ys) (at_once x xs e) h
 
 none_of : (found : Option Mark) (name : List ℕ) → is_some found ≡ false → IfNone found ((mark : Mark) → word_bytes mark ≡ name → name ≡ []) → (mark : Mark) → word_bytes mark ≡ name → name ≡ []
 none_of (Some mark) name e none = absurd (cc)

@@ -47,12 +47,14 @@ pub inner_bytes : {bytes : List ℕ} {n v : ℕ} → IsNumeral bytes n v → (k 
 inner_bytes {bytes} (C.decimal some all other is) k h = inner_digit 10 _ (omega arith) (prefix_len_passes (is_digit 10) bytes k 0 (omega arith))
 inner_bytes {bytes} (C.octal some all zero is) k h = inner_digit 8 _ (omega arith) (prefix_len_passes (is_digit 8) bytes k 0 (omega arith))
 inner_bytes {bytes} (C.hexadecimal {digits = j} zero x some all is long) k h = elim (cases_lt k 2) [
-    inl low ↦ elim (cases_order k 0) [
-        inl first ↦ rw (first, zero) inner_zero
-      | inr other ↦ let one : k ≡ 1 = elim other [ inl a ↦ absurd (omega arith) | inr b ↦ omega arith ] in rw one (inner_x _ x) ]
+  | inl low ↦ elim (cases_order k 0) [
+    | inl first ↦ rw (first, zero) inner_zero
+    | inr other ↦ let one : k ≡ 1 = elim other [ inl a ↦ absurd (omega arith) | inr b ↦ omega arith ] in rw one (inner_x _ x)
+  ]
   | inr high ↦ let at : get_or (drop 2 bytes) (k - 2) 0 ≡ get_or bytes (2 + (k - 2)) 0 = get_or-drop 2 bytes (k - 2) 0 in
       let same : 2 + (k - 2) ≡ k = omega arith in
-      inner_digit 16 _ (omega arith) (subst (λ (i : ℕ). is_digit 16 (get_or bytes i 0) ≡ true) same (subst (λ (x : ℕ). is_digit 16 x ≡ true) at (prefix_len_passes (is_digit 16) (drop 2 bytes) (k - 2) 0 (omega arith)))) ]
+      inner_digit 16 _ (omega arith) (subst (λ (i : ℕ). is_digit 16 (get_or bytes i 0) ≡ true) same (subst (λ (x : ℕ). is_digit 16 x ≡ true) at (prefix_len_passes (is_digit 16) (drop 2 bytes) (k - 2) 0 (omega arith))))
+]
 
 -- where a constant goes on, no suffix stands
 pub no_suffix : {bytes : List ℕ} {n : ℕ} {s : Bool} → is_inner (slice_index bytes 0) ≡ true → IsSuffix bytes n s → n ≡ 0
@@ -76,10 +78,11 @@ longest_constant bytes k j kept s numeral suffix = record {
   constant = record {
     constant = record { digits = k; letters = j; numeral = numeral.numeral; suffix = suffix.suffix; whole = refl };
     longest = λ m v t c. elim (cases_lt c.digits k) [
-        inl short ↦ let none : c.letters ≡ 0 = short_alone numeral.numeral short c.suffix in omega (arith, none, c.whole)
+      | inl short ↦ let none : c.letters ≡ 0 = short_alone numeral.numeral short c.suffix in omega (arith, none, c.whole)
       | inr not_short ↦ let most : c.digits ≤ k = numeral.longest c.digits v c.numeral in
           let same : c.digits ≡ k = omega arith in
-          let few : c.letters ≤ j = suffix.longest c.letters t (subst (λ (i : ℕ). IsSuffix (drop i bytes) c.letters t) same c.suffix) in omega (arith, few, c.whole, same) ];
+          let few : c.letters ≤ j = suffix.longest c.letters t (subst (λ (i : ℕ). IsSuffix (drop i bytes) c.letters t) same c.suffix) in omega (arith, few, c.whole, same)
+    ];
   };
 }
 
@@ -100,8 +103,9 @@ octal_most bytes n first not_x is m v (C.hexadecimal {digits = j} zero x some al
 pub hexadecimal_most : (bytes : List ℕ) (n : ℕ) → slice_index bytes 0 ≡ 48 → is_x (slice_index bytes 1) ≡ true → 2 ≤ n → n ≡ prefix_len (is_digit 16) (drop 2 bytes) + 2 → (m v : ℕ) → IsNumeral bytes m v → m ≤ n
 hexadecimal_most bytes n first x two is m v (C.decimal some all other same) = absurd (other first)
 hexadecimal_most bytes n first x two is m v (C.octal some all zero same) = elim (cases_lt 1 m) [
-    inl more ↦ absurd (no_digit_x 8 _ (prefix_len_passes (is_digit 8) bytes 1 0 (omega arith)) x)
-  | inr few ↦ omega arith ]
+  | inl more ↦ absurd (no_digit_x 8 _ (prefix_len_passes (is_digit 8) bytes 1 0 (omega arith)) x)
+  | inr few ↦ omega arith
+]
 hexadecimal_most bytes n first x two is m v (C.hexadecimal zero y some all same long) = omega arith
 
 pub hexadecimal_parts : (bytes : List ℕ) → begins_hexadecimal bytes ≡ true → (slice_index bytes 0 ≡ 48) × (is_x (slice_index bytes 1) ≡ true) × (is_digit 16 (slice_index bytes 2) ≡ true)
@@ -216,10 +220,12 @@ one_numeral {bytes} (C.hexadecimal {digits = i} zero x a b is long) (C.hexadecim
 
 same_digits : {bytes : List ℕ} {n v w : ℕ} {s t : Bool} → (a : IsConstant bytes n v s) → (b : IsConstant bytes n w t) → a.digits ≡ b.digits
 same_digits a b = elim (cases_order a.digits b.digits) [
-    inl same ↦ same
+  | inl same ↦ same
   | inr apart ↦ elim apart [
-      inl less ↦ absurd (let none : a.letters ≡ 0 = short_alone b.numeral less a.suffix in omega (arith, a.whole, b.whole))
-    | inr more ↦ absurd (let none : b.letters ≡ 0 = short_alone a.numeral more b.suffix in omega (arith, a.whole, b.whole)) ] ]
+    | inl less ↦ absurd (let none : a.letters ≡ 0 = short_alone b.numeral less a.suffix in omega (arith, a.whole, b.whole))
+    | inr more ↦ absurd (let none : b.letters ≡ 0 = short_alone a.numeral more b.suffix in omega (arith, a.whole, b.whole))
+  ]
+]
 
 pub one_constant : {bytes : List ℕ} {n m v w : ℕ} {s t : Bool} → IsLongestConstant bytes n v s → IsLongestConstant bytes m w t → (n ≡ m) × (v ≡ w) × (s ≡ t)
 one_constant {bytes} {n} {m} {v} {w} {s} {t} a b =

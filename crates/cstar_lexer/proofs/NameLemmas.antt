@@ -11,9 +11,9 @@ pub lookup_map : {K L X : Type 0} (view : K → L) (test : L → Bool) (rows : L
 lookup_map view test [] = refl
 lookup_map view test (row ∷ rows) = step (test (view row.0)) refl (lookup_map view test rows)
   where
-  step : (b : Bool) → test (view row.0) ≡ b → lookup test (map (λ row. (view row.0, row.1)) rows) ≡ lookup (λ key. test (view key)) rows → lookup test (map (λ row. (view row.0, row.1)) (row ∷ rows)) ≡ lookup (λ key. test (view key)) (row ∷ rows)
-  step true e same = rw e refl
-  step false e same = rw e same
+    step : (b : Bool) → test (view row.0) ≡ b → lookup test (map (λ row. (view row.0, row.1)) rows) ≡ lookup (λ key. test (view key)) rows → lookup test (map (λ row. (view row.0, row.1)) (row ∷ rows)) ≡ lookup (λ key. test (view key)) (row ∷ rows)
+    step true e same = rw e refl
+    step false e same = rw e same
 
 -- a new name stands last
 pub defined_last : {V X : Type 0} (items : V → List ℕ) (key : V) (number : X) (rows new : List (V × X)) (name : List ℕ) → lookup (pointwise nat_eq name) (map {B = List ℕ × X} (λ row. (items row.0, row.1)) rows) ≡ None → items key ≡ name → new ≡ insert_entry (λ a b. pointwise nat_eq (items a) (items b)) rows key number → map {B = List ℕ × X} (λ row. (items row.0, row.1)) new ≡ map {B = List ℕ × X} (λ row. (items row.0, row.1)) rows ++ (name, number) ∷ []

@@ -56,24 +56,26 @@ not_end bytes at b is some no_newline ends =
 pub bad_hexadecimal : (bytes : List ℕ) (n : ℕ) → slice_index bytes 0 ≡ 92 → slice_index bytes 1 ≡ 120 → (LineEnds bytes 2 → ⊥) → n ≡ prefix_len (is_digit 16) (drop 2 bytes) → n ≡ 0 → IsBad bytes
 bad_hexadecimal bytes n begins x on_line is nothing = record { begins = begins; goes_on = uncut; none = none }
   where
-  uncut : IsCut bytes → ⊥
-  uncut (b, inl ends) = not_end bytes 1 120 x (λ e. absurd (omega arith)) (λ e. absurd (omega arith)) ends
-  uncut (b, inr (y, ends)) = on_line ends
-  none : (m value : ℕ) → IsEscape bytes m value → ⊥
-  none m value (Q.letter a e long) = x_no_letter value (rw x at e)
-  none m value (Q.octal a d some f long) = octal_no_x (rw x at (first_octal bytes _ d some))
-  none m value (Q.hexadecimal a y d some f long) = omega arith
+    uncut : IsCut bytes → ⊥
+    uncut (b, inl ends) = not_end bytes 1 120 x (λ e. absurd (omega arith)) (λ e. absurd (omega arith)) ends
+    uncut (b, inr (y, ends)) = on_line ends
+
+    none : (m value : ℕ) → IsEscape bytes m value → ⊥
+    none m value (Q.letter a e long) = x_no_letter value (rw x at e)
+    none m value (Q.octal a d some f long) = octal_no_x (rw x at (first_octal bytes _ d some))
+    none m value (Q.hexadecimal a y d some f long) = omega arith
 
 pub bad_octal : (bytes : List ℕ) (n : ℕ) → slice_index bytes 0 ≡ 92 → (LineEnds bytes 1 → ⊥) → escape_letter (slice_index bytes 1) ≡ None → (slice_index bytes 1 ≡ 120 → ⊥) → n ≡ min 3 (prefix_len (is_digit 8) (drop 1 bytes)) → n ≡ 0 → IsBad bytes
 bad_octal bytes n begins on_line no_letter no_x is nothing = record { begins = begins; goes_on = uncut; none = none }
   where
-  uncut : IsCut bytes → ⊥
-  uncut (b, inl ends) = on_line ends
-  uncut (b, inr (y, ends)) = no_x y
-  none : (m value : ℕ) → IsEscape bytes m value → ⊥
-  none m value (Q.letter a e long) = cc
-  none m value (Q.octal a d some f long) = omega arith
-  none m value (Q.hexadecimal a y d some f long) = no_x y
+    uncut : IsCut bytes → ⊥
+    uncut (b, inl ends) = on_line ends
+    uncut (b, inr (y, ends)) = no_x y
+
+    none : (m value : ℕ) → IsEscape bytes m value → ⊥
+    none m value (Q.letter a e long) = cc
+    none m value (Q.octal a d some f long) = omega arith
+    none m value (Q.hexadecimal a y d some f long) = no_x y
 
 -- a kept value below 256 is the value
 pub numeric_escape : (escape : Escape) (bytes : List ℕ) (value kept n : ℕ) → kept ≡ min (2 ^ 32) value → IsEscape bytes n value → IsNumeric escape kept n → EscapeIs escape bytes
@@ -88,9 +90,9 @@ prefix_len-take p zero xs = omega arith
 prefix_len-take p (suc m) [] = omega arith
 prefix_len-take p (suc m) (x ∷ xs) = step (p x) refl (prefix_len-take p m xs)
   where
-  step : (b : Bool) → p x ≡ b → prefix_len p (take m xs) ≡ min m (prefix_len p xs) → prefix_len p (x ∷ take m xs) ≡ min (suc m) (prefix_len p (x ∷ xs))
-  step true h more = rw h (omega (arith, more))
-  step false h more = rw h (omega arith)
+    step : (b : Bool) → p x ≡ b → prefix_len p (take m xs) ≡ min m (prefix_len p xs) → prefix_len p (x ∷ take m xs) ≡ min (suc m) (prefix_len p (x ∷ xs))
+    step true h more = rw h (omega (arith, more))
+    step false h more = rw h (omega arith)
 
 -- the digits of an octal escape among the next three bytes
 pub three_digits : (bytes : List ℕ) (j n : ℕ) → 1 < length bytes → j ≡ min (length bytes) 4 → n ≡ prefix_len (is_digit 8) (take (j - 1) (drop 1 bytes)) → (n ≡ min 3 (prefix_len (is_digit 8) (drop 1 bytes))) × (take n (take (j - 1) (drop 1 bytes)) ≡ take n (drop 1 bytes))
@@ -138,19 +140,23 @@ escape_long (Q.hexadecimal a x d some f long) = omega arith
 -- no byte of an escape ends its line
 pub escape_on_line : {bytes : List ℕ} {n v : ℕ} → IsEscape bytes n v → (k : ℕ) → k < n → get_or bytes k 0 ≡ 10 → ⊥
 escape_on_line {bytes} (Q.letter a e long) k h ten = elim (cases_order k 0) [
-    inl first ↦ absurd (let z = rw first at ten in omega (arith, a))
-  | inr apart ↦ let one : k ≡ 1 = elim apart [ inl less ↦ absurd (omega arith) | inr more ↦ omega arith ] in (letter_on_line _ _ e).1 (rw one at ten) ]
+  | inl first ↦ absurd (let z = rw first at ten in omega (arith, a))
+  | inr apart ↦ let one : k ≡ 1 = elim apart [ inl less ↦ absurd (omega arith) | inr more ↦ omega arith ] in (letter_on_line _ _ e).1 (rw one at ten)
+]
 escape_on_line {bytes} (Q.octal a d some f long) k h ten = elim (cases_order k 0) [
-    inl first ↦ absurd (let z = rw first at ten in omega (arith, a))
+  | inl first ↦ absurd (let z = rw first at ten in omega (arith, a))
   | inr apart ↦ let more : 1 ≤ k = elim apart [ inl less ↦ absurd (omega arith) | inr more ↦ omega arith ] in
       let at : get_or (drop 1 bytes) (k - 1) 0 ≡ get_or bytes (1 + (k - 1)) 0 = get_or-drop 1 bytes (k - 1) 0 in
       let same : 1 + (k - 1) ≡ k = omega arith in
-      (digit_on_line 8 _ (prefix_len_passes (is_digit 8) (drop 1 bytes) (k - 1) 0 (omega arith))).1 (at ∙ (ap (λ (i : ℕ). get_or bytes i 0) same ∙ ten)) ]
+      (digit_on_line 8 _ (prefix_len_passes (is_digit 8) (drop 1 bytes) (k - 1) 0 (omega arith))).1 (at ∙ (ap (λ (i : ℕ). get_or bytes i 0) same ∙ ten))
+]
 escape_on_line {bytes} (Q.hexadecimal a x d some f long) k h ten = elim (cases_lt k 2) [
-    inl low ↦ elim (cases_order k 0) [
-        inl first ↦ absurd (let z = rw first at ten in omega (arith, a))
-      | inr apart ↦ absurd (let one : k ≡ 1 = elim apart [ inl less ↦ absurd (omega arith) | inr more ↦ omega arith ] in let z = rw one at ten in omega (arith, x)) ]
+  | inl low ↦ elim (cases_order k 0) [
+    | inl first ↦ absurd (let z = rw first at ten in omega (arith, a))
+    | inr apart ↦ absurd (let one : k ≡ 1 = elim apart [ inl less ↦ absurd (omega arith) | inr more ↦ omega arith ] in let z = rw one at ten in omega (arith, x))
+  ]
   | inr high ↦
       let at : get_or (drop 2 bytes) (k - 2) 0 ≡ get_or bytes (2 + (k - 2)) 0 = get_or-drop 2 bytes (k - 2) 0 in
       let same : 2 + (k - 2) ≡ k = omega arith in
-      (digit_on_line 16 _ (prefix_len_passes (is_digit 16) (drop 2 bytes) (k - 2) 0 (omega arith))).1 (at ∙ (ap (λ (i : ℕ). get_or bytes i 0) same ∙ ten)) ]
+      (digit_on_line 16 _ (prefix_len_passes (is_digit 16) (drop 2 bytes) (k - 2) 0 (omega arith))).1 (at ∙ (ap (λ (i : ℕ). get_or bytes i 0) same ∙ ten))
+]

@@ -90,8 +90,9 @@ row_spelled name mark row =
 
 pub not_listed : (name : List ℕ) → ((k : ℕ) → k < 61 → get_or words k [] ≡ name → ⊥) → (mark : Mark) → word_bytes mark ≡ name → name ≡ []
 not_listed name none mark e = elim (listed mark) [
-    inl empty ↦ sym e ∙ empty
-  | inr (k, h, is) ↦ absurd (none k h (is ∙ e)) ]
+  | inl empty ↦ sym e ∙ empty
+  | inr (k, h, is) ↦ absurd (none k h (is ∙ e))
+]
 
 pub if_found : (found : Option Mark) (name : List ℕ) → IfSome found (IsRow words marks name) → IfSome found (λ mark. word_bytes mark ≡ name)
 if_found (Some mark) name row = row_spelled name mark row

@@ -128,15 +128,17 @@ wide_step bytes at n v word None flaw e large is place back so = record {
   stands = subst (λ (f : Fault). FaultInside bytes 1 f flaw.offset) (sym is) (back F.Wide flaw.offset (Q.wide e large place));
   before = omega (arith, escape_long e);
   later = λ fault offset h. elim (behind_wide e (so.later fault offset h)) [
-      inl i ↦ inl i
-    | inr r ↦ inr (omega (arith, r.0), λ same. subst (λ (f : Fault). number_of f ≤ number_of fault) (sym is) r.1) ];
+    | inl i ↦ inl i
+    | inr r ↦ inr (omega (arith, r.0), λ same. subst (λ (f : Fault). number_of f ≤ number_of fault) (sym is) r.1)
+  ];
 }
 wide_step bytes at n v word (Some met) flaw e large is place back so = record {
   stands = so.stands;
   before = omega (arith, so.before);
   later = λ fault offset h. elim (so.later fault offset h) [
-      inl i ↦ elim (behind_wide e i) [ inl j ↦ inl j | inr r ↦ inr (omega (arith, r.0, so.before), λ same. absurd (omega (arith, r.0, so.before, same))) ]
-    | inr r ↦ inr r ];
+    | inl i ↦ elim (behind_wide e i) [ inl j ↦ inl j | inr r ↦ inr (omega (arith, r.0, so.before), λ same. absurd (omega (arith, r.0, so.before, same))) ]
+    | inr r ↦ inr r
+  ];
 }
 
 pub bad_step : (bytes : List ℕ) (at : ℕ) (word : List ℕ) (first : Option Flaw) (flaw : Flaw) → IsBad (drop at bytes) → flaw.fault ≡ F.BadByte → flaw.offset ≡ at + 1 → Back bytes at → SoFar bytes at word first → Flawed bytes (at + 2) (unwrap_or first flaw)
@@ -144,15 +146,17 @@ bad_step bytes at word None flaw b is place back so = record {
   stands = subst (λ (f : Fault). FaultInside bytes 1 f flaw.offset) (sym is) (back F.BadByte flaw.offset (Q.bad b place));
   before = omega arith;
   later = λ fault offset h. elim (behind_bad b (so.later fault offset h)) [
-      inl i ↦ inl i
-    | inr r ↦ inr (omega (arith, r.0), λ same. subst (λ (f : Fault). number_of f ≤ number_of fault) (sym is) r.1) ];
+    | inl i ↦ inl i
+    | inr r ↦ inr (omega (arith, r.0), λ same. subst (λ (f : Fault). number_of f ≤ number_of fault) (sym is) r.1)
+  ];
 }
 bad_step bytes at word (Some met) flaw b is place back so = record {
   stands = so.stands;
   before = omega (arith, so.before);
   later = λ fault offset h. elim (so.later fault offset h) [
-      inl i ↦ elim (behind_bad b i) [ inl j ↦ inl j | inr r ↦ inr (omega (arith, r.0, so.before), λ same. absurd (omega (arith, r.0, so.before, same))) ]
-    | inr r ↦ inr r ];
+    | inl i ↦ elim (behind_bad b i) [ inl j ↦ inl j | inr r ↦ inr (omega (arith, r.0, so.before), λ same. absurd (omega (arith, r.0, so.before, same))) ]
+    | inr r ↦ inr r
+  ];
 }
 
 pub first_open : {bytes : List ℕ} → slice_index bytes 0 ≡ 34 → FaultInside bytes 1 F.Open 0 → IsFirst (TextFault bytes) F.Open 0

@@ -46,8 +46,9 @@ l_on_line x h e = absurd (let f = rw e at h in cc)
 
 two_bytes : (bytes : List ℕ) (k : ℕ) → k < 2 → (get_or bytes 0 0 ≡ 10 → ⊥) → (get_or bytes 1 0 ≡ 10 → ⊥) → get_or bytes k 0 ≡ 10 → ⊥
 two_bytes bytes k h first second e = elim (cases_order k 0) [
-    inl same ↦ first (rw same at e)
-  | inr apart ↦ let one : k ≡ 1 = elim apart [ inl less ↦ absurd (omega arith) | inr more ↦ omega arith ] in second (rw one at e) ]
+  | inl same ↦ first (rw same at e)
+  | inr apart ↦ let one : k ≡ 1 = elim apart [ inl less ↦ absurd (omega arith) | inr more ↦ omega arith ] in second (rw one at e)
+]
 
 suffix_on_line : {bytes : List ℕ} {n : ℕ} {s : Bool} → IsSuffix bytes n s → (k : ℕ) → k < n → get_or bytes k 0 ≡ 10 → ⊥
 suffix_on_line C.none k h e = absurd (omega arith)
@@ -58,11 +59,12 @@ suffix_on_line {bytes} (C.lu a b) k h e = two_bytes bytes k h (l_on_line _ a) (u
 
 pub constant_on_line : {bytes : List ℕ} {n v : ℕ} {s : Bool} → IsConstant bytes n v s → (k : ℕ) → k < n → get_or bytes k 0 ≡ 10 → ⊥
 constant_on_line {bytes} c k h e = elim (cases_lt k c.digits) [
-    inl low ↦ inner_on_line _ (inner_bytes c.numeral k low) e
+  | inl low ↦ inner_on_line _ (inner_bytes c.numeral k low) e
   | inr high ↦
       let at : get_or (drop c.digits bytes) (k - c.digits) 0 ≡ get_or bytes (c.digits + (k - c.digits)) 0 = get_or-drop c.digits bytes (k - c.digits) 0 in
       let same : c.digits + (k - c.digits) ≡ k = omega arith in
-      suffix_on_line c.suffix (k - c.digits) (omega (arith, c.whole)) (at ∙ (ap (λ (i : ℕ). get_or bytes i 0) same ∙ e)) ]
+      suffix_on_line c.suffix (k - c.digits) (omega (arith, c.whole)) (at ∙ (ap (λ (i : ℕ). get_or bytes i 0) same ∙ e))
+]
 
 -- character constants
 one_on_line : {bytes : List ℕ} {n v : ℕ} → IsOne bytes n v → (k : ℕ) → 1 ≤ k → k ≤ n → get_or bytes k 0 ≡ 10 → ⊥
@@ -74,10 +76,12 @@ one_on_line {bytes} (Q.escape escape) k some h e =
 
 character_on_line : {bytes : List ℕ} {n : ℕ} → (inner v : ℕ) → slice_index bytes 0 ≡ 39 → IsOne bytes inner v → slice_index bytes (inner + 1) ≡ 39 → n ≡ inner + 2 → (k : ℕ) → k < n → get_or bytes k 0 ≡ 10 → ⊥
 character_on_line {bytes} inner v begins one closes long k h e = elim (cases_order k 0) [
-    inl first ↦ absurd (let f = rw first at e in omega arith)
+  | inl first ↦ absurd (let f = rw first at e in omega arith)
   | inr apart ↦ elim (cases_order k (inner + 1)) [
-        inl last ↦ absurd (let f = rw last at e in omega arith)
-      | inr before ↦ one_on_line one k (elim apart [ inl less ↦ absurd (omega arith) | inr more ↦ omega arith ]) (elim before [ inl less ↦ omega arith | inr more ↦ absurd (omega arith) ]) e ] ]
+    | inl last ↦ absurd (let f = rw last at e in omega arith)
+    | inr before ↦ one_on_line one k (elim apart [ inl less ↦ absurd (omega arith) | inr more ↦ omega arith ]) (elim before [ inl less ↦ omega arith | inr more ↦ absurd (omega arith) ]) e
+  ]
+]
 
 -- texts
 pub inside_long : {bytes : List ℕ} {at end : ℕ} {word : List ℕ} → IsInside bytes at end word → (at < end) × (end ≤ length bytes)
@@ -88,14 +92,16 @@ inside_long (Q.escape escape small more is) = let rest = inside_long more in (om
 pub inside_on_line : {bytes : List ℕ} {at end : ℕ} {word : List ℕ} → IsInside bytes at end word → (k : ℕ) → at ≤ k → k < end → get_or bytes k 0 ≡ 10 → ⊥
 inside_on_line {bytes} {at} (Q.closes closes is empty) k from h e = absurd (let same : k ≡ at = omega arith in let f = rw same at e in omega arith)
 inside_on_line {bytes} {at} (Q.plain p more is) k from h e = elim (cases_order k at) [
-    inl same ↦ p.on_line (newline_ends bytes at (rw same at e))
-  | inr apart ↦ inside_on_line more k (elim apart [ inl less ↦ absurd (omega arith) | inr past ↦ omega arith ]) h e ]
+  | inl same ↦ p.on_line (newline_ends bytes at (rw same at e))
+  | inr apart ↦ inside_on_line more k (elim apart [ inl less ↦ absurd (omega arith) | inr past ↦ omega arith ]) h e
+]
 inside_on_line {bytes} {at} (Q.escape {n = n} escape small more is) k from h e = elim (cases_lt k (at + n)) [
-    inl low ↦
+  | inl low ↦
       let here : get_or (drop at bytes) (k - at) 0 ≡ get_or bytes (at + (k - at)) 0 = get_or-drop at bytes (k - at) 0 in
       let same : at + (k - at) ≡ k = omega arith in
       escape_on_line escape (k - at) (omega arith) (here ∙ (ap (λ (i : ℕ). get_or bytes i 0) same ∙ e))
-  | inr high ↦ inside_on_line more k high h e ]
+  | inr high ↦ inside_on_line more k high h e
+]
 
 -- punctuators
 marks_on_line : (mark : Mark) → list_all (λ x. not (x == 10)) (punctuator_bytes mark) ≡ true
@@ -115,8 +121,9 @@ token_on_line {names} {bytes} (T.word w named) k h e = goes_on_line _ (prefix_le
 token_on_line (T.constant c) k h e = constant_on_line c.constant.constant k h e
 token_on_line (T.character c) k h e = character_on_line c.inner c.byte c.begins c.one c.closes c.long k h e
 token_on_line {names} {bytes} (T.text t) k h e = elim (cases_order k 0) [
-    inl first ↦ absurd (let f = rw first at e in omega (arith, t.0))
-  | inr apart ↦ inside_on_line t.1 k (elim apart [ inl less ↦ absurd (omega arith) | inr more ↦ omega arith ]) h e ]
+  | inl first ↦ absurd (let f = rw first at e in omega (arith, t.0))
+  | inr apart ↦ inside_on_line t.1 k (elim apart [ inl less ↦ absurd (omega arith) | inr more ↦ omega arith ]) h e
+]
 token_on_line (T.mark m) k h e = mark_on_line m k h e
 
 pub token_some : {names : Names} {bytes : List ℕ} {n : ℕ} {kind : Kind} → IsToken names bytes n kind → 0 < n

@@ -167,13 +167,19 @@ fn read_suffix(rest: &[u8]) -> Suffix
     let second = byte_or_zero(rest, 1);
     if is_u(first) {
         let length = if is_l(second) { 2 } else { 1 };
-        Suffix { unsigned: true, length }
+        Suffix {
+            unsigned: true,
+            length,
+        }
     } else if is_l(first) {
         let unsigned = is_u(second);
         let length = if unsigned { 2 } else { 1 };
         Suffix { unsigned, length }
     } else {
-        Suffix { unsigned: false, length: 0 }
+        Suffix {
+            unsigned: false,
+            length: 0,
+        }
     }
 }
 

@@ -17,4 +17,3 @@ returns-else-unsigned c = let longest = suffix_l c.args.rest.now (cc) (cc) in re
 
 pub returns-else-is_l-2 : goal.returns-else-is_l-2
 returns-else-is_l-2 c = let longest = suffix_none c.args.rest.now (cc) (cc) in record { within = within_suffix longest.suffix; longest = longest }
-
