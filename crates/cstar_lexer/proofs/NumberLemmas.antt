@@ -1,5 +1,5 @@
 -- Which fault at a constant is the first.
-use Rattle.std.proofs.Common.{◌≡◌, ℕ, ◌^◌, ◌<◌, ◌≤◌, Bool, true, false, List, get_or, arith, lit≤, refl, sym, ap, ◌∙◌, subst}
+use Rattle.std.proofs.Common.{◌≡◌, ℕ, ◌^◌, ◌<◌, ◌≤◌, Bool, true, List, arith, lit≤, sym, subst}
 use Rattle.std.specs.Prelude.{slice_index}
 use Rattle.cstar_base.specs.Faults.{number_of}
 use Rattle.cstar_base.specs.declared.faults.Fault.{Fault}

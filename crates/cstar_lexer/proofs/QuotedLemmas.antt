@@ -1,5 +1,5 @@
 -- One escape stands at a place.
-use Rattle.std.proofs.Common.{◌≡◌, ℕ, ◌+◌, ◌-◌, ◌<◌, ◌≤◌, ◌^◌, suc, zero, ◌⊎◌, inl, inr, Bool, true, false, List, [], ◌∷◌, length, take, drop, get_or, get_or-drop, arith, lit≤, refl, sym, ap, ◌∙◌, subst}
+use Rattle.std.proofs.Common.{◌≡◌, ℕ, ◌+◌, ◌-◌, ◌<◌, ◌≤◌, ◌^◌, suc, zero, inl, inr, Bool, true, false, List, [], ◌∷◌, length, take, drop, get_or, get_or-drop, arith, refl, sym, ap, ◌∙◌, subst}
 use Rattle.std.specs.Prelude.{min, slice_index, Some, None}
 use Rattle.std.specs.List.{prefix_len}
 use Rattle.std.proofs.lemmas.List.Sums.{prefix_len_passes, prefix_len-le-length}

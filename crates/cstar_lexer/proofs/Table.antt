@@ -1,6 +1,6 @@
 -- The table of the reserved words.
-use Rattle.std.proofs.Common.{◌≡◌, ℕ, ◌<◌, ◌⊎◌, inl, inr, Bool, true, List, [], ◌∷◌, length, map, get_or, refl, arith, lit<, ap, sym, ◌∙◌, subst}
-use Rattle.std.specs.Prelude.{codes, IfNone, IfSome, None, Option, Some}
+use Rattle.std.proofs.Common.{◌≡◌, ℕ, ◌<◌, ◌⊎◌, inl, inr, List, [], map, get_or, refl, lit<, ap, sym, ◌∙◌}
+use Rattle.std.specs.Prelude.{IfNone, IfSome, None, Option, Some}
 use Rattle.cstar_tree.specs.declared.token.Mark.{Mark}
 use Rattle.cstar_tree.specs.declared.token.Mark.TheVariants as M
 use Rattle.cstar_lexer.specs.declared.words.TheConstants.{RESERVED}

@@ -1,5 +1,5 @@
 -- A text is read from its first byte on, and its first fault kept.
-use Rattle.std.proofs.Common.{◌≡◌, ℕ, ◌+◌, ◌<◌, ◌≤◌, ◌⊎◌, inl, inr, Bool, true, false, List, [], ◌∷◌, ◌++◌, append_assoc, append-nil, length, drop, get_or, get_or-drop, arith, lit≤, refl, sym, ap, ◌∙◌, subst}
+use Rattle.std.proofs.Common.{◌≡◌, ℕ, ◌+◌, ◌<◌, ◌≤◌, ◌⊎◌, inl, inr, List, [], ◌∷◌, ◌++◌, append_assoc, append-nil, drop, get_or, get_or-drop, arith, lit≤, refl, sym, ◌∙◌, subst}
 use Rattle.std.specs.Prelude.{slice_index, Option, Some, None, unwrap_or}
 use Rattle.cstar_base.specs.Faults.{number_of}
 use Rattle.cstar_base.specs.declared.faults.Fault.{Fault}

@@ -1,9 +1,8 @@
 -- A token has a byte, and lies on one line of its text.
-use Rattle.std.proofs.Common.{◌≡◌, ℕ, ◌+◌, ◌-◌, ◌<◌, ◌≤◌, ◌==◌, ◌⊎◌, inl, inr, Bool, true, false, not, List, [], ◌∷◌, length, take, drop, get_or, get_or-drop, arith, refl, sym, ap, ◌∙◌, subst}
+use Rattle.std.proofs.Common.{◌≡◌, ℕ, ◌+◌, ◌-◌, ◌<◌, ◌≤◌, ◌==◌, inl, inr, Bool, true, false, not, List, length, take, drop, get_or, get_or-drop, arith, refl, ap, ◌∙◌, subst}
 use Rattle.std.specs.Prelude.{slice_index}
-use Rattle.std.specs.List.{list_all, prefix_len}
+use Rattle.std.specs.List.{list_all}
 use Rattle.std.proofs.lemmas.Bool.{cases_lt, cases_order}
-use Rattle.std.proofs.lemmas.Bool.Decides.{nat_tests}
 use Rattle.std.proofs.lemmas.List.{get_or-take, get_or_default, length-take-le}
 use Rattle.std.proofs.lemmas.List.Folds.{list_all_at}
 use Rattle.std.proofs.lemmas.List.Sums.{prefix_len-le-length, prefix_len_passes}
@@ -21,7 +20,7 @@ use Rattle.cstar_lexer.specs.Tokens.{IsToken}
 use Rattle.cstar_lexer.specs.Tokens as T
 use Rattle.cstar_lexer.proofs.DirectiveLemmas.{word_some}
 use Rattle.cstar_lexer.proofs.Longest.{byte_within, inner_bytes, is_inner, some_constant, within_constant}
-use Rattle.cstar_lexer.proofs.QuotedLemmas.{escape_long, escape_on_line}
+use Rattle.cstar_lexer.proofs.QuotedLemmas.{escape_on_line}
 
 pub newline_ends : (bytes : List ℕ) (k : ℕ) → get_or bytes k 0 ≡ 10 → LineEnds bytes k
 newline_ends bytes k e = let within : k < length bytes = byte_within bytes k (λ z. absurd (omega arith)) in get_or_default bytes k 10 0 within ∙ e

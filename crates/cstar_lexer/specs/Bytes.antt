@@ -1,5 +1,5 @@
 -- The classes of bytes.
-use Rattle.std.specs.Prelude.{ℕ, Bool, true, ◌==◌, ◌&&◌, ◌||◌, not, nat_le, List, slice_index_or, ◌≡◌}
+use Rattle.std.specs.Prelude.{ℕ, Bool, ◌==◌, ◌&&◌, ◌||◌, nat_le, List, slice_index_or, ◌≡◌}
 
 -- from the first byte of a range to the last
 abbrev pub in_range : ℕ → ℕ → ℕ → Bool

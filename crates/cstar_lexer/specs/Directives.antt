@@ -1,5 +1,5 @@
 -- The lines that begin with a `#`.
-use Rattle.std.specs.Prelude.{◌≡◌, ℕ, ◌+◌, ◌⊎◌, Bool, true, Option, Some, None, List, [], ◌∷◌, ◌++◌, codes, length, take, drop, slice_index}
+use Rattle.std.specs.Prelude.{◌≡◌, ℕ, ◌+◌, ◌⊎◌, Bool, true, Some, None, List, [], ◌∷◌, ◌++◌, codes, length, take, drop, slice_index}
 use Rattle.std.specs.List.{prefix_len}
 use Rattle.cstar_lexer.specs.declared.number.Number.{Number}
 use Rattle.cstar_lexer.specs.Bytes.{goes_on, is_figure, is_inner_blank, is_letter}

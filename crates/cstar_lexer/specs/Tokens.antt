@@ -1,5 +1,5 @@
 -- What bytes a token of each kind is.
-use Rattle.std.specs.Prelude.{◌≡◌, ℕ, true, Option, Some, None, List, take, slice_index}
+use Rattle.std.specs.Prelude.{◌≡◌, ℕ, true, Some, None, List, take, slice_index}
 use Rattle.std.specs.List.{prefix_len}
 use Rattle.cstar_tree.specs.declared.token.Kind.{Kind}
 use Rattle.cstar_tree.specs.declared.token.Kind.TheVariants as K

@@ -1,4 +1,4 @@
-use Rattle.std.proofs.Common.{◌≡◌, false, get_or, length, arith, sym}
+use Rattle.std.proofs.Common.{length, arith, sym}
 use Rattle.std.proofs.lemmas.List.Sums.{prefix_len_is}
 use Rattle.cstar_lexer.specs.Bytes.{is_inner_blank}
 use Rattle.cstar_lexer.proofs.bytes.blank_length.Goals as goal

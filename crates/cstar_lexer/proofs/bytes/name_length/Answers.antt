@@ -1,4 +1,4 @@
-use Rattle.std.proofs.Common.{◌≡◌, false, get_or, length, arith, sym}
+use Rattle.std.proofs.Common.{length, arith, sym}
 use Rattle.std.proofs.lemmas.List.Sums.{prefix_len_is}
 use Rattle.cstar_lexer.specs.Bytes.{goes_on}
 use Rattle.cstar_lexer.proofs.bytes.name_length.Goals as goal

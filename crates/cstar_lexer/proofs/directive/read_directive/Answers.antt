@@ -1,4 +1,4 @@
-use Rattle.std.proofs.Common.{◌≡◌, ◌∙◌, ℕ, List, ap, sym, subst, refl, arith, length, length-drop}
+use Rattle.std.proofs.Common.{◌∙◌, ℕ, List, ap, sym, subst, refl, arith, length, length-drop}
 use Rattle.cstar_lexer.specs.Directives.{IsEmptyEnd, behind_blanks}
 use Rattle.cstar_lexer.proofs.DirectiveLemmas.{define_is}
 use Rattle.cstar_lexer.proofs.directive.read_directive.Goals as goal

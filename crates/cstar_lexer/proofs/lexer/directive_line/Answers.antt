@@ -1,4 +1,4 @@
-use Rattle.std.proofs.Common.{◌≡◌, ◌∙◌, List, ℕ, take, Some, ap, subst, sym, refl}
+use Rattle.std.proofs.Common.{◌∙◌, take, Some, ap, subst, sym, refl}
 use Rattle.cstar_lexer.specs.Directives as D
 use Rattle.cstar_lexer.specs.Pieces.{DirectiveIs}
 use Rattle.cstar_lexer.specs.declared.directive.Directive.{Directive}

@@ -1,4 +1,4 @@
-use Rattle.std.proofs.Common.{◌≡◌, ◌∙◌, ◌<◌, ℕ, List, length, ap, sym, subst, arith}
+use Rattle.std.proofs.Common.{◌∙◌, ℕ, List, length, ap, sym, subst, arith}
 use Rattle.cstar_tree.specs.declared.token.Kind.{Kind}
 use Rattle.cstar_tree.specs.declared.token.Kind.TheVariants as K
 use Rattle.cstar_lexer.specs.Names.{names_of}

@@ -1,4 +1,4 @@
-use Rattle.std.proofs.Common.{◌≡◌, ◌∙◌, ℕ, List, true, ap, sym, subst}
+use Rattle.std.proofs.Common.{sym, subst}
 use Rattle.cstar_tree.specs.declared.token.Kind.{Kind}
 use Rattle.cstar_lexer.specs.Names.{names_of}
 use Rattle.cstar_lexer.specs.Tokens.{IsToken}

@@ -1,5 +1,3 @@
-use Rattle.std.proofs.Common.{◌≡◌, ◌∙◌, length, length-drop, arith, subst}
-use Rattle.cstar_lexer.specs.Constants.{IsLongestSuffix}
 use Rattle.cstar_lexer.proofs.Longest.{longest_constant, within_constant}
 use Rattle.cstar_lexer.proofs.number.read_constant.Goals as goal
 

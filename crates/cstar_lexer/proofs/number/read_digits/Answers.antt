@@ -1,4 +1,4 @@
-use Rattle.std.proofs.Common.{◌≡◌, ◌<◌, true, get_or, length, arith, below_more, refl, ap, ◌∙◌, sym}
+use Rattle.std.proofs.Common.{arith, below_more, refl, ◌∙◌, sym}
 use Rattle.std.proofs.lemmas.List.Sums.{prefix_len_is}
 use Rattle.cstar_lexer.specs.Constants.{is_digit, value_of}
 use Rattle.cstar_lexer.proofs.ConstantLemmas.{capped_more, value_more}

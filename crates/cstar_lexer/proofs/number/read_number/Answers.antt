@@ -1,4 +1,4 @@
-use Rattle.std.proofs.Common.{◌≡◌, arith}
+use Rattle.std.proofs.Common.{arith}
 use Rattle.cstar_lexer.proofs.NumberLemmas.{first_glued, first_wide, glued_some}
 use Rattle.cstar_lexer.proofs.Longest.{byte_within}
 use Rattle.cstar_lexer.proofs.number.read_number.Goals as goal

@@ -1,4 +1,4 @@
-use Rattle.std.proofs.Common.{◌≡◌, arith, refl}
+use Rattle.std.proofs.Common.{refl}
 use Rattle.cstar_lexer.proofs.Longest.{decimal_numeral, hexadecimal_numeral, octal_numeral, two_before, within_numeral}
 use Rattle.cstar_lexer.proofs.number.read_numeral.Goals as goal
 

@@ -1,5 +1,3 @@
-use Rattle.std.proofs.Common.{◌≡◌, sym, ap, ◌∙◌}
-use Rattle.cstar_lexer.specs.Constants.{is_l, is_u}
 use Rattle.cstar_lexer.proofs.Longest.{suffix_l, suffix_lu, suffix_none, suffix_u, suffix_ul, within_suffix}
 use Rattle.cstar_lexer.proofs.number.read_suffix.Goals as goal
 

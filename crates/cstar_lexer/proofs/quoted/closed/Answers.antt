@@ -1,4 +1,4 @@
-use Rattle.std.proofs.Common.{◌≡◌, ◌<◌, arith}
+use Rattle.std.proofs.Common.{◌<◌, arith}
 use Rattle.cstar_lexer.specs.Quoted as Q
 use Rattle.cstar_lexer.proofs.CharacterLemmas.{first_open, first_other}
 use Rattle.cstar_lexer.proofs.NumberLemmas.{told}

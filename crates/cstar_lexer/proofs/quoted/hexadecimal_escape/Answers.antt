@@ -1,4 +1,4 @@
-use Rattle.std.proofs.Common.{◌≡◌, arith, refl}
+use Rattle.std.proofs.Common.{arith, refl}
 use Rattle.cstar_lexer.specs.Quoted as Q
 use Rattle.cstar_lexer.proofs.QuotedLemmas.{bad_hexadecimal, numeric_escape}
 use Rattle.cstar_lexer.proofs.quoted.hexadecimal_escape.Goals as goal

@@ -1,6 +1,6 @@
-use Rattle.std.proofs.Common.{◌≡◌, arith, refl}
+use Rattle.std.proofs.Common.{arith, refl}
 use Rattle.cstar_lexer.specs.Quoted as Q
-use Rattle.cstar_lexer.proofs.QuotedLemmas.{bad_octal, numeric_escape, three_digits}
+use Rattle.cstar_lexer.proofs.QuotedLemmas.{numeric_escape, three_digits}
 use Rattle.cstar_lexer.proofs.quoted.octal_escape.Goals as goal
 
 pub returns-clause-is : goal.returns-clause-is

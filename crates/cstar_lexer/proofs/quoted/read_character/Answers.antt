@@ -1,4 +1,4 @@
-use Rattle.std.proofs.Common.{◌≡◌, ℕ, List, refl, subst}
+use Rattle.std.proofs.Common.{ℕ, List, refl, subst}
 use Rattle.cstar_lexer.specs.Quoted.{IsBad, IsCut, IsEscape}
 use Rattle.cstar_lexer.specs.Quoted as Q
 use Rattle.cstar_lexer.proofs.CharacterLemmas.{first_bad, first_empty, first_open, first_wide}

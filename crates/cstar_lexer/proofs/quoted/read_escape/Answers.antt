@@ -1,6 +1,5 @@
-use Rattle.std.proofs.Common.{◌≡◌, ◌∙◌, arith, refl, sym}
+use Rattle.std.proofs.Common.{◌∙◌, refl, sym}
 use Rattle.cstar_lexer.specs.Quoted as Q
-use Rattle.cstar_lexer.proofs.QuotedLemmas as quoted
 use Rattle.cstar_lexer.proofs.quoted.read_escape.Goals as goal
 
 pub returns-in-Some-clause-is : goal.returns-in-Some-clause-is

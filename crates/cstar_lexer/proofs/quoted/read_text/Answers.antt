@@ -1,5 +1,5 @@
 -- Each turn of the loop reads a byte or an escape.
-use Rattle.std.proofs.Common.{◌≡◌, ℕ, ◌+◌, ◌++◌, ◌∷◌, List, [], Option, Some, None, arith, refl, subst, sym}
+use Rattle.std.proofs.Common.{ℕ, ◌+◌, List, Option, arith, subst, sym}
 use Rattle.std.proofs.lemmas.Grind.{common_steps}
 use Rattle.cstar_lexer.specs.declared.flaw.Flaw.{Flaw}
 use Rattle.cstar_lexer.specs.Quoted.{IsBad, IsCut, IsEscape, IsQuoted}

@@ -1,4 +1,4 @@
-use Rattle.std.proofs.Common.{◌≡◌, ◌∙◌, ℕ, ◌<◌, List, [], map, length, get_or, below_more, ap, sym, refl, arith}
+use Rattle.std.proofs.Common.{◌∙◌, ◌<◌, [], length, below_more, sym}
 use Rattle.std.proofs.lemmas.List.{get_or-map, length-map}
 use Rattle.std.specs.Cmp.Lexicographic.{bytes_decides}
 use Rattle.cstar_lexer.proofs.words.mark_in.Goals as goal

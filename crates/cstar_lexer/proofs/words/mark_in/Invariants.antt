@@ -1,4 +1,4 @@
-use Rattle.std.proofs.Common.{◌≡◌, ℕ, ◌<◌, List, [], map, get_or}
+use Rattle.std.proofs.Common.{◌≡◌, ℕ, ◌<◌, [], map, get_or}
 use Rattle.cstar_lexer.proofs.words.mark_in.Given as goal
 
 abbrev pub invariant-loop-word : goal.invariant-loop-word

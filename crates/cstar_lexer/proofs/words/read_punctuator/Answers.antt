@@ -1,4 +1,4 @@
-use Rattle.std.proofs.Common.{◌≡◌, ◌∙◌, ap, sym}
+use Rattle.std.proofs.Common.{◌∙◌, ap, sym}
 use Rattle.cstar_lexer.specs.Dispatch.{mark_of_one}
 use Rattle.cstar_lexer.proofs.MarkLemmas.{longest_one, longest_three, longest_two, no_mark}
 use Rattle.cstar_lexer.proofs.words.read_punctuator.Goals as goal

@@ -1,4 +1,3 @@
-use Rattle.std.proofs.Common.{◌≡◌}
 use Rattle.cstar_lexer.proofs.Table.{if_found, if_none}
 use Rattle.cstar_lexer.proofs.words.reserved.Goals as goal
 

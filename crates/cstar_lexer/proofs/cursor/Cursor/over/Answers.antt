@@ -1,4 +1,4 @@
-use Rattle.std.proofs.Common.{◌≡◌, ◌∙◌, ◌<◌, length, get_or, arith, ap, sym}
+use Rattle.std.proofs.Common.{◌∙◌, ◌<◌, length, get_or, arith, ap, sym}
 use Rattle.cstar_base.specs.declared.operators.Place.{Place}
 use Rattle.cstar_lexer.specs.Places.{behind_byte}
 use Rattle.cstar_lexer.proofs.PlaceLemmas.{behind_more, behind_none}

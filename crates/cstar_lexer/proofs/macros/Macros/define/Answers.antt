@@ -1,4 +1,3 @@
-use Rattle.std.proofs.Common.{◌≡◌, ◌∙◌, nat_eq, sym, ap}
 use Rattle.cstar_lexer.proofs.NameLemmas.{defined_last}
 use Rattle.cstar_lexer.proofs.macros.Macros.define.Goals as goal
 

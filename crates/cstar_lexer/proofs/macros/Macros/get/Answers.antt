@@ -1,4 +1,4 @@
-use Rattle.std.proofs.Common.{◌≡◌, ◌∙◌, nat_eq, sym}
+use Rattle.std.proofs.Common.{◌∙◌, nat_eq, sym}
 use Rattle.std.specs.Cmp.Lexicographic.{pointwise}
 use Rattle.cstar_lexer.proofs.NameLemmas.{lookup_map}
 use Rattle.cstar_lexer.proofs.macros.Macros.get.Goals as goal
