@@ -1,2 +1,13 @@
+pub mod CharacterLemmas
+pub mod ConstantLemmas
+pub mod DirectiveLemmas
+pub mod Longest
 pub mod MarkLemmas
+pub mod NameLemmas
+pub mod NumberLemmas
+pub mod PlaceLemmas
+pub mod QuotedLemmas
 pub mod ReadingLemmas
+pub mod Table
+pub mod TextLemmas
+pub mod TokenLemmas

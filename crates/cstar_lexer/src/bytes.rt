@@ -1,32 +1,48 @@
 //! The classes of bytes, and the parts of a text from a position on.
 
-ghost use Rattle.std.specs.Prelude.{ℕ, true, slice_index, ◌≡◌, ◌≤◌, ◌<◌, ◌+◌, length, drop, false, IfSome, IsSome};
-ghost use Rattle.cstar_lexer.specs.Marks.{BeginsName};
-ghost use Rattle.cstar_lexer.specs.Pieces.{IsDigit};
-ghost use Rattle.cstar_lexer.specs.Reading.{IsBlank, IsComment};
+ghost use Rattle.std.specs.Prelude.{ℕ, true, false, slice_index, ◌≡◌, ◌≤◌, ◌<◌, ◌+◌, length, drop, IfSome, IfNone};
+ghost use Rattle.std.specs.List.{prefix_len};
+ghost use Rattle.cstar_lexer.specs.Bytes.{LineEnds, goes_on, is_figure, is_inner_blank, is_letter};
+ghost use Rattle.cstar_lexer.specs.Constants.{digit_of, is_digit};
+ghost use Rattle.cstar_lexer.specs.Comments.{IsComment, OpensComment};
 
 /// A blank that does not end its line.
+#[tactic(auto, unfolding(crate::specs::Bytes::is_inner_blank))]
 pub fn is_blank(byte: u8) -> bool
-    ensures { result ≡ true → IsBlank byte }
+    ensures { result ≡ is_inner_blank byte }
 {
-    matches!(byte, b' ' | b'\t' | 0x0b | 0x0c | b'\r')
+    matches!(byte, b' ' | b'\t' | 0x0b..=b'\r')
+}
+
+/// A decimal digit.
+#[tactic(auto, unfolding(crate::specs::Bytes::is_figure))]
+pub fn is_figure(byte: u8) -> bool
+    ensures { result ≡ is_figure byte }
+{
+    matches!(byte, b'0'..=b'9')
 }
 
 /// Whether a name or a reserved word can begin with this byte.
+#[tactic(auto, unfolding(crate::specs::Bytes::is_letter))]
 pub fn begins_name(byte: u8) -> bool
-    ensures { result ≡ true → BeginsName byte }
+    ensures { result ≡ is_letter byte }
 {
-    byte.is_ascii_alphabetic() || byte == b'_'
+    matches!(byte, b'_' | b'A'..=b'Z' | b'a'..=b'z')
 }
 
-pub fn continues_name(byte: u8) -> bool {
-    begins_name(byte) || byte.is_ascii_digit()
+#[tactic(auto, unfolding(crate::specs::Bytes::goes_on))]
+pub fn continues_name(byte: u8) -> bool
+    ensures { result ≡ goes_on byte }
+{
+    begins_name(byte) || is_figure(byte)
 }
 
 /// The value of a digit in a radix of at most 16, or None for any other byte.
+#[tactic(auto, unfolding(crate::specs::Constants::is_digit, crate::specs::Constants::digit_of))]
 pub fn digit_value(byte: u8, radix: u64) -> Option<u64>
     ensures below { IfSome result (λ digit. digit < 16) }
-    ensures decimal { IsDigit byte → byte < 48 + radix → IsSome result }
+    ensures digit { IfSome result (λ digit. (is_digit radix byte ≡ true) × (digit ≡ digit_of byte)) }
+    ensures none { IfNone result (is_digit radix byte ≡ false) }
 {
     let digit = match byte {
         b'0'..=b'9' => byte - b'0',
@@ -47,13 +63,17 @@ pub fn tail(bytes: &[u8], at: usize) -> &[u8]
 }
 
 /// The byte at a position, or 0 behind the end.
-pub fn byte_or_zero(bytes: &[u8], at: usize) -> u8 {
+pub fn byte_or_zero(bytes: &[u8], at: usize) -> u8
+    ensures { result ≡ slice_index bytes.now at }
+{
     bytes.get(at).copied().unwrap_or(0)
 }
 
 /// Whether the line or the text ends at a position.
 pub fn ends_line(bytes: &[u8], at: usize) -> bool
-    ensures { result ≡ false → at < length bytes.now }
+    ensures within { result ≡ false → at < length bytes.now }
+    ensures ends { result ≡ true → LineEnds bytes.now at }
+    ensures goes_on { result ≡ false → LineEnds bytes.now at → ⊥ }
 {
     match bytes.get(at) {
         Some(byte) => *byte == b'\n',
@@ -63,11 +83,28 @@ pub fn ends_line(bytes: &[u8], at: usize) -> bool
 
 /// The length of the run of letters, digits and `_` at the beginning.
 pub fn name_length(rest: &[u8]) -> usize
-    ensures { result ≤ length rest.now }
+    ensures within { result ≤ length rest.now }
+    ensures run { result ≡ prefix_len goes_on rest.now }
 {
-    rest.iter()
-        .position(|byte| !continues_name(*byte))
-        .unwrap_or(rest.len())
+    for (at, byte) in rest.iter().enumerate() {
+        if !continues_name(*byte) {
+            return at;
+        }
+    }
+    rest.len()
+}
+
+/// The length of the run of blanks at the beginning, none of which ends its line.
+pub fn blank_length(rest: &[u8]) -> usize
+    ensures within { result ≤ length rest.now }
+    ensures run { result ≡ prefix_len is_inner_blank rest.now }
+{
+    for (at, byte) in rest.iter().enumerate() {
+        if !is_blank(*byte) {
+            return at;
+        }
+    }
+    rest.len()
 }
 
 /// The length of the line that begins here, without the newline that ends it.
@@ -86,16 +123,15 @@ pub fn line_length(rest: &[u8]) -> usize
 
 /// Whether a comment opens here.
 pub fn opens_comment(rest: &[u8]) -> bool
-    ensures slash { result ≡ true → slice_index rest.now 0 ≡ 47 }
-    ensures star { result ≡ true → slice_index rest.now 1 ≡ 42 }
+    ensures opens { result ≡ true → OpensComment rest.now }
+    ensures none { result ≡ false → OpensComment rest.now → ⊥ }
 {
-    rest.len() > 1 && rest[0] == b'/' && rest[1] == b'*'
+    byte_or_zero(rest, 0) == b'/' && byte_or_zero(rest, 1) == b'*'
 }
 
 /// The length of the comment that opens here, or None where it is not closed.
 pub fn comment_length(rest: &[u8]) -> Option<usize>
-    requires slash { slice_index rest.now 0 ≡ 47 }
-    requires star { slice_index rest.now 1 ≡ 42 }
+    requires { OpensComment rest.now }
     ensures { IfSome result (IsComment rest.now) }
 {
     let mut last: usize = 3;

@@ -1,9 +1,13 @@
 //! Integer constants.
 
-ghost use Rattle.std.specs.Prelude.{◌≡◌, ◌≤◌, ◌<◌, ◌^◌, ◌+◌, length, IfOk, IfErr, slice_index, true};
-ghost use Rattle.cstar_lexer.specs.Pieces.{IsDigit};
+ghost use Rattle.std.specs.Prelude.{◌≡◌, ◌≤◌, ◌<◌, ◌^◌, ◌+◌, ◌||◌, length, IfOk, IfErr, MatchOption, slice_index, true, take, min, nat_lt};
+ghost use Rattle.std.specs.List.{prefix_len};
+ghost use Rattle.cstar_lexer.specs.Bytes.{is_figure};
+ghost use Rattle.cstar_lexer.specs.Faults.{IsFirst};
+ghost use Rattle.cstar_lexer.specs.Numbers.{IsNumber, NumberFault, is_glued};
+ghost use Rattle.cstar_lexer.specs.Constants.{IsKeptConstant, IsLongestNumeral, IsLongestSuffix, begins_hexadecimal, is_digit, is_l, is_u, is_unsigned, is_x, value_of};
 
-use crate::bytes::{begins_name, byte_or_zero, digit_value, tail};
+use crate::bytes::{byte_or_zero, continues_name, digit_value, tail};
 use crate::flaw::Flaw;
 use cstar_base::Fault;
 
@@ -19,10 +23,10 @@ pub struct Digits {
 
 /// The longest run of digits of a radix of at most 16.
 pub fn read_digits(rest: &[u8], radix: u64) -> Digits
-    requires { radix ≤ 16 }
-    ensures capped { result.value ≤ 2 ^ 32 }
-    ensures within { result.length ≤ length rest.now }
-    ensures begun { 0 < length rest.now → IsDigit (slice_index rest.now 0) → slice_index rest.now 0 < 48 + radix → 0 < result.length }
+    requires most { radix ≤ 16 }
+    requires some { 0 < radix }
+    ensures run { result.length ≡ prefix_len (is_digit radix) rest.now }
+    ensures value { result.value ≡ min (2 ^ 32) (value_of radix (take result.length rest.now)) }
 {
     let mut value: u64 = 0;
     let mut length: usize = 0;
@@ -45,7 +49,7 @@ pub struct Constant {
 }
 
 /// A number as a token has it.
-#[derive(Clone, Copy, PartialEq, Eq)]
+#[derive(Clone, Copy)]
 pub struct Number {
     pub value: u32,
     pub unsigned: bool,
@@ -53,7 +57,11 @@ pub struct Number {
 
 impl Constant {
     /// The number that the constant stands for, or None where it is above 4294967295.
-    pub fn number(self) -> Option<Number> {
+    pub fn number(self) -> Option<Number>
+        ensures { MatchOption result (2 ^ 32 ≤ self.value) (λ number. (self.value < 2 ^ 32)
+            × (number.value ≡ self.value)
+            × (number.unsigned ≡ is_unsigned self.value self.suffixed)) }
+    {
         if self.value >= WIDE {
             return None;
         }
@@ -63,23 +71,22 @@ impl Constant {
     }
 }
 
+impl Number {
+    /// Whether it is the same number, unsigned where the other is.
+    pub fn is(self, other: Number) -> bool
+        ensures { result ≡ true → self ≡ other }
+    {
+        self.value == other.value && self.unsigned == other.unsigned
+    }
+}
+
 /// The longest integer constant at the beginning, where a digit stands.
 pub fn read_constant(rest: &[u8]) -> Constant
-    requires stands { 0 < length rest.now }
-    requires digit { IsDigit (slice_index rest.now 0) }
-    ensures { (0 < result.length) × (result.length ≤ length rest.now) }
+    requires { is_figure (slice_index rest.now 0) ≡ true }
+    ensures within { result.length ≤ length rest.now }
+    ensures longest { IsKeptConstant rest.now result.length result.value result.suffixed }
 {
-    let digits = if rest[0] != b'0' {
-        read_digits(rest, 10)
-    } else if is_hexadecimal(rest) {
-        let behind = read_digits(tail(rest, 2), 16);
-        Digits {
-            value: behind.value,
-            length: behind.length + 2,
-        }
-    } else {
-        read_digits(rest, 8)
-    };
+    let digits = read_numeral(rest);
     let suffix = read_suffix(tail(rest, digits.length));
     Constant {
         value: digits.value,
@@ -88,14 +95,60 @@ pub fn read_constant(rest: &[u8]) -> Constant
     }
 }
 
-/// Whether `0x` or `0X` and a hexadecimal digit begin the constant.
-fn is_hexadecimal(rest: &[u8]) -> bool
-    ensures { result ≡ true → 2 < length rest.now }
+/// The longest constant without its suffix at the beginning, where a digit stands.
+fn read_numeral(rest: &[u8]) -> Digits
+    requires { is_figure (slice_index rest.now 0) ≡ true }
+    ensures within { result.length ≤ length rest.now }
+    ensures longest { IsLongestNumeral rest.now result.length result.value }
 {
-    rest.len() > 2
-        && rest[0] == b'0'
-        && matches!(rest[1], b'x' | b'X')
-        && digit_value(rest[2], 16).is_some()
+    if byte_or_zero(rest, 0) != b'0' {
+        return read_digits(rest, 10);
+    }
+    if !is_hexadecimal(rest) {
+        return read_digits(rest, 8);
+    }
+    let behind = read_digits(tail(rest, 2), 16);
+    Digits {
+        value: behind.value,
+        length: behind.length + 2,
+    }
+}
+
+/// Whether `0x` or `0X` and a hexadecimal digit begin the constant.
+#[tactic(auto, unfolding(crate::specs::Constants::begins_hexadecimal))]
+fn is_hexadecimal(rest: &[u8]) -> bool
+    ensures { result ≡ begins_hexadecimal rest.now }
+{
+    byte_or_zero(rest, 0) == b'0'
+        && is_x(byte_or_zero(rest, 1))
+        && is_digit(byte_or_zero(rest, 2), 16)
+}
+
+fn is_digit(byte: u8, radix: u64) -> bool
+    ensures { result ≡ is_digit radix byte }
+{
+    digit_value(byte, radix).is_some()
+}
+
+#[tactic(auto, unfolding(crate::specs::Constants::is_x))]
+fn is_x(byte: u8) -> bool
+    ensures { result ≡ is_x byte }
+{
+    matches!(byte, b'x' | b'X')
+}
+
+#[tactic(auto, unfolding(crate::specs::Constants::is_u))]
+fn is_u(byte: u8) -> bool
+    ensures { result ≡ is_u byte }
+{
+    matches!(byte, b'u' | b'U')
+}
+
+#[tactic(auto, unfolding(crate::specs::Constants::is_l))]
+fn is_l(byte: u8) -> bool
+    ensures { result ≡ is_l byte }
+{
+    matches!(byte, b'l' | b'L')
 }
 
 #[derive(Clone, Copy)]
@@ -104,31 +157,39 @@ struct Suffix {
     length: usize,
 }
 
-/// At most one `u` and at most one `l` of either case, in either order.
+/// The longest suffix at the beginning: at most one `u` and at most one `l` of either case, in
+/// either order.
 fn read_suffix(rest: &[u8]) -> Suffix
-    ensures { result.length ≤ length rest.now }
+    ensures within { result.length ≤ length rest.now }
+    ensures longest { IsLongestSuffix rest.now result.length result.unsigned }
 {
     let first = byte_or_zero(rest, 0);
     let second = byte_or_zero(rest, 1);
-    let (unsigned, length) = match (first, second) {
-        (b'u' | b'U', b'l' | b'L') | (b'l' | b'L', b'u' | b'U') => (true, 2),
-        (b'u' | b'U', _) => (true, 1),
-        (b'l' | b'L', _) => (false, 1),
-        _ => (false, 0),
-    };
-    Suffix {
-        unsigned,
-        length: rest.len().min(length),
+    if is_u(first) {
+        let length = if is_l(second) { 2 } else { 1 };
+        Suffix {
+            unsigned: true,
+            length,
+        }
+    } else if is_l(first) {
+        let unsigned = is_u(second);
+        let length = if unsigned { 2 } else { 1 };
+        Suffix { unsigned, length }
+    } else {
+        Suffix {
+            unsigned: false,
+            length: 0,
+        }
     }
 }
 
 /// The integer constant at the beginning, where a digit stands, and its length. A constant that
 /// is too large is a fault at its beginning; a letter, digit, `_` or `.` behind it one there.
 pub fn read_number(rest: &[u8]) -> Result<(Number, usize), Flaw>
-    requires stands { 0 < length rest.now }
-    requires digit { IsDigit (slice_index rest.now 0) }
-    ensures taken { IfOk result (λ found. (0 < found.1) × (found.1 ≤ length rest.now)) }
-    ensures refused { IfErr result (λ flaw. flaw.offset < length rest.now) }
+    requires { is_figure (slice_index rest.now 0) ≡ true }
+    ensures taken { IfOk result (λ found. IsNumber rest.now found.1 found.0) }
+    ensures within { IfErr result (λ flaw. flaw.offset < length rest.now) }
+    ensures refused { IfErr result (λ flaw. IsFirst (NumberFault rest.now) flaw.fault flaw.offset) }
 {
     let constant = read_constant(rest);
     let Some(number) = constant.number() else {
@@ -137,12 +198,19 @@ pub fn read_number(rest: &[u8]) -> Result<(Number, usize), Flaw>
             offset: 0,
         });
     };
-    let length = constant.length;
-    match rest.get(length) {
-        Some(byte) if begins_name(*byte) || byte.is_ascii_digit() || *byte == b'.' => Err(Flaw {
+    if is_glued(byte_or_zero(rest, constant.length)) {
+        return Err(Flaw {
             fault: Fault::BadByte,
-            offset: length,
-        }),
-        _ => Ok((number, length)),
+            offset: constant.length,
+        });
     }
+    Ok((number, constant.length))
+}
+
+/// Whether a byte may not stand directly behind a number: a letter, digit, `_` or `.`.
+#[tactic(auto, unfolding(crate::specs::Numbers::is_glued))]
+fn is_glued(byte: u8) -> bool
+    ensures { result ≡ is_glued byte }
+{
+    continues_name(byte) || byte == b'.'
 }

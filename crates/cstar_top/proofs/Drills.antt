@@ -3,7 +3,7 @@ use Rattle.std.proofs.Common.{◌≡◌, ◌∙◌, ℕ, ◌-◌, ◌%◌, ◌^�
 use Rattle.std.specs.Prelude.{sum}
 use Rattle.cstar_base.specs.declared.operators.Winner.{Winner}
 use Rattle.cstar_compile.specs.Compiled.{IsOfProgram}
-use Rattle.cstar_lexer.specs.Reading.{Reads}
+use Rattle.cstar_lexer.specs.Reading.{IsText}
 use Rattle.cstar_tree.specs.declared.token.Token.{Token}
 use Rattle.drill_text.specs.Text.{drill}
 use Rattle.paris_code.specs.declared.program.Image.{Image}
@@ -15,10 +15,10 @@ use Rattle.cstar_top.specs.Courses.{Course, Feeds, IsCourse}
 use Rattle.cstar_top.specs.Drills.{IsDrillLine, IsRunLine, drill_line}
 
 -- the line on a run of an image of the drill's text is that of the drill
-pub of_text : (seed : ℕ) (winner : Winner) (text : List ℕ) (count : ℕ) (line : List ℕ) → text ≡ drill seed → (tokens : List Token) × Reads text (length text) tokens × (count ≡ length tokens) → (image : Image) × IsSound image × IsOfProgram image × IsRunLine image winner count line → IsDrillLine seed winner line
+pub of_text : (seed : ℕ) (winner : Winner) (text : List ℕ) (count : ℕ) (line : List ℕ) → text ≡ drill seed → (tokens : List Token) × IsText text tokens × (count ≡ length tokens) → (image : Image) × IsSound image × IsOfProgram image × IsRunLine image winner count line → IsDrillLine seed winner line
 of_text seed winner text count line is read ran = (
   read.0,
-  subst (λ (bytes : List ℕ). Reads bytes (length bytes) read.0) is read.1,
+  subst (λ (bytes : List ℕ). IsText bytes read.0) is read.1,
   (ran.0, ran.1, ran.2, subst (λ (n : ℕ). IsRunLine ran.0 winner n line) read.2 ran.3),
 )
 

@@ -3,7 +3,7 @@ use Rattle.std.specs.Prelude.{◌≡◌, ℕ, ◌-◌, ◌%◌, ◌^◌, ◌⊎�
 use Rattle.cstar_base.specs.declared.operators.Winner.{Winner}
 use Rattle.cstar_compile.specs.Compiled.{IsOfProgram}
 use Rattle.cstar_io.specs.Output.{Takes, TakesNothing, TakesPrefix}
-use Rattle.cstar_lexer.specs.Reading.{Reads}
+use Rattle.cstar_lexer.specs.Reading.{IsText}
 use Rattle.cstar_tree.specs.declared.token.Token.{Token}
 use Rattle.cstar_words.specs.declared.options.Options.{Options}
 use Rattle.cstar_words.specs.Reading.{Reads as ReadsWords, rows_in}
@@ -31,7 +31,7 @@ IsRunLine image winner tokens line =
 -- one that keeps the image rules and that the compiler makes of a typed program.
 abbrev pub IsDrillLine : ℕ → Winner → List ℕ → Type 0
 IsDrillLine seed winner line =
-    (tokens : List Token) × Reads (drill seed) (length (drill seed)) tokens
+    (tokens : List Token) × IsText (drill seed) tokens
     × ((image : Image) × IsSound image × IsOfProgram image × IsRunLine image winner (length tokens) line)
 
 -- a sink took the line of the drill of a seed

@@ -2,7 +2,7 @@
 
 ghost use Rattle.std.specs.Prelude.{◌≡◌, ◌<◌, ◌≤◌, Err, IfErr, IfOk, List, length, vec_len};
 ghost use Rattle.cstar_base.specs.declared.faults.Fault.TheVariants as F;
-ghost use Rattle.cstar_lexer.specs.Reading.{Reads};
+ghost use Rattle.cstar_lexer.specs.Reading.{IsText};
 ghost use Rattle.cstar_tree.specs.declared.token.Token.{Token};
 ghost use Rattle.cstar_tree.specs.IsTyped.{IsTyped};
 ghost use Rattle.image_check.specs.Errors.{IsRefusalOf};
@@ -60,7 +60,7 @@ impl From<Memory> for NoImage {
 /// the text, of the grammar, of the types, each over the whole file.
 pub fn accepted(alloc: Global, text: &[u8]) -> Result<TypedText, NoImage>
     ensures within { IfOk result (λ program. length text.now ≤ FILE_LIMIT) }
-    ensures read { IfOk result (λ program. (tokens : List Token) × Reads text.now (length text.now) tokens × (program.tokens ≡ length tokens)) }
+    ensures read { IfOk result (λ program. (tokens : List Token) × IsText text.now tokens × (program.tokens ≡ length tokens)) }
     ensures typed { IfOk result (λ program. IsTyped program.typed) }
     ensures too_long { FILE_LIMIT < length text.now → result ≡ Err (N.Refused F.TooLong file_start) }
     ensures refused { IfErr result (NamesOnly IsOfText) }
@@ -145,7 +145,7 @@ pub fn refused(fault: Fault, place: Place) -> NoImage
 
 fn tokens_of(alloc: Global, text: &[u8]) -> Result<Tokens, NoImage>
     requires { length text.now ≤ FILE_LIMIT }
-    ensures read { IfOk result (λ tokens. Reads text.now (length text.now) tokens.list.items) }
+    ensures read { IfOk result (λ tokens. IsText text.now tokens.list.items) }
     ensures count { IfOk result (λ tokens. vec_len tokens.list ≤ FILE_LIMIT) }
     ensures refused { IfErr result (NamesOnly IsOfText) }
 {
