@@ -2,11 +2,11 @@
 
 use crate::Entry;
 
-pub static ENTRIES: [Entry; 46] = [
+pub static ENTRIES: [Entry; 44] = [
     Entry {
         number: "E00",
         name: "NotBuilt",
-        advice: "No fault of the file: the compiler made an image that breaks an image rule, which would be a defect of `cstar`.",
+        advice: "No fault of the file: the mode or option is not built yet (`usage.md`), or the compiler made an image that breaks an image rule, which would be a defect of `cstar`.",
     },
     Entry {
         number: "E01",
@@ -212,16 +212,6 @@ pub static ENTRIES: [Entry; 46] = [
         number: "E48",
         name: "Slots",
         advice: "More than 67,108,864 registers or open calls.",
-    },
-    Entry {
-        number: "E50",
-        name: "Point",
-        advice: "The bytes are no saved point, at the first byte that none goes on with.",
-    },
-    Entry {
-        number: "E51",
-        name: "State",
-        advice: "The state of a saved point does not fit its listing.",
     },
     Entry {
         number: "F1",

@@ -58,7 +58,7 @@ fn nothing(alloc: Global) -> Result<Explanation, Memory> {
 fn without_place(said: &Said<'_>) -> &'static str {
     match said {
         Said::Stopped =>
-            "The run spent its turns: each round of a loop and each call spends one. Give it more by `--turns N`, or keep its state by `--save NAME` and go on by `--mode resume`.",
+            "The run spent its turns: each round of a loop and each call spends one. Give it more by `--turns N`.",
         Said::CannotRead => "There is no file of that name, or it may not be read.",
         Said::CannotSave =>
             "The state of the stopped run could not be written under that name; an old file of that name stays as it was.",

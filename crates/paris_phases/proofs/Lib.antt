@@ -1,1 +1,2 @@
+pub mod BlockRuns
 pub mod Waits

@@ -7,6 +7,7 @@ ghost use Rattle.paris_code.specs.Shapes.{shapes_of};
 ghost use Rattle.paris_phases.specs.Doing.{CanDo, Did, Settled};
 ghost use Rattle.paris_phases.specs.Machines.{AllReady, IsSettled, memory_of, sets_of};
 
+use crate::block_runs;
 use crate::machine::Machine;
 use cstar_base::{Memory, Winner};
 use image_check::Sound;
@@ -36,6 +37,7 @@ impl<F: Fn(&mut Machine, &Instr, &[u32], Winner) -> Reply, S: Fn(&mut Machine)> 
         ensures phase { IfOk result (λ p. p.phase ≡ phase) }
         ensures settle { IfOk result (λ p. p.settle ≡ settle) }
         ensures ready { IfOk result (λ p. AllReady p.machine) }
+        ensures settled { IfOk result (λ p. IsSettled p.machine) }
         ensures shapes { IfOk result (λ p. sets_of p.machine ≡ shapes_of sound.now) }
         ensures fresh { IfOk result (λ p. SameBits (shapes_of sound.now) (memory_of p.machine p.winner) (fresh_memory (shapes_of sound.now))) }
     {
@@ -93,6 +95,14 @@ impl<F: Fn(&mut Machine, &Instr, &[u32], Winner) -> Reply, S: Fn(&mut Machine)> 
             len: 1,
         };
         self.machine.store.write(run, position, u32::from(b));
+    }
+
+    fn numbers(&self, run: Field, block: u32) -> [u32; 512] {
+        block_runs::numbers(&self.machine.store, run, block)
+    }
+
+    fn set_numbers(&mut self, run: Field, block: u32, words: &[u32; 512]) {
+        block_runs::set_numbers(&mut self.machine.store, run, block, words);
     }
 
     fn choose(&mut self, w: Winner) {

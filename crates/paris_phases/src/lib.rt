@@ -1,6 +1,7 @@
 //! The phases of the machine over blocks, by any number of workers.
 #![tactic(auto)]
 
+mod block_runs;
 mod crew;
 mod families;
 mod fork;

@@ -1,3 +1,4 @@
+pub mod BlockWrites
 pub mod Memories
 pub mod RowBits
 pub mod RowSets

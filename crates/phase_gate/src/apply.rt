@@ -308,6 +308,14 @@ impl Phases for RowPhases {
         self.write(run, position, u32::from(b));
     }
 
+    fn numbers(&self, run: Field, block: u32) -> [u32; 512] {
+        self.block_numbers(run, block)
+    }
+
+    fn set_numbers(&mut self, run: Field, block: u32, words: &[u32; 512]) {
+        self.set_block_numbers(run, block, words);
+    }
+
     fn choose(&mut self, w: Winner) {
         self.winner = w;
     }

@@ -3,6 +3,7 @@
 #![tactic(auto)]
 
 mod apply;
+mod block_runs;
 mod checks;
 mod communication;
 mod elements;

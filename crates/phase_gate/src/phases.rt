@@ -3,9 +3,11 @@ ghost use Rattle.std.specs.Int.{from_bool};
 ghost use Rattle.paris_code.specs.Fetching.{at_one};
 ghost use Rattle.paris_code.specs.Meaning.{Means};
 ghost use Rattle.paris_code.specs.Memory.{BitMemory, SameBits, bit_run, field_number};
-ghost use Rattle.paris_code.specs.Shapes.{SetShape, bits_at};
+ghost use Rattle.paris_code.specs.Shapes.{SetShape, bits_at, extents_at};
 ghost use Rattle.paris_code.specs.Writes.{written};
-ghost use Rattle.phase_meaning.specs.Apply.{CanApply, IsPosition, LiesIn, ReplyFits};
+ghost use Rattle.phase_gate.specs.Blocks.{HoldRun, at_block};
+ghost use Rattle.phase_meaning.specs.Apply.{CanApply, IsPosition, IsRun, LiesIn, ReplyFits};
+ghost use Rattle.vp_sets.specs.Blocks.{block_count};
 
 use cstar_base::Winner;
 use paris_code::{Field, Instr, Reply};
@@ -72,6 +74,25 @@ pub trait Phases {
         ensures settled { settled self.new }
         ensures shapes { shapes self.new ≡ shapes self.old }
         ensures memory { SameBits (shapes self.old) (memory self.new) (written (at_one (bit_run set index) position (from_bool b)) (memory self.old)) };
+
+    /// The numbers in a run of at most 32 bits of all positions of a block, as `bit` has them; behind
+    /// the last position they mean nothing.
+    fn numbers(&self, run: Field, block: u32) -> [u32; 512]
+        requires settled { settled self.now }
+        requires run { IsRun (shapes self.now) run }
+        requires block { block < block_count (extents_at (shapes self.now) run.set) }
+        ensures { HoldRun (shapes self.now) (memory self.now) run block result };
+
+    /// Makes a run of at most 32 bits of all positions of a block these numbers, modulo 2 to its
+    /// length, and changes nothing else.
+    fn set_numbers(&mut self, run: Field, block: u32, words: &[u32; 512])
+        requires settled { settled self.old }
+        requires run { IsRun (shapes self.old) run }
+        requires block { block < block_count (extents_at (shapes self.old) run.set) }
+        ensures able { able self.old → able self.new }
+        ensures settled { settled self.new }
+        ensures shapes { shapes self.new ≡ shapes self.old }
+        ensures memory { SameBits (shapes self.old) (memory self.new) (written (at_block run block words.now) (memory self.old)) };
 
     /// Changes which sender of a colliding send without a combiner wins, and nothing else.
     fn choose(&mut self, w: Winner)

@@ -1,10 +1,12 @@
 -- The bits of the sets as bytes.
-use Rattle.std.specs.Prelude.{◌≡◌, ◌<◌, ℕ, ◌+◌, ◌*◌, ◌/◌, ◌%◌, ◌==◌, List, length, map, nat_lt, if◌then◌else◌}
-use Rattle.std.specs.Int.{from_bool}
+use Rattle.std.specs.Prelude.{◌≡◌, ◌≢◌, ◌⊎◌, ◌<◌, ◌≤◌, ℕ, ◌+◌, ◌-◌, ◌*◌, ◌/◌, ◌%◌, ◌==◌, List, length, map, nat_lt, slice_index, sum, if◌then◌else◌}
+use Rattle.std.specs.Int.{bit_at, from_bool}
 use Rattle.std.specs.List.{concat, range_with_len}
+use Rattle.cstar_base.specs.declared.operators.Winner.{Winner}
 use Rattle.vp_sets.specs.Positions.{position_count}
 use Rattle.paris_code.specs.Memory.{BitMemory, run_number}
 use Rattle.paris_code.specs.Shapes.{SetShape, bits_at, extents_at}
+use Rattle.paris_code.specs.declared.operands.Field.{Field}
 use Rattle.point_bits.specs.declared.strings.SetString.{SetString}
 
 -- how many bits a position of a set has: those of its fields, its context flag and its test flag
@@ -24,16 +26,64 @@ string_bit shapes m set n =
 unfoldable pub string_byte : List SetShape → BitMemory → ℕ → ℕ → ℕ
 string_byte shapes m set k = run_number (string_bit shapes m set) (8 * k) 8
 
+-- how many bytes a set takes
+unfoldable pub set_size : List SetShape → ℕ → ℕ
+set_size shapes set = (bit_count shapes set + 7) / 8
+
 -- the bytes of a set, whose last one is filled with 0
 unfoldable pub set_bytes : List SetShape → BitMemory → ℕ → List ℕ
-set_bytes shapes m set = map (string_byte shapes m set) (range_with_len 0 ((bit_count shapes set + 7) / 8))
+set_bytes shapes m set = map (string_byte shapes m set) (range_with_len 0 (set_size shapes set))
 
 -- the bytes of all sets
 unfoldable pub bits_bytes : List SetShape → BitMemory → List ℕ
 bits_bytes shapes m = concat (map (set_bytes shapes m) (range_with_len 0 (length shapes)))
+
+-- how many bytes the sets before one take, and all sets
+unfoldable pub start_of : List SetShape → ℕ → ℕ
+start_of shapes set = sum (map (set_size shapes) (range_with_len 0 set))
+
+abbrev pub total_size : List SetShape → ℕ
+total_size shapes = start_of shapes (length shapes)
+
+-- bit n of bytes is bit n % 8 of byte n / 8
+unfoldable pub byte_bit : List ℕ → ℕ → ℕ
+byte_bit bytes n = bit_at (slice_index bytes (n / 8)) (n % 8)
+
+-- bytes are those of bits of all sets: they are as many as the sets ask, and behind the last bit of each set there are zeros
+pub record AreBits (shapes : List SetShape) (bytes : List ℕ) : Type 0 where
+  pub long : length bytes ≡ total_size shapes
+  pub filled : (set n : ℕ) → set < length shapes → bit_count shapes set ≤ n → n < 8 * set_size shapes set → byte_bit bytes (8 * start_of shapes set + n) ≡ 0
+
+-- the memory whose bits these are
+unfoldable pub restored : List SetShape → List ℕ → Winner → BitMemory
+restored shapes bytes winner = record {
+  bit = λ set position index. byte_bit bytes (8 * start_of shapes set + (position * width_of shapes set + index));
+  winner = winner;
+}
+
+-- a set of few positions, each of few bits
+pub record IsString (s : SetString) : Type 0 where
+  pub few : s.positions ≤ 1048576
+  pub some : 1 ≤ s.positions
+  pub narrow : s.width ≤ 1073741826
+  pub wide : 2 ≤ s.width
 
 -- a set, how many positions it has, and how many bits each
 pub record IsStringOf (shapes : List SetShape) (s : SetString) : Type 0 where
   pub set : s.set < length shapes
   pub positions : s.positions ≡ position_count (extents_at shapes s.set)
   pub width : s.width ≡ width_of shapes s.set
+
+-- bit i of position p, in a string of so many bits a position
+abbrev pub string_at : ℕ → List ℕ → ℕ → ℕ → ℕ
+string_at width bytes p i = byte_bit bytes (p * width + i)
+
+-- a run of at most 32 bits of a position
+abbrev pub HasRun : SetString → Field → Type 0
+HasRun s run = (1 ≤ run.len) × (run.len ≤ 32) × (run.offset + run.len ≤ s.width)
+
+-- at the positions of a block a run has become the numbers of their lanes, and each other bit is as it was
+pub record RunPut (positions width : ℕ) (run : Field) (block : ℕ) (words old new : List ℕ) : Type 0 where
+  pub long : length new ≡ length old
+  pub inside : (p i : ℕ) → p / 512 ≡ block → p < positions → run.offset ≤ i → i < run.offset + run.len → string_at width new p i ≡ bit_at (slice_index words (p % 512)) (i - run.offset)
+  pub outside : (p i : ℕ) → i < width → (p / 512 ≢ block) ⊎ ((positions ≤ p) ⊎ ((i < run.offset) ⊎ (run.offset + run.len ≤ i))) → string_at width new p i ≡ string_at width old p i
