@@ -4,11 +4,11 @@ ghost use Rattle.std.specs.Prelude.{◌≡◌, ◌++◌, IfOk, OnOk, map};
 ghost use Rattle.lower_base.specs.Drafts.{Makes, draft};
 ghost use Rattle.lower_comm.specs.Messages.{index_register, index_coordinate, signed_registers, signed_coordinates, front_located, each_located, located, checked_part, grid_steps, with_grid_check, checked_grid};
 
-use lower_base::emit::{Out, count, put};
 use crate::news::{NewsStep, step_of};
-use lower_base::operators::promoted_signed;
 use cstar_base::{Memory, Place};
 use cstar_tree::typed::TExpr;
+use lower_base::emit::{Out, count, put};
+use lower_base::operators::promoted_signed;
 use paris_code::{
     Coordinate, Field, GridStep, Instr, Konst, RegisterCoordinate, SignedCoordinate, Unit,
 };

@@ -5,11 +5,11 @@ ghost use Rattle.lower_base.specs.Drafts.{Makes, draft};
 ghost use Rattle.lower_comm.specs.Messages.{reached, communicated_by};
 ghost use Rattle.lower_comm.specs.News.{goes_by_news};
 
-use lower_base::emit::{Out, fresh};
 use crate::messages::{check_grid, comm_in, goes_by_news, locate_in};
-use lower_base::names::{Names, named};
 use cstar_base::Memory;
 use cstar_tree::typed::{TExpr, Typed};
+use lower_base::emit::{Out, fresh};
+use lower_base::names::{Names, named};
 use paris_code::Unit;
 use std::alloc::Global;
 

@@ -4,10 +4,10 @@ ghost use Rattle.std.specs.Prelude.{◌≡◌, IfOk};
 ghost use Rattle.lower_base.specs.Drafts.{Makes, draft};
 ghost use Rattle.lower_comm.specs.Messages.{along, stepwise, gotten_by_steps, read_at};
 
-use lower_base::emit::{Out, count, entry, put};
 use crate::news::{NewsStep, step_of};
 use cstar_base::{Elem, Memory};
 use cstar_tree::typed::TExpr;
+use lower_base::emit::{Out, count, entry, put};
 use paris_code::{Field, Instr, Konst, Owner, Unit};
 
 /// A read through a left index: of one element, by the router, or by NEWS.

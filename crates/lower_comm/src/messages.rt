@@ -8,14 +8,14 @@ ghost use Rattle.lower_comm.specs.Messages.{folded_onto, negated_by, reduced, in
 ghost use Rattle.lower_comm.specs.News.{goes_by_news};
 
 pub use crate::addresses::{check_grid, locate_in};
-use lower_base::emit::{Out, entry, field, put, register};
 use crate::gets::read;
-use lower_base::names::Names;
 use crate::news::all_go_by_news;
-use lower_base::operators::{assign_op, fold_of, operation, promoted_signed, reduce_op, scan_fold};
 use cstar_base::{Direction, Elem, Inclusion, Memory, Op, SegmentMode};
 use cstar_tree::syntax::ReduceOp;
 use cstar_tree::typed::{TExpr, Typed, Variable};
+use lower_base::emit::{Out, entry, field, put, register};
+use lower_base::names::Names;
+use lower_base::operators::{assign_op, fold_of, operation, promoted_signed, reduce_op, scan_fold};
 use paris_code::{Field, Instr, Konst, Owner, Reduction, Unit};
 
 /// Whether the get goes by NEWS: each index is a step along its own axis.

@@ -13,8 +13,8 @@ use cstar_tree::syntax::StepOp;
 use cstar_tree::typed::{StepOrder, TExpr, Typed};
 use lower_base::Out;
 use lower_base::emit::{put, register};
-use lower_comm::messages::comm_in;
 use lower_base::names::Names;
+use lower_comm::messages::comm_in;
 use paris_code::{Field, Instr, Konst, Unit};
 
 /// A located parallel target takes the result of the operator on its old value and the new one.

@@ -10,8 +10,8 @@ use cstar_base::{Elem, Memory};
 use cstar_tree::typed::{TExpr, Typed, ValueType};
 use lower_base::Out;
 use lower_base::emit::{field, fresh, put, register};
-use lower_comm::messages::{check_grid, comm_in};
 use lower_base::names::Names;
+use lower_comm::messages::{check_grid, comm_in};
 use paris_code::{Instr, Konst, Unit};
 use std::alloc::Global;
 

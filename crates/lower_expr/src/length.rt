@@ -15,10 +15,10 @@ use cstar_base::{Elem, Memory, Op};
 use cstar_tree::syntax::{AssignOp, ReduceOp};
 use cstar_tree::typed::{TExpr, Typed, UnaryOp, VarInfo};
 use lower_base::emit::{count, plus};
-use lower_comm::messages::goes_by_news;
 use lower_base::names::Names;
-use lower_comm::news::{NewsStep, step_of};
 use lower_base::operators::{assign_op, divides};
+use lower_comm::messages::goes_by_news;
+use lower_comm::news::{NewsStep, step_of};
 
 /// The instructions of a value: what `value` appends.
 #[cycle(length)]

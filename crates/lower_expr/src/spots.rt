@@ -12,8 +12,8 @@ use cstar_base::{Memory, Place};
 use cstar_tree::typed::{TExpr, Typed, Variable};
 use lower_base::Out;
 use lower_base::emit::{here, plus, put, register};
-use lower_comm::messages::comm_in;
 use lower_base::names::Names;
+use lower_comm::messages::comm_in;
 use paris_code::{Field, Instr, RegisterCoordinate, Unit};
 use std::alloc::Global;
 

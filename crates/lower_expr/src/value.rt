@@ -23,9 +23,9 @@ use cstar_base::{Memory, Op};
 use cstar_tree::typed::{TExpr, Typed, ValueType};
 use lower_base::Out;
 use lower_base::emit::{field, flag, fresh, plus, put, register};
-use lower_comm::messages::{comm_in, goes_by_news, locate_in};
 use lower_base::names::Names;
 use lower_base::operators::{assign_op, promoted_signed};
+use lower_comm::messages::{comm_in, goes_by_news, locate_in};
 use paris_code::{Field, Instr, Konst, Unit};
 use std::alloc::Global;
 
