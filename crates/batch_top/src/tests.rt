@@ -41,15 +41,15 @@ struct Seen {
 
 #[test]
 fn two_callers_meet(rt: HostRuntime) -> Result<(), Fail> {
-    meeting(&rt, rt.alloc())
+    callers_meet(&rt, rt.alloc())
 }
 
-fn meeting<R: Threads + Wait + Abort + Sync>(rt: &R, alloc: Global) -> Result<(), Fail> {
+fn callers_meet<R: Threads + Wait + Abort + Sync>(rt: &R, alloc: Global) -> Result<(), Fail> {
     let gate = Meeting {
         calls: AtomicU64::new(0),
         late: AtomicU64::new(0),
     };
-    let seen = seen(rt, alloc, &[], &[], &gate)?;
+    let seen = run_two(rt, alloc, &[], &[], &gate)?;
     assert_eq!(rt; seen.status, 0);
     assert_eq!(rt; gate.late.load(Ordering::SeqCst), 0);
     assert_eq!(rt; gate.calls.load(Ordering::SeqCst), 2);
@@ -67,7 +67,7 @@ fn the_second_fetch_fails(rt: HostRuntime) -> Result<(), Fail> {
 }
 
 fn fetch_fails<R: Threads + Wait + Abort + Sync>(rt: &R, alloc: Global) -> Result<(), Fail> {
-    let seen = seen(rt, alloc, &[2], &[], &Open)?;
+    let seen = run_two(rt, alloc, &[2], &[], &Open)?;
     assert_eq!(rt; seen.status, 5);
     assert!(rt; seen.out.taken().is_empty());
     assert_eq!(rt; seen.err.taken(), b"cannot read y.cs\n".as_slice());
@@ -80,7 +80,7 @@ fn the_second_section_fails(rt: HostRuntime) -> Result<(), Fail> {
 }
 
 fn put_fails<R: Threads + Wait + Abort + Sync>(rt: &R, alloc: Global) -> Result<(), Fail> {
-    let seen = seen(rt, alloc, &[], &[2], &Open)?;
+    let seen = run_two(rt, alloc, &[], &[2], &Open)?;
     assert_eq!(rt; seen.status, 6);
     assert_eq!(rt; seen.out.taken(), b"== x.cs 0 1 0\na\n".as_slice());
     assert!(rt; seen.err.taken().is_empty());
@@ -88,7 +88,7 @@ fn put_fails<R: Threads + Wait + Abort + Sync>(rt: &R, alloc: Global) -> Result<
 }
 
 /// What two callers make of two files, where the fetches and the puts with these numbers fail.
-fn seen<R: Threads + Wait + Sync, G: Gate + Sync>(
+fn run_two<R: Threads + Wait + Sync, G: Gate + Sync>(
     rt: &R,
     alloc: Global,
     fetches: &[u64],
