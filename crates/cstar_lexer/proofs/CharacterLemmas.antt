@@ -13,7 +13,7 @@ use Rattle.cstar_lexer.proofs.QuotedLemmas.{cut_no_escape, drop_one, escape_begi
 begins_at : (bytes : List ℕ) {n v : ℕ} → IsEscape (drop 1 bytes) n v → slice_index bytes 1 ≡ 92
 begins_at bytes e = sym (drop_one bytes) ∙ escape_begins e
 
-bad_at : (bytes : List ℕ) → IsBad (drop 1 bytes) → slice_index bytes 1 ≡ 92
+pub bad_at : (bytes : List ℕ) → IsBad (drop 1 bytes) → slice_index bytes 1 ≡ 92
 bad_at bytes e = sym (drop_one bytes) ∙ e.begins
 
 cut_at : (bytes : List ℕ) → IsCut (drop 1 bytes) → slice_index bytes 1 ≡ 92
@@ -86,7 +86,7 @@ only_wide {bytes} e on (Q.other a one off unclosed) = (omega arith, λ h. absurd
 pub first_wide : {bytes : List ℕ} {n v : ℕ} → slice_index bytes 0 ≡ 39 → IsEscape (drop 1 bytes) n v → 256 ≤ v → (LineEnds bytes (n + 1) → ⊥) → IsFirst (CharacterFault bytes) F.Wide 1
 first_wide a e large on = record { stands = Q.wide a e large; first = λ other at h. (only_wide e on h).0; least = λ other at h same. (only_wide e on h).1 same }
 
-only_other : {bytes : List ℕ} {other : Fault} {at n v : ℕ} → IsOne bytes n v → v < 256 → (LineEnds bytes (n + 1) → ⊥) → CharacterFault bytes other at → (at ≡ n + 1) × (1 ≤ number_of other)
+pub only_other : {bytes : List ℕ} {other : Fault} {at n v : ℕ} → IsOne bytes n v → v < 256 → (LineEnds bytes (n + 1) → ⊥) → CharacterFault bytes other at → (at ≡ n + 1) × (1 ≤ number_of other) × (slice_index bytes (n + 1) ≡ 39 → ⊥)
 only_other {bytes} (Q.plain p long is) small on (Q.ended a ends) = absurd (p.on_line ends)
 only_other {bytes} (Q.escape e) small on (Q.ended a ends) = absurd (escaped_on_line bytes (begins_at bytes e) ends)
 only_other {bytes} (Q.plain p long is) small on (Q.cut a cut) = absurd (p.no_escape (cut_at bytes cut))
@@ -98,7 +98,7 @@ only_other {bytes} (Q.plain p long is) small on (Q.bad a bad) = absurd (p.no_esc
 only_other {bytes} (Q.escape e) small on (Q.bad a bad) = absurd (bad.none _ _ e)
 only_other {bytes} (Q.plain p long is) small on (Q.wide a escape large) = absurd (p.no_escape (begins_at bytes escape))
 only_other {bytes} (Q.escape e) small on (Q.wide a escape large) = absurd (let same = one_escape e escape in omega (arith, same.1))
-only_other {bytes} one small on (Q.other a other off unclosed) = (ap (λ (i : ℕ). i + 1) (sym (one_one one other).0), lit≤ tt)
+only_other {bytes} one small on (Q.other a other off unclosed) = let e = sym (one_one one other).0 in (ap (λ (i : ℕ). i + 1) e, lit≤ tt, subst (λ (i : ℕ). slice_index bytes (i + 1) ≡ 39 → ⊥) e unclosed)
 
 pub first_other : {bytes : List ℕ} {n v : ℕ} → slice_index bytes 0 ≡ 39 → IsOne bytes n v → v < 256 → (LineEnds bytes (n + 1) → ⊥) → (slice_index bytes (n + 1) ≡ 39 → ⊥) → IsFirst (CharacterFault bytes) F.BadByte (n + 1)
 first_other a one small on unclosed = record { stands = Q.other a one on unclosed; first = λ other at h. omega (arith, (only_other one small on h).0); least = λ other at h e. (only_other one small on h).1 }

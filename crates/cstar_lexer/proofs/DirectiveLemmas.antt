@@ -13,15 +13,15 @@ use Rattle.cstar_lexer.specs.Marks.{word_bytes}
 use Rattle.cstar_lexer.specs.Numbers.{IsNumberOf}
 
 -- the blanks at the beginning, one after the other
-past_blank : (x : ℕ) (xs : List ℕ) → is_inner_blank x ≡ true → behind_blanks (x ∷ xs) ≡ behind_blanks xs
+pub past_blank : (x : ℕ) (xs : List ℕ) → is_inner_blank x ≡ true → behind_blanks (x ∷ xs) ≡ behind_blanks xs
 unfolding behind_blanks
 past_blank x xs h = rw h (let s : 1 + prefix_len is_inner_blank xs ≡ suc (prefix_len is_inner_blank xs) = omega arith in rw s refl)
 
-at_once : (x : ℕ) (xs : List ℕ) → is_inner_blank x ≡ false → behind_blanks (x ∷ xs) ≡ x ∷ xs
+pub at_once : (x : ℕ) (xs : List ℕ) → is_inner_blank x ≡ false → behind_blanks (x ∷ xs) ≡ x ∷ xs
 unfolding behind_blanks
 at_once x xs h = rw h refl
 
-none_behind : behind_blanks [] ≡ []
+pub none_behind : behind_blanks [] ≡ []
 unfolding behind_blanks
 none_behind = refl
 

@@ -11,13 +11,13 @@ use Rattle.cstar_lexer.specs.Quoted.{FaultInside, IsBad, IsCut, IsEscape, IsInsi
 use Rattle.cstar_lexer.specs.Quoted as Q
 use Rattle.cstar_lexer.proofs.QuotedLemmas.{cut_no_escape, escape_begins, escape_long, not_end, one_escape}
 
-here : (bytes : List ℕ) (at : ℕ) → get_or (drop at bytes) 0 0 ≡ get_or bytes at 0
+pub here : (bytes : List ℕ) (at : ℕ) → get_or (drop at bytes) 0 0 ≡ get_or bytes at 0
 here bytes at = let e : get_or (drop at bytes) 0 0 ≡ get_or bytes (at + 0) 0 = get_or-drop at bytes 0 0 in let z : at + 0 ≡ at = omega arith in subst (λ (i : ℕ). get_or (drop at bytes) 0 0 ≡ get_or bytes i 0) z e
 
-escape_here : (bytes : List ℕ) (at : ℕ) {n v : ℕ} → IsEscape (drop at bytes) n v → slice_index bytes at ≡ 92
+pub escape_here : (bytes : List ℕ) (at : ℕ) {n v : ℕ} → IsEscape (drop at bytes) n v → slice_index bytes at ≡ 92
 escape_here bytes at e = sym (here bytes at) ∙ escape_begins e
 
-bad_here : (bytes : List ℕ) (at : ℕ) → IsBad (drop at bytes) → slice_index bytes at ≡ 92
+pub bad_here : (bytes : List ℕ) (at : ℕ) → IsBad (drop at bytes) → slice_index bytes at ≡ 92
 bad_here bytes at e = sym (here bytes at) ∙ e.begins
 
 cut_here : (bytes : List ℕ) (at : ℕ) → IsCut (drop at bytes) → slice_index bytes at ≡ 92

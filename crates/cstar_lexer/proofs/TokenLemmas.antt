@@ -66,7 +66,7 @@ constant_on_line {bytes} c k h e = elim (cases_lt k c.digits) [
 ]
 
 -- character constants
-one_on_line : {bytes : List ℕ} {n v : ℕ} → IsOne bytes n v → (k : ℕ) → 1 ≤ k → k ≤ n → get_or bytes k 0 ≡ 10 → ⊥
+pub one_on_line : {bytes : List ℕ} {n v : ℕ} → IsOne bytes n v → (k : ℕ) → 1 ≤ k → k ≤ n → get_or bytes k 0 ≡ 10 → ⊥
 one_on_line {bytes} (Q.plain p long is) k some h e = let one : k ≡ 1 = omega arith in p.on_line (newline_ends bytes 1 (rw one at e))
 one_on_line {bytes} (Q.escape escape) k some h e =
     let at : get_or (drop 1 bytes) (k - 1) 0 ≡ get_or bytes (1 + (k - 1)) 0 = get_or-drop 1 bytes (k - 1) 0 in

@@ -1,6 +1,8 @@
 -- The lines that begin with a `#`.
-use Rattle.std.specs.Prelude.{◌≡◌, ℕ, ◌+◌, ◌⊎◌, Bool, true, Some, None, List, [], ◌∷◌, ◌++◌, codes, length, take, drop, slice_index}
+use Rattle.std.specs.Prelude.{◌≡◌, ℕ, ◌+◌, ◌^◌, ◌≤◌, ◌⊎◌, Bool, true, Some, None, List, [], ◌∷◌, ◌++◌, codes, length, take, drop, slice_index}
 use Rattle.std.specs.List.{prefix_len}
+use Rattle.cstar_base.specs.declared.faults.Fault.{Fault}
+use Rattle.cstar_base.specs.declared.faults.Fault.TheVariants as F
 use Rattle.cstar_lexer.specs.declared.number.Number.{Number}
 use Rattle.cstar_lexer.specs.Bytes.{goes_on, is_figure, is_inner_blank, is_letter}
 use Rattle.cstar_lexer.specs.Comments.{IsComment}
@@ -59,3 +61,14 @@ pub data IsDirective (old : Names) (line : List ℕ) (new : Names) : Type 0 wher
   include : IsInclude line → new ≡ old → IsDirective old line new
   define : {name : List ℕ} {at value : ℕ} {suffixed : Bool} {number : Number} → IsDefine line name at value suffixed → IsNumberOf value suffixed number → number_of_name old name ≡ None → new ≡ old ++ (name, number) ∷ [] → IsDirective old line new
   again : {name : List ℕ} {at value : ℕ} {suffixed : Bool} {number : Number} → IsDefine line name at value suffixed → IsNumberOf value suffixed number → number_of_name old name ≡ Some number → new ≡ old → IsDirective old line new
+
+-- a line is neither of the two
+abbrev pub IsUnknown : List ℕ → Type 0
+IsUnknown line = (IsInclude line → ⊥) × ((name : List ℕ) (at value : ℕ) (suffixed : Bool) → IsDefine line name at value suffixed → ⊥)
+
+-- the faults of a line that begins with a `#`: it is no accepted one, among them a second, different
+-- definition, or its constant is above 4294967295
+pub data LineFault (names : Names) (line : List ℕ) : Fault → ℕ → Type 0 where
+  unknown : IsUnknown line → LineFault names line F.Directive 0
+  other : {name : List ℕ} {at value : ℕ} {suffixed : Bool} {number : Number} → IsDefine line name at value suffixed → number_of_name names name ≡ Some number → (IsNumberOf value suffixed number → ⊥) → LineFault names line F.Directive 0
+  wide : {name : List ℕ} {at value : ℕ} {suffixed : Bool} → IsDefine line name at value suffixed → 2 ^ 32 ≤ value → LineFault names line F.Wide at

@@ -132,7 +132,8 @@ pub fn opens_comment(rest: &[u8]) -> bool
 /// The length of the comment that opens here, or None where it is not closed.
 pub fn comment_length(rest: &[u8]) -> Option<usize>
     requires { OpensComment rest.now }
-    ensures { IfSome result (IsComment rest.now) }
+    ensures found { IfSome result (IsComment rest.now) }
+    ensures none { IfNone result ((n : ℕ) → IsComment rest.now n → ⊥) }
 {
     let mut last: usize = 3;
     'bytes: while last < rest.len() {

@@ -1,6 +1,6 @@
 //! Integer constants.
 
-ghost use Rattle.std.specs.Prelude.{◌≡◌, ◌≤◌, ◌<◌, ◌^◌, ◌+◌, ◌||◌, length, IfOk, IfErr, MatchOption, slice_index, true, take, min, nat_lt};
+ghost use Rattle.std.specs.Prelude.{◌≡◌, ◌≤◌, ◌<◌, ◌^◌, ◌+◌, ◌||◌, length, IfOk, IfErr, MatchOption, slice_index, true, false, take, min, nat_lt};
 ghost use Rattle.std.specs.List.{prefix_len};
 ghost use Rattle.cstar_lexer.specs.Bytes.{is_figure};
 ghost use Rattle.cstar_lexer.specs.Faults.{IsFirst};
@@ -74,7 +74,8 @@ impl Constant {
 impl Number {
     /// Whether it is the same number, unsigned where the other is.
     pub fn is(self, other: Number) -> bool
-        ensures { result ≡ true → self ≡ other }
+        ensures same { result ≡ true → self ≡ other }
+        ensures different { result ≡ false → self ≡ other → ⊥ }
     {
         self.value == other.value && self.unsigned == other.unsigned
     }
