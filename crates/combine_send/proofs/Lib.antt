@@ -1,3 +1,4 @@
+pub mod Parts
 pub mod Combining
 pub mod Board
 pub mod Filled

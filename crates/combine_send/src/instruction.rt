@@ -8,7 +8,8 @@ ghost use Rattle.block_store.specs.Stored.{shapes_in, memory_in, IsWhole, HasRoo
 ghost use Rattle.combine_send.specs.Alone.{AreWordsOf};
 ghost use Rattle.combine_send.specs.Sends.{SendFits};
 
-use crate::alone::words_by_one;
+use crate::alone::words_in_cells;
+use crate::apart::are_few;
 use crate::back::put_back;
 use crate::ready::{go, prepare};
 use crate::send::Send;
@@ -19,8 +20,9 @@ use paris_code::{Instr, Reply};
 use std::alloc::Global;
 use std::thread::Threads;
 
-/// The words of all targets once all messages are combined: by one worker in plain words, and by
-/// several on a board, each message by one atomic operation. `Memory` is want of memory alone.
+/// The words of all targets once all messages are combined: by one worker in plain words, by several
+/// each in words of its own where the targets are few, and else on a board, each message by one atomic
+/// operation. `Memory` is want of memory alone.
 fn words_sent<R: Threads + Sync, G: Gate + Sync>(
     rt: &R,
     alloc: Global,
@@ -35,8 +37,10 @@ fn words_sent<R: Threads + Sync, G: Gate + Sync>(
     requires workers { (1 ≤ workers) × (workers ≤ 64) }
     ensures { IfOk result (λ words. AreWordsOf (shapes_in store.now) (memory_in store.now winner) send.now words.items) }
 {
-    if workers == 1 {
-        return words_by_one(alloc, store, send, gate, winner);
+    let targets = store.plan(send.dest.set).geometry.positions();
+    let senders = store.plan(send.address.set).geometry.positions();
+    if workers == 1 || are_few(targets, senders, workers) {
+        return words_in_cells(rt, alloc, store, send, workers, gate, winner);
     }
     let ready = prepare(rt, alloc, store, send, workers, gate, winner)?;
     Ok(go(rt, ready, workers, gate).into_values())

@@ -4,6 +4,7 @@ ghost use Rattle.std.specs.Prelude.{◌≤◌};
 
 use crate::workers::workers_for;
 use block_store::Store;
+use combine_send::are_few;
 use cstar_base::Direction;
 use instruction_runs::Batch;
 use paris_code::{Instr, Konst, Operation, Reduction};
@@ -32,7 +33,7 @@ const SCAN_NS: u32 = 1_500;
 const DOWN_SCAN_NS: u32 = 3_000;
 /// A send on a board, as several workers do it: its slots are filled, and its claims are delivered.
 const BOARD_NS: u32 = 6_600;
-/// A send by one worker, who needs no board.
+/// A send without a board: by one worker, or by several who have cells of their own.
 const SEND_NS: u32 = 2_800;
 
 /// The set that an instruction's passes go over, how long a block of it keeps one worker, and the set
@@ -195,18 +196,21 @@ fn positions(store: &Store, set: u16) -> u32 {
         .map_or(0, |plan| plan.geometry.positions())
 }
 
-/// How many workers to give a send. One has no board to keep, so fewer than make up for that do not
-/// pay; nor do any where there are fewer targets than senders: their messages are sure to collide, and
-/// workers would take the targets' cells from each other.
+/// How many workers to give a send. Where the targets are few each worker has cells of its own. Else
+/// they need a board, which one worker does without, so fewer than make up for that do not pay; nor do
+/// any where there are fewer targets than senders: their messages are sure to collide, and workers
+/// would take the targets' cells from each other.
 fn workers_to_send(store: &Store, pass: Pass, targets: u16, given: u32) -> u32
     requires { (1 ≤ given) × (given ≤ 64) }
     ensures { (1 ≤ result) × (result ≤ given) }
 {
-    if positions(store, targets) < positions(store, pass.set) {
-        return 1;
+    let (targets, senders) = (positions(store, targets), positions(store, pass.set));
+    let apart = workers_over(store, lanes(pass.set, SEND_NS), given);
+    if are_few(targets, senders, apart) {
+        return apart;
     }
     let workers = workers_over(store, pass, given);
-    if workers * SEND_NS < BOARD_NS {
+    if targets < senders || workers * SEND_NS < BOARD_NS {
         1
     } else {
         workers

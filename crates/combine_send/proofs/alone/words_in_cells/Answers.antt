@@ -3,7 +3,7 @@ use Rattle.std.proofs.lemmas.Result.{IfOk-weaker}
 use Rattle.vp_sets.specs.Positions.{position_count}
 use Rattle.combine_core.specs.declared.kind.Kind.TheVariants as K
 use Rattle.combine_send.proofs.Combining.{are_words}
-use Rattle.combine_send.proofs.alone.words_by_one.Goals as goal
+use Rattle.combine_send.proofs.alone.words_in_cells.Goals as goal
 
 pub returns-in-Add : goal.returns-in-Add
 returns-in-Add g c =
