@@ -104,17 +104,17 @@ converted_grows false t l (O.Scalar r) e elem operand d s h g = cc
 converted_grows k t l O.Nothing e elem operand d s h g = absurd s
 
 -- a binary operator
-binary_to_grows : (k : Bool) (t : Typed) (l : Layout) (dest : Out) (ty : ValueType) (place : Place) (op : Op) (p : _) (left : TExpr) (q : _) (right : TExpr) (d : Draft) → Is k dest → IsShaped left → IsShaped right →
-    Grows d (binary_length k op (operand_length (length_of t l left) (is_quiet right) left) left (operand_length (length_of t l right) true right) right) (Stands k) (binary_to t l dest (T.Binary' ty place op p left q right) d)
+binary_to_grows : (k : Bool) (t : Typed) (l : Layout) (dest : Out) (place : Place) (op : Op) (left : TExpr) (right : TExpr) (d : Draft) → Is k dest → IsShaped left → IsShaped right →
+    Grows d (binary_length k op (operand_length (length_of t l left) (is_quiet right) left) left (operand_length (length_of t l right) true right) right) (Stands k) (binary_to t l dest op place left right d)
 unfolding binary_to binary_length register_binary_of field_binary_of
-binary_to_grows true t l (O.Scalar r) ty place op p left q right d s h g =
+binary_to_grows true t l (O.Scalar r) place op left right d s h g =
     registers_grow op _ place r (is_kept left) (is_kept right) _ _ _ _ d (operand_grows t l _ left _ _ h (value_grows t l left h)) (operand_grows t l _ right _ _ g (value_grows t l right g))
-binary_to_grows false t l (O.Field f) ty place op p left q right d s h g =
+binary_to_grows false t l (O.Field f) place op left right d s h g =
     sized InField d _ _ _ (nothing_more _) (bind Anything InField d 0 _ _ _ (entry_grows _ _ _ d) (λ spare after _.
     fields_grow op _ place f spare _ left _ _ right _ after (operand_grows t l _ left _ _ h (value_grows t l left h)) (operand_grows t l _ right _ _ g (value_grows t l right g))))
-binary_to_grows true t l (O.Field f) ty place op p left q right d s h g = cc
-binary_to_grows false t l (O.Scalar r) ty place op p left q right d s h g = cc
-binary_to_grows k t l O.Nothing ty place op p left q right d s h g = absurd s
+binary_to_grows true t l (O.Field f) place op left right d s h g = cc
+binary_to_grows false t l (O.Scalar r) place op left right d s h g = cc
+binary_to_grows k t l O.Nothing place op left right d s h g = absurd s
 
 binary_suits : (k : Bool) (ty : ValueType) (place : Place) (op : Op) (p : _) (left : TExpr) (q : _) (right : TExpr) → Suits k (T.Binary' ty place op p left q right) → k ≡ is_none ty.shape
 unfolding is_kept
@@ -150,7 +150,7 @@ computed_grows k t l dest (T.Unary' ty op p operand) d s h u =
     (λ e. sized (Stands k) d _ _ _ (ap (λ (b : Bool). operand_length (length_of t l operand) (not b) operand + unary_length op (is_kept operand)) (sym e)) (negated_to_grows k t l dest op operand d s h.1))
 computed_grows k t l dest (T.Binary' ty place op p left q right) d s h u =
     sized (Stands k) d _ _ _ (ap (λ (b : Bool). binary_length b op (operand_length (length_of t l left) (is_quiet right) left) left (operand_length (length_of t l right) true right) right) (binary_suits k ty place op p left q right u))
-    (binary_to_grows k t l dest ty place op p left q right d s h.0 h.1)
+    (binary_to_grows k t l dest place op left right d s h.0 h.1)
 computed_grows k t l dest (T.Pcoord ty axis) d s h u =
     in_field_grows _ d 1 k dest _ (is_stands k dest s) (λ f _. makes (Stands k) dest d _ 1 (is_stands k dest s) (and_instr _ d d 0 (as_it_was d)))
 computed_grows k t l dest e d s h u = moved_grows k t l dest e d s h

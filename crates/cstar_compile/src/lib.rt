@@ -3,6 +3,7 @@
 
 ghost use Rattle.std.specs.Prelude.{IfOk};
 ghost use Rattle.cstar_compile.specs.Compiled.{IsCompiled};
+ghost use Rattle.cstar_tree.specs.IsTyped.{IsTyped};
 
 use cstar_base::Memory;
 use cstar_tree::typed::Typed;
@@ -11,6 +12,7 @@ use std::alloc::Global;
 
 /// The image of a typed program: lowered, placed and linked.
 pub fn image_of(alloc: Global, typed: &Typed) -> Result<Image, Memory>
+    requires { IsTyped typed.now }
     ensures { IfOk result (λ image. IsCompiled typed.now image) }
 {
     let program = lower_stmt::lower(alloc, typed)?;

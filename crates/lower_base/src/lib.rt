@@ -5,5 +5,7 @@
 pub mod emit;
 pub mod names;
 pub mod operators;
+pub mod view;
 
 pub use emit::Out;
+pub use view::View;

@@ -95,84 +95,6 @@ impl Names {
         let mut homes = 0;
         number_locals(&instance.body, &mut self.locals, &mut homes)
     }
-
-    /// The register of a scalar variable.
-    #[tactic(auto, unfolding(crate::specs::Layouts::register_of, crate::specs::Layouts::layout))]
-    pub fn register(&self, variable: Variable) -> Result<u32, Memory>
-        ensures { IfOk result (λ r. r ≡ register_of (layout self.now) variable) }
-    {
-        match variable {
-            Variable::File(k) => Ok(k),
-            Variable::Param(k) => plus(self.base, k),
-            Variable::Local(k) => plus(plus(self.result_register()?, 1)?, k),
-        }
-    }
-
-    /// The register of a scalar result.
-    #[tactic(auto, unfolding(crate::specs::Layouts::result_register, crate::specs::Layouts::layout))]
-    pub fn result_register(&self) -> Result<u32, Memory>
-        ensures { IfOk result (λ r. r ≡ result_register (layout self.now)) }
-    {
-        plus(self.base, count(self.params.len())?)
-    }
-
-    /// The field of a parallel variable, or of an element of an array. A variable of the file gets
-    /// one more entry of the unit.
-    #[tactic(auto, unfolding(crate::specs::Layouts::field_of, crate::specs::Layouts::layout, crate::specs::Drafts::draft, crate::specs::Drafts::from))]
-    pub fn field(
-        &self,
-        t: &Typed,
-        variable: Variable,
-        element: u32,
-        u: &mut Unit,
-    ) -> Result<Field, Memory>
-        ensures draft { IfOk result (λ f. field_of t.now (layout self.now) variable element (draft u.old) ≡ Makes f (draft u.new)) }
-    {
-        match variable {
-            Variable::File(k) => {
-                let (Some(info), Some(first)) = (t.vars.get(k as usize), self.files.get(k as usize))
-                else {
-                    return Err(Memory);
-                };
-                let number = plus(*first, element)?;
-                file_entry(u, info, number)
-            }
-            Variable::Param(k) => {
-                let Some(index) = self.params.get(k as usize) else {
-                    return Err(Memory);
-                };
-                own_entry(u, *index)
-            }
-            Variable::Local(k) => {
-                let Some(local) = self.locals.get(k as usize) else {
-                    return Err(Memory);
-                };
-                let Some(home) = u.homes.get(local.home as usize) else {
-                    return Err(Memory);
-                };
-                let index = plus(*home, element)?;
-                own_entry(u, index)
-            }
-        }
-    }
-
-    /// How many elements an array has.
-    #[tactic(auto, unfolding(crate::specs::Layouts::elements_of, crate::specs::Layouts::layout))]
-    pub fn elements(&self, t: &Typed, variable: Variable) -> u32
-        ensures { result ≡ elements_of t.now (layout self.now) variable }
-    {
-        match variable {
-            Variable::File(k) => match t.vars.get(k as usize) {
-                Some(info) => entries_of(info),
-                None => 0,
-            },
-            Variable::Param(_) => 1,
-            Variable::Local(k) => match self.locals.get(k as usize) {
-                Some(local) => local.entries,
-                None => 0,
-            },
-        }
-    }
 }
 
 /// The instance that a name first has.
@@ -203,17 +125,6 @@ pub fn entries_of(info: &VarInfo) -> u32
     match info.shape {
         Some(_) => info.array.unwrap_or(1),
         None => 0,
-    }
-}
-
-/// The field of a variable of the file, as one more entry.
-#[tactic(auto, unfolding(crate::specs::Drafts::from))]
-fn file_entry(u: &mut Unit, info: &VarInfo, number: u32) -> Result<Field, Memory>
-    ensures draft { IfOk result (λ f. from info.now.shape (λ set. an_entry set info.now.elem.bits (W.File number) (draft u.old)) ≡ Makes f (draft u.new)) }
-{
-    match info.shape {
-        Some(set) => entry(u, set, info.elem.bits, Owner::File(number)),
-        None => Err(Memory),
     }
 }
 

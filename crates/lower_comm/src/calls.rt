@@ -8,8 +8,9 @@ ghost use Rattle.lower_comm.specs.News.{goes_by_news};
 use crate::messages::{check_grid, comm_in, goes_by_news, locate_in};
 use cstar_base::Memory;
 use cstar_tree::typed::{TExpr, Typed};
+use lower_base::View;
 use lower_base::emit::{Out, fresh};
-use lower_base::names::{Names, named};
+use lower_base::names::named;
 use paris_code::Unit;
 use std::alloc::Global;
 
@@ -70,10 +71,10 @@ pub fn comm(
 ) -> Result<Out, Memory>
     ensures draft { IfOk result (λ out. communicated_by t.now u.old.name e.now at parts.now into (draft u.old) ≡ Makes out (draft u.new)) }
 {
-    let mut names = Names::of(alloc, t)?;
+    let mut view = View::of(alloc, t)?;
     let Some(instance) = named(t, u.name.bytes()) else {
         return Err(Memory);
     };
-    names.enter(t, instance)?;
-    comm_in(t, &names, e, at, parts, into, u)
+    view.enter(instance)?;
+    comm_in(&view, e, at, parts, into, u)
 }

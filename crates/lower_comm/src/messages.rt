@@ -2,9 +2,9 @@
 
 ghost use Rattle.std.specs.Prelude.{◌≡◌, IfOk, OnOk, Some, slice_get};
 ghost use Rattle.lower_base.specs.declared.emit.Out.TheVariants as O;
-ghost use Rattle.lower_base.specs.Drafts.{Makes, draft};
+ghost use Rattle.lower_base.specs.Drafts.{Makes, draft, then_make};
 ghost use Rattle.lower_base.specs.Layouts.{layout};
-ghost use Rattle.lower_comm.specs.Messages.{folded_onto, negated_by, reduced, indexed, indexed_field, stored, sent_value, sent_to, sent, assigned, scanned, segment_field, enumerated, communicated};
+ghost use Rattle.lower_comm.specs.Messages.{folded_onto, negated_by, part_field, reduced, indexed, indexed_field, stored, sent_value, sent_to, sent, assigned, scanned, segment_field, enumerated, communicated};
 ghost use Rattle.lower_comm.specs.News.{goes_by_news};
 
 pub use crate::addresses::{check_grid, locate_in};
@@ -13,8 +13,8 @@ use crate::news::all_go_by_news;
 use cstar_base::{Direction, Elem, Inclusion, Memory, Op, SegmentMode};
 use cstar_tree::syntax::ReduceOp;
 use cstar_tree::typed::{TExpr, Typed, Variable};
+use lower_base::View;
 use lower_base::emit::{Out, entry, field, put, register};
-use lower_base::names::Names;
 use lower_base::operators::{assign_op, fold_of, operation, promoted_signed, reduce_op, scan_fold};
 use paris_code::{Field, Instr, Konst, Owner, Reduction, Unit};
 
@@ -41,15 +41,14 @@ pub fn goes_by_news(e: &TExpr) -> bool
 /// The code of one communication.
 #[tactic(auto, unfolding(crate::specs::Messages::communicated, crate::specs::Messages::part_register, crate::specs::Messages::part_field, lower_base::specs::Drafts::from, lower_base::specs::Drafts::in_register, lower_base::specs::Drafts::in_field, lower_base::specs::Drafts::then_make))]
 pub fn comm_in(
-    t: &Typed,
-    names: &Names,
+    view: &View,
     e: &TExpr,
     at: Out,
     parts: &[Out],
     into: Out,
     u: &mut Unit,
 ) -> Result<Out, Memory>
-    ensures draft { IfOk result (λ out. communicated t.now (layout names.now) e.now at parts.now into (draft u.old) ≡ Makes out (draft u.new)) }
+    ensures draft { IfOk result (λ out. communicated view.now.typed.now (layout view.now.names) e.now at parts.now into (draft u.old) ≡ Makes out (draft u.new)) }
 {
     match e {
         TExpr::LeftIndex {
@@ -59,7 +58,7 @@ pub fn comm_in(
             of,
             ..
         } => {
-            let source = names.field(t, *variable, 0, u)?;
+            let source = view.field(*variable, 0, u)?;
             read(*of, indexes, ty.elem, source, at, into, u)
         }
         TExpr::Assign {
@@ -69,31 +68,13 @@ pub fn comm_in(
             ..
         } => {
             let signed = promoted_signed(value.ty().elem);
-            assign(t, names, target, assign_op(*op), signed, at, parts, into, u)
+            assign(view, target, assign_op(*op), signed, at, parts, into, u)
         }
         TExpr::Step { target, .. } => {
             let processor = at.register()?;
-            store(t, names, target, processor, parts, u)
+            store(view, target, processor, parts, u)
         }
         TExpr::Reduce { op, operand, .. } => reduce(*op, operand.ty().elem, parts, into, u),
-        TExpr::Scan { .. } | TExpr::Enumerate { .. } => along_axis(t, names, e, parts, into, u),
-        _ => Err(Memory),
-    }
-}
-
-/// The code of a scan or of an enumeration.
-#[tactic(auto, unfolding(crate::specs::Messages::communicated, crate::specs::Messages::part_field, lower_base::specs::Drafts::from, lower_base::specs::Drafts::in_field, lower_base::specs::Drafts::then_make))]
-fn along_axis(
-    t: &Typed,
-    names: &Names,
-    e: &TExpr,
-    parts: &[Out],
-    into: Out,
-    u: &mut Unit,
-) -> Result<Out, Memory>
-    ensures draft { IfOk result (λ out. communicated t.now (layout names.now) e.now O.Nothing parts.now into (draft u.old) ≡ Makes out (draft u.new)) }
-{
-    match e {
         TExpr::Scan {
             source,
             axis,
@@ -104,16 +85,14 @@ fn along_axis(
             inclusion,
             ..
         } => {
-            let signed = promoted_signed(source.ty().elem);
             let line = Line {
                 axis: *axis,
                 direction: *direction,
                 mode: *mode,
                 inclusion: *inclusion,
             };
-            let source = part_field(parts, 0)?;
-            let bit = segment_field(t, names, *bit, u)?;
-            scan(scan_fold(*combiner, signed), source, line, bit, into, u)
+            let combiner = scan_fold(*combiner, promoted_signed(source.ty().elem));
+            scan_part(view, combiner, line, *bit, parts, into, u)
         }
         TExpr::Enumerate {
             axis,
@@ -129,17 +108,34 @@ fn along_axis(
                 mode: *mode,
                 inclusion: *inclusion,
             };
-            enumerate(t, names, line, *bit, into, u)
+            enumerate(view, line, *bit, into, u)
         }
         _ => Err(Memory),
     }
 }
 
+/// A scan of the values in the first part.
+#[tactic(auto, unfolding(crate::specs::Messages::part_field, lower_base::specs::Drafts::from, lower_base::specs::Drafts::in_field, lower_base::specs::Drafts::then_make))]
+fn scan_part(
+    view: &View,
+    combiner: Reduction,
+    line: Line,
+    bit: Option<Variable>,
+    parts: &[Out],
+    into: Out,
+    u: &mut Unit,
+) -> Result<Out, Memory>
+    ensures draft { IfOk result (λ out. part_field parts.now 0 (λ values. then_make (segment_field view.now.typed.now (layout view.now.names) bit (draft u.old)) (λ bits after. scanned combiner values line bits into after)) ≡ Makes out (draft u.new)) }
+{
+    let source = part_field(parts, 0)?;
+    let bit = segment_field(view, bit, u)?;
+    scan(combiner, source, line, bit, into, u)
+}
+
 /// An assignment: a fold onto a scalar, a store to one element, or a send.
 #[tactic(auto, unfolding(crate::specs::Messages::assigned))]
 fn assign(
-    t: &Typed,
-    names: &Names,
+    view: &View,
     target: &TExpr,
     op: Option<Op>,
     signed: bool,
@@ -148,12 +144,12 @@ fn assign(
     into: Out,
     u: &mut Unit,
 ) -> Result<Out, Memory>
-    ensures draft { IfOk result (λ out. assigned t.now (layout names.now) target.now op signed at parts.now into (draft u.old) ≡ Makes out (draft u.new)) }
+    ensures draft { IfOk result (λ out. assigned view.now.typed.now (layout view.now.names) target.now op signed at parts.now into (draft u.old) ≡ Makes out (draft u.new)) }
 {
     match at {
         Out::Nothing => fold_onto(op, signed, target.ty().elem, parts, into, u),
-        Out::Scalar(processor) => store(t, names, target, processor, parts, u),
-        Out::Field(address) => send(t, names, target, op, signed, address, parts, u),
+        Out::Scalar(processor) => store(view, target, processor, parts, u),
+        Out::Field(address) => send(view, target, op, signed, address, parts, u),
     }
 }
 
@@ -266,11 +262,11 @@ fn indexed(e: &TExpr) -> Option<Variable>
 
 /// The field of the variable of a left index.
 #[tactic(auto, unfolding(crate::specs::Messages::indexed_field, lower_base::specs::Drafts::from))]
-fn indexed_field(t: &Typed, names: &Names, e: &TExpr, u: &mut Unit) -> Result<Field, Memory>
-    ensures draft { IfOk result (λ f. indexed_field t.now (layout names.now) e.now (draft u.old) ≡ Makes f (draft u.new)) }
+fn indexed_field(view: &View, e: &TExpr, u: &mut Unit) -> Result<Field, Memory>
+    ensures draft { IfOk result (λ f. indexed_field view.now.typed.now (layout view.now.names) e.now (draft u.old) ≡ Makes f (draft u.new)) }
 {
     match indexed(e) {
-        Some(variable) => names.field(t, variable, 0, u),
+        Some(variable) => view.field(variable, 0, u),
         None => Err(Memory),
     }
 }
@@ -278,16 +274,15 @@ fn indexed_field(t: &Typed, names: &Names, e: &TExpr, u: &mut Unit) -> Result<Fi
 /// A store to one element.
 #[tactic(auto, unfolding(crate::specs::Messages::stored, crate::specs::Messages::part_register, crate::specs::Messages::part_field, lower_base::specs::Drafts::from, lower_base::specs::Drafts::in_register, lower_base::specs::Drafts::in_field, lower_base::specs::Drafts::then_make))]
 fn store(
-    t: &Typed,
-    names: &Names,
+    view: &View,
     target: &TExpr,
     processor: u32,
     parts: &[Out],
     u: &mut Unit,
 ) -> Result<Out, Memory>
-    ensures draft { IfOk result (λ out. stored t.now (layout names.now) target.now processor parts.now (draft u.old) ≡ Makes out (draft u.new)) }
+    ensures draft { IfOk result (λ out. stored view.now.typed.now (layout view.now.names) target.now processor parts.now (draft u.old) ≡ Makes out (draft u.new)) }
 {
-    let dest = indexed_field(t, names, target, u)?;
+    let dest = indexed_field(view, target, u)?;
     let value = part_register(parts, 0)?;
     put(
         u,
@@ -303,8 +298,7 @@ fn store(
 /// A send through a left index.
 #[tactic(auto, unfolding(crate::specs::Messages::sent, crate::specs::Messages::part_register, crate::specs::Messages::part_field, lower_base::specs::Drafts::from, lower_base::specs::Drafts::in_register, lower_base::specs::Drafts::in_field, lower_base::specs::Drafts::then_make))]
 fn send(
-    t: &Typed,
-    names: &Names,
+    view: &View,
     target: &TExpr,
     op: Option<Op>,
     signed: bool,
@@ -312,9 +306,9 @@ fn send(
     parts: &[Out],
     u: &mut Unit,
 ) -> Result<Out, Memory>
-    ensures draft { IfOk result (λ out. sent t.now (layout names.now) target.now op signed address parts.now (draft u.old) ≡ Makes out (draft u.new)) }
+    ensures draft { IfOk result (λ out. sent view.now.typed.now (layout view.now.names) target.now op signed address parts.now (draft u.old) ≡ Makes out (draft u.new)) }
 {
-    let dest = indexed_field(t, names, target, u)?;
+    let dest = indexed_field(view, target, u)?;
     let value = part_field(parts, 0)?;
     send_to(op, signed, target.ty().elem, dest, address, value, u)
 }
@@ -400,14 +394,13 @@ struct Line {
 /// An enumeration: a scan of ones.
 #[tactic(auto, unfolding(crate::specs::Messages::enumerated, lower_base::specs::Drafts::in_field, lower_base::specs::Drafts::then_make))]
 fn enumerate(
-    t: &Typed,
-    names: &Names,
+    view: &View,
     line: Line,
     bit: Option<Variable>,
     into: Out,
     u: &mut Unit,
 ) -> Result<Out, Memory>
-    ensures draft { IfOk result (λ out. enumerated t.now (layout names.now) line bit into (draft u.old) ≡ Makes out (draft u.new)) }
+    ensures draft { IfOk result (λ out. enumerated view.now.typed.now (layout view.now.names) line bit into (draft u.old) ≡ Makes out (draft u.new)) }
 {
     let dest = into.field()?;
     let ones = field(u, dest.set)?;
@@ -418,7 +411,7 @@ fn enumerate(
             value: Konst::Imm(1),
         },
     )?;
-    let bits = segment_field(t, names, bit, u)?;
+    let bits = segment_field(view, bit, u)?;
     scan(Reduction::SAdd, ones, line, bits, into, u)
 }
 
@@ -453,17 +446,12 @@ fn scan(
 
 /// The field of a scan's segment bits.
 #[tactic(auto, unfolding(crate::specs::Messages::segment_field, lower_base::specs::Drafts::then_make))]
-fn segment_field(
-    t: &Typed,
-    names: &Names,
-    bit: Option<Variable>,
-    u: &mut Unit,
-) -> Result<Option<Field>, Memory>
-    ensures draft { IfOk result (λ bits. segment_field t.now (layout names.now) bit (draft u.old) ≡ Makes bits (draft u.new)) }
+fn segment_field(view: &View, bit: Option<Variable>, u: &mut Unit) -> Result<Option<Field>, Memory>
+    ensures draft { IfOk result (λ bits. segment_field view.now.typed.now (layout view.now.names) bit (draft u.old) ≡ Makes bits (draft u.new)) }
 {
     match bit {
         Some(variable) => {
-            let bits = names.field(t, variable, 0, u)?;
+            let bits = view.field(variable, 0, u)?;
             Ok(Some(bits))
         }
         None => Ok(None),

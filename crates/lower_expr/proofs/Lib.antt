@@ -1,3 +1,4 @@
 pub mod Casts
 pub mod Elements
 pub mod Lists
+pub mod Relations

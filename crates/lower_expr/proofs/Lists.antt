@@ -20,7 +20,7 @@ use Rattle.lower_expr.specs.Frames.{called}
 use Rattle.lower_expr.specs.Lengths.{length_of, spot_length_of, lengths_of, lengths_in, call_length, news_length, read_length}
 use Rattle.lower_expr.specs.Operands.{is_quiet, are_quiet, all_quiet, operand_by, operand_length}
 use Rattle.lower_expr.specs.Steps.{pieces_printed}
-use Rattle.lower_expr.specs.Values.{indexed_spot, news_by, read_by, value_of, spot_of, values_of, values_in}
+use Rattle.lower_expr.specs.Values.{call_of, print_of, indexed_spot, news_by, read_by, value_of, spot_of, values_of, values_in}
 
 -- the row that a list stands in
 abbrev row_of : TExpr → (n : Count) × Row_of-TExpr n
@@ -113,10 +113,8 @@ values_of_items t l n row items same outs d =
     ∙ ap (λ (xs : List TExpr). values_in t l (all_quiet xs) xs outs d) same)
 
 pub value_of_call : (t : Typed) (l : Layout) (ty : ValueType) (instance : ℕ) (arguments : Vec TExpr Global) (d : Draft) →
-    value_of t l (T.Call ty instance arguments) d
-    ≡ then_make (fresh_for ty.shape d) (λ dest begun. then_make (values_in t l (all_quiet arguments.items) arguments.items [] begun)
-    (λ given after. called t l instance given dest after))
-unfolding value_of
+    value_of t l (T.Call ty instance arguments) d ≡ call_of t l ty.shape instance arguments.items d
+unfolding value_of call_of
 value_of_call t l ty instance arguments d =
     let row = row_of (T.Call ty instance arguments) in
     same_behind (fresh_for ty.shape d) (λ dest begun. then_make (values_of t l (are_quiet row.1) row.1 [] begun) (λ given after. called t l instance given dest after))
@@ -125,9 +123,8 @@ value_of_call t l ty instance arguments d =
     (values_of_items t l row.0 row.1 arguments.items (items_hidden-the_row-TExpr-0 arguments) [] begun))
 
 pub value_of_printf : (t : Typed) (l : Layout) (ty : ValueType) (pieces : Vec Piece Global) (arguments : Vec TExpr Global) (d : Draft) →
-    value_of t l (T.Printf ty pieces arguments) d
-    ≡ then_make (values_in t l (all_quiet arguments.items) arguments.items [] d) (λ given after. pieces_printed pieces.items given after)
-unfolding value_of
+    value_of t l (T.Printf ty pieces arguments) d ≡ print_of t l pieces.items arguments.items d
+unfolding value_of print_of
 value_of_printf t l ty pieces arguments d =
     let row = row_of (T.Printf ty pieces arguments) in
     ap (λ (m : Made (List Out)). then_make m (λ given after. pieces_printed pieces.items given after))

@@ -4,6 +4,7 @@ use Rattle.std.specs.Prelude.{ℕ, ◌+◌, Bool, true, false, ◌==◌, ◌&&�
 use Rattle.cstar_base.specs.declared.elem.Elem.{Elem}
 use Rattle.cstar_base.specs.declared.operators.Op.{Op}
 use Rattle.cstar_base.specs.declared.operators.Place.{Place}
+use Rattle.cstar_tree.specs.declared.syntax.AssignOp.{AssignOp}
 use Rattle.cstar_tree.specs.declared.syntax.StepOp.{StepOp}
 use Rattle.cstar_tree.specs.declared.typed.TExpr.{TExpr}
 use Rattle.cstar_tree.specs.declared.typed.TExpr as T
@@ -60,10 +61,10 @@ converted_to t l (O.Field f) e elem operand d = moved t l (O.Field f) e d
 converted_to t l O.Nothing e elem operand d = Fails
 
 -- a binary operator into a register or a field; what has to be spread goes to a fresh field
-unfoldable pub binary_to : Typed → Layout → Out → TExpr → Draft → Made Out
-binary_to t l (O.Scalar r) e d = register_binary_of t l e r d
-binary_to t l (O.Field f) e d = then_make (a_field f.set d) (λ spare after. field_binary_of t l e f spare after)
-binary_to t l O.Nothing e d = Fails
+unfoldable pub binary_to : Typed → Layout → Out → Op → Place → TExpr → TExpr → Draft → Made Out
+binary_to t l (O.Scalar r) op place left right d = register_binary_of t l op place left right r d
+binary_to t l (O.Field f) op place left right d = then_make (a_field f.set d) (λ spare after. field_binary_of t l op place left right f spare after)
+binary_to t l O.Nothing op place left right d = Fails
 
 -- a value that is no constant becomes that of a register or a field
 unfoldable pub computed_to : Typed → Layout → Out → TExpr → Draft → Made Out
@@ -74,7 +75,7 @@ computed_to t l dest (T.Convert' ty p operand) d =
 computed_to t l dest (T.Unary' ty op p operand) d =
     if is_plus op then computed_to t l dest operand d
     else then_make (next_operand t l operand d) (λ v after. negated op dest v after)
-computed_to t l dest (T.Binary' ty place op p left q right) d = binary_to t l dest (T.Binary' ty place op p left q right) d
+computed_to t l dest (T.Binary' ty place op p left q right) d = binary_to t l dest op place left right d
 computed_to t l dest (T.Pcoord ty axis) d = in_field dest (λ f. Makes dest (with_instr (I.MyNewsCoordinate f axis) d))
 computed_to t l dest e d = moved t l dest e d
 
@@ -122,20 +123,26 @@ variable_stepped elem op O.Nothing d = Fails
 unfoldable pub folds : Own → TExpr → Bool
 folds own value = is_none own.shape && not (is_kept value)
 
--- the variable that an assignment or a step may write itself; a fold goes another way
+-- the variable that an assignment may write itself; a fold goes another way
+abbrev pub assigned_own : TExpr → TExpr → Option Own
+assigned_own target value = elim (own_of target) [ Some own ↦ if folds own value then None else Some own | None ↦ None ]
+
+-- the variable that an assignment or a step may write itself
 unfoldable pub written_by : TExpr → Option Own
-written_by (T.Assign' ty place op p target q value) =
-    elim (own_of target) [ Some own ↦ if folds own value then None else Some own | None ↦ None ]
+written_by (T.Assign' ty place op p target q value) = assigned_own target value
 written_by (T.Step' ty op order p target) = own_of target
 written_by _ = None
 
 -- an assignment or a step that writes its variable itself
-unfoldable pub variable_written : Typed → Layout → TExpr → Out → Draft → Made Out
-variable_written t l (T.Assign' ty place op p target q value) dest d =
+abbrev pub variable_assigned : Typed → Layout → AssignOp → Place → TExpr → TExpr → Out → Draft → Made Out
+variable_assigned t l op place target value dest d =
     elim (assign_op_of op) [
       | None ↦ put_to t l dest value d
       | Some o ↦ variable_operated t l o place target value dest d
     ]
+
+unfoldable pub variable_written : Typed → Layout → TExpr → Out → Draft → Made Out
+variable_written t l (T.Assign' ty place op p target q value) dest d = variable_assigned t l op place target value dest d
 variable_written t l (T.Step' ty op order p target) dest d = variable_stepped (type_of target).elem op dest d
 variable_written t l _ dest d = Fails
 
@@ -201,13 +208,19 @@ operated_length t l scalar elem op value =
     if scalar then (next_length t l value + operate_length op true) + settled_length elem
     else right_length (next_length t l value) op value
 
-unfoldable pub written_length : Typed → Layout → Bool → TExpr → ℕ
-written_length t l scalar (T.Assign' ty place op p target q value) =
+abbrev pub assigned_length : Typed → Layout → Bool → AssignOp → Elem → TExpr → ℕ
+assigned_length t l scalar op elem value =
     elim (assign_op_of op) [
       | None ↦ put_length t l scalar value
-      | Some o ↦ operated_length t l scalar (type_of target).elem o value
+      | Some o ↦ operated_length t l scalar elem o value
     ]
-written_length t l scalar (T.Step' ty op order p target) = if scalar then 2 + settled_length (type_of target).elem else 1
+
+abbrev pub stepped_length : Bool → Elem → ℕ
+stepped_length scalar elem = if scalar then 2 + settled_length elem else 1
+
+unfoldable pub written_length : Typed → Layout → Bool → TExpr → ℕ
+written_length t l scalar (T.Assign' ty place op p target q value) = assigned_length t l scalar op (type_of target).elem value
+written_length t l scalar (T.Step' ty op order p target) = stepped_length scalar (type_of target).elem
 written_length t l scalar _ = 0
 
 unfoldable pub effect_length_of : Typed → Layout → TExpr → ℕ

@@ -9,6 +9,7 @@ use Rattle.cstar_base.specs.declared.operators.Place.{Place}
 use Rattle.cstar_tree.specs.declared.syntax.AssignOp.{AssignOp}
 use Rattle.cstar_tree.specs.declared.syntax.StepOp.{StepOp}
 use Rattle.cstar_tree.specs.declared.syntax.StepOp.TheVariants as Sp
+use Rattle.cstar_tree.specs.declared.typed.Piece.{Piece}
 use Rattle.cstar_tree.specs.declared.typed.StepOrder.{StepOrder}
 use Rattle.cstar_tree.specs.declared.typed.StepOrder.TheVariants as Or
 use Rattle.cstar_tree.specs.declared.typed.TExpr.{TExpr, Row_of-TExpr, end_of-TExpr, more_of-TExpr}
@@ -36,7 +37,7 @@ use Rattle.lower_expr.specs.declared.steps.Right.{Right}
 use Rattle.lower_expr.specs.declared.steps.Right.TheVariants as R
 use Rattle.lower_expr.specs.Frames.{called}
 use Rattle.lower_expr.specs.Lengths.{is_send, length_of}
-use Rattle.lower_expr.specs.Operands.{is_plus, is_quiet, are_quiet, operand_by, operand_length}
+use Rattle.lower_expr.specs.Operands.{is_plus, is_quiet, are_quiet, all_quiet, operand_by, operand_length}
 use Rattle.lower_expr.specs.Spots.{variable_spot, index_checked, loaded, stored}
 use Rattle.lower_expr.specs.Steps.{is_kept, word_of, word_taken, constant_in, put_test, converted_in_place, put_value, operated, right_operated, in_a_field, negated, pieces_printed, assigned_signed}
 
@@ -390,57 +391,66 @@ values_in t l quiet [] outs d = Makes outs d
 values_in t l quiet (e ∷ rest) outs d =
     then_make (operand_by t l (value_of t l e) quiet e d) (λ v after. values_in t l quiet rest (outs ++ v ∷ []) after)
 
--- `||`, or else `&&`, of the operands of either: of scalars, and with a parallel operand; `?:` into
--- this register or field
-unfoldable pub scalar_logical_of : Typed → Layout → Bool → TExpr → Draft → Made Out
-scalar_logical_of t l is_or (T.LogicalOr' ty p left q right) d =
+-- `||`, or else `&&`, of these operands: of scalars, and with a parallel operand
+unfoldable pub scalar_logical_of : Typed → Layout → Bool → TExpr → TExpr → Draft → Made Out
+scalar_logical_of t l is_or left right d =
     scalar_logical_by is_or (operand_by t l (value_of t l left) true left) (operand_by t l (value_of t l right) true right)
     (operand_length (length_of t l right) true right) d
-scalar_logical_of t l is_or (T.LogicalAnd' ty p left q right) d =
-    scalar_logical_by is_or (operand_by t l (value_of t l left) true left) (operand_by t l (value_of t l right) true right)
-    (operand_length (length_of t l right) true right) d
-scalar_logical_of t l is_or _ d = Fails
 
-unfoldable pub parallel_logical_of : Typed → Layout → Bool → TExpr → ℕ → Draft → Made Out
-parallel_logical_of t l is_or (T.LogicalOr' ty p left q right) set d =
+unfoldable pub parallel_logical_of : Typed → Layout → Bool → TExpr → TExpr → ℕ → Draft → Made Out
+parallel_logical_of t l is_or left right set d =
     parallel_logical_by is_or set (operand_by t l (value_of t l left) true left) (is_kept left)
     (operand_by t l (value_of t l right) true right) (is_kept right) (operand_length (length_of t l right) true right) d
-parallel_logical_of t l is_or (T.LogicalAnd' ty p left q right) set d =
-    parallel_logical_by is_or set (operand_by t l (value_of t l left) true left) (is_kept left)
-    (operand_by t l (value_of t l right) true right) (is_kept right) (operand_length (length_of t l right) true right) d
-parallel_logical_of t l is_or _ set d = Fails
 
-unfoldable pub scalar_choice_of : Typed → Layout → TExpr → Out → Draft → Made Out
-scalar_choice_of t l (T.Choice' ty p test q first r second) dest d =
+unfoldable pub logical_of : Typed → Layout → Bool → Option ℕ → TExpr → TExpr → Draft → Made Out
+logical_of t l is_or shape left right d =
+    logical_by is_or shape (operand_by t l (value_of t l left) true left) (is_kept left)
+    (operand_by t l (value_of t l right) true right) (is_kept right) (operand_length (length_of t l right) true right) d
+
+-- `?:` of these operands, into this register or field
+unfoldable pub scalar_choice_of : Typed → Layout → TExpr → TExpr → TExpr → Out → Draft → Made Out
+scalar_choice_of t l test first second dest d =
     scalar_choice_by dest (operand_by t l (value_of t l test) true test)
     (operand_by t l (value_of t l first) true first) (operand_by t l (value_of t l second) true second)
     (operand_length (length_of t l first) true first) (operand_length (length_of t l second) true second) d
-scalar_choice_of t l _ dest d = Fails
 
-unfoldable pub parallel_choice_of : Typed → Layout → TExpr → Out → Draft → Made Out
-parallel_choice_of t l (T.Choice' ty p test q first r second) dest d =
+unfoldable pub parallel_choice_of : Typed → Layout → TExpr → TExpr → TExpr → Out → Draft → Made Out
+parallel_choice_of t l test first second dest d =
     parallel_choice_by dest (operand_by t l (value_of t l test) (is_quiet first) test)
     (operand_by t l (value_of t l first) true first) (operand_by t l (value_of t l second) true second) d
-parallel_choice_of t l _ dest d = Fails
 
--- a binary operator whose last instruction writes this register, or this field
-unfoldable pub register_binary_of : Typed → Layout → TExpr → ℕ → Draft → Made Out
-register_binary_of t l (T.Binary' ty place op p left q right) r d =
+unfoldable pub choice_of : Typed → Layout → ValueType → TExpr → TExpr → TExpr → Draft → Made Out
+choice_of t l ty test first second d =
+    choice_by ty (is_kept test) (operand_by t l (value_of t l test) (is_kept test || is_quiet first) test)
+    (operand_by t l (value_of t l first) true first) (operand_by t l (value_of t l second) true second)
+    (operand_length (length_of t l first) true first) (operand_length (length_of t l second) true second) d
+
+-- a binary operator of these operands whose last instruction writes this register, or this field
+unfoldable pub register_binary_of : Typed → Layout → Op → Place → TExpr → TExpr → ℕ → Draft → Made Out
+register_binary_of t l op place left right r d =
     registers_by op (is_signed (type_of left).elem) place r
     (operand_by t l (value_of t l left) (is_quiet right) left) (operand_by t l (value_of t l right) true right) d
-register_binary_of t l _ r d = Fails
 
-unfoldable pub field_binary_of : Typed → Layout → TExpr → Field → Field → Draft → Made Out
-field_binary_of t l (T.Binary' ty place op p left q right) f spare d =
+unfoldable pub field_binary_of : Typed → Layout → Op → Place → TExpr → TExpr → Field → Field → Draft → Made Out
+field_binary_of t l op place left right f spare d =
     fields_by op (is_signed (type_of left).elem) place f spare
     (operand_by t l (value_of t l left) (is_quiet right) left) left (operand_by t l (value_of t l right) true right) right d
-field_binary_of t l _ f spare d = Fails
 
--- an assignment with this operator
-unfoldable pub compound_of : Typed → Layout → TExpr → Op → Draft → Made Out
-compound_of t l (T.Assign' ty place o p target q value) op d =
-    updated_by t l (T.Assign' ty place o p target q value) op place target value (type_of target).shape (spot_of t l target) (value_of t l value) d
-compound_of t l _ op d = Fails
+unfoldable pub binary_of : Typed → Layout → Option ℕ → Op → Place → TExpr → TExpr → Draft → Made Out
+binary_of t l shape op place left right d =
+    then_make (fresh_for shape d)
+    (λ dest after. binary_at dest op (is_signed (type_of left).elem) place
+    (operand_by t l (value_of t l left) (is_quiet right) left) left (operand_by t l (value_of t l right) true right) right after)
+
+-- a call with these arguments, and `printf` with them
+unfoldable pub call_of : Typed → Layout → Option ℕ → ℕ → List TExpr → Draft → Made Out
+call_of t l shape instance arguments d =
+    then_make (fresh_for shape d) (λ dest begun. then_make (values_in t l (all_quiet arguments) arguments [] begun)
+    (λ given after. called t l instance given dest after))
+
+unfoldable pub print_of : Typed → Layout → List Piece → List TExpr → Draft → Made Out
+print_of t l pieces arguments d =
+    then_make (values_in t l (all_quiet arguments) arguments [] d) (λ given after. pieces_printed pieces given after)
 
 -- the value of a parallel expression in a field, that of a promoted scalar too
 unfoldable pub spread_of : Typed → Layout → TExpr → ℕ → Draft → Made Out

@@ -6,63 +6,61 @@ ghost use Rattle.lower_base.specs.Layouts.{layout};
 ghost use Rattle.lower_expr.specs.Lengths.{is_send};
 ghost use Rattle.lower_expr.specs.Values.{field_updated, register_updated, register_folded, step_operation, stepped_once, stepped_at, stepped_in};
 
+use crate::parts::Operator;
 use crate::spots::{Spot, bare, load, store};
 use crate::steps::{Right, convert, operate, operate_right};
-use cstar_base::{Memory, Op, Place};
+use cstar_base::Memory;
 use cstar_tree::syntax::StepOp;
-use cstar_tree::typed::{StepOrder, TExpr, Typed};
-use lower_base::Out;
+use cstar_tree::typed::{StepOrder, TExpr};
 use lower_base::emit::{put, register};
-use lower_base::names::Names;
+use lower_base::{Out, View};
 use lower_comm::messages::comm_in;
 use paris_code::{Field, Instr, Konst, Unit};
+
+/// An assignment or a step, its target, and where that was located.
+#[derive(Clone, Copy)]
+pub struct Located<'a> {
+    pub whole: &'a TExpr,
+    pub target: &'a TExpr,
+    pub spot: Spot,
+}
 
 /// A located parallel target takes the result of the operator on its old value and the new one.
 #[tactic(auto, unfolding(crate::specs::Values::field_updated, lower_base::specs::Drafts::then_make))]
 pub fn update_field(
-    t: &Typed,
-    names: &Names,
-    e: &TExpr,
-    op: Op,
-    signed: bool,
-    place: Place,
-    target: &TExpr,
+    view: &View,
+    located: &Located,
+    operator: Operator,
     dest: Field,
     spare: Field,
-    spot: Spot,
     v: Right,
     u: &mut Unit,
 ) -> Result<Out, Memory>
-    ensures draft { IfOk result (λ out. field_updated t.now (layout names.now) e.now op signed place target.now dest spare spot v (draft u.old) ≡ Makes out (draft u.new)) }
+    ensures draft { IfOk result (λ out. field_updated view.now.typed.now (layout view.now.names) located.now.whole.now operator.op operator.signed operator.place located.now.target.now dest spare located.now.spot v (draft u.old) ≡ Makes out (draft u.new)) }
 {
-    load(t, names, target, spot, Out::Field(dest), u)?;
-    operate_right(op, signed, place, dest, dest, v, spare, u)?;
-    convert(Out::Field(dest), target.ty().elem, u)?;
-    store(t, names, e, spot, Out::Field(dest), u)?;
+    load(view, located.target, located.spot, Out::Field(dest), u)?;
+    operate_right(operator, dest, dest, v, spare, u)?;
+    convert(Out::Field(dest), located.target.ty().elem, u)?;
+    store(view, located.whole, located.spot, Out::Field(dest), u)?;
     Ok(Out::Field(dest))
 }
 
 /// A located scalar target takes the result of the operator on its old value and a scalar one.
 #[tactic(auto, unfolding(crate::specs::Values::register_updated, lower_base::specs::Drafts::then_make, lower_base::specs::Drafts::in_register))]
 pub fn update_register(
-    t: &Typed,
-    names: &Names,
-    e: &TExpr,
-    op: Op,
-    signed: bool,
-    place: Place,
-    target: &TExpr,
+    view: &View,
+    located: &Located,
+    operator: Operator,
     dest: u32,
-    spot: Spot,
     v: Out,
     u: &mut Unit,
 ) -> Result<Out, Memory>
-    ensures draft { IfOk result (λ out. register_updated t.now (layout names.now) e.now op signed place target.now dest spot v (draft u.old) ≡ Makes out (draft u.new)) }
+    ensures draft { IfOk result (λ out. register_updated view.now.typed.now (layout view.now.names) located.now.whole.now operator.op operator.signed operator.place located.now.target.now dest located.now.spot v (draft u.old) ≡ Makes out (draft u.new)) }
 {
-    load(t, names, target, spot, Out::Scalar(dest), u)?;
-    operate(op, signed, place, dest, dest, v.register()?, u)?;
-    convert(Out::Scalar(dest), target.ty().elem, u)?;
-    store(t, names, e, spot, Out::Scalar(dest), u)?;
+    load(view, located.target, located.spot, Out::Scalar(dest), u)?;
+    operate(operator, dest, dest, v.register()?, u)?;
+    convert(Out::Scalar(dest), located.target.ty().elem, u)?;
+    store(view, located.whole, located.spot, Out::Scalar(dest), u)?;
     Ok(Out::Scalar(dest))
 }
 
@@ -70,22 +68,26 @@ pub fn update_register(
 /// parallel one.
 #[tactic(auto, unfolding(crate::specs::Values::register_folded, lower_base::specs::Drafts::then_make))]
 pub fn fold_into_register(
-    t: &Typed,
-    names: &Names,
-    e: &TExpr,
-    target: &TExpr,
+    view: &View,
+    located: &Located,
     dest: u32,
-    spot: Spot,
     v: Out,
     u: &mut Unit,
 ) -> Result<Out, Memory>
-    ensures draft { IfOk result (λ out. register_folded t.now (layout names.now) e.now target.now dest spot v (draft u.old) ≡ Makes out (draft u.new)) }
+    ensures draft { IfOk result (λ out. register_folded view.now.typed.now (layout view.now.names) located.now.whole.now located.now.target.now dest located.now.spot v (draft u.old) ≡ Makes out (draft u.new)) }
 {
     let old = register(u)?;
-    load(t, names, target, spot, Out::Scalar(old), u)?;
+    load(view, located.target, located.spot, Out::Scalar(old), u)?;
     let parts = [v, Out::Scalar(old)];
-    comm_in(t, names, e, Out::Nothing, &parts, Out::Scalar(dest), u)?;
-    store(t, names, e, spot, Out::Scalar(dest), u)?;
+    comm_in(
+        view,
+        located.whole,
+        Out::Nothing,
+        &parts,
+        Out::Scalar(dest),
+        u,
+    )?;
+    store(view, located.whole, located.spot, Out::Scalar(dest), u)?;
     Ok(Out::Scalar(dest))
 }
 
@@ -104,26 +106,23 @@ pub fn is_send(target: &TExpr) -> bool
 /// register or field.
 #[tactic(auto, unfolding(crate::specs::Values::stepped_in, lower_base::specs::Drafts::then_make))]
 pub fn step_in(
-    t: &Typed,
-    names: &Names,
-    e: &TExpr,
+    view: &View,
+    located: &Located,
     op: StepOp,
     order: StepOrder,
-    target: &TExpr,
-    spot: Spot,
     outcome: Out,
     second: Out,
     u: &mut Unit,
 ) -> Result<Out, Memory>
-    ensures draft { IfOk result (λ out. stepped_in t.now (layout names.now) e.now op order target.now spot outcome second (draft u.old) ≡ Makes out (draft u.new)) }
+    ensures draft { IfOk result (λ out. stepped_in view.now.typed.now (layout view.now.names) located.now.whole.now op order located.now.target.now located.now.spot outcome second (draft u.old) ≡ Makes out (draft u.new)) }
 {
     match order {
         StepOrder::Prefix => {
-            step_at(t, names, e, op, target, spot, second, outcome, u)?;
+            step_at(view, located, op, second, outcome, u)?;
             Ok(outcome)
         }
         StepOrder::Postfix => {
-            step_at(t, names, e, op, target, spot, outcome, second, u)?;
+            step_at(view, located, op, outcome, second, u)?;
             Ok(outcome)
         }
     }
@@ -132,22 +131,19 @@ pub fn step_in(
 /// The step itself, from the old value to the new one.
 #[tactic(auto, unfolding(crate::specs::Values::stepped_at, lower_base::specs::Drafts::then_make))]
 fn step_at(
-    t: &Typed,
-    names: &Names,
-    e: &TExpr,
+    view: &View,
+    located: &Located,
     op: StepOp,
-    target: &TExpr,
-    spot: Spot,
     before: Out,
     behind: Out,
     u: &mut Unit,
 ) -> Result<Out, Memory>
-    ensures draft { IfOk result (λ out. stepped_at t.now (layout names.now) e.now op target.now spot before behind (draft u.old) ≡ Makes out (draft u.new)) }
+    ensures draft { IfOk result (λ out. stepped_at view.now.typed.now (layout view.now.names) located.now.whole.now op located.now.target.now located.now.spot before behind (draft u.old) ≡ Makes out (draft u.new)) }
 {
-    load(t, names, target, spot, before, u)?;
+    load(view, located.target, located.spot, before, u)?;
     step_once(op, before, behind, u)?;
-    convert(behind, target.ty().elem, u)?;
-    store(t, names, e, spot, behind, u)?;
+    convert(behind, located.target.ty().elem, u)?;
+    store(view, located.whole, located.spot, behind, u)?;
     Ok(behind)
 }
 

@@ -7,8 +7,8 @@ ghost use Rattle.lower_expr.specs.Values.{expression_of};
 use crate::value::{spread, value};
 use cstar_base::Memory;
 use cstar_tree::typed::{TExpr, Typed};
-use lower_base::Out;
-use lower_base::names::{Names, named};
+use lower_base::names::named;
+use lower_base::{Out, View};
 use paris_code::Unit;
 use std::alloc::Global;
 
@@ -23,13 +23,13 @@ use std::alloc::Global;
 pub fn expr(alloc: Global, t: &Typed, e: &TExpr, u: &mut Unit) -> Result<Out, Memory>
     ensures draft { IfOk result (λ out. expression_of t.now u.old.name e.now (draft u.old) ≡ Makes out (draft u.new)) }
 {
-    let mut names = Names::of(alloc, t)?;
+    let mut view = View::of(alloc, t)?;
     let Some(instance) = named(t, u.name.bytes()) else {
         return Err(Memory);
     };
-    names.enter(t, instance)?;
+    view.enter(instance)?;
     match e.ty().shape {
-        Some(set) => spread(alloc, t, &names, e, set, u),
-        None => value(alloc, t, &names, e, u),
+        Some(set) => spread(&view, e, set, u),
+        None => value(&view, e, u),
     }
 }

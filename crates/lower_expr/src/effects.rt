@@ -2,67 +2,75 @@
 //! is not used. The last instruction of a value writes the variable itself.
 
 ghost use Rattle.std.specs.Prelude.{◌≡◌, true, IfOk, OnOk};
+ghost use Rattle.cstar_tree.specs.Typed.{type_of};
+ghost use Rattle.lower_base.specs.declared.operators.Machine.TheVariants as M;
 ghost use Rattle.lower_base.specs.Drafts.{Makes, draft};
 ghost use Rattle.lower_base.specs.Layouts.{layout};
-ghost use Rattle.lower_base.specs.Operators.{machine_of};
-ghost use Rattle.lower_expr.specs.Effects.{binary_to, compared, computed_to, converted_to, effect_of, field_operated, folds, moved, next_operand, put_to, register_converted, register_operated, relation_tested, tested, value_tested, variable_operated, variable_stepped, variable_written, with_settled, word_for, word_put, written_by, written_register};
-ghost use Rattle.lower_expr.specs.Operands.{operand_by};
-ghost use Rattle.lower_expr.specs.Values.{step_operation, value_of};
+ghost use Rattle.lower_base.specs.Operators.{is_signed, machine_of};
+ghost use Rattle.lower_expr.specs.Effects.{assigned_own, binary_to, compared, computed_to, converted_to, effect_of, field_operated, folds, moved, put_to, register_converted, register_operated, relation_tested, tested, value_tested, variable_assigned, variable_operated, variable_stepped, with_settled, word_for, word_put, written_register};
+ghost use Rattle.lower_expr.specs.Values.{step_operation};
 
 use crate::assign::step_operation;
 use crate::operands::{Own, is_plus, is_quiet, own_of, standing};
+use crate::parts::{Assignment, Binary, Operator};
 use crate::steps::{
-    Right, assign_signed, constant, constant_word, is_relation, operate, operate_right,
-    register_word, set, stays_scalar, unary,
+    Right, assign_signed, constant, constant_word, operate, operate_right, register_word, set,
+    stays_scalar, unary,
 };
 use crate::value::{binary_in_field, binary_in_register, operand, right_operand, spread_to, value};
-use cstar_base::{Elem, Memory, Op, Place};
+use cstar_base::{Elem, Memory, Op};
 use cstar_tree::syntax::StepOp;
-use cstar_tree::typed::{TExpr, Typed};
-use lower_base::Out;
+use cstar_tree::typed::TExpr;
 use lower_base::emit::{field, put, register};
-use lower_base::names::Names;
 use lower_base::operators::{Machine, assign_op, machine_op, promoted_signed};
-use paris_code::{Field, Instr, Konst, Unit};
-use std::alloc::Global;
+use lower_base::{Out, View};
+use paris_code::{Compare, Field, Instr, Konst, Unit};
 
 /// An expression whose value is not used.
-#[tactic(auto, unfolding(crate::specs::Effects::effect_of, crate::specs::Effects::written_by, lower_base::specs::Drafts::then_make))]
-pub fn effect(
-    alloc: Global,
-    t: &Typed,
-    names: &Names,
-    e: &TExpr,
-    u: &mut Unit,
-) -> Result<Out, Memory>
-    ensures draft { IfOk result (λ out. effect_of t.now (layout names.now) e.now (draft u.old) ≡ Makes out (draft u.new)) }
+#[tactic(auto, unfolding(crate::specs::Effects::effect_of, crate::specs::Effects::written_by, crate::specs::Effects::variable_written, lower_base::specs::Drafts::then_make))]
+pub fn effect(view: &View, e: &TExpr, u: &mut Unit) -> Result<Out, Memory>
+    ensures draft { IfOk result (λ out. effect_of view.now.typed.now (layout view.now.names) e.now (draft u.old) ≡ Makes out (draft u.new)) }
 {
     match e {
-        TExpr::Brackets { inner, .. } => effect(alloc, t, names, inner, u),
-        _ => match written(e) {
-            Some(own) => {
-                let dest = standing(t, names, own, u)?;
-                write_variable(alloc, t, names, e, dest, u)
-            }
-            None => value(alloc, t, names, e, u),
-        },
+        TExpr::Brackets { inner, .. } => effect(view, inner, u),
+        TExpr::Assign {
+            place,
+            op,
+            target,
+            value: right,
+            ..
+        } => {
+            let Some(own) = assigned_own(target, right) else {
+                return value(view, e, u);
+            };
+            let dest = standing(view, own, u)?;
+            let assignment = Assignment {
+                whole: e,
+                place: *place,
+                op: *op,
+                target,
+                value: right,
+            };
+            assign_variable(view, &assignment, dest, u)
+        }
+        TExpr::Step { op, target, .. } => {
+            let Some(own) = own_of(target) else {
+                return value(view, e, u);
+            };
+            let dest = standing(view, own, u)?;
+            step_variable(target.ty().elem, *op, dest, u)
+        }
+        _ => value(view, e, u),
     }
 }
 
-/// The variable that an assignment or a step may write itself. None for a fold of a parallel value
-/// into a scalar variable.
-#[tactic(auto, unfolding(crate::specs::Effects::written_by))]
-pub fn written(e: &TExpr) -> Option<Own>
-    ensures { result ≡ written_by e.now }
+/// The variable that an assignment may write itself. None for a fold of a parallel value into a
+/// scalar variable.
+pub fn assigned_own(target: &TExpr, value: &TExpr) -> Option<Own>
+    ensures { result ≡ assigned_own target.now value.now }
 {
-    match e {
-        TExpr::Assign { target, value, .. } => {
-            let own = own_of(target)?;
-            if folds(own, value) { None } else { Some(own) }
-        }
-        TExpr::Step { target, .. } => own_of(target),
-        _ => None,
-    }
+    let own = own_of(target)?;
+    if folds(own, value) { None } else { Some(own) }
 }
 
 /// Whether the value is parallel and the variable scalar, so that it is folded.
@@ -73,49 +81,29 @@ fn folds(own: Own, value: &TExpr) -> bool
     own.shape.is_none() && !stays_scalar(value)
 }
 
-/// An assignment or a step that writes its variable itself.
-#[tactic(auto, unfolding(crate::specs::Effects::variable_written, lower_base::specs::Drafts::then_make))]
-fn write_variable(
-    alloc: Global,
-    t: &Typed,
-    names: &Names,
-    e: &TExpr,
+/// An assignment that writes its variable itself.
+fn assign_variable(
+    view: &View,
+    assignment: &Assignment,
     dest: Out,
     u: &mut Unit,
 ) -> Result<Out, Memory>
-    ensures draft { IfOk result (λ out. variable_written t.now (layout names.now) e.now dest (draft u.old) ≡ Makes out (draft u.new)) }
+    ensures draft { IfOk result (λ out. variable_assigned view.now.typed.now (layout view.now.names) assignment.now.op assignment.now.place assignment.now.target.now assignment.now.value.now dest (draft u.old) ≡ Makes out (draft u.new)) }
 {
-    match e {
-        TExpr::Assign {
-            place,
-            op,
-            target,
-            value,
-            ..
-        } => match assign_op(*op) {
-            None => put_to(alloc, t, names, dest, value, u),
-            Some(op) => operate_variable(alloc, t, names, op, *place, target, value, dest, u),
-        },
-        TExpr::Step { op, target, .. } => step_variable(target.ty().elem, *op, dest, u),
-        _ => Err(Memory),
+    match assign_op(assignment.op) {
+        None => put_to(view, dest, assignment.value, u),
+        Some(op) => operate_variable(view, assignment, op, dest, u),
     }
 }
 
 /// A value becomes that of a register, or of a field of 32 bits, which its last instruction writes.
 #[tactic(auto, unfolding(crate::specs::Effects::put_to))]
-pub fn put_to(
-    alloc: Global,
-    t: &Typed,
-    names: &Names,
-    dest: Out,
-    e: &TExpr,
-    u: &mut Unit,
-) -> Result<Out, Memory>
-    ensures draft { IfOk result (λ out. put_to t.now (layout names.now) dest e.now (draft u.old) ≡ Makes out (draft u.new)) }
+pub fn put_to(view: &View, dest: Out, e: &TExpr, u: &mut Unit) -> Result<Out, Memory>
+    ensures draft { IfOk result (λ out. put_to view.now.typed.now (layout view.now.names) dest e.now (draft u.old) ≡ Makes out (draft u.new)) }
 {
     match word_for(dest, e) {
         Some(word) => put_word(dest, word, u),
-        None => compute_to(alloc, t, names, dest, e, u),
+        None => compute_to(view, dest, e, u),
     }
 }
 
@@ -148,23 +136,16 @@ fn put_word(dest: Out, word: u32, u: &mut Unit) -> Result<Out, Memory>
 
 /// A value that is no constant becomes that of a register or a field.
 #[tactic(auto, unfolding(crate::specs::Effects::computed_to, crate::specs::Effects::next_operand, lower_base::specs::Drafts::then_make, lower_base::specs::Drafts::in_field))]
-fn compute_to(
-    alloc: Global,
-    t: &Typed,
-    names: &Names,
-    dest: Out,
-    e: &TExpr,
-    u: &mut Unit,
-) -> Result<Out, Memory>
-    ensures draft { IfOk result (λ out. computed_to t.now (layout names.now) dest e.now (draft u.old) ≡ Makes out (draft u.new)) }
+fn compute_to(view: &View, dest: Out, e: &TExpr, u: &mut Unit) -> Result<Out, Memory>
+    ensures draft { IfOk result (λ out. computed_to view.now.typed.now (layout view.now.names) dest e.now (draft u.old) ≡ Makes out (draft u.new)) }
 {
     match e {
-        TExpr::Brackets { inner, .. } => compute_to(alloc, t, names, dest, inner, u),
+        TExpr::Brackets { inner, .. } => compute_to(view, dest, inner, u),
         TExpr::Convert { ty, operand } => {
             if ty.elem.bits == 32 {
-                return compute_to(alloc, t, names, dest, operand, u);
+                return compute_to(view, dest, operand, u);
             }
-            convert_to(alloc, t, names, dest, e, ty.elem, operand, u)
+            convert_to(view, dest, e, ty.elem, operand, u)
         }
         TExpr::Unary {
             op,
@@ -172,13 +153,27 @@ fn compute_to(
             ..
         } => {
             if is_plus(*op) {
-                return compute_to(alloc, t, names, dest, inner, u);
+                return compute_to(view, dest, inner, u);
             }
-            let v = operand(alloc, t, names, true, inner, u)?;
+            let v = operand(view, true, inner, u)?;
             unary(*op, dest, v, u)?;
             Ok(dest)
         }
-        TExpr::Binary { .. } => binary_to(alloc, t, names, dest, e, u),
+        TExpr::Binary {
+            place,
+            op,
+            left,
+            right,
+            ..
+        } => {
+            let binary = Binary {
+                place: *place,
+                op: *op,
+                left,
+                right,
+            };
+            binary_to(view, dest, &binary, u)
+        }
         TExpr::Pcoord { axis, .. } => {
             let field = dest.field()?;
             put(
@@ -190,23 +185,16 @@ fn compute_to(
             )?;
             Ok(dest)
         }
-        _ => move_to(alloc, t, names, dest, e, u),
+        _ => move_to(view, dest, e, u),
     }
 }
 
 /// A value moved to a register or a field.
 #[tactic(auto, unfolding(crate::specs::Effects::moved, crate::specs::Effects::next_operand, lower_base::specs::Drafts::then_make))]
-pub fn move_to(
-    alloc: Global,
-    t: &Typed,
-    names: &Names,
-    dest: Out,
-    e: &TExpr,
-    u: &mut Unit,
-) -> Result<Out, Memory>
-    ensures draft { IfOk result (λ out. moved t.now (layout names.now) dest e.now (draft u.old) ≡ Makes out (draft u.new)) }
+pub fn move_to(view: &View, dest: Out, e: &TExpr, u: &mut Unit) -> Result<Out, Memory>
+    ensures draft { IfOk result (λ out. moved view.now.typed.now (layout view.now.names) dest e.now (draft u.old) ≡ Makes out (draft u.new)) }
 {
-    let v = operand(alloc, t, names, true, e, u)?;
+    let v = operand(view, true, e, u)?;
     set(dest, v, u)?;
     Ok(dest)
 }
@@ -214,20 +202,18 @@ pub fn move_to(
 /// A value `e`, which is `inner` converted to a narrow type.
 #[tactic(auto, unfolding(crate::specs::Effects::converted_to))]
 fn convert_to(
-    alloc: Global,
-    t: &Typed,
-    names: &Names,
+    view: &View,
     dest: Out,
     e: &TExpr,
     elem: Elem,
     inner: &TExpr,
     u: &mut Unit,
 ) -> Result<Out, Memory>
-    ensures draft { IfOk result (λ out. converted_to t.now (layout names.now) dest e.now elem inner.now (draft u.old) ≡ Makes out (draft u.new)) }
+    ensures draft { IfOk result (λ out. converted_to view.now.typed.now (layout view.now.names) dest e.now elem inner.now (draft u.old) ≡ Makes out (draft u.new)) }
 {
     match dest {
-        Out::Scalar(register) => convert_to_register(alloc, t, names, register, elem, inner, u),
-        Out::Field(_) => move_to(alloc, t, names, dest, e, u),
+        Out::Scalar(register) => convert_to_register(view, register, elem, inner, u),
+        Out::Field(_) => move_to(view, dest, e, u),
         Out::Nothing => Err(Memory),
     }
 }
@@ -235,38 +221,29 @@ fn convert_to(
 /// A value converted into a register.
 #[tactic(auto, unfolding(crate::specs::Effects::register_converted, crate::specs::Effects::next_operand, lower_base::specs::Drafts::then_make, lower_base::specs::Drafts::in_register))]
 fn convert_to_register(
-    alloc: Global,
-    t: &Typed,
-    names: &Names,
+    view: &View,
     dest: u32,
     kind: Elem,
     inner: &TExpr,
     u: &mut Unit,
 ) -> Result<Out, Memory>
-    ensures draft { IfOk result (λ out. register_converted t.now (layout names.now) dest kind inner.now (draft u.old) ≡ Makes out (draft u.new)) }
+    ensures draft { IfOk result (λ out. register_converted view.now.typed.now (layout view.now.names) dest kind inner.now (draft u.old) ≡ Makes out (draft u.new)) }
 {
-    let source = operand(alloc, t, names, true, inner, u)?.register()?;
+    let source = operand(view, true, inner, u)?.register()?;
     put(u, Instr::FrontConvert { dest, source, kind })?;
     Ok(Out::Scalar(dest))
 }
 
 /// A binary operator whose result goes to a register or a field.
 #[tactic(auto, unfolding(crate::specs::Effects::binary_to, lower_base::specs::Drafts::then_make))]
-fn binary_to(
-    alloc: Global,
-    t: &Typed,
-    names: &Names,
-    dest: Out,
-    e: &TExpr,
-    u: &mut Unit,
-) -> Result<Out, Memory>
-    ensures draft { IfOk result (λ out. binary_to t.now (layout names.now) dest e.now (draft u.old) ≡ Makes out (draft u.new)) }
+fn binary_to(view: &View, dest: Out, binary: &Binary, u: &mut Unit) -> Result<Out, Memory>
+    ensures draft { IfOk result (λ out. binary_to view.now.typed.now (layout view.now.names) dest binary.now.op binary.now.place binary.now.left.now binary.now.right.now (draft u.old) ≡ Makes out (draft u.new)) }
 {
     match dest {
-        Out::Scalar(register) => binary_in_register(alloc, t, names, e, register, u)?,
+        Out::Scalar(register) => binary_in_register(view, binary, register, u)?,
         Out::Field(place) => {
             let spare = field(u, place.set)?;
-            binary_in_field(alloc, t, names, e, place, spare, u)?;
+            binary_in_field(view, binary, place, spare, u)?;
         }
         Out::Nothing => return Err(Memory),
     }
@@ -299,25 +276,25 @@ fn settle(kind: Elem, source: u32, dest: u32, u: &mut Unit) -> Result<(), Memory
 /// An operator on a variable and a value.
 #[tactic(auto, unfolding(crate::specs::Effects::variable_operated))]
 fn operate_variable(
-    alloc: Global,
-    t: &Typed,
-    names: &Names,
+    view: &View,
+    assignment: &Assignment,
     op: Op,
-    place: Place,
-    target: &TExpr,
-    value: &TExpr,
     dest: Out,
     u: &mut Unit,
 ) -> Result<Out, Memory>
-    ensures draft { IfOk result (λ out. variable_operated t.now (layout names.now) op place target.now value.now dest (draft u.old) ≡ Makes out (draft u.new)) }
+    ensures draft { IfOk result (λ out. variable_operated view.now.typed.now (layout view.now.names) op assignment.now.place assignment.now.target.now assignment.now.value.now dest (draft u.old) ≡ Makes out (draft u.new)) }
 {
-    let elem = target.ty().elem;
+    let value = assignment.value;
+    let elem = assignment.target.ty().elem;
     let signed = assign_signed(op, elem, value.ty().elem);
+    let operator = Operator {
+        op,
+        signed,
+        place: assignment.place,
+    };
     match dest {
-        Out::Scalar(register) => {
-            operate_register(alloc, t, names, op, signed, place, elem, register, value, u)
-        }
-        Out::Field(field) => operate_field(alloc, t, names, op, signed, place, field, value, u),
+        Out::Scalar(register) => operate_register(view, operator, elem, register, value, u),
+        Out::Field(field) => operate_field(view, operator, field, value, u),
         Out::Nothing => Err(Memory),
     }
 }
@@ -325,22 +302,18 @@ fn operate_variable(
 /// An operator on a scalar variable.
 #[tactic(auto, unfolding(crate::specs::Effects::register_operated, crate::specs::Effects::next_operand, lower_base::specs::Drafts::then_make, lower_base::specs::Drafts::in_register))]
 fn operate_register(
-    alloc: Global,
-    t: &Typed,
-    names: &Names,
-    op: Op,
-    signed: bool,
-    place: Place,
+    view: &View,
+    operator: Operator,
     elem: Elem,
     variable: u32,
     value: &TExpr,
     u: &mut Unit,
 ) -> Result<Out, Memory>
-    ensures draft { IfOk result (λ out. register_operated t.now (layout names.now) op signed place elem variable value.now (draft u.old) ≡ Makes out (draft u.new)) }
+    ensures draft { IfOk result (λ out. register_operated view.now.typed.now (layout view.now.names) operator.op operator.signed operator.place elem variable value.now (draft u.old) ≡ Makes out (draft u.new)) }
 {
-    let right = operand(alloc, t, names, true, value, u)?.register()?;
+    let right = operand(view, true, value, u)?.register()?;
     let written = written_register(elem, variable, u)?;
-    operate(op, signed, place, written, variable, right, u)?;
+    operate(operator, written, variable, right, u)?;
     settle(elem, written, variable, u)?;
     Ok(Out::Scalar(variable))
 }
@@ -348,21 +321,17 @@ fn operate_register(
 /// An operator on a parallel variable of 32 bits.
 #[tactic(auto, unfolding(crate::specs::Effects::field_operated, lower_base::specs::Drafts::then_make))]
 fn operate_field(
-    alloc: Global,
-    t: &Typed,
-    names: &Names,
-    op: Op,
-    signed: bool,
-    place: Place,
+    view: &View,
+    operator: Operator,
     variable: Field,
     value: &TExpr,
     u: &mut Unit,
 ) -> Result<Out, Memory>
-    ensures draft { IfOk result (λ out. field_operated t.now (layout names.now) op signed place variable value.now (draft u.old) ≡ Makes out (draft u.new)) }
+    ensures draft { IfOk result (λ out. field_operated view.now.typed.now (layout view.now.names) operator.op operator.signed operator.place variable value.now (draft u.old) ≡ Makes out (draft u.new)) }
 {
     let spare = field(u, variable.set)?;
-    let right = right_operand(alloc, t, names, op, value, u)?;
-    operate_right(op, signed, place, variable, variable, right, spare, u)?;
+    let right = right_operand(view, operator.op, value, u)?;
+    operate_right(operator, variable, variable, right, spare, u)?;
     Ok(Out::Field(variable))
 }
 
@@ -402,85 +371,78 @@ fn step_variable(elem: Elem, op: StepOp, dest: Out, u: &mut Unit) -> Result<Out,
 }
 
 /// The test flags become whether a parallel value is not zero.
-#[tactic(auto, unfolding(crate::specs::Effects::tested, lower_base::specs::Drafts::then_make))]
-pub fn test(alloc: Global, t: &Typed, names: &Names, e: &TExpr, u: &mut Unit) -> Result<(), Memory>
-    ensures draft { OnOk result (tested t.now (layout names.now) e.now (draft u.old) ≡ Makes tt (draft u.new)) }
+#[tactic(auto, using(crate::proofs::Relations::compares, crate::proofs::Relations::operates), unfolding(crate::specs::Effects::tested, lower_base::specs::Drafts::then_make))]
+pub fn test(view: &View, e: &TExpr, u: &mut Unit) -> Result<(), Memory>
+    ensures draft { OnOk result (tested view.now.typed.now (layout view.now.names) e.now (draft u.old) ≡ Makes tt (draft u.new)) }
 {
     match e {
-        TExpr::Brackets { inner, .. } => test(alloc, t, names, inner, u),
+        TExpr::Brackets { inner, .. } => test(view, inner, u),
         TExpr::Variable { variable, .. } => {
-            let source = names.field(t, *variable, 0, u)?;
+            let source = view.field(*variable, 0, u)?;
             put(u, Instr::NeZero { source })
         }
         TExpr::Binary {
             ty,
+            place,
             op,
             left,
             right,
-            ..
         } => {
-            if !is_relation(*op) {
-                return test_value(alloc, t, names, e, u);
+            let binary = Binary {
+                place: *place,
+                op: *op,
+                left,
+                right,
+            };
+            match machine_op(*op, promoted_signed(left.ty().elem)) {
+                Machine::Compare(relation) => {
+                    test_relation(view, relation, ty.shape.unwrap_or(0), &binary, u)
+                }
+                Machine::Operate(_) => test_value(view, e, u),
             }
-            let signed = promoted_signed(left.ty().elem);
-            let set = ty.shape.unwrap_or(0);
-            test_relation(alloc, t, names, *op, signed, set, left, right, u)
         }
-        _ => test_value(alloc, t, names, e, u),
+        _ => test_value(view, e, u),
     }
 }
 
 /// The test flags become whether a value in a field is not zero.
 #[tactic(auto, unfolding(crate::specs::Effects::value_tested, crate::specs::Effects::next_operand, lower_base::specs::Drafts::then_make, lower_base::specs::Drafts::in_field))]
-fn test_value(
-    alloc: Global,
-    t: &Typed,
-    names: &Names,
-    e: &TExpr,
-    u: &mut Unit,
-) -> Result<(), Memory>
-    ensures draft { OnOk result (value_tested t.now (layout names.now) e.now (draft u.old) ≡ Makes tt (draft u.new)) }
+fn test_value(view: &View, e: &TExpr, u: &mut Unit) -> Result<(), Memory>
+    ensures draft { OnOk result (value_tested view.now.typed.now (layout view.now.names) e.now (draft u.old) ≡ Makes tt (draft u.new)) }
 {
-    let source = operand(alloc, t, names, true, e, u)?.field()?;
+    let source = operand(view, true, e, u)?.field()?;
     put(u, Instr::NeZero { source })
 }
 
-/// The test flags become whether a relation holds.
-#[tactic(auto, unfolding(crate::specs::Effects::relation_tested, lower_base::specs::Drafts::then_make))]
+/// The test flags become whether a relation holds, that of the binary operator.
+#[tactic(auto, unfolding(crate::specs::Effects::relation_tested, crate::specs::Effects::compared, lower_base::specs::Drafts::then_make))]
 fn test_relation(
-    alloc: Global,
-    t: &Typed,
-    names: &Names,
-    op: Op,
-    signed: bool,
+    view: &View,
+    relation: Compare,
     set: u16,
-    left: &TExpr,
-    right: &TExpr,
+    binary: &Binary,
     u: &mut Unit,
 ) -> Result<(), Memory>
-    ensures draft { OnOk result (relation_tested t.now (layout names.now) op signed set left.now right.now (draft u.old) ≡ Makes tt (draft u.new)) }
+    requires { machine_of binary.now.op (is_signed (type_of binary.now.left.now).elem) ≡ M.Compare relation }
+    ensures draft { OnOk result (relation_tested view.now.typed.now (layout view.now.names) binary.now.op (is_signed (type_of binary.now.left.now).elem) set binary.now.left.now binary.now.right.now (draft u.old) ≡ Makes tt (draft u.new)) }
 {
     let spare = field(u, set)?;
-    let a = spread_to(alloc, t, names, is_quiet(right), left, spare, u)?;
-    let b = right_operand(alloc, t, names, op, right, u)?;
-    compare(machine_op(op, signed), a, b, spare, u)
+    let a = spread_to(view, is_quiet(binary.right), binary.left, spare, u)?;
+    let b = right_operand(view, binary.op, binary.right, u)?;
+    compare(relation, a, b, spare, u)
 }
 
-/// Compares fields; a word is spread into `spare` first. `Memory` for an operation, which compares
-/// nothing.
+/// Compares fields; a word is spread into `spare` first.
 #[tactic(auto, unfolding(crate::specs::Effects::compared))]
 fn compare(
-    machine: Machine,
+    relation: Compare,
     left: Field,
     right: Right,
     spare: Field,
     u: &mut Unit,
 ) -> Result<(), Memory>
-    ensures draft { OnOk result (compared machine left right spare (draft u.old) ≡ Makes tt (draft u.new)) }
+    ensures draft { OnOk result (compared (M.Compare relation) left right spare (draft u.old) ≡ Makes tt (draft u.new)) }
 {
-    let Machine::Compare(relation) = machine else {
-        return Err(Memory);
-    };
     let right = match right {
         Right::Field(right) => right,
         Right::Word(value) => {

@@ -9,27 +9,25 @@ ghost use Rattle.lower_expr.specs.Frames.{turn_and_call, zeroed_entry, register_
 
 use crate::steps::{set, set_field};
 use cstar_base::Memory;
-use cstar_tree::typed::{Instance, Typed, VarInfo};
-use lower_base::Out;
+use cstar_tree::typed::{Instance, VarInfo};
 use lower_base::emit::{entry, plus, put};
-use lower_base::names::Names;
+use lower_base::{Out, View};
 use paris_code::{Field, Instr, Owner, Unit};
 
 /// Calls an instance with these arguments, and answers where its result is.
 #[tactic(auto, unfolding(crate::specs::Frames::called, lower_base::specs::Layouts::layout, lower_base::specs::Drafts::from))]
 pub fn enter(
-    t: &Typed,
-    names: &Names,
+    view: &View,
     number: u32,
     arguments: &[Out],
     dest: Out,
     u: &mut Unit,
 ) -> Result<Out, Memory>
-    ensures draft { IfOk result (λ out. called t.now (layout names.now) number arguments.now dest (draft u.old) ≡ Makes out (draft u.new)) }
+    ensures draft { IfOk result (λ out. called view.now.typed.now (layout view.now.names) number arguments.now dest (draft u.old) ≡ Makes out (draft u.new)) }
 {
     let (Some(callee), Some(base)) = (
-        t.instances.get(number as usize),
-        names.bases.get(number as usize),
+        view.typed.instances.get(number as usize),
+        view.names.bases.get(number as usize),
     ) else {
         return Err(Memory);
     };

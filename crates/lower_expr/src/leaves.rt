@@ -7,13 +7,11 @@ ghost use Rattle.lower_expr.specs.Values.{right_given, coordinate_in, byte_in, c
 
 use crate::steps::Right;
 use cstar_base::{Elem, Memory};
-use cstar_tree::typed::{TExpr, Typed, ValueType};
-use lower_base::Out;
+use cstar_tree::typed::{TExpr, ValueType};
 use lower_base::emit::{field, fresh, put, register};
-use lower_base::names::Names;
+use lower_base::{Out, View};
 use lower_comm::messages::{check_grid, comm_in};
 use paris_code::{Instr, Konst, Unit};
-use std::alloc::Global;
 
 /// A value as a right operand.
 #[tactic(auto, unfolding(crate::specs::Values::right_given))]
@@ -67,17 +65,10 @@ pub fn cast_all(elems: &[Elem], register: u32, u: &mut Unit) -> Result<(), Memor
 
 /// A get that goes by NEWS.
 #[tactic(auto, unfolding(crate::specs::Values::news_by, lower_base::specs::Drafts::then_make))]
-pub fn by_news(
-    alloc: Global,
-    t: &Typed,
-    names: &Names,
-    e: &TExpr,
-    ty: ValueType,
-    u: &mut Unit,
-) -> Result<Out, Memory>
-    ensures draft { IfOk result (λ out. news_by t.now (layout names.now) e.now ty (draft u.old) ≡ Makes out (draft u.new)) }
+pub fn by_news(view: &View, e: &TExpr, ty: ValueType, u: &mut Unit) -> Result<Out, Memory>
+    ensures draft { IfOk result (λ out. news_by view.now.typed.now (layout view.now.names) e.now ty (draft u.old) ≡ Makes out (draft u.new)) }
 {
     let dest = fresh(ty, u)?;
-    check_grid(alloc, e, u)?;
-    comm_in(t, names, e, Out::Nothing, &[], dest, u)
+    check_grid(view.alloc, e, u)?;
+    comm_in(view, e, Out::Nothing, &[], dest, u)
 }

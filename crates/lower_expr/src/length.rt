@@ -1,9 +1,9 @@
 //! How many instructions an expression compiles to. Jumps are written once, since the lengths of
 //! what they pass over are known beforehand.
 
-ghost use Rattle.std.specs.Prelude.{◌≡◌, IfOk, length, slice_get};
+ghost use Rattle.std.specs.Prelude.{◌≡◌, ◌+◌, IfOk, slice_get};
 ghost use Rattle.lower_base.specs.Layouts.{layout};
-ghost use Rattle.lower_expr.specs.Operands.{operand_length};
+ghost use Rattle.lower_expr.specs.Operands.{all_quiet, operand_length};
 ghost use Rattle.lower_expr.specs.Steps.{is_kept};
 ghost use Rattle.lower_expr.specs.Lengths.{conversion_length, unary_length, operate_length, logical_length, spread_length, right_length, binary_length, spare_length, choice_length, step_once_length, params_length, news_move, is_checked, news_length, read_length, four_times, load_length, store_length, send_length, set_length, compound_length, assign_length, step_length, reduce_length, call_length, length_of, spot_length_of, lengths_in};
 
@@ -14,8 +14,8 @@ use crate::steps::{constant_word, immediate, is_relation, stays_scalar};
 use cstar_base::{Elem, Memory, Op};
 use cstar_tree::syntax::{AssignOp, ReduceOp};
 use cstar_tree::typed::{TExpr, Typed, UnaryOp, VarInfo};
+use lower_base::View;
 use lower_base::emit::{count, plus};
-use lower_base::names::Names;
 use lower_base::operators::{assign_op, divides};
 use lower_comm::messages::goes_by_news;
 use lower_comm::news::{NewsStep, step_of};
@@ -23,8 +23,8 @@ use lower_comm::news::{NewsStep, step_of};
 /// The instructions of a value: what `value` appends.
 #[cycle(length)]
 #[tactic(auto, unfolding(crate::specs::Lengths::length_of))]
-pub fn length(t: &Typed, names: &Names, e: &TExpr) -> Result<u32, Memory>
-    ensures { IfOk result (λ n. n ≡ length_of t.now (layout names.now) e.now) }
+pub fn length(view: &View, e: &TExpr) -> Result<u32, Memory>
+    ensures { IfOk result (λ n. n ≡ length_of view.now.typed.now (layout view.now.names) e.now) }
 {
     match e {
         TExpr::Number { .. }
@@ -37,74 +37,76 @@ pub fn length(t: &Typed, names: &Names, e: &TExpr) -> Result<u32, Memory>
         | TExpr::Variable { .. } => Ok(1),
         TExpr::Enumerate { .. } => Ok(2),
         TExpr::Brackets { inner: operand, .. } | TExpr::Promote { operand, .. } => {
-            length(t, names, operand)
+            length(view, operand)
         }
         TExpr::Convert { ty, operand } => {
-            let n = length(t, names, operand)?;
+            let n = length(view, operand)?;
             plus(n, conversion(stays_scalar(operand), ty.elem))
         }
-        TExpr::Casts { elems, operand, .. } => {
-            plus(length(t, names, operand)?, count(elems.len())?)
-        }
+        TExpr::Casts { elems, operand, .. } => { plus(length(view, operand)?, count(elems.len())?) }
         TExpr::ParallelCast { ty, operand } => {
-            let n = spread_by(length(t, names, operand)?, operand)?;
+            let n = spread_by(length(view, operand)?, operand)?;
             plus(n, conversion(false, ty.elem))
         }
         TExpr::Unary { op, operand, .. } => {
-            let n = used_length(t, names, !is_plus(*op), operand)?;
+            let n = used_length(view, !is_plus(*op), operand)?;
             plus(n, unary_length(*op, stays_scalar(operand)))
         }
         TExpr::Reduce { op, operand, .. } => {
-            plus(used_length(t, names, true, operand)?, reduce_length(*op))
+            plus(used_length(view, true, operand)?, reduce_length(*op))
         }
-        TExpr::Scan { source, .. } => plus(used_length(t, names, true, source)?, 1),
+        TExpr::Scan { source, .. } => plus(used_length(view, true, source)?, 1),
         TExpr::Element { array, index, .. } => {
-            let located = plus(length(t, names, index)?, 5)?;
-            plus(located, times_four(names.elements(t, *array))?)
+            let located = plus(length(view, index)?, 5)?;
+            plus(located, times_four(view.elements(*array))?)
         }
-        TExpr::Binary { .. }
-        | TExpr::LogicalOr { .. }
-        | TExpr::LogicalAnd { .. }
-        | TExpr::Choice { .. } => operator_length(t, names, e),
+        TExpr::Binary {
+            ty,
+            op,
+            left,
+            right,
+            ..
+        } => {
+            let a = used_length(view, is_quiet(right), left)?;
+            let b = used_length(view, true, right)?;
+            binary_length(ty.shape.is_none(), *op, a, left, b, right)
+        }
+        TExpr::LogicalOr { ty, left, right } => {
+            let a = used_length(view, true, left)?;
+            let b = used_length(view, true, right)?;
+            plus(plus(a, b)?, logical_length(ty.shape.is_none(), left, right))
+        }
+        TExpr::LogicalAnd { ty, left, right } => {
+            let a = used_length(view, true, left)?;
+            let b = used_length(view, true, right)?;
+            plus(plus(a, b)?, logical_length(ty.shape.is_none(), left, right))
+        }
+        TExpr::Choice {
+            test,
+            then,
+            otherwise,
+            ..
+        } => {
+            let c = used_length(view, stays_scalar(test) || is_quiet(then), test)?;
+            let a = used_length(view, true, then)?;
+            let b = used_length(view, true, otherwise)?;
+            let operands = plus(c, plus(a, b)?)?;
+            plus(operands, choice_length(stays_scalar(test)))
+        }
         TExpr::Assign {
             op,
             target,
             value,
             ..
         } => {
-            let there = spot_length(t, names, target)?;
-            let n = length(t, names, value)?;
-            assign_length(t, names, *op, target, there, n, value)
+            let there = spot_length(view, target)?;
+            let n = length(view, value)?;
+            assign_length(view, *op, target, there, n, value)
         }
         TExpr::Step { target, .. } => {
-            let there = spot_length(t, names, target)?;
-            step_length(t, names, target, there)
+            let there = spot_length(view, target)?;
+            step_length(view, target, there)
         }
-        TExpr::LeftIndex { .. } | TExpr::Call { .. } | TExpr::Printf { .. } => {
-            listed_length(t, names, e)
-        }
-    }
-}
-
-/// The instructions of an operand: none where it is used where it stands.
-#[cycle(length)]
-#[tactic(auto, unfolding(crate::specs::Operands::operand_length))]
-pub fn used_length(t: &Typed, names: &Names, quiet: bool, e: &TExpr) -> Result<u32, Memory>
-    ensures { IfOk result (λ n. n ≡ operand_length (length_of t.now (layout names.now) e.now) quiet e.now) }
-{
-    match in_place(quiet, e) {
-        Some(_) => Ok(0),
-        None => length(t, names, e),
-    }
-}
-
-/// A left index, a call or `printf`, with the expressions in its list.
-#[cycle(length)]
-#[tactic(auto, using(crate::proofs::Lists::length_of_call, crate::proofs::Lists::length_of_left_index, crate::proofs::Lists::length_of_printf))]
-fn listed_length(t: &Typed, names: &Names, e: &TExpr) -> Result<u32, Memory>
-    ensures { IfOk result (λ n. n ≡ length_of t.now (layout names.now) e.now) }
-{
-    match e {
         TExpr::LeftIndex {
             ty,
             indexes,
@@ -114,8 +116,7 @@ fn listed_length(t: &Typed, names: &Names, e: &TExpr) -> Result<u32, Memory>
             if goes_by_news(e) {
                 return news_length(*of, indexes.as_slice());
             }
-            let quiet = are_quiet(indexes.as_slice());
-            let located = plus(2, lengths(t, names, quiet, indexes.as_slice())?)?;
+            let located = located_length(view, indexes.as_slice())?;
             plus(located, read_length(ty.shape))
         }
         TExpr::Call {
@@ -123,107 +124,75 @@ fn listed_length(t: &Typed, names: &Names, e: &TExpr) -> Result<u32, Memory>
             arguments,
             ..
         } => {
-            let own = frame_length(t, *instance, arguments.len())?;
-            let quiet = are_quiet(arguments.as_slice());
-            plus(own, lengths(t, names, quiet, arguments.as_slice())?)
+            let own = frame_length(view.typed, *instance, arguments.len())?;
+            plus(own, list_length(view, arguments.as_slice())?)
         }
         TExpr::Printf {
             pieces,
             arguments,
             ..
         } => {
-            let own = count(pieces.len())?;
-            let quiet = are_quiet(arguments.as_slice());
-            plus(own, lengths(t, names, quiet, arguments.as_slice())?)
+            plus(
+                count(pieces.len())?,
+                list_length(view, arguments.as_slice())?,
+            )
         }
-        _ => Err(Memory),
     }
 }
 
-/// An operator between its operands.
+/// The instructions of an operand: none where it is used where it stands.
 #[cycle(length)]
-#[tactic(auto, unfolding(crate::specs::Lengths::length_of))]
-fn operator_length(t: &Typed, names: &Names, e: &TExpr) -> Result<u32, Memory>
-    ensures { IfOk result (λ n. n ≡ length_of t.now (layout names.now) e.now) }
+#[tactic(auto, unfolding(crate::specs::Operands::operand_length))]
+pub fn used_length(view: &View, quiet: bool, e: &TExpr) -> Result<u32, Memory>
+    ensures { IfOk result (λ n. n ≡ operand_length (length_of view.now.typed.now (layout view.now.names) e.now) quiet e.now) }
 {
-    match e {
-        TExpr::Binary {
-            ty,
-            op,
-            left,
-            right,
-            ..
-        } => {
-            let a = used_length(t, names, is_quiet(right), left)?;
-            let b = used_length(t, names, true, right)?;
-            binary_length(ty.shape.is_none(), *op, a, left, b, right)
-        }
-        TExpr::LogicalOr { ty, left, right } => {
-            let a = used_length(t, names, true, left)?;
-            let b = used_length(t, names, true, right)?;
-            plus(plus(a, b)?, logical_length(ty.shape.is_none(), left, right))
-        }
-        TExpr::LogicalAnd { ty, left, right } => {
-            let a = used_length(t, names, true, left)?;
-            let b = used_length(t, names, true, right)?;
-            plus(plus(a, b)?, logical_length(ty.shape.is_none(), left, right))
-        }
-        TExpr::Choice {
-            test,
-            then,
-            otherwise,
-            ..
-        } => {
-            let c = used_length(t, names, stays_scalar(test) || is_quiet(then), test)?;
-            let a = used_length(t, names, true, then)?;
-            let b = used_length(t, names, true, otherwise)?;
-            let operands = plus(c, plus(a, b)?)?;
-            plus(operands, choice_length(stays_scalar(test)))
-        }
-        _ => Err(Memory),
+    match in_place(quiet, e) {
+        Some(_) => Ok(0),
+        None => length(view, e),
     }
+}
+
+/// The indexes of a left index, their range check, and the address.
+#[cycle(length)]
+fn located_length(view: &View, indexes: &[TExpr]) -> Result<u32, Memory>
+    ensures { IfOk result (λ n. n ≡ 2 + lengths_in view.now.typed.now (layout view.now.names) (all_quiet indexes.now) indexes.now) }
+{
+    plus(2, list_length(view, indexes)?)
+}
+
+/// The instructions of a list of values.
+#[cycle(length)]
+fn list_length(view: &View, es: &[TExpr]) -> Result<u32, Memory>
+    ensures { IfOk result (λ n. n ≡ lengths_in view.now.typed.now (layout view.now.names) (all_quiet es.now) es.now) }
+{
+    lengths(view, are_quiet(es), es)
 }
 
 /// The instructions of a list of values, of which it is told whether all are quiet.
 #[cycle(length)]
 #[tactic(auto, unfolding(crate::specs::Lengths::lengths_in))]
-fn lengths(t: &Typed, names: &Names, quiet: bool, es: &[TExpr]) -> Result<u32, Memory>
-    ensures { IfOk result (λ n. n ≡ lengths_in t.now (layout names.now) quiet es.now) }
+fn lengths(view: &View, quiet: bool, es: &[TExpr]) -> Result<u32, Memory>
+    ensures { IfOk result (λ n. n ≡ lengths_in view.now.typed.now (layout view.now.names) quiet es.now) }
 {
     let mut sum = 0u32;
     for e in es {
-        let next = used_length(t, names, quiet, e)?;
+        let next = used_length(view, quiet, e)?;
         sum = plus(sum, next)?;
     }
     Ok(sum)
 }
 
-/// What locates a target or a reference.
+/// What locates a target or a reference. `Memory` too for an expression that is neither.
 #[cycle(length)]
 #[tactic(auto, unfolding(crate::specs::Lengths::spot_length_of))]
-fn spot_length(t: &Typed, names: &Names, e: &TExpr) -> Result<u32, Memory>
-    ensures { IfOk result (λ n. n ≡ spot_length_of t.now (layout names.now) e.now) }
+fn spot_length(view: &View, e: &TExpr) -> Result<u32, Memory>
+    ensures { IfOk result (λ n. n ≡ spot_length_of view.now.typed.now (layout view.now.names) e.now) }
 {
     match e {
-        TExpr::Brackets { inner, .. } => spot_length(t, names, inner),
-        TExpr::Element { index, .. } => plus(length(t, names, index)?, 5),
-        TExpr::LeftIndex { .. } => indexed_length(t, names, e),
+        TExpr::Brackets { inner, .. } => spot_length(view, inner),
+        TExpr::Element { index, .. } => plus(length(view, index)?, 5),
+        TExpr::LeftIndex { indexes, .. } => located_length(view, indexes.as_slice()),
         TExpr::Variable { .. } => Ok(0),
-        _ => Err(Memory),
-    }
-}
-
-/// What locates a left index.
-#[cycle(length)]
-#[tactic(auto, using(crate::proofs::Lists::spot_length_of_left_index))]
-fn indexed_length(t: &Typed, names: &Names, e: &TExpr) -> Result<u32, Memory>
-    ensures { IfOk result (λ n. n ≡ spot_length_of t.now (layout names.now) e.now) }
-{
-    match e {
-        TExpr::LeftIndex { indexes, .. } => {
-            let quiet = are_quiet(indexes.as_slice());
-            plus(2, lengths(t, names, quiet, indexes.as_slice())?)
-        }
         _ => Err(Memory),
     }
 }
@@ -401,11 +370,11 @@ fn news_checked(step: Option<NewsStep>) -> bool
 
 /// What reads a located place.
 #[tactic(auto, unfolding(crate::specs::Lengths::load_length, crate::specs::Lengths::load_length_of))]
-fn load_length(t: &Typed, names: &Names, target: &TExpr) -> Result<u32, Memory>
-    ensures { IfOk result (λ n. n ≡ load_length t.now (layout names.now) target.now) }
+fn load_length(view: &View, target: &TExpr) -> Result<u32, Memory>
+    ensures { IfOk result (λ n. n ≡ load_length view.now.typed.now (layout view.now.names) target.now) }
 {
     match bare(target) {
-        TExpr::Element { array, .. } => times_four(names.elements(t, *array)),
+        TExpr::Element { array, .. } => times_four(view.elements(*array)),
         TExpr::LeftIndex { ty, .. } => Ok(read_length(ty.shape)),
         _ => Ok(1),
     }
@@ -424,11 +393,11 @@ fn read_length(shape: Option<u16>) -> u32
 
 /// What writes a located place; a send beside its own code is counted with the assignment.
 #[tactic(auto, unfolding(crate::specs::Lengths::store_length, crate::specs::Lengths::store_length_of))]
-fn store_length(t: &Typed, names: &Names, target: &TExpr) -> Result<u32, Memory>
-    ensures { IfOk result (λ n. n ≡ store_length t.now (layout names.now) target.now) }
+fn store_length(view: &View, target: &TExpr) -> Result<u32, Memory>
+    ensures { IfOk result (λ n. n ≡ store_length view.now.typed.now (layout view.now.names) target.now) }
 {
     match bare(target) {
-        TExpr::Element { array, .. } => times_four(names.elements(t, *array)),
+        TExpr::Element { array, .. } => times_four(view.elements(*array)),
         _ => Ok(1),
     }
 }
@@ -444,25 +413,24 @@ fn times_four(n: u32) -> Result<u32, Memory>
 /// An assignment, by the lengths of its target and of its value.
 #[tactic(auto, unfolding(crate::specs::Lengths::assign_length, crate::specs::Operands::operand_length))]
 fn assign_length(
-    t: &Typed,
-    names: &Names,
+    view: &View,
     op: AssignOp,
     target: &TExpr,
     there: u32,
     n: u32,
     value: &TExpr,
 ) -> Result<u32, Memory>
-    ensures { IfOk result (λ sum. sum ≡ assign_length t.now (layout names.now) op target.now there n value.now) }
+    ensures { IfOk result (λ sum. sum ≡ assign_length view.now.typed.now (layout view.now.names) op target.now there n value.now) }
 {
     if is_send(target) {
         return plus(plus(there, spread_by(n, value)?)?, send_length(op));
     }
     let ty = target.ty();
-    let stored = plus(there, store_length(t, names, target)?)?;
+    let stored = plus(there, store_length(view, target)?)?;
     match assign_op(op) {
         None => set_length(ty.shape.is_none(), stored, n, value),
         Some(op) => {
-            let both = plus(stored, load_length(t, names, target)?)?;
+            let both = plus(stored, load_length(view, target)?)?;
             let n = if in_place(true, value).is_some() {
                 0
             } else {
@@ -523,16 +491,16 @@ fn compound_length(
 
 /// A step, by the length of its target.
 #[tactic(auto, unfolding(crate::specs::Lengths::step_length))]
-fn step_length(t: &Typed, names: &Names, target: &TExpr, there: u32) -> Result<u32, Memory>
-    ensures { IfOk result (λ n. n ≡ step_length t.now (layout names.now) target.now there) }
+fn step_length(view: &View, target: &TExpr, there: u32) -> Result<u32, Memory>
+    ensures { IfOk result (λ n. n ≡ step_length view.now.typed.now (layout view.now.names) target.now there) }
 {
     let ty = target.ty();
     let own = plus(
         step_once_length(ty.shape.is_none()),
         conversion(ty.shape.is_none(), ty.elem),
     )?;
-    let loaded = load_length(t, names, target)?;
-    let stored = store_length(t, names, target)?;
+    let loaded = load_length(view, target)?;
+    let stored = store_length(view, target)?;
     plus(plus(there, own)?, plus(loaded, stored)?)
 }
 
@@ -554,7 +522,7 @@ fn frame_length(t: &Typed, instance: u32, given: usize) -> Result<u32, Memory>
             let own = if callee.result.is_some() { 4 } else { 2 };
             params_length(callee.params.as_slice(), given, own)
         }
-        None => Err(Memory),
+        None => Ok(0),
     }
 }
 

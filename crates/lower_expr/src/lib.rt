@@ -10,6 +10,7 @@ mod leaves;
 pub mod length;
 mod logical;
 pub mod operands;
+pub mod parts;
 mod spots;
 pub mod steps;
 pub mod value;

@@ -6,9 +6,8 @@ ghost use Rattle.lower_base.specs.Layouts.{layout};
 ghost use Rattle.lower_expr.specs.Operands.{all_quiet, in_place, is_plus, is_quiet, own_of, standing};
 
 use cstar_base::Memory;
-use cstar_tree::typed::{TExpr, Typed, UnaryOp, Variable};
-use lower_base::Out;
-use lower_base::names::Names;
+use cstar_tree::typed::{TExpr, UnaryOp, Variable};
+use lower_base::{Out, View};
 use paris_code::Unit;
 
 /// A variable whose own register or field is an operand; it has a shape if it is parallel.
@@ -99,12 +98,12 @@ pub fn own_of(e: &TExpr) -> Option<Own>
 
 /// The register or the field of a variable.
 #[tactic(auto, unfolding(crate::specs::Operands::standing, lower_base::specs::Drafts::then_make))]
-pub fn standing(t: &Typed, names: &Names, own: Own, u: &mut Unit) -> Result<Out, Memory>
-    ensures draft { IfOk result (λ out. standing t.now (layout names.now) own (draft u.old) ≡ Makes out (draft u.new)) }
+pub fn standing(view: &View, own: Own, u: &mut Unit) -> Result<Out, Memory>
+    ensures draft { IfOk result (λ out. standing view.now.typed.now (layout view.now.names) own (draft u.old) ≡ Makes out (draft u.new)) }
 {
     match own.shape {
-        None => Ok(Out::Scalar(names.register(own.variable)?)),
-        Some(_) => Ok(Out::Field(names.field(t, own.variable, 0, u)?)),
+        None => Ok(Out::Scalar(view.register(own.variable)?)),
+        Some(_) => Ok(Out::Field(view.field(own.variable, 0, u)?)),
     }
 }
 

@@ -9,10 +9,9 @@ ghost use Rattle.lower_expr.specs.Spots.{skips_unless, field_loaded, elements_lo
 
 use crate::steps::{set, set_field};
 use cstar_base::{Memory, Place};
-use cstar_tree::typed::{TExpr, Typed, Variable};
-use lower_base::Out;
+use cstar_tree::typed::{TExpr, Variable};
 use lower_base::emit::{here, plus, put, register};
-use lower_base::names::Names;
+use lower_base::{Out, View};
 use lower_comm::messages::comm_in;
 use paris_code::{Field, Instr, RegisterCoordinate, Unit};
 use std::alloc::Global;
@@ -44,15 +43,8 @@ pub fn bare(target: &TExpr) -> &TExpr
 /// The value that the spot has becomes that of `dest`, a register or a field. `target` is what was
 /// located there.
 #[tactic(auto, unfolding(crate::specs::Spots::loaded, lower_base::specs::Drafts::then_make, lower_base::specs::Drafts::in_register, lower_base::specs::Drafts::in_field))]
-pub fn load(
-    t: &Typed,
-    names: &Names,
-    target: &TExpr,
-    spot: Spot,
-    dest: Out,
-    u: &mut Unit,
-) -> Result<(), Memory>
-    ensures draft { OnOk result (loaded t.now (layout names.now) target.now spot dest (draft u.old) ≡ Makes dest (draft u.new)) }
+pub fn load(view: &View, target: &TExpr, spot: Spot, dest: Out, u: &mut Unit) -> Result<(), Memory>
+    ensures draft { OnOk result (loaded view.now.typed.now (layout view.now.names) target.now spot dest (draft u.old) ≡ Makes dest (draft u.new)) }
 {
     match spot {
         Spot::Register(source) => {
@@ -61,14 +53,14 @@ pub fn load(
         }
         Spot::Whole(variable) => {
             let signed = target.ty().elem.signed;
-            load_field(t, names, signed, variable, 0, dest.field()?, u)
+            load_field(view, signed, variable, 0, dest.field()?, u)
         }
         Spot::Element(array, index) => {
             let signed = target.ty().elem.signed;
-            load_elements(t, names, signed, array, index, dest.field()?, u)
+            load_elements(view, signed, array, index, dest.field()?, u)
         }
         Spot::Indexed(at) => {
-            comm_in(t, names, bare(target), at, &[], dest, u)?;
+            comm_in(view, bare(target), at, &[], dest, u)?;
             Ok(())
         }
     }
@@ -77,19 +69,18 @@ pub fn load(
 /// The element of an array whose index the register has.
 #[tactic(auto, unfolding(crate::specs::Spots::elements_loaded, lower_base::specs::Drafts::then_make))]
 fn load_elements(
-    t: &Typed,
-    names: &Names,
+    view: &View,
     signed: bool,
     array: Variable,
     index: u32,
     dest: Field,
     u: &mut Unit,
 ) -> Result<(), Memory>
-    ensures draft { OnOk result (elements_loaded t.now (layout names.now) signed array index dest (elements_of t.now (layout names.now) array) 0 (draft u.old) ≡ Makes (O.Field dest) (draft u.new)) }
+    ensures draft { OnOk result (elements_loaded view.now.typed.now (layout view.now.names) signed array index dest (elements_of view.now.typed.now (layout view.now.names) array) 0 (draft u.old) ≡ Makes (O.Field dest) (draft u.new)) }
 {
-    for element in 0..names.elements(t, array) {
+    for element in 0..view.elements(array) {
         skip_unless(index, element, u)?;
-        load_field(t, names, signed, array, element, dest, u)?;
+        load_field(view, signed, array, element, dest, u)?;
     }
     Ok(())
 }
@@ -97,22 +88,15 @@ fn load_elements(
 /// A value becomes that of the spot, at the active positions. `e` is the assignment or the step whose
 /// target was located there.
 #[tactic(auto, unfolding(crate::specs::Spots::stored, lower_base::specs::Drafts::then_make))]
-pub fn store(
-    t: &Typed,
-    names: &Names,
-    e: &TExpr,
-    spot: Spot,
-    from: Out,
-    u: &mut Unit,
-) -> Result<(), Memory>
-    ensures draft { OnOk result (stored t.now (layout names.now) e.now spot from (draft u.old) ≡ Makes from (draft u.new)) }
+pub fn store(view: &View, e: &TExpr, spot: Spot, from: Out, u: &mut Unit) -> Result<(), Memory>
+    ensures draft { OnOk result (stored view.now.typed.now (layout view.now.names) e.now spot from (draft u.old) ≡ Makes from (draft u.new)) }
 {
     match spot {
         Spot::Register(dest) => set(Out::Scalar(dest), from, u),
-        Spot::Whole(variable) => store_field(t, names, variable, 0, from, u),
-        Spot::Element(array, index) => store_elements(t, names, array, index, from, u),
+        Spot::Whole(variable) => store_field(view, variable, 0, from, u),
+        Spot::Element(array, index) => store_elements(view, array, index, from, u),
         Spot::Indexed(at) => {
-            comm_in(t, names, e, at, &[from], Out::Nothing, u)?;
+            comm_in(view, e, at, &[from], Out::Nothing, u)?;
             Ok(())
         }
     }
@@ -121,18 +105,17 @@ pub fn store(
 /// The element of an array whose index the register has becomes the value.
 #[tactic(auto, unfolding(crate::specs::Spots::elements_stored, lower_base::specs::Drafts::then_make))]
 fn store_elements(
-    t: &Typed,
-    names: &Names,
+    view: &View,
     array: Variable,
     index: u32,
     from: Out,
     u: &mut Unit,
 ) -> Result<(), Memory>
-    ensures draft { OnOk result (elements_stored t.now (layout names.now) array index from (elements_of t.now (layout names.now) array) 0 (draft u.old) ≡ Makes from (draft u.new)) }
+    ensures draft { OnOk result (elements_stored view.now.typed.now (layout view.now.names) array index from (elements_of view.now.typed.now (layout view.now.names) array) 0 (draft u.old) ≡ Makes from (draft u.new)) }
 {
-    for element in 0..names.elements(t, array) {
+    for element in 0..view.elements(array) {
         skip_unless(index, element, u)?;
-        store_field(t, names, array, element, from, u)?;
+        store_field(view, array, element, from, u)?;
     }
     Ok(())
 }
@@ -140,17 +123,16 @@ fn store_elements(
 /// A copy of a variable's field, read signed or not.
 #[tactic(auto, unfolding(crate::specs::Spots::field_loaded, lower_base::specs::Drafts::then_make))]
 fn load_field(
-    t: &Typed,
-    names: &Names,
+    view: &View,
     signed: bool,
     variable: Variable,
     element: u32,
     dest: Field,
     u: &mut Unit,
 ) -> Result<(), Memory>
-    ensures draft { OnOk result (field_loaded t.now (layout names.now) signed variable element dest (draft u.old) ≡ Makes (O.Field dest) (draft u.new)) }
+    ensures draft { OnOk result (field_loaded view.now.typed.now (layout view.now.names) signed variable element dest (draft u.old) ≡ Makes (O.Field dest) (draft u.new)) }
 {
-    let source = names.field(t, variable, element, u)?;
+    let source = view.field(variable, element, u)?;
     put(
         u,
         Instr::Move {
@@ -164,16 +146,15 @@ fn load_field(
 /// A variable's field becomes the value.
 #[tactic(auto, unfolding(crate::specs::Spots::field_stored, lower_base::specs::Drafts::then_make))]
 fn store_field(
-    t: &Typed,
-    names: &Names,
+    view: &View,
     variable: Variable,
     element: u32,
     from: Out,
     u: &mut Unit,
 ) -> Result<(), Memory>
-    ensures draft { OnOk result (field_stored t.now (layout names.now) variable element from (draft u.old) ≡ Makes from (draft u.new)) }
+    ensures draft { OnOk result (field_stored view.now.typed.now (layout view.now.names) variable element from (draft u.old) ≡ Makes from (draft u.new)) }
 {
-    let dest = names.field(t, variable, element, u)?;
+    let dest = view.field(variable, element, u)?;
     set_field(dest, from, u)
 }
 
@@ -209,18 +190,16 @@ fn skip_unless(index: u32, number: u32, u: &mut Unit) -> Result<u32, Memory>
 /// the register of the test.
 #[tactic(auto, unfolding(crate::specs::Spots::index_checked, lower_base::specs::Drafts::then_make, lower_base::specs::Drafts::from, lower_base::specs::Drafts::step, lower_base::specs::Drafts::with_instr))]
 pub fn check_index(
-    alloc: Global,
-    t: &Typed,
-    names: &Names,
+    view: &View,
     array: Variable,
     set: u16,
     place: Place,
     index: u32,
     u: &mut Unit,
 ) -> Result<u32, Memory>
-    ensures draft { IfOk result (λ r. index_checked t.now (layout names.now) array set place index (draft u.old) ≡ Makes r (draft u.new)) }
+    ensures draft { IfOk result (λ r. index_checked view.now.typed.now (layout view.now.names) array set place index (draft u.old) ≡ Makes r (draft u.new)) }
 {
-    let Some(info) = t.shapes.get(set as usize) else {
+    let Some(info) = view.typed.shapes.get(set as usize) else {
         return Err(Memory);
     };
     let test = register(u)?;
@@ -229,7 +208,7 @@ pub fn check_index(
         u,
         Instr::FrontConst {
             dest: test,
-            value: names.elements(t, array),
+            value: view.elements(array),
         },
     )?;
     put(
@@ -249,7 +228,7 @@ pub fn check_index(
             value: u32::MAX,
         },
     )?;
-    let coordinates = outside(alloc, &info.extents, test)?;
+    let coordinates = outside(view.alloc, &info.extents, test)?;
     put(
         u,
         Instr::FrontCheckTarget {

@@ -1,11 +1,13 @@
 //! Short stretches of code over values that stand in registers and fields already.
 
-ghost use Rattle.std.specs.Prelude.{◌≡◌, IfOk, OnOk};
+ghost use Rattle.std.specs.Prelude.{◌≡◌, false, IfOk, OnOk};
 ghost use Rattle.lower_base.specs.declared.emit.Out.TheVariants as O;
 ghost use Rattle.lower_base.specs.Drafts.{Makes, draft};
+ghost use Rattle.lower_expr.specs.Operands.{is_plus};
 ghost use Rattle.lower_expr.specs.Steps.{is_kept, register_word, word_of, relates, word_taken, constant_in, put_test, field_converted, converted_in_place, put_in_field, put_value, operated, fields_operated, right_operated, takes_word, in_a_field, register_negated, field_negated, negated, pieces_printed, assigned_signed};
 
-use cstar_base::{Elem, Memory, Op, Place, numbers};
+use crate::parts::Operator;
+use cstar_base::{Elem, Memory, Op, numbers};
 use cstar_tree::typed::{Piece, TExpr, UnaryOp};
 use lower_base::Out;
 use lower_base::emit::{flag, put};
@@ -217,26 +219,24 @@ pub fn set(dest: Out, v: Out, u: &mut Unit) -> Result<(), Memory>
 /// A binary operator on registers. A zero divisor is a fault at the place.
 #[tactic(auto, unfolding(crate::specs::Steps::operated, crate::specs::Steps::on_registers, crate::specs::Steps::with_register_check))]
 pub fn operate(
-    op: Op,
-    signed: bool,
-    place: Place,
+    operator: Operator,
     dest: u32,
     left: u32,
     right: u32,
     u: &mut Unit,
 ) -> Result<(), Memory>
-    ensures draft { OnOk result (operated op signed place dest left right (draft u.old) ≡ draft u.new) }
+    ensures draft { OnOk result (operated operator.op operator.signed operator.place dest left right (draft u.old) ≡ draft u.new) }
 {
-    if divides(op) {
+    if divides(operator.op) {
         put(
             u,
             Instr::FrontCheckDivisor {
-                place,
+                place: operator.place,
                 source: right,
             },
         )?;
     }
-    match machine_op(op, signed) {
+    match machine_op(operator.op, operator.signed) {
         Machine::Operate(op) => put(
             u,
             Instr::FrontOperate {
@@ -261,26 +261,24 @@ pub fn operate(
 /// A binary operator on fields. A zero divisor at an active position is a fault at the place.
 #[tactic(auto, unfolding(crate::specs::Steps::fields_operated, crate::specs::Steps::on_fields, crate::specs::Steps::with_field_check))]
 pub fn operate_fields(
-    op: Op,
-    signed: bool,
-    place: Place,
+    operator: Operator,
     dest: Field,
     left: Field,
     right: Field,
     u: &mut Unit,
 ) -> Result<(), Memory>
-    ensures draft { OnOk result (fields_operated op signed place dest left right (draft u.old) ≡ Makes (O.Field dest) (draft u.new)) }
+    ensures draft { OnOk result (fields_operated operator.op operator.signed operator.place dest left right (draft u.old) ≡ Makes (O.Field dest) (draft u.new)) }
 {
-    if divides(op) {
+    if divides(operator.op) {
         put(
             u,
             Instr::CheckDivisor {
-                place,
+                place: operator.place,
                 source: right,
             },
         )?;
     }
-    match machine_op(op, signed) {
+    match machine_op(operator.op, operator.signed) {
         Machine::Operate(op) => put(
             u,
             Instr::Operate {
@@ -308,21 +306,19 @@ pub fn operate_fields(
 /// that has to be checked as a divisor, is spread into `spare`.
 #[tactic(auto, unfolding(crate::specs::Steps::right_operated, crate::specs::Steps::on_word, crate::specs::Steps::fields_operated))]
 pub fn operate_right(
-    op: Op,
-    signed: bool,
-    place: Place,
+    operator: Operator,
     dest: Field,
     left: Field,
     right: Right,
     spare: Field,
     u: &mut Unit,
 ) -> Result<(), Memory>
-    ensures draft { OnOk result (right_operated op signed place dest left right spare (draft u.old) ≡ Makes (O.Field dest) (draft u.new)) }
+    ensures draft { OnOk result (right_operated operator.op operator.signed operator.place dest left right spare (draft u.old) ≡ Makes (O.Field dest) (draft u.new)) }
 {
     match right {
-        Right::Field(right) => operate_fields(op, signed, place, dest, left, right, u),
-        Right::Word(word) => match machine_op(op, signed) {
-            Machine::Operate(operation) if takes_word(op, word) => put(
+        Right::Field(right) => operate_fields(operator, dest, left, right, u),
+        Right::Word(word) => match machine_op(operator.op, operator.signed) {
+            Machine::Operate(operation) if takes_word(operator.op, word) => put(
                 u,
                 Instr::OperateConstant {
                     op: operation,
@@ -339,7 +335,7 @@ pub fn operate_right(
                         value: word,
                     },
                 )?;
-                operate_fields(op, signed, place, dest, left, spare, u)
+                operate_fields(operator, dest, left, spare, u)
             }
         },
     }
@@ -377,9 +373,10 @@ pub fn as_field(v: Out, spare: Field, u: &mut Unit) -> Result<Field, Memory>
     }
 }
 
-/// A unary operator other than `+`, which has no code: `Memory` for that one.
+/// A unary operator other than `+`, which has no code.
 #[tactic(auto, unfolding(crate::specs::Steps::negated, lower_base::specs::Drafts::in_register, lower_base::specs::Drafts::in_field))]
 pub fn unary(op: UnaryOp, dest: Out, v: Out, u: &mut Unit) -> Result<(), Memory>
+    requires { is_plus op ≡ false }
     ensures draft { OnOk result (negated op dest v (draft u.old) ≡ Makes dest (draft u.new)) }
 {
     match dest {
@@ -395,12 +392,13 @@ pub fn unary(op: UnaryOp, dest: Out, v: Out, u: &mut Unit) -> Result<(), Memory>
     }
 }
 
-#[tactic(auto, unfolding(crate::specs::Steps::register_negated, crate::specs::Steps::constant_in, lower_base::specs::Drafts::then_make))]
+#[tactic(auto, unfolding(crate::specs::Operands::is_plus, crate::specs::Steps::register_negated, crate::specs::Steps::constant_in, lower_base::specs::Drafts::then_make))]
 fn unary_register(op: UnaryOp, dest: u32, source: u32, u: &mut Unit) -> Result<(), Memory>
+    requires { is_plus op ≡ false }
     ensures draft { OnOk result (register_negated op dest source (draft u.old) ≡ Makes (O.Scalar dest) (draft u.new)) }
 {
     match op {
-        UnaryOp::Plus => Err(Memory),
+        UnaryOp::Plus => unreachable!(),
         UnaryOp::Minus => put(u, Instr::FrontNegate { dest, source }),
         UnaryOp::Complement => put(u, Instr::FrontLognot { dest, source }),
         UnaryOp::Not => {
@@ -418,12 +416,13 @@ fn unary_register(op: UnaryOp, dest: u32, source: u32, u: &mut Unit) -> Result<(
     }
 }
 
-#[tactic(auto, unfolding(crate::specs::Steps::field_negated))]
+#[tactic(auto, unfolding(crate::specs::Operands::is_plus, crate::specs::Steps::field_negated))]
 fn unary_field(op: UnaryOp, dest: Field, source: Field, u: &mut Unit) -> Result<(), Memory>
+    requires { is_plus op ≡ false }
     ensures draft { OnOk result (field_negated op dest source (draft u.old) ≡ Makes (O.Field dest) (draft u.new)) }
 {
     match op {
-        UnaryOp::Plus => Err(Memory),
+        UnaryOp::Plus => unreachable!(),
         UnaryOp::Minus => put(u, Instr::Negate { dest, source }),
         UnaryOp::Complement => put(u, Instr::Lognot { dest, source }),
         UnaryOp::Not => {

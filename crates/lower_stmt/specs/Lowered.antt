@@ -1,5 +1,5 @@
 -- What lowering makes of a typed program.
-use Rattle.std.specs.Prelude.{◌≡◌, ℕ, ◌-◌, map, length}
+use Rattle.std.specs.Prelude.{◌≡◌, ◌-◌, map, length}
 use Rattle.cstar_tree.specs.declared.typed.Typed.{Typed}
 use Rattle.lower_base.specs.Drafts.{draft}
 use Rattle.lower_base.specs.Layouts.{layout_of}

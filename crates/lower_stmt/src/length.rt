@@ -2,13 +2,15 @@
 
 ghost use Rattle.std.specs.Prelude.{◌≡◌, IfOk};
 ghost use Rattle.lower_base.specs.Layouts.{layout};
-ghost use Rattle.lower_stmt.specs.Lengths.{one_more, at_loop, condition_length_of, part_length_of, clear_length_of, initial_length_of, locals_length_of, statement_length_of};
+ghost use Rattle.cstar_tree.specs.declared.typed.TStmt.{back-TStmt-If-2};
+ghost use Rattle.lower_stmt.specs.Lengths.{one_more, at_loop, condition_length_of, part_length_of, clear_length_of, initial_length_of, locals_length_of, statement_length_of, else_length_of};
 
 use crate::variables::is_written;
 use cstar_base::Memory;
-use cstar_tree::typed::{LocalVar, TExpr, TStmt, Typed, VarInfo};
+use cstar_tree::typed::{LocalVar, TExpr, TStmt, VarInfo};
+use lower_base::View;
 use lower_base::emit::plus;
-use lower_base::names::{Names, entries_of};
+use lower_base::names::entries_of;
 use lower_expr::effect_lengths::{effect_length, put_length, test_length};
 use lower_expr::length::used_length;
 
@@ -48,33 +50,40 @@ impl Saved {
 #[cycle(statement_length)]
 #[tactic(auto, unfolding(crate::specs::Lengths::statement_length_of, crate::specs::Lengths::statements_length_of, crate::specs::Lengths::storing_length, lower_expr::specs::Effects::next_length))]
 pub fn statement_length(
-    t: &Typed,
-    names: &Names,
+    view: &View,
     s: &TStmt,
     has_result: bool,
     saved: Saved,
 ) -> Result<u32, Memory>
-    ensures { IfOk result (λ n. n ≡ statement_length_of t.now (layout names.now) has_result saved s.now) }
+    ensures { IfOk result (λ n. n ≡ statement_length_of view.now.typed.now (layout view.now.names) has_result saved s.now) }
 {
     match s {
         TStmt::Block { locals, statements } => {
-            let mut sum = locals_length(t, names, locals.as_slice())?;
+            let mut sum = locals_length(view, locals)?;
             for inner in statements {
-                let next = statement_length(t, names, inner, has_result, saved)?;
-                sum = plus(sum, next)?;
+                sum = plus(sum, statement_length(view, inner, has_result, saved)?)?;
             }
             Ok(sum)
         }
-        TStmt::Expression(e) => effect_length(t, names, e),
+        TStmt::Expression(e) => effect_length(view, e),
         TStmt::Empty => Ok(0),
-        TStmt::If { .. } => if_length(t, names, s, has_result, saved),
+        TStmt::If {
+            test,
+            then,
+            otherwise,
+        } => {
+            let test = used_length(view, true, test)?;
+            let then = statement_length(view, then, has_result, saved)?;
+            let other = else_length(view, otherwise, 1, has_result, saved)?;
+            plus(plus(plus(test, then)?, 1)?, other)
+        }
         TStmt::While { test, body } => {
-            let body = statement_length(t, names, body, has_result, saved.at_loop())?;
-            plus(plus(used_length(t, names, true, test)?, body)?, 3)
+            let body = statement_length(view, body, has_result, saved.at_loop())?;
+            plus(plus(used_length(view, true, test)?, body)?, 3)
         }
         TStmt::Do { body, test } => {
-            let body = statement_length(t, names, body, has_result, saved.at_loop())?;
-            plus(plus(used_length(t, names, true, test)?, body)?, 2)
+            let body = statement_length(view, body, has_result, saved.at_loop())?;
+            plus(plus(used_length(view, true, test)?, body)?, 2)
         }
         TStmt::For {
             first,
@@ -82,126 +91,86 @@ pub fn statement_length(
             step,
             body,
         } => {
-            let body = statement_length(t, names, body, has_result, saved.at_loop())?;
-            let first = part_length(t, names, first)?;
-            let test = condition_length(t, names, test)?;
-            let step = part_length(t, names, step)?;
+            let body = statement_length(view, body, has_result, saved.at_loop())?;
+            let first = part_length(view, first)?;
+            let test = condition_length(view, test)?;
+            let step = part_length(view, step)?;
             plus(plus(plus(first, test)?, plus(step, body)?)?, 3)
         }
         TStmt::Break | TStmt::Continue => plus(saved.in_loop, 1),
         TStmt::Return(None) => plus(saved.in_all, 1),
         TStmt::Return(Some(e)) => {
             let stored = if has_result { 2 } else { 1 };
-            plus(plus(used_length(t, names, true, e)?, saved.in_all)?, stored)
+            plus(plus(used_length(view, true, e)?, saved.in_all)?, stored)
         }
-        TStmt::With { body, .. } => statement_length(t, names, body, has_result, saved),
+        TStmt::With { body, .. } => statement_length(view, body, has_result, saved),
         TStmt::Everywhere { body, .. } => {
-            let body = statement_length(t, names, body, has_result, saved.one_more()?)?;
+            let body = statement_length(view, body, has_result, saved.one_more()?)?;
             plus(body, 3)
         }
-        TStmt::Where { .. } => where_length(t, names, s, has_result, saved),
+        TStmt::Where {
+            test,
+            then,
+            otherwise,
+            ..
+        } => {
+            let test = test_length(view, test)?;
+            let then = statement_length(view, then, has_result, saved.one_more()?)?;
+            let other = else_length(view, otherwise, 4, has_result, saved.one_more()?)?;
+            plus(plus(plus(test, then)?, 3)?, other)
+        }
     }
 }
 
-/// The instructions of an `if`: those of its parts, the jump behind its test, and the one in front of
-/// what `else` has.
+/// The instructions of the part behind `else`, if there is one, with so many around it.
 #[cycle(statement_length)]
-#[tactic(auto, unfolding(crate::specs::Lengths::statement_length_of, crate::specs::Lengths::else_length_of, lower_expr::specs::Effects::next_length))]
-fn if_length(
-    t: &Typed,
-    names: &Names,
-    s: &TStmt,
+#[tactic(auto, unfolding(crate::specs::Lengths::else_length_of))]
+fn else_length(
+    view: &View,
+    otherwise: &Option<Box<TStmt>>,
+    around: u32,
     has_result: bool,
     saved: Saved,
 ) -> Result<u32, Memory>
-    ensures { IfOk result (λ n. n ≡ statement_length_of t.now (layout names.now) has_result saved s.now) }
+    ensures { IfOk result (λ n. n ≡ else_length_of view.now.typed.now (layout view.now.names) has_result saved around (back-TStmt-If-2 otherwise.now)) }
 {
-    let TStmt::If {
-        test,
-        then,
-        otherwise,
-    } = s
-    else {
-        return Err(Memory);
-    };
-    let test = used_length(t, names, true, test)?;
-    let then = statement_length(t, names, then, has_result, saved)?;
-    let sum = plus(plus(test, then)?, 1)?;
     match otherwise {
-        Some(other) => {
-            let other = statement_length(t, names, other, has_result, saved)?;
-            plus(plus(sum, other)?, 1)
-        }
-        None => Ok(sum),
-    }
-}
-
-/// The instructions of a `where`: those of its parts, two that save and narrow the context and one that
-/// loads the saved one, and four for what `else` has.
-#[cycle(statement_length)]
-#[tactic(auto, unfolding(crate::specs::Lengths::statement_length_of, crate::specs::Lengths::else_length_of))]
-fn where_length(
-    t: &Typed,
-    names: &Names,
-    s: &TStmt,
-    has_result: bool,
-    saved: Saved,
-) -> Result<u32, Memory>
-    ensures { IfOk result (λ n. n ≡ statement_length_of t.now (layout names.now) has_result saved s.now) }
-{
-    let TStmt::Where {
-        test,
-        then,
-        otherwise,
-        ..
-    } = s
-    else {
-        return Err(Memory);
-    };
-    let more = saved.one_more()?;
-    let test = test_length(t, names, test)?;
-    let then = statement_length(t, names, then, has_result, more)?;
-    let sum = plus(plus(test, then)?, 3)?;
-    match otherwise {
-        Some(other) => {
-            let other = statement_length(t, names, other, has_result, more)?;
-            plus(plus(sum, other)?, 4)
-        }
-        None => Ok(sum),
+        Some(other) => plus(statement_length(view, other, has_result, saved)?, around),
+        None => Ok(0),
     }
 }
 
 /// An optional part of a `for`.
 #[tactic(auto, unfolding(crate::specs::Lengths::part_length_of))]
-pub fn part_length(t: &Typed, names: &Names, part: &Option<TExpr>) -> Result<u32, Memory>
-    ensures { IfOk result (λ n. n ≡ part_length_of t.now (layout names.now) part.now) }
+pub fn part_length(view: &View, part: &Option<TExpr>) -> Result<u32, Memory>
+    ensures { IfOk result (λ n. n ≡ part_length_of view.now.typed.now (layout view.now.names) part.now) }
 {
     match part {
-        Some(e) => effect_length(t, names, e),
+        Some(e) => effect_length(view, e),
         None => Ok(0),
     }
 }
 
 /// The optional condition of a `for`.
 #[tactic(auto, unfolding(crate::specs::Lengths::condition_length_of, lower_expr::specs::Effects::next_length))]
-pub fn condition_length(t: &Typed, names: &Names, test: &Option<TExpr>) -> Result<u32, Memory>
-    ensures { IfOk result (λ n. n ≡ condition_length_of t.now (layout names.now) test.now) }
+pub fn condition_length(view: &View, test: &Option<TExpr>) -> Result<u32, Memory>
+    ensures { IfOk result (λ n. n ≡ condition_length_of view.now.typed.now (layout view.now.names) test.now) }
 {
     match test {
-        Some(e) => used_length(t, names, true, e),
+        Some(e) => used_length(view, true, e),
         None => Ok(0),
     }
 }
 
 /// The variables of a block: each becomes zero, and then takes its initialiser.
 #[tactic(auto, using(std::proofs::lemmas::List::drop_more), unfolding(crate::specs::Lengths::locals_length_of))]
-fn locals_length(t: &Typed, names: &Names, locals: &[LocalVar]) -> Result<u32, Memory>
-    ensures { IfOk result (λ n. n ≡ locals_length_of t.now (layout names.now) locals.now) }
+fn locals_length(view: &View, locals: &[LocalVar]) -> Result<u32, Memory>
+    ensures { IfOk result (λ n. n ≡ locals_length_of view.now.typed.now (layout view.now.names) locals.now) }
 {
     let mut sum = 0;
     for local in locals {
         let zeroed = clear_length(&local.info);
-        let stored = initial_length(t, names, &local.info, &local.initial)?;
+        let stored = initial_length(view, &local.info, &local.initial)?;
         sum = plus(sum, plus(zeroed, stored)?)?;
     }
     Ok(sum)
@@ -220,17 +189,12 @@ fn clear_length(info: &VarInfo) -> u32
 
 /// The initialiser of a variable.
 #[tactic(auto, unfolding(crate::specs::Lengths::initial_length_of, lower_expr::specs::Effects::next_length))]
-fn initial_length(
-    t: &Typed,
-    names: &Names,
-    info: &VarInfo,
-    initial: &Option<TExpr>,
-) -> Result<u32, Memory>
-    ensures { IfOk result (λ n. n ≡ initial_length_of t.now (layout names.now) info.now initial.now) }
+fn initial_length(view: &View, info: &VarInfo, initial: &Option<TExpr>) -> Result<u32, Memory>
+    ensures { IfOk result (λ n. n ≡ initial_length_of view.now.typed.now (layout view.now.names) info.now initial.now) }
 {
     match initial {
-        Some(e) if is_written(info) => put_length(t, names, info.shape.is_none(), e),
-        Some(e) => plus(used_length(t, names, true, e)?, 1),
+        Some(e) if is_written(info) => put_length(view, info.shape.is_none(), e),
+        Some(e) => plus(used_length(view, true, e)?, 1),
         None => Ok(0),
     }
 }

@@ -1,18 +1,20 @@
 //! A program from a typed program: one unit for each instance.
 
 ghost use Rattle.std.specs.Prelude.{◌≡◌, ◌<◌, ◌+◌, ◌-◌, ◌^◌, ◌++◌, length, map, IfOk, OnOk};
+ghost use Rattle.cstar_tree.specs.IsTyped.{IsTyped};
 ghost use Rattle.lower_base.specs.Drafts.{Makes, draft};
 ghost use Rattle.lower_base.specs.Layouts.{layout, layout_of, entries_of};
 ghost use Rattle.lower_stmt.specs.Lowered.{IsLowered};
-ghost use Rattle.lower_stmt.specs.Programs.{begun, blank, elements_begun, element_finals, final_name_of, finals_of, instructions_in, outcome_of, own_field_of, own_fields_of, own_result_of, slots_behind, space, spaces_of, start_value_of, start_values_of, unit_of, units_of, variable_finals};
+ghost use Rattle.lower_stmt.specs.Programs.{begun, blank, body_frame, elements_begun, element_finals, final_name_of, finals_of, instructions_in, outcome_of, own_field_of, own_fields_of, own_result_of, slots_behind, space, spaces_of, start_value_of, start_values_of, unit_of, units_of, variable_finals};
 
 use crate::length::Saved;
-use crate::statement::{Frame, Outcome, Progress, leave, statement};
+use crate::statement::{Body, Frame, Outcome, leave};
 use cstar_base::{Memory, Word};
 use cstar_tree::typed::{Instance, Typed, VarInfo, Variable};
 use itoa::Buffer;
+use lower_base::View;
 use lower_base::emit::{count, entry, plus, put};
-use lower_base::names::{Names, entries_of};
+use lower_base::names::entries_of;
 use paris_code::{Field, Final, Instr, Konst, Owner, Program, ShapeBits, Unit};
 use std::alloc::Global;
 
@@ -22,21 +24,22 @@ use std::alloc::Global;
 ///
 /// `Memory` comes where memory ends, where a count, the place that a jump leads to, or the number of
 /// a register or a field would be 2^32 or more, where all units have as many instructions together,
-/// and where the tree is not what typing makes, as one with a shape whose need is not known.
+/// and where a statement or an expression is not as typing makes it.
 #[tactic(auto, unfolding(crate::specs::Programs::units_of))]
 pub fn lower(alloc: Global, t: &Typed) -> Result<Program, Memory>
+    requires { IsTyped t.now }
     ensures lowered { IfOk result (λ program. IsLowered t.now program) }
     ensures each_instance { IfOk result (λ program. length program.units.items ≡ length t.now.instances.items) }
     ensures numbered { IfOk result (λ program. instructions_in (map draft program.units.items) < 2 ^ 32) }
     ensures each_shape { IfOk result (λ program. length program.shapes.items ≡ length t.now.shapes.items) }
 {
-    let mut names = Names::of(alloc, t)?;
+    let mut view = View::of(alloc, t)?;
     let mut units: Vec<Unit> = Vec::new(alloc);
-    let mut slots = names.end;
+    let mut slots = view.names.end;
     let mut instructions = 0;
     for (number, instance) in t.instances.iter().enumerate() {
-        names.enter(t, number)?;
-        let unit = lower_unit(alloc, t, &names, instance, number == 0, slots)?;
+        view.enter(number)?;
+        let unit = lower_unit(&view, instance, number == 0, slots)?;
         slots = unit.regs;
         instructions = plus(instructions, count(unit.code.len())?)?;
         units.push(unit)?;
@@ -51,26 +54,30 @@ pub fn lower(alloc: Global, t: &Typed) -> Result<Program, Memory>
 }
 
 /// The unit of an instance, whose registers begin at `regs`.
-#[tactic(auto, unfolding(crate::specs::Programs::unit_of, crate::specs::Programs::body_frame, lower_base::specs::Drafts::then_make))]
-fn lower_unit(
-    alloc: Global,
-    t: &Typed,
-    names: &Names,
-    instance: &Instance,
-    is_main: bool,
-    regs: u32,
-) -> Result<Unit, Memory>
-    ensures draft { IfOk result (λ unit. unit_of t.now (layout names.now) is_main regs instance.now ≡ Makes tt (draft unit)) }
+#[tactic(auto, unfolding(crate::specs::Programs::unit_of, lower_base::specs::Drafts::then_make))]
+fn lower_unit(view: &View, instance: &Instance, is_main: bool, regs: u32) -> Result<Unit, Memory>
+    ensures draft { IfOk result (λ unit. unit_of view.now.typed.now (layout view.now.names) is_main regs instance.now ≡ Makes tt (draft unit)) }
 {
-    let mut unit = blank(alloc, &instance.name, regs)?;
+    let mut unit = blank(view.alloc, &instance.name, regs)?;
     own_fields(instance.params.as_slice(), &mut unit)?;
     own_result(&instance.result, &mut unit)?;
-    begin(t, names, is_main, &mut unit)?;
-    let mut progress = Progress {
-        contexts: Vec::new(alloc),
+    begin(view, is_main, &mut unit)?;
+    let mut body = Body {
+        unit,
+        contexts: Vec::new(view.alloc),
         declared: 0,
     };
-    let frame = Frame {
+    body.statement(view, &instance.body, body_frame(is_main, instance))?;
+    leave(is_main, &mut body.unit)?;
+    Ok(body.unit)
+}
+
+/// Where the body of an instance stands: in no loop, and no context is saved.
+#[tactic(auto, unfolding(crate::specs::Programs::body_frame))]
+fn body_frame(is_main: bool, instance: &Instance) -> Frame
+    ensures { result ≡ body_frame is_main instance.now }
+{
+    Frame {
         is_main,
         outcome: outcome(&instance.result),
         after: 0,
@@ -79,18 +86,7 @@ fn lower_unit(
             in_loop: 0,
             in_all: 0,
         },
-    };
-    statement(
-        alloc,
-        t,
-        names,
-        &instance.body,
-        frame,
-        &mut progress,
-        &mut unit,
-    )?;
-    leave(is_main, &mut unit)?;
-    Ok(unit)
+    }
 }
 
 /// A unit that has nothing yet but its name.
@@ -159,11 +155,11 @@ fn outcome(info: &Option<VarInfo>) -> Outcome
 
 /// `main` begins with the values of the file's variables. At the start every position is active.
 #[tactic(auto, unfolding(crate::specs::Programs::begun))]
-fn begin(t: &Typed, names: &Names, is_main: bool, u: &mut Unit) -> Result<(), Memory>
-    ensures draft { OnOk result (begun t.now (layout names.now) is_main (draft u.old) ≡ Makes tt (draft u.new)) }
+fn begin(view: &View, is_main: bool, u: &mut Unit) -> Result<(), Memory>
+    ensures draft { OnOk result (begun view.now.typed.now (layout view.now.names) is_main (draft u.old) ≡ Makes tt (draft u.new)) }
 {
     if is_main {
-        start_values(t, names, u)
+        start_values(view, u)
     } else {
         Ok(())
     }
@@ -171,12 +167,12 @@ fn begin(t: &Typed, names: &Names, is_main: bool, u: &mut Unit) -> Result<(), Me
 
 /// The variables of the file that do not begin as zero.
 #[tactic(auto, using(std::proofs::lemmas::List::drop_more), unfolding(crate::specs::Programs::start_values_of, lower_base::specs::Drafts::then_make))]
-fn start_values(t: &Typed, names: &Names, u: &mut Unit) -> Result<(), Memory>
-    ensures draft { OnOk result (start_values_of t.now (layout names.now) t.now.vars.items 0 (draft u.old) ≡ Makes tt (draft u.new)) }
+fn start_values(view: &View, u: &mut Unit) -> Result<(), Memory>
+    ensures draft { OnOk result (start_values_of view.now.typed.now (layout view.now.names) view.now.typed.now.vars.items 0 (draft u.old) ≡ Makes tt (draft u.new)) }
 {
     let mut number = 0;
-    for info in t.vars.as_slice() {
-        start_value(t, names, info, number, u)?;
+    for info in view.typed.vars.as_slice() {
+        start_value(view, info, number, u)?;
         number = plus(number, 1)?;
     }
     Ok(())
@@ -184,22 +180,16 @@ fn start_values(t: &Typed, names: &Names, u: &mut Unit) -> Result<(), Memory>
 
 /// A variable of the file becomes what it begins as, unless that is zero.
 #[tactic(auto, unfolding(crate::specs::Programs::start_value_of, crate::specs::Programs::scalar_begun))]
-fn start_value(
-    t: &Typed,
-    names: &Names,
-    info: &VarInfo,
-    number: u32,
-    u: &mut Unit,
-) -> Result<(), Memory>
-    ensures draft { OnOk result (start_value_of t.now (layout names.now) info.now number (draft u.old) ≡ Makes tt (draft u.new)) }
+fn start_value(view: &View, info: &VarInfo, number: u32, u: &mut Unit) -> Result<(), Memory>
+    ensures draft { OnOk result (start_value_of view.now.typed.now (layout view.now.names) info.now number (draft u.old) ≡ Makes tt (draft u.new)) }
 {
     if info.start == 0 {
         return Ok(());
     }
     if info.shape.is_some() {
-        return begin_elements(t, names, number, info.start, entries_of(info), u);
+        return begin_elements(view, number, info.start, entries_of(info), u);
     }
-    let dest = names.register(Variable::File(number))?;
+    let dest = view.register(Variable::File(number))?;
     put(
         u,
         Instr::FrontConst {
@@ -220,17 +210,16 @@ fn start_value(
 /// The elements of a variable of the file take a value.
 #[tactic(auto, using(crate::proofs::BegunElements::begun_step), unfolding(crate::specs::Programs::elements_begun))]
 fn begin_elements(
-    t: &Typed,
-    names: &Names,
+    view: &View,
     number: u32,
     value: u32,
     elements: u32,
     u: &mut Unit,
 ) -> Result<(), Memory>
-    ensures draft { OnOk result (elements_begun t.now (layout names.now) number value elements 0 (draft u.old) ≡ Makes tt (draft u.new)) }
+    ensures draft { OnOk result (elements_begun view.now.typed.now (layout view.now.names) number value elements 0 (draft u.old) ≡ Makes tt (draft u.new)) }
 {
     for element in 0..elements {
-        let dest = names.field(t, Variable::File(number), element, u)?;
+        let dest = view.field(Variable::File(number), element, u)?;
         put(
             u,
             Instr::MoveConstant {
@@ -242,23 +231,18 @@ fn begin_elements(
     Ok(())
 }
 
-/// The sets: the extents of each shape, and its room in bits. `Memory` where the room of a shape is
-/// not known.
+/// The sets: the extents of each shape, and its room in bits.
 #[tactic(auto, using(std::proofs::lemmas::List::drop_more), unfolding(crate::specs::Programs::spaces_of, crate::specs::Programs::space))]
 fn shapes(alloc: Global, t: &Typed) -> Result<Vec<ShapeBits>, Memory>
+    requires { length t.now.need.items ≡ length t.now.shapes.items }
     ensures spaces { IfOk result (λ shapes. map space shapes.items ≡ spaces_of t.now.shapes.items t.now.need.items) }
     ensures count { IfOk result (λ shapes. length shapes.items ≡ length t.now.shapes.items) }
 {
     let mut shapes = Vec::new(alloc);
     for (number, shape) in t.shapes.iter().enumerate() {
-        let Some(need) = t.need.get(number) else {
-            return Err(Memory);
-        };
         let extents = Vec::from_slice(alloc, shape.extents.as_slice())?;
-        shapes.push(ShapeBits {
-            extents,
-            bits: *need,
-        })?;
+        let bits = t.need[number];
+        shapes.push(ShapeBits { extents, bits })?;
     }
     Ok(shapes)
 }

@@ -3,25 +3,28 @@
 //! the contexts that they saved, the innermost first, so that the outermost one stays.
 
 ghost use Rattle.std.specs.Prelude.{◌≡◌, ◌+◌, ◌++◌, [], ◌∷◌, IfOk, OnOk, Some};
-ghost use Rattle.lower_base.specs.Drafts.{Makes, draft};
+ghost use Rattle.cstar_tree.specs.declared.typed.TStmt as S;
+ghost use Rattle.cstar_tree.specs.declared.typed.TStmt.{back-TStmt-If-2};
+ghost use Rattle.paris_code.specs.declared.instr.Instr.TheVariants as I;
+ghost use Rattle.lower_base.specs.Drafts.{Makes, draft, with_instr};
 ghost use Rattle.lower_base.specs.Layouts.{layout};
+ghost use Rattle.lower_stmt.specs.Bodies.{code_in, grown};
 ghost use Rattle.lower_stmt.specs.Frames.{has_result, in_loop, in_context, with_end};
 ghost use Rattle.lower_stmt.specs.Lengths.{at_loop, statement_length_of};
-ghost use Rattle.lower_stmt.specs.Statements.{closing, condition_of, given_back, jump_back_of, narrowed, part_of, restored, returned, statement_of, stored_result, turned, turns_of, widened};
+ghost use Rattle.lower_stmt.specs.Statements.{closing, condition_of, else_of, given_back, jump_back_of, narrowed, part_of, past, restored, returned, statement_of, stored_result, turned, turns_of, widened};
 
 use crate::length::{Saved, condition_length, part_length, statement_length};
 use crate::variables::declare;
 use cstar_base::Memory;
-use cstar_tree::typed::{TExpr, TStmt, Typed};
-use lower_base::Out;
+use cstar_tree::typed::{TExpr, TStmt};
 use lower_base::emit::{flag, here, plus, put};
-use lower_base::names::{Names, own_entry};
+use lower_base::names::own_entry;
+use lower_base::{Out, View};
 use lower_expr::effects::{effect, test};
 use lower_expr::length::used_length;
 use lower_expr::steps::set;
 use lower_expr::value::operand;
 use paris_code::{Field, Instr, Unit};
-use std::alloc::Global;
 
 /// What a function gives back.
 #[derive(Clone, Copy, PartialEq, Eq)]
@@ -85,104 +88,271 @@ impl Frame {
     }
 }
 
-/// What changes from one statement to the next: the saved contexts, the outermost first, and how
-/// many variables of blocks were declared.
+/// The body of an instance as it is lowered: its unit, the contexts that are saved where the next
+/// statement stands, the outermost first, and how many variables of blocks were declared.
 #[derive(Drop)]
-pub struct Progress {
+pub struct Body {
+    pub unit: Unit,
     pub contexts: Vec<Field>,
     pub declared: u32,
 }
 
-/// Appends the code of a statement.
-#[cycle(statement)]
-#[tactic(auto, unfolding(crate::specs::Statements::statement_of, crate::specs::Statements::part_of, lower_base::specs::Drafts::then_make))]
-pub fn statement(
-    alloc: Global,
-    t: &Typed,
-    names: &Names,
-    s: &TStmt,
-    f: Frame,
-    p: &mut Progress,
-    u: &mut Unit,
-) -> Result<(), Memory>
-    ensures draft { OnOk result (statement_of t.now (layout names.now) s.now f p.old.contexts.items p.old.declared (draft u.old) ≡ Makes p.new.declared (draft u.new)) }
-    ensures contexts { OnOk result (p.new.contexts.items ≡ p.old.contexts.items) }
-{
-    match s {
-        TStmt::Block { locals, statements } => {
-            p.declared = declare(alloc, t, names, locals.as_slice(), p.declared, u)?;
-            for inner in statements {
-                statement(alloc, t, names, inner, f, p, u)?;
+impl Body {
+    /// Appends the code of a statement.
+    #[cycle(statement)]
+    #[tactic(auto, unfolding(crate::specs::Statements::statement_of, crate::specs::Statements::part_of, crate::specs::Statements::turns_of, lower_base::specs::Drafts::then_make))]
+    pub fn statement(&mut self, view: &View, s: &TStmt, f: Frame) -> Result<(), Memory>
+        ensures draft { OnOk result (code_in view.now s.now f self.old ≡ grown self.new) }
+        ensures contexts { OnOk result (self.new.contexts.items ≡ self.old.contexts.items) }
+    {
+        match s {
+            TStmt::Block { locals, statements } => {
+                self.declared = declare(view, locals, self.declared, &mut self.unit)?;
+                for inner in statements {
+                    self.statement(view, inner, f)?;
+                }
+                Ok(())
             }
-            Ok(())
+            TStmt::Expression(e) => evaluate(view, e, &mut self.unit),
+            TStmt::Empty => Ok(()),
+            TStmt::If {
+                test,
+                then,
+                otherwise,
+            } => self.branch(view, test, then, otherwise, f),
+            TStmt::While { test, body } => self.repeat_while(view, test, body, f),
+            TStmt::Do { body, test } => {
+                let turn = here(&self.unit)?;
+                let next = behind_body(view, body, f, turn)?;
+                self.turns(view, body, test, next, f)
+            }
+            TStmt::For {
+                first,
+                test,
+                step,
+                body,
+            } => self.repeat_for(view, first, test, step, body, f),
+            TStmt::Break => self.jump_out(f.saved.in_loop, f.after),
+            TStmt::Continue => self.jump_out(f.saved.in_loop, f.next),
+            TStmt::Return(e) => {
+                return_value(view, e, f.outcome, &mut self.unit)?;
+                load_contexts(self.contexts.as_slice(), f.saved.in_all, &mut self.unit)?;
+                leave(f.is_main, &mut self.unit)
+            }
+            TStmt::With { body, .. } => self.statement(view, body, f),
+            TStmt::Everywhere { shape, body } => {
+                let saved = flag(&mut self.unit, *shape)?;
+                widen(*shape, saved, &mut self.unit)?;
+                self.within(view, body, f, saved)
+            }
+            TStmt::Where {
+                shape,
+                test,
+                then,
+                otherwise,
+            } => self.narrow_and_run(view, *shape, test, then, otherwise, f),
         }
-        TStmt::Expression(e) => evaluate(alloc, t, names, e, u),
-        TStmt::Empty => Ok(()),
-        TStmt::If { .. } => branch(alloc, t, names, s, f, p, u),
-        TStmt::While { .. } | TStmt::Do { .. } | TStmt::For { .. } => {
-            repeat(alloc, t, names, s, f, p, u)
+    }
+
+    /// Loads the newest saved contexts, so many of them, and jumps.
+    fn jump_out(&mut self, newest: u32, target: u32) -> Result<(), Memory>
+        ensures draft { OnOk result (with_instr (I.FrontJump target) (restored self.old.contexts.items newest (draft self.old.unit)) ≡ draft self.new.unit) }
+        ensures contexts { OnOk result (self.new.contexts.items ≡ self.old.contexts.items) }
+        ensures declared { OnOk result (self.new.declared ≡ self.old.declared) }
+    {
+        load_contexts(self.contexts.as_slice(), newest, &mut self.unit)?;
+        put(&mut self.unit, Instr::FrontJump { target })
+    }
+
+    /// `if`.
+    #[cycle(statement)]
+    #[tactic(auto, unfolding(crate::specs::Statements::statement_of, lower_base::specs::Drafts::then_make))]
+    fn branch(
+        &mut self,
+        view: &View,
+        test: &TExpr,
+        then: &Box<TStmt>,
+        otherwise: &Option<Box<TStmt>>,
+        f: Frame,
+    ) -> Result<(), Memory>
+        ensures draft { OnOk result (code_in view.now (S.If test.now then.now otherwise.now) f self.old ≡ grown self.new) }
+        ensures contexts { OnOk result (self.new.contexts.items ≡ self.old.contexts.items) }
+    {
+        let test = condition(view, test, &mut self.unit)?;
+        let length = statement_length(view, then, f.has_result(), f.saved)?;
+        let end = plus(plus(here(&self.unit)?, length)?, 1)?;
+        let target = past(otherwise, end)?;
+        put(&mut self.unit, Instr::FrontJumpZero { test, target })?;
+        self.statement(view, then, f)?;
+        self.jump_over(view, otherwise, target, f)
+    }
+
+    /// What is behind the `else` of an `if`, if there is one, which begins at a place, with the jump
+    /// over it.
+    #[cycle(statement)]
+    #[tactic(auto, unfolding(crate::specs::Statements::else_of))]
+    fn jump_over(
+        &mut self,
+        view: &View,
+        otherwise: &Option<Box<TStmt>>,
+        place: u32,
+        f: Frame,
+    ) -> Result<(), Memory>
+        ensures draft { OnOk result (else_of view.now.typed.now (layout view.now.names) (back-TStmt-If-2 otherwise.now) f self.old.contexts.items place self.old.declared (draft self.old.unit) ≡ grown self.new) }
+        ensures contexts { OnOk result (self.new.contexts.items ≡ self.old.contexts.items) }
+    {
+        let Some(other) = otherwise else {
+            return Ok(());
+        };
+        let length = statement_length(view, other, f.has_result(), f.saved)?;
+        let target = plus(place, length)?;
+        put(&mut self.unit, Instr::FrontJump { target })?;
+        self.statement(view, other, f)
+    }
+
+    /// `while`, which begins with a jump to its test.
+    #[cycle(statement)]
+    #[tactic(auto, using(crate::proofs::LoopPlaces::here_more), unfolding(crate::specs::Statements::statement_of, crate::specs::Statements::turns_of, lower_base::specs::Drafts::then_make))]
+    fn repeat_while(
+        &mut self,
+        view: &View,
+        test: &TExpr,
+        body: &Box<TStmt>,
+        f: Frame,
+    ) -> Result<(), Memory>
+        ensures draft { OnOk result (code_in view.now (S.While test.now body.now) f self.old ≡ grown self.new) }
+        ensures contexts { OnOk result (self.new.contexts.items ≡ self.old.contexts.items) }
+    {
+        let turn = plus(here(&self.unit)?, 1)?;
+        let next = behind_body(view, body, f, turn)?;
+        put(&mut self.unit, Instr::FrontJump { target: next })?;
+        self.turns(view, body, test, next, f)
+    }
+
+    /// The turns of a `while` or a `do`, whose body begins here and whose test is at `next`.
+    #[cycle(statement)]
+    #[tactic(auto, unfolding(crate::specs::Statements::turns_of, crate::specs::Statements::jump_back_of, lower_expr::specs::Effects::next_length, lower_base::specs::Drafts::then_make))]
+    fn turns(
+        &mut self,
+        view: &View,
+        body: &TStmt,
+        test: &TExpr,
+        next: u32,
+        f: Frame,
+    ) -> Result<(), Memory>
+        ensures draft { OnOk result (turns_of view.now.typed.now (layout view.now.names) body.now test.now next f self.old.contexts.items self.old.declared (draft self.old.unit) ≡ grown self.new) }
+        ensures contexts { OnOk result (self.new.contexts.items ≡ self.old.contexts.items) }
+    {
+        let turn = here(&self.unit)?;
+        let after = plus(plus(next, used_length(view, true, test)?)?, 1)?;
+        put(&mut self.unit, Instr::FrontTurn)?;
+        self.statement(view, body, f.in_loop(next, after))?;
+        let test = condition(view, test, &mut self.unit)?;
+        put(
+            &mut self.unit,
+            Instr::FrontJumpNonzero { test, target: turn },
+        )
+    }
+
+    /// `for`, which begins with a jump to its test.
+    #[cycle(statement)]
+    #[tactic(auto, using(crate::proofs::LoopPlaces::here_more), unfolding(crate::specs::Statements::statement_of, lower_base::specs::Drafts::then_make))]
+    fn repeat_for(
+        &mut self,
+        view: &View,
+        first: &Option<TExpr>,
+        test: &Option<TExpr>,
+        step: &Option<TExpr>,
+        body: &Box<TStmt>,
+        f: Frame,
+    ) -> Result<(), Memory>
+        ensures draft { OnOk result (code_in view.now (S.For first.now test.now step.now body.now) f self.old ≡ grown self.new) }
+        ensures contexts { OnOk result (self.new.contexts.items ≡ self.old.contexts.items) }
+    {
+        evaluate_part(view, first, &mut self.unit)?;
+        let turn = plus(here(&self.unit)?, 1)?;
+        let next = behind_body(view, body, f, turn)?;
+        let tested = plus(next, part_length(view, step)?)?;
+        let after = plus(plus(tested, condition_length(view, test)?)?, 1)?;
+        put(&mut self.unit, Instr::FrontJump { target: tested })?;
+        put(&mut self.unit, Instr::FrontTurn)?;
+        self.statement(view, body, f.in_loop(next, after))?;
+        evaluate_part(view, step, &mut self.unit)?;
+        jump_back(view, test, turn, &mut self.unit)
+    }
+
+    /// `where`.
+    #[cycle(statement)]
+    #[tactic(auto, unfolding(crate::specs::Statements::statement_of, crate::specs::Statements::otherwise_of, crate::specs::Statements::kept_for, lower_base::specs::Drafts::then_make))]
+    fn narrow_and_run(
+        &mut self,
+        view: &View,
+        shape: u16,
+        condition: &TExpr,
+        then: &Box<TStmt>,
+        otherwise: &Option<Box<TStmt>>,
+        f: Frame,
+    ) -> Result<(), Memory>
+        ensures draft { OnOk result (code_in view.now (S.Where shape condition.now then.now otherwise.now) f self.old ≡ grown self.new) }
+        ensures contexts { OnOk result (self.new.contexts.items ≡ self.old.contexts.items) }
+    {
+        let saved = flag(&mut self.unit, shape)?;
+        let holds = flag(&mut self.unit, shape)?;
+        test(view, condition, &mut self.unit)?;
+        match otherwise {
+            None => {
+                narrow(shape, saved, None, &mut self.unit)?;
+                self.within(view, then, f, saved)
+            }
+            Some(other) => {
+                narrow(shape, saved, Some(holds), &mut self.unit)?;
+                self.within(view, then, f, saved)?;
+                turn_over(shape, holds, &mut self.unit)?;
+                self.within(view, other, f, saved)
+            }
         }
-        TStmt::Break => {
-            load_contexts(p.contexts.as_slice(), f.saved.in_loop, u)?;
-            put(u, Instr::FrontJump { target: f.after })
-        }
-        TStmt::Continue => {
-            load_contexts(p.contexts.as_slice(), f.saved.in_loop, u)?;
-            put(u, Instr::FrontJump { target: f.next })
-        }
-        TStmt::Return(e) => {
-            return_value(alloc, t, names, e, f.outcome, u)?;
-            load_contexts(p.contexts.as_slice(), f.saved.in_all, u)?;
-            leave(f.is_main, u)
-        }
-        TStmt::With { body, .. } => statement(alloc, t, names, body, f, p, u),
-        TStmt::Everywhere { shape, body } => {
-            let saved = flag(u, *shape)?;
-            widen(*shape, saved, u)?;
-            within(alloc, t, names, body, f, saved, p, u)
-        }
-        TStmt::Where { .. } => narrow_and_run(alloc, t, names, s, f, p, u),
+    }
+
+    /// A statement where one more context is saved, which is loaded behind it.
+    #[cycle(statement)]
+    #[tactic(auto, unfolding(crate::specs::Statements::closing, lower_base::specs::Drafts::then_make))]
+    fn within(&mut self, view: &View, s: &TStmt, f: Frame, saved: Field) -> Result<(), Memory>
+        ensures draft { OnOk result (closing saved (statement_of view.now.typed.now (layout view.now.names) s.now (in_context f) (self.old.contexts.items ++ saved ∷ []) self.old.declared (draft self.old.unit)) ≡ grown self.new) }
+        ensures contexts { OnOk result (self.new.contexts.items ≡ self.old.contexts.items) }
+    {
+        self.contexts.push(saved)?;
+        self.statement(view, s, f.in_context()?)?;
+        self.contexts.pop();
+        put(&mut self.unit, Instr::LoadContext { source: saved })
     }
 }
 
 /// An expression whose value is not used.
 #[tactic(auto, unfolding(crate::specs::Statements::part_of, lower_base::specs::Drafts::then_make))]
-fn evaluate(alloc: Global, t: &Typed, names: &Names, e: &TExpr, u: &mut Unit) -> Result<(), Memory>
-    ensures draft { OnOk result (part_of t.now (layout names.now) (Some e.now) (draft u.old) ≡ Makes tt (draft u.new)) }
+fn evaluate(view: &View, e: &TExpr, u: &mut Unit) -> Result<(), Memory>
+    ensures draft { OnOk result (part_of view.now.typed.now (layout view.now.names) (Some e.now) (draft u.old) ≡ Makes tt (draft u.new)) }
 {
-    effect(alloc, t, names, e, u)?;
+    effect(view, e, u)?;
     Ok(())
 }
 
 /// An optional part of a `for`.
 #[tactic(auto, unfolding(crate::specs::Statements::part_of))]
-fn evaluate_part(
-    alloc: Global,
-    t: &Typed,
-    names: &Names,
-    part: &Option<TExpr>,
-    u: &mut Unit,
-) -> Result<(), Memory>
-    ensures draft { OnOk result (part_of t.now (layout names.now) part.now (draft u.old) ≡ Makes tt (draft u.new)) }
+fn evaluate_part(view: &View, part: &Option<TExpr>, u: &mut Unit) -> Result<(), Memory>
+    ensures draft { OnOk result (part_of view.now.typed.now (layout view.now.names) part.now (draft u.old) ≡ Makes tt (draft u.new)) }
 {
     match part {
-        Some(e) => evaluate(alloc, t, names, e, u),
+        Some(e) => evaluate(view, e, u),
         None => Ok(()),
     }
 }
 
 /// The value of a condition, in a register.
 #[tactic(auto, unfolding(crate::specs::Statements::condition_of, lower_expr::specs::Effects::next_operand, lower_base::specs::Drafts::then_make, lower_base::specs::Drafts::in_register))]
-fn condition(
-    alloc: Global,
-    t: &Typed,
-    names: &Names,
-    e: &TExpr,
-    u: &mut Unit,
-) -> Result<u32, Memory>
-    ensures draft { IfOk result (λ r. condition_of t.now (layout names.now) e.now (draft u.old) ≡ Makes r (draft u.new)) }
+fn condition(view: &View, e: &TExpr, u: &mut Unit) -> Result<u32, Memory>
+    ensures draft { IfOk result (λ r. condition_of view.now.typed.now (layout view.now.names) e.now (draft u.old) ≡ Makes r (draft u.new)) }
 {
-    operand(alloc, t, names, true, e, u)?.register()
+    operand(view, true, e, u)?.register()
 }
 
 /// The end of a function, and that of `main`.
@@ -215,262 +385,74 @@ fn load_contexts(contexts: &[Field], newest: u32, u: &mut Unit) -> Result<(), Me
 /// The value of `return`, if there is one, becomes the result.
 #[tactic(auto, unfolding(crate::specs::Statements::returned))]
 fn return_value(
-    alloc: Global,
-    t: &Typed,
-    names: &Names,
+    view: &View,
     e: &Option<TExpr>,
     outcome: Outcome,
     u: &mut Unit,
 ) -> Result<(), Memory>
-    ensures draft { OnOk result (returned t.now (layout names.now) e.now outcome (draft u.old) ≡ Makes tt (draft u.new)) }
+    ensures draft { OnOk result (returned view.now.typed.now (layout view.now.names) e.now outcome (draft u.old) ≡ Makes tt (draft u.new)) }
 {
     match e {
-        Some(e) => give_back(alloc, t, names, e, outcome, u),
+        Some(e) => give_back(view, e, outcome, u),
         None => Ok(()),
     }
 }
 
 /// The returned value becomes the result, that of a field at the active positions.
 #[tactic(auto, unfolding(crate::specs::Statements::given_back, lower_expr::specs::Effects::next_operand, lower_base::specs::Drafts::then_make))]
-fn give_back(
-    alloc: Global,
-    t: &Typed,
-    names: &Names,
-    e: &TExpr,
-    outcome: Outcome,
-    u: &mut Unit,
-) -> Result<(), Memory>
-    ensures draft { OnOk result (given_back t.now (layout names.now) e.now outcome (draft u.old) ≡ Makes tt (draft u.new)) }
+fn give_back(view: &View, e: &TExpr, outcome: Outcome, u: &mut Unit) -> Result<(), Memory>
+    ensures draft { OnOk result (given_back view.now.typed.now (layout view.now.names) e.now outcome (draft u.old) ≡ Makes tt (draft u.new)) }
 {
-    let v = operand(alloc, t, names, true, e, u)?;
-    store_result(names, outcome, v, u)
+    let v = operand(view, true, e, u)?;
+    store_result(view, outcome, v, u)
 }
 
 /// A value becomes the function's result.
 #[tactic(auto, unfolding(crate::specs::Statements::stored_result, lower_base::specs::Drafts::then_make, lower_base::specs::Layouts::layout))]
-fn store_result(names: &Names, outcome: Outcome, v: Out, u: &mut Unit) -> Result<(), Memory>
-    ensures draft { OnOk result (stored_result (layout names.now) outcome v (draft u.old) ≡ Makes tt (draft u.new)) }
+fn store_result(view: &View, outcome: Outcome, v: Out, u: &mut Unit) -> Result<(), Memory>
+    ensures draft { OnOk result (stored_result (layout view.now.names) outcome v (draft u.old) ≡ Makes tt (draft u.new)) }
 {
     match outcome {
         Outcome::Nothing => Ok(()),
-        Outcome::Scalar => set(Out::Scalar(names.result_register()?), v, u),
+        Outcome::Scalar => set(Out::Scalar(view.result_register()?), v, u),
         Outcome::Parallel => {
-            let dest = own_entry(u, names.outcome)?;
+            let dest = own_entry(u, view.names.outcome)?;
             set(Out::Field(dest), v, u)
         }
     }
 }
 
-/// `if`.
-#[cycle(statement)]
-#[tactic(auto, unfolding(crate::specs::Statements::statement_of, crate::specs::Statements::else_of, crate::specs::Statements::past, lower_base::specs::Drafts::then_make))]
-fn branch(
-    alloc: Global,
-    t: &Typed,
-    names: &Names,
-    s: &TStmt,
-    f: Frame,
-    p: &mut Progress,
-    u: &mut Unit,
-) -> Result<(), Memory>
-    ensures draft { OnOk result (statement_of t.now (layout names.now) s.now f p.old.contexts.items p.old.declared (draft u.old) ≡ Makes p.new.declared (draft u.new)) }
-    ensures contexts { OnOk result (p.new.contexts.items ≡ p.old.contexts.items) }
+/// So far behind a place there is one more instruction, a jump over what is behind `else`.
+#[tactic(auto, unfolding(crate::specs::Statements::past))]
+fn past(otherwise: &Option<Box<TStmt>>, place: u32) -> Result<u32, Memory>
+    ensures { IfOk result (λ n. n ≡ past (back-TStmt-If-2 otherwise.now) place) }
 {
-    let TStmt::If {
-        test,
-        then,
-        otherwise,
-    } = s
-    else {
-        return Err(Memory);
-    };
-    let test = condition(alloc, t, names, test, u)?;
-    let length = statement_length(t, names, then, f.has_result(), f.saved)?;
-    let end = plus(plus(here(u)?, length)?, 1)?;
     match otherwise {
-        None => {
-            put(u, Instr::FrontJumpZero { test, target: end })?;
-            statement(alloc, t, names, then, f, p, u)
-        }
-        Some(other) => {
-            let target = plus(end, 1)?;
-            put(u, Instr::FrontJumpZero { test, target })?;
-            statement(alloc, t, names, then, f, p, u)?;
-            let length = statement_length(t, names, other, f.has_result(), f.saved)?;
-            put(
-                u,
-                Instr::FrontJump {
-                    target: plus(target, length)?,
-                },
-            )?;
-            statement(alloc, t, names, other, f, p, u)
-        }
+        Some(_) => plus(place, 1),
+        None => Ok(place),
     }
-}
-
-/// A loop. A `while` and a `for` begin with a jump to their test; a `do` does not.
-#[cycle(statement)]
-#[tactic(auto, using(crate::proofs::LoopPlaces::here_more), unfolding(crate::specs::Statements::statement_of, crate::specs::Statements::turns_of, crate::specs::Statements::jump_back_of, lower_expr::specs::Effects::next_length, lower_base::specs::Drafts::then_make))]
-fn repeat(
-    alloc: Global,
-    t: &Typed,
-    names: &Names,
-    s: &TStmt,
-    f: Frame,
-    p: &mut Progress,
-    u: &mut Unit,
-) -> Result<(), Memory>
-    ensures draft { OnOk result (statement_of t.now (layout names.now) s.now f p.old.contexts.items p.old.declared (draft u.old) ≡ Makes p.new.declared (draft u.new)) }
-    ensures contexts { OnOk result (p.new.contexts.items ≡ p.old.contexts.items) }
-{
-    match s {
-        TStmt::While { test, body } => {
-            let turn = plus(here(u)?, 1)?;
-            let next = behind_body(t, names, body, f, turn)?;
-            put(u, Instr::FrontJump { target: next })?;
-            turns(alloc, t, names, body, test, next, f, p, u)
-        }
-        TStmt::Do { body, test } => {
-            let turn = here(u)?;
-            let next = behind_body(t, names, body, f, turn)?;
-            turns(alloc, t, names, body, test, next, f, p, u)
-        }
-        TStmt::For {
-            first,
-            test,
-            step,
-            body,
-        } => {
-            evaluate_part(alloc, t, names, first, u)?;
-            let turn = plus(here(u)?, 1)?;
-            let next = behind_body(t, names, body, f, turn)?;
-            let tested = plus(next, part_length(t, names, step)?)?;
-            let after = plus(plus(tested, condition_length(t, names, test)?)?, 1)?;
-            put(u, Instr::FrontJump { target: tested })?;
-            put(u, Instr::FrontTurn)?;
-            statement(alloc, t, names, body, f.in_loop(next, after), p, u)?;
-            evaluate_part(alloc, t, names, step, u)?;
-            jump_back(alloc, t, names, test, turn, u)
-        }
-        _ => Err(Memory),
-    }
-}
-
-/// The turns of a `while` or a `do`, whose body begins here and whose test is at `next`.
-#[cycle(statement)]
-#[tactic(auto, unfolding(crate::specs::Statements::turns_of, crate::specs::Statements::jump_back_of, lower_expr::specs::Effects::next_length, lower_base::specs::Drafts::then_make))]
-fn turns(
-    alloc: Global,
-    t: &Typed,
-    names: &Names,
-    body: &TStmt,
-    test: &TExpr,
-    next: u32,
-    f: Frame,
-    p: &mut Progress,
-    u: &mut Unit,
-) -> Result<(), Memory>
-    ensures draft { OnOk result (turns_of t.now (layout names.now) body.now test.now next f p.old.contexts.items p.old.declared (draft u.old) ≡ Makes p.new.declared (draft u.new)) }
-    ensures contexts { OnOk result (p.new.contexts.items ≡ p.old.contexts.items) }
-{
-    let turn = here(u)?;
-    let after = plus(plus(next, used_length(t, names, true, test)?)?, 1)?;
-    put(u, Instr::FrontTurn)?;
-    statement(alloc, t, names, body, f.in_loop(next, after), p, u)?;
-    let test = condition(alloc, t, names, test, u)?;
-    put(u, Instr::FrontJumpNonzero { test, target: turn })
 }
 
 /// The place behind the body of a loop whose turn is at `turn`.
-fn behind_body(t: &Typed, names: &Names, body: &TStmt, f: Frame, turn: u32) -> Result<u32, Memory>
-    ensures { IfOk result (λ n. n ≡ turn + statement_length_of t.now (layout names.now) (has_result f) (at_loop f.saved) body.now + 1) }
+fn behind_body(view: &View, body: &TStmt, f: Frame, turn: u32) -> Result<u32, Memory>
+    ensures { IfOk result (λ n. n ≡ turn + statement_length_of view.now.typed.now (layout view.now.names) (has_result f) (at_loop f.saved) body.now + 1) }
 {
-    let length = statement_length(t, names, body, f.has_result(), f.saved.at_loop())?;
+    let length = statement_length(view, body, f.has_result(), f.saved.at_loop())?;
     plus(plus(turn, length)?, 1)
 }
 
 /// The end of a `for`: back to its turn, if its condition is there and not zero, or always.
 #[tactic(auto, unfolding(crate::specs::Statements::jump_back_of, lower_base::specs::Drafts::then_make))]
-fn jump_back(
-    alloc: Global,
-    t: &Typed,
-    names: &Names,
-    test: &Option<TExpr>,
-    turn: u32,
-    u: &mut Unit,
-) -> Result<(), Memory>
-    ensures draft { OnOk result (jump_back_of t.now (layout names.now) test.now turn (draft u.old) ≡ Makes tt (draft u.new)) }
+fn jump_back(view: &View, test: &Option<TExpr>, turn: u32, u: &mut Unit) -> Result<(), Memory>
+    ensures draft { OnOk result (jump_back_of view.now.typed.now (layout view.now.names) test.now turn (draft u.old) ≡ Makes tt (draft u.new)) }
 {
     match test {
         Some(test) => {
-            let test = condition(alloc, t, names, test, u)?;
+            let test = condition(view, test, u)?;
             put(u, Instr::FrontJumpNonzero { test, target: turn })
         }
         None => put(u, Instr::FrontJump { target: turn }),
     }
-}
-
-/// `where`.
-#[cycle(statement)]
-#[tactic(auto, unfolding(crate::specs::Statements::statement_of, crate::specs::Statements::otherwise_of, crate::specs::Statements::kept_for, lower_base::specs::Drafts::then_make))]
-fn narrow_and_run(
-    alloc: Global,
-    t: &Typed,
-    names: &Names,
-    s: &TStmt,
-    f: Frame,
-    p: &mut Progress,
-    u: &mut Unit,
-) -> Result<(), Memory>
-    ensures draft { OnOk result (statement_of t.now (layout names.now) s.now f p.old.contexts.items p.old.declared (draft u.old) ≡ Makes p.new.declared (draft u.new)) }
-    ensures contexts { OnOk result (p.new.contexts.items ≡ p.old.contexts.items) }
-{
-    let TStmt::Where {
-        shape,
-        test: condition,
-        then,
-        otherwise,
-    } = s
-    else {
-        return Err(Memory);
-    };
-    let saved = flag(u, *shape)?;
-    let holds = flag(u, *shape)?;
-    test(alloc, t, names, condition, u)?;
-    match otherwise {
-        None => {
-            narrow(*shape, saved, None, u)?;
-            within(alloc, t, names, then, f, saved, p, u)
-        }
-        Some(other) => {
-            narrow(*shape, saved, Some(holds), u)?;
-            within(alloc, t, names, then, f, saved, p, u)?;
-            turn_over(*shape, holds, u)?;
-            within(alloc, t, names, other, f, saved, p, u)
-        }
-    }
-}
-
-/// A statement where one more context is saved, which is loaded behind it.
-#[cycle(statement)]
-#[tactic(auto, unfolding(crate::specs::Statements::closing, lower_base::specs::Drafts::then_make))]
-fn within(
-    alloc: Global,
-    t: &Typed,
-    names: &Names,
-    s: &TStmt,
-    f: Frame,
-    saved: Field,
-    p: &mut Progress,
-    u: &mut Unit,
-) -> Result<(), Memory>
-    ensures draft { OnOk result (closing saved (statement_of t.now (layout names.now) s.now (in_context f) (p.old.contexts.items ++ saved ∷ []) p.old.declared (draft u.old)) ≡ Makes p.new.declared (draft u.new)) }
-    ensures contexts { OnOk result (p.new.contexts.items ≡ p.old.contexts.items) }
-{
-    p.contexts.push(saved)?;
-    statement(alloc, t, names, s, f.in_context()?, p, u)?;
-    p.contexts.pop();
-    put(u, Instr::LoadContext { source: saved })
 }
 
 /// Saves the context of a shape, and makes all its positions active.

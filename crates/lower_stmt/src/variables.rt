@@ -6,40 +6,32 @@ ghost use Rattle.lower_base.specs.Layouts.{layout};
 ghost use Rattle.lower_stmt.specs.Variables.{all_cleared, all_initialised, cleared, cleared_fields, declared, initial_put, initialised, variable_of, with_home};
 
 use cstar_base::Memory;
-use cstar_tree::typed::{LocalVar, TExpr, Typed, VarInfo, Variable};
-use lower_base::Out;
+use cstar_tree::typed::{LocalVar, TExpr, VarInfo, Variable};
 use lower_base::emit::{entry, plus, put};
-use lower_base::names::{Names, count, entries_of};
+use lower_base::names::{count, entries_of};
+use lower_base::{Out, View};
 use lower_expr::effects::{move_to, put_to};
 use paris_code::{Instr, Owner, Unit};
-use std::alloc::Global;
 
 /// The variables of a block, from a number on: all become zero, and then the initialisers run in
 /// order. Answers the number of the variable that is declared next.
 #[tactic(auto, unfolding(crate::specs::Variables::declared, lower_base::specs::Drafts::then_make))]
-pub fn declare(
-    alloc: Global,
-    t: &Typed,
-    names: &Names,
-    locals: &[LocalVar],
-    first: u32,
-    u: &mut Unit,
-) -> Result<u32, Memory>
-    ensures draft { IfOk result (λ n. declared t.now (layout names.now) locals.now first (draft u.old) ≡ Makes n (draft u.new)) }
+pub fn declare(view: &View, locals: &[LocalVar], first: u32, u: &mut Unit) -> Result<u32, Memory>
+    ensures draft { IfOk result (λ n. declared view.now.typed.now (layout view.now.names) locals.now first (draft u.old) ≡ Makes n (draft u.new)) }
 {
-    clear_all(names, locals, first, u)?;
-    initialise_all(alloc, t, names, locals, first, u)?;
+    clear_all(view, locals, first, u)?;
+    initialise_all(view, locals, first, u)?;
     plus(first, count(locals.len())?)
 }
 
 /// All become zero.
 #[tactic(auto, using(std::proofs::lemmas::List::drop_more), unfolding(crate::specs::Variables::all_cleared, lower_base::specs::Drafts::then_make))]
-fn clear_all(names: &Names, locals: &[LocalVar], first: u32, u: &mut Unit) -> Result<(), Memory>
-    ensures draft { OnOk result (all_cleared (layout names.now) locals.now first (draft u.old) ≡ Makes tt (draft u.new)) }
+fn clear_all(view: &View, locals: &[LocalVar], first: u32, u: &mut Unit) -> Result<(), Memory>
+    ensures draft { OnOk result (all_cleared (layout view.now.names) locals.now first (draft u.old) ≡ Makes tt (draft u.new)) }
 {
     let mut number = first;
     for local in locals {
-        clear(names, &local.info, number, u)?;
+        clear(view, &local.info, number, u)?;
         number = plus(number, 1)?;
     }
     Ok(())
@@ -47,19 +39,12 @@ fn clear_all(names: &Names, locals: &[LocalVar], first: u32, u: &mut Unit) -> Re
 
 /// The initialisers.
 #[tactic(auto, using(std::proofs::lemmas::List::drop_more), unfolding(crate::specs::Variables::all_initialised, lower_base::specs::Drafts::then_make))]
-fn initialise_all(
-    alloc: Global,
-    t: &Typed,
-    names: &Names,
-    locals: &[LocalVar],
-    first: u32,
-    u: &mut Unit,
-) -> Result<(), Memory>
-    ensures draft { OnOk result (all_initialised t.now (layout names.now) locals.now first (draft u.old) ≡ Makes tt (draft u.new)) }
+fn initialise_all(view: &View, locals: &[LocalVar], first: u32, u: &mut Unit) -> Result<(), Memory>
+    ensures draft { OnOk result (all_initialised view.now.typed.now (layout view.now.names) locals.now first (draft u.old) ≡ Makes tt (draft u.new)) }
 {
     let mut number = first;
     for local in locals {
-        initialise(alloc, t, names, local, number, u)?;
+        initialise(view, local, number, u)?;
         number = plus(number, 1)?;
     }
     Ok(())
@@ -67,21 +52,14 @@ fn initialise_all(
 
 /// The initialiser of a variable, if it has one.
 #[tactic(auto, unfolding(crate::specs::Variables::initialised, lower_base::specs::Drafts::then_make))]
-fn initialise(
-    alloc: Global,
-    t: &Typed,
-    names: &Names,
-    local: &LocalVar,
-    number: u32,
-    u: &mut Unit,
-) -> Result<(), Memory>
-    ensures draft { OnOk result (initialised t.now (layout names.now) local.now number (draft u.old) ≡ Makes tt (draft u.new)) }
+fn initialise(view: &View, local: &LocalVar, number: u32, u: &mut Unit) -> Result<(), Memory>
+    ensures draft { OnOk result (initialised view.now.typed.now (layout view.now.names) local.now number (draft u.old) ≡ Makes tt (draft u.new)) }
 {
     match &local.initial {
         None => Ok(()),
         Some(e) => {
-            let dest = variable(t, names, &local.info, number, u)?;
-            put_initial(alloc, t, names, &local.info, dest, e, u)?;
+            let dest = variable(view, &local.info, number, u)?;
+            put_initial(view, &local.info, dest, e, u)?;
             Ok(())
         }
     }
@@ -90,20 +68,18 @@ fn initialise(
 /// A value becomes that of a variable: written there, or moved to a parallel one of a narrow type.
 #[tactic(auto, unfolding(crate::specs::Variables::initial_put))]
 fn put_initial(
-    alloc: Global,
-    t: &Typed,
-    names: &Names,
+    view: &View,
     info: &VarInfo,
     dest: Out,
     e: &TExpr,
     u: &mut Unit,
 ) -> Result<Out, Memory>
-    ensures draft { IfOk result (λ out. initial_put t.now (layout names.now) info.now dest e.now (draft u.old) ≡ Makes out (draft u.new)) }
+    ensures draft { IfOk result (λ out. initial_put view.now.typed.now (layout view.now.names) info.now dest e.now (draft u.old) ≡ Makes out (draft u.new)) }
 {
     if is_written(info) {
-        put_to(alloc, t, names, dest, e, u)
+        put_to(view, dest, e, u)
     } else {
-        move_to(alloc, t, names, dest, e, u)
+        move_to(view, dest, e, u)
     }
 }
 
@@ -116,28 +92,22 @@ pub fn is_written(info: &VarInfo) -> bool
 
 /// Where a variable of a block is.
 #[tactic(auto, unfolding(crate::specs::Variables::variable_of, lower_base::specs::Drafts::then_make))]
-fn variable(
-    t: &Typed,
-    names: &Names,
-    info: &VarInfo,
-    number: u32,
-    u: &mut Unit,
-) -> Result<Out, Memory>
-    ensures draft { IfOk result (λ out. variable_of t.now (layout names.now) info.now number (draft u.old) ≡ Makes out (draft u.new)) }
+fn variable(view: &View, info: &VarInfo, number: u32, u: &mut Unit) -> Result<Out, Memory>
+    ensures draft { IfOk result (λ out. variable_of view.now.typed.now (layout view.now.names) info.now number (draft u.old) ≡ Makes out (draft u.new)) }
 {
     match info.shape {
-        None => Ok(Out::Scalar(names.register(Variable::Local(number))?)),
-        Some(_) => Ok(Out::Field(names.field(t, Variable::Local(number), 0, u)?)),
+        None => Ok(Out::Scalar(view.register(Variable::Local(number))?)),
+        Some(_) => Ok(Out::Field(view.field(Variable::Local(number), 0, u)?)),
     }
 }
 
 /// A variable of a block becomes zero, at every position; a parallel one gets its entries here.
 #[tactic(auto, unfolding(crate::specs::Variables::cleared))]
-fn clear(names: &Names, info: &VarInfo, number: u32, u: &mut Unit) -> Result<(), Memory>
-    ensures draft { OnOk result (cleared (layout names.now) info.now number (draft u.old) ≡ Makes tt (draft u.new)) }
+fn clear(view: &View, info: &VarInfo, number: u32, u: &mut Unit) -> Result<(), Memory>
+    ensures draft { OnOk result (cleared (layout view.now.names) info.now number (draft u.old) ≡ Makes tt (draft u.new)) }
 {
     let Some(shape) = info.shape else {
-        let dest = names.register(Variable::Local(number))?;
+        let dest = view.register(Variable::Local(number))?;
         return put(u, Instr::FrontConst { dest, value: 0 });
     };
     begin_home(u)?;

@@ -6,5 +6,5 @@ use Rattle.lower_expr.proofs.spots.load_elements.Given as goal
 
 abbrev pub invariant-loop-element : goal.invariant-loop-element
 invariant-loop-element l =
-    elements_loaded l.t (layout l.names) l.signed l.array l.index l.dest (l.element-end - l.element) l.element (draft l.u)
-    ≡ elements_loaded l.t (layout l.names) l.signed l.array l.index l.dest l.element-end 0 (draft l.fn.u)
+    elements_loaded l.view.typed.now (layout l.view.names) l.signed l.array l.index l.dest (l.element-end - l.element) l.element (draft l.u)
+    ≡ elements_loaded l.view.typed.now (layout l.view.names) l.signed l.array l.index l.dest l.element-end 0 (draft l.fn.u)

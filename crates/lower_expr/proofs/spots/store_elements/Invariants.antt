@@ -6,5 +6,5 @@ use Rattle.lower_expr.proofs.spots.store_elements.Given as goal
 
 abbrev pub invariant-loop-element : goal.invariant-loop-element
 invariant-loop-element l =
-    elements_stored l.t (layout l.names) l.array l.index l.from (l.element-end - l.element) l.element (draft l.u)
-    ≡ elements_stored l.t (layout l.names) l.array l.index l.from l.element-end 0 (draft l.fn.u)
+    elements_stored l.view.typed.now (layout l.view.names) l.array l.index l.from (l.element-end - l.element) l.element (draft l.u)
+    ≡ elements_stored l.view.typed.now (layout l.view.names) l.array l.index l.from l.element-end 0 (draft l.fn.u)

@@ -1,4 +1,5 @@
-use Rattle.std.proofs.Common.{◌≡◌, [], drop}
+use Rattle.std.proofs.Common.{◌≡◌, ◌+◌, ◌*◌, [], drop, max}
+use Rattle.cstar_tree.specs.declared.typed.TExpr.{size-TExpr}
 use Rattle.lower_base.specs.Drafts.{draft}
 use Rattle.lower_base.specs.Layouts.{layout}
 use Rattle.lower_expr.specs.Values.{values_in}
@@ -6,4 +7,84 @@ use Rattle.lower_expr.proofs.value.+value.Given as goal
 
 abbrev pub invariant-values-loop-e : goal.invariant-values-loop-e
 invariant-values-loop-e l =
-    values_in l.t (layout l.names) l.quiet (drop l.e-index l.es) l.outs.items (draft l.u) ≡ values_in l.t (layout l.names) l.quiet l.es [] (draft l.fn.u)
+    values_in l.view.typed.now (layout l.view.names) l.quiet (drop l.e-index l.es) l.outs.items (draft l.u) ≡ values_in l.view.typed.now (layout l.view.names) l.quiet l.es [] (draft l.fn.u)
+
+-- how deep an expression, or the deepest of its parts, is; what a function calls with the same one
+-- stands below it
+abbrev pub decreases-locate : goal.decreases-locate
+decreases-locate l = 16 * size-TExpr l.e.now
+
+abbrev pub decreases-read : goal.decreases-read
+decreases-read l = 16 * size-TExpr l.e.now + 1
+
+abbrev pub decreases-read_indexed : goal.decreases-read_indexed
+decreases-read_indexed l = 16 * size-TExpr l.e.now + 2
+
+abbrev pub decreases-value : goal.decreases-value
+decreases-value l = 16 * size-TExpr l.e.now + 3
+
+abbrev pub decreases-operand : goal.decreases-operand
+decreases-operand l = 16 * size-TExpr l.e.now + 4
+
+abbrev pub decreases-right_operand : goal.decreases-right_operand
+decreases-right_operand l = 16 * size-TExpr l.e.now + 5
+
+abbrev pub decreases-spread_to : goal.decreases-spread_to
+decreases-spread_to l = 16 * size-TExpr l.e.now + 5
+
+abbrev pub decreases-spread : goal.decreases-spread
+decreases-spread l = 16 * size-TExpr l.e.now + 6
+
+abbrev pub decreases-prefixed : goal.decreases-prefixed
+decreases-prefixed l = 16 * size-TExpr l.inner.now + 7
+
+abbrev pub decreases-binary_in_register : goal.decreases-binary_in_register
+decreases-binary_in_register l = 16 * max (size-TExpr l.binary.now.left.now) (size-TExpr l.binary.now.right.now) + 7
+
+abbrev pub decreases-binary_in_field : goal.decreases-binary_in_field
+decreases-binary_in_field l = 16 * max (size-TExpr l.binary.now.left.now) (size-TExpr l.binary.now.right.now) + 7
+
+abbrev pub decreases-operate_binary : goal.decreases-operate_binary
+decreases-operate_binary l = 16 * max (size-TExpr l.binary.now.left.now) (size-TExpr l.binary.now.right.now) + 8
+
+abbrev pub decreases-scalar_logical : goal.decreases-scalar_logical
+decreases-scalar_logical l = 16 * max (size-TExpr l.left.now) (size-TExpr l.right.now) + 7
+
+abbrev pub decreases-parallel_logical : goal.decreases-parallel_logical
+decreases-parallel_logical l = 16 * max (size-TExpr l.left.now) (size-TExpr l.right.now) + 7
+
+abbrev pub decreases-logical : goal.decreases-logical
+decreases-logical l = 16 * max (size-TExpr l.left.now) (size-TExpr l.right.now) + 8
+
+abbrev pub decreases-scalar_choice : goal.decreases-scalar_choice
+decreases-scalar_choice l = 16 * max (size-TExpr l.choice.now.test.now) (max (size-TExpr l.choice.now.then.now) (size-TExpr l.choice.now.otherwise.now)) + 7
+
+abbrev pub decreases-parallel_choice : goal.decreases-parallel_choice
+decreases-parallel_choice l = 16 * max (size-TExpr l.choice.now.test.now) (max (size-TExpr l.choice.now.then.now) (size-TExpr l.choice.now.otherwise.now)) + 7
+
+abbrev pub decreases-choose : goal.decreases-choose
+decreases-choose l = 16 * max (size-TExpr l.choice.now.test.now) (max (size-TExpr l.choice.now.then.now) (size-TExpr l.choice.now.otherwise.now)) + 8
+
+abbrev pub decreases-values : goal.decreases-values
+decreases-values l = 16 * goal.size-values l + 7
+
+abbrev pub decreases-locate_indexed : goal.decreases-locate_indexed
+decreases-locate_indexed l = 16 * goal.size-locate_indexed l + 8
+
+abbrev pub decreases-call : goal.decreases-call
+decreases-call l = 16 * goal.size-call l + 8
+
+abbrev pub decreases-print : goal.decreases-print
+decreases-print l = 16 * goal.size-print l + 8
+
+abbrev pub decreases-update : goal.decreases-update
+decreases-update l = 16 * max (size-TExpr l.assignment.now.target.now) (size-TExpr l.assignment.now.value.now) + 7
+
+abbrev pub decreases-assign : goal.decreases-assign
+decreases-assign l = 16 * max (size-TExpr l.assignment.now.target.now) (size-TExpr l.assignment.now.value.now) + 8
+
+abbrev pub decreases-step : goal.decreases-step
+decreases-step l = 16 * size-TExpr l.target.now + 7
+
+abbrev pub decreases-message : goal.decreases-message
+decreases-message l = 16 * size-TExpr l.source.now + 7

@@ -6,13 +6,13 @@ use Rattle.lower_stmt.proofs.LengthRows.{listed_length, block_length}
 use Rattle.lower_stmt.proofs.length.+statement_length.Goals as goal
 
 pub statement_length-loop-inner-init : goal.statement_length-loop-inner-init
-statement_length-loop-inner-init t c = grind (arith, common_steps, block_length c.args.t.now (layout c.args.names.now) c.args.has_result c.args.saved c.in-Block.locals c.in-Block.statements)
+statement_length-loop-inner-init t c = grind (arith, common_steps, block_length c.args.view.now.typed.now (layout c.args.view.now.names) c.args.has_result c.args.saved c.in-Block.locals c.in-Block.statements)
 
 pub statement_length-loop-inner-preserved : goal.statement_length-loop-inner-preserved
 unfolding listed_length
 statement_length-loop-inner-preserved t c =
     let below : c.loop-inner.inner-index < length c.deref-inner-items.result.now = omega arith in
-    let more = at_drop_more (listed_length c.args.t.now (layout c.args.names.now) c.args.has_result c.args.saved) c.deref-inner-items.result.now c.loop-inner.inner-index c.inner-item.result below in
+    let more = at_drop_more (listed_length c.args.view.now.typed.now (layout c.args.view.now.names) c.args.has_result c.args.saved) c.deref-inner-items.result.now c.loop-inner.inner-index c.inner-item.result below in
     let item = c.inner-item.is in
     grind (arith, common_steps, more, item)
 

@@ -7,5 +7,5 @@ use Rattle.lower_stmt.proofs.length.+statement_length.Given as goal
 -- what was counted so far, and the statements that are left, are the whole
 abbrev pub invariant-statement_length-loop-inner : goal.invariant-statement_length-loop-inner
 invariant-statement_length-loop-inner l =
-    l.sum + listed_length l.t (layout l.names) l.has_result l.saved (drop l.inner-index l.inner-items)
-    ≡ statement_length_of l.t (layout l.names) l.has_result l.saved l.s
+    l.sum + listed_length l.view.typed.now (layout l.view.names) l.has_result l.saved (drop l.inner-index l.inner-items)
+    ≡ statement_length_of l.view.typed.now (layout l.view.names) l.has_result l.saved l.s

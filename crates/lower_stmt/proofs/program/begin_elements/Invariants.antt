@@ -7,5 +7,5 @@ use Rattle.lower_stmt.proofs.program.begin_elements.Given as goal
 -- the elements that are left, from here on, give the whole
 abbrev pub invariant-loop-element : goal.invariant-loop-element
 invariant-loop-element l =
-    elements_begun l.t (layout l.names) l.fn.number l.value (l.elements - l.element) l.element (draft l.u)
-    ≡ elements_begun l.t (layout l.names) l.fn.number l.value l.elements 0 (draft l.fn.u)
+    elements_begun l.view.typed.now (layout l.view.names) l.fn.number l.value (l.elements - l.element) l.element (draft l.u)
+    ≡ elements_begun l.view.typed.now (layout l.view.names) l.fn.number l.value l.elements 0 (draft l.fn.u)

@@ -1,6 +1,7 @@
-use Rattle.std.proofs.Common.{◌≡◌, ◌+◌, ◌<◌, ◌==◌, drop, length, ap, arith}
+use Rattle.std.proofs.Common.{◌≡◌, ◌∙◌, ◌+◌, ◌<◌, ◌==◌, drop, length, ap, sym, arith}
 use Rattle.std.proofs.lemmas.Grind.{common_steps}
 use Rattle.std.proofs.lemmas.List.{at_drop_more}
+use Rattle.cstar_tree.specs.declared.typed.Typed.{Typed}
 use Rattle.lower_base.specs.Drafts.{Makes, draft}
 use Rattle.lower_base.specs.Layouts.{Layout, layout, layout_of}
 use Rattle.lower_stmt.specs.Programs.{instructions_in, slots_behind, unit_of, units_of}
@@ -10,15 +11,19 @@ use Rattle.lower_stmt.proofs.program.lower.Goals as goal
 pub loop-number-init : goal.loop-number-init
 unfolding layout slots_behind instructions_in
 loop-number-init c =
-    let same : layout c.in_ok-names.names ≡ layout_of c.args.t.now 0 = c.in_ok-names.ensures in
-    let end : c.in_ok-names.names.end ≡ (layout_of c.args.t.now 0).end = ap (λ (l : Layout). l.end) same in
+    let same : layout c.in_ok-view.view.names ≡ layout_of c.args.t.now 0 = c.in_ok-view.ensures.names in
+    let end : c.in_ok-view.view.names.end ≡ (layout_of c.args.t.now 0).end = ap (λ (l : Layout). l.end) same in
     let none = c.new-units.ensures.items in
-    record { known = (0, same); units = grind (arith, common_steps, end, none); each = grind (arith, common_steps, none); slots = grind (arith, common_steps, end, none); instructions = grind (arith, common_steps, none); numbered = omega arith }
+    record { known = (0, same); program = c.in_ok-view.ensures.typed; units = grind (arith, common_steps, end, none); each = grind (arith, common_steps, none); slots = grind (arith, common_steps, end, none); instructions = grind (arith, common_steps, none); numbered = omega arith }
 
 pub loop-number-preserved : goal.loop-number-preserved
 loop-number-preserved c =
     let known = c.loop-number.invariant.known in
-    let seen : layout c.enter.new.self ≡ layout_of c.args.t.now c.loop-number.number = c.in_ok-enter.ensures known.0 known.1 in
+    let same = c.loop-number.invariant.program in
+    let program : c.enter.new.self.typed.now ≡ c.args.t.now = c.enter.ensures.typed ∙ same in
+    let entered = c.in_ok-enter.ensures.names known.0 (known.1 ∙ ap (λ (t : Typed). layout_of t known.0) (sym same)) in
+    let seen : layout c.enter.new.self.names ≡ layout_of c.args.t.now c.loop-number.number =
+    entered ∙ ap (λ (t : Typed). layout_of t c.loop-number.number) same in
     let below : c.loop-number.number < length c.deref-instance-items.result.now = omega arith in
     let more =
     at_drop_more (λ instances. units_of c.args.t.now instances c.loop-number.number c.loop-number.slots) c.deref-instance-items.result.now
@@ -26,7 +31,7 @@ loop-number-preserved c =
     in
     let made : unit_of c.args.t.now (layout_of c.args.t.now c.loop-number.number) (c.loop-number.number == 0) c.loop-number.slots c.instance-item.result
     ≡ Makes tt (draft c.in_ok-unit.unit)
-    = rw (← seen) c.in_ok-unit.ensures.draft
+    = rw (← seen, ← program) c.in_ok-unit.ensures.draft
     in
     let first =
     first_unit c.args.t.now c.instance-item.result (drop (c.loop-number.number + 1) c.deref-instance-items.result.now) c.loop-number.number
@@ -43,6 +48,7 @@ loop-number-preserved c =
     let so_far = c.loop-number.invariant.units in
     record {
       known = (c.loop-number.number, seen);
+      program = program;
       units = cc (more, first, pushed, items, item, so_far);
       each = grind (arith, common_steps, items, c.loop-number.invariant.each);
       slots = cc (slots, items);

@@ -9,7 +9,8 @@ use Rattle.lower_stmt.proofs.program.lower.Given as goal
 -- are counted
 abbrev pub invariant-loop-number : goal.invariant-loop-number
 invariant-loop-number l = record {
-  known : (k : ℕ) × (layout l.names ≡ layout_of l.t k);
+  known : (k : ℕ) × (layout l.view.names ≡ layout_of l.t k);
+  program : l.view.typed.now ≡ l.t;
   units :
       map draft l.units.items ++ units_of l.t (drop l.number l.t.instances.items) l.number l.slots
       ≡ units_of l.t l.t.instances.items 0 (layout_of l.t 0).end;

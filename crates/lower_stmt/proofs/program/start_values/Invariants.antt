@@ -7,5 +7,5 @@ use Rattle.lower_stmt.proofs.program.start_values.Given as goal
 -- the variables that are left, from here on, give the whole
 abbrev pub invariant-loop-info : goal.invariant-loop-info
 invariant-loop-info l =
-    start_values_of l.t (layout l.names) (drop l.info-index l.info-items) l.number (draft l.u)
-    ≡ start_values_of l.t (layout l.names) l.info-items 0 (draft l.fn.u)
+    start_values_of l.view.typed.now (layout l.view.names) (drop l.info-index l.info-items) l.number (draft l.u)
+    ≡ start_values_of l.view.typed.now (layout l.view.names) l.info-items 0 (draft l.fn.u)

@@ -4,14 +4,14 @@ use Rattle.std.proofs.lemmas.List.{at_drop_more}
 use Rattle.lower_base.specs.Drafts.{draft, then_make}
 use Rattle.lower_base.specs.Layouts.{layout}
 use Rattle.lower_stmt.proofs.StatementRows.{listed, block_code}
-use Rattle.lower_stmt.proofs.statement.+statement.Goals as goal
+use Rattle.lower_stmt.proofs.statement.Body.+statement.Goals as goal
 
 pub statement-loop-inner-init : goal.statement-loop-inner-init
 unfolding then_make
 statement-loop-inner-init t c =
     let code =
-    block_code c.args.t.now (layout c.args.names.now) c.in-Block.locals c.in-Block.statements c.args.f c.args.p.now.contexts.items
-    c.args.p.now.declared (draft c.args.u.now)
+    block_code c.args.view.now.typed.now (layout c.args.view.now.names) c.in-Block.locals c.in-Block.statements c.args.f c.args.self.now.contexts.items
+    c.args.self.now.declared (draft c.args.self.now.unit)
     in
     record { whole = grind (arith, common_steps, code); same = refl }
 
@@ -21,7 +21,7 @@ statement-loop-inner-preserved t c =
     let below : c.loop-inner.inner-index < length c.deref-inner-items.result.now = omega arith in
     let more =
     at_drop_more
-    (λ statements. listed c.args.t.now (layout c.args.names.now) statements c.args.f c.loop-inner.p.contexts.items c.loop-inner.p.declared (draft c.loop-inner.u))
+    (λ statements. listed c.args.view.now.typed.now (layout c.args.view.now.names) statements c.args.f c.loop-inner.self.contexts.items c.loop-inner.self.declared (draft c.loop-inner.self.unit))
     c.deref-inner-items.result.now c.loop-inner.inner-index c.inner-item.result below
     in
     let item = c.inner-item.is in

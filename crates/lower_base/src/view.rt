@@ -1,0 +1,133 @@
+//! What the code of an instance is written from: the typed program, and where its variables are.
+
+ghost use Rattle.std.specs.Prelude.{◌≡◌, ℕ, IfOk, OnOk};
+ghost use Rattle.lower_base.specs.Drafts.{Makes, draft, from, an_entry};
+ghost use Rattle.lower_base.specs.Layouts.{layout, layout_of, elements_of, result_register, register_of, field_of};
+ghost use Rattle.paris_code.specs.declared.program.Owner.TheVariants as W;
+
+use crate::emit::{count, entry, plus};
+use crate::names::{Names, entries_of, own_entry};
+use cstar_base::Memory;
+use cstar_tree::typed::{Typed, VarInfo, Variable};
+use paris_code::{Field, Owner, Unit};
+use std::alloc::Global;
+
+/// A typed program as one of its instances sees it. All code of the instance is written from it.
+#[derive(Drop)]
+pub struct View<'a> {
+    /// Where memory comes from.
+    pub alloc: Global,
+    /// The program.
+    pub typed: &'a Typed,
+    /// Where its variables are.
+    pub names: Names,
+}
+
+impl<'a> View<'a> {
+    /// The program as `main` sees it. `Memory` where memory ends, or where the number of a register
+    /// or a field would be 2^32 or more.
+    pub fn of(alloc: Global, typed: &'a Typed) -> Result<View<'a>, Memory>
+        ensures typed { IfOk result (λ view. view.typed.now ≡ typed.now) }
+        ensures names { IfOk result (λ view. layout view.names ≡ layout_of typed.now 0) }
+    {
+        let names = Names::of(alloc, typed)?;
+        Ok(View {
+            alloc,
+            typed,
+            names,
+        })
+    }
+
+    /// The program as an instance sees it, whichever instance saw it before.
+    pub fn enter(&mut self, number: usize) -> Result<(), Memory>
+        ensures typed { self.new.typed.now ≡ self.old.typed.now }
+        ensures names { (k : ℕ) → layout self.old.names ≡ layout_of self.old.typed.now k → OnOk result (layout self.new.names ≡ layout_of self.old.typed.now number) }
+    {
+        self.names.enter(self.typed, number)
+    }
+
+    /// The register of a scalar variable.
+    #[tactic(auto, unfolding(crate::specs::Layouts::register_of, crate::specs::Layouts::layout))]
+    pub fn register(&self, variable: Variable) -> Result<u32, Memory>
+        ensures { IfOk result (λ r. r ≡ register_of (layout self.now.names) variable) }
+    {
+        match variable {
+            Variable::File(k) => Ok(k),
+            Variable::Param(k) => plus(self.names.base, k),
+            Variable::Local(k) => plus(plus(self.result_register()?, 1)?, k),
+        }
+    }
+
+    /// The register of a scalar result.
+    #[tactic(auto, unfolding(crate::specs::Layouts::result_register, crate::specs::Layouts::layout))]
+    pub fn result_register(&self) -> Result<u32, Memory>
+        ensures { IfOk result (λ r. r ≡ result_register (layout self.now.names)) }
+    {
+        plus(self.names.base, count(self.names.params.len())?)
+    }
+
+    /// The field of a parallel variable, or of an element of an array. A variable of the file gets
+    /// one more entry of the unit.
+    #[tactic(auto, unfolding(crate::specs::Layouts::field_of, crate::specs::Layouts::layout, crate::specs::Drafts::draft, crate::specs::Drafts::from))]
+    pub fn field(&self, variable: Variable, element: u32, u: &mut Unit) -> Result<Field, Memory>
+        ensures draft { IfOk result (λ f. field_of self.now.typed.now (layout self.now.names) variable element (draft u.old) ≡ Makes f (draft u.new)) }
+    {
+        match variable {
+            Variable::File(k) => {
+                let (Some(info), Some(first)) = (
+                    self.typed.vars.get(k as usize),
+                    self.names.files.get(k as usize),
+                ) else {
+                    return Err(Memory);
+                };
+                let number = plus(*first, element)?;
+                file_entry(u, info, number)
+            }
+            Variable::Param(k) => {
+                let Some(index) = self.names.params.get(k as usize) else {
+                    return Err(Memory);
+                };
+                own_entry(u, *index)
+            }
+            Variable::Local(k) => {
+                let Some(local) = self.names.locals.get(k as usize) else {
+                    return Err(Memory);
+                };
+                let Some(home) = u.homes.get(local.home as usize) else {
+                    return Err(Memory);
+                };
+                let index = plus(*home, element)?;
+                own_entry(u, index)
+            }
+        }
+    }
+
+    /// How many elements an array has.
+    #[tactic(auto, unfolding(crate::specs::Layouts::elements_of, crate::specs::Layouts::layout))]
+    pub fn elements(&self, variable: Variable) -> u32
+        ensures { result ≡ elements_of self.now.typed.now (layout self.now.names) variable }
+    {
+        match variable {
+            Variable::File(k) => match self.typed.vars.get(k as usize) {
+                Some(info) => entries_of(info),
+                None => 0,
+            },
+            Variable::Param(_) => 1,
+            Variable::Local(k) => match self.names.locals.get(k as usize) {
+                Some(local) => local.entries,
+                None => 0,
+            },
+        }
+    }
+}
+
+/// The field of a variable of the file, as one more entry.
+#[tactic(auto, unfolding(crate::specs::Drafts::from))]
+fn file_entry(u: &mut Unit, info: &VarInfo, number: u32) -> Result<Field, Memory>
+    ensures draft { IfOk result (λ f. from info.now.shape (λ set. an_entry set info.now.elem.bits (W.File number) (draft u.old)) ≡ Makes f (draft u.new)) }
+{
+    match info.shape {
+        Some(set) => entry(u, set, info.elem.bits, Owner::File(number)),
+        None => Err(Memory),
+    }
+}

@@ -1,0 +1,33 @@
+use Rattle.std.proofs.Common.{arith}
+use Rattle.std.proofs.lemmas.Grind.{common_steps}
+use Rattle.lower_base.specs.Layouts.{layout}
+use Rattle.lower_expr.proofs.Lists.{length_of_call, length_of_left_index, length_of_printf, spot_length_of_left_index}
+use Rattle.lower_expr.proofs.length.+length.Goals as goal
+
+pub length-returns-in_ok-located-in-LeftIndex : goal.length-returns-in_ok-located-in-LeftIndex
+length-returns-in_ok-located-in-LeftIndex t c =
+    let index = c.in-LeftIndex in
+    let code = length_of_left_index c.args.view.now.typed.now (layout c.args.view.now.names) index.ty index.place index.indexes index.variable index.of in
+    let is = index.is in
+    grind (arith, common_steps, code, is)
+
+pub length-returns-in_ok-list_length-in-Call : goal.length-returns-in_ok-list_length-in-Call
+length-returns-in_ok-list_length-in-Call t c =
+    let call = c.in-Call in
+    let code = length_of_call c.args.view.now.typed.now (layout c.args.view.now.names) call.ty call.instance call.arguments in
+    let is = call.is in
+    grind (arith, common_steps, code, is)
+
+pub length-returns-in_ok-list_length-in-Printf : goal.length-returns-in_ok-list_length-in-Printf
+length-returns-in_ok-list_length-in-Printf t c =
+    let printed = c.in-Printf in
+    let code = length_of_printf c.args.view.now.typed.now (layout c.args.view.now.names) printed.ty printed.pieces printed.arguments in
+    let is = printed.is in
+    grind (arith, common_steps, code, is)
+
+pub spot_length-returns-in-LeftIndex : goal.spot_length-returns-in-LeftIndex
+spot_length-returns-in-LeftIndex t c =
+    let index = c.in-LeftIndex in
+    let code = spot_length_of_left_index c.args.view.now.typed.now (layout c.args.view.now.names) index.ty index.place index.indexes index.variable index.of in
+    let is = index.is in
+    grind (arith, common_steps, code, is)

@@ -1,0 +1,42 @@
+use Rattle.std.proofs.Common.{◌≡◌, ◌+◌, ◌*◌, drop, max}
+use Rattle.cstar_tree.specs.declared.typed.TStmt.{size-TStmt}
+use Rattle.cstar_tree.specs.declared.typed.TStmt.TheShapes.{weighed-TStmt-If-2}
+use Rattle.lower_base.specs.Drafts.{draft}
+use Rattle.lower_base.specs.Layouts.{layout}
+use Rattle.lower_stmt.proofs.StatementRows.{listed}
+use Rattle.lower_stmt.specs.Bodies.{code_in}
+use Rattle.lower_stmt.proofs.statement.Body.+statement.Given as goal
+
+-- a function that is handed the parts of a statement comes before those that it hands them on to
+abbrev pub decreases-statement : goal.decreases-statement
+decreases-statement l = 4 * goal.size-statement l
+
+abbrev pub decreases-within : goal.decreases-within
+decreases-within l = 4 * goal.size-within l + 1
+
+abbrev pub decreases-turns : goal.decreases-turns
+decreases-turns l = 4 * goal.size-turns l + 1
+
+abbrev pub decreases-jump_over : goal.decreases-jump_over
+decreases-jump_over l = 4 * goal.size-jump_over l + 1
+
+abbrev pub decreases-repeat_while : goal.decreases-repeat_while
+decreases-repeat_while l = 4 * size-TStmt l.body.now.value + 2
+
+abbrev pub decreases-repeat_for : goal.decreases-repeat_for
+decreases-repeat_for l = 4 * size-TStmt l.body.now.value + 2
+
+abbrev pub decreases-branch : goal.decreases-branch
+decreases-branch l = 4 * max (size-TStmt l.then.now.value) (weighed-TStmt-If-2.weight _ size-TStmt l.otherwise.now) + 2
+
+abbrev pub decreases-narrow_and_run : goal.decreases-narrow_and_run
+decreases-narrow_and_run l = 4 * max (size-TStmt l.then.now.value) (weighed-TStmt-If-2.weight _ size-TStmt l.otherwise.now) + 2
+
+-- the statements that are left, from here on, give the whole, and the saved contexts are the same
+abbrev pub invariant-statement-loop-inner : goal.invariant-statement-loop-inner
+invariant-statement-loop-inner l = record {
+  whole :
+      listed l.view.typed.now (layout l.view.names) (drop l.inner-index l.inner-items) l.f l.self.contexts.items l.self.declared (draft l.self.unit)
+      ≡ code_in l.view l.s l.f l.fn.self;
+  same : l.self.contexts.items ≡ l.fn.self.contexts.items;
+}
