@@ -6,6 +6,7 @@ use Rattle.cstar_base.specs.declared.faults.Fault.{Fault}
 use Rattle.cstar_base.specs.declared.faults.Fault.TheVariants as F
 use Rattle.cstar_base.specs.declared.operators.Place.{Place}
 use Rattle.cstar_base.specs.declared.operators.Winner.{Winner}
+use Rattle.cstar_base.specs.declared.operators.Winner.TheVariants as W
 use Rattle.cstar_base.specs.declared.memory.Memory.{Memory}
 use Rattle.cstar_io.specs.Faults.{RisesBy}
 use Rattle.cstar_io.specs.Output.{Takes, TakesNothing}
@@ -21,12 +22,15 @@ use Rattle.paris_machine.specs.declared.outcome.End.TheVariants as E
 use Rattle.cstar_top.specs.declared.answer.Answer.{Answer}
 use Rattle.cstar_top.specs.declared.answer.Answer.TheVariants as A
 use Rattle.cstar_top.specs.Answers.{line_of, status_of}
-use Rattle.cstar_top.specs.Courses.{Course, Feeds, IsCourse, Reports, answer_to_end, closing, closing_text, report, where_asked}
-use Rattle.cstar_top.specs.Modes.{AsksFor, named}
+use Rattle.cstar_top.specs.Courses.{Answers, answer_to_end, closing, closing_text, report, where_asked}
+use Rattle.cstar_top.specs.Modes.{AsksFor, limit_of, named, reads_file}
 use Rattle.cstar_top.specs.Outcomes.{CanFollow}
-use Rattle.cstar_top.specs.Refusals.{AsksToRead, CanName, HoldsLong, RefusesLong, file_start}
-use Rattle.cstar_top.specs.Reported.{AsksToRun, Holds, IsImageOf, IsWhole, ReportsText, ReportsTextPart}
-use Rattle.cstar_top.specs.Reports.{PutsAnswer}
+use Rattle.cstar_top.specs.Refusals.{CanName, HoldsLong, RefusesLong}
+use Rattle.cstar_top.specs.Reported.{AsksToRun, Begins, Holds, IsWhole, ReportsText, ReportsTextPart}
+use Rattle.cstar_top.specs.Reports.{PutsAnswer, name_in, told_name}
+use Rattle.point_runs.specs.Courses.{Course, Feeds, IsCourse}
+use Rattle.point_runs.specs.Refusals.{file_start}
+use Rattle.point_runs.specs.Starts.{Origin}
 use Rattle.batch_jobs.specs.Answering.{IsRunOf, ReportsRefusal, ReportsRun, ReportsTooMuch, AnswersJob, has_ended, words_of_job}
 use Rattle.batch_jobs.specs.Pages.{MayHave}
 use Rattle.batch_jobs.proofs.Words.{IsPlain, file_of_job, is_job_command, mode_of_job, plain}
@@ -68,8 +72,8 @@ report_is options image course finals listing =
     rw (finals, listing) (ap (λ (xs : List ℕ). course.printed ++ xs) (closing_none course.end) ∙ append-nil course.printed)
 
 -- the statuses that are left
-pub kinds : (s : ℕ) → s ≤ 8 → s ≢ 2 → s ≢ 5 → s ≢ 6 → s ≢ 7 → s ≢ 8 → (s ≡ 3) ⊎ IsWhole s
-kinds s most two five six seven eight = elim (cases_lt 3 s) [
+pub kinds : (s : ℕ) → s ≤ 9 → s ≢ 2 → s ≢ 5 → s ≢ 6 → s ≢ 7 → s ≢ 8 → s ≢ 9 → (s ≡ 3) ⊎ IsWhole s
+kinds s most two five six seven eight nine = elim (cases_lt 3 s) [
   | inl above ↦ inr (inr (inr (inl (omega arith))))
   | inr below ↦ elim (cases_lt 2 s) [
     | inl three ↦ inl (omega arith)
@@ -92,8 +96,19 @@ ended turns E.Memory s is six seven eight = absurd (eight (sym is))
 asks_to_run : (name : List ℕ) → AsksToRun (words_of_job name)
 asks_to_run name = (M.Run, mode_of_job name, refl)
 
-asks_to_read : (name : List ℕ) → AsksToRead (words_of_job name)
-asks_to_read name = (M.Run, mode_of_job name, refl)
+-- the answer to an end tells the name of the file
+told_end : (options : Options) (turns : ℕ) (end : End) → told_name options (answer_to_end turns end) ≡ options.file.now
+told_end options turns E.Done = refl
+told_end options turns (E.Fault kind place position) = refl
+told_end options turns E.Stopped = refl
+told_end options turns E.InputBroken = refl
+told_end options turns E.OutputBroken = refl
+told_end options turns E.Memory = refl
+
+-- an answer that is not that the run cannot be saved is that to the end
+ends_so : (turns : ℕ) (end : End) (answer : Answer) → status_of answer ≢ 9 → Answers turns end answer → answer ≡ answer_to_end turns end
+ends_so turns end answer other (inl is) = is
+ends_so turns end answer other (inr said) = absurd (other (ap status_of said.0))
 
 name_is : (name : List ℕ) → named (words_of_job name) ≡ name
 name_is name = ap (λ (o : Option (List ℕ)). unwrap_or o []) (file_of_job name)
@@ -109,21 +124,21 @@ same : {A : Type 0} (x y : A) → Some x ≡ Some y → x ≡ y
 same x y is = ap (λ (o : Option _). unwrap_or o x) is
 
 -- an image of the file and a course of it, as the command tells them, are a run of the job
-run_of : (name file text : List ℕ) (options : Options) (image : Image) (course : Course) (left rest : Option (List ℕ)) → IsPlain name options → file ≡ text → left ≡ Some []
-    → IsImageOf options.mode text image → IsCourse image options.winner options.turns course → Feeds course left rest → IsRunOf file image course
-run_of name file text options image course left rest is here none of_text goes feeds = (
-  subst (λ (xs : List ℕ). IsImageOf M.Run xs image) (sym here) (subst (λ (mode : Mode). IsImageOf mode text image) is.mode of_text),
-  subst (λ (winner : Winner). IsCourse image winner 1000000 course) is.winner (subst (λ (turns : ℕ). IsCourse image options.winner turns course) is.turns goes),
-  (rest, subst (λ (xs : Option (List ℕ)). Feeds course xs rest) none feeds),
+run_of : (name file text : List ℕ) (options : Options) (from : Origin) (course : Course) (left rest : Option (List ℕ)) → IsPlain name options → file ≡ text → left ≡ Some []
+    → Begins options.mode options.winner text from → IsCourse from options.turns course → Feeds from course left rest → IsRunOf file from course
+run_of name file text options from course left rest is here none of_text goes feeds = (
+  subst (λ (xs : List ℕ). Begins M.Run W.High xs from) (sym here) (subst (λ (winner : Winner). Begins M.Run winner text from) is.winner (subst (λ (mode : Mode). Begins mode options.winner text from) is.mode of_text)),
+  subst (λ (turns : ℕ). IsCourse from turns course) is.turns goes,
+  (rest, subst (λ (xs : Option (List ℕ)). Feeds from course xs rest) none feeds),
 )
 
 -- what the command says of a run that came to an end, and of the output of any
-abbrev pub WholeOf : List (List ℕ) → ℕ → ℕ → Held → Held → Held → Held → Option (List ℕ) → Option (List ℕ) → List ℕ → Type 0
-WholeOf words status err_limit out out' err err' left rest file =
+abbrev pub WholeOf : List (List ℕ) → ℕ → ℕ → Held → Held → Held → Held → Option (List ℕ) → Option (List ℕ) → List ℕ → (Options → Origin → Course → Type 0) → Type 0
+WholeOf words status err_limit out out' err err' left rest file More =
     AsksToRun words → IsWhole status
     → (options : Options) × Reads (rows_in words) options × ((text : List ℕ) × Holds tells held_under file options.file.now text
-    × ((answer : Answer) × (status_of answer ≡ status) × Takes (may_have err_limit) err err' (line_of options.file.now answer)
-    × ReportsText (may_have 1048576) out out' left rest options text answer))
+    × ((answer : Answer) × (status_of answer ≡ status) × Takes (may_have err_limit) err err' (line_of (told_name options answer) answer)
+    × ReportsText (may_have 1048576) out out' left rest options text answer (More options)))
 
 abbrev pub PartOf : List (List ℕ) → Held → Held → Option (List ℕ) → Option (List ℕ) → List ℕ → Type 0
 PartOf words out out' left rest file =
@@ -134,34 +149,35 @@ PartOf words out out' left rest file =
 -- what it says to a text that is too long
 abbrev pub LongOf : List (List ℕ) → ℕ → ℕ → Held → Held → List ℕ → Type 0
 LongOf words status err_limit err err' file =
-    is_command words ≡ true → AsksToRead words → HoldsLong tells held_under file (named words)
+    is_command words ≡ true → (mode : Mode) → AsksFor mode words → reads_file mode ≡ true → HoldsLong tells held_under file (limit_of mode) (named words)
     → RefusesLong (may_have err_limit) err err' (named words) status
 
 -- a run that came to an end
-pub run_told : (name file : List ℕ) (words : List (List ℕ)) (status err_limit : ℕ) (out out' err err' : Held) (left rest : Option (List ℕ)) → words ≡ words_of_job name → left ≡ Some [] → IsWhole status → status ≢ 7
+pub run_told : (name file : List ℕ) (words : List (List ℕ)) (status err_limit : ℕ) (out out' err err' : Held) (left rest : Option (List ℕ)) (More : Options → Origin → Course → Type 0) → words ≡ words_of_job name → left ≡ Some [] → IsWhole status → status ≢ 7 → status ≢ 9
     → IsEmpty out → IsEmpty err → out'.faults ≡ 0 → err'.faults ≡ 0 → length out'.bytes ≤ 1048576
-    → WholeOf words status err_limit out out' err err' left rest file → ReportsRun name file (record { status = status; out = out'.bytes; err = err'.bytes })
-run_told name file words status err_limit out out' err err' left rest asked none whole seven empty silent out_whole err_whole within reported =
+    → WholeOf words status err_limit out out' err err' left rest file More → ReportsRun name file (record { status = status; out = out'.bytes; err = err'.bytes })
+run_told name file words status err_limit out out' err err' left rest More asked none whole seven nine empty silent out_whole err_whole within reported =
     let told = reported (subst AsksToRun (sym asked) (asks_to_run name)) whole in
     let options = told.0 in
     let is = plain name options (subst (λ (ws : List (List ℕ)). Reads (rows_in ws) options) asked told.1) in
     let text = told.2.0 in
     let here = same file text (told.2.1 refl) in
     let answer = told.2.2.0 in
-    let image = told.2.2.3.0 in
+    let from = told.2.2.3.0 in
     let of_text = told.2.2.3.1 in
     let ran = told.2.2.3.2 in
     let course = ran.0 in
-    let ending : answer ≡ answer_to_end 1000000 course.end = ran.3 ∙ ap (λ (turns : ℕ). answer_to_end turns course.end) is.turns in
+    let ending : answer ≡ answer_to_end 1000000 course.end = ends_so options.turns course.end answer (λ is_nine. nine (sym told.2.2.1 ∙ is_nine)) ran.3 ∙ ap (λ (turns : ℕ). answer_to_end turns course.end) is.turns in
     let status_is : status ≡ status_of (answer_to_end 1000000 course.end) = sym told.2.2.1 ∙ ap status_of ending in
-    let line = took err_limit err err' (line_of options.file.now answer) silent err_whole told.2.2.2 in
-    let printed = took 1048576 out out' (report options image course) empty out_whole ran.4 ∙ report_is options image course is.finals is.listing in (
-      image,
+    let line = took err_limit err err' (line_of (told_name options answer) answer) silent err_whole told.2.2.2 in
+    let named_is = ap (told_name options) ending ∙ told_end options 1000000 course.end ∙ is.file in
+    let printed = took 1048576 out out' (report options from.image course) empty out_whole ran.4 ∙ report_is options from.image course is.finals is.listing in (
+      from,
       (
         course,
-        run_of name file text options image course left rest is here none of_text ran.1 ran.2,
+        run_of name file text options from course left rest is here none of_text ran.1 ran.2,
         ended 1000000 course.end status (sym status_is) (λ six. not_six status whole six) seven (λ eight. not_eight status whole eight),
-        (status_is, line ∙ ap (λ (xs : List ℕ). line_of xs answer) is.file ∙ ap (λ (a : Answer). line_of name a) ending),
+        (status_is, line ∙ ap (λ (xs : List ℕ). line_of xs answer) named_is ∙ ap (λ (a : Answer). line_of name a) ending),
         printed,
         subst (λ (xs : List ℕ). length xs ≤ 1048576) printed within,
       ),
@@ -171,13 +187,15 @@ run_told name file words status err_limit out out' err err' left rest asked none
     not_six s (inl is) six = omega arith
     not_six s (inr (inl is)) six = omega arith
     not_six s (inr (inr (inl is))) six = omega arith
-    not_six s (inr (inr (inr is))) six = omega arith
+    not_six s (inr (inr (inr (inl is)))) six = omega arith
+    not_six s (inr (inr (inr (inr is)))) six = omega arith
 
     not_eight : (s : ℕ) → IsWhole s → s ≡ 8 → ⊥
     not_eight s (inl is) eight = omega arith
     not_eight s (inr (inl is)) eight = omega arith
     not_eight s (inr (inr (inl is))) eight = omega arith
-    not_eight s (inr (inr (inr is))) eight = omega arith
+    not_eight s (inr (inr (inr (inl is)))) eight = omega arith
+    not_eight s (inr (inr (inr (inr is)))) eight = omega arith
 
 -- a refusal, and what the words can be refused for
 refusal_is : (name : List ℕ) (answer : Answer) → status_of answer ≡ 3 → CanFollow (words_of_job name) answer
@@ -193,13 +211,14 @@ refusal_is name A.CannotRead is can = absurd (omega arith)
 refusal_is name A.WriteFault is can = absurd (omega arith)
 refusal_is name A.InputFault is can = absurd (omega arith)
 refusal_is name A.Memory is can = absurd (omega arith)
+refusal_is name A.CannotSave is can = absurd (omega arith)
 
 -- a file that is refused
 pub refusal_told : (name file : List ℕ) (words : List (List ℕ)) (status err_limit : ℕ) (out err err' : Held) → words ≡ words_of_job name → status ≡ 3 → IsEmpty out → IsEmpty err → err'.faults ≡ 0
     → PutsAnswer (may_have err_limit) err err' words status
     → LongOf words status err_limit err err' file → ReportsRefusal name file (record { status = status; out = out.bytes; err = err'.bytes })
 refusal_told name file words status err_limit out err err' asked three empty silent whole told long = elim (cases_lt 1048576 (length file)) [
-  | inl more ↦ elim (long (ap is_command asked ∙ is_job_command name) (subst AsksToRead (sym asked) (asks_to_read name)) (refl, (file, refl, more))) [
+  | inl more ↦ elim (long (ap is_command asked ∙ is_job_command name) M.Run (subst (λ (ws : List (List ℕ)). AsksFor M.Run ws) (sym asked) (mode_of_job name)) refl (refl, (file, refl, more))) [
     | inl refused ↦ (
       F.TooLong,
       (
@@ -220,7 +239,7 @@ refusal_told name file words status err_limit out err err' asked three empty sil
       refused.1.0,
       refused.1.2,
       (λ more. absurd (omega arith)),
-      (three, took err_limit err err' _ silent whole told.3 ∙ ap (λ (xs : List ℕ). line_of xs told.0) (ap named asked ∙ name_is name) ∙ ap (λ (a : Answer). line_of name a) refused.1.1),
+      (three, took err_limit err err' _ silent whole told.3 ∙ ap (λ (a : Answer). line_of (name_in words a) a) refused.1.1 ∙ ap (λ (xs : List ℕ). line_of xs (A.Refused refused.0 refused.1.0)) (ap named asked ∙ name_is name)),
       empty.none,
     ),
   )
@@ -241,20 +260,20 @@ too_much_told name file words out out' left rest told asked none empty over own 
         × ReportsTextPart (may_have 1048576) out out' left rest options text))
         → ReportsTooMuch file told
     go (inl nothing) = absurd (omega (arith, (nothing [] start).1 over))
-    go (inr (options, reads, (text, holds, (image, of_text, inl (count, first))))) =
+    go (inr (options, reads, (text, holds, (from, of_text, inl (count, first))))) =
         let is = plain name options (subst (λ (ws : List (List ℕ)). Reads (rows_in ws) options) asked reads) in
-        let more : 1048576 < length (take count (where_asked options.listing (listing image))) = (first [] start).1 over in
-        let less : 1048576 < length (take count (where_asked false (listing image))) = subst (λ (b : Bool). 1048576 < length (take count (where_asked b (listing image)))) is.listing more in
-        absurd (omega (arith, less, length-take count (where_asked false (listing image))))
-    go (inr (options, reads, (text, holds, (image, of_text, inr (course, goes, feeds, (count, first)))))) =
+        let more : 1048576 < length (take count (where_asked options.listing (listing from.image))) = (first [] start).1 over in
+        let less : 1048576 < length (take count (where_asked false (listing from.image))) = subst (λ (b : Bool). 1048576 < length (take count (where_asked b (listing from.image)))) is.listing more in
+        absurd (omega (arith, less, length-take count (where_asked false (listing from.image))))
+    go (inr (options, reads, (text, holds, (from, of_text, inr (course, goes, feeds, (count, first)))))) =
         let is = plain name options (subst (λ (ws : List (List ℕ)). Reads (rows_in ws) options) asked reads) in
-        let more : 1048576 < length (take count (report options image course)) = (first [] start).1 over in
-        let printed : length (report options image course) ≡ length course.printed = ap length (report_is options image course is.finals is.listing) in (
-          image,
+        let more : 1048576 < length (take count (report options from.image course)) = (first [] start).1 over in
+        let printed : length (report options from.image course) ≡ length course.printed = ap length (report_is options from.image course is.finals is.listing) in (
+          from,
           (
             course,
-            run_of name file text options image course left rest is (same file text (holds refl)) none of_text goes feeds,
-            omega (arith, more, printed, length-take count (report options image course)),
+            run_of name file text options from course left rest is (same file text (holds refl)) none of_text goes feeds,
+            omega (arith, more, printed, length-take count (report options from.image course)),
             own.0,
             own.1,
             own.2,

@@ -11,7 +11,8 @@ use Rattle.paris_code.specs.Sound.{IsSound}
 use Rattle.paris_machine.specs.declared.outcome.End.{End}
 use Rattle.paris_machine.specs.declared.outcome.End.TheVariants as E
 use Rattle.cstar_io.specs.declared.sink.SureSink.{SureSink}
-use Rattle.cstar_top.specs.Courses.{Course, Feeds, IsCourse}
+use Rattle.point_runs.specs.Courses.{Course, Feeds, IsCourse}
+use Rattle.point_runs.specs.Starts.{new_start}
 use Rattle.cstar_top.specs.Drills.{IsDrillLine, IsRunLine, drill_line}
 
 -- the line on a run of an image of the drill's text is that of the drill
@@ -23,7 +24,7 @@ of_text seed winner text count line is read ran = (
 )
 
 -- the line on a run that came to its end
-pub of_run : (image : Image) (winner : Winner) (tokens turns bytes total : ℕ) (course : Course) (rest : Option (List ℕ)) → IsCourse image winner 1000000 course → Feeds course (Some []) rest → course.end ≡ E.Done → turns ≡ 1000000 - course.left → length course.printed % 2 ^ 64 ≡ bytes → sum course.printed % 2 ^ 32 ≡ total → IsRunLine image winner tokens (drill_line tokens turns bytes total)
+pub of_run : (image : Image) (winner : Winner) (tokens turns bytes total : ℕ) (course : Course) (rest : Option (List ℕ)) → IsCourse (new_start image winner) 1000000 course → Feeds (new_start image winner) course (Some []) rest → course.end ≡ E.Done → turns ≡ 1000000 - course.left → length course.printed % 2 ^ 64 ≡ bytes → sum course.printed % 2 ^ 32 ≡ total → IsRunLine image winner tokens (drill_line tokens turns bytes total)
 of_run image winner tokens turns bytes total course rest is feeds done spent counted summed =
     let line = ap (λ (n : ℕ). drill_line tokens n bytes total) spent
     ∙ ap (λ (n : ℕ). drill_line tokens (1000000 - course.left) n total) (sym counted)

@@ -1,5 +1,4 @@
 pub mod Asked
-pub mod Assembled
 pub mod Compiled
 pub mod Courses
 pub mod Drills
@@ -8,4 +7,6 @@ pub mod Listings
 pub mod Outcomes
 pub mod Refusals
 pub mod Reported
+pub mod Starting
+pub mod Stopping
 pub mod TypingFaults

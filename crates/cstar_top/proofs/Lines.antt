@@ -23,6 +23,7 @@ memory_line file A.CannotRead e = absurd (omega arith)
 memory_line file A.WriteFault e = absurd (omega arith)
 memory_line file A.InputFault e = absurd (omega arith)
 memory_line file A.Memory e = refl
+memory_line file A.CannotSave e = absurd (omega arith)
 
 -- a status below 6 is the answer's
 pub status_is : (n r s : ℕ) → n < 6 → (r ≡ s) ⊎ ((r ≡ 6) ⊎ (r ≡ 8)) → r ≡ n → s ≡ n

@@ -18,6 +18,7 @@ status_of A.CannotRead = 5
 status_of A.WriteFault = 6
 status_of A.InputFault = 7
 status_of A.Memory = 8
+status_of A.CannotSave = 9
 
 -- `FILE:LINE:COL: `
 abbrev pub at_place : List ℕ → Place → List ℕ
@@ -44,7 +45,8 @@ abbrev pub usage_line : List ℕ
 usage_line =
     codes "usage: cstar [--mode run|list|check|drill|asm|resume] [--workers N] [--turns N] [--finals] [--listing] [--seed N] [--winner high|low] [--save NAME] FILE\n"
 
--- the line that an answer puts for the file of this name; nothing for a command that went well, or whose output failed
+-- the line that an answer puts, with the name of the file, or of the point that cannot be saved; nothing for a
+-- command that went well, or whose output failed
 unfoldable pub line_of : List ℕ → Answer → List ℕ
 line_of file A.Done = []
 line_of file (A.Fault fault place position) = at_place file place ++ fault_text fault ++ at_position position ++ codes "\n"
@@ -55,3 +57,4 @@ line_of file A.CannotRead = codes "cannot read " ++ file ++ codes "\n"
 line_of file A.WriteFault = []
 line_of file A.InputFault = codes "input fault\n"
 line_of file A.Memory = codes "out of memory\n"
+line_of name A.CannotSave = codes "cannot save " ++ name ++ codes "\n"

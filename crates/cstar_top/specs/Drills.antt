@@ -11,7 +11,8 @@ use Rattle.drill_text.specs.Text.{drill}
 use Rattle.paris_code.specs.declared.program.Image.{Image}
 use Rattle.paris_code.specs.Sound.{IsSound}
 use Rattle.paris_machine.specs.declared.outcome.End.TheVariants as E
-use Rattle.cstar_top.specs.Courses.{Course, Feeds, IsCourse}
+use Rattle.point_runs.specs.Courses.{Course, Feeds, IsCourse}
+use Rattle.point_runs.specs.Starts.{new_start}
 
 -- `tokens T turns K bytes B sum Z`
 unfoldable pub drill_line : ℕ → ℕ → ℕ → ℕ → List ℕ
@@ -23,7 +24,7 @@ drill_line tokens turns bytes total =
 -- 1,000,000 turns, of which it spent these, and printed so many bytes of this sum.
 abbrev pub IsRunLine : Image → Winner → ℕ → List ℕ → Type 0
 IsRunLine image winner tokens line =
-    (course : Course) × IsCourse image winner 1000000 course × ((rest : Option (List ℕ)) × Feeds course (Some []) rest)
+    (course : Course) × IsCourse (new_start image winner) 1000000 course × ((rest : Option (List ℕ)) × Feeds (new_start image winner) course (Some []) rest)
     × (course.end ≡ E.Done)
     × (line ≡ drill_line tokens (1000000 - course.left) (length course.printed % 2 ^ 64) (sum course.printed % 2 ^ 32))
 

@@ -1,5 +1,4 @@
 pub mod Answers
-pub mod Assembled
 pub mod Courses
 pub mod Drills
 pub mod Listings
@@ -9,3 +8,4 @@ pub mod Refusals
 pub mod Reported
 pub mod Reports
 pub mod Runs
+pub mod Saved

@@ -1,14 +1,18 @@
 -- The report of the command in the modes that run the image of a file.
 use Rattle.std.specs.Prelude.{◌≡◌, ◌≤◌, ℕ, Bool, true, ◌⊎◌, List, Option, Some, IsTrue, length}
+use Rattle.cstar_base.specs.declared.operators.Winner.{Winner}
+use Rattle.cstar_compile.specs.Compiled.{IsOfProgram}
 use Rattle.cstar_words.specs.declared.options.Mode.{Mode}
 use Rattle.cstar_words.specs.declared.options.Mode.TheVariants as M
 use Rattle.cstar_words.specs.declared.options.Options.{Options}
 use Rattle.paris_code.specs.declared.program.Image.{Image}
 use Rattle.paris_code.specs.Listing.{listing}
 use Rattle.paris_code.specs.Sound.{IsSound}
+use Rattle.point_runs.specs.Assembled.{FitsMachine}
+use Rattle.point_runs.specs.Courses.{Course}
+use Rattle.point_runs.specs.Points.{Resumes}
+use Rattle.point_runs.specs.Starts.{Origin, new_start}
 use Rattle.cstar_top.specs.declared.answer.Answer.{Answer}
-use Rattle.cstar_compile.specs.Compiled.{IsOfProgram}
-use Rattle.cstar_top.specs.Assembled.{FitsMachine}
 use Rattle.cstar_top.specs.Courses.{Reports, ReportsPart}
 use Rattle.cstar_top.specs.Modes.{AsksFor, runs_image}
 
@@ -16,26 +20,30 @@ use Rattle.cstar_top.specs.Modes.{AsksFor, runs_image}
 abbrev pub AsksToRun : List (List ℕ) → Type 0
 AsksToRun words = (mode : Mode) × AsksFor mode words × (runs_image mode ≡ true)
 
--- the statuses of runs whose output was taken whole: they came to an end, a fault, the last turn, or a failed input
+-- the statuses of runs whose output was taken whole: they came to an end, a fault, the last turn, or a failed
+-- input, or stopped and cannot be saved
 abbrev pub IsWhole : ℕ → Type 0
-IsWhole status = (status ≡ 0) ⊎ ((status ≡ 1) ⊎ ((status ≡ 4) ⊎ (status ≡ 7)))
+IsWhole status = (status ≡ 0) ⊎ ((status ≡ 1) ⊎ ((status ≡ 4) ⊎ ((status ≡ 7) ⊎ (status ≡ 9))))
 
--- An image of a text of no more than 2^20 bytes keeps the image rules. In mode asm the text is its
--- listing, and the machine has what it asks for; else the image is what the compiler makes of a typed
--- program.
-abbrev pub IsImageOf : Mode → List ℕ → Image → Type 0
-IsImageOf M.Asm text image = (length text ≤ 1048576) × IsSound image × (listing image ≡ text) × FitsMachine image
-IsImageOf _ text image = (length text ≤ 1048576) × IsSound image × IsOfProgram image
+-- Where a run of a text of no more than 2^20 bytes begins: it is a new run of an image that keeps the image
+-- rules. In mode asm the text is its listing, and the machine has what it asks for; else the image is what
+-- the compiler makes of a typed program. In mode resume the run goes on from the point that the text is.
+abbrev pub Begins : Mode → Winner → List ℕ → Origin → Type 0
+Begins M.Asm winner text from =
+    (image : Image) × (length text ≤ 1048576) × IsSound image × (listing image ≡ text) × FitsMachine image × (from ≡ new_start image winner)
+Begins M.Resume winner text from = Resumes text from
+Begins _ winner text from =
+    (image : Image) × (length text ≤ 1048576) × IsSound image × IsOfProgram image × (from ≡ new_start image winner)
 
--- a sink took the report of an image of the text
-abbrev pub ReportsText : {O : Type 0} → (O → List ℕ → Type 0) → O → O → Option (List ℕ) → Option (List ℕ) → Options → List ℕ → Answer → Type 0
-ReportsText agrees old new left rest options text answer =
-    (image : Image) × IsImageOf options.mode text image × Reports agrees old new left rest options image answer
+-- a sink took the report of a run of the text
+abbrev pub ReportsText : {O : Type 0} → (O → List ℕ → Type 0) → O → O → Option (List ℕ) → Option (List ℕ) → Options → List ℕ → Answer → (Origin → Course → Type 0) → Type 0
+ReportsText agrees old new left rest options text answer More =
+    (from : Origin) × Begins options.mode options.winner text from × Reports agrees old new left rest options from answer (More from)
 
 -- a sink took the first bytes of such a report
 abbrev pub ReportsTextPart : {O : Type 0} → (O → List ℕ → Type 0) → O → O → Option (List ℕ) → Option (List ℕ) → Options → List ℕ → Type 0
 ReportsTextPart agrees old new left rest options text =
-    (image : Image) × IsImageOf options.mode text image × ReportsPart agrees old new left rest options image
+    (from : Origin) × Begins options.mode options.winner text from × ReportsPart agrees old new left rest options from
 
 -- a shelf that tells its files holds this text under the name
 abbrev pub Holds : {S : Type 0} → (S → Bool) → (S → List ℕ → Option (List ℕ)) → S → List ℕ → List ℕ → Type 0

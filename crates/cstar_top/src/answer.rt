@@ -26,6 +26,7 @@ pub enum Answer {
     WriteFault,
     InputFault,
     Memory,
+    CannotSave,
 }
 
 impl Answer {
@@ -43,6 +44,7 @@ impl Answer {
             Answer::WriteFault => 6,
             Answer::InputFault => 7,
             Answer::Memory => 8,
+            Answer::CannotSave => 9,
         }
     }
 }

@@ -5,55 +5,29 @@ ghost use Rattle.cstar_base.specs.declared.faults.Fault.TheVariants as F;
 ghost use Rattle.cstar_lexer.specs.Reading.{IsText};
 ghost use Rattle.cstar_tree.specs.declared.token.Token.{Token};
 ghost use Rattle.cstar_tree.specs.IsTyped.{IsTyped};
-ghost use Rattle.image_check.specs.Errors.{IsRefusalOf};
-ghost use Rattle.cstar_top.specs.declared.compile.NoImage.TheVariants as N;
+ghost use Rattle.paris_code.specs.Sound.{IsSound};
+ghost use Rattle.point_runs.specs.declared.refusal.NoImage.TheVariants as N;
+ghost use Rattle.point_runs.specs.Refusals.{file_start};
 ghost use Rattle.cstar_compile.specs.Compiled.{IsCompiled};
-ghost use Rattle.cstar_top.specs.Refusals.{IsOfText, NamesOnly, file_start};
+ghost use Rattle.cstar_top.specs.Refusals.{IsOfText, NamesOnly};
 
-use cstar_base::{Fault, Memory, Place};
+use cstar_base::{Fault, Place};
 use cstar_compile::image_of;
 use cstar_lexer::{LexFault, lex};
 use cstar_parser::{ParseFault, parse};
 use cstar_tree::syntax::Tree;
 use cstar_tree::token::Tokens;
 use cstar_tree::typed::Typed;
-use image_check::{CheckErr, Sound, verify};
-use paris_code::Image;
+use image_check::{CheckErr, Sound};
+use point_runs::{FILE_LIMIT, FILE_START, NoImage, refused, too_long, verified};
 use shape_types::{TypeFault, check};
 use std::alloc::Global;
-
-/// The greatest length of a file, in bytes.
-pub const FILE_LIMIT: u32 = 1_048_576;
-
-/// How many units, and how many instructions, 32 bits can number.
-const MOST_NUMBERED: usize = u32::MAX as usize;
-
-/// Where a fault of a whole file is told.
-pub const FILE_START: Place = Place { line: 1, col: 1 };
-
-/// Why there is no image of a file: it is refused for this fault at this place, or there is no
-/// memory.
-#[derive(Clone, Copy)]
-pub enum NoImage {
-    Refused { fault: Fault, place: Place },
-    Memory,
-}
 
 /// A text that the language accepts: how many tokens it has, and its typed program.
 #[derive(Drop)]
 pub struct TypedText {
     pub tokens: usize,
     pub typed: Typed,
-}
-
-impl From<Memory> for NoImage {
-    ghost use Rattle.cstar_top.specs.declared.compile.NoImage.TheVariants.{Memory};
-
-    ghost from_gives = { λ _ no_image. no_image ≡ Memory };
-
-    fn from(_error: Memory) -> NoImage {
-        NoImage::Memory
-    }
 }
 
 /// The typed program of a file's text. The first fault is that of the length, then of the words of
@@ -97,7 +71,9 @@ fn accepted_tokens(alloc: Global, tokens: &Tokens) -> Result<TypedText, NoImage>
 /// The checked image of a typed program. That every image of the compiler keeps the image rules is
 /// not proved yet; one that did not would be refused as a form that is not built.
 pub fn compile(alloc: Global, typed: &Typed) -> Result<Sound, NoImage>
+    requires { IsTyped typed.now }
     ensures compiled { IfOk result (λ sound. IsCompiled typed.now sound) }
+    ensures sound { IfOk result IsSound }
     ensures refused { IfErr result (NamesOnly (λ fault. fault ≡ F.NotBuilt)) }
 {
     let Ok(image) = image_of(alloc, typed) else {
@@ -110,37 +86,11 @@ pub fn compile(alloc: Global, typed: &Typed) -> Result<Sound, NoImage>
     }
 }
 
-/// The image with the proof that it keeps the image rules, or its first fault. Units or instructions
-/// past the numbers of 32 bits count as want of memory.
-pub fn verified(alloc: Global, image: Image) -> Result<Sound, CheckErr>
-    ensures same { IfOk result (λ sound. sound ≡ image) }
-    ensures refused { IfErr result (IsRefusalOf image) }
-{
-    if image.units.len() > MOST_NUMBERED || image.code.len() > MOST_NUMBERED {
-        return Err(CheckErr::Memory { image });
-    }
-    verify(alloc, image)
-}
-
-/// The refusal of a file that is too long.
-pub fn too_long() -> NoImage
-    ensures { result ≡ N.Refused F.TooLong file_start }
-{
-    refused(Fault::TooLong, FILE_START)
-}
-
-/// The refusal of a form that is not built yet.
-pub fn not_built() -> NoImage
+/// The refusal of an image of the compiler that breaks an image rule.
+fn not_built() -> NoImage
     ensures { result ≡ N.Refused F.NotBuilt file_start }
 {
     refused(Fault::NotBuilt, FILE_START)
-}
-
-/// The refusal of a file for this fault at this place.
-pub fn refused(fault: Fault, place: Place) -> NoImage
-    ensures { result ≡ N.Refused fault place }
-{
-    NoImage::Refused { fault, place }
 }
 
 fn tokens_of(alloc: Global, text: &[u8]) -> Result<Tokens, NoImage>

@@ -15,7 +15,7 @@ ghost use Rattle.cstar_top.specs.Drills.{IsRunLine, PutsDrill, PutsPartOfDrill, 
 ghost use Rattle.cstar_top.specs.Outcomes.{CanAnswer};
 
 use crate::answer::Answer;
-use crate::compile::{NoImage, TypedText, accepted, compile};
+use crate::compile::{TypedText, accepted, compile};
 use crate::run::{run_fault, sent};
 use cstar_base::{Memory, Winner};
 use cstar_io::{Gate, Sink, SureSink, SureSource};
@@ -26,6 +26,7 @@ use paris_code::{Instr, Reply};
 use paris_machine::{End, run};
 use paris_phases::{Crew, ForkPhases, Machine};
 use phase_gate::Phases;
+use point_runs::NoImage;
 use std::alloc::Global;
 use std::thread::Threads;
 

@@ -2,12 +2,12 @@
 #![tactic(auto)]
 
 mod answer;
-mod assemble;
 mod compile;
 mod drill;
 mod line;
 mod report;
 mod run;
+mod saved;
 mod top;
 
 pub use answer::Answer;

@@ -12,10 +12,10 @@ use std::alloc::Global;
 pub const USAGE: &str =
     "usage: cstar [--mode run|list|check|drill|asm|resume] [--workers N] [--turns N] [--finals] [--listing] [--seed N] [--winner high|low] [--save NAME] FILE\n";
 
-/// The line that an answer puts for the file of this name.
+/// The line that an answer puts: its name is that of the file, or of the point that cannot be saved.
 #[tactic(auto, unfolding(crate::specs::Answers::line_of))]
-pub fn line(alloc: Global, file: &[u8], answer: &Answer) -> Result<Vec<u8>, Memory>
-    ensures { IfOk result (λ text. text.items ≡ line_of file.now answer.now) }
+pub fn line(alloc: Global, name: &[u8], answer: &Answer) -> Result<Vec<u8>, Memory>
+    ensures { IfOk result (λ text. text.items ≡ line_of name.now answer.now) }
 {
     match answer {
         Answer::Done | Answer::WriteFault => Ok(Vec::new(alloc)),
@@ -23,13 +23,14 @@ pub fn line(alloc: Global, file: &[u8], answer: &Answer) -> Result<Vec<u8>, Memo
             fault,
             place,
             position,
-        } => fault_line(alloc, file, *fault, *place, *position),
+        } => fault_line(alloc, name, *fault, *place, *position),
         Answer::Usage => Ok(Vec::from_slice(alloc, USAGE.as_bytes())?),
-        Answer::Refused { fault, place } => refusal_line(alloc, file, *fault, *place),
+        Answer::Refused { fault, place } => refusal_line(alloc, name, *fault, *place),
         Answer::Stopped { turns } => stopped_line(alloc, *turns),
-        Answer::CannotRead => unreadable_line(alloc, file),
+        Answer::CannotRead => named_line(alloc, b"cannot read ", name),
         Answer::InputFault => Ok(Vec::from_slice(alloc, b"input fault\n")?),
         Answer::Memory => Ok(Vec::from_slice(alloc, b"out of memory\n")?),
+        Answer::CannotSave => named_line(alloc, b"cannot save ", name),
     }
 }
 
@@ -112,11 +113,12 @@ fn stopped_line(alloc: Global, turns: u32) -> Result<Vec<u8>, Memory>
     Ok(text)
 }
 
-fn unreadable_line(alloc: Global, file: &[u8]) -> Result<Vec<u8>, Memory>
-    ensures { IfOk result (λ text. text.items ≡ codes "cannot read " ++ file.now ++ codes "\n") }
+/// A name behind what is said of it.
+fn named_line(alloc: Global, said: &[u8], name: &[u8]) -> Result<Vec<u8>, Memory>
+    ensures { IfOk result (λ text. text.items ≡ said.now ++ name.now ++ codes "\n") }
 {
-    let mut text = Vec::from_slice(alloc, b"cannot read ")?;
-    text.extend_from_slice(file)?;
+    let mut text = Vec::from_slice(alloc, said)?;
+    text.extend_from_slice(name)?;
     text.extend_from_slice(b"\n")?;
     Ok(text)
 }

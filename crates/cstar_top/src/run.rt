@@ -1,52 +1,118 @@
 //! A run of an image, and the listing, the final values and the count that go with it.
 
-ghost use Rattle.std.specs.Prelude.{◌≡◌, ◌≢◌, ℕ, ◌++◌, ◌||◌, true, false, codes, decimal};
+ghost use Rattle.std.specs.Prelude.{◌≡◌, ◌≢◌, ◌⊎◌, ℕ, ◌++◌, ◌||◌, IfSome, is_some, true, false, codes, decimal};
+ghost use Rattle.checkpoint.specs.Bytes.{IsCounted};
+ghost use Rattle.cstar_base.specs.declared.operators.Winner.{Winner};
 ghost use Rattle.cstar_io.specs.Faults.{RisesBy};
 ghost use Rattle.cstar_io.specs.Output.{Takes, TakesNothing, TakesPrefix};
 ghost use Rattle.cstar_top.specs.declared.answer.Answer.TheVariants as A;
 ghost use Rattle.cstar_top.specs.Answers.{status_of};
 ghost use Rattle.cstar_top.specs.Courses.{Reports, ReportsPart, answer_to_end, closing, closing_text, run_fault, steps_line, where_asked};
 ghost use Rattle.cstar_top.specs.Runs.{IsEndOfRun};
+ghost use Rattle.cstar_top.specs.Saved.{AllStay, CannotSaveRun, ComesWith, HoldsPoint, SavesOne};
 ghost use Rattle.final_values.specs.Finals.{finals_text};
+ghost use Rattle.front_end.specs.Kept.{KeptFits};
 ghost use Rattle.paris_code.specs.Listing.{listing};
+ghost use Rattle.paris_code.specs.Memory.{SameBits, fresh_memory};
 ghost use Rattle.paris_code.specs.Shapes.{shapes_of};
 ghost use Rattle.paris_machine.specs.Ends.{output_broke};
 ghost use Rattle.paris_phases.specs.Doing.{CanDo, Did, Settled};
 ghost use Rattle.paris_phases.specs.Machines.{AllReady};
 ghost use Rattle.paris_text.specs.Puts.{Puts};
+ghost use Rattle.point_bits.specs.Strings.{AreBits};
+ghost use Rattle.point_runs.specs.Points.{point_with};
+ghost use Rattle.point_runs.specs.Starts.{CanStart, memory_from, origin_of};
 
 use crate::answer::Answer;
-use cstar_base::{RunFault, Winner};
-use cstar_io::{Failed, Gate, Sink, Source};
+use crate::saved::keep_point;
+use checkpoint::Point;
+use cstar_base::{Memory, RunFault, Winner, Word};
+use cstar_io::{Failed, Gate, Shelf, ShelfErr, Sink, Source};
 use cstar_words::Options;
 use final_values::put_finals;
+use front_end::Kept;
 use image_check::Sound;
 use itoa::Buffer;
 use paris_code::{Instr, Reply};
-use paris_machine::{End, Outcome, run};
+use paris_machine::{End, Outcome, resume};
 use paris_phases::{Crew, ForkPhases, Machine};
 use paris_text::print;
 use phase_gate::Phases;
+use point_bits::put_back;
+use point_runs::{Start, point_of};
 use std::alloc::Global;
 use std::thread::Threads;
 
-/// Runs an image on new phases of a crew, and puts the listing, the final values and the number of
-/// instructions where the options ask for them. What the run comes to, once all is sent on.
-pub fn run_image<R: Threads + Sync, I: Source, O: Sink, G: Gate + Sync>(
+/// The status of a run that spent its turns.
+const STOPPED: u8 = 4;
+
+/// What a run came to, and its point, where it stopped and is to be saved.
+#[derive(Drop)]
+struct Ran {
+    answer: Answer,
+    point: Option<Point>,
+}
+
+/// Runs an image on phases of a crew, and puts the listing, the final values and the number of
+/// instructions where the options ask for them. What the run comes to, once all is sent on. Where it
+/// stopped and is to be saved, its point is kept then; by that time the phases are let go.
+pub fn run_image<R: Threads + Sync, S: Shelf, I: Source, O: Sink, G: Gate + Sync>(
     alloc: Global,
     crew: &Crew<R, G>,
-    sound: &Sound,
+    start: Start,
     options: &Options,
+    shelf: &mut S,
     input: &mut I,
     out: &mut O,
 ) -> Answer
+    requires { CanStart start }
     ensures end { IsEndOfRun options.now.turns result }
     ensures write_fault { status_of result ≡ 6 → RisesBy (O.faults out.old) (O.faults out.new) }
     ensures input_fault { status_of result ≡ 7 → RisesBy (I.faults input.old) (I.faults input.new) }
     ensures count { status_of result ≢ 6 → O.faults out.new ≡ O.faults out.old }
     ensures input_count { status_of result ≢ 6 → status_of result ≢ 7 → I.faults input.new ≡ I.faults input.old }
-    ensures report { status_of result ≢ 6 → status_of result ≢ 8 → Reports O.agrees out.old out.new (I.left input.old) (I.left input.new) options.now sound.now result }
-    ensures part { ReportsPart O.agrees out.old out.new (I.left input.old) (I.left input.new) options.now sound.now }
+    ensures report { status_of result ≢ 6 → status_of result ≢ 8 → Reports O.agrees out.old out.new (I.left input.old) (I.left input.new) options.now (origin_of start) result
+        (HoldsPoint S.tells S.file shelf.old shelf.new options.now (status_of result) (origin_of start)) }
+    ensures part { ReportsPart O.agrees out.old out.new (I.left input.old) (I.left input.new) options.now (origin_of start) }
+    ensures files { AllStay S.file shelf.old shelf.new ⊎ SavesOne S.file shelf.old shelf.new (I.left input.old) (I.left input.new) options.now (origin_of start) }
+    ensures stay { status_of result ≢ 4 → status_of result ≢ 8 → status_of result ≢ 9 → AllStay S.file shelf.old shelf.new }
+    ensures cannot_save { status_of result ≡ 9 → CannotSaveRun S.faults S.last_failed shelf.old shelf.new options.now }
+    ensures shelf_count { status_of result ≢ 9 → S.faults shelf.new ≡ S.faults shelf.old }
+{
+    let Ran { answer, point } = run_on_phases(alloc, crew, start, options, input, out);
+    let Some(point) = point else {
+        return answer;
+    };
+    let Some(name) = options.save else {
+        return answer;
+    };
+    match keep_point(alloc, name, &point, shelf) {
+        Ok(()) => answer,
+        Err(ShelfErr::Failed) => Answer::CannotSave,
+        Err(ShelfErr::Memory) => Answer::Memory,
+    }
+}
+
+/// The same on phases that are let go at the end.
+fn run_on_phases<R: Threads + Sync, I: Source, O: Sink, G: Gate + Sync>(
+    alloc: Global,
+    crew: &Crew<R, G>,
+    start: Start,
+    options: &Options,
+    input: &mut I,
+    out: &mut O,
+) -> Ran
+    requires { CanStart start }
+    ensures end { IsEndOfRun options.now.turns result.answer }
+    ensures own { status_of result.answer ≢ 9 }
+    ensures write_fault { status_of result.answer ≡ 6 → RisesBy (O.faults out.old) (O.faults out.new) }
+    ensures input_fault { status_of result.answer ≡ 7 → RisesBy (I.faults input.old) (I.faults input.new) }
+    ensures count { status_of result.answer ≢ 6 → O.faults out.new ≡ O.faults out.old }
+    ensures input_count { status_of result.answer ≢ 6 → status_of result.answer ≢ 7 → I.faults input.new ≡ I.faults input.old }
+    ensures report { status_of result.answer ≢ 6 → status_of result.answer ≢ 8 → Reports O.agrees out.old out.new (I.left input.old) (I.left input.new) options.now (origin_of start) result.answer
+        (ComesWith (is_some options.now.save) (origin_of start) result.point) }
+    ensures part { ReportsPart O.agrees out.old out.new (I.left input.old) (I.left input.new) options.now (origin_of start) }
+    ensures saved { IfSome result.point (λ point. IsCounted point × (status_of result.answer ≡ 4)) }
 {
     let phase = |machine: &mut Machine, instr: &Instr, args: &[u32], winner: Winner| -> Reply
         requires { CanDo machine.now instr.now args.now }
@@ -56,18 +122,130 @@ pub fn run_image<R: Threads + Sync, I: Source, O: Sink, G: Gate + Sync>(
         requires { AllReady machine.now }
         ensures { Settled machine.entry.now machine.exit.now }
     { crew.settle(machine) };
-    let mut phases = match ForkPhases::new(alloc, sound, phase, settle) {
+    let Start {
+        sound,
+        kept,
+        winner,
+        bits,
+    } = start;
+    let mut phases = match ForkPhases::new(alloc, &sound, phase, settle) {
         Ok(phases) => phases,
-        Err(_) => return Answer::Memory,
+        Err(_) => {
+            return Ran {
+                answer: Answer::Memory,
+                point: None,
+            };
+        }
     };
-    phases.choose(options.winner);
-    match put_listing(sound, options, out) {
-        Ok(()) => {}
-        Err(_) => return Answer::WriteFault,
+    put_bits(&sound, bits, &mut phases);
+    phases.choose(winner);
+    let code = Start {
+        sound,
+        kept,
+        winner,
+        bits: None,
+    };
+    run_on(alloc, code, options, &mut phases, input, out)
+}
+
+/// Puts the bits of a point back to new phases, and lets them go.
+fn put_bits<P: Phases>(sound: &Sound, bits: Option<Word>, phases: &mut P)
+    requires shapes { P.shapes phases.old ≡ shapes_of sound.now }
+    requires settled { P.settled phases.old }
+    requires fresh { SameBits (shapes_of sound.now) (P.memory phases.old) (fresh_memory (shapes_of sound.now)) }
+    requires bits { IfSome bits (AreBits (shapes_of sound.now)) }
+    ensures able { P.able phases.old → P.able phases.new }
+    ensures settled { P.settled phases.new }
+    ensures shapes { P.shapes phases.new ≡ shapes_of sound.now }
+    ensures memory { (winner : Winner) → SameBits (shapes_of sound.now) (record { bit = (P.memory phases.new).bit; winner = winner }) (memory_from (shapes_of sound.now) winner bits) }
+{
+    if let Some(bits) = bits {
+        put_back(sound, bits.bytes(), phases);
     }
-    let outcome = run(alloc, sound, options.turns, &mut phases, input, out);
+}
+
+/// The same on phases that hold the bits with which the run begins.
+fn run_on<P: Phases, I: Source, O: Sink>(
+    alloc: Global,
+    start: Start,
+    options: &Options,
+    phases: &mut P,
+    input: &mut I,
+    out: &mut O,
+) -> Ran
+    requires fits { KeptFits start.sound start.kept }
+    requires shapes { P.shapes phases.old ≡ shapes_of start.sound }
+    requires able { P.able phases.old }
+    requires winner { (P.memory phases.old).winner ≡ start.winner }
+    ensures end { IsEndOfRun options.now.turns result.answer }
+    ensures own { status_of result.answer ≢ 9 }
+    ensures write_fault { status_of result.answer ≡ 6 → RisesBy (O.faults out.old) (O.faults out.new) }
+    ensures input_fault { status_of result.answer ≡ 7 → RisesBy (I.faults input.old) (I.faults input.new) }
+    ensures count { status_of result.answer ≢ 6 → O.faults out.new ≡ O.faults out.old }
+    ensures input_count { status_of result.answer ≢ 6 → status_of result.answer ≢ 7 → I.faults input.new ≡ I.faults input.old }
+    ensures report { status_of result.answer ≢ 6 → status_of result.answer ≢ 8 → Reports O.agrees out.old out.new (I.left input.old) (I.left input.new) options.now
+        (record { image = start.sound; kept = start.kept; memory = P.memory phases.old }) result.answer
+        (ComesWith (is_some options.now.save) (record { image = start.sound; kept = start.kept; memory = P.memory phases.old }) result.point) }
+    ensures part { ReportsPart O.agrees out.old out.new (I.left input.old) (I.left input.new) options.now
+        (record { image = start.sound; kept = start.kept; memory = P.memory phases.old }) }
+    ensures saved { IfSome result.point (λ point. IsCounted point × (status_of result.answer ≡ 4)) }
+{
+    let Start {
+        sound,
+        kept,
+        winner,
+        ..
+    } = start;
+    match put_listing(&sound, options, out) {
+        Ok(()) => {}
+        Err(_) => {
+            return Ran {
+                answer: Answer::WriteFault,
+                point: None,
+            };
+        }
+    }
+    let (outcome, kept) = resume(alloc, &sound, kept, options.turns, phases, input, out);
     phases.settle();
-    finish(sound, options, outcome, &phases, out)
+    let answer = finish(&sound, options, outcome, phases, out);
+    with_point(alloc, &sound, kept, winner, options, phases, answer)
+}
+
+/// The answer of a run, with the point at which it stopped, where it did and is to be saved; want of
+/// memory where there is none for that.
+fn with_point<P: Phases>(
+    alloc: Global,
+    sound: &Sound,
+    kept: Kept,
+    winner: Winner,
+    options: &Options,
+    phases: &P,
+    answer: Answer,
+) -> Ran
+    requires fits { KeptFits sound.now kept }
+    requires shapes { P.shapes phases.now ≡ shapes_of sound.now }
+    requires settled { P.settled phases.now }
+    ensures own { (result.answer ≡ answer) ⊎ ((status_of answer ≡ 4) × (result.answer ≡ A.Memory)) }
+    ensures point { IfSome result.point (λ point. IsCounted point × (status_of answer ≡ 4) × (result.answer ≡ answer)
+        × (point ≡ point_with sound.now kept winner (P.memory phases.now))) }
+    ensures none { result.answer ≡ answer → status_of answer ≡ 4 → is_some options.now.save ≡ true → is_some result.point ≡ true }
+{
+    if answer.status() != STOPPED || options.save.is_none() {
+        return Ran {
+            answer,
+            point: None,
+        };
+    }
+    match point_of(alloc, sound, kept, winner, phases) {
+        Ok(point) => Ran {
+            answer,
+            point: Some(point),
+        },
+        Err(Memory) => Ran {
+            answer: Answer::Memory,
+            point: None,
+        },
+    }
 }
 
 /// Puts the listing, where it is asked for.

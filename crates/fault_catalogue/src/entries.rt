@@ -2,11 +2,11 @@
 
 use crate::Entry;
 
-pub static ENTRIES: [Entry; 44] = [
+pub static ENTRIES: [Entry; 46] = [
     Entry {
         number: "E00",
         name: "NotBuilt",
-        advice: "No fault of the file: the mode or option is not built yet (`usage.md`), or the compiler made an image that breaks an image rule, which would be a defect of `cstar`.",
+        advice: "No fault of the file: the compiler made an image that breaks an image rule, which would be a defect of `cstar`.",
     },
     Entry {
         number: "E01",
@@ -212,6 +212,16 @@ pub static ENTRIES: [Entry; 44] = [
         number: "E48",
         name: "Slots",
         advice: "More than 67,108,864 registers or open calls.",
+    },
+    Entry {
+        number: "E50",
+        name: "Point",
+        advice: "The bytes are those of no saved point: at line 1, in the column of the first byte with which no point begins, or behind the last where they end too early.",
+    },
+    Entry {
+        number: "E51",
+        name: "State",
+        advice: "The registers, the open calls or the place are none at which a run of the listing stops, or the bits are not as many as its sets have, or not filled up with 0; at 1:1.",
     },
     Entry {
         number: "F1",

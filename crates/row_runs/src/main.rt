@@ -43,38 +43,77 @@ fn named_file(alloc: Global, name: &str, text: &[u8]) -> Result<(Word, Vec<u8>),
     Ok((name, Vec::from_slice(alloc, text)?))
 }
 
-/// Whether a command, its words divided by blanks, does on a row's files and input what the row says.
-/// The words behind `batch` are those of a batch.
-fn is_kept<R: Threads + Wait + Sync>(
-    rt: &R,
-    alloc: Global,
-    row: &Row,
-    command: &str,
-) -> Result<bool, Memory> {
+/// What a row's commands find outside.
+#[derive(Drop)]
+struct Outside {
+    shelf: MemShelf,
+    input: MemSource,
+    out: MemSink,
+    err: MemSink,
+}
+
+impl Outside {
+    /// A row's files and input, and outputs that have taken nothing.
+    fn of_row(alloc: Global, row: &Row) -> Result<Outside, Memory> {
+        let input = Vec::from_slice(alloc, row.input.as_slice())?;
+        Ok(Outside {
+            shelf: shelf_with(alloc, row)?,
+            input: MemSource::new(input, Vec::new(alloc)),
+            out: MemSink::new(alloc, ROOM, Vec::new(alloc))?,
+            err: MemSink::new(alloc, ROOM, Vec::new(alloc))?,
+        })
+    }
+}
+
+/// The words of a command, which blanks divide.
+fn words_of(alloc: Global, command: &str) -> Result<Vec<String>, Memory> {
     let mut words = Vec::new(alloc);
     for word in command.split_whitespace() {
         words.push(String::from_str(alloc, word)?)?;
     }
-    let mut shelf = shelf_with(alloc, row)?;
-    let mut input = MemSource::new(
-        Vec::from_slice(alloc, row.input.as_slice())?,
-        Vec::new(alloc),
-    );
-    let mut out = MemSink::new(alloc, ROOM, Vec::new(alloc))?;
-    let mut err = MemSink::new(alloc, ROOM, Vec::new(alloc))?;
+    Ok(words)
+}
+
+/// The status of a command. The words behind `batch` are those of a batch.
+fn status_of<R: Threads + Wait + Sync>(
+    rt: &R,
+    alloc: Global,
+    words: &[String],
+    outside: &mut Outside,
+) -> u8 {
+    let Outside {
+        shelf,
+        input,
+        out,
+        err,
+    } = outside;
     let gate = Late::new();
-    let status = match words.as_slice() {
+    match words {
         [first, rest @ ..] if first.as_str() == "batch" => {
-            cstar_batch(rt, alloc, rest, &mut shelf, &mut out, &mut err, &gate)
+            cstar_batch(rt, alloc, rest, shelf, out, err, &gate)
         }
-        words => cstar(
-            rt, alloc, words, &mut shelf, &mut input, &mut out, &mut err, &gate,
-        ),
-    };
+        words => cstar(rt, alloc, words, shelf, input, out, err, &gate),
+    }
+}
+
+/// Whether commands, divided by ` ; `, do on a row's files and input what the row says, one behind the
+/// other.
+fn is_kept<R: Threads + Wait + Sync>(
+    rt: &R,
+    alloc: Global,
+    row: &Row,
+    commands: &str,
+) -> Result<bool, Memory> {
+    let mut outside = Outside::of_row(alloc, row)?;
+    let mut status = 0;
+    for command in commands.split(" ; ") {
+        let words = words_of(alloc, command)?;
+        status = status_of(rt, alloc, words.as_slice(), &mut outside);
+    }
     Ok(
         status == row.status
-            && out.taken() == row.out.as_slice()
-            && err.taken() == row.err.as_slice(),
+            && outside.out.taken() == row.out.as_slice()
+            && outside.err.taken() == row.err.as_slice(),
     )
 }
 

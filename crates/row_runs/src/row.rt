@@ -1,6 +1,8 @@
 //! Pages of rows. A line `## NAME` begins a row, and what a line of it says stands in its first mark:
 //!
-//! - `$ WORDS` is a command, its words divided by blanks; each command of a row is to do the same;
+//! - `$ WORDS` is a command, its words divided by blanks; each command of a row is to do the same.
+//!   Several that are divided by ` ; ` are done one behind the other on the same files and the same
+//!   input, with one output, and give the status of the last;
 //! - `|TEXT` is a line of the file, which is there as `a.cs` and as `a.paris`;
 //! - `@NAME` begins another file of this name: the lines `|TEXT` behind it are lines of that;
 //! - `<TEXT` is a line of the input;

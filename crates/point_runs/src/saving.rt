@@ -1,0 +1,75 @@
+//! From a run that stopped to its point.
+
+ghost use Rattle.std.specs.Prelude.{◌≡◌, ◌<◌, ◌^◌, IfOk, length};
+ghost use Rattle.checkpoint.specs.Bytes.{IsCounted};
+ghost use Rattle.front_end.specs.Kept.{KeptFits};
+ghost use Rattle.paris_code.specs.Listing.{listing};
+ghost use Rattle.paris_code.specs.Shapes.{shapes_of};
+ghost use Rattle.point_runs.specs.Points.{point_with};
+
+use crate::text_sink::TextSink;
+use checkpoint::Point;
+use cstar_base::{Memory, Winner, Word};
+use front_end::Kept;
+use image_check::Sound;
+use paris_code::Image;
+use paris_text::print;
+use phase_gate::Phases;
+use point_bits::gather;
+use std::alloc::Global;
+
+/// The point of a run of an image that stopped in this state, with these phases.
+pub fn point_of<P: Phases>(
+    alloc: Global,
+    sound: &Sound,
+    kept: Kept,
+    winner: Winner,
+    phases: &P,
+) -> Result<Point, Memory>
+    requires fits { KeptFits sound.now kept }
+    requires shapes { P.shapes phases.now ≡ shapes_of sound.now }
+    requires settled { P.settled phases.now }
+    ensures point { IfOk result (λ point. point ≡ point_with sound.now kept winner (P.memory phases.now)) }
+    ensures counted { IfOk result IsCounted }
+{
+    let image = sound.image();
+    let _slots = slots(image);
+    let _depth = depth(image);
+    let bits = gather(alloc, sound, phases)?;
+    let listing = listing_of(alloc, sound)?;
+    Ok(Point {
+        winner,
+        ended: kept.ended,
+        at: kept.at,
+        regs: kept.regs,
+        returns: kept.returns,
+        listing,
+        bits,
+    })
+}
+
+/// How many registers an image has.
+fn slots(image: &Image) -> u32
+    ensures { result ≡ image.now.slots }
+{
+    image.slots
+}
+
+/// How many calls of an image may be open.
+fn depth(image: &Image) -> u32
+    ensures { result ≡ image.now.depth }
+{
+    image.depth
+}
+
+/// The listing of an image.
+fn listing_of(alloc: Global, sound: &Sound) -> Result<Word, Memory>
+    ensures listing { IfOk result (λ text. text ≡ listing sound.now) }
+    ensures small { IfOk result (λ text. length text < 2 ^ 64) }
+{
+    let mut text = TextSink::new(alloc);
+    match print(sound.image(), &mut text) {
+        Ok(()) => Ok(text.into_word()),
+        Err(_) => Err(Memory),
+    }
+}
