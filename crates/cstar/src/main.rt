@@ -3,7 +3,7 @@
 
 mod prompt;
 
-use crate::prompt::Prompt;
+use crate::prompt::{Prompt, Sending};
 use batch_top::cstar_batch;
 use cstar_io::{Open, RealShelf, RealSink, RealSource};
 use cstar_top::cstar;
@@ -36,16 +36,16 @@ fn batch_words(words: &[String]) -> Option<&[String]> {
 }
 
 /// The status of the command on these words: those behind the word `batch` are the words of a batch.
-/// Where the input is a terminal, output is sent on at once.
+/// Where the input is a terminal, output is sent on at once, and where the output is one, by lines.
 fn status<R, I, O, E>(rt: &R, words: &[String], input: I, out: O, err: E) -> u8
 where
     R: Files + AllocGlobal + Threads + Wait + Sync,
     I: Read + IsTerminal + Drop,
-    O: Write + Drop,
+    O: Write + IsTerminal + Drop,
     E: Write + Drop,
 {
     let alloc = rt.alloc();
-    let is_typed = input.is_terminal();
+    let sending = Sending::towards(input.is_terminal(), out.is_terminal());
     let (Ok(mut input), Ok(out), Ok(mut err)) = (
         RealSource::new(alloc, input),
         RealSink::new(alloc, out),
@@ -53,7 +53,7 @@ where
     ) else {
         return NO_MEMORY;
     };
-    let mut out = Prompt::new(out, is_typed);
+    let mut out = Prompt::new(out, sending);
     let mut shelf = RealShelf::new(rt, alloc);
     match batch_words(words) {
         Some(words) => cstar_batch(rt, alloc, words, &mut shelf, &mut out, &mut err, &Open),
