@@ -27,7 +27,7 @@ use Rattle.lower_expr.specs.Lengths.{conversion_length, operate_length, spread_l
 use Rattle.lower_expr.specs.Operands.{operand_by, operand_length}
 use Rattle.lower_expr.specs.Spots.{stored}
 use Rattle.lower_expr.specs.Steps.{is_kept}
-use Rattle.lower_expr.specs.Values.{Code, spread_by, element_spot, read_by, set_by, sent_by, field_updated, register_updated, register_folded, updated_by, plainly_set_by, assigned_by, assign_by, stepped_once, stepped_at, stepped_in, step_by}
+use Rattle.lower_expr.specs.Values.{Code, spread_by, element_spot, read_to, read_by, set_by, sent_by, field_updated, register_updated, register_folded, updated_by, plainly_set_by, assigned_by, assign_by, stepped_once, stepped_at, stepped_in, step_by}
 use Rattle.code_lengths.specs.Shaped.{HasNoShape, HasShape}
 use Rattle.code_lengths.specs.Growth.{Grows, Stands, Anything}
 use Rattle.code_lengths.proofs.Drafting.{as_it_was, and_instr, makes, sized, behind, bind, weaker, in_register_grows, in_field_grows, register_grows, entry_grows, fresh_grows}
@@ -47,12 +47,16 @@ element_spot_grows t l ty place array p index k code n d h c =
     bind (Stands k) _ d n 5 _ _ (c d) (λ v between s. in_register_grows _ between 5 k v _ s (λ r _.
     bind Anything _ between 5 0 _ _ (index_checked_grows t l array _ place r between) (λ _ after _. makes _ (S.Element array r) after after 0 (refl, h) (as_it_was after))))
 
+pub read_to_grows : (k : Bool) (t : Typed) (l : Layout) (e : TExpr) (spot : Draft → Made Spot) (dest : Out) (n : ℕ) (d : Draft) → IsSpotCode n (bare e) spot → Stands k dest →
+    Grows d (n + load_length t l e) (Stands k) (read_to t l e spot dest d)
+unfolding read_to
+read_to_grows k t l e spot dest n d c s = bind (Fits (bare e)) _ d n _ _ _ (c d) (λ there after h. loaded_grows k t l e there dest after h s)
+
 pub read_by_grows : (t : Typed) (l : Layout) (e : TExpr) (ty : ValueType) (spot : Draft → Made Spot) (n : ℕ) (d : Draft) → IsSpotCode n (bare e) spot →
     Grows d (n + load_length t l e) (Stands (is_none ty.shape)) (read_by t l e ty spot d)
 unfolding read_by
 read_by_grows t l e ty spot n d c =
-    sized _ d _ _ _ (nothing_more _) (bind (Stands (is_none ty.shape)) _ d 0 _ _ _ (fresh_grows ty.shape d) (λ dest begun s.
-    bind (Fits (bare e)) _ begun n _ _ _ (c begun) (λ there after h. loaded_grows (is_none ty.shape) t l e there dest after h s)))
+    sized _ d _ _ _ (nothing_more _) (bind (Stands (is_none ty.shape)) _ d 0 _ _ _ (fresh_grows ty.shape d) (λ dest begun s. read_to_grows (is_none ty.shape) t l e spot dest n begun c s))
 
 -- where left indexes lead
 address_kind : (b : TExpr) (at : Out) → Fits b (S.Indexed at) → Is (is_none (type_of b).shape) at

@@ -12,16 +12,19 @@ use Rattle.cstar_tree.specs.declared.syntax.ReduceOp.TheVariants as Rd
 use Rattle.cstar_tree.specs.declared.typed.TExpr.{TExpr, out-TExpr}
 use Rattle.cstar_tree.specs.declared.typed.TExpr as T
 use Rattle.cstar_tree.specs.declared.typed.Typed.{Typed}
+use Rattle.cstar_tree.specs.declared.typed.ValueType.{ValueType}
 use Rattle.cstar_tree.specs.declared.typed.Variable.{Variable}
 use Rattle.cstar_tree.specs.declared.typed.Variable.TheVariants as V
+use Rattle.paris_code.specs.declared.instr.Instr.TheVariants as I
 use Rattle.paris_code.specs.declared.operands.Field.{Field}
 use Rattle.paris_code.specs.declared.operands.GridStep.{GridStep}
 use Rattle.paris_code.specs.declared.operands.Reduction.{Reduction}
+use Rattle.paris_code.specs.declared.program.Owner.TheVariants as W
 use Rattle.lower_base.specs.declared.emit.Out.{Out}
 use Rattle.lower_base.specs.declared.emit.Out.TheVariants as O
 use Rattle.lower_comm.specs.declared.gets.Hop.{Hop}
 use Rattle.lower_comm.specs.declared.news.NewsStep.{NewsStep}
-use Rattle.lower_base.specs.Drafts.{Draft, Made, Makes, then_make, from, in_register, a_register, fresh_for}
+use Rattle.lower_base.specs.Drafts.{Draft, Made, Makes, then_make, from, in_register, a_register, fresh_for, in_field, with_instr, an_entry}
 use Rattle.lower_base.specs.Layouts.{Layout, field_of, own_field}
 use Rattle.lower_comm.specs.Messages.{front_located, each_located, located_at, located, checked_part, grid_steps, with_grid_check, along, stepwise, gotten_by_steps, read_at, part_register, part_field, folded_onto, negated_by, reduced, indexed_field, stored, sent_value, sent_to, sent, scanned, segment_field, enumerated, communicated}
 use Rattle.lower_comm.specs.News.{step_of}
@@ -137,17 +140,24 @@ steps_grow of indexes elem source dest d =
 pub nothing_more : (n : ℕ) → 0 + n ≡ n
 nothing_more n = omega arith
 
-pub read_grows : (k : Bool) (shape : Option ℕ) (of : ℕ) (indexes : List TExpr) (elem : Elem) (source : Field) (at into : Out) (d : Draft) → Is (is_none shape) at → Stands k into →
-    Grows d (read_length shape) (Stands k) (read_at of indexes elem source at into d)
+pub read_grows : (k : Bool) (ty : ValueType) (of : ℕ) (indexes : List TExpr) (source : Field) (at into : Out) (d : Draft) → Is (is_none ty.shape) at → Stands k into →
+    Grows d (read_length ty) (Stands k) (read_at of indexes ty.elem source at into d)
 unfolding read_at read_length
-read_grows k None of indexes elem source (O.Scalar r) into d h s =
-    in_register_grows _ d 1 k into _ s (λ dest _. makes (Stands k) into d _ 1 s (and_instr _ d d 0 (as_it_was d)))
-read_grows k (Some _) of indexes elem source (O.Scalar r) into d h s = cc
-read_grows k None of indexes elem source (O.Field f) into d h s = cc
-read_grows k (Some _) of indexes elem source (O.Field f) into d h s =
-    in_field_grows _ d 2 k into _ s (λ dest _. bind Anything (Stands k) d 0 2 _ _ (entry_grows _ _ _ d)
-    (λ got after _. makes (Stands k) into after _ 2 s (and_instr _ after _ 1 (and_instr _ after after 0 (as_it_was after)))))
-read_grows k shape of indexes elem source O.Nothing into d h s = absurd h
+read_grows k ty of indexes source at into d h s = by ty.shape at h
+  where
+    gotten : (b : Bool) (to : Field) → Grows d (if b then 1 else 2) (Stands k) (in_field into (λ dest. if b then Makes into (with_instr (I.Get dest to source) d)
+        else then_make (an_entry dest.set source.len W.Own d) (λ got after. Makes into (with_instr (I.Move ty.elem.signed dest got) (with_instr (I.Get got to source) after)))))
+    gotten true to = in_field_grows _ d 1 k into _ s (λ dest _. makes (Stands k) into d _ 1 s (and_instr _ d d 0 (as_it_was d)))
+    gotten false to =
+        in_field_grows _ d 2 k into _ s (λ dest _. bind Anything (Stands k) d 0 2 _ _ (entry_grows _ _ _ d)
+        (λ got after _. makes (Stands k) into after _ 2 s (and_instr _ after _ 1 (and_instr _ after after 0 (as_it_was after)))))
+
+    by : (shape : Option ℕ) (at : Out) → Is (is_none shape) at → Grows d (if is_none shape || ty.elem.bits == 32 then 1 else 2) (Stands k) (read_at of indexes ty.elem source at into d)
+    by None (O.Scalar r) h = in_register_grows _ d 1 k into _ s (λ dest _. makes (Stands k) into d _ 1 s (and_instr _ d d 0 (as_it_was d)))
+    by (Some _) (O.Scalar r) h = cc
+    by None (O.Field f) h = cc
+    by (Some _) (O.Field f) h = gotten (ty.elem.bits == 32) f
+    by shape O.Nothing h = absurd h
 
 pub read_by_news_grows : (k : Bool) (of : ℕ) (indexes : List TExpr) (elem : Elem) (source : Field) (into : Out) (d : Draft) → Stands k into →
     Grows d (news_moves of 0 indexes + 1) (Stands k) (read_at of indexes elem source O.Nothing into d)
@@ -253,5 +263,5 @@ IsAddress _ at = ⊥
 pub left_index_read_grows : (k : Bool) (t : Typed) (l : Layout) (b : TExpr) (at into : Out) (d : Draft) → IsAddress b at → Stands k into → Grows d (load_length_of t l b) (Stands k) (communicated t l b at [] into d)
 unfolding communicated load_length_of out-TExpr Carrier.out
 left_index_read_grows k t l (T.LeftIndex' ty place p indexes x of) at into d h s =
-    sized _ d _ _ _ (nothing_more (read_length ty.shape)) (bind Anything (Stands k) d 0 _ _ _ (field_of_grows t l x 0 d) (λ source after _. read_grows k ty.shape of _ ty.elem source at into after h s))
+    sized _ d _ _ _ (nothing_more (read_length ty)) (bind Anything (Stands k) d 0 _ _ _ (field_of_grows t l x 0 d) (λ source after _. read_grows k ty of _ source at into after h s))
 left_index_read_grows k t l _ at into d h s = absurd h

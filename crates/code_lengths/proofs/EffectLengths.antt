@@ -1,10 +1,9 @@
 -- The code of a value that goes to a variable, of a test, and of an expression whose value is not
 -- used, is as long as described.
-use Rattle.std.proofs.Common.{◌≡◌, ℕ, ◌+◌, Bool, true, false, not, ◌&&◌, ◌||◌, ◌==◌, Option, Some, None, is_none, is_some, refl, sym, ap, ◌∙◌, arith, if◌then◌else◌}
+use Rattle.std.proofs.Common.{◌≡◌, ℕ, ◌+◌, Bool, true, false, not, ◌&&◌, ◌||◌, ◌==◌, [], ◌∷◌, Option, Some, None, is_none, refl, sym, ap, ◌∙◌, subst, arith, if◌then◌else◌}
 use Rattle.cstar_base.specs.declared.elem.Elem.{Elem}
 use Rattle.cstar_base.specs.declared.operators.Op.{Op}
 use Rattle.cstar_base.specs.declared.operators.Place.{Place}
-use Rattle.cstar_base.specs.Operators.{divides}
 use Rattle.cstar_tree.specs.declared.syntax.AssignOp.{AssignOp}
 use Rattle.cstar_tree.specs.declared.syntax.StepOp.{StepOp}
 use Rattle.cstar_tree.specs.declared.typed.TExpr.{TExpr}
@@ -12,33 +11,30 @@ use Rattle.cstar_tree.specs.declared.typed.TExpr as T
 use Rattle.cstar_tree.specs.declared.typed.Typed.{Typed}
 use Rattle.cstar_tree.specs.declared.typed.UnaryOp.{UnaryOp}
 use Rattle.cstar_tree.specs.declared.typed.ValueType.{ValueType}
+use Rattle.cstar_tree.specs.declared.typed.Variable.{Variable}
 use Rattle.cstar_tree.specs.Typed.{type_of}
 use Rattle.paris_code.specs.declared.instr.Instr.TheVariants as I
 use Rattle.paris_code.specs.declared.operands.Field.{Field}
-use Rattle.paris_code.specs.declared.operands.Konst.TheVariants as K
 use Rattle.lower_base.specs.declared.emit.Out.{Out}
 use Rattle.lower_base.specs.declared.emit.Out.TheVariants as O
-use Rattle.lower_base.specs.declared.operators.Machine.{Machine}
-use Rattle.lower_base.specs.declared.operators.Machine.TheVariants as M
 use Rattle.lower_base.specs.Drafts.{Draft, Made, Makes, then_make, with_instr, a_register}
-use Rattle.lower_base.specs.Layouts.{Layout}
-use Rattle.lower_base.specs.Operators.{assign_op_of, machine_of}
+use Rattle.lower_base.specs.Layouts.{Layout, field_of}
+use Rattle.lower_base.specs.Operators.{assign_op_of}
 use Rattle.lower_expr.specs.declared.operands.Own.{Own}
-use Rattle.lower_expr.specs.declared.steps.Right.{Right}
-use Rattle.lower_expr.specs.declared.steps.Right.TheVariants as R
-use Rattle.lower_expr.specs.Effects.{next_operand, next_length, word_for, word_put, moved, register_converted, converted_to, binary_to, computed_to, put_to, written_register, with_settled, register_operated, field_operated, variable_operated, variable_stepped, folds, written_by, variable_written, effect_of, compared, relation_tested, value_tested, tested, computed_length, has_word, put_length, settled_length, operated_length, written_length, effect_length_of, compared_length, tested_length}
-use Rattle.lower_expr.specs.Lengths.{length_of, operate_length, unary_length, right_length, spread_length, spare_length, binary_length}
+use Rattle.lower_expr.specs.Effects.{next_operand, next_length, moved, register_converted, converted_to, binary_to, gone_to, computed_to, put_to, narrowed_to, written_register, with_settled, register_operated, field_operated, variable_operated, variable_stepped, folds, assigned_own, assigned_narrow, variable_assigned, assignment_effect, step_effect, effect_of, computed_length, narrowed_length, put_length, settled_length, operated_length, assigned_length, stepped_length, assignment_length, step_effect_length, effect_length_of}
+use Rattle.lower_expr.specs.Lengths.{length_of, spot_length_of, load_length, load_length_of, bare, arm_length_of, choice_length, tested_length, tested_by_length, operate_length, unary_length, right_length, binary_length}
 use Rattle.lower_expr.specs.Operands.{is_plus, is_quiet, own_of, in_place, standing, operand_length}
-use Rattle.lower_expr.specs.Steps.{is_kept, register_word, word_of, word_taken, relates, negated}
-use Rattle.lower_expr.specs.Values.{value_of, register_binary_of, field_binary_of}
+use Rattle.lower_expr.specs.Steps.{is_kept, has_truth, has_word, register_word, word_of, word_for, word_put, negated}
+use Rattle.lower_expr.specs.Values.{Code, value_of, tested, register_binary_of, field_binary_of, arm_of, scalar_choice_of}
 use Rattle.code_lengths.specs.Growth.{Extended, Grows, Stands, Anything}
 use Rattle.code_lengths.specs.Shaped.{HasNoShape, HasShape, IsShaped}
 use Rattle.code_lengths.proofs.Drafting.{as_it_was, resized, and_instr, makes, sized, behind, bind, weaker, in_register_grows, in_field_grows, register_grows, entry_grows}
-use Rattle.code_lengths.proofs.Pieces.{InRegister, InField, fails_grow, put_value_grows, operated_more, negated_grows}
+use Rattle.code_lengths.proofs.Pieces.{InRegister, InField, put_value_grows, operated_more, negated_grows}
 use Rattle.code_lengths.proofs.Communication.{Is, is_stands, nothing_more, field_of_grows}
-use Rattle.code_lengths.proofs.ValuePieces.{IsRight, before_length, right_by_grows, right_operated_grows, right_together, spread_into_grows, registers_grow, fields_grow}
+use Rattle.code_lengths.proofs.ValuePieces.{IsRight, Known, right_by_grows, right_operated_grows, right_together, registers_grow, fields_grow, word_put_grows, arm_grows, scalar_choice_grows, tested_by_grows}
 use Rattle.code_lengths.proofs.OperandPieces.{OwnFits, own_target_fits, standing_grows, operand_grows}
-use Rattle.code_lengths.proofs.ExpressionLengths.{value_grows}
+use Rattle.code_lengths.proofs.AssignPieces.{read_to_grows}
+use Rattle.code_lengths.proofs.ExpressionLengths.{value_grows, truth_grows, values_grow, spot_grows, message_to_grows, scan_grows, call_to_grows, index_read_to_grows}
 
 -- the operand of an instruction that is next
 pub next_grows : (t : Typed) (l : Layout) (e : TExpr) → IsShaped e → (d : Draft) → Grows d (next_length t l e) (Stands (is_kept e)) (next_operand t l e d)
@@ -82,12 +78,6 @@ shape_of_field _ h k = k
 pub moved_grows : (k : Bool) (t : Typed) (l : Layout) (dest : Out) (e : TExpr) (d : Draft) → Is k dest → IsShaped e → Grows d (next_length t l e + 1) (Stands k) (moved t l dest e d)
 unfolding moved
 moved_grows k t l dest e d s h = bind (Stands (is_kept e)) (Stands k) d _ 1 _ _ (next_grows t l e h d) (λ v after _. put_value_grows k dest v after (is_stands k dest s))
-
-word_put_grows : (k : Bool) (dest : Out) (word : ℕ) (d : Draft) → Is k dest → Grows d 1 (Stands k) (word_put dest word d)
-unfolding word_put
-word_put_grows k (O.Scalar r) word d s = makes (Stands k) (O.Scalar r) d _ 1 s (and_instr _ d d 0 (as_it_was d))
-word_put_grows k (O.Field f) word d s = makes (Stands k) (O.Field f) d _ 1 s (and_instr _ d d 0 (as_it_was d))
-word_put_grows k O.Nothing word d s = absurd s
 
 register_converted_grows : (t : Typed) (l : Layout) (r : ℕ) (elem : Elem) (e : TExpr) (d : Draft) → IsShaped e → Grows d (next_length t l e + 1) InRegister (register_converted t l r elem e d)
 unfolding register_converted
@@ -136,9 +126,42 @@ unfolding is_kept
 unary_sides true ty op p operand u = sym u
 unary_sides false ty op p operand u = sym u
 
+-- what is put there is there
+gone_grows : (k : Bool) (P : Out → Type 0) (dest : Out) (n : ℕ) (made : Made Out) (d : Draft) → Is k dest → Grows d n P made → Grows d n (Stands k) (gone_to dest made)
+unfolding gone_to
+gone_grows k P dest n made d s g =
+    sized (Stands k) d _ _ _ (and_nothing n) (bind P (Stands k) d n 0 _ _ g (λ _ after _. makes (Stands k) dest after after 0 (is_stands k dest s) (as_it_was after)))
+  where
+    and_nothing : (n : ℕ) → n + 0 ≡ n
+    and_nothing n = omega arith
+
+-- the value of a form stands as its type says
+sides : (k : Bool) (e : TExpr) → Suits k e → is_kept e ≡ is_none (type_of e).shape → k ≡ is_none (type_of e).shape
+sides true e u h = sym u ∙ h
+sides false e u h = sym u
+
+one_more_unless : (b : Bool) (n : ℕ) → (if b then n else n + 1) ≡ n + (if b then 0 else 1)
+one_more_unless true n = omega arith
+one_more_unless false n = refl
+
+decided_by_one : (b q : Bool) (n : Bool → ℕ) (arms : ℕ) → b ≡ true → (n true + arms) + 2 ≡ (n (b || q) + arms) + choice_length b
+unfolding choice_length
+decided_by_one true true n arms e = refl
+decided_by_one true false n arms e = refl
+decided_by_one false q n arms e = cc
+
+-- `?:` with a scalar condition, into a register or a field
+choice_to_grows : (k : Bool) (t : Typed) (l : Layout) (ty : ValueType) (test first second : TExpr) (dest : Out) (d : Draft) → k ≡ is_none ty.shape → Stands k dest → IsShaped test → IsShaped first → IsShaped second →
+    Grows d ((operand_length (length_of t l test) true test + (arm_length_of t l ty first + arm_length_of t l ty second)) + 2) (Stands k) (scalar_choice_of t l ty test first second dest d)
+unfolding scalar_choice_of arm_of arm_length_of
+choice_to_grows k t l ty test first second dest d a s h g i =
+    weaker (Stands (is_none ty.shape)) (Stands k) d _ _ (λ v g. subst (λ (b : Bool). Stands b v) (sym a) g) (scalar_choice_grows (is_none ty.shape) (is_kept test) dest _ _ _ _ _ _ d (subst (λ (b : Bool). Stands b dest) a s)
+    (operand_grows t l true test _ _ h (value_grows t l test h)) (arm_grows (is_none ty.shape) (is_kept first) first _ _ (operand_grows t l true first _ _ g (value_grows t l first g)))
+    (arm_grows (is_none ty.shape) (is_kept second) second _ _ (operand_grows t l true second _ _ i (value_grows t l second i))))
+
 -- a value that is no constant
 computed_grows : (k : Bool) (t : Typed) (l : Layout) (dest : Out) (e : TExpr) (d : Draft) → Is k dest → IsShaped e → Suits k e → Grows d (computed_length t l k e) (Stands k) (computed_to t l dest e d)
-unfolding computed_to computed_length length_of next_length IsShaped is_kept
+unfolding computed_to computed_length length_of arm_length_of next_length operand_length in_place own_of spot_length_of load_length load_length_of bare IsShaped is_kept
 computed_grows k t l dest (T.Brackets' ty p inner) d s h u =
     computed_grows k t l dest inner d s h.1 (through k (T.Brackets' ty p inner) inner refl h.0 u)
 computed_grows k t l dest (T.Convert' ty p operand) d s h u =
@@ -153,6 +176,24 @@ computed_grows k t l dest (T.Binary' ty place op p left q right) d s h u =
     (binary_to_grows k t l dest place op left right d s h.0 h.1)
 computed_grows k t l dest (T.Pcoord ty axis) d s h u =
     in_field_grows _ d 1 k dest _ (is_stands k dest s) (λ f _. makes (Stands k) dest d _ 1 (is_stands k dest s) (and_instr _ d d 0 (as_it_was d)))
+computed_grows k t l dest (T.Variable ty x) d s h u =
+    read_to_grows k t l (T.Variable ty x) _ dest 0 d (spot_grows t l (T.Variable ty x) tt) (is_stands k dest s)
+computed_grows k t l dest (T.GetChar ty) d s h u =
+    in_register_grows _ d 1 k dest _ (is_stands k dest s) (λ r _. makes (Stands k) dest d _ 1 (is_stands k dest s) (and_instr _ d d 0 (as_it_was d)))
+computed_grows k t l dest (T.Choice' ty p test q first r second) d s h u =
+    sized (Stands k) d _ _ _ (one_more_unless (is_kept test) _) (either_grows (Stands k) (is_kept test) d _ _ _ _
+    (λ e. sized (Stands k) d _ _ _ (decided_by_one (is_kept test) (is_quiet first) (λ (b : Bool). operand_length (length_of t l test) b test) (arm_length_of t l ty first + arm_length_of t l ty second) e)
+    (choice_to_grows k t l ty test first second dest d (sides k (T.Choice' ty p test q first r second) u refl) (is_stands k dest s) h.0 h.1 h.2))
+    (λ _. moved_grows k t l dest (T.Choice' ty p test q first r second) d s h))
+computed_grows k t l dest (T.Element' ty place array p index) d s h u =
+    read_to_grows k t l (T.Element' ty place array p index) _ dest _ d (spot_grows t l (T.Element' ty place array p index) h) (is_stands k dest s)
+computed_grows k t l dest (T.LeftIndex' ty place p indexes x of) d s h u =
+    gone_grows k (Stands k) dest _ _ d s (index_read_to_grows k t l ty place p indexes x of _ _ dest d (spot_grows t l (T.LeftIndex' ty place p indexes x of) h) (is_stands k dest s))
+computed_grows k t l dest (T.Scan' ty p source axis combiner direction mode bit within) d s h u =
+    gone_grows k (Stands k) dest _ _ d s (message_to_grows k t l (T.Scan' ty p source axis combiner direction mode bit within) _ _ 1 (is_kept source) dest d
+    (operand_grows t l true source _ _ h (value_grows t l source h)) (is_stands k dest s) (scan_grows _ t l ty p source axis combiner direction mode bit within))
+computed_grows k t l dest (T.Call' ty instance p arguments) d s h u =
+    gone_grows k (Stands k) dest _ _ d s (call_to_grows k t l instance _ _ _ dest d (values_grow t l _ arguments h) (is_stands k dest s))
 computed_grows k t l dest e d s h u = moved_grows k t l dest e d s h
 
 -- a value becomes that of a register or a field
@@ -168,6 +209,24 @@ put_grows false t l (O.Field f) e d s h u = word_or_code (word_of e) false (O.Fi
 put_grows true t l (O.Field f) e d s h u = cc
 put_grows false t l (O.Scalar r) e d s h u = cc
 put_grows k t l O.Nothing e d s h u = absurd s
+
+-- tests, and values that become those of narrow fields
+pub tested_grows : (t : Typed) (l : Layout) (e : TExpr) (d : Draft) → IsShaped e → Grows d (tested_length t l e) Known (tested t l e d)
+unfolding tested_length tested_by_length
+tested_grows t l e d h = tested_by_grows (has_truth e) _ _ (is_kept e) _ _ (truth_grows t l e h) (operand_grows t l true e _ _ h (value_grows t l e h)) d
+
+pub narrowed_grows : (t : Typed) (l : Layout) (f : Field) (e : TExpr) (d : Draft) → IsShaped e → Grows d (narrowed_length t l e) (Stands false) (narrowed_to t l f e d)
+unfolding narrowed_to narrowed_length IsShaped
+narrowed_grows t l f (T.Brackets' ty p inner) d h = narrowed_grows t l f inner d h.1
+narrowed_grows t l f (T.Convert' ty p operand) d h = by (is_kept operand) (ty.elem.bits == 1)
+  where
+    by : (a b : Bool) → Grows d ((if a then next_length t l (T.Convert' ty p operand) else (if b then tested_length t l operand else next_length t l operand)) + 1) (Stands false)
+        (if a then moved t l (O.Field f) (T.Convert' ty p operand) d
+        else (if b then then_make (tested t l operand d) (λ _ after. Makes (O.Field f) (with_instr (I.StoreTest f) after)) else moved t l (O.Field f) operand d))
+    by true b = moved_grows false t l (O.Field f) (T.Convert' ty p operand) d refl h
+    by false true = bind Known (Stands false) d _ 1 _ _ (tested_grows t l operand d h.1) (λ _ after _. makes (Stands false) (O.Field f) after _ 1 refl (and_instr _ after after 0 (as_it_was after)))
+    by false false = moved_grows false t l (O.Field f) operand d refl h.1
+narrowed_grows t l f e d h = moved_grows false t l (O.Field f) e d refl h
 
 -- operators on a variable and a value
 written_register_grows : (elem : Elem) (r : ℕ) (d : Draft) → Grows d 0 Anything (written_register elem r d)
@@ -231,29 +290,21 @@ variable_stepped_grows true elem op (O.Field f) d s = cc
 variable_stepped_grows false elem op (O.Scalar r) d s = cc
 variable_stepped_grows k elem op O.Nothing d s = absurd s
 
--- assignments and steps that write their variable themselves
-Writes : Typed → Layout → TExpr → Option Own → Type 0
-Writes t l e None = Unit {0}
-Writes t l e (Some own) = (dest : Out) (d : Draft) → Is (is_none own.shape) dest → Grows d (written_length t l (is_none own.shape) e) (Stands (is_none own.shape)) (variable_written t l e dest d)
-
-effect_in : (o : Option Own) (t : Typed) (l : Layout) (e : TExpr) (d : Draft) → Writes t l e o → IsShaped e →
-    Grows d (elim o as (λ _. ℕ) [ Some own ↦ written_length t l (is_none own.shape) e | None ↦ length_of t l e ]) (λ (v : Out). Unit {0})
-    (elim o as (λ _. Made Out) [ Some own ↦ then_make (standing t l own d) (λ dest after. variable_written t l e dest after) | None ↦ value_of t l e d ])
-unfolding Writes
-effect_in None t l e d w h = weaker (Stands (is_kept e)) (λ (v : Out). Unit {0}) d _ _ (λ v _. tt) (value_grows t l e h d)
-effect_in (Some own) t l e d w h =
-    sized _ d _ _ _ (nothing_more _) (bind (Is (is_none own.shape)) (λ (v : Out). Unit {0}) d 0 _ _ _ (standing_grows (is_none own.shape) t l own d refl) (λ dest after s.
-    weaker (Stands (is_none own.shape)) (λ (v : Out). Unit {0}) after _ _ (λ v _. tt) (w dest after s)))
+-- assignments that write their variable themselves
+Writes : Typed → Layout → AssignOp → Place → TExpr → TExpr → Option Own → Type 0
+Writes t l op place target value None = Unit {0}
+Writes t l op place target value (Some own) =
+    (dest : Out) (d : Draft) → Is (is_none own.shape) dest → Grows d (assigned_length t l (is_none own.shape) op (type_of target).elem value) (Stands (is_none own.shape)) (variable_assigned t l op place target value dest d)
 
 kept_unless_folded : (a b : Bool) → (a && not b) ≡ false → a ≡ true → b ≡ true
 kept_unless_folded true true h e = refl
 kept_unless_folded true false h e = cc
 kept_unless_folded false b h e = cc
 
-assign_writes : (t : Typed) (l : Layout) (ty : ValueType) (place : Place) (op : AssignOp) (p : _) (target : TExpr) (q : _) (value : TExpr) (own : Own) → is_none own.shape ≡ is_none (type_of target).shape →
-    (is_none own.shape ≡ true → is_kept value ≡ true) → (HasShape (type_of target) → HasShape (type_of value)) → IsShaped value → Writes t l (T.Assign' ty place op p target q value) (Some own)
-unfolding Writes written_length variable_written
-assign_writes t l ty place op p target q value own a b c h dest d s = by (assign_op_of op)
+assign_writes : (t : Typed) (l : Layout) (op : AssignOp) (place : Place) (target value : TExpr) (own : Own) → is_none own.shape ≡ is_none (type_of target).shape →
+    (is_none own.shape ≡ true → is_kept value ≡ true) → (HasShape (type_of target) → HasShape (type_of value)) → IsShaped value → Writes t l op place target value (Some own)
+unfolding Writes
+assign_writes t l op place target value own a b c h dest d s = by (assign_op_of op)
   where
     by : (o : Option Op) → Grows d (elim o as (λ _. ℕ) [
       | None ↦ put_length t l (is_none own.shape) value
@@ -265,95 +316,49 @@ assign_writes t l ty place op p target q value own a b c h dest d s = by (assign
     by None = put_grows (is_none own.shape) t l dest value d s h (suits_by (is_none own.shape) value b (λ e. c (sym a ∙ e)))
     by (Some o) = variable_operated_grows (is_none own.shape) t l o place target value dest d s h
 
-assign_written : (t : Typed) (l : Layout) (ty : ValueType) (place : Place) (op : AssignOp) (p : _) (target : TExpr) (q : _) (value : TExpr) → (HasShape (type_of target) → HasShape (type_of value)) → IsShaped value → (o : Option Own) → OwnFits o (is_none (type_of target).shape) →
-    Writes t l (T.Assign' ty place op p target q value) (elim o as (λ _. Option Own) [ Some own ↦ if folds own value then None else Some own | None ↦ None ])
+assign_written : (t : Typed) (l : Layout) (op : AssignOp) (place : Place) (target value : TExpr) → (HasShape (type_of target) → HasShape (type_of value)) → IsShaped value → (o : Option Own) → OwnFits o (is_none (type_of target).shape) →
+    Writes t l op place target value (elim o as (λ _. Option Own) [ Some own ↦ if folds own value then None else Some own | None ↦ None ])
 unfolding Writes folds
-assign_written t l ty place op p target q value c h None f = tt
-assign_written t l ty place op p target q value c h (Some own) f = by (is_none own.shape && not (is_kept value)) refl
+assign_written t l op place target value c h None f = tt
+assign_written t l op place target value c h (Some own) f = by (is_none own.shape && not (is_kept value)) refl
   where
-    by : (b : Bool) → (is_none own.shape && not (is_kept value)) ≡ b → Writes t l (T.Assign' ty place op p target q value) (if b then None else Some own)
+    by : (b : Bool) → (is_none own.shape && not (is_kept value)) ≡ b → Writes t l op place target value (if b then None else Some own)
     by true e = tt
-    by false e = assign_writes t l ty place op p target q value own f (kept_unless_folded (is_none own.shape) (is_kept value) e) c h
+    by false e = assign_writes t l op place target value own f (kept_unless_folded (is_none own.shape) (is_kept value) e) c h
 
-step_written : (t : Typed) (l : Layout) (ty : ValueType) (op : StepOp) (order : _) (p : _) (target : TExpr) (o : Option Own) → Writes t l (T.Step' ty op order p target) o
-unfolding Writes written_length variable_written
-step_written t l ty op order p target None = tt
-step_written t l ty op order p target (Some own) = λ dest d s. variable_stepped_grows (is_none own.shape) (type_of target).elem op dest d s
+assignment_in : (o : Option Own) (narrow : Option Variable) (t : Typed) (l : Layout) (op : AssignOp) (place : Place) (target value : TExpr) (whole : Code) (n : ℕ) (d : Draft) → Writes t l op place target value o → IsShaped value →
+    Grows d n (λ (v : Out). Unit {0}) (whole d) →
+    Grows d (elim o as (λ _. ℕ) [ Some own ↦ assigned_length t l (is_none own.shape) op (type_of target).elem value | None ↦ elim narrow as (λ _. ℕ) [ Some _ ↦ narrowed_length t l value | None ↦ n ] ]) (λ (v : Out). Unit {0})
+    (elim o as (λ _. Made Out) [
+      | Some own ↦ then_make (standing t l own d) (λ dest after. variable_assigned t l op place target value dest after)
+      | None ↦ elim narrow as (λ _. Made Out) [ Some x ↦ then_make (field_of t l x 0 d) (λ f after. narrowed_to t l f value after) | None ↦ whole d ]
+    ])
+unfolding Writes
+assignment_in (Some own) narrow t l op place target value whole n d w h g =
+    sized _ d _ _ _ (nothing_more _) (bind (Is (is_none own.shape)) (λ (v : Out). Unit {0}) d 0 _ _ _ (standing_grows (is_none own.shape) t l own d refl) (λ dest after s.
+    weaker (Stands (is_none own.shape)) (λ (v : Out). Unit {0}) after _ _ (λ v _. tt) (w dest after s)))
+assignment_in None (Some x) t l op place target value whole n d w h g =
+    sized _ d _ _ _ (nothing_more _) (bind Anything (λ (v : Out). Unit {0}) d 0 _ _ _ (field_of_grows t l x 0 d) (λ f after _.
+    weaker (Stands false) (λ (v : Out). Unit {0}) after _ _ (λ v _. tt) (narrowed_grows t l f value after h)))
+assignment_in None None t l op place target value whole n d w h g = g
+
+step_in : (o : Option Own) (t : Typed) (l : Layout) (op : StepOp) (target : TExpr) (whole : Code) (n : ℕ) (d : Draft) → Grows d n (λ (v : Out). Unit {0}) (whole d) →
+    Grows d (elim o as (λ _. ℕ) [ Some own ↦ stepped_length (is_none own.shape) (type_of target).elem | None ↦ n ]) (λ (v : Out). Unit {0})
+    (elim o as (λ _. Made Out) [ Some own ↦ then_make (standing t l own d) (λ dest after. variable_stepped (type_of target).elem op dest after) | None ↦ whole d ])
+step_in (Some own) t l op target whole n d g =
+    sized _ d _ _ _ (nothing_more _) (bind (Is (is_none own.shape)) (λ (v : Out). Unit {0}) d 0 _ _ _ (standing_grows (is_none own.shape) t l own d refl) (λ dest after s.
+    weaker (Stands (is_none own.shape)) (λ (v : Out). Unit {0}) after _ _ (λ v _. tt) (variable_stepped_grows (is_none own.shape) (type_of target).elem op dest after s)))
+step_in None t l op target whole n d g = g
 
 -- an expression whose value is not used
+value_unused : (t : Typed) (l : Layout) (e : TExpr) (d : Draft) → IsShaped e → Grows d (length_of t l e) (λ (v : Out). Unit {0}) (value_of t l e d)
+value_unused t l e d h = weaker (Stands (is_kept e)) (λ (v : Out). Unit {0}) d _ _ (λ v _. tt) (value_grows t l e h d)
+
 pub effect_grows : (t : Typed) (l : Layout) (e : TExpr) (d : Draft) → IsShaped e → Grows d (effect_length_of t l e) (λ (v : Out). Unit {0}) (effect_of t l e d)
-unfolding effect_of effect_length_of written_by IsShaped
+unfolding effect_of effect_length_of assignment_effect assignment_length step_effect step_effect_length IsShaped
 effect_grows t l (T.Brackets' ty p inner) d h = effect_grows t l inner d h.1
 effect_grows t l (T.Assign' ty place op p target q value) d h =
-    effect_in _ t l (T.Assign' ty place op p target q value) d (assign_written t l ty place op p target q value h.1 h.3 (own_of target) (own_target_fits target h.2)) h
-effect_grows t l (T.Step' ty op order p target) d h = effect_in (own_of target) t l (T.Step' ty op order p target) d (step_written t l ty op order p target (own_of target)) h
-effect_grows t l e d h = weaker (Stands (is_kept e)) (λ (v : Out). Unit {0}) d _ _ (λ v _. tt) (value_grows t l e h d)
-
--- tests
-compared_word : (m : Machine) (left spare : Field) (word : _) (d : Draft) → Grows d 2 (λ (u : Unit {0}). Unit {0}) (compared m left (R.Word word) spare d)
-unfolding compared
-compared_word (M.Operate act) left spare word d = fails_grow _ d 2
-compared_word (M.Compare relation) left spare word d = makes _ tt d _ 2 tt (and_instr _ d _ 1 (and_instr _ d d 0 (as_it_was d)))
-
-compared_field : (m : Machine) (left right spare : Field) (d : Draft) → Grows d 1 (λ (u : Unit {0}). Unit {0}) (compared m left (R.Field right) spare d)
-unfolding compared
-compared_field (M.Operate act) left right spare d = fails_grow _ d 1
-compared_field (M.Compare relation) left right spare d = makes _ tt d _ 1 tt (and_instr _ d d 0 (as_it_was d))
-
-two_if_taken : (o : Option ℕ) (n : ℕ) → is_some o ≡ true → 2 ≡ (elim o as (λ _. ℕ) [ Some _ ↦ 2 | None ↦ n ])
-two_if_taken (Some w) n h = refl
-two_if_taken None n h = cc
-
-rest_if_none : (o : Option ℕ) (n m : ℕ) → o ≡ None → n ≡ m → n ≡ (elim o as (λ _. ℕ) [ Some _ ↦ 2 | None ↦ m ])
-rest_if_none (Some w) n m h e = cc
-rest_if_none None n m h e = e
-
--- the comparison behind its operands
-ending_length : Op → TExpr → ℕ
-ending_length op e = elim (word_taken op e) as (λ _. ℕ) [ Some _ ↦ 2 | None ↦ spare_length op (is_kept e) + 1 ]
-
-spared : (op : Op) (k : Bool) → relates op ≡ true → spare_length op k ≡ (if k then 1 else 0)
-unfolding spare_length
-spared op true h = ap (λ (b : Bool). if b || divides op then 1 else 0) h
-spared op false h = refl
-
-compared_grows : (op : Op) (m : Machine) (e : TExpr) (left : Field) (right : Right) (spare : Field) (d : Draft) → relates op ≡ true → IsRight op e right →
-    Grows d (ending_length op e) (λ (u : Unit {0}). Unit {0}) (compared m left right spare d)
-unfolding ending_length
-compared_grows op m e left (R.Field f) spare d r h =
-    sized _ d _ _ _ (rest_if_none (word_taken op e) 1 _ h.0 (sym (ap (λ (n : ℕ). n + 1) (spared op (is_kept e) r ∙ ap (λ (b : Bool). if b then 1 else 0) h.1)))) (compared_field m left f spare d)
-compared_grows op m e left (R.Word (K.Imm w)) spare d r h = sized _ d _ _ _ (two_if_taken (word_taken op e) _ h) (compared_word m left spare _ d)
-compared_grows op m e left (R.Word (K.Reg q)) spare d r h =
-    sized _ d _ _ _ (rest_if_none (word_taken op e) 2 _ h.0 (sym (ap (λ (n : ℕ). n + 1) (spared op (is_kept e) r ∙ ap (λ (b : Bool). if b then 1 else 0) h.1)))) (compared_word m left spare _ d)
-
-compared_together : (n : ℕ) (op : Op) (e : TExpr) → before_length n op e + ending_length op e ≡ compared_length n op e
-unfolding ending_length compared_length
-compared_together n op e = by (word_taken op e) n _
-  where
-    by : (o : Option ℕ) (n m : ℕ) → (elim o as (λ _. ℕ) [ Some _ ↦ 0 | None ↦ n ]) + (elim o as (λ _. ℕ) [ Some _ ↦ 2 | None ↦ m ]) ≡ (elim o as (λ _. ℕ) [ Some _ ↦ 2 | None ↦ n + m ])
-    by (Some w) n m = refl
-    by None n m = refl
-
-relation_grows : (t : Typed) (l : Layout) (op : Op) (signed : Bool) (set : ℕ) (left right : TExpr) (d : Draft) → relates op ≡ true → IsShaped left → IsShaped right →
-    Grows d (spread_length (operand_length (length_of t l left) (is_quiet right) left) left + compared_length (next_length t l right) op right) (λ (u : Unit {0}). Unit {0}) (relation_tested t l op signed set left right d)
-unfolding relation_tested next_length
-relation_grows t l op signed set left right d r h g =
-    sized _ d _ _ _ (nothing_more _ ∙ ap (λ (x : ℕ). spread_length (operand_length (length_of t l left) (is_quiet right) left) left + x) (compared_together (operand_length (length_of t l right) true right) op right))
-    (bind Anything _ d 0 _ _ _ (entry_grows _ _ _ d) (λ spare begun _.
-    bind (λ (f : Field). Unit {0}) _ begun _ _ _ _ (spread_into_grows _ left _ spare begun (operand_grows t l _ left _ _ h (value_grows t l left h))) (λ a between _.
-    bind (IsRight op right) _ between _ _ _ _ (right_by_grows _ _ op right between (operand_grows t l true right _ _ g (value_grows t l right g))) (λ b after s.
-    compared_grows op (machine_of op signed) right a b spare after r s))))
-
-value_tested_grows : (t : Typed) (l : Layout) (e : TExpr) (d : Draft) → IsShaped e → Grows d (next_length t l e + 1) (λ (u : Unit {0}). Unit {0}) (value_tested t l e d)
-unfolding value_tested
-value_tested_grows t l e d h =
-    bind (Stands (is_kept e)) _ d _ 1 _ _ (next_grows t l e h d) (λ v after s. in_field_grows _ after 1 (is_kept e) v _ s (λ source _. makes _ tt after _ 1 tt (and_instr _ after after 0 (as_it_was after))))
-
-pub tested_grows : (t : Typed) (l : Layout) (e : TExpr) (d : Draft) → IsShaped e → Grows d (tested_length t l e) (λ (u : Unit {0}). Unit {0}) (tested t l e d)
-unfolding tested tested_length IsShaped next_length operand_length in_place own_of
-tested_grows t l (T.Brackets' ty p inner) d h = tested_grows t l inner d h.1
-tested_grows t l (T.Variable ty x) d h =
-    bind Anything _ d 0 1 _ _ (field_of_grows t l x 0 d) (λ source after _. makes _ tt after _ 1 tt (and_instr _ after after 0 (as_it_was after)))
-tested_grows t l (T.Binary' ty place op p left q right) d h =
-    either_grows _ (relates op) d _ _ _ _ (λ r. relation_grows t l op _ _ left right d r h.0 h.1) (λ _. value_tested_grows t l (T.Binary' ty place op p left q right) d h)
-tested_grows t l e d h = value_tested_grows t l e d h
+    assignment_in (assigned_own target value) (assigned_narrow op target) t l op place target value (value_of t l (T.Assign' ty place op p target q value)) _ d (assign_written t l op place target value h.1 h.3 (own_of target) (own_target_fits target h.2)) h.3
+    (value_unused t l (T.Assign' ty place op p target q value) d h)
+effect_grows t l (T.Step' ty op order p target) d h = step_in (own_of target) t l op target (value_of t l (T.Step' ty op order p target)) _ d (value_unused t l (T.Step' ty op order p target) d h)
+effect_grows t l e d h = value_unused t l e d h

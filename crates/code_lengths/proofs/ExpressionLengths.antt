@@ -18,21 +18,22 @@ use Rattle.lower_base.specs.Layouts.{Layout, elements_of}
 use Rattle.lower_comm.specs.Messages.{communicated, checked_grid}
 use Rattle.lower_comm.specs.News.{goes_by_news}
 use Rattle.lower_expr.specs.Frames.{called}
+use Rattle.lower_expr.specs.declared.spots.Spot.{Spot}
 use Rattle.lower_expr.specs.declared.spots.Spot.TheVariants as S
-use Rattle.lower_expr.specs.Lengths.{length_of, spot_length_of, lengths_of, call_length, bare, load_length, load_length_of, read_length, news_length, news_moves, news_checked, four_times}
+use Rattle.lower_expr.specs.Lengths.{length_of, truth_length_of, tested_length, tested_by_length, arm_length_of, spot_length_of, lengths_of, call_length, bare, load_length, load_length_of, read_length, news_length, news_moves, news_checked, four_times}
 use Rattle.lower_expr.specs.Spots.{variable_spot}
-use Rattle.lower_expr.specs.Steps.{is_kept, pieces_printed}
-use Rattle.lower_expr.specs.Values.{Code, Codes, value_of, spot_of, values_of, element_spot, indexed_spot, news_by, read_by, message_by}
+use Rattle.lower_expr.specs.Steps.{has_truth, is_kept, pieces_printed}
+use Rattle.lower_expr.specs.Values.{Code, Codes, Test, condition_by, value_of, truth_of, spot_of, values_of, element_spot, indexed_spot, news_to, read_to, read_by, index_read_to, index_read_by, message_to, message_by, call_to}
 use Rattle.code_lengths.specs.Shaped.{HasShape, IsShaped, IsTarget, AreShaped}
 use Rattle.code_lengths.specs.Growth.{Grows, Stands, Anything}
-use Rattle.code_lengths.proofs.Drafting.{as_it_was, makes, sized, bind, weaker, fresh_grows}
+use Rattle.code_lengths.proofs.Drafting.{as_it_was, and_instr, makes, sized, bind, weaker, fresh_grows}
 use Rattle.code_lengths.proofs.Pieces.{InField, constant_grows, in_place_grows, printed_grows}
 use Rattle.code_lengths.proofs.Communication.{Is, fresh_is, located_grows, nothing_more, field_of_grows, read_by_news_grows, grid_check_more, grid_checked, reduced_grows, scanned_grows, segment_field_grows, enumerated_grows, part_field_grows}
 use Rattle.code_lengths.proofs.SpotPieces.{Fits, variable_fits, bare_type}
 use Rattle.code_lengths.proofs.CallPieces.{called_grows}
 use Rattle.code_lengths.proofs.OperandPieces.{operand_grows}
-use Rattle.code_lengths.proofs.ValuePieces.{IsCode, binary_grows, logical_grows, choice_grows, unary_grows, casts_grow, spread_by_grows, coordinate_grows, byte_grows}
-use Rattle.code_lengths.proofs.AssignPieces.{IsSpotCode, element_spot_grows, read_by_grows, assign_grows, step_grows}
+use Rattle.code_lengths.proofs.ValuePieces.{IsCode, IsTest, IsCondition, Known, tested_by_grows, zero_grows, relation_grows, binary_grows, logical_grows, arm_grows, choice_grows, unary_grows, casts_grow, spread_by_grows, coordinate_grows, byte_grows}
+use Rattle.code_lengths.proofs.AssignPieces.{IsSpotCode, element_spot_grows, read_to_grows, read_by_grows, assign_grows, step_grows}
 
 -- the codes of a list of values are so long, and give so many
 abbrev pub AreCodes : ℕ → ℕ → Codes → Type 0
@@ -54,12 +55,17 @@ indexed_spot_grows e codes n count d c f =
     sum : (n : ℕ) → 0 + (n + (2 + 0)) ≡ 2 + n
     sum n = omega arith
 
-message_grows : (t : Typed) (l : Layout) (e : TExpr) (ty : ValueType) (code : Code) (n m : ℕ) (k : Bool) (d : Draft) → IsCode n k code →
+pub message_to_grows : (k : Bool) (t : Typed) (l : Layout) (e : TExpr) (code : Code) (n m : ℕ) (ks : Bool) (dest : Out) (d : Draft) → IsCode n ks code → Stands k dest →
+    ((v into : Out) (b : Draft) → Stands k into → Grows b m (Stands k) (communicated t l e O.Nothing (v ∷ []) into b)) → Grows d (n + m) (Stands k) (message_to t l e code dest d)
+unfolding message_to
+message_to_grows k t l e code n m ks dest d c s f = bind (Stands ks) _ d n m _ _ (c d) (λ v after _. f v dest after s)
+
+message_grows : (t : Typed) (l : Layout) (e : TExpr) (ty : ValueType) (code : Code) (n m : ℕ) (ks : Bool) (d : Draft) → IsCode n ks code →
     ((v into : Out) (b : Draft) → Stands (is_none ty.shape) into → Grows b m (Stands (is_none ty.shape)) (communicated t l e O.Nothing (v ∷ []) into b)) →
     Grows d (n + m) (Stands (is_none ty.shape)) (message_by t l e ty code d)
 unfolding message_by
-message_grows t l e ty code n m k d c f =
-    sized _ d _ _ _ (nothing_more _) (bind (Stands (is_none ty.shape)) _ d 0 _ _ _ (fresh_grows ty.shape d) (λ dest begun s. bind (Stands k) _ begun n m _ _ (c begun) (λ v after _. f v dest after s)))
+message_grows t l e ty code n m ks d c f =
+    sized _ d _ _ _ (nothing_more _) (bind (Stands (is_none ty.shape)) _ d 0 _ _ _ (fresh_grows ty.shape d) (λ dest begun s. message_to_grows (is_none ty.shape) t l e code n m ks dest begun c s f))
 
 -- reads of variables and of elements
 one_read : (t : Typed) (l : Layout) (ty : ValueType) (x : Variable) → 0 + load_length t l (T.Variable ty x) ≡ 1
@@ -85,15 +91,20 @@ nothing_behind n = omega arith
 one_behind : (n m : ℕ) → (n + 1) + m ≡ n + suc m
 one_behind n m = omega arith
 
-call_value : (t : Typed) (l : Layout) (shape : Option ℕ) (instance : ℕ) (codes : Codes) (n count : ℕ) (d : Draft) → AreCodes n count codes →
-    Grows d (call_length (slice_get t.instances.items instance) count + n) (Stands (is_none shape)) (then_make (fresh_for shape d) (λ dest begun. then_make (codes [] begun) (λ given after. called t l instance given dest after)))
-call_value t l shape instance codes n count d c =
-    sized _ d _ _ _ (sum n (call_length (slice_get t.instances.items instance) count)) (bind (Stands (is_none shape)) _ d 0 _ _ _ (fresh_grows shape d) (λ dest begun s.
-    bind (λ (given : List Out). length given ≡ 0 + count) _ begun n _ _ _ (c [] begun) (λ given after h.
-    sized _ after _ _ _ (ap (call_length (slice_get t.instances.items instance)) (h ∙ nothing_more count)) (called_grows (is_none shape) t l instance given dest after s))))
+pub call_to_grows : (k : Bool) (t : Typed) (l : Layout) (instance : ℕ) (codes : Codes) (n count : ℕ) (dest : Out) (d : Draft) → AreCodes n count codes → Stands k dest →
+    Grows d (call_length (slice_get t.instances.items instance) count + n) (Stands k) (call_to t l instance codes dest d)
+unfolding call_to
+call_to_grows k t l instance codes n count dest d c s =
+    sized _ d _ _ _ (sum n (call_length (slice_get t.instances.items instance) count)) (bind (λ (given : List Out). length given ≡ 0 + count) _ d n _ _ _ (c [] d) (λ given after h.
+    sized _ after _ _ _ (ap (call_length (slice_get t.instances.items instance)) (h ∙ nothing_more count)) (called_grows k t l instance given dest after s)))
   where
-    sum : (n m : ℕ) → 0 + (n + m) ≡ m + n
+    sum : (n m : ℕ) → n + m ≡ m + n
     sum n m = omega arith
+
+call_value : (t : Typed) (l : Layout) (shape : Option ℕ) (instance : ℕ) (codes : Codes) (n count : ℕ) (d : Draft) → AreCodes n count codes →
+    Grows d (call_length (slice_get t.instances.items instance) count + n) (Stands (is_none shape)) (then_make (fresh_for shape d) (λ dest begun. call_to t l instance codes dest begun))
+call_value t l shape instance codes n count d c =
+    sized _ d _ _ _ (nothing_more _) (bind (Stands (is_none shape)) _ d 0 _ _ _ (fresh_grows shape d) (λ dest begun s. call_to_grows (is_none shape) t l instance codes n count dest begun c s))
 
 -- a get by NEWS
 grid_value : (ty : ValueType) (place : Place) (p : _) (indexes : Row_of-TExpr _) (x : Variable) (of : ℕ) (d : Draft) →
@@ -109,18 +120,38 @@ news_read k t l ty place p indexes x of into d s =
     sized _ d _ _ _ (nothing_more _ ∙ ap (λ (xs : List TExpr). news_moves of 0 xs + 1) (items_shown-the_row-TExpr-0 p indexes))
     (bind Anything (Stands k) d 0 _ _ _ (field_of_grows t l x 0 d) (λ source after _. read_by_news_grows k of _ ty.elem source into after s))
 
-left_index_value : (b : Bool) (t : Typed) (l : Layout) (ty : ValueType) (place : Place) (p : _) (indexes : Row_of-TExpr _) (x : Variable) (of : ℕ) (codes : Codes) (n count : ℕ) (d : Draft) → AreCodes n count codes →
-    Grows d (if b then news_length of (items-the_row-TExpr _ indexes) else (2 + n) + read_length ty.shape) (Stands (is_none ty.shape))
-    (if b then news_by t l (T.LeftIndex' ty place p indexes x of) ty d else read_by t l (T.LeftIndex' ty place p indexes x of) ty (indexed_spot (T.LeftIndex' ty place p indexes x of) codes) d)
-unfolding news_by news_length load_length load_length_of bare
-left_index_value true t l ty place p indexes x of codes n count d c =
-    sized _ d _ _ _ (sum (news_moves of 0 (items-the_row-TExpr _ indexes) + 1) (if news_checked of 0 (items-the_row-TExpr _ indexes) then 1 else 0)) (bind (Stands (is_none ty.shape)) _ d 0 _ _ _ (fresh_grows ty.shape d) (λ dest begun s.
-    bind (λ (v : Out). Unit {0}) _ begun _ _ _ _ (grid_value ty place p indexes x of begun) (λ _ after _. news_read (is_none ty.shape) t l ty place p indexes x of dest after s)))
+news_to_grows : (k : Bool) (t : Typed) (l : Layout) (ty : ValueType) (place : Place) (p : _) (indexes : Row_of-TExpr _) (x : Variable) (of : ℕ) (dest : Out) (d : Draft) → Stands k dest →
+    Grows d (news_length of (items-the_row-TExpr _ indexes)) (Stands k) (news_to t l (T.LeftIndex' ty place p indexes x of) dest d)
+unfolding news_to news_length
+news_to_grows k t l ty place p indexes x of dest d s =
+    sized _ d _ _ _ (sum (news_moves of 0 (items-the_row-TExpr _ indexes) + 1) (if news_checked of 0 (items-the_row-TExpr _ indexes) then 1 else 0))
+    (bind (λ (v : Out). Unit {0}) _ d _ _ _ _ (grid_value ty place p indexes x of d) (λ _ after _. news_read k t l ty place p indexes x of dest after s))
   where
-    sum : (a b : ℕ) → 0 + (b + a) ≡ a + b
+    sum : (a b : ℕ) → b + a ≡ a + b
     sum a b = omega arith
-left_index_value false t l ty place p indexes x of codes n count d c =
-    read_by_grows t l (T.LeftIndex' ty place p indexes x of) ty _ (2 + n) d (λ b. indexed_spot_grows (T.LeftIndex' ty place p indexes x of) codes n count b c (λ at h. h))
+
+index_read_by_news : (b : Bool) (k : Bool) (t : Typed) (l : Layout) (ty : ValueType) (place : Place) (p : _) (indexes : Row_of-TExpr _) (x : Variable) (of : ℕ) (spot : Draft → Made Spot) (n : ℕ) (dest : Out) (d : Draft) →
+    IsSpotCode n (T.LeftIndex' ty place p indexes x of) spot → Stands k dest → Grows d (if b then news_length of (items-the_row-TExpr _ indexes) else n + read_length ty) (Stands k)
+    (if b then news_to t l (T.LeftIndex' ty place p indexes x of) dest d else read_to t l (T.LeftIndex' ty place p indexes x of) spot dest d)
+unfolding load_length load_length_of bare
+index_read_by_news true k t l ty place p indexes x of spot n dest d c s = news_to_grows k t l ty place p indexes x of dest d s
+index_read_by_news false k t l ty place p indexes x of spot n dest d c s = read_to_grows k t l (T.LeftIndex' ty place p indexes x of) spot dest n d c s
+
+pub index_read_to_grows : (k : Bool) (t : Typed) (l : Layout) (ty : ValueType) (place : Place) (p : _) (indexes : Row_of-TExpr _) (x : Variable) (of : ℕ) (spot : Draft → Made Spot) (n : ℕ) (dest : Out) (d : Draft) →
+    IsSpotCode n (T.LeftIndex' ty place p indexes x of) spot → Stands k dest →
+    Grows d (if goes_by_news (T.LeftIndex' ty place p indexes x of) then news_length of (items-the_row-TExpr _ indexes) else n + read_length ty) (Stands k)
+    (index_read_to t l (T.LeftIndex' ty place p indexes x of) spot dest d)
+unfolding index_read_to
+index_read_to_grows k t l ty place p indexes x of spot n dest d c s =
+    index_read_by_news (goes_by_news (T.LeftIndex' ty place p indexes x of)) k t l ty place p indexes x of spot n dest d c s
+
+left_index_value : (t : Typed) (l : Layout) (ty : ValueType) (place : Place) (p : _) (indexes : Row_of-TExpr _) (x : Variable) (of : ℕ) (codes : Codes) (n count : ℕ) (d : Draft) → AreCodes n count codes →
+    Grows d (if goes_by_news (T.LeftIndex' ty place p indexes x of) then news_length of (items-the_row-TExpr _ indexes) else (2 + n) + read_length ty) (Stands (is_none ty.shape))
+    (index_read_by t l (T.LeftIndex' ty place p indexes x of) ty (indexed_spot (T.LeftIndex' ty place p indexes x of) codes) d)
+unfolding index_read_by bare
+left_index_value t l ty place p indexes x of codes n count d c =
+    sized _ d _ _ _ (nothing_more _) (bind (Stands (is_none ty.shape)) _ d 0 _ _ _ (fresh_grows ty.shape d) (λ dest begun s.
+    index_read_to_grows (is_none ty.shape) t l ty place p indexes x of _ (2 + n) dest begun (λ b. indexed_spot_grows (T.LeftIndex' ty place p indexes x of) codes n count b c (λ at h. h)) s))
 
 printed_value : (k : Bool) (pieces : List Piece) (codes : Codes) (n count : ℕ) (d : Draft) → AreCodes n count codes →
     Grows d (length pieces + n) (Stands k) (then_make (codes [] d) (λ given after. pieces_printed pieces given after))
@@ -131,20 +162,38 @@ printed_value k pieces codes n count d c =
     sum : (n m : ℕ) → n + m ≡ m + n
     sum n m = omega arith
 
+-- a scan of a value that stands in a field
+pub scan_grows : (k : Bool) (t : Typed) (l : Layout) (ty : ValueType) (p : _) (source : TExpr) (axis : _) (combiner : _) (direction : _) (mode : _) (bit : _) (within : _) (v into : Out) (b : Draft) → Stands k into →
+    Grows b 1 (Stands k) (communicated t l (T.Scan' ty p source axis combiner direction mode bit within) O.Nothing (v ∷ []) into b)
+unfolding communicated out-TExpr Carrier.out
+scan_grows k t l ty p source axis combiner direction mode bit within v into b s =
+    part_field_grows _ b 1 (v ∷ []) 0 _ (λ values. bind (λ (f : Option Field). Unit {0}) _ b 0 1 _ _ (segment_field_grows t l bit b) (λ bits after _. scanned_grows _ _ values _ bits into after s))
+
+-- an operand of `&&` or `||`
+condition_grows : (t : Typed) (l : Layout) (e : TExpr) (code : Code) (truth : Test) → IsShaped e → IsCode (length_of t l e) (is_kept e) code → (has_truth e ≡ true → IsTest (truth_length_of t l e) truth) →
+    IsCondition (condition_by t l code truth e)
+unfolding condition_by tested_length tested_by_length
+condition_grows t l e code truth h c f =
+    let operand = operand_grows t l true e code _ h c in
+    record { code = operand; test = tested_by_grows (has_truth e) _ _ (is_kept e) truth _ f operand }
+
 mutual
-  unfolding value_of spot_of values_of length_of spot_length_of lengths_of is_kept bare IsShaped IsTarget AreShaped communicated out-TExpr Carrier.out
+  unfolding value_of truth_of condition_by tested_length spot_of values_of length_of truth_length_of spot_length_of lengths_of arm_length_of has_truth is_kept bare IsShaped IsTarget AreShaped communicated out-TExpr Carrier.out
 
   pub value_grows : (t : Typed) (l : Layout) (e : TExpr) → IsShaped e → (d : Draft) → Grows d (length_of t l e) (Stands (is_kept e)) (value_of t l e d)
   value_grows t l (T.Assign' ty place op p target q value) h d =
       of_kind _ _ d _ _ (ap (λ (y : ValueType). is_none y.shape) (bare_type target h.2) ∙ ap is_none (sym h.0)) (assign_grows t l ty place op p target q value _ _ _ _ d (bare_type target h.2) (spot_grows t l target h.2) (value_grows t l value h.3)
       (operand_grows t l true value _ _ h.3 (value_grows t l value h.3)))
   value_grows t l (T.Choice' ty p test q first r second) h d =
-      choice_grows ty (is_kept test) (is_kept first) (is_kept second) _ _ _ _ _ _ d (operand_grows t l _ test _ _ h.0 (value_grows t l test h.0))
-      (operand_grows t l _ first _ _ h.1 (value_grows t l first h.1)) (operand_grows t l _ second _ _ h.2 (value_grows t l second h.2))
+      choice_grows ty (is_kept test) _ _ _ _ _ _ d (operand_grows t l _ test _ _ h.0 (value_grows t l test h.0))
+      (arm_grows (is_none ty.shape) (is_kept first) first _ _ (operand_grows t l true first _ _ h.1 (value_grows t l first h.1)))
+      (arm_grows (is_none ty.shape) (is_kept second) second _ _ (operand_grows t l true second _ _ h.2 (value_grows t l second h.2)))
   value_grows t l (T.LogicalOr' ty p left q right) h d =
-      logical_grows true (is_kept left) (is_kept right) ty.shape _ _ _ _ d (operand_grows t l _ left _ _ h.0 (value_grows t l left h.0)) (operand_grows t l _ right _ _ h.1 (value_grows t l right h.1))
+      logical_grows true ty.shape _ _ d (condition_grows t l left _ _ h.0 (value_grows t l left h.0) (truth_grows t l left h.0))
+      (condition_grows t l right _ _ h.1 (value_grows t l right h.1) (truth_grows t l right h.1))
   value_grows t l (T.LogicalAnd' ty p left q right) h d =
-      logical_grows false (is_kept left) (is_kept right) ty.shape _ _ _ _ d (operand_grows t l _ left _ _ h.0 (value_grows t l left h.0)) (operand_grows t l _ right _ _ h.1 (value_grows t l right h.1))
+      logical_grows false ty.shape _ _ d (condition_grows t l left _ _ h.0 (value_grows t l left h.0) (truth_grows t l left h.0))
+      (condition_grows t l right _ _ h.1 (value_grows t l right h.1) (truth_grows t l right h.1))
   value_grows t l (T.Binary' ty place op p left q right) h d =
       sized _ d _ _ _ (nothing_more _) (bind (Stands (is_none ty.shape)) _ d 0 _ _ _ (fresh_grows ty.shape d) (λ dest after s.
       binary_grows (is_none ty.shape) dest op _ place _ left _ _ right _ after s
@@ -167,18 +216,27 @@ mutual
   value_grows t l (T.Dot ty axis) h d = of_kind false _ d _ _ (sym h) (coordinate_grows ty.shape axis d)
   value_grows t l (T.Brackets' ty p inner) h d = value_grows t l inner h.1 d
   value_grows t l (T.Call' ty instance p arguments) h d = call_value t l ty.shape instance _ _ _ d (values_grow t l _ arguments h)
-  value_grows t l (T.LeftIndex' ty place p indexes x of) h d = left_index_value (goes_by_news (T.LeftIndex' ty place p indexes x of)) t l ty place p indexes x of _ _ _ d (values_grow t l _ indexes h)
+  value_grows t l (T.LeftIndex' ty place p indexes x of) h d = left_index_value t l ty place p indexes x of _ _ _ d (values_grow t l _ indexes h)
   value_grows t l (T.Pcoord ty axis) h d = of_kind false _ d _ _ (sym h) (coordinate_grows ty.shape axis d)
   value_grows t l (T.PositionsOf ty shape value) h d = of_kind true _ d _ _ (sym h) (constant_grows value d)
   value_grows t l (T.RankOf ty shape value) h d = of_kind true _ d _ _ (sym h) (constant_grows value d)
   value_grows t l (T.DimOf ty shape axis value) h d = of_kind true _ d _ _ (sym h) (constant_grows value d)
   value_grows t l (T.Scan' ty p source axis combiner direction mode bit within) h d =
-      message_grows t l (T.Scan' ty p source axis combiner direction mode bit within) ty _ _ 1 (is_kept source) d (operand_grows t l true source _ _ h (value_grows t l source h)) (λ v into b s.
-      part_field_grows _ b 1 (v ∷ []) 0 _ (λ values. bind (λ (f : Option Field). Unit {0}) _ b 0 1 _ _ (segment_field_grows t l bit b) (λ bits after _. scanned_grows _ _ values _ bits into after s)))
+      message_grows t l (T.Scan' ty p source axis combiner direction mode bit within) ty _ _ 1 (is_kept source) d (operand_grows t l true source _ _ h (value_grows t l source h)) (scan_grows _ t l ty p source axis combiner direction mode bit within)
   value_grows t l (T.Enumerate ty axis direction within mode bit) h d =
       bind (Stands (is_none ty.shape)) _ d 0 2 _ _ (fresh_grows ty.shape d) (λ dest after s. enumerated_grows (is_none ty.shape) t l _ bit dest after s)
   value_grows t l (T.Printf' ty pieces p arguments) h d = printed_value _ pieces.items _ _ _ d (values_grow t l _ arguments h)
   value_grows t l (T.GetChar ty) h d = of_kind true _ d _ _ (sym h) (byte_grows d)
+
+  -- the test flags of a value that has a truth without its value
+  pub truth_grows : (t : Typed) (l : Layout) (e : TExpr) → IsShaped e → has_truth e ≡ true → (d : Draft) → Grows d (truth_length_of t l e) Known (truth_of t l e d)
+  truth_grows t l (T.Brackets' ty p inner) h r d = truth_grows t l inner h.1 r d
+  truth_grows t l (T.Variable ty x) h r d =
+      bind Anything Known d 0 1 _ _ (field_of_grows t l x 0 d) (λ source after _. makes Known tt after _ 1 tt (and_instr _ after after 0 (as_it_was after)))
+  truth_grows t l (T.Binary' ty place op p left q right) h r d =
+      relation_grows _ op _ _ _ _ _ left right r (operand_grows t l _ left _ _ h.0 (value_grows t l left h.0)) (operand_grows t l true right _ _ h.1 (value_grows t l right h.1)) d
+  truth_grows t l (T.Unary' ty op p operand) h r d = zero_grows _ (is_kept operand) _ (operand_grows t l true operand _ _ h.1 (value_grows t l operand h.1)) d
+  truth_grows t l _ h r d = cc
 
   pub spot_grows : (t : Typed) (l : Layout) (e : TExpr) → IsTarget e → (d : Draft) → Grows d (spot_length_of t l e) (Fits (bare e)) (spot_of t l e d)
   spot_grows t l (T.Variable ty x) h d = makes _ _ d d 0 (variable_fits l ty x) (as_it_was d)

@@ -15,7 +15,8 @@ use Rattle.lower_base.specs.declared.emit.Out.{Out}
 use Rattle.lower_base.specs.declared.emit.Out.TheVariants as O
 use Rattle.lower_base.specs.Drafts.{Draft, Made, Makes, then_make, with_instr}
 use Rattle.lower_base.specs.Layouts.{Layout, entries_of, register_of, field_of}
-use Rattle.lower_expr.specs.Effects.{next_length, put_length, effect_length_of, tested_length}
+use Rattle.lower_expr.specs.Effects.{next_length, put_length, narrowed_length, effect_length_of}
+use Rattle.lower_expr.specs.Lengths.{tested_length}
 use Rattle.lower_expr.specs.Steps.{is_kept, put_value}
 use Rattle.lower_stmt.specs.declared.length.Saved.{Saved}
 use Rattle.lower_stmt.specs.declared.statement.Frame.{Frame}
@@ -33,7 +34,7 @@ use Rattle.code_lengths.specs.Growth.{Extended, Grows, Stands, Anything}
 use Rattle.code_lengths.proofs.Drafting.{append_nothing, as_it_was, resized, and_instr, makes, sized, behind, bind, weaker, in_register_grows, entry_grows}
 use Rattle.code_lengths.proofs.Pieces.{kind_of, stands, put_value_grows}
 use Rattle.code_lengths.proofs.Communication.{Is, field_of_grows, own_field_grows, nothing_more}
-use Rattle.code_lengths.proofs.EffectLengths.{either_grows, next_grows, moved_grows, put_grows, suits_by, scalar_kept, effect_grows, tested_grows}
+use Rattle.code_lengths.proofs.EffectLengths.{either_grows, next_grows, narrowed_grows, put_grows, scalar_kept, effect_grows, tested_grows}
 
 abbrev pub Done : {A : Type 0} → A → Type 0
 Done x = Unit {0}
@@ -157,14 +158,20 @@ variable_by : (shape : Option ℕ) (t : Typed) (l : Layout) (n : ℕ) (d : Draft
 variable_by None t l n d = makes _ _ d d 0 refl (as_it_was d)
 variable_by (Some s) t l n d = bind Anything _ d 0 0 _ _ (field_of_grows t l (V.Local n) 0 d) (λ field after _. makes _ (O.Field field) after after 0 refl (as_it_was after))
 
--- a value is written to the variable, or moved to a narrow parallel one
+-- a value is written to the variable
 initial_put_grows : (t : Typed) (l : Layout) (info : VarInfo) (dest : Out) (e : TExpr) (d : Draft) → Is (is_none info.shape) dest → IsShaped e → is_none info.shape ≡ is_none (type_of e).shape →
-    Grows d (if is_none info.shape || info.elem.bits == 32 then put_length t l (is_none info.shape) e else next_length t l e + 1) Done (initial_put t l info dest e d)
+    Grows d (if is_none info.shape || info.elem.bits == 32 then put_length t l (is_none info.shape) e else narrowed_length t l e) Done (initial_put t l info dest e d)
 unfolding initial_put
-initial_put_grows t l info dest e d s h a =
-    either_grows Done (is_none info.shape || info.elem.bits == 32) d _ _ _ _
-    (λ _. weaker (Stands (is_none info.shape)) Done d _ _ (λ _ _. tt) (put_grows (is_none info.shape) t l dest e d s h (suits_by (is_none info.shape) e (λ k. scalar_kept e h (sym a ∙ k)) (λ k. sym a ∙ k))))
-    (λ _. weaker (Stands (is_none info.shape)) Done d _ _ (λ _ _. tt) (moved_grows (is_none info.shape) t l dest e d s h))
+initial_put_grows t l info dest e d s h a = by (is_none info.shape) dest s a
+  where
+    by : (k : Bool) (dest : Out) → Is k dest → k ≡ is_none (type_of e).shape → Grows d (if k || info.elem.bits == 32 then put_length t l k e else narrowed_length t l e) Done (initial_put t l info dest e d)
+    by true (O.Scalar r) s a = weaker (Stands true) Done d _ _ (λ _ _. tt) (put_grows true t l (O.Scalar r) e d refl h (scalar_kept e h (sym a)))
+    by false (O.Field f) s a =
+        either_grows Done (info.elem.bits == 32) d _ _ _ _ (λ _. weaker (Stands false) Done d _ _ (λ _ _. tt) (put_grows false t l (O.Field f) e d refl h (sym a)))
+        (λ _. weaker (Stands false) Done d _ _ (λ _ _. tt) (narrowed_grows t l f e d h))
+    by true (O.Field f) s a = cc
+    by false (O.Scalar r) s a = cc
+    by k O.Nothing s a = absurd s
 
 initial_by : (e : Option TExpr) (t : Typed) (l : Layout) (info : VarInfo) (n : ℕ) (d : Draft) → IsShapedInitial info e → Grows d (initial_length_of t l info e) Done (elim e as (λ _. Made (Unit {0})) [
   | None ↦ Makes tt d

@@ -1,8 +1,9 @@
 -- The code of the forms of expressions, over the code of their parts, is as long as described.
-use Rattle.std.proofs.Common.{◌≡◌, ℕ, suc, ◌+◌, Bool, true, false, not, List, [], ◌∷◌, length, Option, Some, None, is_none, is_some, refl, sym, ap, ◌∙◌, subst, arith, if◌then◌else◌}
+use Rattle.std.proofs.Common.{◌≡◌, ℕ, suc, ◌+◌, Bool, true, false, not, ◌||◌, List, [], ◌∷◌, length, Option, Some, None, is_none, is_some, refl, sym, ap, ◌∙◌, subst, arith, if◌then◌else◌}
 use Rattle.cstar_base.specs.declared.elem.Elem.{Elem}
 use Rattle.cstar_base.specs.declared.operators.Op.{Op}
 use Rattle.cstar_base.specs.declared.operators.Place.{Place}
+use Rattle.cstar_base.specs.Operators.{divides}
 use Rattle.cstar_tree.specs.declared.typed.TExpr.{TExpr}
 use Rattle.cstar_tree.specs.declared.typed.TExpr as T
 use Rattle.cstar_tree.specs.declared.typed.UnaryOp.{UnaryOp}
@@ -13,17 +14,24 @@ use Rattle.paris_code.specs.declared.operands.Field.{Field}
 use Rattle.paris_code.specs.declared.operands.Konst.TheVariants as K
 use Rattle.lower_base.specs.declared.emit.Out.{Out}
 use Rattle.lower_base.specs.declared.emit.Out.TheVariants as O
-use Rattle.lower_base.specs.Drafts.{Draft, Makes, then_make, from, with_instr, in_register, a_field, fresh_for}
+use Rattle.lower_base.specs.declared.operators.Machine.{Machine}
+use Rattle.lower_base.specs.declared.operators.Machine.TheVariants as M
+use Rattle.lower_base.specs.Operators.{machine_of}
+use Rattle.lower_base.specs.Drafts.{Draft, Made, Makes, Fails, then_make, from, with_instr, in_register, a_field, fresh_for}
 use Rattle.lower_expr.specs.declared.steps.Right.{Right}
 use Rattle.lower_expr.specs.declared.steps.Right.TheVariants as R
-use Rattle.lower_expr.specs.Lengths.{unary_length, operate_length, logical_length, choice_length, spread_length, spare_length, right_length, binary_length}
+use Rattle.lower_expr.specs.Lengths.{unary_length, operate_length, logical_length, choice_length, arm_length, compared_length, spread_length, spare_length, right_length, binary_length}
 use Rattle.lower_expr.specs.Operands.{is_plus, in_place, operand_length}
-use Rattle.lower_expr.specs.Steps.{is_kept, word_of, word_taken, relates, put_value, right_operated, in_a_field, negated}
-use Rattle.lower_expr.specs.Values.{Code, spread_into, spread_by, right_given, right_by, coordinate_in, byte_in, casts_put, unary_by, registers_by, fields_by, binary_at, jump_if_decided, narrowed_by, decided, limited, logical_ended, scalar_logical_by, nonzero_tested, decided_by, narrowed_again, parallel_ended, limited_by, parallel_logical_by, logical_by, scalar_choice_by, turned_over, parallel_choice_by, choice_by}
+use Rattle.lower_expr.specs.Steps.{is_kept, has_word, register_word, word_for, word_put, word_of, word_taken, relates, put_value, right_operated, in_a_field, negated}
+use Rattle.lower_expr.specs.Values.{Code, Test, Arm, Condition, spread_into, spread_by, right_given, right_by, coordinate_in, byte_in, casts_put, unary_by, registers_by, fields_by, binary_at, jump_if_decided, narrowed_by, decided, limited, logical_ended, scalar_logical_by, nonzero_tested, zero_tested, tested_by, compared, relation_by, decided_by, jumped, jumped_over, narrowed_again, limited_by, parallel_logical_by, logical_by, arm_by, scalar_choice_by, turned_over, parallel_choice_by, choice_by}
 use Rattle.code_lengths.specs.Growth.{Extended, Grows, Stands, Anything}
 use Rattle.code_lengths.proofs.Drafting.{as_it_was, resized, and_instr, makes, sized, behind, bind, weaker, in_register_grows, in_field_grows, register_grows, entry_grows, fresh_grows}
 use Rattle.code_lengths.proofs.Pieces.{InRegister, InField, fails_grow, constant_grows, test_grows, put_value_grows, operated_more, fields_operated_grows, word_grows, number_grows, in_a_field_grows, negated_grows}
-use Rattle.code_lengths.proofs.Communication.{nothing_more}
+use Rattle.code_lengths.proofs.Communication.{Is, is_stands, nothing_more}
+
+-- of what the test flags become nothing is said
+abbrev pub Known : Unit {0} → Type 0
+Known u = Unit {0}
 
 -- the code of an expression is so long, and its value stands where the expression says
 abbrev pub IsCode : ℕ → Bool → Code → Type 0
@@ -175,18 +183,18 @@ unfolding jump_if_decided
 jump_more true test target n d e x = and_instr _ d e n x
 jump_more false test target n d e x = and_instr _ d e n x
 
-narrowed_more : (is_or : Bool) (source : Field) (n : ℕ) (d e : Draft) → Extended d n e → Extended d ((n + 1) + 1) (narrowed_by is_or source e)
+narrowed_more : (is_or : Bool) (set n : ℕ) (d e : Draft) → Extended d n e → Extended d (n + 1) (narrowed_by is_or set e)
 unfolding narrowed_by
-narrowed_more true source n d e x = and_instr _ d _ (n + 1) (and_instr _ d e n x)
-narrowed_more false source n d e x = and_instr _ d _ (n + 1) (and_instr _ d e n x)
+narrowed_more true set n d e x = and_instr _ d e n x
+narrowed_more false set n d e x = and_instr _ d e n x
 
 decided_grows : (is_or k : Bool) (v : Out) (n own : ℕ) (d : Draft) → Stands k v → Grows d 1 (λ (m : ℕ). Unit {0}) (decided is_or v n own d)
 unfolding decided
 decided_grows is_or k v n own d s = in_register_grows _ d 1 k v _ s (λ a _. makes _ _ d _ 1 tt (jump_more is_or a _ 0 d d (as_it_was d)))
 
-limited_grows : (is_or k : Bool) (saved : Field) (v : Out) (d : Draft) → Stands k v → Grows d 3 (λ (f : Field). Unit {0}) (limited is_or saved v d)
+limited_grows : (k : Bool) (saved : Field) (v : Out) (d : Draft) → Stands k v → Grows d 3 (λ (f : Field). Unit {0}) (limited saved v d)
 unfolding limited
-limited_grows is_or k saved v d s = in_field_grows _ d 3 k v _ s (λ a _. makes _ a d _ 3 tt (narrowed_more is_or a 1 d _ (and_instr _ d d 0 (as_it_was d))))
+limited_grows k saved v d s = in_field_grows _ d 3 k v _ s (λ a _. makes _ a d _ 3 tt (narrowed_more false _ 2 d _ (and_instr _ d _ 1 (and_instr _ d d 0 (as_it_was d)))))
 
 logical_ended_grows : (is_or k : Bool) (dest : ℕ) (w : Out) (end : ℕ) (d : Draft) → Stands k w → Grows d 2 InRegister (logical_ended is_or dest w end d)
 unfolding logical_ended
@@ -203,116 +211,214 @@ scalar_logical_grows is_or left_kept right_kept first second n m d a b =
     sum : (n m : ℕ) → 1 + (n + (1 + (m + 2))) ≡ (n + m) + 4
     sum n m = omega arith
 
-nonzero_tested_grows : (k : Bool) (dest : Field) (w : Out) (d : Draft) → Stands k w → Grows d 3 InField (nonzero_tested dest w d)
+-- tests
+abbrev pub IsTest : ℕ → Test → Type 0
+IsTest n test = (d : Draft) → Grows d n Known (test d)
+
+nonzero_grows : (n : ℕ) (k : Bool) (code : Code) → IsCode n k code → IsTest (n + 1) (nonzero_tested code)
 unfolding nonzero_tested
-nonzero_tested_grows k dest w d s = in_field_grows _ d 3 k w _ s (λ b _. behind InField d _ 1 2 _ (and_instr _ d d 0 (as_it_was d)) (test_grows dest _))
+nonzero_grows n k code c d =
+    bind (Stands k) Known d n 1 _ _ (c d) (λ v after s. in_field_grows _ after 1 k v _ s (λ source _. makes Known tt after _ 1 tt (and_instr _ after after 0 (as_it_was after))))
 
-decided_by_grows : (is_or left_kept right_kept : Bool) (dest : Field) (v : Out) (second : Code) (m : ℕ) (d : Draft) → Stands left_kept v → IsCode m right_kept second →
-    Grows d (1 + (m + 3)) InField (decided_by is_or dest v second m d)
+pub zero_grows : (n : ℕ) (k : Bool) (code : Code) → IsCode n k code → IsTest (n + 1) (zero_tested code)
+unfolding zero_tested
+zero_grows n k code c d =
+    bind (Stands k) Known d n 1 _ _ (c d) (λ v after s. in_field_grows _ after 1 k v _ s (λ source _. makes Known tt after _ 1 tt (and_instr _ after after 0 (as_it_was after))))
+
+pub tested_by_grows : (b : Bool) (m n : ℕ) (k : Bool) (truth : Test) (code : Code) → (b ≡ true → IsTest m truth) → IsCode n k code → IsTest (if b then m else n + 1) (tested_by b truth code)
+unfolding tested_by
+tested_by_grows true m n k truth code f c d = f refl d
+tested_by_grows false m n k truth code f c d = nonzero_grows n k code c d
+
+-- relations
+compared_word : (m : Machine) (left spare : Field) (word : _) (d : Draft) → Grows d 2 Known (compared m left (R.Word word) spare d)
+unfolding compared
+compared_word (M.Operate act) left spare word d = fails_grow _ d 2
+compared_word (M.Compare relation) left spare word d = makes Known tt d _ 2 tt (and_instr _ d _ 1 (and_instr _ d d 0 (as_it_was d)))
+
+compared_field : (m : Machine) (left right spare : Field) (d : Draft) → Grows d 1 Known (compared m left (R.Field right) spare d)
+unfolding compared
+compared_field (M.Operate act) left right spare d = fails_grow _ d 1
+compared_field (M.Compare relation) left right spare d = makes Known tt d _ 1 tt (and_instr _ d d 0 (as_it_was d))
+
+two_if_taken : (o : Option ℕ) (n : ℕ) → is_some o ≡ true → 2 ≡ (elim o as (λ _. ℕ) [ Some _ ↦ 2 | None ↦ n ])
+two_if_taken (Some w) n h = refl
+two_if_taken None n h = cc
+
+rest_if_none : (o : Option ℕ) (n m : ℕ) → o ≡ None → n ≡ m → n ≡ (elim o as (λ _. ℕ) [ Some _ ↦ 2 | None ↦ m ])
+rest_if_none (Some w) n m h e = cc
+rest_if_none None n m h e = e
+
+-- the comparison behind its operands
+ending_length : Op → TExpr → ℕ
+ending_length op e = elim (word_taken op e) as (λ _. ℕ) [ Some _ ↦ 2 | None ↦ spare_length op (is_kept e) + 1 ]
+
+spared : (op : Op) (k : Bool) → relates op ≡ true → spare_length op k ≡ (if k then 1 else 0)
+unfolding spare_length
+spared op true h = ap (λ (b : Bool). if b || divides op then 1 else 0) h
+spared op false h = refl
+
+compared_grows : (op : Op) (m : Machine) (e : TExpr) (left : Field) (right : Right) (spare : Field) (d : Draft) → relates op ≡ true → IsRight op e right →
+    Grows d (ending_length op e) Known (compared m left right spare d)
+unfolding ending_length
+compared_grows op m e left (R.Field f) spare d r h =
+    sized _ d _ _ _ (rest_if_none (word_taken op e) 1 _ h.0 (sym (ap (λ (n : ℕ). n + 1) (spared op (is_kept e) r ∙ ap (λ (b : Bool). if b then 1 else 0) h.1)))) (compared_field m left f spare d)
+compared_grows op m e left (R.Word (K.Imm w)) spare d r h = sized _ d _ _ _ (two_if_taken (word_taken op e) _ h) (compared_word m left spare _ d)
+compared_grows op m e left (R.Word (K.Reg q)) spare d r h =
+    sized _ d _ _ _ (rest_if_none (word_taken op e) 2 _ h.0 (sym (ap (λ (n : ℕ). n + 1) (spared op (is_kept e) r ∙ ap (λ (b : Bool). if b then 1 else 0) h.1)))) (compared_word m left spare _ d)
+
+compared_together : (n : ℕ) (op : Op) (e : TExpr) → before_length n op e + ending_length op e ≡ compared_length n op e
+unfolding ending_length compared_length
+compared_together n op e = by (word_taken op e) n _
+  where
+    by : (o : Option ℕ) (n m : ℕ) → (elim o as (λ _. ℕ) [ Some _ ↦ 0 | None ↦ n ]) + (elim o as (λ _. ℕ) [ Some _ ↦ 2 | None ↦ m ]) ≡ (elim o as (λ _. ℕ) [ Some _ ↦ 2 | None ↦ n + m ])
+    by (Some w) n m = refl
+    by None n m = refl
+
+pub relation_grows : (set : ℕ) (op : Op) (signed : Bool) (n m : ℕ) (first second : Code) (left right : TExpr) → relates op ≡ true → IsCode n (is_kept left) first → IsCode m (is_kept right) second →
+    IsTest (spread_length n left + compared_length m op right) (relation_by set op signed first left second right)
+unfolding relation_by
+relation_grows set op signed n m first second left right r a b d =
+    sized _ d _ _ _ (nothing_more _ ∙ ap (λ (x : ℕ). spread_length n left + x) (compared_together m op right))
+    (bind Anything Known d 0 _ _ _ (entry_grows _ _ _ d) (λ spare begun _. bind (λ (f : Field). Unit {0}) Known begun _ _ _ _ (spread_into_grows first left n spare begun a) (λ x between _.
+    bind (IsRight op right) Known between _ _ _ _ (right_by_grows second m op right between b) (λ y after s. compared_grows op (machine_of op signed) right x y spare after r s))))
+
+-- `&&` and `||` with a parallel operand
+decided_by_grows : (is_or k : Bool) (dest : Field) (first : Code) (second : Test) (n m : ℕ) (d : Draft) → IsCode n k first → IsTest m second →
+    Grows d (n + (1 + (m + 2))) InField (decided_by is_or dest first second m d)
 unfolding decided_by
-decided_by_grows is_or left_kept right_kept dest v second m d s b =
-    bind (λ (k : ℕ). Unit {0}) InField d 1 _ _ _ (decided_grows is_or left_kept v m 4 d s) (λ _ next _. bind (Stands right_kept) InField next m 3 _ _ (b next) (λ w after sw. nonzero_tested_grows right_kept dest w after sw))
+decided_by_grows is_or k dest first second n m d a b =
+    bind (Stands k) InField d n _ _ _ (a d) (λ v between s. bind (λ (x : ℕ). Unit {0}) InField between 1 _ _ _ (decided_grows is_or k v m 3 between s)
+    (λ _ next _. bind Known InField next m 2 _ _ (b next) (λ _ after _. test_grows dest after)))
 
-again_by : (is_or kept : Bool) (w : Out) (d : Draft) → Stands kept w → Grows d (if kept then 1 else 2) (λ (v : Out). Unit {0}) (narrowed_again is_or kept w d)
-unfolding narrowed_again
-again_by is_or true w d s = in_register_grows _ d 1 true w _ s (λ b _. makes _ w d _ 1 tt (jump_more is_or b _ 0 d d (as_it_was d)))
-again_by is_or false w d s = in_field_grows _ d 2 false w _ s (λ b _. makes _ w d _ 2 tt (narrowed_more is_or b 0 d d (as_it_was d)))
+jumped_grows : (is_or k : Bool) (w : Out) (d : Draft) → Stands k w → Grows d 1 Known (jumped is_or w d)
+unfolding jumped
+jumped_grows is_or k w d s = in_register_grows _ d 1 k w _ s (λ b _. makes Known tt d _ 1 tt (jump_more is_or b _ 0 d d (as_it_was d)))
 
-parallel_ended_grows : (is_or kept : Bool) (dest saved : Field) (w : Out) (d : Draft) → Stands kept w → Grows d ((if kept then 1 else 2) + 2) InField (parallel_ended is_or dest saved kept w d)
-unfolding parallel_ended
-parallel_ended_grows is_or kept dest saved w d s =
-    bind (λ (v : Out). Unit {0}) InField d _ 2 _ _ (again_by is_or kept w d s) (λ _ after _. makes InField (O.Field dest) after _ 2 refl (and_instr _ after _ 1 (and_instr _ after after 0 (as_it_was after))))
+second_grows : (is_or kept : Bool) (set m t : ℕ) (code : Code) (test : Test) → IsCode m kept code → IsTest t test →
+    IsTest (if kept then m + 1 else t + 1) (if kept then jumped_over is_or code else narrowed_again is_or set test)
+unfolding jumped_over narrowed_again
+second_grows is_or true set m t code test a b d = bind (Stands true) Known d m 1 _ _ (a d) (λ w after s. jumped_grows is_or true w after s)
+second_grows is_or false set m t code test a b d =
+    bind Known Known d t 1 _ _ (b d) (λ _ after _. makes Known tt after _ 1 tt (narrowed_more is_or set 0 after after (as_it_was after)))
 
-limited_by_grows : (is_or left_kept kept : Bool) (dest saved : Field) (v : Out) (second : Code) (m : ℕ) (d : Draft) → Stands left_kept v → IsCode m kept second →
-    Grows d (3 + (m + ((if kept then 1 else 2) + 2))) InField (limited_by is_or dest saved v second kept d)
+limited_by_grows : (is_or : Bool) (dest saved : Field) (first next : Test) (n m : ℕ) (d : Draft) → IsTest n first → IsTest m next →
+    Grows d (n + ((2 + m) + 2)) InField (limited_by is_or dest saved first next d)
 unfolding limited_by
-limited_by_grows is_or left_kept kept dest saved v second m d s b =
-    bind (λ (f : Field). Unit {0}) InField d 3 _ _ _ (limited_grows is_or left_kept saved v d s) (λ _ next _. bind (Stands kept) InField next m _ _ _ (b next) (λ w after sw. parallel_ended_grows is_or kept dest saved w after sw))
+limited_by_grows is_or dest saved first next n m d a b =
+    bind Known InField d n _ _ _ (a d) (λ _ known _. bind Known InField known (2 + m) 2 _ _
+    (behind Known known _ 2 m _ (narrowed_more is_or _ 1 known _ (and_instr _ known known 0 (as_it_was known))) (b _))
+    (λ _ after _. makes InField (O.Field dest) after _ 2 refl (and_instr _ after _ 1 (and_instr _ after after 0 (as_it_was after)))))
 
-logical_rest : (is_or left_kept right_kept : Bool) (dest saved : Field) (v : Out) (second : Code) (m : ℕ) (d : Draft) → Stands left_kept v → IsCode m right_kept second →
-    Grows d (m + (if left_kept then 4 else (if right_kept then 6 else 7))) InField (if left_kept then decided_by is_or dest v second m d else limited_by is_or dest saved v second right_kept d)
-logical_rest is_or true right_kept dest saved v second m d s b = sized InField d _ _ _ (sum m) (decided_by_grows is_or true right_kept dest v second m d s b)
+logical_rest : (is_or lk rk : Bool) (dest saved : Field) (first second : Code) (first_test second_test : Test) (n nt m mt : ℕ) (d : Draft) → IsCode n lk first → IsTest nt first_test → IsCode m rk second → IsTest mt second_test →
+    Grows d (if lk then (n + mt) + 3 else (nt + (if rk then m else mt)) + 5) InField
+    (if lk then decided_by is_or dest first second_test mt d else limited_by is_or dest saved first_test (if rk then jumped_over is_or second else narrowed_again is_or dest.set second_test) d)
+logical_rest is_or true rk dest saved first second first_test second_test n nt m mt d a at b bt =
+    sized InField d _ _ _ (sum n mt) (decided_by_grows is_or true dest first second_test n mt d a bt)
   where
-    sum : (m : ℕ) → 1 + (m + 3) ≡ m + 4
-    sum m = omega arith
-logical_rest is_or false true dest saved v second m d s b = sized InField d _ _ _ (sum m) (limited_by_grows is_or false true dest saved v second m d s b)
+    sum : (n m : ℕ) → n + (1 + (m + 2)) ≡ (n + m) + 3
+    sum n m = omega arith
+logical_rest is_or false rk dest saved first second first_test second_test n nt m mt d a at b bt =
+    sized InField d _ _ _ (sum rk nt m mt) (limited_by_grows is_or dest saved first_test _ nt _ d at (second_grows is_or rk dest.set m mt second second_test b bt))
   where
-    sum : (m : ℕ) → 3 + (m + (1 + 2)) ≡ m + 6
-    sum m = omega arith
-logical_rest is_or false false dest saved v second m d s b = sized InField d _ _ _ (sum m) (limited_by_grows is_or false false dest saved v second m d s b)
-  where
-    sum : (m : ℕ) → 3 + (m + (2 + 2)) ≡ m + 7
-    sum m = omega arith
+    sum : (rk : Bool) (n m t : ℕ) → n + ((2 + (if rk then m + 1 else t + 1)) + 2) ≡ (n + (if rk then m else t)) + 5
+    sum true n m t = omega arith
+    sum false n m t = omega arith
 
-logical_sum : (left_kept right_kept : Bool) (n m : ℕ) → 1 + (n + (m + (if left_kept then 4 else (if right_kept then 6 else 7)))) ≡ (n + m) + (if left_kept then 5 else (if right_kept then 7 else 8))
-logical_sum true right_kept n m = omega arith
-logical_sum false true n m = omega arith
-logical_sum false false n m = omega arith
+pub record IsCondition (c : Condition) : Type 0 where
+  pub code : IsCode c.long c.kept c.code
+  pub test : IsTest c.tested_long c.test
 
-parallel_logical_grows : (is_or left_kept right_kept : Bool) (set : ℕ) (first second : Code) (n m : ℕ) (d : Draft) → IsCode n left_kept first → IsCode m right_kept second →
-    Grows d ((n + m) + (if left_kept then 5 else (if right_kept then 7 else 8))) InField (parallel_logical_by is_or set first left_kept second right_kept m d)
+parallel_logical_grows : (is_or : Bool) (set : ℕ) (left right : Condition) (d : Draft) → IsCondition left → IsCondition right →
+    Grows d (if left.kept then (left.long + right.tested_long) + 4 else (left.tested_long + (if right.kept then right.long else right.tested_long)) + 6) InField (parallel_logical_by is_or set left right d)
 unfolding parallel_logical_by
-parallel_logical_grows is_or left_kept right_kept set first second n m d a b =
-    sized InField d _ _ _ (zeros (1 + (n + (m + (if left_kept then 4 else (if right_kept then 6 else 7))))) ∙ logical_sum left_kept right_kept n m)
+parallel_logical_grows is_or set left right d a b =
+    sized InField d _ _ _ (sum left.kept right.kept left.long left.tested_long right.long right.tested_long)
     (bind Anything InField d 0 _ _ _ (entry_grows _ _ _ d) (λ dest begun _. bind Anything InField begun 0 _ _ _ (entry_grows _ _ _ begun) (λ saved next _.
-    sized InField next _ _ _ (sum n _) (bind (Stands left_kept) InField next (1 + n) _ _ _ (behind (Stands left_kept) next _ 1 n _ (and_instr _ next next 0 (as_it_was next)) (a _)) (λ v between sv.
-    logical_rest is_or left_kept right_kept dest saved v second m between sv b)))))
+    behind InField next _ 1 _ _ (and_instr _ next next 0 (as_it_was next))
+    (logical_rest is_or left.kept right.kept dest saved left.code right.code left.test right.test left.long left.tested_long right.long right.tested_long _ a.code a.test b.code b.test))))
   where
-    zeros : (x : ℕ) → 0 + (0 + x) ≡ x
-    zeros x = omega arith
+    sum : (lk rk : Bool) (n nt m mt : ℕ) → 0 + (0 + (1 + (if lk then (n + mt) + 3 else (nt + (if rk then m else mt)) + 5))) ≡ (if lk then (n + mt) + 4 else (nt + (if rk then m else mt)) + 6)
+    sum true rk n nt m mt = omega arith
+    sum false true n nt m mt = omega arith
+    sum false false n nt m mt = omega arith
 
-    sum : (n x : ℕ) → (1 + n) + x ≡ 1 + (n + x)
-    sum n x = omega arith
-
-pub logical_grows : (is_or left_kept right_kept : Bool) (shape : Option ℕ) (first second : Code) (n m : ℕ) (d : Draft) → IsCode n left_kept first → IsCode m right_kept second →
-    Grows d ((n + m) + logical_length (is_none shape) left_kept right_kept) (Stands (is_none shape)) (logical_by is_or shape first left_kept second right_kept m d)
+pub logical_grows : (is_or : Bool) (shape : Option ℕ) (left right : Condition) (d : Draft) → IsCondition left → IsCondition right →
+    Grows d (logical_length (is_none shape) left.kept right.kept left.long right.long left.tested_long right.tested_long) (Stands (is_none shape)) (logical_by is_or shape left right d)
 unfolding logical_by logical_length
-logical_grows is_or left_kept right_kept None first second n m d a b = scalar_logical_grows is_or left_kept right_kept first second n m d a b
-logical_grows is_or left_kept right_kept (Some set) first second n m d a b = parallel_logical_grows is_or left_kept right_kept set first second n m d a b
+logical_grows is_or None left right d a b = scalar_logical_grows is_or left.kept right.kept left.code right.code left.long right.long d a.code b.code
+logical_grows is_or (Some set) left right d a b = parallel_logical_grows is_or set left right d a b
+
+-- arms of `?:`
+abbrev pub IsArm : ℕ → Bool → Arm → Type 0
+IsArm n k arm = (dest : Out) (d : Draft) → Stands k dest → Grows d n (Stands k) (arm dest d)
+
+fails_behind : {A B : Type 0} (Q : B → Type 0) (d : Draft) (n : ℕ) (m : Made A) (next : A → Draft → Made B) → ((x : A) (e : Draft) → next x e ≡ Fails) → Grows d n Q (then_make m next)
+unfolding then_make
+fails_behind Q d n (Makes x e) next f = subst (λ made. Grows d n Q made) (sym (f x e)) (fails_grow Q d n)
+fails_behind Q d n Fails next f = fails_grow Q d n
+
+nowhere : (v : Out) (e : Draft) → put_value O.Nothing v e ≡ Fails
+unfolding put_value
+nowhere v e = refl
+
+pub word_put_grows : (k : Bool) (dest : Out) (word : ℕ) (d : Draft) → Is k dest → Grows d 1 (Stands k) (word_put dest word d)
+unfolding word_put
+word_put_grows k (O.Scalar r) word d s = makes (Stands k) (O.Scalar r) d _ 1 s (and_instr _ d d 0 (as_it_was d))
+word_put_grows k (O.Field f) word d s = makes (Stands k) (O.Field f) d _ 1 s (and_instr _ d d 0 (as_it_was d))
+word_put_grows k O.Nothing word d s = absurd s
+
+arm_in : (o : Option ℕ) (k ke : Bool) (dest : Out) (n : ℕ) (code : Code) (d : Draft) → IsCode n ke code → Is k dest →
+    Grows d (if not (is_none o) then 1 else n + 1) (Stands k) (elim o as (λ _. Made Out) [ Some word ↦ word_put dest word d | None ↦ then_make (code d) (λ v after. put_value dest v after) ])
+arm_in (Some w) k ke dest n code d c s = word_put_grows k dest w d s
+arm_in None k ke dest n code d c s = bind (Stands ke) (Stands k) d n 1 _ _ (c d) (λ v after _. put_value_grows k dest v after (is_stands k dest s))
+
+pub arm_grows : (k ke : Bool) (e : TExpr) (n : ℕ) (code : Code) → IsCode n ke code → IsArm (arm_length k n e) k (arm_by code e)
+unfolding arm_by arm_length has_word word_for
+arm_grows true ke e n code c (O.Scalar r) d s = arm_in (register_word e) true ke (O.Scalar r) n code d c refl
+arm_grows false ke e n code c (O.Field f) d s = arm_in (word_of e) false ke (O.Field f) n code d c refl
+arm_grows true ke e n code c (O.Field f) d s = cc
+arm_grows false ke e n code c (O.Scalar r) d s = cc
+arm_grows k ke e n code c O.Nothing d s = fails_behind (Stands k) d _ (code d) (λ v after. put_value O.Nothing v after) nowhere
 
 -- `?:`
-put_then : (k : Bool) (dest v : Out) (d : Draft) → Stands k dest → Grows d 1 (Stands k) (put_value dest v d)
-put_then k dest v d s = put_value_grows k dest v d s
-
-scalar_choice_grows : (k kt ka kb : Bool) (dest : Out) (test first second : Code) (i n m : ℕ) (d : Draft) → Stands k dest → IsCode i kt test → IsCode n ka first → IsCode m kb second →
-    Grows d ((i + (n + m)) + 4) (Stands k) (scalar_choice_by dest test first second n m d)
+pub scalar_choice_grows : (k kt : Bool) (dest : Out) (test : Code) (first second : Arm) (i n m : ℕ) (d : Draft) → Stands k dest → IsCode i kt test → IsArm n k first → IsArm m k second →
+    Grows d ((i + (n + m)) + 2) (Stands k) (scalar_choice_by dest test first second n m d)
 unfolding scalar_choice_by
-scalar_choice_grows k kt ka kb dest test first second i n m d s c a b =
-    sized (Stands k) d _ _ _ (sum i n m) (bind (Stands kt) (Stands k) d i _ _ _ (c d) (λ v begun sv. bind (λ (x : ℕ). Unit {0}) (Stands k) begun 1 _ _ _ (decided_grows false kt v n 3 begun sv) (λ other next _.
-    bind (Stands ka) (Stands k) next n _ _ _ (a next) (λ x between sx. bind (Stands k) (Stands k) between 1 _ _ _ (put_then k dest x between s) (λ _ half _.
-    bind (Stands kb) (Stands k) half (1 + m) 1 _ _ (behind (Stands kb) half _ 1 m _ (and_instr _ half half 0 (as_it_was half)) (b _)) (λ w after sw. put_then k dest w after s))))))
+scalar_choice_grows k kt dest test first second i n m d s c a b =
+    sized (Stands k) d _ _ _ (sum i n m) (bind (Stands kt) (Stands k) d i _ _ _ (c d) (λ v begun sv. bind (λ (x : ℕ). Unit {0}) (Stands k) begun 1 _ _ _ (decided_grows false kt v n 2 begun sv) (λ other next _.
+    bind (Stands k) (Stands k) next n (1 + m) _ _ (a dest next s) (λ _ half _. behind (Stands k) half _ 1 m _ (and_instr _ half half 0 (as_it_was half)) (b dest _ s)))))
   where
-    sum : (i n m : ℕ) → i + (1 + (n + (1 + ((1 + m) + 1)))) ≡ (i + (n + m)) + 4
+    sum : (i n m : ℕ) → i + (1 + (n + (1 + m))) ≡ (i + (n + m)) + 2
     sum i n m = omega arith
 
 turned_over_more : (saved condition : Field) (d : Draft) → Extended d 3 (turned_over saved condition d)
 unfolding turned_over
-turned_over_more saved condition d = narrowed_more true condition 1 d _ (and_instr _ d d 0 (as_it_was d))
+turned_over_more saved condition d = narrowed_more true _ 2 d _ (and_instr _ d _ 1 (and_instr _ d d 0 (as_it_was d)))
 
-parallel_choice_grows : (k kt ka kb : Bool) (dest : Out) (test first second : Code) (i n m : ℕ) (d : Draft) → Stands k dest → IsCode i kt test → IsCode n ka first → IsCode m kb second →
-    Grows d ((i + (n + m)) + 9) (Stands k) (parallel_choice_by dest test first second d)
+parallel_choice_grows : (k kt : Bool) (dest : Out) (test : Code) (first second : Arm) (i n m : ℕ) (d : Draft) → Stands k dest → IsCode i kt test → IsArm n k first → IsArm m k second →
+    Grows d ((i + (n + m)) + 7) (Stands k) (parallel_choice_by dest test first second d)
 unfolding parallel_choice_by
-parallel_choice_grows k kt ka kb dest test first second i n m d s c a b =
+parallel_choice_grows k kt dest test first second i n m d s c a b =
     in_field_grows _ d _ k dest _ s (λ f _. sized (Stands k) d _ _ _ (sum i n m) (bind Anything (Stands k) d 0 _ _ _ (entry_grows _ _ _ d) (λ saved begun _.
-    bind (Stands kt) (Stands k) begun i _ _ _ (c begun) (λ v next sv. bind (λ (x : Field). Unit {0}) (Stands k) next 3 _ _ _ (limited_grows false kt saved v next sv) (λ condition third _.
-    bind (Stands ka) (Stands k) third n _ _ _ (a third) (λ x fourth sx. bind (Stands k) (Stands k) fourth 1 _ _ _ (put_then k dest x fourth s) (λ _ fifth _.
-    bind (Stands kb) (Stands k) fifth (3 + m) 2 _ _ (behind (Stands kb) fifth _ 3 m _ (turned_over_more saved condition fifth) (b _)) (λ w sixth sw.
-    bind (Stands k) (Stands k) sixth 1 1 _ _ (put_then k dest w sixth s) (λ _ last _. makes (Stands k) dest last _ 1 s (and_instr _ last last 0 (as_it_was last)))))))))))
+    bind (Stands kt) (Stands k) begun i _ _ _ (c begun) (λ v next sv. bind (λ (x : Field). Unit {0}) (Stands k) next 3 _ _ _ (limited_grows kt saved v next sv) (λ condition third _.
+    bind (Stands k) (Stands k) third n _ _ _ (a dest third s) (λ _ fourth _. bind (Stands k) (Stands k) fourth (3 + m) 1 _ _
+    (behind (Stands k) fourth _ 3 m _ (turned_over_more saved condition fourth) (b dest _ s)) (λ _ last _. makes (Stands k) dest last _ 1 s (and_instr _ last last 0 (as_it_was last)))))))))
   where
-    sum : (i n m : ℕ) → 0 + (i + (3 + (n + (1 + ((3 + m) + 2))))) ≡ (i + (n + m)) + 9
+    sum : (i n m : ℕ) → 0 + (i + (3 + (n + ((3 + m) + 1)))) ≡ (i + (n + m)) + 7
     sum i n m = omega arith
 
-choice_rest : (k kt ka kb : Bool) (dest : Out) (test first second : Code) (i n m : ℕ) (d : Draft) → Stands k dest → IsCode i kt test → IsCode n ka first → IsCode m kb second →
+choice_rest : (k kt : Bool) (dest : Out) (test : Code) (first second : Arm) (i n m : ℕ) (d : Draft) → Stands k dest → IsCode i kt test → IsArm n k first → IsArm m k second →
     Grows d ((i + (n + m)) + choice_length kt) (Stands k) (if kt then scalar_choice_by dest test first second n m d else parallel_choice_by dest test first second d)
 unfolding choice_length
-choice_rest k true ka kb dest test first second i n m d s c a b = scalar_choice_grows k true ka kb dest test first second i n m d s c a b
-choice_rest k false ka kb dest test first second i n m d s c a b = parallel_choice_grows k false ka kb dest test first second i n m d s c a b
+choice_rest k true dest test first second i n m d s c a b = scalar_choice_grows k true dest test first second i n m d s c a b
+choice_rest k false dest test first second i n m d s c a b = parallel_choice_grows k false dest test first second i n m d s c a b
 
-pub choice_grows : (ty : ValueType) (kt ka kb : Bool) (test first second : Code) (i n m : ℕ) (d : Draft) → IsCode i kt test → IsCode n ka first → IsCode m kb second →
+pub choice_grows : (ty : ValueType) (kt : Bool) (test : Code) (first second : Arm) (i n m : ℕ) (d : Draft) → IsCode i kt test → IsArm n (is_none ty.shape) first → IsArm m (is_none ty.shape) second →
     Grows d ((i + (n + m)) + choice_length kt) (Stands (is_none ty.shape)) (choice_by ty kt test first second n m d)
 unfolding choice_by
-choice_grows ty kt ka kb test first second i n m d c a b =
-    sized _ d _ _ _ (nothing_more _) (bind (Stands (is_none ty.shape)) _ d 0 _ _ _ (fresh_grows ty.shape d) (λ dest after s. choice_rest (is_none ty.shape) kt ka kb dest test first second i n m after s c a b))
+choice_grows ty kt test first second i n m d c a b =
+    sized _ d _ _ _ (nothing_more _) (bind (Stands (is_none ty.shape)) _ d 0 _ _ _ (fresh_grows ty.shape d) (λ dest after s. choice_rest (is_none ty.shape) kt dest test first second i n m after s c a b))
 
 -- casts, unary operators, coordinates
 casts_more : (elems : List Elem) (r : ℕ) (d : Draft) → Extended d (length elems) (casts_put elems r d)

@@ -13,6 +13,8 @@ use Rattle.paris_code.specs.declared.program.Owner.{Owner}
 use Rattle.paris_code.specs.declared.program.Owner.TheVariants as W
 use Rattle.paris_code.specs.declared.program.Unit.{Unit}
 use Rattle.paris_code.specs.declared.program.Virtual.{Virtual}
+use Rattle.lower_base.specs.declared.emit.Operand.{Operand}
+use Rattle.lower_base.specs.declared.emit.Operand.TheVariants as P
 use Rattle.lower_base.specs.declared.emit.Out.{Out}
 use Rattle.lower_base.specs.declared.emit.Out.TheVariants as O
 
@@ -98,6 +100,11 @@ a_flag set d = an_entry set 1 W.Own d
 unfoldable pub fresh_for : Option ℕ → Draft → Made Out
 fresh_for None d = then_make (a_register d) (λ r after. Makes (O.Scalar r) after)
 fresh_for (Some set) d = then_make (a_field set d) (λ f after. Makes (O.Field f) after)
+
+-- an operand, as what an expression answers
+abbrev pub out_of : Operand → Out
+out_of (P.Register r) = O.Scalar r
+out_of (P.Field f) = O.Field f
 
 -- the register that holds a value, and the field that does
 unfoldable pub in_register : {B : Type 0} → Out → (ℕ → Made B) → Made B

@@ -2,15 +2,23 @@
 
 ghost use Rattle.std.specs.Prelude.{◌≡◌, ◌+◌, IfOk, OnOk};
 ghost use Rattle.paris_code.specs.declared.program.Owner.TheVariants as W;
+ghost use Rattle.lower_base.specs.declared.emit.Operand.TheVariants as P;
 ghost use Rattle.lower_base.specs.declared.emit.Out.TheVariants as O;
-ghost use Rattle.lower_base.specs.Drafts.{Makes, draft, here, with_instr, a_register, an_entry, fresh_for};
+ghost use Rattle.lower_base.specs.Drafts.{Makes, draft, here, with_instr, a_register, an_entry, fresh_for, out_of};
 
 use cstar_base::Memory;
 use cstar_tree::typed::ValueType;
 use paris_code::{Field, Instr, Owner, Unit, Virtual};
 
-/// Where a lowered expression has its value: in a register, in a field, or nowhere. A value of at
-/// most 32 bits stands there promoted to 32 bits.
+/// Where a value stands: in a register, or in a field. One of at most 32 bits stands there promoted
+/// to 32 bits.
+#[derive(Clone, Copy, PartialEq, Eq)]
+pub enum Operand {
+    Register(u32),
+    Field(Field),
+}
+
+/// Where a lowered expression has its value: in a register, in a field, or nowhere.
 #[derive(Clone, Copy, PartialEq, Eq)]
 pub enum Out {
     Scalar(u32),
@@ -71,12 +79,12 @@ pub fn flag(u: &mut Unit, set: u16) -> Result<Field, Memory>
 
 /// A fresh field for a value of the type, or a fresh register where it is scalar.
 #[tactic(auto, unfolding(crate::specs::Drafts::fresh_for, crate::specs::Drafts::then_make))]
-pub fn fresh(ty: ValueType, u: &mut Unit) -> Result<Out, Memory>
-    ensures draft { IfOk result (λ out. fresh_for ty.shape (draft u.old) ≡ Makes out (draft u.new)) }
+pub fn fresh(ty: ValueType, u: &mut Unit) -> Result<Operand, Memory>
+    ensures draft { IfOk result (λ dest. fresh_for ty.shape (draft u.old) ≡ Makes (out_of dest) (draft u.new)) }
 {
     match ty.shape {
-        Some(set) => Ok(Out::Field(field(u, set)?)),
-        None => Ok(Out::Scalar(register(u)?)),
+        Some(set) => Ok(Operand::Field(field(u, set)?)),
+        None => Ok(Operand::Register(register(u)?)),
     }
 }
 
@@ -100,24 +108,61 @@ pub fn plus(a: u32, b: u32) -> Result<u32, Memory>
     }
 }
 
+impl Operand {
+    /// The operand, as what an expression answers.
+    pub fn out(self) -> Out
+        ensures { result ≡ out_of self }
+    {
+        match self {
+            Operand::Register(register) => Out::Scalar(register),
+            Operand::Field(field) => Out::Field(field),
+        }
+    }
+
+    /// The register. `Memory` where the value stands in a field.
+    pub fn register(self) -> Result<u32, Memory>
+        ensures { IfOk result (λ r. self ≡ P.Register r) }
+    {
+        match self {
+            Operand::Register(register) => Ok(register),
+            Operand::Field(_) => Err(Memory),
+        }
+    }
+
+    /// The field. `Memory` where the value stands in a register.
+    pub fn field(self) -> Result<Field, Memory>
+        ensures { IfOk result (λ f. self ≡ P.Field f) }
+    {
+        match self {
+            Operand::Register(_) => Err(Memory),
+            Operand::Field(field) => Ok(field),
+        }
+    }
+}
+
 impl Out {
+    /// Where the value stands. `Memory` where it stands nowhere.
+    pub fn operand(self) -> Result<Operand, Memory>
+        ensures { IfOk result (λ value. self ≡ out_of value) }
+    {
+        match self {
+            Out::Scalar(register) => Ok(Operand::Register(register)),
+            Out::Field(field) => Ok(Operand::Field(field)),
+            Out::Nothing => Err(Memory),
+        }
+    }
+
     /// The register. `Memory` where the value stands in none.
     pub fn register(self) -> Result<u32, Memory>
         ensures { IfOk result (λ r. self ≡ O.Scalar r) }
     {
-        match self {
-            Out::Scalar(register) => Ok(register),
-            Out::Field(_) | Out::Nothing => Err(Memory),
-        }
+        self.operand()?.register()
     }
 
     /// The field. `Memory` where the value stands in none.
     pub fn field(self) -> Result<Field, Memory>
         ensures { IfOk result (λ f. self ≡ O.Field f) }
     {
-        match self {
-            Out::Field(field) => Ok(field),
-            Out::Scalar(_) | Out::Nothing => Err(Memory),
-        }
+        self.operand()?.field()
     }
 }

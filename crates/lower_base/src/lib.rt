@@ -7,5 +7,5 @@ pub mod names;
 pub mod operators;
 pub mod view;
 
-pub use emit::Out;
+pub use emit::{Operand, Out};
 pub use view::View;

@@ -4,7 +4,7 @@
 //! field for each of its elements. Instances of one function share their registers, as a function is
 //! never called while it runs.
 
-ghost use Rattle.std.specs.Prelude.{◌≡◌, ℕ, ◌+◌, ◌++◌, length, map, fold, IfOk, OnOk};
+ghost use Rattle.std.specs.Prelude.{◌≡◌, ℕ, ◌+◌, ◌<◌, ◌++◌, length, map, fold, IfOk, OnOk, IfSome};
 ghost use Rattle.cstar_tree.specs.declared.typed.LocalVar.{LocalVar};
 ghost use Rattle.cstar_tree.specs.TypedParts.{concat};
 ghost use Rattle.lower_base.specs.Drafts.{Makes, draft, from, an_entry};
@@ -52,7 +52,9 @@ impl Names {
     /// The numbering as `main` sees it.
     #[tactic(auto, unfolding(crate::specs::Layouts::layout_of, crate::specs::Layouts::entered, crate::specs::Layouts::layout))]
     pub fn of(alloc: Global, t: &Typed) -> Result<Names, Memory>
-        ensures { IfOk result (λ names. layout names ≡ layout_of t.now 0) }
+        requires { 0 < length t.now.instances.items }
+        ensures layout { IfOk result (λ names. layout names ≡ layout_of t.now 0) }
+        ensures each_instance { IfOk result (λ names. length names.bases.items ≡ length t.now.instances.items) }
     {
         let files = first_fields(alloc, &t.vars)?;
         let mut end = count(t.vars.len())?;
@@ -72,7 +74,10 @@ impl Names {
 
     /// The numbering as an instance sees it, whichever instance saw it before.
     pub fn enter(&mut self, t: &Typed, number: usize) -> Result<(), Memory>
-        ensures { (k : ℕ) → layout self.old ≡ layout_of t.now k → OnOk result (layout self.new ≡ layout_of t.now number) }
+        requires instance { number < length t.now.instances.items }
+        requires each_instance { length self.old.bases.items ≡ length t.now.instances.items }
+        ensures layout { (k : ℕ) → layout self.old ≡ layout_of t.now k → OnOk result (layout self.new ≡ layout_of t.now number) }
+        ensures each_instance { self.new.bases ≡ self.old.bases }
     {
         self.see_as(t, number)?;
         Ok(())
@@ -80,15 +85,13 @@ impl Names {
 
     #[tactic(auto, unfolding(crate::specs::Layouts::entered, crate::specs::Layouts::layout))]
     fn see_as(&mut self, t: &Typed, number: usize) -> Result<(), Memory>
-        ensures { OnOk result (layout self.new ≡ entered t.now number (layout self.old)) }
+        requires instance { number < length t.now.instances.items }
+        requires each_instance { length self.old.bases.items ≡ length t.now.instances.items }
+        ensures layout { OnOk result (layout self.new ≡ entered t.now number (layout self.old)) }
+        ensures each_instance { self.new.bases ≡ self.old.bases }
     {
-        let Some(base) = self.bases.get(number) else {
-            return Err(Memory);
-        };
-        self.base = *base;
-        let Some(instance) = t.instances.get(number) else {
-            return Err(Memory);
-        };
+        self.base = self.bases[number];
+        let instance = &t.instances[number];
         self.params.clear();
         self.outcome = number_params(&instance.params, &mut self.params)?;
         self.locals.clear();
@@ -99,7 +102,8 @@ impl Names {
 
 /// The instance that a name first has.
 pub fn named(t: &Typed, name: &[u8]) -> Option<usize>
-    ensures { result ≡ first_named 0 name.now t.now.instances.items }
+    ensures number { result ≡ first_named 0 name.now t.now.instances.items }
+    ensures instance { IfSome result (λ number. number < length t.now.instances.items) }
 {
     first_named(&t.instances, name)
 }
@@ -107,7 +111,8 @@ pub fn named(t: &Typed, name: &[u8]) -> Option<usize>
 /// The first instance with a name.
 #[tactic(auto, unfolding(crate::specs::Layouts::first_named))]
 fn first_named(instances: &[Instance], name: &[u8]) -> Option<usize>
-    ensures { result ≡ first_named 0 name.now instances.now }
+    ensures number { result ≡ first_named 0 name.now instances.now }
+    ensures instance { IfSome result (λ number. number < length instances.now) }
 {
     for (number, instance) in instances.iter().enumerate() {
         if instance.name.bytes() == name {
@@ -160,7 +165,8 @@ fn first_fields(alloc: Global, vars: &[VarInfo]) -> Result<Vec<u32>, Memory>
 /// The first registers of all instances, behind those of the file. `end` moves behind them.
 #[tactic(auto, unfolding(crate::specs::Layouts::registers_of))]
 fn bases_of(alloc: Global, instances: &[Instance], end: &mut u32) -> Result<Vec<u32>, Memory>
-    ensures { IfOk result (λ bases. registers_of instances.now end.old ≡ record { bases = bases.items; end = end.new }) }
+    ensures registers { IfOk result (λ bases. registers_of instances.now end.old ≡ record { bases = bases.items; end = end.new }) }
+    ensures each_instance { IfOk result (λ bases. length bases.items ≡ length instances.now) }
 {
     let mut bases = Vec::new(alloc);
     for instance in instances {
@@ -179,8 +185,9 @@ fn add_base(
     bases: &mut Vec<u32>,
     end: &mut u32,
 ) -> Result<(), Memory>
-    ensures { OnOk result (with_instance instances.now (record { bases = bases.old.items; end = end.old }) instance.now
+    ensures registers { OnOk result (with_instance instances.now (record { bases = bases.old.items; end = end.old }) instance.now
         ≡ record { bases = bases.new.items; end = end.new }) }
+    ensures one_more { OnOk result (length bases.new.items ≡ length bases.old.items + 1) }
 {
     if let Some(base) = earlier_base(instances, bases, instance) {
         bases.push(base)?;

@@ -1,6 +1,6 @@
 //! What the code of an instance is written from: the typed program, and where its variables are.
 
-ghost use Rattle.std.specs.Prelude.{◌≡◌, ℕ, IfOk, OnOk};
+ghost use Rattle.std.specs.Prelude.{◌≡◌, ◌<◌, ℕ, length, IfOk, OnOk};
 ghost use Rattle.lower_base.specs.Drafts.{Makes, draft, from, an_entry};
 ghost use Rattle.lower_base.specs.Layouts.{layout, layout_of, elements_of, result_register, register_of, field_of};
 ghost use Rattle.paris_code.specs.declared.program.Owner.TheVariants as W;
@@ -27,8 +27,10 @@ impl<'a> View<'a> {
     /// The program as `main` sees it. `Memory` where memory ends, or where the number of a register
     /// or a field would be 2^32 or more.
     pub fn of(alloc: Global, typed: &'a Typed) -> Result<View<'a>, Memory>
+        requires { 0 < length typed.now.instances.items }
         ensures typed { IfOk result (λ view. view.typed.now ≡ typed.now) }
         ensures names { IfOk result (λ view. layout view.names ≡ layout_of typed.now 0) }
+        ensures each_instance { IfOk result (λ view. length view.names.bases.items ≡ length typed.now.instances.items) }
     {
         let names = Names::of(alloc, typed)?;
         Ok(View {
@@ -40,8 +42,11 @@ impl<'a> View<'a> {
 
     /// The program as an instance sees it, whichever instance saw it before.
     pub fn enter(&mut self, number: usize) -> Result<(), Memory>
+        requires instance { number < length self.old.typed.now.instances.items }
+        requires each_instance { length self.old.names.bases.items ≡ length self.old.typed.now.instances.items }
         ensures typed { self.new.typed.now ≡ self.old.typed.now }
         ensures names { (k : ℕ) → layout self.old.names ≡ layout_of self.old.typed.now k → OnOk result (layout self.new.names ≡ layout_of self.old.typed.now number) }
+        ensures each_instance { self.new.names.bases ≡ self.old.names.bases }
     {
         self.names.enter(self.typed, number)
     }

@@ -1,5 +1,5 @@
 -- The code of communication, over parts that stand in registers and fields already.
-use Rattle.std.specs.Prelude.{ℕ, Bool, false, ◌+◌, ◌==◌, if◌then◌else◌, List, [], ◌∷◌, ◌++◌, map, slice_get, Option, Some, None}
+use Rattle.std.specs.Prelude.{ℕ, Bool, true, false, ◌+◌, ◌==◌, if◌then◌else◌, List, [], ◌∷◌, ◌++◌, map, slice_get, Option, Some, None}
 use Rattle.cstar_base.specs.declared.elem.Elem.{Elem}
 use Rattle.cstar_base.specs.declared.operators.Op.{Op}
 use Rattle.cstar_base.specs.declared.operators.Place.{Place}
@@ -71,6 +71,11 @@ located_at place of indexes outs (O.Field dest) d =
     Makes (O.Field dest) (each_located place of indexes (map index_coordinate outs) dest d)
 located_at place of indexes outs O.Nothing d = Fails
 
+-- is the expression a left index
+unfoldable pub is_left_index : TExpr → Bool
+is_left_index (T.LeftIndex' ty place p indexes x of) = true
+is_left_index _ = false
+
 -- a left index with these values of its indexes, whose address goes there
 unfoldable pub located : TExpr → List Out → Out → Draft → Made Out
 located e outs at d =
@@ -122,12 +127,14 @@ gotten_by_steps of indexes elem source dest d =
     (λ other c. then_make (stepwise of 0 indexes (record { source = source; next = one; spare = other }) c)
     (λ last after. Makes (O.Field dest) (with_instr (I.Move elem.signed dest last) after))))
 
--- a read through a left index: of one element, by the router, or by NEWS
+-- a read through a left index: of one element, by the router (what has 32 bits goes straight to its
+-- destination), or by NEWS
 unfoldable pub read_at : ℕ → List TExpr → Elem → Field → Out → Out → Draft → Made Out
 read_at of indexes elem source (O.Scalar processor) into d =
     in_register into (λ dest. Makes into (with_instr (I.ReadFromProcessor elem.signed dest processor source) d))
 read_at of indexes elem source (O.Field to) into d =
-    in_field into (λ dest. then_make (an_entry dest.set source.len W.Own d)
+    in_field into (λ dest. if elem.bits == 32 then Makes into (with_instr (I.Get dest to source) d)
+    else then_make (an_entry dest.set source.len W.Own d)
     (λ got after. Makes into (with_instr (I.Move elem.signed dest got) (with_instr (I.Get got to source) after))))
 read_at of indexes elem source O.Nothing into d = in_field into (λ dest. gotten_by_steps of indexes elem source dest d)
 

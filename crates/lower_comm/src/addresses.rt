@@ -1,116 +1,125 @@
-//! The address of a left index: the check of its indexes, and the making of it.
+//! The address of a left-indexed reference: the check of its indexes, and the making of it.
 
 ghost use Rattle.std.specs.Prelude.{◌≡◌, ◌++◌, IfOk, OnOk, map};
-ghost use Rattle.lower_base.specs.Drafts.{Makes, draft};
-ghost use Rattle.lower_comm.specs.Messages.{index_register, index_coordinate, signed_registers, signed_coordinates, front_located, each_located, located, checked_part, grid_steps, with_grid_check, checked_grid};
+ghost use Rattle.lower_base.specs.Drafts.{Makes, draft, out_of};
+ghost use Rattle.lower_comm.specs.Messages.{index_register, index_coordinate, signed_registers, signed_coordinates, front_located, each_located, located_at, checked_part, grid_steps, with_grid_check};
 
 use crate::news::{NewsStep, step_of};
 use cstar_base::{Memory, Place};
 use cstar_tree::typed::TExpr;
-use lower_base::emit::{Out, count, put};
+use lower_base::emit::{Operand, Out, count, put};
 use lower_base::operators::promoted_signed;
 use paris_code::{
     Coordinate, Field, GridStep, Instr, Konst, RegisterCoordinate, SignedCoordinate, Unit,
 };
 use std::alloc::Global;
 
-/// The range check of a left index, and the making of its address at `at`.
-#[tactic(auto, unfolding(crate::specs::Messages::located, crate::specs::Messages::located_at))]
-pub fn locate_in(
-    alloc: Global,
-    e: &TExpr,
-    indexes: &[Out],
-    at: Out,
-    u: &mut Unit,
-) -> Result<Out, Memory>
-    ensures draft { IfOk result (λ out. located e.now indexes.now at (draft u.old) ≡ Makes out (draft u.new)) }
-{
-    let TExpr::LeftIndex {
-        place,
-        indexes: parts,
-        of,
-        ..
-    } = e
-    else {
-        return Err(Memory);
-    };
-    match at {
-        Out::Scalar(dest) => {
-            let plain = registers(alloc, indexes)?;
-            front_locate(alloc, *place, *of, parts, plain, dest, u)?;
-            Ok(at)
+/// The indexes of a left-indexed reference: the place of their fault, the shape that they lead in, and
+/// one expression for each of its axes.
+#[derive(Clone, Copy)]
+pub struct Indexes<'a> {
+    pub place: Place,
+    pub of: u16,
+    pub each: &'a [TExpr],
+}
+
+impl Indexes<'_> {
+    /// The range check of the indexes, whose values these are, and the making of the address at `at`.
+    #[tactic(auto, unfolding(crate::specs::Messages::located_at))]
+    pub fn locate(
+        &self,
+        alloc: Global,
+        values: &[Out],
+        at: Operand,
+        u: &mut Unit,
+    ) -> Result<(), Memory>
+        ensures draft { OnOk result (located_at self.now.place self.now.of self.now.each.now values.now (out_of at) (draft u.old) ≡ Makes (out_of at) (draft u.new)) }
+    {
+        match at {
+            Operand::Register(dest) => self.front_locate(alloc, registers(alloc, values)?, dest, u),
+            Operand::Field(dest) => self.each_locate(alloc, coordinates(alloc, values)?, dest, u),
         }
-        Out::Field(dest) => {
-            let plain = coordinates(alloc, indexes)?;
-            each_locate(alloc, *place, *of, parts, plain, dest, u)?;
-            Ok(at)
-        }
-        Out::Nothing => Err(Memory),
     }
-}
 
-/// The check of scalar indexes, and the address from them.
-#[tactic(auto, unfolding(crate::specs::Messages::front_located, lower_base::specs::Drafts::with_instr, lower_base::specs::Drafts::step))]
-fn front_locate(
-    alloc: Global,
-    place: Place,
-    of: u16,
-    indexes: &[TExpr],
-    registers: Vec<u32>,
-    dest: u32,
-    u: &mut Unit,
-) -> Result<(), Memory>
-    ensures draft { OnOk result (front_located place of indexes.now registers.items dest (draft u.old) ≡ draft u.new) }
-{
-    let checked = signed_registers(alloc, indexes, &registers)?;
-    put(
-        u,
-        Instr::FrontCheckTarget {
-            set: of,
-            place,
-            coordinates: checked,
-        },
-    )?;
-    put(
-        u,
-        Instr::FrontMakeAddress {
-            dest,
-            set: of,
-            coordinates: registers,
-        },
-    )
-}
+    /// The check of scalar indexes, and the address from them.
+    #[tactic(auto, unfolding(crate::specs::Messages::front_located, lower_base::specs::Drafts::with_instr, lower_base::specs::Drafts::step))]
+    fn front_locate(
+        &self,
+        alloc: Global,
+        registers: Vec<u32>,
+        dest: u32,
+        u: &mut Unit,
+    ) -> Result<(), Memory>
+        ensures draft { OnOk result (front_located self.now.place self.now.of self.now.each.now registers.items dest (draft u.old) ≡ draft u.new) }
+    {
+        let checked = signed_registers(alloc, self.each, &registers)?;
+        put(
+            u,
+            Instr::FrontCheckTarget {
+                set: self.of,
+                place: self.place,
+                coordinates: checked,
+            },
+        )?;
+        put(
+            u,
+            Instr::FrontMakeAddress {
+                dest,
+                set: self.of,
+                coordinates: registers,
+            },
+        )
+    }
 
-/// The check of parallel indexes, and the address from them.
-#[tactic(auto, unfolding(crate::specs::Messages::each_located, lower_base::specs::Drafts::with_instr, lower_base::specs::Drafts::step))]
-fn each_locate(
-    alloc: Global,
-    place: Place,
-    of: u16,
-    indexes: &[TExpr],
-    coordinates: Vec<Coordinate>,
-    dest: Field,
-    u: &mut Unit,
-) -> Result<(), Memory>
-    ensures draft { OnOk result (each_located place of indexes.now coordinates.items dest (draft u.old) ≡ draft u.new) }
-{
-    let checked = signed_coordinates(alloc, indexes, &coordinates)?;
-    put(
-        u,
-        Instr::CheckTarget {
-            set: of,
-            place,
-            coordinates: checked,
-        },
-    )?;
-    put(
-        u,
-        Instr::MakeAddress {
-            dest,
-            set: of,
-            coordinates,
-        },
-    )
+    /// The check of parallel indexes, and the address from them.
+    #[tactic(auto, unfolding(crate::specs::Messages::each_located, lower_base::specs::Drafts::with_instr, lower_base::specs::Drafts::step))]
+    fn each_locate(
+        &self,
+        alloc: Global,
+        coordinates: Vec<Coordinate>,
+        dest: Field,
+        u: &mut Unit,
+    ) -> Result<(), Memory>
+        ensures draft { OnOk result (each_located self.now.place self.now.of self.now.each.now coordinates.items dest (draft u.old) ≡ draft u.new) }
+    {
+        let checked = signed_coordinates(alloc, self.each, &coordinates)?;
+        put(
+            u,
+            Instr::CheckTarget {
+                set: self.of,
+                place: self.place,
+                coordinates: checked,
+            },
+        )?;
+        put(
+            u,
+            Instr::MakeAddress {
+                dest,
+                set: self.of,
+                coordinates,
+            },
+        )
+    }
+
+    /// The range check of a get by NEWS to the positions of a set: its steps along the axes that do
+    /// not wrap.
+    #[tactic(auto, unfolding(crate::specs::Messages::with_grid_check, lower_base::specs::Drafts::with_instr, lower_base::specs::Drafts::step))]
+    pub fn check_grid(&self, alloc: Global, set: u16, u: &mut Unit) -> Result<(), Memory>
+        ensures draft { OnOk result (with_grid_check set self.now.place (grid_steps self.now.of 0 self.now.each.now) (draft u.old) ≡ draft u.new) }
+    {
+        let steps = grid_steps(alloc, self.of, self.each)?;
+        if steps.is_empty() {
+            return Ok(());
+        }
+        put(
+            u,
+            Instr::CheckGrid {
+                set,
+                place: self.place,
+                steps,
+            },
+        )
+    }
 }
 
 /// The registers of scalar indexes.
@@ -149,7 +158,7 @@ fn index_coordinate(index: Out) -> Result<Coordinate, Memory>
     }
 }
 
-/// Registers as they are checked, each read by the sign of its index.
+/// Registers as they are checked, as many as there are, each read by the sign of its index.
 #[tactic(auto, unfolding(crate::specs::Messages::signed_registers))]
 fn signed_registers(
     alloc: Global,
@@ -161,7 +170,7 @@ fn signed_registers(
     let mut checked = Vec::new(alloc);
     for (axis, index) in indexes.iter().enumerate() {
         let Some(register) = registers.get(axis) else {
-            return Err(Memory);
+            break;
         };
         let signed = promoted_signed(index.ty().elem);
         checked.push(RegisterCoordinate {
@@ -172,7 +181,7 @@ fn signed_registers(
     Ok(checked)
 }
 
-/// Coordinates as they are checked, each read by the sign of its index.
+/// Coordinates as they are checked, as many as there are, each read by the sign of its index.
 #[tactic(auto, unfolding(crate::specs::Messages::signed_coordinates))]
 fn signed_coordinates(
     alloc: Global,
@@ -184,7 +193,7 @@ fn signed_coordinates(
     let mut checked = Vec::new(alloc);
     for (axis, index) in indexes.iter().enumerate() {
         let Some(coordinate) = coordinates.get(axis) else {
-            return Err(Memory);
+            break;
         };
         let signed = promoted_signed(index.ty().elem);
         checked.push(SignedCoordinate {
@@ -193,38 +202,6 @@ fn signed_coordinates(
         })?;
     }
     Ok(checked)
-}
-
-/// The range check of a get that goes by NEWS: its steps along the axes that do not wrap.
-#[tactic(auto, unfolding(crate::specs::Messages::checked_grid))]
-pub fn check_grid(alloc: Global, e: &TExpr, u: &mut Unit) -> Result<Out, Memory>
-    ensures draft { IfOk result (λ out. checked_grid e.now (draft u.old) ≡ Makes out (draft u.new)) }
-{
-    let TExpr::LeftIndex {
-        ty,
-        place,
-        indexes,
-        of,
-        ..
-    } = e
-    else {
-        return Err(Memory);
-    };
-    let steps = grid_steps(alloc, *of, indexes)?;
-    let set = ty.shape.unwrap_or(*of);
-    put_grid_check(set, *place, steps, u)?;
-    Ok(Out::Nothing)
-}
-
-/// The check of steps, where there are any.
-#[tactic(auto, unfolding(crate::specs::Messages::with_grid_check, lower_base::specs::Drafts::with_instr, lower_base::specs::Drafts::step))]
-fn put_grid_check(set: u16, place: Place, steps: Vec<GridStep>, u: &mut Unit) -> Result<(), Memory>
-    ensures draft { OnOk result (with_grid_check set place steps.items (draft u.old) ≡ draft u.new) }
-{
-    if steps.is_empty() {
-        return Ok(());
-    }
-    put(u, Instr::CheckGrid { set, place, steps })
 }
 
 /// The steps that may lead out of the grid.

@@ -1,11 +1,13 @@
 //! The calls on a unit as `lower` has it when it comes to a communication.
 
-ghost use Rattle.std.specs.Prelude.{◌≡◌, IfOk};
+ghost use Rattle.std.specs.Prelude.{◌≡◌, ◌<◌, true, length, IfOk, IsSome};
 ghost use Rattle.lower_base.specs.Drafts.{Makes, draft};
-ghost use Rattle.lower_comm.specs.Messages.{reached, communicated_by};
+ghost use Rattle.lower_base.specs.Layouts.{first_named};
+ghost use Rattle.lower_comm.specs.Messages.{reached, communicated_by, is_left_index};
 ghost use Rattle.lower_comm.specs.News.{goes_by_news};
 
-use crate::messages::{check_grid, comm_in, goes_by_news, locate_in};
+use crate::addresses::Indexes;
+use crate::messages::{comm_in, goes_by_news};
 use cstar_base::Memory;
 use cstar_tree::typed::{TExpr, Typed};
 use lower_base::View;
@@ -28,8 +30,8 @@ pub fn by_news(_t: &Typed, e: &TExpr) -> bool
 /// for a get that goes by NEWS: there they are empty, and the answer is `Nothing`.
 ///
 /// `Memory` comes where memory ends, where a number of a register, a field or an axis would be 2^32
-/// or more, and where `e` with these indexes is not what typing makes.
-#[tactic(auto, unfolding(crate::specs::Messages::reached, lower_base::specs::Drafts::then_make))]
+/// or more, and where an index that has a value is given none.
+#[tactic(auto, unfolding(crate::specs::Messages::reached, crate::specs::Messages::located, crate::specs::Messages::checked_grid, crate::specs::Messages::is_left_index, lower_base::specs::Drafts::then_make))]
 pub fn locate(
     alloc: Global,
     _t: &Typed,
@@ -37,13 +39,33 @@ pub fn locate(
     indexes: &[Out],
     u: &mut Unit,
 ) -> Result<Out, Memory>
+    requires { is_left_index e.now ≡ true }
     ensures draft { IfOk result (λ out. reached e.now indexes.now (draft u.old) ≡ Makes out (draft u.new)) }
 {
+    let TExpr::LeftIndex {
+        ty,
+        place,
+        indexes: each,
+        of,
+        ..
+    } = e
+    else {
+        unreachable!()
+    };
+    let reference = Indexes {
+        place: *place,
+        of: *of,
+        each,
+    };
     match indexes {
-        [] => check_grid(alloc, e, u),
+        [] => {
+            reference.check_grid(alloc, ty.shape.unwrap_or(*of), u)?;
+            Ok(Out::Nothing)
+        }
         [_, ..] => {
-            let at = fresh(e.ty(), u)?;
-            locate_in(alloc, e, indexes, at, u)
+            let at = fresh(*ty, u)?;
+            reference.locate(alloc, indexes, at, u)?;
+            Ok(at.out())
         }
     }
 }
@@ -57,8 +79,8 @@ pub fn locate(
 /// - A reduction or a scan: the operand. An enumeration: no parts.
 ///
 /// `at` is `Nothing` for all but the first two, and for a read that goes by NEWS. `Memory` comes
-/// where memory ends, where a number of a register, a field or an axis would be 2^32 or more, where
-/// no instance has the unit's name, and where `e` with these parts is not what typing makes.
+/// where memory ends, where a number of a register, a field or an axis would be 2^32 or more, and
+/// where `e` with these parts is not what typing makes.
 #[tactic(auto, unfolding(crate::specs::Messages::communicated_by, lower_base::specs::Drafts::from))]
 pub fn comm(
     alloc: Global,
@@ -69,11 +91,13 @@ pub fn comm(
     into: Out,
     u: &mut Unit,
 ) -> Result<Out, Memory>
+    requires main { 0 < length t.now.instances.items }
+    requires instance { IsSome (first_named 0 u.old.name t.now.instances.items) }
     ensures draft { IfOk result (λ out. communicated_by t.now u.old.name e.now at parts.now into (draft u.old) ≡ Makes out (draft u.new)) }
 {
     let mut view = View::of(alloc, t)?;
     let Some(instance) = named(t, u.name.bytes()) else {
-        return Err(Memory);
+        unreachable!()
     };
     view.enter(instance)?;
     comm_in(&view, e, at, parts, into, u)

@@ -39,6 +39,17 @@ pub fn read(
         }
         Out::Field(address) => {
             let dest = into.field()?;
+            if elem.bits == 32 {
+                put(
+                    u,
+                    Instr::Get {
+                        dest,
+                        address,
+                        source,
+                    },
+                )?;
+                return Ok(into);
+            }
             let got = entry(u, dest.set, source.len, Owner::Own)?;
             put(
                 u,

@@ -7,4 +7,5 @@ mod gets;
 pub mod messages;
 pub mod news;
 
+pub use addresses::Indexes;
 pub use calls::{by_news, comm, locate};

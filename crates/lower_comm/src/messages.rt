@@ -7,7 +7,6 @@ ghost use Rattle.lower_base.specs.Layouts.{layout};
 ghost use Rattle.lower_comm.specs.Messages.{folded_onto, negated_by, part_field, reduced, indexed, indexed_field, stored, sent_value, sent_to, sent, assigned, scanned, segment_field, enumerated, communicated};
 ghost use Rattle.lower_comm.specs.News.{goes_by_news};
 
-pub use crate::addresses::{check_grid, locate_in};
 use crate::gets::read;
 use crate::news::all_go_by_news;
 use cstar_base::{Direction, Elem, Inclusion, Memory, Op, SegmentMode};

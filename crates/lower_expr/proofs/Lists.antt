@@ -1,5 +1,5 @@
 -- The lengths and the code of lists of expressions, as they stand in memory.
-use Rattle.std.proofs.Common.{◌≡◌, ℕ, ◌+◌, List, [], ◌∷◌, ◌++◌, length, slice_get, Vec, refl, ap, ◌∙◌, Bool, ◌&&◌, if◌then◌else◌}
+use Rattle.std.proofs.Common.{◌≡◌, ℕ, ◌+◌, List, [], ◌∷◌, ◌++◌, length, slice_get, Vec, Box, refl, ap, ◌∙◌, Bool, true, ◌&&◌, if◌then◌else◌, is_none}
 use Rattle.std.specs.declared.alloc.Global.{Global}
 use mathlib.Core.Former.{Count}
 use Rattle.cstar_base.specs.declared.operators.Place.{Place}
@@ -16,11 +16,12 @@ use Rattle.lower_base.specs.Layouts.{Layout}
 use Rattle.lower_comm.specs.Messages.{located}
 use Rattle.lower_comm.specs.News.{goes_by_news}
 use Rattle.lower_expr.specs.declared.spots.Spot.TheVariants as S
+use Rattle.lower_expr.specs.Effects.{computed_to, gone_to}
 use Rattle.lower_expr.specs.Frames.{called}
-use Rattle.lower_expr.specs.Lengths.{length_of, spot_length_of, lengths_of, lengths_in, call_length, news_length, read_length}
+use Rattle.lower_expr.specs.Lengths.{logical_length, tested_length, length_of, spot_length_of, lengths_of, lengths_in, call_length, news_length, read_length}
 use Rattle.lower_expr.specs.Operands.{is_quiet, are_quiet, all_quiet, operand_by, operand_length}
-use Rattle.lower_expr.specs.Steps.{pieces_printed}
-use Rattle.lower_expr.specs.Values.{call_of, print_of, indexed_spot, news_by, read_by, value_of, spot_of, values_of, values_in}
+use Rattle.lower_expr.specs.Steps.{is_kept, pieces_printed}
+use Rattle.lower_expr.specs.Values.{call_of, call_to, print_of, indexed_spot, index_read_by, value_of, spot_of, values_of, values_in}
 
 -- the row that a list stands in
 abbrev row_of : TExpr → (n : Count) × Row_of-TExpr n
@@ -64,17 +65,31 @@ length_of_call t l ty instance arguments =
     ap (λ (m : ℕ). call_length (slice_get t.instances.items instance) (length (items-the_row-TExpr row.0 row.1)) + m) (lengths_of_items t l row.0 row.1 arguments.items same)
     ∙ ap (λ (xs : List TExpr). call_length (slice_get t.instances.items instance) (length xs) + lengths_in t l (all_quiet arguments.items) arguments.items) same
 
+pub length_of_or : (t : Typed) (l : Layout) (ty : ValueType) (left right : Box TExpr Global) →
+    length_of t l (T.LogicalOr ty left right)
+    ≡ logical_length (is_none ty.shape) (is_kept left.value) (is_kept right.value) (operand_length (length_of t l left.value) true left.value)
+    (operand_length (length_of t l right.value) true right.value) (tested_length t l left.value) (tested_length t l right.value)
+unfolding length_of tested_length
+length_of_or t l ty left right = refl
+
+pub length_of_and : (t : Typed) (l : Layout) (ty : ValueType) (left right : Box TExpr Global) →
+    length_of t l (T.LogicalAnd ty left right)
+    ≡ logical_length (is_none ty.shape) (is_kept left.value) (is_kept right.value) (operand_length (length_of t l left.value) true left.value)
+    (operand_length (length_of t l right.value) true right.value) (tested_length t l left.value) (tested_length t l right.value)
+unfolding length_of tested_length
+length_of_and t l ty left right = refl
+
 pub length_of_left_index : (t : Typed) (l : Layout) (ty : ValueType) (place : Place) (indexes : Vec TExpr Global) (x : Variable) (of : ℕ) →
     length_of t l (T.LeftIndex ty place indexes x of)
     ≡ (if goes_by_news (T.LeftIndex ty place indexes x of) then news_length of indexes.items
-    else (2 + lengths_in t l (all_quiet indexes.items) indexes.items) + read_length ty.shape)
+    else (2 + lengths_in t l (all_quiet indexes.items) indexes.items) + read_length ty)
 unfolding length_of
 length_of_left_index t l ty place indexes x of =
     let e = T.LeftIndex ty place indexes x of in
     let row = row_of e in
     let same = items_hidden-the_row-TExpr-0 indexes in
-    ap (λ (m : ℕ). if goes_by_news e then news_length of (items-the_row-TExpr row.0 row.1) else (2 + m) + read_length ty.shape) (lengths_of_items t l row.0 row.1 indexes.items same)
-    ∙ ap (λ (xs : List TExpr). if goes_by_news e then news_length of xs else (2 + lengths_in t l (all_quiet indexes.items) indexes.items) + read_length ty.shape) same
+    ap (λ (m : ℕ). if goes_by_news e then news_length of (items-the_row-TExpr row.0 row.1) else (2 + m) + read_length ty) (lengths_of_items t l row.0 row.1 indexes.items same)
+    ∙ ap (λ (xs : List TExpr). if goes_by_news e then news_length of xs else (2 + lengths_in t l (all_quiet indexes.items) indexes.items) + read_length ty) same
 
 pub length_of_printf : (t : Typed) (l : Layout) (ty : ValueType) (pieces : Vec Piece Global) (arguments : Vec TExpr Global) →
     length_of t l (T.Printf ty pieces arguments) ≡ length pieces.items + lengths_in t l (all_quiet arguments.items) arguments.items
@@ -112,15 +127,27 @@ values_of_items t l n row items same outs d =
     ∙ (ap (λ (q : Bool). values_in t l q (items-the_row-TExpr n row) outs d) (quiet_of_row n row)
     ∙ ap (λ (xs : List TExpr). values_in t l (all_quiet xs) xs outs d) same)
 
-pub value_of_call : (t : Typed) (l : Layout) (ty : ValueType) (instance : ℕ) (arguments : Vec TExpr Global) (d : Draft) →
-    value_of t l (T.Call ty instance arguments) d ≡ call_of t l ty.shape instance arguments.items d
-unfolding value_of call_of
-value_of_call t l ty instance arguments d =
+pub call_to_of_row : (t : Typed) (l : Layout) (ty : ValueType) (instance : ℕ) (arguments : Vec TExpr Global) (dest : Out) (d : Draft) →
+    (let row = row_of (T.Call ty instance arguments) in call_to t l instance (values_of t l (are_quiet row.1) row.1) dest d) ≡ call_of t l instance arguments.items dest d
+unfolding call_to call_of
+call_to_of_row t l ty instance arguments dest d =
     let row = row_of (T.Call ty instance arguments) in
-    same_behind (fresh_for ty.shape d) (λ dest begun. then_make (values_of t l (are_quiet row.1) row.1 [] begun) (λ given after. called t l instance given dest after))
-    (λ dest begun. then_make (values_in t l (all_quiet arguments.items) arguments.items [] begun) (λ given after. called t l instance given dest after))
-    (λ dest begun. ap (λ (m : Made (List Out)). then_make m (λ given after. called t l instance given dest after))
-    (values_of_items t l row.0 row.1 arguments.items (items_hidden-the_row-TExpr-0 arguments) [] begun))
+    ap (λ (m : Made (List Out)). then_make m (λ given after. called t l instance given dest after))
+    (values_of_items t l row.0 row.1 arguments.items (items_hidden-the_row-TExpr-0 arguments) [] d)
+
+pub value_of_call : (t : Typed) (l : Layout) (ty : ValueType) (instance : ℕ) (arguments : Vec TExpr Global) (dest : Out) (d begun : Draft) →
+    fresh_for ty.shape d ≡ Makes dest begun → value_of t l (T.Call ty instance arguments) d ≡ call_of t l instance arguments.items dest begun
+unfolding value_of then_make
+value_of_call t l ty instance arguments dest d begun e =
+    let row = row_of (T.Call ty instance arguments) in
+    ap (λ (m : Made Out). then_make m (λ dest begun. call_to t l instance (values_of t l (are_quiet row.1) row.1) dest begun)) e
+    ∙ call_to_of_row t l ty instance arguments dest begun
+
+pub computed_to_call : (t : Typed) (l : Layout) (ty : ValueType) (instance : ℕ) (arguments : Vec TExpr Global) (dest out : Out) (d after : Draft) →
+    call_of t l instance arguments.items dest d ≡ Makes out after → computed_to t l dest (T.Call ty instance arguments) d ≡ Makes dest after
+unfolding computed_to gone_to then_make
+computed_to_call t l ty instance arguments dest out d after e =
+    ap (gone_to dest) (call_to_of_row t l ty instance arguments dest d) ∙ ap (gone_to dest) e
 
 pub value_of_printf : (t : Typed) (l : Layout) (ty : ValueType) (pieces : Vec Piece Global) (arguments : Vec TExpr Global) (d : Draft) →
     value_of t l (T.Printf ty pieces arguments) d ≡ print_of t l pieces.items arguments.items d
@@ -132,8 +159,7 @@ value_of_printf t l ty pieces arguments d =
 
 pub value_of_left_index : (t : Typed) (l : Layout) (ty : ValueType) (place : Place) (indexes : Vec TExpr Global) (x : Variable) (of : ℕ) (d : Draft) →
     value_of t l (T.LeftIndex ty place indexes x of) d
-    ≡ (if goes_by_news (T.LeftIndex ty place indexes x of) then news_by t l (T.LeftIndex ty place indexes x of) ty d
-    else read_by t l (T.LeftIndex ty place indexes x of) ty (spot_of t l (T.LeftIndex ty place indexes x of)) d)
+    ≡ index_read_by t l (T.LeftIndex ty place indexes x of) ty (spot_of t l (T.LeftIndex ty place indexes x of)) d
 unfolding value_of spot_of
 value_of_left_index t l ty place indexes x of d = refl
 

@@ -1,6 +1,6 @@
 -- The code of an expression whose value goes to a variable, decides where a context is narrowed, or
 -- is not used. The last instruction of a value writes the variable itself.
-use Rattle.std.specs.Prelude.{ℕ, ◌+◌, Bool, true, false, ◌==◌, ◌&&◌, not, if◌then◌else◌, Option, Some, None, is_none, unwrap_or}
+use Rattle.std.specs.Prelude.{ℕ, ◌+◌, Bool, true, ◌==◌, ◌&&◌, ◌||◌, not, if◌then◌else◌, Option, Some, None, is_none}
 use Rattle.cstar_base.specs.declared.elem.Elem.{Elem}
 use Rattle.cstar_base.specs.declared.operators.Op.{Op}
 use Rattle.cstar_base.specs.declared.operators.Place.{Place}
@@ -9,24 +9,21 @@ use Rattle.cstar_tree.specs.declared.syntax.StepOp.{StepOp}
 use Rattle.cstar_tree.specs.declared.typed.TExpr.{TExpr}
 use Rattle.cstar_tree.specs.declared.typed.TExpr as T
 use Rattle.cstar_tree.specs.declared.typed.Typed.{Typed}
+use Rattle.cstar_tree.specs.declared.typed.Variable.{Variable}
 use Rattle.cstar_tree.specs.Typed.{type_of}
 use Rattle.paris_code.specs.declared.instr.Instr.TheVariants as I
 use Rattle.paris_code.specs.declared.operands.Field.{Field}
 use Rattle.paris_code.specs.declared.operands.Konst.TheVariants as K
 use Rattle.lower_base.specs.declared.emit.Out.{Out}
 use Rattle.lower_base.specs.declared.emit.Out.TheVariants as O
-use Rattle.lower_base.specs.declared.operators.Machine.{Machine}
-use Rattle.lower_base.specs.declared.operators.Machine.TheVariants as M
 use Rattle.lower_base.specs.Drafts.{Draft, Made, Makes, Fails, then_make, with_instr, a_register, a_field, in_register, in_field}
 use Rattle.lower_base.specs.Layouts.{Layout, field_of}
-use Rattle.lower_base.specs.Operators.{assign_op_of, is_signed, machine_of}
+use Rattle.lower_base.specs.Operators.{assign_op_of}
 use Rattle.lower_expr.specs.declared.operands.Own.{Own}
-use Rattle.lower_expr.specs.declared.steps.Right.{Right}
-use Rattle.lower_expr.specs.declared.steps.Right.TheVariants as R
-use Rattle.lower_expr.specs.Lengths.{length_of, operate_length, right_length, spread_length, spare_length}
-use Rattle.lower_expr.specs.Operands.{is_plus, is_quiet, own_of, standing, operand_by, operand_length}
-use Rattle.lower_expr.specs.Steps.{is_kept, register_word, word_of, word_taken, relates, put_value, operated, right_operated, negated, assigned_signed}
-use Rattle.lower_expr.specs.Values.{value_of, spread_into, right_by, step_operation, register_binary_of, field_binary_of}
+use Rattle.lower_expr.specs.Lengths.{length_of, operate_length, right_length, tested_length}
+use Rattle.lower_expr.specs.Operands.{are_quiet, is_plus, own_of, standing, operand_by, operand_length}
+use Rattle.lower_expr.specs.Steps.{is_kept, has_word, word_for, word_put, put_value, operated, right_operated, negated, assigned_signed}
+use Rattle.lower_expr.specs.Values.{Code, value_of, values_of, spot_of, tested, right_by, step_operation, register_binary_of, field_binary_of, scalar_choice_of, read_to, index_read_to, message_to, call_to}
 
 -- the operand of an instruction that is next
 unfoldable pub next_operand : Typed → Layout → TExpr → Draft → Made Out
@@ -34,17 +31,6 @@ next_operand t l e d = operand_by t l (value_of t l e) true e d
 
 unfoldable pub next_length : Typed → Layout → TExpr → ℕ
 next_length t l e = operand_length (length_of t l e) true e
-
--- the word of a constant, promoted to 32 bits, that goes to a register, or to every position of a field
-unfoldable pub word_for : Out → TExpr → Option ℕ
-word_for (O.Scalar r) e = register_word e
-word_for (O.Field f) e = word_of e
-word_for O.Nothing e = None
-
-unfoldable pub word_put : Out → ℕ → Draft → Made Out
-word_put (O.Scalar r) word d = Makes (O.Scalar r) (with_instr (I.FrontConst r word) d)
-word_put (O.Field f) word d = Makes (O.Field f) (with_instr (I.MoveConstant f (K.Imm word)) d)
-word_put O.Nothing word d = Fails
 
 -- a value moved to a register or a field, and one converted into a register
 unfoldable pub moved : Typed → Layout → Out → TExpr → Draft → Made Out
@@ -66,6 +52,10 @@ binary_to t l (O.Scalar r) op place left right d = register_binary_of t l op pla
 binary_to t l (O.Field f) op place left right d = then_make (a_field f.set d) (λ spare after. field_binary_of t l op place left right f spare after)
 binary_to t l O.Nothing op place left right d = Fails
 
+-- what was put there is there
+unfoldable pub gone_to : Out → Made Out → Made Out
+gone_to dest made = then_make made (λ _ after. Makes dest after)
+
 -- a value that is no constant becomes that of a register or a field
 unfoldable pub computed_to : Typed → Layout → Out → TExpr → Draft → Made Out
 computed_to t l dest (T.Brackets' ty p inner) d = computed_to t l dest inner d
@@ -77,6 +67,17 @@ computed_to t l dest (T.Unary' ty op p operand) d =
     else then_make (next_operand t l operand d) (λ v after. negated op dest v after)
 computed_to t l dest (T.Binary' ty place op p left q right) d = binary_to t l dest op place left right d
 computed_to t l dest (T.Pcoord ty axis) d = in_field dest (λ f. Makes dest (with_instr (I.MyNewsCoordinate f axis) d))
+computed_to t l dest (T.Variable ty x) d = read_to t l (T.Variable ty x) (spot_of t l (T.Variable ty x)) dest d
+computed_to t l dest (T.GetChar ty) d = in_register dest (λ r. Makes dest (with_instr (I.FrontGetByte r) d))
+computed_to t l dest (T.Choice' ty p test q first r second) d =
+    if is_kept test then scalar_choice_of t l ty test first second dest d else moved t l dest (T.Choice' ty p test q first r second) d
+computed_to t l dest (T.Element' ty place array p index) d = read_to t l (T.Element' ty place array p index) (spot_of t l (T.Element' ty place array p index)) dest d
+computed_to t l dest (T.LeftIndex' ty place p indexes x of) d =
+    gone_to dest (index_read_to t l (T.LeftIndex' ty place p indexes x of) (spot_of t l (T.LeftIndex' ty place p indexes x of)) dest d)
+computed_to t l dest (T.Scan' ty p source axis combiner direction mode bit within) d =
+    gone_to dest (message_to t l (T.Scan' ty p source axis combiner direction mode bit within) (operand_by t l (value_of t l source) true source) dest d)
+computed_to t l dest (T.Call' ty instance p arguments) d =
+    gone_to dest (call_to t l instance (values_of t l (are_quiet arguments) arguments) dest d)
 computed_to t l dest e d = moved t l dest e d
 
 -- a value becomes that of a register, or of a field of 32 bits
@@ -119,6 +120,26 @@ variable_stepped elem op (O.Field f) d =
     Makes (O.Field f) (with_instr (I.OperateConstant (step_operation op) f f (K.Imm 1)) d)
 variable_stepped elem op O.Nothing d = Fails
 
+-- A value becomes that of a field of fewer than 32 bits: of one that was converted to `bool` the test
+-- flag, of one that was converted to another narrow type its lowest bits.
+unfoldable pub narrowed_to : Typed → Layout → Field → TExpr → Draft → Made Out
+narrowed_to t l f (T.Brackets' ty p inner) d = narrowed_to t l f inner d
+narrowed_to t l f (T.Convert' ty p operand) d =
+    if is_kept operand then moved t l (O.Field f) (T.Convert' ty p operand) d
+    else (if ty.elem.bits == 1 then then_make (tested t l operand d) (λ _ after. Makes (O.Field f) (with_instr (I.StoreTest f) after))
+    else moved t l (O.Field f) operand d)
+narrowed_to t l f e d = moved t l (O.Field f) e d
+
+-- the parallel variable of fewer than 32 bits that a target is
+unfoldable pub narrow_of : TExpr → Option Variable
+narrow_of (T.Brackets' ty p inner) = narrow_of inner
+narrow_of (T.Variable ty x) = if is_none ty.shape || ty.elem.bits == 32 then None else Some x
+narrow_of _ = None
+
+-- the one that an assignment without an operator writes
+abbrev pub assigned_narrow : AssignOp → TExpr → Option Variable
+assigned_narrow op target = if is_none (assign_op_of op) then narrow_of target else None
+
 -- is the value parallel and the variable scalar, so that it is folded
 unfoldable pub folds : Own → TExpr → Bool
 folds own value = is_none own.shape && not (is_kept value)
@@ -127,13 +148,7 @@ folds own value = is_none own.shape && not (is_kept value)
 abbrev pub assigned_own : TExpr → TExpr → Option Own
 assigned_own target value = elim (own_of target) [ Some own ↦ if folds own value then None else Some own | None ↦ None ]
 
--- the variable that an assignment or a step may write itself
-unfoldable pub written_by : TExpr → Option Own
-written_by (T.Assign' ty place op p target q value) = assigned_own target value
-written_by (T.Step' ty op order p target) = own_of target
-written_by _ = None
-
--- an assignment or a step that writes its variable itself
+-- an assignment that writes its variable itself
 abbrev pub variable_assigned : Typed → Layout → AssignOp → Place → TExpr → TExpr → Out → Draft → Made Out
 variable_assigned t l op place target value dest d =
     elim (assign_op_of op) [
@@ -141,46 +156,30 @@ variable_assigned t l op place target value dest d =
       | Some o ↦ variable_operated t l o place target value dest d
     ]
 
-unfoldable pub variable_written : Typed → Layout → TExpr → Out → Draft → Made Out
-variable_written t l (T.Assign' ty place op p target q value) dest d = variable_assigned t l op place target value dest d
-variable_written t l (T.Step' ty op order p target) dest d = variable_stepped (type_of target).elem op dest d
-variable_written t l _ dest d = Fails
-
--- an expression whose value is not used
-unfoldable pub effect_of : Typed → Layout → TExpr → Draft → Made Out
-effect_of t l (T.Brackets' ty p inner) d = effect_of t l inner d
-effect_of t l e d =
-    elim (written_by e) [
-      | Some own ↦ then_make (standing t l own d) (λ dest after. variable_written t l e dest after)
-      | None ↦ value_of t l e d
+-- an expression whose value is not used; what writes no variable itself is evaluated as any value
+unfoldable pub assignment_effect : Typed → Layout → AssignOp → Place → TExpr → TExpr → Code → Draft → Made Out
+assignment_effect t l op place target value whole d =
+    elim (assigned_own target value) [
+      | Some own ↦ then_make (standing t l own d) (λ dest after. variable_assigned t l op place target value dest after)
+      | None ↦ elim (assigned_narrow op target) [
+        | Some x ↦ then_make (field_of t l x 0 d) (λ f after. narrowed_to t l f value after)
+        | None ↦ whole d
+      ]
     ]
 
--- a relation of fields in the test flags
-unfoldable pub compared : Machine → Field → Right → Field → Draft → Made (Unit {0})
-compared (M.Operate act) left right spare d = Fails
-compared (M.Compare relation) left (R.Field right) spare d = Makes tt (with_instr (I.Compare relation left right) d)
-compared (M.Compare relation) left (R.Word word) spare d =
-    Makes tt (with_instr (I.Compare relation left spare) (with_instr (I.MoveConstant spare word) d))
+unfoldable pub step_effect : Typed → Layout → StepOp → TExpr → Code → Draft → Made Out
+step_effect t l op target whole d =
+    elim (own_of target) [
+      | Some own ↦ then_make (standing t l own d) (λ dest after. variable_stepped (type_of target).elem op dest after)
+      | None ↦ whole d
+    ]
 
-unfoldable pub relation_tested : Typed → Layout → Op → Bool → ℕ → TExpr → TExpr → Draft → Made (Unit {0})
-relation_tested t l op signed set left right d =
-    then_make (a_field set d) (λ spare begun.
-    then_make (spread_into (operand_by t l (value_of t l left) (is_quiet right) left) left spare begun) (λ a between.
-    then_make (right_by (operand_by t l (value_of t l right) true right) op right between) (λ b after.
-    compared (machine_of op signed) a b spare after)))
-
-unfoldable pub value_tested : Typed → Layout → TExpr → Draft → Made (Unit {0})
-value_tested t l e d =
-    then_make (next_operand t l e d) (λ v after. in_field v (λ source. Makes tt (with_instr (I.NeZero source) after)))
-
--- the test flags: is a parallel value not zero
-unfoldable pub tested : Typed → Layout → TExpr → Draft → Made (Unit {0})
-tested t l (T.Brackets' ty p inner) d = tested t l inner d
-tested t l (T.Variable ty x) d = then_make (field_of t l x 0 d) (λ source after. Makes tt (with_instr (I.NeZero source) after))
-tested t l (T.Binary' ty place op p left q right) d =
-    if relates op then relation_tested t l op (is_signed (type_of left).elem) (unwrap_or ty.shape 0) left right d
-    else value_tested t l (T.Binary' ty place op p left q right) d
-tested t l e d = value_tested t l e d
+unfoldable pub effect_of : Typed → Layout → TExpr → Draft → Made Out
+effect_of t l (T.Brackets' ty p inner) d = effect_of t l inner d
+effect_of t l (T.Assign' ty place op p target q value) d =
+    assignment_effect t l op place target value (value_of t l (T.Assign' ty place op p target q value)) d
+effect_of t l (T.Step' ty op order p target) d = step_effect t l op target (value_of t l (T.Step' ty op order p target)) d
+effect_of t l e d = value_of t l e d
 
 -- how many instructions these have
 unfoldable pub computed_length : Typed → Layout → Bool → TExpr → ℕ
@@ -192,10 +191,23 @@ computed_length t l scalar (T.Unary' ty op p operand) =
     if is_plus op then computed_length t l scalar operand else length_of t l (T.Unary' ty op p operand)
 computed_length t l scalar (T.Binary' ty place op p left q right) = length_of t l (T.Binary' ty place op p left q right)
 computed_length t l scalar (T.Pcoord ty axis) = 1
+computed_length t l scalar (T.Variable ty x) = 1
+computed_length t l scalar (T.GetChar ty) = 1
+computed_length t l scalar (T.Choice' ty p test q first r second) =
+    length_of t l (T.Choice' ty p test q first r second) + (if is_kept test then 0 else 1)
+computed_length t l scalar (T.Element' ty place array p index) = length_of t l (T.Element' ty place array p index)
+computed_length t l scalar (T.LeftIndex' ty place p indexes x of) = length_of t l (T.LeftIndex' ty place p indexes x of)
+computed_length t l scalar (T.Scan' ty p source axis combiner direction mode bit within) =
+    length_of t l (T.Scan' ty p source axis combiner direction mode bit within)
+computed_length t l scalar (T.Call' ty instance p arguments) = length_of t l (T.Call' ty instance p arguments)
 computed_length t l scalar e = next_length t l e + 1
 
-unfoldable pub has_word : Bool → TExpr → Bool
-has_word scalar e = not (is_none (if scalar then register_word e else word_of e))
+unfoldable pub narrowed_length : Typed → Layout → TExpr → ℕ
+narrowed_length t l (T.Brackets' ty p inner) = narrowed_length t l inner
+narrowed_length t l (T.Convert' ty p operand) =
+    (if is_kept operand then next_length t l (T.Convert' ty p operand)
+    else (if ty.elem.bits == 1 then tested_length t l operand else next_length t l operand)) + 1
+narrowed_length t l e = next_length t l e + 1
 
 unfoldable pub put_length : Typed → Layout → Bool → TExpr → ℕ
 put_length t l scalar e = if has_word scalar e then 1 else computed_length t l scalar e
@@ -218,24 +230,20 @@ assigned_length t l scalar op elem value =
 abbrev pub stepped_length : Bool → Elem → ℕ
 stepped_length scalar elem = if scalar then 2 + settled_length elem else 1
 
-unfoldable pub written_length : Typed → Layout → Bool → TExpr → ℕ
-written_length t l scalar (T.Assign' ty place op p target q value) = assigned_length t l scalar op (type_of target).elem value
-written_length t l scalar (T.Step' ty op order p target) = stepped_length scalar (type_of target).elem
-written_length t l scalar _ = 0
+unfoldable pub assignment_length : Typed → Layout → AssignOp → TExpr → TExpr → ℕ → ℕ
+assignment_length t l op target value whole =
+    elim (assigned_own target value) [
+      | Some own ↦ assigned_length t l (is_none own.shape) op (type_of target).elem value
+      | None ↦ elim (assigned_narrow op target) [ Some x ↦ narrowed_length t l value | None ↦ whole ]
+    ]
+
+unfoldable pub step_effect_length : TExpr → ℕ → ℕ
+step_effect_length target whole =
+    elim (own_of target) [ Some own ↦ stepped_length (is_none own.shape) (type_of target).elem | None ↦ whole ]
 
 unfoldable pub effect_length_of : Typed → Layout → TExpr → ℕ
 effect_length_of t l (T.Brackets' ty p inner) = effect_length_of t l inner
-effect_length_of t l e =
-    elim (written_by e) [ Some own ↦ written_length t l (is_none own.shape) e | None ↦ length_of t l e ]
-
-unfoldable pub compared_length : ℕ → Op → TExpr → ℕ
-compared_length n op e = elim (word_taken op e) [ Some _ ↦ 2 | None ↦ n + (spare_length op (is_kept e) + 1) ]
-
-unfoldable pub tested_length : Typed → Layout → TExpr → ℕ
-tested_length t l (T.Brackets' ty p inner) = tested_length t l inner
-tested_length t l (T.Variable ty x) = 1
-tested_length t l (T.Binary' ty place op p left q right) =
-    if relates op then spread_length (operand_length (length_of t l left) (is_quiet right) left) left
-    + compared_length (next_length t l right) op right
-    else length_of t l (T.Binary' ty place op p left q right) + 1
-tested_length t l e = next_length t l e + 1
+effect_length_of t l (T.Assign' ty place op p target q value) =
+    assignment_length t l op target value (length_of t l (T.Assign' ty place op p target q value))
+effect_length_of t l (T.Step' ty op order p target) = step_effect_length target (length_of t l (T.Step' ty op order p target))
+effect_length_of t l e = length_of t l e

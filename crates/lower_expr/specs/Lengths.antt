@@ -14,6 +14,7 @@ use Rattle.cstar_tree.specs.declared.typed.TExpr as T
 use Rattle.cstar_tree.specs.declared.typed.Typed.{Typed}
 use Rattle.cstar_tree.specs.declared.typed.UnaryOp.{UnaryOp}
 use Rattle.cstar_tree.specs.declared.typed.UnaryOp.TheVariants as Un
+use Rattle.cstar_tree.specs.declared.typed.ValueType.{ValueType}
 use Rattle.cstar_tree.specs.declared.typed.VarInfo.{VarInfo}
 use Rattle.cstar_tree.specs.Typed.{type_of}
 use Rattle.lower_comm.specs.declared.news.NewsStep.{NewsStep}
@@ -21,7 +22,7 @@ use Rattle.lower_base.specs.Layouts.{Layout, elements_of}
 use Rattle.lower_comm.specs.News.{step_of, goes_by_news}
 use Rattle.lower_base.specs.Operators.{assign_op_of}
 use Rattle.lower_expr.specs.Operands.{is_plus, is_quiet, are_quiet, operand_length}
-use Rattle.lower_expr.specs.Steps.{is_kept, word_of, relates, word_taken}
+use Rattle.lower_expr.specs.Steps.{is_kept, has_truth, has_word, word_of, relates, word_taken}
 
 -- a conversion in place
 unfoldable pub conversion_length : Bool → Elem → ℕ
@@ -40,14 +41,18 @@ unfoldable pub operate_length : Op → Bool → ℕ
 operate_length op scalar =
     if divides op then 2 else (if scalar then 1 else (if relates op then 3 else 1))
 
--- `&&` or `||` beside its operands
-unfoldable pub logical_length : Bool → Bool → Bool → ℕ
-logical_length scalar left_kept right_kept =
-    if scalar then 4 else (if left_kept then 5 else (if right_kept then 7 else 8))
+-- `&&` or `||`, by the lengths of its operands' codes and of their tests
+unfoldable pub logical_length : Bool → Bool → Bool → ℕ → ℕ → ℕ → ℕ → ℕ
+logical_length scalar left_kept right_kept n m left_tested right_tested =
+    if scalar then (n + m) + 4 else (if left_kept then (n + right_tested) + 4
+    else (left_tested + (if right_kept then m else right_tested)) + 6)
 
--- `?:` beside its operands
+-- an arm of `?:`, by the length of its value's code, and `?:` beside its condition and its arms
+unfoldable pub arm_length : Bool → ℕ → TExpr → ℕ
+arm_length scalar n e = if has_word scalar e then 1 else n + 1
+
 unfoldable pub choice_length : Bool → ℕ
-choice_length kept = if kept then 4 else 9
+choice_length kept = if kept then 2 else 7
 
 -- an expression of this length, with its value in a field
 unfoldable pub spread_length : ℕ → TExpr → ℕ
@@ -107,14 +112,13 @@ unfoldable pub four_times : ℕ → ℕ
 four_times n = (n + n) + (n + n)
 
 -- a read through a left index: of every position, or of one
-unfoldable pub read_length : Option ℕ → ℕ
-read_length (Some _) = 2
-read_length None = 1
+unfoldable pub read_length : ValueType → ℕ
+read_length ty = if is_none ty.shape || ty.elem.bits == 32 then 1 else 2
 
 -- what reads a located place, and what writes it; a send is counted with its assignment
 unfoldable pub load_length_of : Typed → Layout → TExpr → ℕ
 load_length_of t l (T.Element' ty place array p index) = four_times (elements_of t l array)
-load_length_of t l (T.LeftIndex' ty place p indexes x of) = read_length ty.shape
+load_length_of t l (T.LeftIndex' ty place p indexes x of) = read_length ty
 load_length_of t l _ = 1
 
 unfoldable pub store_length_of : Typed → Layout → TExpr → ℕ
@@ -176,6 +180,14 @@ unfoldable pub call_length : Option Instance → ℕ → ℕ
 call_length None given = 0
 call_length (Some callee) given = params_length callee.params.items given (if is_some callee.result then 4 else 2)
 
+-- the right operand of a relation of fields, and the comparison
+unfoldable pub compared_length : ℕ → Op → TExpr → ℕ
+compared_length n op e = elim (word_taken op e) [ Some _ ↦ 2 | None ↦ n + (spare_length op (is_kept e) + 1) ]
+
+-- a value as the test flags, by the length of its truth and of its code
+unfoldable pub tested_by_length : ℕ → ℕ → TExpr → ℕ
+tested_by_length truth n e = if has_truth e then truth else operand_length n true e + 1
+
 unfoldable mutual
   -- the value of an expression
   pub length_of : Typed → Layout → TExpr → ℕ
@@ -183,14 +195,17 @@ unfoldable mutual
       assign_length t l op target (spot_length_of t l target) (length_of t l value) value
   length_of t l (T.Choice' ty p test q first r second) =
       (operand_length (length_of t l test) (is_kept test || is_quiet first) test
-      + (operand_length (length_of t l first) true first + operand_length (length_of t l second) true second))
+      + (arm_length (is_none ty.shape) (operand_length (length_of t l first) true first) first
+      + arm_length (is_none ty.shape) (operand_length (length_of t l second) true second) second))
       + choice_length (is_kept test)
   length_of t l (T.LogicalOr' ty p left q right) =
-      (operand_length (length_of t l left) true left + operand_length (length_of t l right) true right)
-      + logical_length (is_none ty.shape) (is_kept left) (is_kept right)
+      logical_length (is_none ty.shape) (is_kept left) (is_kept right)
+      (operand_length (length_of t l left) true left) (operand_length (length_of t l right) true right)
+      (tested_by_length (truth_length_of t l left) (length_of t l left) left) (tested_by_length (truth_length_of t l right) (length_of t l right) right)
   length_of t l (T.LogicalAnd' ty p left q right) =
-      (operand_length (length_of t l left) true left + operand_length (length_of t l right) true right)
-      + logical_length (is_none ty.shape) (is_kept left) (is_kept right)
+      logical_length (is_none ty.shape) (is_kept left) (is_kept right)
+      (operand_length (length_of t l left) true left) (operand_length (length_of t l right) true right)
+      (tested_by_length (truth_length_of t l left) (length_of t l left) left) (tested_by_length (truth_length_of t l right) (length_of t l right) right)
   length_of t l (T.Binary' ty place op p left q right) =
       binary_length (is_none ty.shape) op (operand_length (length_of t l left) (is_quiet right) left) left
       (operand_length (length_of t l right) true right) right
@@ -212,7 +227,7 @@ unfoldable mutual
       + lengths_of t l (are_quiet arguments) arguments
   length_of t l (T.LeftIndex' ty place p indexes x of) =
       if goes_by_news (T.LeftIndex' ty place p indexes x of) then news_length of (items-the_row-TExpr _ indexes)
-      else (2 + lengths_of t l (are_quiet indexes) indexes) + read_length ty.shape
+      else (2 + lengths_of t l (are_quiet indexes) indexes) + read_length ty
   length_of t l (T.Pcoord ty axis) = 1
   length_of t l (T.PositionsOf ty shape value) = 1
   length_of t l (T.RankOf ty shape value) = 1
@@ -221,6 +236,16 @@ unfoldable mutual
   length_of t l (T.Enumerate ty axis direction _ mode bit) = 2
   length_of t l (T.Printf' ty pieces p arguments) = length pieces.items + lengths_of t l (are_quiet arguments) arguments
   length_of t l (T.GetChar ty) = 1
+
+  -- the test flags of a value that has a truth without its value
+  pub truth_length_of : Typed → Layout → TExpr → ℕ
+  truth_length_of t l (T.Brackets' ty p inner) = truth_length_of t l inner
+  truth_length_of t l (T.Variable ty x) = 1
+  truth_length_of t l (T.Binary' ty place op p left q right) =
+      spread_length (operand_length (length_of t l left) (is_quiet right) left) left
+      + compared_length (operand_length (length_of t l right) true right) op right
+  truth_length_of t l (T.Unary' ty op p operand) = operand_length (length_of t l operand) true operand + 1
+  truth_length_of t l _ = 0
 
   -- what locates a target or a reference
   pub spot_length_of : Typed → Layout → TExpr → ℕ
@@ -238,3 +263,10 @@ unfoldable mutual
 unfoldable pub lengths_in : Typed → Layout → Bool → List TExpr → ℕ
 lengths_in t l quiet [] = 0
 lengths_in t l quiet (e ∷ rest) = operand_length (length_of t l e) quiet e + lengths_in t l quiet rest
+
+-- a parallel value as the test flags, and an arm of `?:`
+unfoldable pub tested_length : Typed → Layout → TExpr → ℕ
+tested_length t l e = tested_by_length (truth_length_of t l e) (length_of t l e) e
+
+unfoldable pub arm_length_of : Typed → Layout → ValueType → TExpr → ℕ
+arm_length_of t l ty e = arm_length (is_none ty.shape) (operand_length (length_of t l e) true e) e

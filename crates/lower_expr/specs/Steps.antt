@@ -48,6 +48,20 @@ word_of (T.Promote' ty p operand) = register_word operand
 word_of (T.Brackets' ty p inner) = word_of inner
 word_of _ = None
 
+-- the word of a constant, promoted to 32 bits, that goes to a register, or to every position of a field
+unfoldable pub word_for : Out → TExpr → Option ℕ
+word_for (O.Scalar r) e = register_word e
+word_for (O.Field f) e = word_of e
+word_for O.Nothing e = None
+
+unfoldable pub word_put : Out → ℕ → Draft → Made Out
+word_put (O.Scalar r) word d = Makes (O.Scalar r) (with_instr (I.FrontConst r word) d)
+word_put (O.Field f) word d = Makes (O.Field f) (with_instr (I.MoveConstant f (K.Imm word)) d)
+word_put O.Nothing word d = Fails
+
+unfoldable pub has_word : Bool → TExpr → Bool
+has_word scalar e = not (is_none (if scalar then register_word e else word_of e))
+
 -- the operators whose value is whether a relation holds
 unfoldable pub relates : Op → Bool
 relates P.Eq = true
@@ -57,6 +71,20 @@ relates P.Le = true
 relates P.Gt = true
 relates P.Ge = true
 relates _ = false
+
+-- the operator whose value is whether its operand is zero
+unfoldable pub negates : UnaryOp → Bool
+negates Un.Not = true
+negates _ = false
+
+-- does the test flag tell whether the value is not zero, without the value itself: that of a relation,
+-- of a negation, and of a variable
+unfoldable pub has_truth : TExpr → Bool
+has_truth (T.Brackets' ty p inner) = has_truth inner
+has_truth (T.Variable ty x) = true
+has_truth (T.Binary' ty place op p left q right) = relates op
+has_truth (T.Unary' ty op p operand) = negates op
+has_truth _ = false
 
 -- the word of a right operand that has no code of its own; a divisor of 0 is left to its check
 unfoldable pub word_taken : Op → TExpr → Option ℕ

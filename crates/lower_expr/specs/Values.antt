@@ -27,23 +27,29 @@ use Rattle.paris_code.specs.declared.operands.Operation.TheVariants as Act
 use Rattle.lower_base.specs.declared.emit.Out.{Out}
 use Rattle.lower_base.specs.declared.emit.Out.TheVariants as O
 use Rattle.lower_base.specs.Drafts.{Draft, Made, Makes, Fails, then_make, from, here, with_instr, a_register, a_field, a_flag, fresh_for, in_register, in_field}
-use Rattle.lower_base.specs.Layouts.{Layout, first_named, layout_of}
+use Rattle.lower_base.specs.Layouts.{Layout, field_of, first_named, layout_of}
 use Rattle.lower_comm.specs.Messages.{located, checked_grid, communicated}
 use Rattle.lower_comm.specs.News.{goes_by_news}
-use Rattle.lower_base.specs.Operators.{assign_op_of, is_signed}
+use Rattle.lower_base.specs.declared.operators.Machine.{Machine}
+use Rattle.lower_base.specs.declared.operators.Machine.TheVariants as M
+use Rattle.lower_base.specs.Operators.{assign_op_of, is_signed, machine_of}
 use Rattle.lower_expr.specs.declared.spots.Spot.{Spot}
 use Rattle.lower_expr.specs.declared.spots.Spot.TheVariants as S
 use Rattle.lower_expr.specs.declared.steps.Right.{Right}
 use Rattle.lower_expr.specs.declared.steps.Right.TheVariants as R
 use Rattle.lower_expr.specs.Frames.{called}
-use Rattle.lower_expr.specs.Lengths.{is_send, length_of}
+use Rattle.lower_expr.specs.Lengths.{is_send, length_of, arm_length_of, tested_length}
 use Rattle.lower_expr.specs.Operands.{is_plus, is_quiet, are_quiet, all_quiet, operand_by, operand_length}
 use Rattle.lower_expr.specs.Spots.{variable_spot, index_checked, loaded, stored}
-use Rattle.lower_expr.specs.Steps.{is_kept, word_of, word_taken, constant_in, put_test, converted_in_place, put_value, operated, right_operated, in_a_field, negated, pieces_printed, assigned_signed}
+use Rattle.lower_expr.specs.Steps.{is_kept, has_truth, word_for, word_put, word_of, word_taken, constant_in, put_test, converted_in_place, put_value, operated, right_operated, in_a_field, negated, pieces_printed, assigned_signed}
 
 -- the code of a value, and that of a list of values
 abbrev pub Code : Type 0
 Code = Draft → Made Out
+
+-- the code of what the test flags become
+abbrev pub Test : Type 0
+Test = Draft → Made (Unit {0})
 
 abbrev pub Codes : Type 0
 Codes = List Out → Draft → Made (List Out)
@@ -115,20 +121,20 @@ unfoldable pub jump_if_decided : Bool → ℕ → ℕ → Draft → Draft
 jump_if_decided is_or test target d =
     if is_or then with_instr (I.FrontJumpNonzero test target) d else with_instr (I.FrontJumpZero test target) d
 
--- the context narrowed to where the left operand of `&&` is not zero, or that of `||` is
-unfoldable pub narrowed_by : Bool → Field → Draft → Draft
-narrowed_by is_or source d =
-    if is_or then with_instr (I.LogandcContextWithTest source.set) (with_instr (I.NeZero source) d)
-    else with_instr (I.LogandContextWithTest source.set) (with_instr (I.NeZero source) d)
+-- the context narrowed to where the test flag of the left operand of `&&` is 1, or that of `||` is 0
+unfoldable pub narrowed_by : Bool → ℕ → Draft → Draft
+narrowed_by is_or set d =
+    if is_or then with_instr (I.LogandcContextWithTest set) d else with_instr (I.LogandContextWithTest set) d
 
 -- The place behind so many instructions, to which the jump leads where the first operand decides.
 unfoldable pub decided : Bool → Out → ℕ → ℕ → Draft → Made ℕ
 decided is_or v n own d =
     in_register v (λ a. Makes ((here d + n) + own) (jump_if_decided is_or a ((here d + n) + own) d))
 
--- the context narrowed by the first operand, behind the saving of the old one
-unfoldable pub limited : Bool → Field → Out → Draft → Made Field
-limited is_or saved v d = in_field v (λ a. Makes a (narrowed_by is_or a (with_instr (I.StoreContext saved) d)))
+-- the context narrowed to where a condition holds, behind the saving of the old one
+unfoldable pub limited : Field → Out → Draft → Made Field
+limited saved v d =
+    in_field v (λ a. Makes a (narrowed_by false a.set (with_instr (I.NeZero a) (with_instr (I.StoreContext saved) d))))
 
 -- `&&` and `||` of scalars: the result begins as what a decided left operand gives
 unfoldable pub logical_ended : Bool → ℕ → Out → ℕ → Draft → Made Out
@@ -140,61 +146,95 @@ scalar_logical_by is_or first second n d =
     then_make (constant_in (from_bool is_or) d) (λ out begun. in_register out (λ dest. then_make (first begun) (λ v between.
     then_make (decided is_or v n 3 between) (λ end next. then_make (second next) (λ w after. logical_ended is_or dest w end after)))))
 
--- `&&` and `||` with a parallel right operand, behind a scalar left one: a jump
-unfoldable pub nonzero_tested : Field → Out → Draft → Made Out
-nonzero_tested dest w d = in_field w (λ b. put_test dest (with_instr (I.NeZero b) d))
+-- the test flags: is a parallel value not zero, and is it zero
+unfoldable pub nonzero_tested : Code → Test
+nonzero_tested code d = then_make (code d) (λ v after. in_field v (λ source. Makes tt (with_instr (I.NeZero source) after)))
 
-unfoldable pub decided_by : Bool → Field → Out → Code → ℕ → Draft → Made Out
-decided_by is_or dest v second n d =
-    then_make (decided is_or v n 4 d) (λ _ next. then_make (second next) (λ w after. nonzero_tested dest w after))
+unfoldable pub zero_tested : Code → Test
+zero_tested code d = then_make (code d) (λ v after. in_field v (λ source. Makes tt (with_instr (I.EqZero source) after)))
+
+unfoldable pub tested_by : Bool → Test → Code → Test
+tested_by has_truth truth code d = if has_truth then truth d else nonzero_tested code d
+
+-- a relation of fields in the test flags
+unfoldable pub compared : Machine → Field → Right → Field → Test
+compared (M.Operate act) left right spare d = Fails
+compared (M.Compare relation) left (R.Field right) spare d = Makes tt (with_instr (I.Compare relation left right) d)
+compared (M.Compare relation) left (R.Word word) spare d =
+    Makes tt (with_instr (I.Compare relation left spare) (with_instr (I.MoveConstant spare word) d))
+
+unfoldable pub relation_by : ℕ → Op → Bool → Code → TExpr → Code → TExpr → Test
+relation_by set op signed first left second right d =
+    then_make (a_field set d) (λ spare begun. then_make (spread_into first left spare begun) (λ a between.
+    then_make (right_by second op right between) (λ b after. compared (machine_of op signed) a b spare after)))
+
+-- `&&` and `||` with a parallel right operand, behind a scalar left one: a jump
+unfoldable pub decided_by : Bool → Field → Code → Test → ℕ → Draft → Made Out
+decided_by is_or dest first second n d =
+    then_make (first d) (λ v between. then_make (decided is_or v n 3 between)
+    (λ _ next. then_make (second next) (λ _ after. put_test dest after)))
 
 -- behind a parallel left one: a narrower context for the right one and for the result
-unfoldable pub narrowed_again : Bool → Bool → Out → Draft → Made Out
-narrowed_again is_or kept w d =
-    if kept then in_register w (λ b. Makes w (jump_if_decided is_or b (here d + 2) d))
-    else in_field w (λ b. Makes w (narrowed_by is_or b d))
+unfoldable pub jumped : Bool → Out → Test
+jumped is_or w d = in_register w (λ b. Makes tt (jump_if_decided is_or b (here d + 2) d))
 
-unfoldable pub parallel_ended : Bool → Field → Field → Bool → Out → Draft → Made Out
-parallel_ended is_or dest saved kept w d =
-    then_make (narrowed_again is_or kept w d)
+unfoldable pub jumped_over : Bool → Code → Test
+jumped_over is_or code d = then_make (code d) (λ w after. jumped is_or w after)
+
+unfoldable pub narrowed_again : Bool → ℕ → Test → Test
+narrowed_again is_or set test d = then_make (test d) (λ _ after. Makes tt (narrowed_by is_or set after))
+
+unfoldable pub limited_by : Bool → Field → Field → Test → Test → Draft → Made Out
+limited_by is_or dest saved first next d =
+    then_make (first d) (λ _ known. then_make (next (narrowed_by is_or dest.set (with_instr (I.StoreContext saved) known)))
     (λ _ after. Makes (O.Field dest) (with_instr (I.LoadContext saved)
-    (with_instr (I.MoveConstant dest (K.Imm (from_bool (not is_or)))) after)))
+    (with_instr (I.MoveConstant dest (K.Imm (from_bool (not is_or)))) after))))
 
-unfoldable pub limited_by : Bool → Field → Field → Out → Code → Bool → Draft → Made Out
-limited_by is_or dest saved v second kept d =
-    then_make (limited is_or saved v d) (λ _ next. then_make (second next) (λ w after. parallel_ended is_or dest saved kept w after))
+-- an operand of `&&` or `||`: its code, and what tests it, with their lengths; does it stand in a register
+pub record Condition : Type 0 where
+  pub kept : Bool
+  pub code : Code
+  pub long : ℕ
+  pub test : Test
+  pub tested_long : ℕ
 
-unfoldable pub parallel_logical_by : Bool → ℕ → Code → Bool → Code → Bool → ℕ → Draft → Made Out
-parallel_logical_by is_or set first left_kept second right_kept n d =
+unfoldable pub parallel_logical_by : Bool → ℕ → Condition → Condition → Draft → Made Out
+parallel_logical_by is_or set left right d =
     then_make (a_field set d) (λ dest begun. then_make (a_flag set begun) (λ saved next.
-    then_make (first (with_instr (I.MoveConstant dest (K.Imm (from_bool is_or))) next)) (λ v between.
-    if left_kept then decided_by is_or dest v second n between
-    else limited_by is_or dest saved v second right_kept between)))
+    let ready = with_instr (I.MoveConstant dest (K.Imm (from_bool is_or))) next in
+    if left.kept then decided_by is_or dest left.code right.test right.tested_long ready
+    else limited_by is_or dest saved left.test (if right.kept then jumped_over is_or right.code else narrowed_again is_or dest.set right.test) ready))
 
-unfoldable pub logical_by : Bool → Option ℕ → Code → Bool → Code → Bool → ℕ → Draft → Made Out
-logical_by is_or None first left_kept second right_kept n d = scalar_logical_by is_or first second n d
-logical_by is_or (Some set) first left_kept second right_kept n d =
-    parallel_logical_by is_or set first left_kept second right_kept n d
+unfoldable pub logical_by : Bool → Option ℕ → Condition → Condition → Draft → Made Out
+logical_by is_or None left right d = scalar_logical_by is_or left.code right.code right.long d
+logical_by is_or (Some set) left right d = parallel_logical_by is_or set left right d
+
+-- an arm of `?:`, which becomes the value of a register or a field: a constant in one instruction
+abbrev pub Arm : Type 0
+Arm = Out → Draft → Made Out
+
+unfoldable pub arm_by : Code → TExpr → Arm
+arm_by code e dest d =
+    elim (word_for dest e) [ Some word ↦ word_put dest word d | None ↦ then_make (code d) (λ v after. put_value dest v after) ]
 
 -- `?:` with a scalar condition: one of the two is evaluated
-unfoldable pub scalar_choice_by : Out → Code → Code → Code → ℕ → ℕ → Draft → Made Out
+unfoldable pub scalar_choice_by : Out → Code → Arm → Arm → ℕ → ℕ → Draft → Made Out
 scalar_choice_by dest test first second n m d =
-    then_make (test d) (λ c begun. then_make (decided false c n 3 begun) (λ other next.
-    then_make (first next) (λ v between. then_make (put_value dest v between) (λ _ half.
-    then_make (second (with_instr (I.FrontJump ((other + m) + 1)) half)) (λ w after. put_value dest w after)))))
+    then_make (test d) (λ c begun. then_make (decided false c n 2 begun) (λ other next.
+    then_make (first dest next) (λ _ half. second dest (with_instr (I.FrontJump (other + m)) half))))
 
 -- `?:` with a parallel condition: both are evaluated, each where it counts
 unfoldable pub turned_over : Field → Field → Draft → Draft
-turned_over saved condition d = narrowed_by true condition (with_instr (I.LoadContext saved) d)
+turned_over saved condition d =
+    narrowed_by true condition.set (with_instr (I.NeZero condition) (with_instr (I.LoadContext saved) d))
 
-unfoldable pub parallel_choice_by : Out → Code → Code → Code → Draft → Made Out
+unfoldable pub parallel_choice_by : Out → Code → Arm → Arm → Draft → Made Out
 parallel_choice_by dest test first second d =
     in_field dest (λ f. then_make (a_flag f.set d) (λ saved begun. then_make (test begun) (λ c next.
-    then_make (limited false saved c next) (λ condition third. then_make (first third) (λ v fourth.
-    then_make (put_value dest v fourth) (λ _ fifth. then_make (second (turned_over saved condition fifth)) (λ w sixth.
-    then_make (put_value dest w sixth) (λ _ last. Makes dest (with_instr (I.LoadContext saved) last)))))))))
+    then_make (limited saved c next) (λ condition third. then_make (first dest third) (λ _ fourth.
+    then_make (second dest (turned_over saved condition fourth)) (λ _ last. Makes dest (with_instr (I.LoadContext saved) last)))))))
 
-unfoldable pub choice_by : ValueType → Bool → Code → Code → Code → ℕ → ℕ → Draft → Made Out
+unfoldable pub choice_by : ValueType → Bool → Code → Arm → Arm → ℕ → ℕ → Draft → Made Out
 choice_by ty kept test first second n m d =
     then_make (fresh_for ty.shape d) (λ dest after.
     if kept then scalar_choice_by dest test first second n m after else parallel_choice_by dest test first second after)
@@ -210,16 +250,21 @@ indexed_spot e indexes d =
     then_make (fresh_for (type_of e).shape d) (λ at begun. then_make (indexes [] begun) (λ parts between.
     then_make (located e parts at between) (λ out after. Makes (S.Indexed out) after)))
 
--- the value at a spot
-unfoldable pub read_by : Typed → Layout → TExpr → ValueType → (Draft → Made Spot) → Draft → Made Out
-read_by t l e ty spot d =
-    then_make (fresh_for ty.shape d) (λ dest begun. then_make (spot begun) (λ there after. loaded t l e there dest after))
+-- the value at a spot, and that of a get by NEWS, to a register or a field
+unfoldable pub read_to : Typed → Layout → TExpr → (Draft → Made Spot) → Out → Draft → Made Out
+read_to t l e spot dest d = then_make (spot d) (λ there after. loaded t l e there dest after)
 
--- a get by NEWS
-unfoldable pub news_by : Typed → Layout → TExpr → ValueType → Draft → Made Out
-news_by t l e ty d =
-    then_make (fresh_for ty.shape d) (λ dest begun. then_make (checked_grid e begun)
-    (λ _ after. communicated t l e O.Nothing [] dest after))
+unfoldable pub news_to : Typed → Layout → TExpr → Out → Draft → Made Out
+news_to t l e dest d = then_make (checked_grid e d) (λ _ after. communicated t l e O.Nothing [] dest after)
+
+unfoldable pub index_read_to : Typed → Layout → TExpr → (Draft → Made Spot) → Out → Draft → Made Out
+index_read_to t l e spot dest d = if goes_by_news e then news_to t l e dest d else read_to t l e spot dest d
+
+unfoldable pub read_by : Typed → Layout → TExpr → ValueType → (Draft → Made Spot) → Draft → Made Out
+read_by t l e ty spot d = then_make (fresh_for ty.shape d) (λ dest begun. read_to t l e spot dest begun)
+
+unfoldable pub index_read_by : Typed → Layout → TExpr → ValueType → (Draft → Made Spot) → Draft → Made Out
+index_read_by t l e ty spot d = then_make (fresh_for ty.shape d) (λ dest begun. index_read_to t l e spot dest begun)
 
 -- an assignment without an operator; a send has no value
 unfoldable pub set_by : Typed → Layout → TExpr → (Draft → Made Spot) → Code → Draft → Made Out
@@ -308,11 +353,26 @@ step_by t l e op order target spot d =
     then_make (fresh_for (type_of target).shape d) (λ outcome begun. then_make (fresh_for (type_of target).shape begun) (λ second next.
     then_make (spot next) (λ there after. stepped_in t l e op order target there outcome second after)))
 
--- a reduction or a scan of a value
+-- a reduction or a scan of a value, to a register or a field
+unfoldable pub message_to : Typed → Layout → TExpr → Code → Out → Draft → Made Out
+message_to t l e code dest d = then_make (code d) (λ v after. communicated t l e O.Nothing (v ∷ []) dest after)
+
 unfoldable pub message_by : Typed → Layout → TExpr → ValueType → Code → Draft → Made Out
-message_by t l e ty code d =
-    then_make (fresh_for ty.shape d) (λ dest begun. then_make (code begun)
-    (λ v after. communicated t l e O.Nothing (v ∷ []) dest after))
+message_by t l e ty code d = then_make (fresh_for ty.shape d) (λ dest begun. message_to t l e code dest begun)
+
+-- a call with the values of its arguments, whose result goes to a register or a field
+unfoldable pub call_to : Typed → Layout → ℕ → Codes → Out → Draft → Made Out
+call_to t l instance arguments dest d = then_make (arguments [] d) (λ given after. called t l instance given dest after)
+
+-- an operand of `&&` or `||`, by the codes of its value and of its truth
+unfoldable pub condition_by : Typed → Layout → Code → Test → TExpr → Condition
+condition_by t l code truth e = record {
+  kept = is_kept e;
+  code = operand_by t l code true e;
+  long = operand_length (length_of t l e) true e;
+  test = tested_by (has_truth e) truth (operand_by t l code true e);
+  tested_long = tested_length t l e;
+}
 
 unfoldable mutual
   -- the value of an expression; that of a promoted scalar stays in its register
@@ -321,14 +381,14 @@ unfoldable mutual
       assign_by t l (T.Assign' ty place op p target q value) op place target value (spot_of t l target) (value_of t l value) d
   value_of t l (T.Choice' ty p test q first r second) d =
       choice_by ty (is_kept test) (operand_by t l (value_of t l test) (is_kept test || is_quiet first) test)
-      (operand_by t l (value_of t l first) true first) (operand_by t l (value_of t l second) true second)
-      (operand_length (length_of t l first) true first) (operand_length (length_of t l second) true second) d
+      (arm_by (operand_by t l (value_of t l first) true first) first) (arm_by (operand_by t l (value_of t l second) true second) second)
+      (arm_length_of t l ty first) (arm_length_of t l ty second) d
   value_of t l (T.LogicalOr' ty p left q right) d =
-      logical_by true ty.shape (operand_by t l (value_of t l left) true left) (is_kept left)
-      (operand_by t l (value_of t l right) true right) (is_kept right) (operand_length (length_of t l right) true right) d
+      logical_by true ty.shape (condition_by t l (value_of t l left) (truth_of t l left) left)
+      (condition_by t l (value_of t l right) (truth_of t l right) right) d
   value_of t l (T.LogicalAnd' ty p left q right) d =
-      logical_by false ty.shape (operand_by t l (value_of t l left) true left) (is_kept left)
-      (operand_by t l (value_of t l right) true right) (is_kept right) (operand_length (length_of t l right) true right) d
+      logical_by false ty.shape (condition_by t l (value_of t l left) (truth_of t l left) left)
+      (condition_by t l (value_of t l right) (truth_of t l right) right) d
   value_of t l (T.Binary' ty place op p left q right) d =
       then_make (fresh_for ty.shape d)
       (λ dest after. binary_at dest op (is_signed (type_of left).elem) place
@@ -352,11 +412,10 @@ unfoldable mutual
   value_of t l (T.Dot ty axis) d = coordinate_in ty.shape axis d
   value_of t l (T.Brackets' ty p inner) d = value_of t l inner d
   value_of t l (T.Call' ty instance p arguments) d =
-      then_make (fresh_for ty.shape d) (λ dest begun. then_make (values_of t l (are_quiet arguments) arguments [] begun)
-      (λ given after. called t l instance given dest after))
+      then_make (fresh_for ty.shape d) (λ dest begun. call_to t l instance (values_of t l (are_quiet arguments) arguments) dest begun)
   value_of t l (T.LeftIndex' ty place p indexes x of) d =
-      if goes_by_news (T.LeftIndex' ty place p indexes x of) then news_by t l (T.LeftIndex' ty place p indexes x of) ty d
-      else read_by t l (T.LeftIndex' ty place p indexes x of) ty (indexed_spot (T.LeftIndex' ty place p indexes x of) (values_of t l (are_quiet indexes) indexes)) d
+      index_read_by t l (T.LeftIndex' ty place p indexes x of) ty
+      (indexed_spot (T.LeftIndex' ty place p indexes x of) (values_of t l (are_quiet indexes) indexes)) d
   value_of t l (T.Pcoord ty axis) d = coordinate_in ty.shape axis d
   value_of t l (T.PositionsOf ty shape value) d = constant_in value d
   value_of t l (T.RankOf ty shape value) d = constant_in value d
@@ -369,6 +428,16 @@ unfoldable mutual
   value_of t l (T.Printf' ty pieces p arguments) d =
       then_make (values_of t l (are_quiet arguments) arguments [] d) (λ given after. pieces_printed pieces.items given after)
   value_of t l (T.GetChar ty) d = byte_in d
+
+  -- the test flags, of a value that has a truth without its value
+  pub truth_of : Typed → Layout → TExpr → Test
+  truth_of t l (T.Brackets' ty p inner) d = truth_of t l inner d
+  truth_of t l (T.Variable ty x) d = then_make (field_of t l x 0 d) (λ source after. Makes tt (with_instr (I.NeZero source) after))
+  truth_of t l (T.Binary' ty place op p left q right) d =
+      relation_by (unwrap_or ty.shape 0) op (is_signed (type_of left).elem)
+      (operand_by t l (value_of t l left) (is_quiet right) left) left (operand_by t l (value_of t l right) true right) right d
+  truth_of t l (T.Unary' ty op p operand) d = zero_tested (operand_by t l (value_of t l operand) true operand) d
+  truth_of t l _ d = Fails
 
   -- where a target or a reference is: its indexes, their range check, and the address
   pub spot_of : Typed → Layout → TExpr → Draft → Made Spot
@@ -391,39 +460,30 @@ values_in t l quiet [] outs d = Makes outs d
 values_in t l quiet (e ∷ rest) outs d =
     then_make (operand_by t l (value_of t l e) quiet e d) (λ v after. values_in t l quiet rest (outs ++ v ∷ []) after)
 
--- `||`, or else `&&`, of these operands: of scalars, and with a parallel operand
-unfoldable pub scalar_logical_of : Typed → Layout → Bool → TExpr → TExpr → Draft → Made Out
-scalar_logical_of t l is_or left right d =
-    scalar_logical_by is_or (operand_by t l (value_of t l left) true left) (operand_by t l (value_of t l right) true right)
-    (operand_length (length_of t l right) true right) d
+-- an operand of `&&` or `||`, and the test flags of a value
+abbrev pub condition_of : Typed → Layout → TExpr → Condition
+condition_of t l e = condition_by t l (value_of t l e) (truth_of t l e) e
 
-unfoldable pub parallel_logical_of : Typed → Layout → Bool → TExpr → TExpr → ℕ → Draft → Made Out
-parallel_logical_of t l is_or left right set d =
-    parallel_logical_by is_or set (operand_by t l (value_of t l left) true left) (is_kept left)
-    (operand_by t l (value_of t l right) true right) (is_kept right) (operand_length (length_of t l right) true right) d
-
-unfoldable pub logical_of : Typed → Layout → Bool → Option ℕ → TExpr → TExpr → Draft → Made Out
-logical_of t l is_or shape left right d =
-    logical_by is_or shape (operand_by t l (value_of t l left) true left) (is_kept left)
-    (operand_by t l (value_of t l right) true right) (is_kept right) (operand_length (length_of t l right) true right) d
+abbrev pub tested : Typed → Layout → TExpr → Test
+tested t l e = tested_by (has_truth e) (truth_of t l e) (operand_by t l (value_of t l e) true e)
 
 -- `?:` of these operands, into this register or field
-unfoldable pub scalar_choice_of : Typed → Layout → TExpr → TExpr → TExpr → Out → Draft → Made Out
-scalar_choice_of t l test first second dest d =
-    scalar_choice_by dest (operand_by t l (value_of t l test) true test)
-    (operand_by t l (value_of t l first) true first) (operand_by t l (value_of t l second) true second)
-    (operand_length (length_of t l first) true first) (operand_length (length_of t l second) true second) d
+unfoldable pub arm_of : Typed → Layout → TExpr → Arm
+arm_of t l e = arm_by (operand_by t l (value_of t l e) true e) e
+
+unfoldable pub scalar_choice_of : Typed → Layout → ValueType → TExpr → TExpr → TExpr → Out → Draft → Made Out
+scalar_choice_of t l ty test first second dest d =
+    scalar_choice_by dest (operand_by t l (value_of t l test) true test) (arm_of t l first) (arm_of t l second)
+    (arm_length_of t l ty first) (arm_length_of t l ty second) d
 
 unfoldable pub parallel_choice_of : Typed → Layout → TExpr → TExpr → TExpr → Out → Draft → Made Out
 parallel_choice_of t l test first second dest d =
-    parallel_choice_by dest (operand_by t l (value_of t l test) (is_quiet first) test)
-    (operand_by t l (value_of t l first) true first) (operand_by t l (value_of t l second) true second) d
+    parallel_choice_by dest (operand_by t l (value_of t l test) (is_quiet first) test) (arm_of t l first) (arm_of t l second) d
 
 unfoldable pub choice_of : Typed → Layout → ValueType → TExpr → TExpr → TExpr → Draft → Made Out
 choice_of t l ty test first second d =
     choice_by ty (is_kept test) (operand_by t l (value_of t l test) (is_kept test || is_quiet first) test)
-    (operand_by t l (value_of t l first) true first) (operand_by t l (value_of t l second) true second)
-    (operand_length (length_of t l first) true first) (operand_length (length_of t l second) true second) d
+    (arm_of t l first) (arm_of t l second) (arm_length_of t l ty first) (arm_length_of t l ty second) d
 
 -- a binary operator of these operands whose last instruction writes this register, or this field
 unfoldable pub register_binary_of : Typed → Layout → Op → Place → TExpr → TExpr → ℕ → Draft → Made Out
@@ -443,10 +503,8 @@ binary_of t l shape op place left right d =
     (operand_by t l (value_of t l left) (is_quiet right) left) left (operand_by t l (value_of t l right) true right) right after)
 
 -- a call with these arguments, and `printf` with them
-unfoldable pub call_of : Typed → Layout → Option ℕ → ℕ → List TExpr → Draft → Made Out
-call_of t l shape instance arguments d =
-    then_make (fresh_for shape d) (λ dest begun. then_make (values_in t l (all_quiet arguments) arguments [] begun)
-    (λ given after. called t l instance given dest after))
+unfoldable pub call_of : Typed → Layout → ℕ → List TExpr → Out → Draft → Made Out
+call_of t l instance arguments dest d = call_to t l instance (values_in t l (all_quiet arguments) arguments) dest d
 
 unfoldable pub print_of : Typed → Layout → List Piece → List TExpr → Draft → Made Out
 print_of t l pieces arguments d =

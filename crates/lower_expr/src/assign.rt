@@ -1,7 +1,7 @@
 //! What an assignment or a step does once its target is located and its value is there.
 
 ghost use Rattle.std.specs.Prelude.{◌≡◌, IfOk, OnOk};
-ghost use Rattle.lower_base.specs.Drafts.{Makes, draft};
+ghost use Rattle.lower_base.specs.Drafts.{Makes, draft, out_of};
 ghost use Rattle.lower_base.specs.Layouts.{layout};
 ghost use Rattle.lower_expr.specs.Lengths.{is_send};
 ghost use Rattle.lower_expr.specs.Values.{field_updated, register_updated, register_folded, step_operation, stepped_once, stepped_at, stepped_in};
@@ -13,7 +13,7 @@ use cstar_base::Memory;
 use cstar_tree::syntax::StepOp;
 use cstar_tree::typed::{StepOrder, TExpr};
 use lower_base::emit::{put, register};
-use lower_base::{Out, View};
+use lower_base::{Operand, Out, View};
 use lower_comm::messages::comm_in;
 use paris_code::{Field, Instr, Konst, Unit};
 
@@ -38,11 +38,12 @@ pub fn update_field(
 ) -> Result<Out, Memory>
     ensures draft { IfOk result (λ out. field_updated view.now.typed.now (layout view.now.names) located.now.whole.now operator.op operator.signed operator.place located.now.target.now dest spare located.now.spot v (draft u.old) ≡ Makes out (draft u.new)) }
 {
-    load(view, located.target, located.spot, Out::Field(dest), u)?;
+    let result = Operand::Field(dest);
+    load(view, located.target, located.spot, result, u)?;
     operate_right(operator, dest, dest, v, spare, u)?;
-    convert(Out::Field(dest), located.target.ty().elem, u)?;
-    store(view, located.whole, located.spot, Out::Field(dest), u)?;
-    Ok(Out::Field(dest))
+    convert(result, located.target.ty().elem, u)?;
+    store(view, located.whole, located.spot, result, u)?;
+    Ok(result.out())
 }
 
 /// A located scalar target takes the result of the operator on its old value and a scalar one.
@@ -52,16 +53,17 @@ pub fn update_register(
     located: &Located,
     operator: Operator,
     dest: u32,
-    v: Out,
+    v: Operand,
     u: &mut Unit,
 ) -> Result<Out, Memory>
-    ensures draft { IfOk result (λ out. register_updated view.now.typed.now (layout view.now.names) located.now.whole.now operator.op operator.signed operator.place located.now.target.now dest located.now.spot v (draft u.old) ≡ Makes out (draft u.new)) }
+    ensures draft { IfOk result (λ out. register_updated view.now.typed.now (layout view.now.names) located.now.whole.now operator.op operator.signed operator.place located.now.target.now dest located.now.spot (out_of v) (draft u.old) ≡ Makes out (draft u.new)) }
 {
-    load(view, located.target, located.spot, Out::Scalar(dest), u)?;
+    let result = Operand::Register(dest);
+    load(view, located.target, located.spot, result, u)?;
     operate(operator, dest, dest, v.register()?, u)?;
-    convert(Out::Scalar(dest), located.target.ty().elem, u)?;
-    store(view, located.whole, located.spot, Out::Scalar(dest), u)?;
-    Ok(Out::Scalar(dest))
+    convert(result, located.target.ty().elem, u)?;
+    store(view, located.whole, located.spot, result, u)?;
+    Ok(result.out())
 }
 
 /// A located scalar target takes the result of the operator on its old value and the elements of a
@@ -71,24 +73,18 @@ pub fn fold_into_register(
     view: &View,
     located: &Located,
     dest: u32,
-    v: Out,
+    v: Operand,
     u: &mut Unit,
 ) -> Result<Out, Memory>
-    ensures draft { IfOk result (λ out. register_folded view.now.typed.now (layout view.now.names) located.now.whole.now located.now.target.now dest located.now.spot v (draft u.old) ≡ Makes out (draft u.new)) }
+    ensures draft { IfOk result (λ out. register_folded view.now.typed.now (layout view.now.names) located.now.whole.now located.now.target.now dest located.now.spot (out_of v) (draft u.old) ≡ Makes out (draft u.new)) }
 {
-    let old = register(u)?;
-    load(view, located.target, located.spot, Out::Scalar(old), u)?;
-    let parts = [v, Out::Scalar(old)];
-    comm_in(
-        view,
-        located.whole,
-        Out::Nothing,
-        &parts,
-        Out::Scalar(dest),
-        u,
-    )?;
-    store(view, located.whole, located.spot, Out::Scalar(dest), u)?;
-    Ok(Out::Scalar(dest))
+    let old = Operand::Register(register(u)?);
+    let result = Operand::Register(dest);
+    load(view, located.target, located.spot, old, u)?;
+    let parts = [v.out(), old.out()];
+    comm_in(view, located.whole, Out::Nothing, &parts, result.out(), u)?;
+    store(view, located.whole, located.spot, result, u)?;
+    Ok(result.out())
 }
 
 /// Whether an assignment to the target is a send.
@@ -110,22 +106,21 @@ pub fn step_in(
     located: &Located,
     op: StepOp,
     order: StepOrder,
-    outcome: Out,
-    second: Out,
+    outcome: Operand,
+    second: Operand,
     u: &mut Unit,
 ) -> Result<Out, Memory>
-    ensures draft { IfOk result (λ out. stepped_in view.now.typed.now (layout view.now.names) located.now.whole.now op order located.now.target.now located.now.spot outcome second (draft u.old) ≡ Makes out (draft u.new)) }
+    ensures draft { IfOk result (λ out. stepped_in view.now.typed.now (layout view.now.names) located.now.whole.now op order located.now.target.now located.now.spot (out_of outcome) (out_of second) (draft u.old) ≡ Makes out (draft u.new)) }
 {
     match order {
         StepOrder::Prefix => {
             step_at(view, located, op, second, outcome, u)?;
-            Ok(outcome)
         }
         StepOrder::Postfix => {
             step_at(view, located, op, outcome, second, u)?;
-            Ok(outcome)
         }
     }
+    Ok(outcome.out())
 }
 
 /// The step itself, from the old value to the new one.
@@ -134,27 +129,26 @@ fn step_at(
     view: &View,
     located: &Located,
     op: StepOp,
-    before: Out,
-    behind: Out,
+    before: Operand,
+    behind: Operand,
     u: &mut Unit,
-) -> Result<Out, Memory>
-    ensures draft { IfOk result (λ out. stepped_at view.now.typed.now (layout view.now.names) located.now.whole.now op located.now.target.now located.now.spot before behind (draft u.old) ≡ Makes out (draft u.new)) }
+) -> Result<(), Memory>
+    ensures draft { OnOk result (stepped_at view.now.typed.now (layout view.now.names) located.now.whole.now op located.now.target.now located.now.spot (out_of before) (out_of behind) (draft u.old) ≡ Makes (out_of behind) (draft u.new)) }
 {
     load(view, located.target, located.spot, before, u)?;
     step_once(op, before, behind, u)?;
     convert(behind, located.target.ty().elem, u)?;
-    store(view, located.whole, located.spot, behind, u)?;
-    Ok(behind)
+    store(view, located.whole, located.spot, behind, u)
 }
 
 /// One more or one less.
 #[tactic(auto, unfolding(crate::specs::Values::stepped_once, lower_base::specs::Drafts::in_register, lower_base::specs::Drafts::in_field))]
-fn step_once(op: StepOp, before: Out, behind: Out, u: &mut Unit) -> Result<(), Memory>
-    ensures draft { OnOk result (stepped_once op before behind (draft u.old) ≡ Makes behind (draft u.new)) }
+fn step_once(op: StepOp, before: Operand, behind: Operand, u: &mut Unit) -> Result<(), Memory>
+    ensures draft { OnOk result (stepped_once op (out_of before) (out_of behind) (draft u.old) ≡ Makes (out_of behind) (draft u.new)) }
 {
     let op = step_operation(op);
     match behind {
-        Out::Scalar(dest) => {
+        Operand::Register(dest) => {
             let left = before.register()?;
             put(u, Instr::FrontConst { dest, value: 1 })?;
             put(
@@ -167,7 +161,7 @@ fn step_once(op: StepOp, before: Out, behind: Out, u: &mut Unit) -> Result<(), M
                 },
             )
         }
-        Out::Field(dest) => {
+        Operand::Field(dest) => {
             let left = before.field()?;
             let right = Konst::Imm(1);
             put(
@@ -180,7 +174,6 @@ fn step_once(op: StepOp, before: Out, behind: Out, u: &mut Unit) -> Result<(), M
                 },
             )
         }
-        Out::Nothing => Err(Memory),
     }
 }
 

@@ -1,7 +1,8 @@
 //! The call on a unit as `lower` has it when it comes to an expression.
 
-ghost use Rattle.std.specs.Prelude.{◌≡◌, IfOk};
+ghost use Rattle.std.specs.Prelude.{◌≡◌, ◌<◌, length, IfOk, IsSome};
 ghost use Rattle.lower_base.specs.Drafts.{Makes, draft};
+ghost use Rattle.lower_base.specs.Layouts.{first_named};
 ghost use Rattle.lower_expr.specs.Values.{expression_of};
 
 use crate::value::{spread, value};
@@ -17,19 +18,20 @@ use std::alloc::Global;
 /// variables is that of the first instance with the unit's name.
 ///
 /// `Memory` comes where memory ends, where a count, the place that a jump leads to, or the number of
-/// a register or a field would be 2^32 or more, where no instance has the unit's name, and where the
-/// tree is not what typing makes.
+/// a register or a field would be 2^32 or more, and where the tree is not what typing makes.
 #[tactic(auto, unfolding(crate::specs::Values::expression_of, lower_base::specs::Drafts::from))]
 pub fn expr(alloc: Global, t: &Typed, e: &TExpr, u: &mut Unit) -> Result<Out, Memory>
+    requires main { 0 < length t.now.instances.items }
+    requires instance { IsSome (first_named 0 u.old.name t.now.instances.items) }
     ensures draft { IfOk result (λ out. expression_of t.now u.old.name e.now (draft u.old) ≡ Makes out (draft u.new)) }
 {
     let mut view = View::of(alloc, t)?;
     let Some(instance) = named(t, u.name.bytes()) else {
-        return Err(Memory);
+        unreachable!()
     };
     view.enter(instance)?;
     match e.ty().shape {
-        Some(set) => spread(&view, e, set, u),
+        Some(set) => Ok(spread(&view, e, set, u)?.out()),
         None => value(&view, e, u),
     }
 }

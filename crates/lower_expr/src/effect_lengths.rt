@@ -4,12 +4,12 @@
 ghost use Rattle.std.specs.Prelude.{◌≡◌, ◌≤◌, true, is_none, IfOk};
 ghost use Rattle.cstar_tree.specs.Typed.{type_of};
 ghost use Rattle.lower_base.specs.Layouts.{layout};
-ghost use Rattle.lower_expr.specs.Effects.{assigned_length, compared_length, computed_length, effect_length_of, has_word, operated_length, put_length, settled_length, stepped_length, tested_length};
+ghost use Rattle.lower_expr.specs.Effects.{assigned_length, assignment_length, computed_length, effect_length_of, narrowed_length, operated_length, put_length, settled_length, stepped_length};
 
-use crate::effects::assigned_own;
-use crate::length::{length, operate_length, right_length, spare_length, spread_by, used_length};
-use crate::operands::{Own, is_plus, is_quiet, own_of};
-use crate::steps::{constant_word, immediate, is_relation, register_word, stays_scalar};
+use crate::effects::{assigned_narrow, assigned_own};
+use crate::length::{length, operate_length, right_length, test_length, used_length};
+use crate::operands::{Own, is_plus, own_of};
+use crate::steps::{has_word, stays_scalar};
 use cstar_base::{Elem, Memory, Op};
 use cstar_tree::syntax::AssignOp;
 use cstar_tree::typed::TExpr;
@@ -18,7 +18,7 @@ use lower_base::emit::plus;
 use lower_base::operators::assign_op;
 
 /// The instructions of an expression whose value is not used: what `effect` appends.
-#[tactic(auto, unfolding(crate::specs::Effects::effect_length_of, crate::specs::Effects::written_by, crate::specs::Effects::written_length))]
+#[tactic(auto, unfolding(crate::specs::Effects::effect_length_of, crate::specs::Effects::assignment_length, crate::specs::Effects::step_effect_length))]
 pub fn effect_length(view: &View, e: &TExpr) -> Result<u32, Memory>
     ensures { IfOk result (λ n. n ≡ effect_length_of view.now.typed.now (layout view.now.names) e.now) }
 {
@@ -30,10 +30,13 @@ pub fn effect_length(view: &View, e: &TExpr) -> Result<u32, Memory>
             value,
             ..
         } => {
-            let Some(own) = assigned_own(target, value) else {
-                return length(view, e);
-            };
-            assigned_length(view, own, *op, target, value)
+            if let Some(own) = assigned_own(target, value) {
+                return assigned_length(view, own, *op, target, value);
+            }
+            match assigned_narrow(*op, target) {
+                Some(_) => narrowed_length(view, value),
+                None => length(view, e),
+            }
         }
         TExpr::Step { target, .. } => {
             let Some(own) = own_of(target) else {
@@ -108,18 +111,6 @@ pub fn put_length(view: &View, scalar: bool, e: &TExpr) -> Result<u32, Memory>
     }
 }
 
-/// Whether the value is a constant, which goes to a register or to a field.
-#[tactic(auto, unfolding(crate::specs::Effects::has_word))]
-fn has_word(scalar: bool, e: &TExpr) -> bool
-    ensures value { result ≡ has_word scalar e.now }
-{
-    if scalar {
-        register_word(e).is_some()
-    } else {
-        constant_word(e).is_some()
-    }
-}
-
 /// A value that is no constant.
 #[tactic(auto, unfolding(crate::specs::Effects::computed_length, crate::specs::Effects::next_length))]
 fn computed_length(view: &View, scalar: bool, e: &TExpr) -> Result<u32, Memory>
@@ -145,43 +136,35 @@ fn computed_length(view: &View, scalar: bool, e: &TExpr) -> Result<u32, Memory>
                 length(view, e)
             }
         }
-        TExpr::Binary { .. } => length(view, e),
-        TExpr::Pcoord { .. } => Ok(1),
+        TExpr::Binary { .. }
+        | TExpr::Element { .. }
+        | TExpr::LeftIndex { .. }
+        | TExpr::Scan { .. }
+        | TExpr::Call { .. } => length(view, e),
+        TExpr::Choice { test, .. } => {
+            plus(length(view, e)?, if stays_scalar(test) { 0 } else { 1 })
+        }
+        TExpr::Pcoord { .. } | TExpr::Variable { .. } | TExpr::GetChar { .. } => Ok(1),
         _ => plus(used_length(view, true, e)?, 1),
     }
 }
 
-/// The right operand of a relation, and the comparison.
-#[tactic(auto, unfolding(crate::specs::Effects::compared_length))]
-fn compared_length(n: u32, op: Op, e: &TExpr) -> Result<u32, Memory>
-    ensures { IfOk result (λ sum. sum ≡ compared_length n op e.now) }
-{
-    match immediate(op, e) {
-        Some(_) => Ok(2),
-        None => plus(n, plus(spare_length(op, stays_scalar(e)), 1)?),
-    }
-}
-
-/// A parallel value as the test flags: what `test` appends.
-#[tactic(auto, unfolding(crate::specs::Effects::tested_length, crate::specs::Effects::next_length))]
-pub fn test_length(view: &View, e: &TExpr) -> Result<u32, Memory>
-    ensures { IfOk result (λ n. n ≡ tested_length view.now.typed.now (layout view.now.names) e.now) }
+/// A value that becomes that of a field of fewer than 32 bits: what `narrow_to` appends.
+#[tactic(auto, unfolding(crate::specs::Effects::narrowed_length, crate::specs::Effects::next_length))]
+pub fn narrowed_length(view: &View, e: &TExpr) -> Result<u32, Memory>
+    ensures { IfOk result (λ n. n ≡ narrowed_length view.now.typed.now (layout view.now.names) e.now) }
 {
     match e {
-        TExpr::Brackets { inner, .. } => test_length(view, inner),
-        TExpr::Variable { .. } => Ok(1),
-        TExpr::Binary {
-            op,
-            left,
-            right,
-            ..
-        } => {
-            if !is_relation(*op) {
-                return plus(length(view, e)?, 1);
-            }
-            let a = spread_by(used_length(view, is_quiet(right), left)?, left)?;
-            let n = used_length(view, true, right)?;
-            plus(a, compared_length(n, *op, right)?)
+        TExpr::Brackets { inner, .. } => narrowed_length(view, inner),
+        TExpr::Convert { ty, operand } => {
+            let value = if stays_scalar(operand) {
+                used_length(view, true, e)?
+            } else if ty.elem.bits == 1 {
+                test_length(view, operand)?
+            } else {
+                used_length(view, true, operand)?
+            };
+            plus(value, 1)
         }
         _ => plus(used_length(view, true, e)?, 1),
     }

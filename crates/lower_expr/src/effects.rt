@@ -1,33 +1,33 @@
 //! The code of an expression whose value goes to a variable, decides where a context is narrowed, or
 //! is not used. The last instruction of a value writes the variable itself.
 
-ghost use Rattle.std.specs.Prelude.{◌≡◌, true, IfOk, OnOk};
-ghost use Rattle.cstar_tree.specs.Typed.{type_of};
-ghost use Rattle.lower_base.specs.declared.operators.Machine.TheVariants as M;
-ghost use Rattle.lower_base.specs.Drafts.{Makes, draft};
+ghost use Rattle.std.specs.Prelude.{◌≡◌, IfOk, OnOk};
+ghost use Rattle.lower_base.specs.declared.emit.Out.TheVariants as O;
+ghost use Rattle.lower_base.specs.Drafts.{Makes, draft, out_of};
 ghost use Rattle.lower_base.specs.Layouts.{layout};
-ghost use Rattle.lower_base.specs.Operators.{is_signed, machine_of};
-ghost use Rattle.lower_expr.specs.Effects.{assigned_own, binary_to, compared, computed_to, converted_to, effect_of, field_operated, folds, moved, put_to, register_converted, register_operated, relation_tested, tested, value_tested, variable_assigned, variable_operated, variable_stepped, with_settled, word_for, word_put, written_register};
-ghost use Rattle.lower_expr.specs.Values.{step_operation};
+ghost use Rattle.lower_expr.specs.Effects.{assigned_narrow, assigned_own, assignment_effect, binary_to, computed_to, converted_to, effect_of, field_operated, folds, moved, narrow_of, narrowed_to, put_to, register_converted, register_operated, variable_assigned, variable_operated, variable_stepped, with_settled, written_register};
+ghost use Rattle.lower_expr.specs.Values.{step_operation, value_of};
 
 use crate::assign::step_operation;
-use crate::operands::{Own, is_plus, is_quiet, own_of, standing};
-use crate::parts::{Assignment, Binary, Operator};
+use crate::operands::{Own, is_plus, own_of, standing};
+use crate::parts::{Assignment, Binary, Choice, Operator};
 use crate::steps::{
-    Right, assign_signed, constant, constant_word, operate, operate_right, register_word, set,
-    stays_scalar, unary,
+    assign_signed, constant, operate, operate_right, put_word, set, stays_scalar, unary, word_for,
 };
-use crate::value::{binary_in_field, binary_in_register, operand, right_operand, spread_to, value};
+use crate::value::{
+    binary_in_field, binary_in_register, call_to, message_to, operand, read_indexed_to, read_to,
+    right_operand, scalar_choice, test, value,
+};
 use cstar_base::{Elem, Memory, Op};
-use cstar_tree::syntax::StepOp;
-use cstar_tree::typed::TExpr;
+use cstar_tree::syntax::{AssignOp, StepOp};
+use cstar_tree::typed::{TExpr, Variable};
 use lower_base::emit::{field, put, register};
-use lower_base::operators::{Machine, assign_op, machine_op, promoted_signed};
-use lower_base::{Out, View};
-use paris_code::{Compare, Field, Instr, Konst, Unit};
+use lower_base::operators::assign_op;
+use lower_base::{Operand, Out, View};
+use paris_code::{Field, Instr, Konst, Unit};
 
 /// An expression whose value is not used.
-#[tactic(auto, unfolding(crate::specs::Effects::effect_of, crate::specs::Effects::written_by, crate::specs::Effects::variable_written, lower_base::specs::Drafts::then_make))]
+#[tactic(auto, unfolding(crate::specs::Effects::effect_of, crate::specs::Effects::step_effect, lower_base::specs::Drafts::then_make))]
 pub fn effect(view: &View, e: &TExpr, u: &mut Unit) -> Result<Out, Memory>
     ensures draft { IfOk result (λ out. effect_of view.now.typed.now (layout view.now.names) e.now (draft u.old) ≡ Makes out (draft u.new)) }
 {
@@ -37,30 +37,98 @@ pub fn effect(view: &View, e: &TExpr, u: &mut Unit) -> Result<Out, Memory>
             place,
             op,
             target,
-            value: right,
+            value,
             ..
         } => {
-            let Some(own) = assigned_own(target, right) else {
-                return value(view, e, u);
-            };
-            let dest = standing(view, own, u)?;
             let assignment = Assignment {
                 whole: e,
                 place: *place,
                 op: *op,
                 target,
-                value: right,
+                value,
             };
-            assign_variable(view, &assignment, dest, u)
+            assign_effect(view, &assignment, u)
         }
         TExpr::Step { op, target, .. } => {
             let Some(own) = own_of(target) else {
                 return value(view, e, u);
             };
             let dest = standing(view, own, u)?;
-            step_variable(target.ty().elem, *op, dest, u)
+            step_variable(target.ty().elem, *op, dest, u)?;
+            Ok(dest.out())
         }
         _ => value(view, e, u),
+    }
+}
+
+/// An assignment whose value is not used: one to a variable of 32 bits, a scalar one, or without an
+/// operator writes the variable itself.
+#[tactic(auto, unfolding(crate::specs::Effects::assignment_effect, lower_base::specs::Drafts::then_make))]
+fn assign_effect(view: &View, assignment: &Assignment, u: &mut Unit) -> Result<Out, Memory>
+    ensures draft { IfOk result (λ out. assignment_effect view.now.typed.now (layout view.now.names) assignment.now.op assignment.now.place assignment.now.target.now assignment.now.value.now (value_of view.now.typed.now (layout view.now.names) assignment.now.whole.now) (draft u.old) ≡ Makes out (draft u.new)) }
+{
+    if let Some(own) = assigned_own(assignment.target, assignment.value) {
+        let dest = standing(view, own, u)?;
+        assign_variable(view, assignment, dest, u)?;
+        return Ok(dest.out());
+    }
+    match assigned_narrow(assignment.op, assignment.target) {
+        Some(variable) => {
+            let dest = view.field(variable, 0, u)?;
+            narrow_to(view, dest, assignment.value, u)?;
+            Ok(Out::Field(dest))
+        }
+        None => value(view, assignment.whole, u),
+    }
+}
+
+/// The parallel variable of fewer than 32 bits that an assignment without an operator writes.
+pub fn assigned_narrow(op: AssignOp, target: &TExpr) -> Option<Variable>
+    ensures { result ≡ assigned_narrow op target.now }
+{
+    match assign_op(op) {
+        None => narrow_of(target),
+        Some(_) => None,
+    }
+}
+
+/// The parallel variable of fewer than 32 bits that a target is.
+#[tactic(auto, unfolding(crate::specs::Effects::narrow_of))]
+fn narrow_of(target: &TExpr) -> Option<Variable>
+    ensures { result ≡ narrow_of target.now }
+{
+    match target {
+        TExpr::Brackets { inner, .. } => narrow_of(inner),
+        TExpr::Variable { ty, variable } => {
+            if ty.shape.is_none() || ty.elem.bits == 32 {
+                None
+            } else {
+                Some(*variable)
+            }
+        }
+        _ => None,
+    }
+}
+
+/// A value becomes that of a field of fewer than 32 bits: of one that was converted to `bool` the
+/// test flag, of one that was converted to another narrow type its lowest bits.
+#[tactic(auto, unfolding(crate::specs::Effects::narrowed_to, lower_base::specs::Drafts::then_make))]
+pub fn narrow_to(view: &View, dest: Field, e: &TExpr, u: &mut Unit) -> Result<(), Memory>
+    ensures draft { OnOk result (narrowed_to view.now.typed.now (layout view.now.names) dest e.now (draft u.old) ≡ Makes (O.Field dest) (draft u.new)) }
+{
+    match e {
+        TExpr::Brackets { inner, .. } => narrow_to(view, dest, inner, u),
+        TExpr::Convert { ty, operand } => {
+            if stays_scalar(operand) {
+                move_to(view, Operand::Field(dest), e, u)
+            } else if ty.elem.bits == 1 {
+                test(view, operand, u)?;
+                put(u, Instr::StoreTest { dest })
+            } else {
+                move_to(view, Operand::Field(dest), operand, u)
+            }
+        }
+        _ => move_to(view, Operand::Field(dest), e, u),
     }
 }
 
@@ -85,10 +153,10 @@ fn folds(own: Own, value: &TExpr) -> bool
 fn assign_variable(
     view: &View,
     assignment: &Assignment,
-    dest: Out,
+    dest: Operand,
     u: &mut Unit,
-) -> Result<Out, Memory>
-    ensures draft { IfOk result (λ out. variable_assigned view.now.typed.now (layout view.now.names) assignment.now.op assignment.now.place assignment.now.target.now assignment.now.value.now dest (draft u.old) ≡ Makes out (draft u.new)) }
+) -> Result<(), Memory>
+    ensures draft { OnOk result (variable_assigned view.now.typed.now (layout view.now.names) assignment.now.op assignment.now.place assignment.now.target.now assignment.now.value.now (out_of dest) (draft u.old) ≡ Makes (out_of dest) (draft u.new)) }
 {
     match assign_op(assignment.op) {
         None => put_to(view, dest, assignment.value, u),
@@ -98,8 +166,8 @@ fn assign_variable(
 
 /// A value becomes that of a register, or of a field of 32 bits, which its last instruction writes.
 #[tactic(auto, unfolding(crate::specs::Effects::put_to))]
-pub fn put_to(view: &View, dest: Out, e: &TExpr, u: &mut Unit) -> Result<Out, Memory>
-    ensures draft { IfOk result (λ out. put_to view.now.typed.now (layout view.now.names) dest e.now (draft u.old) ≡ Makes out (draft u.new)) }
+pub fn put_to(view: &View, dest: Operand, e: &TExpr, u: &mut Unit) -> Result<(), Memory>
+    ensures draft { OnOk result (put_to view.now.typed.now (layout view.now.names) (out_of dest) e.now (draft u.old) ≡ Makes (out_of dest) (draft u.new)) }
 {
     match word_for(dest, e) {
         Some(word) => put_word(dest, word, u),
@@ -107,37 +175,10 @@ pub fn put_to(view: &View, dest: Out, e: &TExpr, u: &mut Unit) -> Result<Out, Me
     }
 }
 
-/// The word of a constant that goes to a register, or to every position of a field.
-#[tactic(auto, unfolding(crate::specs::Effects::word_for))]
-fn word_for(dest: Out, e: &TExpr) -> Option<u32>
-    ensures value { result ≡ word_for dest e.now }
-{
-    match dest {
-        Out::Scalar(_) => register_word(e),
-        Out::Field(_) => constant_word(e),
-        Out::Nothing => None,
-    }
-}
-
-#[tactic(auto, unfolding(crate::specs::Effects::word_put))]
-fn put_word(dest: Out, word: u32, u: &mut Unit) -> Result<Out, Memory>
-    ensures draft { IfOk result (λ out. word_put dest word (draft u.old) ≡ Makes out (draft u.new)) }
-{
-    match dest {
-        Out::Scalar(dest) => put(u, Instr::FrontConst { dest, value: word })?,
-        Out::Field(dest) => {
-            let value = Konst::Imm(word);
-            put(u, Instr::MoveConstant { dest, value })?;
-        }
-        Out::Nothing => return Err(Memory),
-    }
-    Ok(dest)
-}
-
 /// A value that is no constant becomes that of a register or a field.
-#[tactic(auto, unfolding(crate::specs::Effects::computed_to, crate::specs::Effects::next_operand, lower_base::specs::Drafts::then_make, lower_base::specs::Drafts::in_field))]
-fn compute_to(view: &View, dest: Out, e: &TExpr, u: &mut Unit) -> Result<Out, Memory>
-    ensures draft { IfOk result (λ out. computed_to view.now.typed.now (layout view.now.names) dest e.now (draft u.old) ≡ Makes out (draft u.new)) }
+#[tactic(auto, unfolding(crate::specs::Effects::computed_to, crate::specs::Effects::gone_to, crate::specs::Effects::next_operand, lower_base::specs::Drafts::then_make, lower_base::specs::Drafts::in_field, lower_base::specs::Drafts::in_register))]
+fn compute_to(view: &View, dest: Operand, e: &TExpr, u: &mut Unit) -> Result<(), Memory>
+    ensures draft { OnOk result (computed_to view.now.typed.now (layout view.now.names) (out_of dest) e.now (draft u.old) ≡ Makes (out_of dest) (draft u.new)) }
 {
     match e {
         TExpr::Brackets { inner, .. } => compute_to(view, dest, inner, u),
@@ -156,8 +197,7 @@ fn compute_to(view: &View, dest: Out, e: &TExpr, u: &mut Unit) -> Result<Out, Me
                 return compute_to(view, dest, inner, u);
             }
             let v = operand(view, true, inner, u)?;
-            unary(*op, dest, v, u)?;
-            Ok(dest)
+            unary(*op, dest, v, u)
         }
         TExpr::Binary {
             place,
@@ -182,8 +222,44 @@ fn compute_to(view: &View, dest: Out, e: &TExpr, u: &mut Unit) -> Result<Out, Me
                     dest: field,
                     axis: *axis,
                 },
-            )?;
-            Ok(dest)
+            )
+        }
+        TExpr::GetChar { .. } => {
+            let register = dest.register()?;
+            put(u, Instr::FrontGetByte { dest: register })
+        }
+        TExpr::Choice {
+            ty,
+            test,
+            then,
+            otherwise,
+        } => {
+            if !stays_scalar(test) {
+                return move_to(view, dest, e, u);
+            }
+            let choice = Choice {
+                test,
+                then,
+                otherwise,
+            };
+            scalar_choice(view, *ty, &choice, dest, u)
+        }
+        TExpr::Variable { .. } | TExpr::Element { .. } => read_to(view, e, dest, u),
+        TExpr::LeftIndex { .. } => {
+            read_indexed_to(view, e, dest, u)?;
+            Ok(())
+        }
+        TExpr::Scan { source, .. } => {
+            message_to(view, e, source, dest, u)?;
+            Ok(())
+        }
+        TExpr::Call {
+            instance,
+            arguments,
+            ..
+        } => {
+            call_to(view, *instance, arguments.as_slice(), dest, u)?;
+            Ok(())
         }
         _ => move_to(view, dest, e, u),
     }
@@ -191,30 +267,28 @@ fn compute_to(view: &View, dest: Out, e: &TExpr, u: &mut Unit) -> Result<Out, Me
 
 /// A value moved to a register or a field.
 #[tactic(auto, unfolding(crate::specs::Effects::moved, crate::specs::Effects::next_operand, lower_base::specs::Drafts::then_make))]
-pub fn move_to(view: &View, dest: Out, e: &TExpr, u: &mut Unit) -> Result<Out, Memory>
-    ensures draft { IfOk result (λ out. moved view.now.typed.now (layout view.now.names) dest e.now (draft u.old) ≡ Makes out (draft u.new)) }
+pub fn move_to(view: &View, dest: Operand, e: &TExpr, u: &mut Unit) -> Result<(), Memory>
+    ensures draft { OnOk result (moved view.now.typed.now (layout view.now.names) (out_of dest) e.now (draft u.old) ≡ Makes (out_of dest) (draft u.new)) }
 {
     let v = operand(view, true, e, u)?;
-    set(dest, v, u)?;
-    Ok(dest)
+    set(dest, v, u)
 }
 
 /// A value `e`, which is `inner` converted to a narrow type.
 #[tactic(auto, unfolding(crate::specs::Effects::converted_to))]
 fn convert_to(
     view: &View,
-    dest: Out,
+    dest: Operand,
     e: &TExpr,
     elem: Elem,
     inner: &TExpr,
     u: &mut Unit,
-) -> Result<Out, Memory>
-    ensures draft { IfOk result (λ out. converted_to view.now.typed.now (layout view.now.names) dest e.now elem inner.now (draft u.old) ≡ Makes out (draft u.new)) }
+) -> Result<(), Memory>
+    ensures draft { OnOk result (converted_to view.now.typed.now (layout view.now.names) (out_of dest) e.now elem inner.now (draft u.old) ≡ Makes (out_of dest) (draft u.new)) }
 {
     match dest {
-        Out::Scalar(register) => convert_to_register(view, register, elem, inner, u),
-        Out::Field(_) => move_to(view, dest, e, u),
-        Out::Nothing => Err(Memory),
+        Operand::Register(register) => convert_to_register(view, register, elem, inner, u),
+        Operand::Field(_) => move_to(view, dest, e, u),
     }
 }
 
@@ -226,28 +300,25 @@ fn convert_to_register(
     kind: Elem,
     inner: &TExpr,
     u: &mut Unit,
-) -> Result<Out, Memory>
-    ensures draft { IfOk result (λ out. register_converted view.now.typed.now (layout view.now.names) dest kind inner.now (draft u.old) ≡ Makes out (draft u.new)) }
+) -> Result<(), Memory>
+    ensures draft { OnOk result (register_converted view.now.typed.now (layout view.now.names) dest kind inner.now (draft u.old) ≡ Makes (O.Scalar dest) (draft u.new)) }
 {
     let source = operand(view, true, inner, u)?.register()?;
-    put(u, Instr::FrontConvert { dest, source, kind })?;
-    Ok(Out::Scalar(dest))
+    put(u, Instr::FrontConvert { dest, source, kind })
 }
 
 /// A binary operator whose result goes to a register or a field.
 #[tactic(auto, unfolding(crate::specs::Effects::binary_to, lower_base::specs::Drafts::then_make))]
-fn binary_to(view: &View, dest: Out, binary: &Binary, u: &mut Unit) -> Result<Out, Memory>
-    ensures draft { IfOk result (λ out. binary_to view.now.typed.now (layout view.now.names) dest binary.now.op binary.now.place binary.now.left.now binary.now.right.now (draft u.old) ≡ Makes out (draft u.new)) }
+fn binary_to(view: &View, dest: Operand, binary: &Binary, u: &mut Unit) -> Result<(), Memory>
+    ensures draft { OnOk result (binary_to view.now.typed.now (layout view.now.names) (out_of dest) binary.now.op binary.now.place binary.now.left.now binary.now.right.now (draft u.old) ≡ Makes (out_of dest) (draft u.new)) }
 {
     match dest {
-        Out::Scalar(register) => binary_in_register(view, binary, register, u)?,
-        Out::Field(place) => {
+        Operand::Register(register) => binary_in_register(view, binary, register, u),
+        Operand::Field(place) => {
             let spare = field(u, place.set)?;
-            binary_in_field(view, binary, place, spare, u)?;
+            binary_in_field(view, binary, place, spare, u)
         }
-        Out::Nothing => return Err(Memory),
     }
-    Ok(dest)
 }
 
 /// The register that an operation writes: that of the variable, if its type has 32 bits.
@@ -279,10 +350,10 @@ fn operate_variable(
     view: &View,
     assignment: &Assignment,
     op: Op,
-    dest: Out,
+    dest: Operand,
     u: &mut Unit,
-) -> Result<Out, Memory>
-    ensures draft { IfOk result (λ out. variable_operated view.now.typed.now (layout view.now.names) op assignment.now.place assignment.now.target.now assignment.now.value.now dest (draft u.old) ≡ Makes out (draft u.new)) }
+) -> Result<(), Memory>
+    ensures draft { OnOk result (variable_operated view.now.typed.now (layout view.now.names) op assignment.now.place assignment.now.target.now assignment.now.value.now (out_of dest) (draft u.old) ≡ Makes (out_of dest) (draft u.new)) }
 {
     let value = assignment.value;
     let elem = assignment.target.ty().elem;
@@ -293,9 +364,8 @@ fn operate_variable(
         place: assignment.place,
     };
     match dest {
-        Out::Scalar(register) => operate_register(view, operator, elem, register, value, u),
-        Out::Field(field) => operate_field(view, operator, field, value, u),
-        Out::Nothing => Err(Memory),
+        Operand::Register(register) => operate_register(view, operator, elem, register, value, u),
+        Operand::Field(field) => operate_field(view, operator, field, value, u),
     }
 }
 
@@ -308,14 +378,13 @@ fn operate_register(
     variable: u32,
     value: &TExpr,
     u: &mut Unit,
-) -> Result<Out, Memory>
-    ensures draft { IfOk result (λ out. register_operated view.now.typed.now (layout view.now.names) operator.op operator.signed operator.place elem variable value.now (draft u.old) ≡ Makes out (draft u.new)) }
+) -> Result<(), Memory>
+    ensures draft { OnOk result (register_operated view.now.typed.now (layout view.now.names) operator.op operator.signed operator.place elem variable value.now (draft u.old) ≡ Makes (O.Scalar variable) (draft u.new)) }
 {
     let right = operand(view, true, value, u)?.register()?;
     let written = written_register(elem, variable, u)?;
     operate(operator, written, variable, right, u)?;
-    settle(elem, written, variable, u)?;
-    Ok(Out::Scalar(variable))
+    settle(elem, written, variable, u)
 }
 
 /// An operator on a parallel variable of 32 bits.
@@ -326,24 +395,23 @@ fn operate_field(
     variable: Field,
     value: &TExpr,
     u: &mut Unit,
-) -> Result<Out, Memory>
-    ensures draft { IfOk result (λ out. field_operated view.now.typed.now (layout view.now.names) operator.op operator.signed operator.place variable value.now (draft u.old) ≡ Makes out (draft u.new)) }
+) -> Result<(), Memory>
+    ensures draft { OnOk result (field_operated view.now.typed.now (layout view.now.names) operator.op operator.signed operator.place variable value.now (draft u.old) ≡ Makes (O.Field variable) (draft u.new)) }
 {
     let spare = field(u, variable.set)?;
     let right = right_operand(view, operator.op, value, u)?;
-    operate_right(operator, variable, variable, right, spare, u)?;
-    Ok(Out::Field(variable))
+    operate_right(operator, variable, variable, right, spare, u)
 }
 
 /// A step of a variable.
 #[tactic(auto, unfolding(crate::specs::Effects::variable_stepped, crate::specs::Steps::constant_in, lower_base::specs::Drafts::then_make))]
-fn step_variable(elem: Elem, op: StepOp, dest: Out, u: &mut Unit) -> Result<Out, Memory>
-    ensures draft { IfOk result (λ out. variable_stepped elem op dest (draft u.old) ≡ Makes out (draft u.new)) }
+fn step_variable(elem: Elem, op: StepOp, dest: Operand, u: &mut Unit) -> Result<(), Memory>
+    ensures draft { OnOk result (variable_stepped elem op (out_of dest) (draft u.old) ≡ Makes (out_of dest) (draft u.new)) }
 {
     let op = step_operation(op);
     match dest {
-        Out::Scalar(left) => {
-            let right = constant(1, u)?.register()?;
+        Operand::Register(left) => {
+            let right = constant(1, u)?;
             let written = written_register(elem, left, u)?;
             put(
                 u,
@@ -354,9 +422,9 @@ fn step_variable(elem: Elem, op: StepOp, dest: Out, u: &mut Unit) -> Result<Out,
                     right,
                 },
             )?;
-            settle(elem, written, left, u)?;
+            settle(elem, written, left, u)
         }
-        Out::Field(variable) => put(
+        Operand::Field(variable) => put(
             u,
             Instr::OperateConstant {
                 op,
@@ -364,98 +432,6 @@ fn step_variable(elem: Elem, op: StepOp, dest: Out, u: &mut Unit) -> Result<Out,
                 left: variable,
                 right: Konst::Imm(1),
             },
-        )?,
-        Out::Nothing => return Err(Memory),
+        ),
     }
-    Ok(dest)
-}
-
-/// The test flags become whether a parallel value is not zero.
-#[tactic(auto, using(crate::proofs::Relations::compares, crate::proofs::Relations::operates), unfolding(crate::specs::Effects::tested, lower_base::specs::Drafts::then_make))]
-pub fn test(view: &View, e: &TExpr, u: &mut Unit) -> Result<(), Memory>
-    ensures draft { OnOk result (tested view.now.typed.now (layout view.now.names) e.now (draft u.old) ≡ Makes tt (draft u.new)) }
-{
-    match e {
-        TExpr::Brackets { inner, .. } => test(view, inner, u),
-        TExpr::Variable { variable, .. } => {
-            let source = view.field(*variable, 0, u)?;
-            put(u, Instr::NeZero { source })
-        }
-        TExpr::Binary {
-            ty,
-            place,
-            op,
-            left,
-            right,
-        } => {
-            let binary = Binary {
-                place: *place,
-                op: *op,
-                left,
-                right,
-            };
-            match machine_op(*op, promoted_signed(left.ty().elem)) {
-                Machine::Compare(relation) => {
-                    test_relation(view, relation, ty.shape.unwrap_or(0), &binary, u)
-                }
-                Machine::Operate(_) => test_value(view, e, u),
-            }
-        }
-        _ => test_value(view, e, u),
-    }
-}
-
-/// The test flags become whether a value in a field is not zero.
-#[tactic(auto, unfolding(crate::specs::Effects::value_tested, crate::specs::Effects::next_operand, lower_base::specs::Drafts::then_make, lower_base::specs::Drafts::in_field))]
-fn test_value(view: &View, e: &TExpr, u: &mut Unit) -> Result<(), Memory>
-    ensures draft { OnOk result (value_tested view.now.typed.now (layout view.now.names) e.now (draft u.old) ≡ Makes tt (draft u.new)) }
-{
-    let source = operand(view, true, e, u)?.field()?;
-    put(u, Instr::NeZero { source })
-}
-
-/// The test flags become whether a relation holds, that of the binary operator.
-#[tactic(auto, unfolding(crate::specs::Effects::relation_tested, crate::specs::Effects::compared, lower_base::specs::Drafts::then_make))]
-fn test_relation(
-    view: &View,
-    relation: Compare,
-    set: u16,
-    binary: &Binary,
-    u: &mut Unit,
-) -> Result<(), Memory>
-    requires { machine_of binary.now.op (is_signed (type_of binary.now.left.now).elem) ≡ M.Compare relation }
-    ensures draft { OnOk result (relation_tested view.now.typed.now (layout view.now.names) binary.now.op (is_signed (type_of binary.now.left.now).elem) set binary.now.left.now binary.now.right.now (draft u.old) ≡ Makes tt (draft u.new)) }
-{
-    let spare = field(u, set)?;
-    let a = spread_to(view, is_quiet(binary.right), binary.left, spare, u)?;
-    let b = right_operand(view, binary.op, binary.right, u)?;
-    compare(relation, a, b, spare, u)
-}
-
-/// Compares fields; a word is spread into `spare` first.
-#[tactic(auto, unfolding(crate::specs::Effects::compared))]
-fn compare(
-    relation: Compare,
-    left: Field,
-    right: Right,
-    spare: Field,
-    u: &mut Unit,
-) -> Result<(), Memory>
-    ensures draft { OnOk result (compared (M.Compare relation) left right spare (draft u.old) ≡ Makes tt (draft u.new)) }
-{
-    let right = match right {
-        Right::Field(right) => right,
-        Right::Word(value) => {
-            put(u, Instr::MoveConstant { dest: spare, value })?;
-            spare
-        }
-    };
-    put(
-        u,
-        Instr::Compare {
-            relation,
-            left,
-            right,
-        },
-    )
 }

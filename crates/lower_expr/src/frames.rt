@@ -3,7 +3,7 @@
 
 ghost use Rattle.std.specs.Prelude.{◌≡◌, IfOk, OnOk};
 ghost use Rattle.lower_base.specs.declared.emit.Out.TheVariants as O;
-ghost use Rattle.lower_base.specs.Drafts.{Makes, draft};
+ghost use Rattle.lower_base.specs.Drafts.{Makes, draft, out_of};
 ghost use Rattle.lower_base.specs.Layouts.{layout};
 ghost use Rattle.lower_expr.specs.Frames.{turn_and_call, zeroed_entry, register_given, field_given, result_given, finished, argument_passed, passed, called};
 
@@ -11,7 +11,7 @@ use crate::steps::{set, set_field};
 use cstar_base::Memory;
 use cstar_tree::typed::{Instance, VarInfo};
 use lower_base::emit::{entry, plus, put};
-use lower_base::{Out, View};
+use lower_base::{Operand, Out, View};
 use paris_code::{Field, Instr, Owner, Unit};
 
 /// Calls an instance with these arguments, and answers where its result is.
@@ -20,10 +20,10 @@ pub fn enter(
     view: &View,
     number: u32,
     arguments: &[Out],
-    dest: Out,
+    dest: Operand,
     u: &mut Unit,
 ) -> Result<Out, Memory>
-    ensures draft { IfOk result (λ out. called view.now.typed.now (layout view.now.names) number arguments.now dest (draft u.old) ≡ Makes out (draft u.new)) }
+    ensures draft { IfOk result (λ out. called view.now.typed.now (layout view.now.names) number arguments.now (out_of dest) (draft u.old) ≡ Makes out (draft u.new)) }
 {
     let (Some(callee), Some(base)) = (
         view.typed.instances.get(number as usize),
@@ -50,10 +50,10 @@ fn pass_all(
     params: &[VarInfo],
     arguments: &[Out],
     base: u32,
-    dest: Out,
+    dest: Operand,
     u: &mut Unit,
 ) -> Result<Out, Memory>
-    ensures draft { IfOk result (λ out. passed unit callee.now.result params.now arguments.now base 0 dest (draft u.old) ≡ Makes out (draft u.new)) }
+    ensures draft { IfOk result (λ out. passed unit callee.now.result params.now arguments.now base 0 (out_of dest) (draft u.old) ≡ Makes out (draft u.new)) }
 {
     let mut register = base;
     let mut index = 0u32;
@@ -83,12 +83,12 @@ fn pass(
 {
     match param.shape {
         None => {
-            set(Out::Scalar(register), argument, u)?;
+            set(Operand::Register(register), argument.operand()?, u)?;
             Ok(index)
         }
         Some(shape) => {
             let place = zeroed(unit, shape, param.elem.bits, index, u)?;
-            set_field(place, argument, u)?;
+            set_field(place, argument.operand()?, u)?;
             plus(index, 1)
         }
     }
@@ -111,10 +111,10 @@ fn finish(
     unit: u32,
     register: u32,
     index: u32,
-    dest: Out,
+    dest: Operand,
     u: &mut Unit,
 ) -> Result<Out, Memory>
-    ensures draft { IfOk result (λ out. finished unit callee.now.result register index dest (draft u.old) ≡ Makes out (draft u.new)) }
+    ensures draft { IfOk result (λ out. finished unit callee.now.result register index (out_of dest) (draft u.old) ≡ Makes out (draft u.new)) }
 {
     match &callee.result {
         None => {
@@ -130,8 +130,8 @@ fn finish(
 
 /// The call, whose result is in a register.
 #[tactic(auto, unfolding(crate::specs::Frames::register_given, lower_base::specs::Drafts::in_register))]
-fn give_register(unit: u32, source: u32, dest: Out, u: &mut Unit) -> Result<Out, Memory>
-    ensures draft { IfOk result (λ out. register_given unit source dest (draft u.old) ≡ Makes out (draft u.new)) }
+fn give_register(unit: u32, source: u32, dest: Operand, u: &mut Unit) -> Result<Out, Memory>
+    ensures draft { IfOk result (λ out. register_given unit source (out_of dest) (draft u.old) ≡ Makes out (draft u.new)) }
 {
     let register = dest.register()?;
     put(
@@ -149,7 +149,7 @@ fn give_register(unit: u32, source: u32, dest: Out, u: &mut Unit) -> Result<Out,
             source,
         },
     )?;
-    Ok(dest)
+    Ok(dest.out())
 }
 
 /// The call, whose result is in an entry of the called unit.
@@ -159,10 +159,10 @@ fn give_field(
     info: &VarInfo,
     set: u16,
     index: u32,
-    dest: Out,
+    dest: Operand,
     u: &mut Unit,
 ) -> Result<Out, Memory>
-    ensures draft { IfOk result (λ out. field_given unit info.now set index dest (draft u.old) ≡ Makes out (draft u.new)) }
+    ensures draft { IfOk result (λ out. field_given unit info.now set index (out_of dest) (draft u.old) ≡ Makes out (draft u.new)) }
 {
     let source = zeroed(unit, set, info.elem.bits, index, u)?;
     let field = dest.field()?;
@@ -175,7 +175,7 @@ fn give_field(
             source,
         },
     )?;
-    Ok(dest)
+    Ok(dest.out())
 }
 
 /// A turn, and the call.

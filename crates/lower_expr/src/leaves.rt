@@ -1,27 +1,28 @@
 //! The code of an expression that has no parts, and what is taken before its parts.
 
-ghost use Rattle.std.specs.Prelude.{◌≡◌, Some, IfOk, OnOk};
-ghost use Rattle.lower_base.specs.Drafts.{Makes, draft};
+ghost use Rattle.std.specs.Prelude.{◌≡◌, true, Some, IfOk, OnOk};
+ghost use Rattle.lower_base.specs.Drafts.{Makes, draft, out_of};
 ghost use Rattle.lower_base.specs.Layouts.{layout};
-ghost use Rattle.lower_expr.specs.Values.{right_given, coordinate_in, byte_in, casts_put, news_by};
+ghost use Rattle.lower_comm.specs.News.{goes_by_news};
+ghost use Rattle.lower_expr.specs.Values.{right_given, coordinate_in, byte_in, casts_put, news_to};
 
 use crate::steps::Right;
 use cstar_base::{Elem, Memory};
-use cstar_tree::typed::{TExpr, ValueType};
-use lower_base::emit::{field, fresh, put, register};
-use lower_base::{Out, View};
-use lower_comm::messages::{check_grid, comm_in};
+use cstar_tree::typed::TExpr;
+use lower_base::emit::{field, put, register};
+use lower_base::{Operand, Out, View};
+use lower_comm::Indexes;
+use lower_comm::messages::comm_in;
 use paris_code::{Instr, Konst, Unit};
 
 /// A value as a right operand.
 #[tactic(auto, unfolding(crate::specs::Values::right_given))]
-pub fn right_value(v: Out) -> Result<Right, Memory>
-    ensures draft { IfOk result (λ right. right_given v ≡ Some right) }
+pub fn right_value(v: Operand) -> Right
+    ensures { right_given (out_of v) ≡ Some result }
 {
     match v {
-        Out::Field(field) => Ok(Right::Field(field)),
-        Out::Scalar(register) => Ok(Right::Word(Konst::Reg(register))),
-        Out::Nothing => Err(Memory),
+        Operand::Field(field) => Right::Field(field),
+        Operand::Register(register) => Right::Word(Konst::Reg(register)),
     }
 }
 
@@ -63,12 +64,27 @@ pub fn cast_all(elems: &[Elem], register: u32, u: &mut Unit) -> Result<(), Memor
     Ok(())
 }
 
-/// A get that goes by NEWS.
-#[tactic(auto, unfolding(crate::specs::Values::news_by, lower_base::specs::Drafts::then_make))]
-pub fn by_news(view: &View, e: &TExpr, ty: ValueType, u: &mut Unit) -> Result<Out, Memory>
-    ensures draft { IfOk result (λ out. news_by view.now.typed.now (layout view.now.names) e.now ty (draft u.old) ≡ Makes out (draft u.new)) }
+/// A get that goes by NEWS, to a field.
+#[tactic(auto, unfolding(crate::specs::Values::news_to, lower_comm::specs::Messages::checked_grid, lower_comm::specs::News::goes_by_news, lower_base::specs::Drafts::then_make))]
+pub fn news_to(view: &View, e: &TExpr, dest: Operand, u: &mut Unit) -> Result<Out, Memory>
+    requires { goes_by_news e.now ≡ true }
+    ensures draft { IfOk result (λ out. news_to view.now.typed.now (layout view.now.names) e.now (out_of dest) (draft u.old) ≡ Makes out (draft u.new)) }
 {
-    let dest = fresh(ty, u)?;
-    check_grid(view.alloc, e, u)?;
-    comm_in(view, e, Out::Nothing, &[], dest, u)
+    let TExpr::LeftIndex {
+        ty: own,
+        place,
+        indexes,
+        of,
+        ..
+    } = e
+    else {
+        unreachable!()
+    };
+    let reference = Indexes {
+        place: *place,
+        of: *of,
+        each: indexes.as_slice(),
+    };
+    reference.check_grid(view.alloc, own.shape.unwrap_or(*of), u)?;
+    comm_in(view, e, Out::Nothing, &[], dest.out(), u)
 }

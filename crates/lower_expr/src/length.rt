@@ -1,19 +1,19 @@
 //! How many instructions an expression compiles to. Jumps are written once, since the lengths of
 //! what they pass over are known beforehand.
 
-ghost use Rattle.std.specs.Prelude.{◌≡◌, ◌+◌, IfOk, slice_get};
+ghost use Rattle.std.specs.Prelude.{◌≡◌, ◌+◌, true, IfOk, slice_get};
 ghost use Rattle.lower_base.specs.Layouts.{layout};
 ghost use Rattle.lower_expr.specs.Operands.{all_quiet, operand_length};
-ghost use Rattle.lower_expr.specs.Steps.{is_kept};
-ghost use Rattle.lower_expr.specs.Lengths.{conversion_length, unary_length, operate_length, logical_length, spread_length, right_length, binary_length, spare_length, choice_length, step_once_length, params_length, news_move, is_checked, news_length, read_length, four_times, load_length, store_length, send_length, set_length, compound_length, assign_length, step_length, reduce_length, call_length, length_of, spot_length_of, lengths_in};
+ghost use Rattle.lower_expr.specs.Steps.{has_truth, is_kept};
+ghost use Rattle.lower_expr.specs.Lengths.{arm_length_of, compared_length, tested_length, truth_length_of, conversion_length, unary_length, operate_length, logical_length, spread_length, right_length, binary_length, spare_length, choice_length, step_once_length, params_length, news_move, is_checked, news_length, read_length, four_times, load_length, store_length, send_length, set_length, compound_length, assign_length, step_length, reduce_length, call_length, length_of, spot_length_of, lengths_in};
 
 use crate::assign::is_send;
 use crate::operands::{are_quiet, in_place, is_plus, is_quiet};
 use crate::spots::bare;
-use crate::steps::{constant_word, immediate, is_relation, stays_scalar};
+use crate::steps::{constant_word, has_truth, has_word, immediate, is_relation, stays_scalar};
 use cstar_base::{Elem, Memory, Op};
 use cstar_tree::syntax::{AssignOp, ReduceOp};
-use cstar_tree::typed::{TExpr, Typed, UnaryOp, VarInfo};
+use cstar_tree::typed::{TExpr, Typed, UnaryOp, ValueType, VarInfo};
 use lower_base::View;
 use lower_base::emit::{count, plus};
 use lower_base::operators::{assign_op, divides};
@@ -22,7 +22,7 @@ use lower_comm::news::{NewsStep, step_of};
 
 /// The instructions of a value: what `value` appends.
 #[cycle(length)]
-#[tactic(auto, unfolding(crate::specs::Lengths::length_of))]
+#[tactic(auto, unfolding(crate::specs::Lengths::length_of, crate::specs::Lengths::arm_length_of, crate::specs::Lengths::tested_length))]
 pub fn length(view: &View, e: &TExpr) -> Result<u32, Memory>
     ensures { IfOk result (λ n. n ≡ length_of view.now.typed.now (layout view.now.names) e.now) }
 {
@@ -72,24 +72,20 @@ pub fn length(view: &View, e: &TExpr) -> Result<u32, Memory>
             binary_length(ty.shape.is_none(), *op, a, left, b, right)
         }
         TExpr::LogicalOr { ty, left, right } => {
-            let a = used_length(view, true, left)?;
-            let b = used_length(view, true, right)?;
-            plus(plus(a, b)?, logical_length(ty.shape.is_none(), left, right))
+            logical_length(view, ty.shape.is_none(), left, right)
         }
         TExpr::LogicalAnd { ty, left, right } => {
-            let a = used_length(view, true, left)?;
-            let b = used_length(view, true, right)?;
-            plus(plus(a, b)?, logical_length(ty.shape.is_none(), left, right))
+            logical_length(view, ty.shape.is_none(), left, right)
         }
         TExpr::Choice {
+            ty,
             test,
             then,
             otherwise,
-            ..
         } => {
             let c = used_length(view, stays_scalar(test) || is_quiet(then), test)?;
-            let a = used_length(view, true, then)?;
-            let b = used_length(view, true, otherwise)?;
+            let a = arm_length(view, *ty, then)?;
+            let b = arm_length(view, *ty, otherwise)?;
             let operands = plus(c, plus(a, b)?)?;
             plus(operands, choice_length(stays_scalar(test)))
         }
@@ -117,7 +113,7 @@ pub fn length(view: &View, e: &TExpr) -> Result<u32, Memory>
                 return news_length(*of, indexes.as_slice());
             }
             let located = located_length(view, indexes.as_slice())?;
-            plus(located, read_length(ty.shape))
+            plus(located, read_length(*ty))
         }
         TExpr::Call {
             instance,
@@ -152,6 +148,82 @@ pub fn used_length(view: &View, quiet: bool, e: &TExpr) -> Result<u32, Memory>
     }
 }
 
+/// `&&` or `||`: a scalar operand by its value, a parallel one by its test.
+#[cycle(length)]
+#[tactic(auto, unfolding(crate::specs::Lengths::logical_length, crate::specs::Lengths::tested_length))]
+fn logical_length(view: &View, scalar: bool, left: &TExpr, right: &TExpr) -> Result<u32, Memory>
+    ensures { IfOk result (λ n. n ≡ logical_length scalar (is_kept left.now) (is_kept right.now) (operand_length (length_of view.now.typed.now (layout view.now.names) left.now) true left.now) (operand_length (length_of view.now.typed.now (layout view.now.names) right.now) true right.now) (tested_length view.now.typed.now (layout view.now.names) left.now) (tested_length view.now.typed.now (layout view.now.names) right.now)) }
+{
+    if scalar {
+        let operands = plus(
+            used_length(view, true, left)?,
+            used_length(view, true, right)?,
+        )?;
+        plus(operands, 4)
+    } else if stays_scalar(left) {
+        let operands = plus(used_length(view, true, left)?, test_length(view, right)?)?;
+        plus(operands, 4)
+    } else {
+        let second = if stays_scalar(right) {
+            used_length(view, true, right)?
+        } else {
+            test_length(view, right)?
+        };
+        plus(plus(test_length(view, left)?, second)?, 6)
+    }
+}
+
+/// A parallel value as the test flags.
+#[cycle(length)]
+#[tactic(auto, unfolding(crate::specs::Lengths::tested_length, crate::specs::Lengths::tested_by_length))]
+pub fn test_length(view: &View, e: &TExpr) -> Result<u32, Memory>
+    ensures { IfOk result (λ n. n ≡ tested_length view.now.typed.now (layout view.now.names) e.now) }
+{
+    if has_truth(e) {
+        truth_length(view, e)
+    } else {
+        plus(used_length(view, true, e)?, 1)
+    }
+}
+
+/// The test flags of a value that has a truth without its value.
+#[cycle(length)]
+#[tactic(auto, unfolding(crate::specs::Lengths::truth_length_of, crate::specs::Steps::has_truth))]
+fn truth_length(view: &View, e: &TExpr) -> Result<u32, Memory>
+    requires { has_truth e.now ≡ true }
+    ensures { IfOk result (λ n. n ≡ truth_length_of view.now.typed.now (layout view.now.names) e.now) }
+{
+    match e {
+        TExpr::Brackets { inner, .. } => truth_length(view, inner),
+        TExpr::Variable { .. } => Ok(1),
+        TExpr::Unary { operand, .. } => plus(used_length(view, true, operand)?, 1),
+        TExpr::Binary {
+            op,
+            left,
+            right,
+            ..
+        } => {
+            let a = spread_by(used_length(view, is_quiet(right), left)?, left)?;
+            let n = used_length(view, true, right)?;
+            plus(a, compared_length(n, *op, right)?)
+        }
+        _ => unreachable!(),
+    }
+}
+
+/// An arm of `?:`.
+#[cycle(length)]
+#[tactic(auto, unfolding(crate::specs::Lengths::arm_length_of, crate::specs::Lengths::arm_length))]
+pub fn arm_length(view: &View, ty: ValueType, e: &TExpr) -> Result<u32, Memory>
+    ensures { IfOk result (λ n. n ≡ arm_length_of view.now.typed.now (layout view.now.names) ty e.now) }
+{
+    if has_word(ty.shape.is_none(), e) {
+        Ok(1)
+    } else {
+        plus(used_length(view, true, e)?, 1)
+    }
+}
+
 /// The indexes of a left index, their range check, and the address.
 #[cycle(length)]
 fn located_length(view: &View, indexes: &[TExpr]) -> Result<u32, Memory>
@@ -182,7 +254,7 @@ fn lengths(view: &View, quiet: bool, es: &[TExpr]) -> Result<u32, Memory>
     Ok(sum)
 }
 
-/// What locates a target or a reference. `Memory` too for an expression that is neither.
+/// What locates a target or a reference; an expression that is neither is located by nothing.
 #[cycle(length)]
 #[tactic(auto, unfolding(crate::specs::Lengths::spot_length_of))]
 fn spot_length(view: &View, e: &TExpr) -> Result<u32, Memory>
@@ -192,8 +264,30 @@ fn spot_length(view: &View, e: &TExpr) -> Result<u32, Memory>
         TExpr::Brackets { inner, .. } => spot_length(view, inner),
         TExpr::Element { index, .. } => plus(length(view, index)?, 5),
         TExpr::LeftIndex { indexes, .. } => located_length(view, indexes.as_slice()),
-        TExpr::Variable { .. } => Ok(0),
-        _ => Err(Memory),
+        TExpr::Variable { .. }
+        | TExpr::Assign { .. }
+        | TExpr::Choice { .. }
+        | TExpr::LogicalOr { .. }
+        | TExpr::LogicalAnd { .. }
+        | TExpr::Binary { .. }
+        | TExpr::Unary { .. }
+        | TExpr::Step { .. }
+        | TExpr::Reduce { .. }
+        | TExpr::Casts { .. }
+        | TExpr::ParallelCast { .. }
+        | TExpr::Convert { .. }
+        | TExpr::Promote { .. }
+        | TExpr::Number { .. }
+        | TExpr::Dot { .. }
+        | TExpr::Call { .. }
+        | TExpr::Pcoord { .. }
+        | TExpr::PositionsOf { .. }
+        | TExpr::RankOf { .. }
+        | TExpr::DimOf { .. }
+        | TExpr::Scan { .. }
+        | TExpr::Enumerate { .. }
+        | TExpr::Printf { .. }
+        | TExpr::GetChar { .. } => Ok(0),
     }
 }
 
@@ -312,22 +406,17 @@ pub fn operate_length(op: Op, scalar: bool) -> u32
 fn choice_length(scalar: bool) -> u32
     ensures { result ≡ choice_length scalar }
 {
-    if scalar { 4 } else { 9 }
+    if scalar { 2 } else { 7 }
 }
 
-/// `&&` or `||` beside its operands.
-#[tactic(auto, unfolding(crate::specs::Lengths::logical_length))]
-fn logical_length(scalar: bool, left: &TExpr, right: &TExpr) -> u32
-    ensures { result ≡ logical_length scalar (is_kept left.now) (is_kept right.now) }
+/// The right operand of a relation, and the comparison.
+#[tactic(auto, unfolding(crate::specs::Lengths::compared_length))]
+fn compared_length(n: u32, op: Op, e: &TExpr) -> Result<u32, Memory>
+    ensures { IfOk result (λ sum. sum ≡ compared_length n op e.now) }
 {
-    if scalar {
-        4
-    } else if stays_scalar(left) {
-        5
-    } else if stays_scalar(right) {
-        7
-    } else {
-        8
+    match immediate(op, e) {
+        Some(_) => Ok(2),
+        None => plus(n, plus(spare_length(op, stays_scalar(e)), 1)?),
     }
 }
 
@@ -375,19 +464,20 @@ fn load_length(view: &View, target: &TExpr) -> Result<u32, Memory>
 {
     match bare(target) {
         TExpr::Element { array, .. } => times_four(view.elements(*array)),
-        TExpr::LeftIndex { ty, .. } => Ok(read_length(ty.shape)),
+        TExpr::LeftIndex { ty, .. } => Ok(read_length(*ty)),
         _ => Ok(1),
     }
 }
 
 /// A read through a left index: of every position, or of one.
 #[tactic(auto, unfolding(crate::specs::Lengths::read_length))]
-fn read_length(shape: Option<u16>) -> u32
-    ensures { result ≡ read_length shape }
+fn read_length(ty: ValueType) -> u32
+    ensures { result ≡ read_length ty }
 {
-    match shape {
-        Some(_) => 2,
-        None => 1,
+    if ty.shape.is_none() || ty.elem.bits == 32 {
+        1
+    } else {
+        2
     }
 }
 

@@ -1,13 +1,13 @@
 //! Operands that stand in a variable's own register or field, and when they may be used there.
 
 ghost use Rattle.std.specs.Prelude.{◌≡◌, IfOk};
-ghost use Rattle.lower_base.specs.Drafts.{Makes, draft};
+ghost use Rattle.lower_base.specs.Drafts.{Makes, draft, out_of};
 ghost use Rattle.lower_base.specs.Layouts.{layout};
 ghost use Rattle.lower_expr.specs.Operands.{all_quiet, in_place, is_plus, is_quiet, own_of, standing};
 
 use cstar_base::Memory;
 use cstar_tree::typed::{TExpr, UnaryOp, Variable};
-use lower_base::{Out, View};
+use lower_base::{Operand, View};
 use paris_code::Unit;
 
 /// A variable whose own register or field is an operand; it has a shape if it is parallel.
@@ -98,12 +98,12 @@ pub fn own_of(e: &TExpr) -> Option<Own>
 
 /// The register or the field of a variable.
 #[tactic(auto, unfolding(crate::specs::Operands::standing, lower_base::specs::Drafts::then_make))]
-pub fn standing(view: &View, own: Own, u: &mut Unit) -> Result<Out, Memory>
-    ensures draft { IfOk result (λ out. standing view.now.typed.now (layout view.now.names) own (draft u.old) ≡ Makes out (draft u.new)) }
+pub fn standing(view: &View, own: Own, u: &mut Unit) -> Result<Operand, Memory>
+    ensures draft { IfOk result (λ v. standing view.now.typed.now (layout view.now.names) own (draft u.old) ≡ Makes (out_of v) (draft u.new)) }
 {
     match own.shape {
-        None => Ok(Out::Scalar(view.register(own.variable)?)),
-        Some(_) => Ok(Out::Field(view.field(own.variable, 0, u)?)),
+        None => Ok(Operand::Register(view.register(own.variable)?)),
+        Some(_) => Ok(Operand::Field(view.field(own.variable, 0, u)?)),
     }
 }
 

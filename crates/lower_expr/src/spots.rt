@@ -2,7 +2,7 @@
 
 ghost use Rattle.std.specs.Prelude.{◌≡◌, IfOk, OnOk};
 ghost use Rattle.lower_base.specs.declared.emit.Out.TheVariants as O;
-ghost use Rattle.lower_base.specs.Drafts.{Makes, draft};
+ghost use Rattle.lower_base.specs.Drafts.{Makes, draft, out_of};
 ghost use Rattle.lower_base.specs.Layouts.{layout, elements_of};
 ghost use Rattle.lower_expr.specs.Lengths.{bare};
 ghost use Rattle.lower_expr.specs.Spots.{skips_unless, field_loaded, elements_loaded, loaded, field_stored, elements_stored, stored, everywhere_at, index_checked};
@@ -11,7 +11,7 @@ use crate::steps::{set, set_field};
 use cstar_base::{Memory, Place};
 use cstar_tree::typed::{TExpr, Variable};
 use lower_base::emit::{here, plus, put, register};
-use lower_base::{Out, View};
+use lower_base::{Operand, Out, View};
 use lower_comm::messages::comm_in;
 use paris_code::{Field, Instr, RegisterCoordinate, Unit};
 use std::alloc::Global;
@@ -43,8 +43,14 @@ pub fn bare(target: &TExpr) -> &TExpr
 /// The value that the spot has becomes that of `dest`, a register or a field. `target` is what was
 /// located there.
 #[tactic(auto, unfolding(crate::specs::Spots::loaded, lower_base::specs::Drafts::then_make, lower_base::specs::Drafts::in_register, lower_base::specs::Drafts::in_field))]
-pub fn load(view: &View, target: &TExpr, spot: Spot, dest: Out, u: &mut Unit) -> Result<(), Memory>
-    ensures draft { OnOk result (loaded view.now.typed.now (layout view.now.names) target.now spot dest (draft u.old) ≡ Makes dest (draft u.new)) }
+pub fn load(
+    view: &View,
+    target: &TExpr,
+    spot: Spot,
+    dest: Operand,
+    u: &mut Unit,
+) -> Result<(), Memory>
+    ensures draft { OnOk result (loaded view.now.typed.now (layout view.now.names) target.now spot (out_of dest) (draft u.old) ≡ Makes (out_of dest) (draft u.new)) }
 {
     match spot {
         Spot::Register(source) => {
@@ -60,7 +66,7 @@ pub fn load(view: &View, target: &TExpr, spot: Spot, dest: Out, u: &mut Unit) ->
             load_elements(view, signed, array, index, dest.field()?, u)
         }
         Spot::Indexed(at) => {
-            comm_in(view, bare(target), at, &[], dest, u)?;
+            comm_in(view, bare(target), at, &[], dest.out(), u)?;
             Ok(())
         }
     }
@@ -88,15 +94,15 @@ fn load_elements(
 /// A value becomes that of the spot, at the active positions. `e` is the assignment or the step whose
 /// target was located there.
 #[tactic(auto, unfolding(crate::specs::Spots::stored, lower_base::specs::Drafts::then_make))]
-pub fn store(view: &View, e: &TExpr, spot: Spot, from: Out, u: &mut Unit) -> Result<(), Memory>
-    ensures draft { OnOk result (stored view.now.typed.now (layout view.now.names) e.now spot from (draft u.old) ≡ Makes from (draft u.new)) }
+pub fn store(view: &View, e: &TExpr, spot: Spot, from: Operand, u: &mut Unit) -> Result<(), Memory>
+    ensures draft { OnOk result (stored view.now.typed.now (layout view.now.names) e.now spot (out_of from) (draft u.old) ≡ Makes (out_of from) (draft u.new)) }
 {
     match spot {
-        Spot::Register(dest) => set(Out::Scalar(dest), from, u),
+        Spot::Register(dest) => set(Operand::Register(dest), from, u),
         Spot::Whole(variable) => store_field(view, variable, 0, from, u),
         Spot::Element(array, index) => store_elements(view, array, index, from, u),
         Spot::Indexed(at) => {
-            comm_in(view, e, at, &[from], Out::Nothing, u)?;
+            comm_in(view, e, at, &[from.out()], Out::Nothing, u)?;
             Ok(())
         }
     }
@@ -108,10 +114,10 @@ fn store_elements(
     view: &View,
     array: Variable,
     index: u32,
-    from: Out,
+    from: Operand,
     u: &mut Unit,
 ) -> Result<(), Memory>
-    ensures draft { OnOk result (elements_stored view.now.typed.now (layout view.now.names) array index from (elements_of view.now.typed.now (layout view.now.names) array) 0 (draft u.old) ≡ Makes from (draft u.new)) }
+    ensures draft { OnOk result (elements_stored view.now.typed.now (layout view.now.names) array index (out_of from) (elements_of view.now.typed.now (layout view.now.names) array) 0 (draft u.old) ≡ Makes (out_of from) (draft u.new)) }
 {
     for element in 0..view.elements(array) {
         skip_unless(index, element, u)?;
@@ -149,10 +155,10 @@ fn store_field(
     view: &View,
     variable: Variable,
     element: u32,
-    from: Out,
+    from: Operand,
     u: &mut Unit,
 ) -> Result<(), Memory>
-    ensures draft { OnOk result (field_stored view.now.typed.now (layout view.now.names) variable element from (draft u.old) ≡ Makes from (draft u.new)) }
+    ensures draft { OnOk result (field_stored view.now.typed.now (layout view.now.names) variable element (out_of from) (draft u.old) ≡ Makes (out_of from) (draft u.new)) }
 {
     let dest = view.field(variable, element, u)?;
     set_field(dest, from, u)

@@ -2,17 +2,19 @@
 
 ghost use Rattle.std.specs.Prelude.{◌≡◌, false, IfOk, OnOk};
 ghost use Rattle.lower_base.specs.declared.emit.Out.TheVariants as O;
-ghost use Rattle.lower_base.specs.Drafts.{Makes, draft};
+ghost use Rattle.lower_base.specs.declared.operators.Machine.TheVariants as M;
+ghost use Rattle.lower_base.specs.Drafts.{Makes, draft, out_of};
 ghost use Rattle.lower_expr.specs.Operands.{is_plus};
-ghost use Rattle.lower_expr.specs.Steps.{is_kept, register_word, word_of, relates, word_taken, constant_in, put_test, field_converted, converted_in_place, put_in_field, put_value, operated, fields_operated, right_operated, takes_word, in_a_field, register_negated, field_negated, negated, pieces_printed, assigned_signed};
+ghost use Rattle.lower_expr.specs.Steps.{is_kept, negates, has_truth, has_word, word_for, word_put, register_word, word_of, relates, word_taken, constant_in, put_test, field_converted, converted_in_place, put_in_field, put_value, operated, fields_operated, right_operated, takes_word, in_a_field, register_negated, field_negated, negated, pieces_printed, assigned_signed};
+ghost use Rattle.lower_expr.specs.Values.{compared};
 
 use crate::parts::Operator;
 use cstar_base::{Elem, Memory, Op, numbers};
 use cstar_tree::typed::{Piece, TExpr, UnaryOp};
-use lower_base::Out;
 use lower_base::emit::{flag, put};
 use lower_base::operators::{Machine, divides, machine_op, promoted_signed};
-use paris_code::{Field, Instr, Konst, Operation, Unit};
+use lower_base::{Operand, Out};
+use paris_code::{Compare, Field, Instr, Konst, Operation, Unit};
 use source_meaning::constant as constant_value;
 use std::alloc::Global;
 
@@ -72,6 +74,66 @@ pub fn immediate(op: Op, e: &TExpr) -> Option<u32>
     }
 }
 
+/// The word of a constant that goes to a register, or to every position of a field.
+#[tactic(auto, unfolding(crate::specs::Steps::word_for))]
+pub fn word_for(dest: Operand, e: &TExpr) -> Option<u32>
+    ensures value { result ≡ word_for (out_of dest) e.now }
+{
+    match dest {
+        Operand::Register(_) => register_word(e),
+        Operand::Field(_) => constant_word(e),
+    }
+}
+
+/// A constant becomes that of a register, or of every position of a field.
+#[tactic(auto, unfolding(crate::specs::Steps::word_put))]
+pub fn put_word(dest: Operand, word: u32, u: &mut Unit) -> Result<(), Memory>
+    ensures draft { OnOk result (word_put (out_of dest) word (draft u.old) ≡ Makes (out_of dest) (draft u.new)) }
+{
+    match dest {
+        Operand::Register(dest) => put(u, Instr::FrontConst { dest, value: word }),
+        Operand::Field(dest) => {
+            let value = Konst::Imm(word);
+            put(u, Instr::MoveConstant { dest, value })
+        }
+    }
+}
+
+/// Whether the value is a constant, which goes to a register or to a field.
+#[tactic(auto, unfolding(crate::specs::Steps::has_word))]
+pub fn has_word(scalar: bool, e: &TExpr) -> bool
+    ensures value { result ≡ has_word scalar e.now }
+{
+    if scalar {
+        register_word(e).is_some()
+    } else {
+        constant_word(e).is_some()
+    }
+}
+
+/// Whether the operator's value is whether its operand is zero.
+#[tactic(auto, unfolding(crate::specs::Steps::negates))]
+pub fn negates(op: UnaryOp) -> bool
+    ensures { result ≡ negates op }
+{
+    matches!(op, UnaryOp::Not)
+}
+
+/// Whether the test flag tells if the value is not zero, without the value itself: that of a
+/// relation, of a negation, and of a variable.
+#[tactic(auto, unfolding(crate::specs::Steps::has_truth))]
+pub fn has_truth(e: &TExpr) -> bool
+    ensures { result ≡ has_truth e.now }
+{
+    match e {
+        TExpr::Brackets { inner, .. } => has_truth(inner),
+        TExpr::Variable { .. } => true,
+        TExpr::Binary { op, .. } => is_relation(*op),
+        TExpr::Unary { op, .. } => negates(*op),
+        _ => false,
+    }
+}
+
 /// Whether the operator is a relation.
 #[tactic(auto, unfolding(crate::specs::Steps::relates))]
 pub fn is_relation(op: Op) -> bool
@@ -80,23 +142,23 @@ pub fn is_relation(op: Op) -> bool
     matches!(op, Op::Eq | Op::Ne | Op::Lt | Op::Le | Op::Gt | Op::Ge)
 }
 
-/// A value in a register.
+/// A number in a fresh register.
 #[tactic(auto, unfolding(crate::specs::Steps::constant_in, lower_base::specs::Drafts::then_make))]
-pub fn constant(value: u32, u: &mut Unit) -> Result<Out, Memory>
-    ensures draft { IfOk result (λ out. constant_in value (draft u.old) ≡ Makes out (draft u.new)) }
+pub fn constant(value: u32, u: &mut Unit) -> Result<u32, Memory>
+    ensures draft { IfOk result (λ r. constant_in value (draft u.old) ≡ Makes (O.Scalar r) (draft u.new)) }
 {
     let dest = lower_base::emit::register(u)?;
     put(u, Instr::FrontConst { dest, value })?;
-    Ok(Out::Scalar(dest))
+    Ok(dest)
 }
 
 /// The conversion of a value to an element type, in place.
 #[tactic(auto, unfolding(crate::specs::Steps::converted_in_place))]
-pub fn convert(v: Out, elem: Elem, u: &mut Unit) -> Result<Out, Memory>
-    ensures draft { IfOk result (λ out. converted_in_place v elem (draft u.old) ≡ Makes out (draft u.new)) }
+pub fn convert(v: Operand, elem: Elem, u: &mut Unit) -> Result<(), Memory>
+    ensures draft { OnOk result (converted_in_place (out_of v) elem (draft u.old) ≡ Makes (out_of v) (draft u.new)) }
 {
     match v {
-        Out::Scalar(r) => {
+        Operand::Register(r) => {
             if elem.bits < 32 {
                 put(
                     u,
@@ -107,11 +169,10 @@ pub fn convert(v: Out, elem: Elem, u: &mut Unit) -> Result<Out, Memory>
                     },
                 )?;
             }
+            Ok(())
         }
-        Out::Field(f) => convert_field(f, elem, u)?,
-        Out::Nothing => return Err(Memory),
+        Operand::Field(f) => convert_field(f, elem, u),
     }
-    Ok(v)
 }
 
 /// The conversion of a field of 32 bits, in place: to `bool` by a test, to another narrow type by
@@ -170,20 +231,48 @@ pub fn test_value(dest: Field, u: &mut Unit) -> Result<(), Memory>
     )
 }
 
+/// Compares fields; a word is spread into `spare` first.
+#[tactic(auto, unfolding(crate::specs::Values::compared))]
+pub fn compare(
+    relation: Compare,
+    left: Field,
+    right: Right,
+    spare: Field,
+    u: &mut Unit,
+) -> Result<(), Memory>
+    ensures draft { OnOk result (compared (M.Compare relation) left right spare (draft u.old) ≡ Makes tt (draft u.new)) }
+{
+    let right = match right {
+        Right::Field(right) => right,
+        Right::Word(value) => {
+            put(u, Instr::MoveConstant { dest: spare, value })?;
+            spare
+        }
+    };
+    put(
+        u,
+        Instr::Compare {
+            relation,
+            left,
+            right,
+        },
+    )
+}
+
 /// A value becomes that of a field: copied, or spread from a register.
 #[tactic(auto, unfolding(crate::specs::Steps::put_in_field))]
-pub fn set_field(dest: Field, v: Out, u: &mut Unit) -> Result<(), Memory>
-    ensures draft { OnOk result (put_in_field dest v (draft u.old) ≡ Makes (O.Field dest) (draft u.new)) }
+pub fn set_field(dest: Field, v: Operand, u: &mut Unit) -> Result<(), Memory>
+    ensures draft { OnOk result (put_in_field dest (out_of v) (draft u.old) ≡ Makes (O.Field dest) (draft u.new)) }
 {
     match v {
-        Out::Scalar(r) => put(
+        Operand::Register(r) => put(
             u,
             Instr::MoveConstant {
                 dest,
                 value: Konst::Reg(r),
             },
         ),
-        Out::Field(source) => put(
+        Operand::Field(source) => put(
             u,
             Instr::Move {
                 signed: true,
@@ -191,17 +280,16 @@ pub fn set_field(dest: Field, v: Out, u: &mut Unit) -> Result<(), Memory>
                 source,
             },
         ),
-        Out::Nothing => Err(Memory),
     }
 }
 
 /// A value becomes that of a register or a field.
 #[tactic(auto, unfolding(crate::specs::Steps::put_value, lower_base::specs::Drafts::in_register))]
-pub fn set(dest: Out, v: Out, u: &mut Unit) -> Result<(), Memory>
-    ensures draft { OnOk result (put_value dest v (draft u.old) ≡ Makes dest (draft u.new)) }
+pub fn set(dest: Operand, v: Operand, u: &mut Unit) -> Result<(), Memory>
+    ensures draft { OnOk result (put_value (out_of dest) (out_of v) (draft u.old) ≡ Makes (out_of dest) (draft u.new)) }
 {
     match dest {
-        Out::Scalar(register) => {
+        Operand::Register(register) => {
             let source = v.register()?;
             put(
                 u,
@@ -211,8 +299,7 @@ pub fn set(dest: Out, v: Out, u: &mut Unit) -> Result<(), Memory>
                 },
             )
         }
-        Out::Field(field) => set_field(field, v, u),
-        Out::Nothing => Err(Memory),
+        Operand::Field(field) => set_field(field, v, u),
     }
 }
 
@@ -354,12 +441,12 @@ fn takes_word(op: Op, word: Konst) -> bool
 
 /// An operand of a parallel operation as a field: a register is spread into `spare`.
 #[tactic(auto, unfolding(crate::specs::Steps::in_a_field))]
-pub fn as_field(v: Out, spare: Field, u: &mut Unit) -> Result<Field, Memory>
-    ensures draft { IfOk result (λ f. in_a_field v spare (draft u.old) ≡ Makes f (draft u.new)) }
+pub fn as_field(v: Operand, spare: Field, u: &mut Unit) -> Result<Field, Memory>
+    ensures draft { IfOk result (λ f. in_a_field (out_of v) spare (draft u.old) ≡ Makes f (draft u.new)) }
 {
     match v {
-        Out::Field(field) => Ok(field),
-        Out::Scalar(r) => {
+        Operand::Field(field) => Ok(field),
+        Operand::Register(r) => {
             put(
                 u,
                 Instr::MoveConstant {
@@ -369,26 +456,24 @@ pub fn as_field(v: Out, spare: Field, u: &mut Unit) -> Result<Field, Memory>
             )?;
             Ok(spare)
         }
-        Out::Nothing => Err(Memory),
     }
 }
 
 /// A unary operator other than `+`, which has no code.
 #[tactic(auto, unfolding(crate::specs::Steps::negated, lower_base::specs::Drafts::in_register, lower_base::specs::Drafts::in_field))]
-pub fn unary(op: UnaryOp, dest: Out, v: Out, u: &mut Unit) -> Result<(), Memory>
+pub fn unary(op: UnaryOp, dest: Operand, v: Operand, u: &mut Unit) -> Result<(), Memory>
     requires { is_plus op ≡ false }
-    ensures draft { OnOk result (negated op dest v (draft u.old) ≡ Makes dest (draft u.new)) }
+    ensures draft { OnOk result (negated op (out_of dest) (out_of v) (draft u.old) ≡ Makes (out_of dest) (draft u.new)) }
 {
     match dest {
-        Out::Scalar(dest) => {
+        Operand::Register(dest) => {
             let source = v.register()?;
             unary_register(op, dest, source, u)
         }
-        Out::Field(dest) => {
+        Operand::Field(dest) => {
             let source = v.field()?;
             unary_field(op, dest, source, u)
         }
-        Out::Nothing => Err(Memory),
     }
 }
 
@@ -402,11 +487,11 @@ fn unary_register(op: UnaryOp, dest: u32, source: u32, u: &mut Unit) -> Result<(
         UnaryOp::Minus => put(u, Instr::FrontNegate { dest, source }),
         UnaryOp::Complement => put(u, Instr::FrontLognot { dest, source }),
         UnaryOp::Not => {
-            let zero = constant(0, u)?.register()?;
+            let zero = constant(0, u)?;
             put(
                 u,
                 Instr::FrontCompare {
-                    relation: paris_code::Compare::UEq,
+                    relation: Compare::UEq,
                     dest,
                     left: source,
                     right: zero,

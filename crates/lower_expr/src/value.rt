@@ -5,44 +5,49 @@
 ghost use Rattle.std.specs.Prelude.{◌≡◌, [], true, if◌then◌else◌, IfOk, OnOk};
 ghost use Rattle.cstar_tree.specs.Typed.{type_of};
 ghost use Rattle.lower_base.specs.declared.emit.Out.TheVariants as O;
-ghost use Rattle.lower_base.specs.Drafts.{Makes, draft};
+ghost use Rattle.lower_base.specs.Drafts.{Makes, draft, out_of};
 ghost use Rattle.lower_base.specs.Layouts.{layout};
-ghost use Rattle.lower_comm.specs.News.{goes_by_news};
-ghost use Rattle.lower_expr.specs.Operands.{all_quiet, operand_by};
-ghost use Rattle.lower_expr.specs.Values.{assign_by, binary_of, call_of, choice_of, field_binary_of, indexed_spot, logical_of, message_by, news_by, parallel_choice_of, parallel_logical_of, print_of, read_by, register_binary_of, right_by, scalar_choice_of, scalar_logical_of, spot_of, spread_into, spread_of, step_by, unary_by, updated_by, value_of, values_in};
+ghost use Rattle.lower_base.specs.Operators.{is_signed};
+ghost use Rattle.lower_comm.specs.Messages.{is_left_index};
+ghost use Rattle.lower_expr.specs.Lengths.{length_of, tested_length};
+ghost use Rattle.lower_expr.specs.Operands.{all_quiet, is_quiet, operand_by, operand_length};
+ghost use Rattle.lower_expr.specs.Steps.{has_truth, is_kept, relates};
+ghost use Rattle.lower_expr.specs.Values.{arm_of, assign_by, binary_of, call_of, choice_of, condition_of, decided_by, field_binary_of, index_read_to, indexed_spot, jumped_over, limited_by, logical_by, message_to, narrowed_again, parallel_choice_of, parallel_logical_by, print_of, read_to, register_binary_of, relation_by, right_by, scalar_choice_of, scalar_logical_by, spot_of, spread_into, spread_of, step_by, tested, truth_of, unary_by, updated_by, value_of, values_in};
 
 use crate::assign::{Located, fold_into_register, is_send, step_in, update_field, update_register};
 use crate::frames::enter;
-use crate::leaves::{by_news, cast_all, coordinate, next_byte, right_value};
-use crate::length::used_length;
-use crate::logical::{decide, end_logical, end_parallel, limit, test_nonzero, turn_over};
+use crate::leaves::{cast_all, coordinate, news_to, next_byte, right_value};
+use crate::length::{arm_length, test_length, used_length};
+use crate::logical::{decide, end_logical, jump_to_end, limit, narrow, turn_over};
 use crate::operands::{are_quiet, in_place, is_plus, is_quiet, standing};
 use crate::parts::{Assignment, Binary, Choice, Operator};
 use crate::spots::{Spot, check_index, load, store};
 use crate::steps::{
-    Right, as_field, assign_signed, constant, constant_word, convert, immediate, operate,
-    operate_right, print_pieces, set, stays_scalar, unary,
+    Right, as_field, assign_signed, compare, constant, constant_word, convert, has_truth,
+    immediate, operate, operate_right, print_pieces, put_word, set, stays_scalar, test_value,
+    unary, word_for,
 };
 use cstar_base::{Memory, Op};
 use cstar_tree::syntax::StepOp;
 use cstar_tree::typed::{Piece, StepOrder, TExpr, UnaryOp, ValueType};
 use lower_base::emit::{field, flag, fresh, plus, put, register};
-use lower_base::operators::assign_op;
-use lower_base::{Out, View};
-use lower_comm::messages::{comm_in, goes_by_news, locate_in};
+use lower_base::operators::{Machine, assign_op, machine_op};
+use lower_base::{Operand, Out, View};
+use lower_comm::Indexes;
+use lower_comm::messages::{comm_in, goes_by_news};
 use paris_code::{Field, Instr, Konst, Unit};
 
 /// The value of a parallel expression in a field, that of a promoted scalar too.
 #[cycle(value)]
 #[tactic(auto, unfolding(crate::specs::Values::spread_of, crate::specs::Values::spread_by, crate::specs::Values::spread_into, crate::specs::Operands::operand_by, crate::specs::Operands::in_place, lower_base::specs::Drafts::then_make))]
-pub fn spread(view: &View, e: &TExpr, shape: u16, u: &mut Unit) -> Result<Out, Memory>
-    ensures draft { IfOk result (λ out. spread_of view.now.typed.now (layout view.now.names) e.now shape (draft u.old) ≡ Makes out (draft u.new)) }
+pub fn spread(view: &View, e: &TExpr, shape: u16, u: &mut Unit) -> Result<Operand, Memory>
+    ensures draft { IfOk result (λ v. spread_of view.now.typed.now (layout view.now.names) e.now shape (draft u.old) ≡ Makes (out_of v) (draft u.new)) }
 {
     if stays_scalar(e) {
         let dest = field(u, shape)?;
-        Ok(Out::Field(spread_to(view, false, e, dest, u)?))
+        Ok(Operand::Field(spread_to(view, false, e, dest, u)?))
     } else {
-        value(view, e, u)
+        value(view, e, u)?.operand()
     }
 }
 
@@ -76,7 +81,7 @@ pub fn right_operand(view: &View, op: Op, e: &TExpr, u: &mut Unit) -> Result<Rig
 {
     match immediate(op, e) {
         Some(word) => Ok(Right::Word(Konst::Imm(word))),
-        None => right_value(operand(view, true, e, u)?),
+        None => Ok(right_value(operand(view, true, e, u)?)),
     }
 }
 
@@ -84,18 +89,18 @@ pub fn right_operand(view: &View, op: Op, e: &TExpr, u: &mut Unit) -> Result<Rig
 /// before its use.
 #[cycle(value)]
 #[tactic(auto, unfolding(crate::specs::Operands::operand_by))]
-pub fn operand(view: &View, quiet: bool, e: &TExpr, u: &mut Unit) -> Result<Out, Memory>
-    ensures draft { IfOk result (λ out. operand_by view.now.typed.now (layout view.now.names) (value_of view.now.typed.now (layout view.now.names) e.now) quiet e.now (draft u.old) ≡ Makes out (draft u.new)) }
+pub fn operand(view: &View, quiet: bool, e: &TExpr, u: &mut Unit) -> Result<Operand, Memory>
+    ensures draft { IfOk result (λ v. operand_by view.now.typed.now (layout view.now.names) (value_of view.now.typed.now (layout view.now.names) e.now) quiet e.now (draft u.old) ≡ Makes (out_of v) (draft u.new)) }
 {
     match in_place(quiet, e) {
         Some(own) => standing(view, own, u),
-        None => value(view, e, u),
+        None => value(view, e, u)?.operand(),
     }
 }
 
 /// The value of an expression. That of a promoted scalar stays in its register.
 #[cycle(value)]
-#[tactic(auto, using(crate::proofs::Lists::value_of_left_index), unfolding(crate::specs::Values::value_of, crate::specs::Values::spot_of, crate::specs::Values::spread_of, crate::specs::Values::binary_of, crate::specs::Values::logical_of, crate::specs::Values::choice_of, lower_base::specs::Drafts::then_make, lower_base::specs::Drafts::in_register))]
+#[tactic(auto, using(crate::proofs::Lists::value_of_left_index), unfolding(crate::specs::Values::value_of, crate::specs::Values::spot_of, crate::specs::Values::spread_of, crate::specs::Values::binary_of, crate::specs::Values::choice_of, crate::specs::Values::arm_of, crate::specs::Values::read_by, crate::specs::Values::index_read_by, crate::specs::Values::message_by, lower_base::specs::Drafts::then_make, lower_base::specs::Drafts::in_register))]
 pub fn value(view: &View, e: &TExpr, u: &mut Unit) -> Result<Out, Memory>
     ensures draft { IfOk result (λ out. value_of view.now.typed.now (layout view.now.names) e.now (draft u.old) ≡ Makes out (draft u.new)) }
 {
@@ -103,13 +108,17 @@ pub fn value(view: &View, e: &TExpr, u: &mut Unit) -> Result<Out, Memory>
         TExpr::Number { value, .. }
         | TExpr::PositionsOf { value, .. }
         | TExpr::RankOf { value, .. }
-        | TExpr::DimOf { value, .. } => constant(*value, u),
+        | TExpr::DimOf { value, .. } => Ok(Out::Scalar(constant(*value, u)?)),
         TExpr::Dot { ty, axis } | TExpr::Pcoord { ty, axis } => coordinate(ty.shape, *axis, u),
         TExpr::GetChar { .. } => next_byte(u),
         TExpr::Brackets { inner: operand, .. } | TExpr::Promote { operand, .. } => {
             value(view, operand, u)
         }
-        TExpr::Convert { ty, operand } => convert(value(view, operand, u)?, ty.elem, u),
+        TExpr::Convert { ty, operand } => {
+            let v = value(view, operand, u)?.operand()?;
+            convert(v, ty.elem, u)?;
+            Ok(v.out())
+        }
         TExpr::Casts { elems, operand, .. } => {
             let v = value(view, operand, u)?;
             cast_all(elems.as_slice(), v.register()?, u)?;
@@ -117,7 +126,8 @@ pub fn value(view: &View, e: &TExpr, u: &mut Unit) -> Result<Out, Memory>
         }
         TExpr::ParallelCast { ty, operand } => {
             let v = spread(view, operand, ty.shape.unwrap_or(0), u)?;
-            convert(v, ty.elem, u)
+            convert(v, ty.elem, u)?;
+            Ok(v.out())
         }
         TExpr::Unary { ty, op, operand } => prefixed(view, *ty, *op, operand, u),
         TExpr::Binary {
@@ -154,8 +164,15 @@ pub fn value(view: &View, e: &TExpr, u: &mut Unit) -> Result<Out, Memory>
                 u,
             )
         }
-        TExpr::Variable { ty, .. } | TExpr::Element { ty, .. } => read(view, e, *ty, u),
-        TExpr::LeftIndex { ty, .. } => read_indexed(view, e, *ty, u),
+        TExpr::Variable { ty, .. } | TExpr::Element { ty, .. } => {
+            let dest = fresh(*ty, u)?;
+            read_to(view, e, dest, u)?;
+            Ok(dest.out())
+        }
+        TExpr::LeftIndex { ty, .. } => {
+            let dest = fresh(*ty, u)?;
+            read_indexed_to(view, e, dest, u)
+        }
         TExpr::Assign {
             place,
             op,
@@ -183,16 +200,22 @@ pub fn value(view: &View, e: &TExpr, u: &mut Unit) -> Result<Out, Memory>
             operand: source,
             ..
         }
-        | TExpr::Scan { ty, source, .. } => { message(view, e, *ty, source, u) }
+        | TExpr::Scan { ty, source, .. } => {
+            let dest = fresh(*ty, u)?;
+            message_to(view, e, source, dest, u)
+        }
         TExpr::Enumerate { ty, .. } => {
             let dest = fresh(*ty, u)?;
-            comm_in(view, e, Out::Nothing, &[], dest, u)
+            comm_in(view, e, Out::Nothing, &[], dest.out(), u)
         }
         TExpr::Call {
             ty,
             instance,
             arguments,
-        } => { call(view, *ty, *instance, arguments.as_slice(), u) }
+        } => {
+            let dest = fresh(*ty, u)?;
+            call_to(view, *instance, arguments.as_slice(), dest, u)
+        }
         TExpr::Printf {
             pieces,
             arguments,
@@ -219,7 +242,7 @@ fn prefixed(
     let dest = fresh(ty, u)?;
     let v = operand(view, true, inner, u)?;
     unary(op, dest, v, u)?;
-    Ok(dest)
+    Ok(dest.out())
 }
 
 /// A binary operator, into a fresh register or field.
@@ -280,7 +303,7 @@ pub fn binary_in_field(
 
 /// `||`, or else `&&`.
 #[cycle(value)]
-#[tactic(auto, unfolding(crate::specs::Values::logical_of, crate::specs::Values::logical_by, crate::specs::Values::scalar_logical_of, crate::specs::Values::parallel_logical_of))]
+#[tactic(auto, unfolding(crate::specs::Values::logical_by, crate::specs::Values::condition_by))]
 fn logical(
     view: &View,
     is_or: bool,
@@ -289,7 +312,7 @@ fn logical(
     right: &TExpr,
     u: &mut Unit,
 ) -> Result<Out, Memory>
-    ensures draft { IfOk result (λ out. logical_of view.now.typed.now (layout view.now.names) is_or shape left.now right.now (draft u.old) ≡ Makes out (draft u.new)) }
+    ensures draft { IfOk result (λ out. logical_by is_or shape (condition_of view.now.typed.now (layout view.now.names) left.now) (condition_of view.now.typed.now (layout view.now.names) right.now) (draft u.old) ≡ Makes out (draft u.new)) }
 {
     match shape {
         None => scalar_logical(view, is_or, left, right, u),
@@ -299,7 +322,7 @@ fn logical(
 
 /// `||`, or else `&&`, of scalars. The result begins as what a decided left operand gives.
 #[cycle(value)]
-#[tactic(auto, unfolding(crate::specs::Values::scalar_logical_of, crate::specs::Values::scalar_logical_by, lower_base::specs::Drafts::then_make, lower_base::specs::Drafts::in_register))]
+#[tactic(auto, unfolding(crate::specs::Values::scalar_logical_by, lower_base::specs::Drafts::then_make, lower_base::specs::Drafts::in_register))]
 fn scalar_logical(
     view: &View,
     is_or: bool,
@@ -307,18 +330,84 @@ fn scalar_logical(
     right: &TExpr,
     u: &mut Unit,
 ) -> Result<Out, Memory>
-    ensures draft { IfOk result (λ out. scalar_logical_of view.now.typed.now (layout view.now.names) is_or left.now right.now (draft u.old) ≡ Makes out (draft u.new)) }
+    ensures draft { IfOk result (λ out. scalar_logical_by is_or (operand_by view.now.typed.now (layout view.now.names) (value_of view.now.typed.now (layout view.now.names) left.now) true left.now) (operand_by view.now.typed.now (layout view.now.names) (value_of view.now.typed.now (layout view.now.names) right.now) true right.now) (operand_length (length_of view.now.typed.now (layout view.now.names) right.now) true right.now) (draft u.old) ≡ Makes out (draft u.new)) }
 {
-    let dest = constant(u32::from(is_or), u)?.register()?;
+    let dest = constant(u32::from(is_or), u)?;
     let a = operand(view, true, left, u)?;
     let end = decide(is_or, a, used_length(view, true, right)?, 3, u)?;
     let b = operand(view, true, right, u)?;
     end_logical(is_or, dest, b, end, u)
 }
 
-/// `||`, or else `&&`, with a parallel operand.
+/// The test flags become whether a parallel value is not zero.
 #[cycle(value)]
-#[tactic(auto, unfolding(crate::specs::Values::parallel_logical_of, crate::specs::Values::parallel_logical_by, crate::specs::Values::decided_by, crate::specs::Values::limited_by, lower_base::specs::Drafts::then_make))]
+#[tactic(auto, unfolding(crate::specs::Values::tested_by, crate::specs::Values::nonzero_tested, lower_base::specs::Drafts::then_make, lower_base::specs::Drafts::in_field))]
+pub fn test(view: &View, e: &TExpr, u: &mut Unit) -> Result<(), Memory>
+    ensures draft { OnOk result (tested view.now.typed.now (layout view.now.names) e.now (draft u.old) ≡ Makes tt (draft u.new)) }
+{
+    if has_truth(e) {
+        return test_truth(view, e, u);
+    }
+    let source = operand(view, true, e, u)?.field()?;
+    put(u, Instr::NeZero { source })
+}
+
+/// The test flags of a value that has a truth without its value.
+#[cycle(value)]
+#[tactic(auto, using(crate::proofs::Relations::compares, crate::proofs::Relations::operates), unfolding(crate::specs::Steps::has_truth, crate::specs::Values::truth_of, crate::specs::Values::zero_tested, crate::specs::Values::relation_by, lower_base::specs::Drafts::then_make, lower_base::specs::Drafts::in_field))]
+fn test_truth(view: &View, e: &TExpr, u: &mut Unit) -> Result<(), Memory>
+    requires { has_truth e.now ≡ true }
+    ensures draft { OnOk result (truth_of view.now.typed.now (layout view.now.names) e.now (draft u.old) ≡ Makes tt (draft u.new)) }
+{
+    match e {
+        TExpr::Brackets { inner, .. } => test_truth(view, inner, u),
+        TExpr::Variable { variable, .. } => {
+            let source = view.field(*variable, 0, u)?;
+            put(u, Instr::NeZero { source })
+        }
+        TExpr::Unary { operand: inner, .. } => {
+            let source = operand(view, true, inner, u)?.field()?;
+            put(u, Instr::EqZero { source })
+        }
+        TExpr::Binary {
+            ty,
+            place,
+            op,
+            left,
+            right,
+        } => {
+            let binary = Binary {
+                place: *place,
+                op: *op,
+                left,
+                right,
+            };
+            test_relation(view, ty.shape.unwrap_or(0), &binary, u)
+        }
+        _ => unreachable!(),
+    }
+}
+
+/// The test flags become whether a relation holds, that of the binary operator.
+#[cycle(value)]
+#[tactic(auto, using(crate::proofs::Relations::compares, crate::proofs::Relations::operates), unfolding(crate::specs::Values::relation_by, lower_base::specs::Drafts::then_make))]
+fn test_relation(view: &View, set: u16, binary: &Binary, u: &mut Unit) -> Result<(), Memory>
+    requires { relates binary.now.op ≡ true }
+    ensures draft { OnOk result (relation_by set binary.now.op (is_signed (type_of binary.now.left.now).elem) (operand_by view.now.typed.now (layout view.now.names) (value_of view.now.typed.now (layout view.now.names) binary.now.left.now) (is_quiet binary.now.right.now) binary.now.left.now) binary.now.left.now (operand_by view.now.typed.now (layout view.now.names) (value_of view.now.typed.now (layout view.now.names) binary.now.right.now) true binary.now.right.now) binary.now.right.now (draft u.old) ≡ Makes tt (draft u.new)) }
+{
+    let Operator { op, signed, .. } = binary.operator();
+    let spare = field(u, set)?;
+    let a = spread_to(view, is_quiet(binary.right), binary.left, spare, u)?;
+    let b = right_operand(view, op, binary.right, u)?;
+    match machine_op(op, signed) {
+        Machine::Compare(relation) => compare(relation, a, b, spare, u),
+        Machine::Operate(_) => unreachable!(),
+    }
+}
+
+/// `||`, or else `&&`, with a parallel operand. The result begins as what a decided left operand gives.
+#[cycle(value)]
+#[tactic(auto, unfolding(crate::specs::Values::parallel_logical_by, crate::specs::Values::condition_by, lower_base::specs::Drafts::then_make))]
 fn parallel_logical(
     view: &View,
     is_or: bool,
@@ -327,22 +416,68 @@ fn parallel_logical(
     set: u16,
     u: &mut Unit,
 ) -> Result<Out, Memory>
-    ensures draft { IfOk result (λ out. parallel_logical_of view.now.typed.now (layout view.now.names) is_or left.now right.now set (draft u.old) ≡ Makes out (draft u.new)) }
+    ensures draft { IfOk result (λ out. parallel_logical_by is_or set (condition_of view.now.typed.now (layout view.now.names) left.now) (condition_of view.now.typed.now (layout view.now.names) right.now) (draft u.old) ≡ Makes out (draft u.new)) }
 {
     let dest = field(u, set)?;
     let saved = flag(u, set)?;
-    let word = Konst::Imm(u32::from(is_or));
-    put(u, Instr::MoveConstant { dest, value: word })?;
-    let a = operand(view, true, left, u)?;
+    let value = Konst::Imm(u32::from(is_or));
+    put(u, Instr::MoveConstant { dest, value })?;
     if stays_scalar(left) {
-        decide(is_or, a, used_length(view, true, right)?, 4, u)?;
-        let b = operand(view, true, right, u)?;
-        test_nonzero(dest, b, u)
+        jump_or_test(view, is_or, dest, left, right, u)
     } else {
-        limit(is_or, saved, a, u)?;
-        let b = operand(view, true, right, u)?;
-        end_parallel(is_or, dest, saved, stays_scalar(right), b, u)
+        narrow_twice(view, is_or, dest, saved, left, right, u)
     }
+}
+
+/// A scalar left operand decides by a jump over the test of the parallel right one.
+#[cycle(value)]
+#[tactic(auto, unfolding(crate::specs::Values::decided_by, lower_base::specs::Drafts::then_make))]
+fn jump_or_test(
+    view: &View,
+    is_or: bool,
+    dest: Field,
+    left: &TExpr,
+    right: &TExpr,
+    u: &mut Unit,
+) -> Result<Out, Memory>
+    ensures draft { IfOk result (λ out. decided_by is_or dest (operand_by view.now.typed.now (layout view.now.names) (value_of view.now.typed.now (layout view.now.names) left.now) true left.now) (tested view.now.typed.now (layout view.now.names) right.now) (tested_length view.now.typed.now (layout view.now.names) right.now) (draft u.old) ≡ Makes out (draft u.new)) }
+{
+    let a = operand(view, true, left, u)?;
+    decide(is_or, a, test_length(view, right)?, 3, u)?;
+    test(view, right, u)?;
+    test_value(dest, u)?;
+    Ok(Out::Field(dest))
+}
+
+/// Behind a parallel left operand: the context is narrowed by it for the right one, and by that one
+/// for the result; then it is restored.
+#[cycle(value)]
+#[tactic(auto, unfolding(crate::specs::Values::limited_by, crate::specs::Values::jumped_over, crate::specs::Values::narrowed_again, lower_base::specs::Drafts::then_make))]
+fn narrow_twice(
+    view: &View,
+    is_or: bool,
+    dest: Field,
+    saved: Field,
+    left: &TExpr,
+    right: &TExpr,
+    u: &mut Unit,
+) -> Result<Out, Memory>
+    ensures draft { IfOk result (λ out. limited_by is_or dest saved (tested view.now.typed.now (layout view.now.names) left.now) (if is_kept right.now then jumped_over is_or (operand_by view.now.typed.now (layout view.now.names) (value_of view.now.typed.now (layout view.now.names) right.now) true right.now) else narrowed_again is_or dest.set (tested view.now.typed.now (layout view.now.names) right.now)) (draft u.old) ≡ Makes out (draft u.new)) }
+{
+    test(view, left, u)?;
+    put(u, Instr::StoreContext { dest: saved })?;
+    narrow(is_or, dest.set, u)?;
+    if stays_scalar(right) {
+        let b = operand(view, true, right, u)?;
+        jump_to_end(is_or, b, u)?;
+    } else {
+        test(view, right, u)?;
+        narrow(is_or, dest.set, u)?;
+    }
+    let value = Konst::Imm(u32::from(!is_or));
+    put(u, Instr::MoveConstant { dest, value })?;
+    put(u, Instr::LoadContext { source: saved })?;
+    Ok(Out::Field(dest))
 }
 
 /// `?:`.
@@ -353,74 +488,92 @@ fn choose(view: &View, ty: ValueType, choice: &Choice, u: &mut Unit) -> Result<O
 {
     let dest = fresh(ty, u)?;
     if stays_scalar(choice.test) {
-        scalar_choice(view, choice, dest, u)?;
+        scalar_choice(view, ty, choice, dest, u)?;
     } else {
         parallel_choice(view, choice, dest, u)?;
     }
-    Ok(dest)
+    Ok(dest.out())
 }
 
-/// `?:` with a scalar condition: one of the two is evaluated.
+/// `?:` with a scalar condition: one of the two is evaluated, into this register or field.
 #[cycle(value)]
 #[tactic(auto, unfolding(crate::specs::Values::scalar_choice_of, crate::specs::Values::scalar_choice_by, lower_base::specs::Drafts::then_make))]
-fn scalar_choice(view: &View, choice: &Choice, dest: Out, u: &mut Unit) -> Result<(), Memory>
-    ensures draft { OnOk result (scalar_choice_of view.now.typed.now (layout view.now.names) choice.now.test.now choice.now.then.now choice.now.otherwise.now dest (draft u.old) ≡ Makes dest (draft u.new)) }
+pub fn scalar_choice(
+    view: &View,
+    ty: ValueType,
+    choice: &Choice,
+    dest: Operand,
+    u: &mut Unit,
+) -> Result<(), Memory>
+    ensures draft { OnOk result (scalar_choice_of view.now.typed.now (layout view.now.names) ty choice.now.test.now choice.now.then.now choice.now.otherwise.now (out_of dest) (draft u.old) ≡ Makes (out_of dest) (draft u.new)) }
 {
     let c = operand(view, true, choice.test, u)?;
-    let other = decide(false, c, used_length(view, true, choice.then)?, 3, u)?;
-    let a = operand(view, true, choice.then, u)?;
-    set(dest, a, u)?;
-    let target = plus(plus(other, used_length(view, true, choice.otherwise)?)?, 1)?;
+    let other = decide(false, c, arm_length(view, ty, choice.then)?, 2, u)?;
+    arm(view, dest, choice.then, u)?;
+    let target = plus(other, arm_length(view, ty, choice.otherwise)?)?;
     put(u, Instr::FrontJump { target })?;
-    let b = operand(view, true, choice.otherwise, u)?;
-    set(dest, b, u)
+    arm(view, dest, choice.otherwise, u)
 }
 
 /// `?:` with a parallel condition: both are evaluated, each where it counts.
 #[cycle(value)]
 #[tactic(auto, unfolding(crate::specs::Values::parallel_choice_of, crate::specs::Values::parallel_choice_by, lower_base::specs::Drafts::then_make, lower_base::specs::Drafts::in_field))]
-fn parallel_choice(view: &View, choice: &Choice, dest: Out, u: &mut Unit) -> Result<(), Memory>
-    ensures draft { OnOk result (parallel_choice_of view.now.typed.now (layout view.now.names) choice.now.test.now choice.now.then.now choice.now.otherwise.now dest (draft u.old) ≡ Makes dest (draft u.new)) }
+fn parallel_choice(view: &View, choice: &Choice, dest: Operand, u: &mut Unit) -> Result<(), Memory>
+    ensures draft { OnOk result (parallel_choice_of view.now.typed.now (layout view.now.names) choice.now.test.now choice.now.then.now choice.now.otherwise.now (out_of dest) (draft u.old) ≡ Makes (out_of dest) (draft u.new)) }
 {
     let saved = flag(u, dest.field()?.set)?;
     let c = operand(view, is_quiet(choice.then), choice.test, u)?;
-    let condition = limit(false, saved, c, u)?;
-    let a = operand(view, true, choice.then, u)?;
-    set(dest, a, u)?;
+    let condition = limit(saved, c, u)?;
+    arm(view, dest, choice.then, u)?;
     turn_over(saved, condition, u)?;
-    let b = operand(view, true, choice.otherwise, u)?;
-    set(dest, b, u)?;
+    arm(view, dest, choice.otherwise, u)?;
     put(u, Instr::LoadContext { source: saved })
 }
 
-/// The value of a variable, of an element of an array, or through a left index.
+/// An arm of `?:` becomes the value of a register or a field; a constant does so in one instruction.
 #[cycle(value)]
-#[tactic(auto, unfolding(crate::specs::Values::read_by, lower_base::specs::Drafts::then_make))]
-fn read(view: &View, e: &TExpr, ty: ValueType, u: &mut Unit) -> Result<Out, Memory>
-    ensures draft { IfOk result (λ out. read_by view.now.typed.now (layout view.now.names) e.now ty (spot_of view.now.typed.now (layout view.now.names) e.now) (draft u.old) ≡ Makes out (draft u.new)) }
+#[tactic(auto, unfolding(crate::specs::Values::arm_of, crate::specs::Values::arm_by, lower_base::specs::Drafts::then_make))]
+fn arm(view: &View, dest: Operand, e: &TExpr, u: &mut Unit) -> Result<(), Memory>
+    ensures draft { OnOk result (arm_of view.now.typed.now (layout view.now.names) e.now (out_of dest) (draft u.old) ≡ Makes (out_of dest) (draft u.new)) }
 {
-    let dest = fresh(ty, u)?;
-    let spot = locate(view, e, u)?;
-    load(view, e, spot, dest, u)?;
-    Ok(dest)
+    match word_for(dest, e) {
+        Some(word) => put_word(dest, word, u),
+        None => {
+            let v = operand(view, true, e, u)?;
+            set(dest, v, u)
+        }
+    }
 }
 
-/// A get, or a read of one element.
+/// The value of a variable, of an element of an array, or through a left index, in a register or a
+/// field.
 #[cycle(value)]
-fn read_indexed(view: &View, e: &TExpr, ty: ValueType, u: &mut Unit) -> Result<Out, Memory>
-    ensures draft { IfOk result (λ out. (if goes_by_news e.now then news_by view.now.typed.now (layout view.now.names) e.now ty (draft u.old) else read_by view.now.typed.now (layout view.now.names) e.now ty (spot_of view.now.typed.now (layout view.now.names) e.now) (draft u.old)) ≡ Makes out (draft u.new)) }
+#[tactic(auto, unfolding(crate::specs::Values::read_to, lower_base::specs::Drafts::then_make))]
+pub fn read_to(view: &View, e: &TExpr, dest: Operand, u: &mut Unit) -> Result<(), Memory>
+    ensures draft { OnOk result (read_to view.now.typed.now (layout view.now.names) e.now (spot_of view.now.typed.now (layout view.now.names) e.now) (out_of dest) (draft u.old) ≡ Makes (out_of dest) (draft u.new)) }
+{
+    let spot = locate(view, e, u)?;
+    load(view, e, spot, dest, u)
+}
+
+/// A get, or a read of one element, to a register or a field.
+#[cycle(value)]
+#[tactic(auto, unfolding(crate::specs::Values::index_read_to))]
+pub fn read_indexed_to(view: &View, e: &TExpr, dest: Operand, u: &mut Unit) -> Result<Out, Memory>
+    ensures draft { IfOk result (λ out. index_read_to view.now.typed.now (layout view.now.names) e.now (spot_of view.now.typed.now (layout view.now.names) e.now) (out_of dest) (draft u.old) ≡ Makes out (draft u.new)) }
 {
     if goes_by_news(e) {
-        by_news(view, e, ty, u)
+        news_to(view, e, dest, u)
     } else {
-        read(view, e, ty, u)
+        read_to(view, e, dest, u)?;
+        Ok(dest.out())
     }
 }
 
 /// Locates a target or a reference: its indexes, their range check, and the address. `Memory` too
 /// for an expression that can be neither.
 #[cycle(value)]
-#[tactic(auto, unfolding(crate::specs::Values::spot_of, crate::specs::Values::element_spot, crate::specs::Spots::variable_spot, lower_base::specs::Drafts::then_make, lower_base::specs::Drafts::in_register))]
+#[tactic(auto, unfolding(crate::specs::Values::spot_of, crate::specs::Values::element_spot, crate::specs::Spots::variable_spot, lower_comm::specs::Messages::is_left_index, lower_base::specs::Drafts::then_make, lower_base::specs::Drafts::in_register))]
 fn locate(view: &View, e: &TExpr, u: &mut Unit) -> Result<Spot, Memory>
     ensures draft { IfOk result (λ there. spot_of view.now.typed.now (layout view.now.names) e.now (draft u.old) ≡ Makes there (draft u.new)) }
 {
@@ -448,13 +601,30 @@ fn locate(view: &View, e: &TExpr, u: &mut Unit) -> Result<Spot, Memory>
 
 /// Locates a left index by these indexes.
 #[cycle(value)]
-#[tactic(auto, unfolding(crate::specs::Values::indexed_spot, lower_base::specs::Drafts::then_make))]
+#[tactic(auto, unfolding(crate::specs::Values::indexed_spot, lower_comm::specs::Messages::located, lower_comm::specs::Messages::is_left_index, lower_base::specs::Drafts::then_make))]
 fn locate_indexed(view: &View, indexes: &[TExpr], e: &TExpr, u: &mut Unit) -> Result<Spot, Memory>
+    requires { is_left_index e.now ≡ true }
     ensures draft { IfOk result (λ there. indexed_spot e.now (values_in view.now.typed.now (layout view.now.names) (all_quiet indexes.now) indexes.now) (draft u.old) ≡ Makes there (draft u.new)) }
 {
-    let at = fresh(e.ty(), u)?;
+    let TExpr::LeftIndex {
+        ty,
+        place,
+        indexes: each,
+        of,
+        ..
+    } = e
+    else {
+        unreachable!()
+    };
+    let at = fresh(*ty, u)?;
     let parts = values(view, are_quiet(indexes), indexes, u)?;
-    Ok(Spot::Indexed(locate_in(view.alloc, e, parts.as_slice(), at, u)?))
+    let reference = Indexes {
+        place: *place,
+        of: *of,
+        each: each.as_slice(),
+    };
+    reference.locate(view.alloc, parts.as_slice(), at, u)?;
+    Ok(Spot::Indexed(at.out()))
 }
 
 /// The values of a list of expressions, in the order of the text. Variables are used where they stand
@@ -467,7 +637,7 @@ fn values(view: &View, quiet: bool, es: &[TExpr], u: &mut Unit) -> Result<Vec<Ou
     let mut outs = Vec::new(view.alloc);
     for e in es {
         let v = operand(view, quiet, e, u)?;
-        outs.push(v)?;
+        outs.push(v.out())?;
     }
     Ok(outs)
 }
@@ -492,10 +662,10 @@ fn assign(view: &View, assignment: &Assignment, u: &mut Unit) -> Result<Out, Mem
     let spot = locate(view, target, u)?;
     let v = match shape {
         Some(set) => spread(view, right, set, u)?,
-        None => value(view, right, u)?,
+        None => value(view, right, u)?.operand()?,
     };
     store(view, assignment.whole, spot, v, u)?;
-    Ok(v)
+    Ok(v.out())
 }
 
 /// An assignment with an operator.
@@ -568,36 +738,34 @@ fn step(
     step_in(view, &located, op, order, outcome, second, u)
 }
 
-/// A reduction or a scan of this operand.
+/// A reduction or a scan of this operand, to a register or a field.
 #[cycle(value)]
-#[tactic(auto, unfolding(crate::specs::Values::message_by, lower_base::specs::Drafts::then_make))]
-fn message(
+#[tactic(auto, unfolding(crate::specs::Values::message_to, lower_base::specs::Drafts::then_make))]
+pub fn message_to(
     view: &View,
     e: &TExpr,
-    ty: ValueType,
     source: &TExpr,
+    dest: Operand,
     u: &mut Unit,
 ) -> Result<Out, Memory>
-    ensures draft { IfOk result (λ out. message_by view.now.typed.now (layout view.now.names) e.now ty (operand_by view.now.typed.now (layout view.now.names) (value_of view.now.typed.now (layout view.now.names) source.now) true source.now) (draft u.old) ≡ Makes out (draft u.new)) }
+    ensures draft { IfOk result (λ out. message_to view.now.typed.now (layout view.now.names) e.now (operand_by view.now.typed.now (layout view.now.names) (value_of view.now.typed.now (layout view.now.names) source.now) true source.now) (out_of dest) (draft u.old) ≡ Makes out (draft u.new)) }
 {
-    let dest = fresh(ty, u)?;
     let v = operand(view, true, source, u)?;
-    comm_in(view, e, Out::Nothing, &[v], dest, u)
+    comm_in(view, e, Out::Nothing, &[v.out()], dest.out(), u)
 }
 
-/// A call, behind the values of its arguments.
+/// A call, behind the values of its arguments, whose result goes to a register or a field.
 #[cycle(value)]
-#[tactic(auto, unfolding(crate::specs::Values::call_of, lower_base::specs::Drafts::then_make))]
-fn call(
+#[tactic(auto, unfolding(crate::specs::Values::call_of, crate::specs::Values::call_to, lower_base::specs::Drafts::then_make))]
+pub fn call_to(
     view: &View,
-    ty: ValueType,
     instance: u32,
     arguments: &[TExpr],
+    dest: Operand,
     u: &mut Unit,
 ) -> Result<Out, Memory>
-    ensures draft { IfOk result (λ out. call_of view.now.typed.now (layout view.now.names) ty.shape instance arguments.now (draft u.old) ≡ Makes out (draft u.new)) }
+    ensures draft { IfOk result (λ out. call_of view.now.typed.now (layout view.now.names) instance arguments.now (out_of dest) (draft u.old) ≡ Makes out (draft u.new)) }
 {
-    let dest = fresh(ty, u)?;
     let outs = values(view, are_quiet(arguments), arguments, u)?;
     enter(view, instance, outs.as_slice(), dest, u)
 }

@@ -7,7 +7,8 @@ use Rattle.cstar_tree.specs.declared.typed.TStmt as S
 use Rattle.cstar_tree.specs.declared.typed.Typed.{Typed}
 use Rattle.cstar_tree.specs.declared.typed.VarInfo.{VarInfo}
 use Rattle.lower_base.specs.Layouts.{Layout, entries_of}
-use Rattle.lower_expr.specs.Effects.{effect_length_of, next_length, put_length, tested_length}
+use Rattle.lower_expr.specs.Effects.{effect_length_of, narrowed_length, next_length, put_length}
+use Rattle.lower_expr.specs.Lengths.{tested_length}
 use Rattle.lower_stmt.specs.declared.length.Saved.{Saved}
 
 -- one more context is saved
@@ -36,7 +37,7 @@ clear_length_of info = elim info.shape [ None ↦ 1 | Some s ↦ entries_of info
 unfoldable pub initial_length_of : Typed → Layout → VarInfo → Option TExpr → ℕ
 initial_length_of t l info None = 0
 initial_length_of t l info (Some e) =
-    if is_none info.shape || info.elem.bits == 32 then put_length t l (is_none info.shape) e else next_length t l e + 1
+    if is_none info.shape || info.elem.bits == 32 then put_length t l (is_none info.shape) e else narrowed_length t l e
 
 -- the variables of a block
 unfoldable pub locals_length_of : Typed → Layout → List LocalVar → ℕ

@@ -13,7 +13,8 @@ use Rattle.lower_base.specs.declared.emit.Out.TheVariants as O
 use Rattle.lower_base.specs.Drafts.{Draft, Made, Makes, then_make, here, with_instr, an_entry, in_register}
 use Rattle.paris_code.specs.declared.program.Owner.TheVariants as W
 use Rattle.lower_base.specs.Layouts.{Layout, result_register, own_field}
-use Rattle.lower_expr.specs.Effects.{effect_of, next_length, next_operand, tested}
+use Rattle.lower_expr.specs.Effects.{effect_of, next_length, next_operand}
+use Rattle.lower_expr.specs.Values.{tested}
 use Rattle.lower_expr.specs.Steps.{put_value}
 use Rattle.lower_stmt.specs.declared.statement.Frame.{Frame}
 use Rattle.lower_stmt.specs.declared.statement.Outcome.{Outcome}

@@ -11,7 +11,7 @@ use Rattle.lower_base.specs.declared.emit.Out.{Out}
 use Rattle.lower_base.specs.declared.emit.Out.TheVariants as O
 use Rattle.lower_base.specs.Drafts.{Draft, Made, Makes, then_make, with_instr, an_entry}
 use Rattle.lower_base.specs.Layouts.{Layout, entries_of, register_of, field_of}
-use Rattle.lower_expr.specs.Effects.{moved, put_to}
+use Rattle.lower_expr.specs.Effects.{narrowed_to, put_to}
 
 -- so many fresh fields of a shape, each of which becomes zero at every position
 unfoldable pub cleared_fields : ℕ → ℕ → ℕ → Draft → Made (Unit {0})
@@ -44,10 +44,10 @@ variable_of t l info n d =
       | Some s ↦ then_make (field_of t l (V.Local n) 0 d) (λ field after. Makes (O.Field field) after)
     ]
 
--- a value becomes that of a variable: written there, or moved to a parallel one of a narrow type
+-- a value becomes that of a variable
 unfoldable pub initial_put : Typed → Layout → VarInfo → Out → TExpr → Draft → Made Out
-initial_put t l info dest e d =
-    if is_none info.shape || info.elem.bits == 32 then put_to t l dest e d else moved t l dest e d
+initial_put t l info (O.Field f) e d = if info.elem.bits == 32 then put_to t l (O.Field f) e d else narrowed_to t l f e d
+initial_put t l info dest e d = put_to t l dest e d
 
 -- its initialiser, if it has one, stored in it
 unfoldable pub initialised : Typed → Layout → LocalVar → ℕ → Draft → Made (Unit {0})

@@ -5,14 +5,13 @@ ghost use Rattle.lower_base.specs.Layouts.{layout};
 ghost use Rattle.cstar_tree.specs.declared.typed.TStmt.{back-TStmt-If-2};
 ghost use Rattle.lower_stmt.specs.Lengths.{one_more, at_loop, condition_length_of, part_length_of, clear_length_of, initial_length_of, locals_length_of, statement_length_of, else_length_of};
 
-use crate::variables::is_written;
 use cstar_base::Memory;
 use cstar_tree::typed::{LocalVar, TExpr, TStmt, VarInfo};
 use lower_base::View;
 use lower_base::emit::plus;
 use lower_base::names::entries_of;
-use lower_expr::effect_lengths::{effect_length, put_length, test_length};
-use lower_expr::length::used_length;
+use lower_expr::effect_lengths::{effect_length, narrowed_length, put_length};
+use lower_expr::length::{test_length, used_length};
 
 /// How many saved contexts a jump has to load: those that were saved in the innermost loop, and
 /// those that were saved in the whole function.
@@ -188,13 +187,18 @@ fn clear_length(info: &VarInfo) -> u32
 }
 
 /// The initialiser of a variable.
-#[tactic(auto, unfolding(crate::specs::Lengths::initial_length_of, lower_expr::specs::Effects::next_length))]
+#[tactic(auto, unfolding(crate::specs::Lengths::initial_length_of))]
 fn initial_length(view: &View, info: &VarInfo, initial: &Option<TExpr>) -> Result<u32, Memory>
     ensures { IfOk result (λ n. n ≡ initial_length_of view.now.typed.now (layout view.now.names) info.now initial.now) }
 {
     match initial {
-        Some(e) if is_written(info) => put_length(view, info.shape.is_none(), e),
-        Some(e) => plus(used_length(view, true, e)?, 1),
+        Some(e) => {
+            if info.shape.is_none() || info.elem.bits == 32 {
+                put_length(view, info.shape.is_none(), e)
+            } else {
+                narrowed_length(view, e)
+            }
+        }
         None => Ok(0),
     }
 }

@@ -6,7 +6,7 @@ ghost use Rattle.std.specs.Prelude.{◌≡◌, ◌+◌, ◌++◌, [], ◌∷◌,
 ghost use Rattle.cstar_tree.specs.declared.typed.TStmt as S;
 ghost use Rattle.cstar_tree.specs.declared.typed.TStmt.{back-TStmt-If-2};
 ghost use Rattle.paris_code.specs.declared.instr.Instr.TheVariants as I;
-ghost use Rattle.lower_base.specs.Drafts.{Makes, draft, with_instr};
+ghost use Rattle.lower_base.specs.Drafts.{Makes, draft, out_of, with_instr};
 ghost use Rattle.lower_base.specs.Layouts.{layout};
 ghost use Rattle.lower_stmt.specs.Bodies.{code_in, grown};
 ghost use Rattle.lower_stmt.specs.Frames.{has_result, in_loop, in_context, with_end};
@@ -19,11 +19,11 @@ use cstar_base::Memory;
 use cstar_tree::typed::{TExpr, TStmt};
 use lower_base::emit::{flag, here, plus, put};
 use lower_base::names::own_entry;
-use lower_base::{Out, View};
-use lower_expr::effects::{effect, test};
+use lower_base::{Operand, View};
+use lower_expr::effects::effect;
 use lower_expr::length::used_length;
 use lower_expr::steps::set;
-use lower_expr::value::operand;
+use lower_expr::value::{operand, test};
 use paris_code::{Field, Instr, Unit};
 
 /// What a function gives back.
@@ -409,15 +409,15 @@ fn give_back(view: &View, e: &TExpr, outcome: Outcome, u: &mut Unit) -> Result<(
 
 /// A value becomes the function's result.
 #[tactic(auto, unfolding(crate::specs::Statements::stored_result, lower_base::specs::Drafts::then_make, lower_base::specs::Layouts::layout))]
-fn store_result(view: &View, outcome: Outcome, v: Out, u: &mut Unit) -> Result<(), Memory>
-    ensures draft { OnOk result (stored_result (layout view.now.names) outcome v (draft u.old) ≡ Makes tt (draft u.new)) }
+fn store_result(view: &View, outcome: Outcome, v: Operand, u: &mut Unit) -> Result<(), Memory>
+    ensures draft { OnOk result (stored_result (layout view.now.names) outcome (out_of v) (draft u.old) ≡ Makes tt (draft u.new)) }
 {
     match outcome {
         Outcome::Nothing => Ok(()),
-        Outcome::Scalar => set(Out::Scalar(view.result_register()?), v, u),
+        Outcome::Scalar => set(Operand::Register(view.result_register()?), v, u),
         Outcome::Parallel => {
             let dest = own_entry(u, view.names.outcome)?;
-            set(Out::Field(dest), v, u)
+            set(Operand::Field(dest), v, u)
         }
     }
 }

@@ -1,7 +1,7 @@
 //! The variables of a block.
 
-ghost use Rattle.std.specs.Prelude.{◌≡◌, ◌||◌, ◌==◌, is_none, IfOk, OnOk};
-ghost use Rattle.lower_base.specs.Drafts.{Makes, draft};
+ghost use Rattle.std.specs.Prelude.{◌≡◌, IfOk, OnOk};
+ghost use Rattle.lower_base.specs.Drafts.{Makes, draft, out_of};
 ghost use Rattle.lower_base.specs.Layouts.{layout};
 ghost use Rattle.lower_stmt.specs.Variables.{all_cleared, all_initialised, cleared, cleared_fields, declared, initial_put, initialised, variable_of, with_home};
 
@@ -9,8 +9,8 @@ use cstar_base::Memory;
 use cstar_tree::typed::{LocalVar, TExpr, VarInfo, Variable};
 use lower_base::emit::{entry, plus, put};
 use lower_base::names::{count, entries_of};
-use lower_base::{Out, View};
-use lower_expr::effects::{move_to, put_to};
+use lower_base::{Operand, View};
+use lower_expr::effects::{narrow_to, put_to};
 use paris_code::{Instr, Owner, Unit};
 
 /// The variables of a block, from a number on: all become zero, and then the initialisers run in
@@ -59,45 +59,36 @@ fn initialise(view: &View, local: &LocalVar, number: u32, u: &mut Unit) -> Resul
         None => Ok(()),
         Some(e) => {
             let dest = variable(view, &local.info, number, u)?;
-            put_initial(view, &local.info, dest, e, u)?;
-            Ok(())
+            put_initial(view, &local.info, dest, e, u)
         }
     }
 }
 
-/// A value becomes that of a variable: written there, or moved to a parallel one of a narrow type.
+/// A value becomes that of a variable.
 #[tactic(auto, unfolding(crate::specs::Variables::initial_put))]
 fn put_initial(
     view: &View,
     info: &VarInfo,
-    dest: Out,
+    dest: Operand,
     e: &TExpr,
     u: &mut Unit,
-) -> Result<Out, Memory>
-    ensures draft { IfOk result (λ out. initial_put view.now.typed.now (layout view.now.names) info.now dest e.now (draft u.old) ≡ Makes out (draft u.new)) }
+) -> Result<(), Memory>
+    ensures draft { OnOk result (initial_put view.now.typed.now (layout view.now.names) info.now (out_of dest) e.now (draft u.old) ≡ Makes (out_of dest) (draft u.new)) }
 {
-    if is_written(info) {
-        put_to(view, dest, e, u)
-    } else {
-        move_to(view, dest, e, u)
+    match dest {
+        Operand::Field(field) if info.elem.bits != 32 => narrow_to(view, field, e, u),
+        Operand::Register(_) | Operand::Field(_) => put_to(view, dest, e, u),
     }
-}
-
-/// Whether a value is written into the variable itself: a scalar one, or a parallel one of 32 bits.
-pub fn is_written(info: &VarInfo) -> bool
-    ensures { result ≡ (is_none info.now.shape || info.now.elem.bits == 32) }
-{
-    info.shape.is_none() || info.elem.bits == 32
 }
 
 /// Where a variable of a block is.
 #[tactic(auto, unfolding(crate::specs::Variables::variable_of, lower_base::specs::Drafts::then_make))]
-fn variable(view: &View, info: &VarInfo, number: u32, u: &mut Unit) -> Result<Out, Memory>
-    ensures draft { IfOk result (λ out. variable_of view.now.typed.now (layout view.now.names) info.now number (draft u.old) ≡ Makes out (draft u.new)) }
+fn variable(view: &View, info: &VarInfo, number: u32, u: &mut Unit) -> Result<Operand, Memory>
+    ensures draft { IfOk result (λ dest. variable_of view.now.typed.now (layout view.now.names) info.now number (draft u.old) ≡ Makes (out_of dest) (draft u.new)) }
 {
     match info.shape {
-        None => Ok(Out::Scalar(view.register(Variable::Local(number))?)),
-        Some(_) => Ok(Out::Field(view.field(Variable::Local(number), 0, u)?)),
+        None => Ok(Operand::Register(view.register(Variable::Local(number))?)),
+        Some(_) => Ok(Operand::Field(view.field(Variable::Local(number), 0, u)?)),
     }
 }
 

@@ -1,7 +1,7 @@
 use Rattle.std.proofs.Common.{arith}
 use Rattle.std.proofs.lemmas.Grind.{common_steps}
 use Rattle.lower_base.specs.Layouts.{layout}
-use Rattle.lower_expr.proofs.Lists.{length_of_call, length_of_left_index, length_of_printf, spot_length_of_left_index}
+use Rattle.lower_expr.proofs.Lists.{length_of_and, length_of_or, length_of_call, length_of_left_index, length_of_printf, spot_length_of_left_index}
 use Rattle.lower_expr.proofs.length.+length.Goals as goal
 
 pub length-returns-in_ok-located-in-LeftIndex : goal.length-returns-in_ok-located-in-LeftIndex
@@ -30,4 +30,18 @@ spot_length-returns-in-LeftIndex t c =
     let index = c.in-LeftIndex in
     let code = spot_length_of_left_index c.args.view.now.typed.now (layout c.args.view.now.names) index.ty index.place index.indexes index.variable index.of in
     let is = index.is in
+    grind (arith, common_steps, code, is)
+
+pub length-returns-in-LogicalOr : goal.length-returns-in-LogicalOr
+length-returns-in-LogicalOr t c =
+    let operands = c.in-LogicalOr in
+    let code = length_of_or c.args.view.now.typed.now (layout c.args.view.now.names) operands.ty operands.left operands.right in
+    let is = operands.is in
+    grind (arith, common_steps, code, is)
+
+pub length-returns-in-LogicalAnd : goal.length-returns-in-LogicalAnd
+length-returns-in-LogicalAnd t c =
+    let operands = c.in-LogicalAnd in
+    let code = length_of_and c.args.view.now.typed.now (layout c.args.view.now.names) operands.ty operands.left operands.right in
+    let is = operands.is in
     grind (arith, common_steps, code, is)

@@ -14,11 +14,11 @@ invariant-values-loop-e l =
 abbrev pub decreases-locate : goal.decreases-locate
 decreases-locate l = 16 * size-TExpr l.e.now
 
-abbrev pub decreases-read : goal.decreases-read
-decreases-read l = 16 * size-TExpr l.e.now + 1
+abbrev pub decreases-read_to : goal.decreases-read_to
+decreases-read_to l = 16 * size-TExpr l.e.now + 1
 
-abbrev pub decreases-read_indexed : goal.decreases-read_indexed
-decreases-read_indexed l = 16 * size-TExpr l.e.now + 2
+abbrev pub decreases-read_indexed_to : goal.decreases-read_indexed_to
+decreases-read_indexed_to l = 16 * size-TExpr l.e.now + 2
 
 abbrev pub decreases-value : goal.decreases-value
 decreases-value l = 16 * size-TExpr l.e.now + 3
@@ -71,8 +71,8 @@ decreases-values l = 16 * goal.size-values l + 7
 abbrev pub decreases-locate_indexed : goal.decreases-locate_indexed
 decreases-locate_indexed l = 16 * goal.size-locate_indexed l + 8
 
-abbrev pub decreases-call : goal.decreases-call
-decreases-call l = 16 * goal.size-call l + 8
+abbrev pub decreases-call_to : goal.decreases-call_to
+decreases-call_to l = 16 * goal.size-call_to l + 8
 
 abbrev pub decreases-print : goal.decreases-print
 decreases-print l = 16 * goal.size-print l + 8
@@ -86,5 +86,23 @@ decreases-assign l = 16 * max (size-TExpr l.assignment.now.target.now) (size-TEx
 abbrev pub decreases-step : goal.decreases-step
 decreases-step l = 16 * size-TExpr l.target.now + 7
 
-abbrev pub decreases-message : goal.decreases-message
-decreases-message l = 16 * size-TExpr l.source.now + 7
+abbrev pub decreases-message_to : goal.decreases-message_to
+decreases-message_to l = 16 * size-TExpr l.source.now + 7
+
+abbrev pub decreases-arm : goal.decreases-arm
+decreases-arm l = 16 * size-TExpr l.e.now + 5
+
+abbrev pub decreases-test : goal.decreases-test
+decreases-test l = 16 * size-TExpr l.e.now + 5
+
+abbrev pub decreases-test_truth : goal.decreases-test_truth
+decreases-test_truth l = 16 * size-TExpr l.e.now + 4
+
+abbrev pub decreases-test_relation : goal.decreases-test_relation
+decreases-test_relation l = 16 * max (size-TExpr l.binary.now.left.now) (size-TExpr l.binary.now.right.now) + 7
+
+abbrev pub decreases-jump_or_test : goal.decreases-jump_or_test
+decreases-jump_or_test l = 16 * max (size-TExpr l.left.now) (size-TExpr l.right.now) + 6
+
+abbrev pub decreases-narrow_twice : goal.decreases-narrow_twice
+decreases-narrow_twice l = 16 * max (size-TExpr l.left.now) (size-TExpr l.right.now) + 6

@@ -1,4 +1,5 @@
-use Rattle.std.proofs.Common.{◌≡◌, ◌∙◌, ◌+◌, ◌<◌, ◌==◌, drop, length, ap, sym, arith}
+use Rattle.std.proofs.Common.{◌≡◌, ℕ, ◌∙◌, ◌+◌, ◌<◌, ◌==◌, drop, length, Vec, ap, sym, arith}
+use Rattle.std.specs.declared.alloc.Global.{Global}
 use Rattle.std.proofs.lemmas.Grind.{common_steps}
 use Rattle.std.proofs.lemmas.List.{at_drop_more}
 use Rattle.cstar_tree.specs.declared.typed.Typed.{Typed}
@@ -14,7 +15,7 @@ loop-number-init c =
     let same : layout c.in_ok-view.view.names ≡ layout_of c.args.t.now 0 = c.in_ok-view.ensures.names in
     let end : c.in_ok-view.view.names.end ≡ (layout_of c.args.t.now 0).end = ap (λ (l : Layout). l.end) same in
     let none = c.new-units.ensures.items in
-    record { known = (0, same); program = c.in_ok-view.ensures.typed; units = grind (arith, common_steps, end, none); each = grind (arith, common_steps, none); slots = grind (arith, common_steps, end, none); instructions = grind (arith, common_steps, none); numbered = omega arith }
+    record { known = (0, same); program = c.in_ok-view.ensures.typed; bases = c.in_ok-view.ensures.each_instance; units = grind (arith, common_steps, end, none); each = grind (arith, common_steps, none); slots = grind (arith, common_steps, end, none); instructions = grind (arith, common_steps, none); numbered = omega arith }
 
 pub loop-number-preserved : goal.loop-number-preserved
 loop-number-preserved c =
@@ -49,6 +50,7 @@ loop-number-preserved c =
     record {
       known = (c.loop-number.number, seen);
       program = program;
+      bases = ap (λ (v : Vec ℕ Global). length v.items) c.enter.ensures.each_instance ∙ c.loop-number.invariant.bases;
       units = cc (more, first, pushed, items, item, so_far);
       each = grind (arith, common_steps, items, c.loop-number.invariant.each);
       slots = cc (slots, items);

@@ -11,6 +11,7 @@ abbrev pub invariant-loop-number : goal.invariant-loop-number
 invariant-loop-number l = record {
   known : (k : ℕ) × (layout l.view.names ≡ layout_of l.t k);
   program : l.view.typed.now ≡ l.t;
+  bases : length l.view.names.bases.items ≡ length l.t.instances.items;
   units :
       map draft l.units.items ++ units_of l.t (drop l.number l.t.instances.items) l.number l.slots
       ≡ units_of l.t l.t.instances.items 0 (layout_of l.t 0).end;
