@@ -1,8 +1,9 @@
+pub mod Behind
 pub mod Casting
+pub mod ExpressionNodes
 pub mod Fitting
 pub mod Grammar
 pub mod Operands
-pub mod PrimaryNodes
 pub mod Sizes
 pub mod StatementFitting
 pub mod StatementNodes

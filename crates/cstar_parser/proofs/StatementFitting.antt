@@ -62,28 +62,20 @@ fit_each_none f low = fit_none low
 
 -- ---- the number of a statement, from those of its parts
 
-block_is : (block : Block) {s : Stmt} → s ≡ S.Block block → (number : Expr → ℕ) (own : ℕ) → in_statement number own s ≡ own + in_block number own block
+pub block_is : (block : Block) {s : Stmt} → s ≡ S.Block block → (number : Expr → ℕ) (own : ℕ) → in_statement number own s ≡ own + in_block number own block
 block_is block is number own =
     ap (in_statement number own) is
     ∙ ap (in_statement number own) (sym (rolled.rolls-Block block))
     ∙ fold-roll-Stmt ℕ ℕ (statement_step number own) (block_step number) (Stmt-F.Block block)
     ∙ ap (λ n. own + n) (fold_out-Block ℕ ℕ (statement_step number own) (block_step number) block)
 
-expression_is : {p : Place} {e : Expr} {s : Stmt} → s ≡ S.Expression p e → (number : Expr → ℕ) (own : ℕ) → in_statement number own s ≡ own + max (among number (e ∷ [])) (0)
+pub expression_is : {p : Place} {e : Expr} {s : Stmt} → s ≡ S.Expression p e → (number : Expr → ℕ) (own : ℕ) → in_statement number own s ≡ own + max (among number (e ∷ [])) (0)
 unfolding greatest
 expression_is {p = p} {e = e} is number own = ap (in_statement number own) is ∙ ap (in_statement number own) (sym (rolled.rolls-Expression p e)) ∙ fold-roll-Stmt ℕ ℕ (statement_step number own) (block_step number) (Stmt-F.Expression p e) ∙ omega arith
 
-pub expression_fits : {p : Place} {e : Expr} {s : Stmt} {around : ℕ} → s ≡ S.Expression p e → FitWhole around (e ∷ []) → FitsStatement around s
-expression_fits is t =
-    let t1 = t.deep in let t2 = t.few in
-    record { deep = omega (arith, expression_is is levels_in 1); few = omega (arith, expression_is is operators_in 0) }
-
-empty_is : {p : Place} {s : Stmt} → s ≡ S.Empty p → (number : Expr → ℕ) (own : ℕ) → in_statement number own s ≡ own + max (0) (0)
+pub empty_is : {p : Place} {s : Stmt} → s ≡ S.Empty p → (number : Expr → ℕ) (own : ℕ) → in_statement number own s ≡ own + max (0) (0)
 unfolding greatest
 empty_is {p = p} is number own = ap (in_statement number own) is ∙ ap (in_statement number own) (sym (rolled.rolls-Empty p)) ∙ fold-roll-Stmt ℕ ℕ (statement_step number own) (block_step number) (Stmt-F.Empty p) ∙ omega arith
-
-pub empty_fits : {p : Place} {s : Stmt} {around : ℕ} → s ≡ S.Empty p → around ≤ 100 → FitsStatement around s
-empty_fits is low = record { deep = omega (arith, empty_is is levels_in 1); few = omega (arith, empty_is is operators_in 0) }
 
 if_alone_is : {p : Place} {e : Expr} {then : Box Stmt Global} {s : Stmt} → s ≡ S.If p e then None → (number : Expr → ℕ) (own : ℕ) → in_statement number own s ≡ own + max (among number (e ∷ [])) (in_statement number own then.value)
 unfolding greatest
@@ -121,23 +113,13 @@ where_else_fits is t x y =
     let t1 = t.deep in let t2 = t.few in let x1 = x.deep in let x2 = x.few in let y1 = y.deep in let y2 = y.few in
     record { deep = omega (arith, where_else_is is levels_in 1); few = omega (arith, where_else_is is operators_in 0) }
 
-while_is : {p : Place} {e : Expr} {body : Box Stmt Global} {s : Stmt} → s ≡ S.While p e body → (number : Expr → ℕ) (own : ℕ) → in_statement number own s ≡ own + max (among number (e ∷ [])) (in_statement number own body.value)
+pub while_is : {p : Place} {e : Expr} {body : Box Stmt Global} {s : Stmt} → s ≡ S.While p e body → (number : Expr → ℕ) (own : ℕ) → in_statement number own s ≡ own + max (among number (e ∷ [])) (in_statement number own body.value)
 unfolding greatest
 while_is {p = p} {e = e} {body = body} is number own = ap (in_statement number own) is ∙ ap (in_statement number own) (sym (rolled.rolls-While p e body)) ∙ fold-roll-Stmt ℕ ℕ (statement_step number own) (block_step number) (Stmt-F.While p e body) ∙ omega arith
 
-pub while_fits : {p : Place} {e : Expr} {body : Box Stmt Global} {s : Stmt} {around : ℕ} → s ≡ S.While p e body → FitWhole around (e ∷ []) → FitsStatement (around + 1) body.value → FitsStatement around s
-while_fits is t x =
-    let t1 = t.deep in let t2 = t.few in let x1 = x.deep in let x2 = x.few in
-    record { deep = omega (arith, while_is is levels_in 1); few = omega (arith, while_is is operators_in 0) }
-
-do_is : {p : Place} {body : Box Stmt Global} {e : Expr} {s : Stmt} → s ≡ S.Do p body e → (number : Expr → ℕ) (own : ℕ) → in_statement number own s ≡ own + max (among number (e ∷ [])) (in_statement number own body.value)
+pub do_is : {p : Place} {body : Box Stmt Global} {e : Expr} {s : Stmt} → s ≡ S.Do p body e → (number : Expr → ℕ) (own : ℕ) → in_statement number own s ≡ own + max (among number (e ∷ [])) (in_statement number own body.value)
 unfolding greatest
 do_is {p = p} {body = body} {e = e} is number own = ap (in_statement number own) is ∙ ap (in_statement number own) (sym (rolled.rolls-Do p body e)) ∙ fold-roll-Stmt ℕ ℕ (statement_step number own) (block_step number) (Stmt-F.Do p body e) ∙ omega arith
-
-pub do_fits : {p : Place} {body : Box Stmt Global} {e : Expr} {s : Stmt} {around : ℕ} → s ≡ S.Do p body e → FitWhole around (e ∷ []) → FitsStatement (around + 1) body.value → FitsStatement around s
-do_fits is t x =
-    let t1 = t.deep in let t2 = t.few in let x1 = x.deep in let x2 = x.few in
-    record { deep = omega (arith, do_is is levels_in 1); few = omega (arith, do_is is operators_in 0) }
 
 for_is : {p : Place} {first : Option Expr} {test : Option Expr} {step : Option Expr} {body : Box Stmt Global} {s : Stmt} → s ≡ S.For p first test step body → (number : Expr → ℕ) (own : ℕ) → in_statement number own s ≡ own + max (among number (optional first ++ optional test ++ optional step)) (in_statement number own body.value)
 unfolding greatest
@@ -148,46 +130,25 @@ for_fits is t x =
     let t1 = t.deep in let t2 = t.few in let x1 = x.deep in let x2 = x.few in
     record { deep = omega (arith, for_is is levels_in 1); few = omega (arith, for_is is operators_in 0) }
 
-break_is : {p : Place} {s : Stmt} → s ≡ S.Break p → (number : Expr → ℕ) (own : ℕ) → in_statement number own s ≡ own + max (0) (0)
+pub break_is : {p : Place} {s : Stmt} → s ≡ S.Break p → (number : Expr → ℕ) (own : ℕ) → in_statement number own s ≡ own + max (0) (0)
 unfolding greatest
 break_is {p = p} is number own = ap (in_statement number own) is ∙ ap (in_statement number own) (sym (rolled.rolls-Break p)) ∙ fold-roll-Stmt ℕ ℕ (statement_step number own) (block_step number) (Stmt-F.Break p) ∙ omega arith
 
-pub break_fits : {p : Place} {s : Stmt} {around : ℕ} → s ≡ S.Break p → around ≤ 100 → FitsStatement around s
-break_fits is low = record { deep = omega (arith, break_is is levels_in 1); few = omega (arith, break_is is operators_in 0) }
-
-continue_is : {p : Place} {s : Stmt} → s ≡ S.Continue p → (number : Expr → ℕ) (own : ℕ) → in_statement number own s ≡ own + max (0) (0)
+pub continue_is : {p : Place} {s : Stmt} → s ≡ S.Continue p → (number : Expr → ℕ) (own : ℕ) → in_statement number own s ≡ own + max (0) (0)
 unfolding greatest
 continue_is {p = p} is number own = ap (in_statement number own) is ∙ ap (in_statement number own) (sym (rolled.rolls-Continue p)) ∙ fold-roll-Stmt ℕ ℕ (statement_step number own) (block_step number) (Stmt-F.Continue p) ∙ omega arith
 
-pub continue_fits : {p : Place} {s : Stmt} {around : ℕ} → s ≡ S.Continue p → around ≤ 100 → FitsStatement around s
-continue_fits is low = record { deep = omega (arith, continue_is is levels_in 1); few = omega (arith, continue_is is operators_in 0) }
-
-return_is : {p : Place} {value : Option Expr} {s : Stmt} → s ≡ S.Return p value → (number : Expr → ℕ) (own : ℕ) → in_statement number own s ≡ own + max (among number (optional value)) (0)
+pub return_is : {p : Place} {value : Option Expr} {s : Stmt} → s ≡ S.Return p value → (number : Expr → ℕ) (own : ℕ) → in_statement number own s ≡ own + max (among number (optional value)) (0)
 unfolding greatest
 return_is {p = p} {value = value} is number own = ap (in_statement number own) is ∙ ap (in_statement number own) (sym (rolled.rolls-Return p value)) ∙ fold-roll-Stmt ℕ ℕ (statement_step number own) (block_step number) (Stmt-F.Return p value) ∙ omega arith
 
-pub return_fits : {p : Place} {value : Option Expr} {s : Stmt} {around : ℕ} → s ≡ S.Return p value → FitWhole around (optional value) → FitsStatement around s
-return_fits is t =
-    let t1 = t.deep in let t2 = t.few in
-    record { deep = omega (arith, return_is is levels_in 1); few = omega (arith, return_is is operators_in 0) }
-
-with_is : {p : Place} {shape : ShapeRef} {body : Box Stmt Global} {s : Stmt} → s ≡ S.With p shape body → (number : Expr → ℕ) (own : ℕ) → in_statement number own s ≡ own + max (0) (in_statement number own body.value)
+pub with_is : {p : Place} {shape : ShapeRef} {body : Box Stmt Global} {s : Stmt} → s ≡ S.With p shape body → (number : Expr → ℕ) (own : ℕ) → in_statement number own s ≡ own + max (0) (in_statement number own body.value)
 unfolding greatest
 with_is {p = p} {shape = shape} {body = body} is number own = ap (in_statement number own) is ∙ ap (in_statement number own) (sym (rolled.rolls-With p shape body)) ∙ fold-roll-Stmt ℕ ℕ (statement_step number own) (block_step number) (Stmt-F.With p shape body) ∙ omega arith
 
-pub with_fits : {p : Place} {shape : ShapeRef} {body : Box Stmt Global} {s : Stmt} {around : ℕ} → s ≡ S.With p shape body → FitsStatement (around + 1) body.value → FitsStatement around s
-with_fits is x =
-    let x1 = x.deep in let x2 = x.few in
-    record { deep = omega (arith, with_is is levels_in 1); few = omega (arith, with_is is operators_in 0) }
-
-everywhere_is : {p : Place} {body : Box Stmt Global} {s : Stmt} → s ≡ S.Everywhere p body → (number : Expr → ℕ) (own : ℕ) → in_statement number own s ≡ own + max (0) (in_statement number own body.value)
+pub everywhere_is : {p : Place} {body : Box Stmt Global} {s : Stmt} → s ≡ S.Everywhere p body → (number : Expr → ℕ) (own : ℕ) → in_statement number own s ≡ own + max (0) (in_statement number own body.value)
 unfolding greatest
 everywhere_is {p = p} {body = body} is number own = ap (in_statement number own) is ∙ ap (in_statement number own) (sym (rolled.rolls-Everywhere p body)) ∙ fold-roll-Stmt ℕ ℕ (statement_step number own) (block_step number) (Stmt-F.Everywhere p body) ∙ omega arith
-
-pub everywhere_fits : {p : Place} {body : Box Stmt Global} {s : Stmt} {around : ℕ} → s ≡ S.Everywhere p body → FitsStatement (around + 1) body.value → FitsStatement around s
-everywhere_fits is x =
-    let x1 = x.deep in let x2 = x.few in
-    record { deep = omega (arith, everywhere_is is levels_in 1); few = omega (arith, everywhere_is is operators_in 0) }
 
 -- ---- heads with what stands under them
 
@@ -212,12 +173,6 @@ pub loop_fits : {around : ℕ} (head : ForHead) {body : Box Stmt Global} {s : St
 loop_fits head is t x = for_fits is t x
 
 -- ---- blocks
-
-pub block_fits : {around : ℕ} (block : Block) {s : Stmt} → s ≡ S.Block block → FitsBlock around block → FitsStatement around s
-block_fits block is b =
-    let b1 = b.deep in
-    let b2 = b.few in
-    record { deep = omega (arith, block_is block is levels_in 1); few = omega (arith, block_is block is operators_in 0) }
 
 pub no_statements : {around : ℕ} → around ≤ 100 → FitStatements around []
 unfolding greatest
