@@ -24,6 +24,7 @@ use bit_planes::Block;
 use block_store::{BlockSet, Cell, Room, SetPlan, Store};
 use cstar_io::Gate;
 use news_grid::{News, Step, Taking, hold, step_block};
+use paris_code::Field;
 use std::thread;
 use std::thread::Threads;
 
@@ -62,6 +63,22 @@ impl Pass<'_> {
     }
 }
 
+/// From how many planes on, in all blocks, several workers hold a field sooner than one: below, their
+/// threads take longer to start.
+const MANY_PLANES: usize = 1 << 14;
+
+/// By how many workers, of those of the pass, a field of so many blocks is held.
+fn workers_to_hold(blocks: usize, field: Field, workers: u32) -> u32
+    requires { 1 ≤ workers }
+    ensures { (1 ≤ result) × (result ≤ workers) }
+{
+    if blocks.saturating_mul(usize::from(field.len)) < MANY_PLANES {
+        1
+    } else {
+        workers
+    }
+}
+
 /// Holds the field from which the shifts of the batch take, if one waits.
 fn hold_source<R: Threads + Sync>(
     rt: &R,
@@ -79,6 +96,7 @@ fn hold_source<R: Threads + Sync>(
     let Some(source) = batch.source() else {
         return;
     };
+    let workers = workers_to_hold(set.blocks.len(), source, workers);
     hold(rt, set, room, source, workers);
 }
 

@@ -204,18 +204,39 @@ lanes_between a b i below early late both is_below is_early is_late is_both =
     is_both ∙ ap (λ n. min n (bit late i)) is_below ∙ ap (min (cond (ltb i a) 1 0)) (is_late ∙ ap (λ n. 1 - n) is_early)
 
 -- the same of planes
-pub first_lanes_cross : (k turn ahead i : ℕ) (this next all : List ℕ) → ahead < turn → let past : ℕ = k * 512 % turn in let last : ℕ = turn - ahead in
+pub first_lanes_cross : (past turn ahead i : ℕ) (this next all : List ℕ) → past < turn → ahead < turn → let last : ℕ = turn - ahead in
     bit this i ≡ min (cond (ltb i (turn - past)) 1 0) (1 - cond (ltb i (last - past)) 1 0) → bit next i ≡ min (cond (ltb i turn) 1 0) (1 - cond (ltb i (turn - past + last)) 1 0) → bit all i ≡ max (bit this i) (bit next i)
-    → (i < turn → bit all i ≡ cond (ltb ((512 * k + i) % turn + ahead) turn) 0 1) × (turn ≤ i → bit all i ≡ 0)
-first_lanes_cross k turn ahead i this next all short is_this is_next is_all =
-    let from : k * 512 ≡ 512 * k = omega arith in
-    first_turn (512 * k) turn ahead i (bit this i) (bit next i) (bit all i) short
-    (is_this ∙ ap (λ f. min (cond (ltb i (turn - f % turn)) 1 0) (1 - cond (ltb i (turn - ahead - f % turn)) 1 0)) from)
-    (is_next ∙ ap (λ f. min (cond (ltb i turn) 1 0) (1 - cond (ltb i (turn - f % turn + (turn - ahead))) 1 0)) from) is_all
+    → (i < turn → bit all i ≡ cond (ltb ((past + i) % turn + ahead) turn) 0 1) × (turn ≤ i → bit all i ≡ 0)
+first_lanes_cross past turn ahead i this next all within short is_this is_next is_all =
+    let own : past ≡ past % turn = sym (mod-eq_of_lt within) in
+    first_turn past turn ahead i (bit this i) (bit next i) (bit all i) short
+    (is_this ∙ ap (λ f. min (cond (ltb i (turn - f)) 1 0) (1 - cond (ltb i (turn - ahead - f)) 1 0)) own)
+    (is_next ∙ ap (λ f. min (cond (ltb i turn) 1 0) (1 - cond (ltb i (turn - f + (turn - ahead))) 1 0)) own) is_all
 
 -- the other turns repeat it
 pub turns_alike : (from turn ahead i : ℕ) → ◌≡◌ {A = ℕ} (cond (ltb ((from + i % turn) % turn + ahead) turn) 0 1) (cond (ltb ((from + i) % turn + ahead) turn) 0 1)
 turns_alike from turn ahead i = ap (λ n. cond (ltb (n + ahead) turn) 0 1) (add-mod-mod from i turn)
+
+-- ---- a block in its turn
+
+-- it begins so far past the start of its turn
+pub from_its_start : (k turn ahead i : ℕ) → ◌≡◌ {A = ℕ} (cond (ltb ((k * 512 % turn + i) % turn + ahead) turn) 0 1) (cond (ltb ((512 * k + i) % turn + ahead) turn) 0 1)
+from_its_start k turn ahead i =
+    ap (λ n. cond (ltb (n + ahead) turn) 0 1)
+    (ap (λ n. n % turn) (let q : k * 512 % turn + i ≡ i + k * 512 % turn = omega arith in q) ∙ add-mod-mod i (k * 512) turn ∙ ap (λ n. n % turn) (let q : i + k * 512 ≡ 512 * k + i = omega arith in q))
+
+module _ (k turn ahead i : ℕ) (inside : i < 512) (whole : k * 512 % turn + 512 ≤ turn) where
+  own_place : (512 * k + i) % turn ≡ k * 512 % turn + i
+  own_place =
+      ap (λ n. n % turn) (let q : 512 * k + i ≡ i + k * 512 = omega arith in q) ∙ sym (add-mod-mod i (k * 512) turn)
+      ∙ mod-eq_of_lt (let q : i + k * 512 % turn < turn = omega (arith, inside, whole) in q) ∙ (let q : i + k * 512 % turn ≡ k * 512 % turn + i = omega arith in q)
+
+  -- the whole block stays in its turn, or leaves it
+  pub none_crosses : k * 512 % turn + 512 + ahead ≤ turn → ◌≡◌ {A = ℕ} 0 (cond (ltb ((512 * k + i) % turn + ahead) turn) 0 1)
+  none_crosses room = less ((512 * k + i) % turn + ahead) turn 0 1 (omega (arith, own_place, inside, room))
+
+  pub all_cross : turn ≤ k * 512 % turn + ahead → ◌≡◌ {A = ℕ} 1 (cond (ltb ((512 * k + i) % turn + ahead) turn) 0 1)
+  all_cross past = not_less ((512 * k + i) % turn + ahead) turn 0 1 (omega (arith, own_place, past))
 
 -- the first lanes are known, and 0 stands behind them
 pub record Known (first : List ℕ) (count known : ℕ) (lanes : List ℕ) : Type 0 where

@@ -7,7 +7,7 @@ ghost use Rattle.news_grid.specs.Steps.{Leads, Views};
 
 use crate::window::{Window, lanes_beside};
 use bit_planes::Plane;
-use bit_planes::plane::{both, either, first_lanes, opposite};
+use bit_planes::plane::{both, either, first_lanes, opposite, repeated};
 use std::simd::prelude::*;
 use vp_sets::{BLOCK_SIZE, Geometry};
 
@@ -38,6 +38,21 @@ impl Step {
         ensures { (i : ℕ) → i < 512 → bit result i ≡ (if nat_lt ((512 * k + i) % self.turn + self.ahead) self.turn then 0 else 1) }
     {
         let past = k * BLOCK_SIZE % self.turn;
+        if past + BLOCK_SIZE + self.ahead <= self.turn {
+            return repeated(false);
+        }
+        if past + BLOCK_SIZE <= self.turn && self.turn <= past + self.ahead {
+            return repeated(true);
+        }
+        self.lanes_crossing(past)
+    }
+
+    /// The same of a block whose first lane is so many positions past the start of its turn.
+    fn lanes_crossing(self, past: u32) -> u64x8
+        requires step { (self.ahead < self.turn) × (self.turn < 2 ^ 30) }
+        requires past { past < self.turn }
+        ensures { (i : ℕ) → i < 512 → bit result i ≡ (if nat_lt ((past + i) % self.turn + self.ahead) self.turn then 0 else 1) }
+    {
         let rest = self.turn - past;
         let last = self.turn - self.ahead;
         let in_this = both(

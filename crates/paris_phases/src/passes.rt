@@ -12,10 +12,14 @@ use phase_elements::checked_set;
 
 // How long a block keeps one worker, in nanoseconds.
 
+/// An instruction, beside its planes: what it is, and in which lanes it writes.
+const INSTRUCTION_NS: u32 = 16;
 /// A bit of each position, a plane at a time.
-const PLANE_NS: u32 = 8;
-/// The same from a neighbour, a window of lanes at a time; its source is held first.
-const NEWS_NS: u32 = 20;
+const PLANE_NS: u32 = 6;
+/// A NEWS shift, beside its planes: from where each lane takes.
+const SHIFT_NS: u32 = 100;
+/// A bit of each position from a neighbour, a window of lanes at a time; its source is held first.
+const NEWS_NS: u32 = 13;
 /// A product of each position: both numbers are lifted, and the product is put back.
 const PRODUCT_NS: u32 = 1_400;
 /// A number of each position, one after the other.
@@ -47,7 +51,7 @@ struct Pass {
 
 /// The same for so many planes of a set.
 fn planes(set: u16, count: u8) -> Pass {
-    lanes(set, PLANE_NS * u32::from(count))
+    lanes(set, INSTRUCTION_NS + PLANE_NS * u32::from(count))
 }
 
 /// The same for a block that takes so long.
@@ -156,7 +160,7 @@ fn pass_of(instr: &Instr) -> Option<Pass> {
             lanes(checked_set(instr), CHECK_NS)
         }
         Instr::GetFromNews { dest, .. } | Instr::GetFromNewsAlways { dest, .. } => {
-            lanes(dest.set, NEWS_NS * u32::from(dest.len))
+            lanes(dest.set, SHIFT_NS + NEWS_NS * u32::from(dest.len))
         }
         Instr::Get { dest, .. } => lanes(dest.set, FETCH_NS),
         Instr::Global {

@@ -134,52 +134,61 @@ sum_groups f (suc n) =
 
 -- ---- sums within 32 lanes
 
--- the rows before one have taken their sums, and the total of each 32 lanes is that before it
-pub record Summing (old : List Plane) (inclusion : Inclusion) (row : ℕ) (rows : List Plane) (total : List ℕ) : Type 0 where
+own_number : (old : List Plane) (row i : ℕ) → row < 32 → half (plane_at old row) i ≡ held old (row_start i + row)
+own_number old row i small =
+    half_same (plane_at old row) i (row_start i + row) (omega (arith, small))
+    ∙ ap (λ r. half (plane_at old r) (row_start i + row)) (let e : row ≡ (row_start i + row) % 32 = omega (arith, small) in e)
+
+-- a sum with one row more
+pub next_total : (old : List Plane) (base row i total next : ℕ) → row < 32 → next ≡ (total + half (plane_at old row) i) % 2 ^ 32 → total ≡ (base + sum_from (held old) (row_start i) row) % 2 ^ 32
+    → next ≡ (base + sum_from (held old) (row_start i) (row + 1)) % 2 ^ 32
+next_total old base row i total next small is so_far =
+    let s : ℕ = sum_from (held old) (row_start i) row in
+    is ∙ ap (λ n. (n + half (plane_at old row) i) % 2 ^ 32) so_far ∙ ap (λ n. ((base + s) % 2 ^ 32 + n) % 2 ^ 32) (own_number old row i small)
+    ∙ (let e : ((base + s) % 2 ^ 32 + held old (row_start i + row)) % 2 ^ 32 ≡ (base + (s + held old (row_start i + row))) % 2 ^ 32 = omega arith in e)
+    ∙ ap (λ n. (base + sum_from (held old) (row_start i) n) % 2 ^ 32) (let e : suc row ≡ row + 1 = omega arith in e)
+
+-- the totals of the rows before one
+abbrev pub Totalled : List Plane → ℕ → List ℕ → Type 0
+Totalled rows row total = (i : ℕ) → i < 512 → half total i ≡ (0 + sum_from (held rows) (row_start i) row) % 2 ^ 32
+
+-- the rows before one have taken their sums, from what stands before each 32 lanes
+pub record Summing (old : List Plane) (inclusion : Inclusion) (base : List ℕ) (row : ℕ) (rows : List Plane) (total : List ℕ) : Type 0 where
   pub long : length rows ≡ 32
   pub behind : (r : ℕ) → row ≤ r → plane_at rows r ≡ plane_at old r
-  pub done : (i : ℕ) → i < 512 → i % 32 < row → held rows i ≡ sum_from (held old) (row_start i) (i % 32 + owns inclusion) % 2 ^ 32
-  pub totals : (i : ℕ) → i < 512 → half total i ≡ sum_from (held old) (row_start i) row % 2 ^ 32
+  pub done : (i : ℕ) → i < 512 → i % 32 < row → held rows i ≡ (half base i + sum_from (held old) (row_start i) (i % 32 + owns inclusion)) % 2 ^ 32
+  pub totals : (i : ℕ) → i < 512 → half total i ≡ (half base i + sum_from (held old) (row_start i) row) % 2 ^ 32
 
-pub summing_none : (old : List Plane) (inclusion : Inclusion) (total : List ℕ) → length old ≡ 32 → ((i : ℕ) → i < 512 → half total i ≡ 0) → Summing old inclusion 0 old total
-summing_none old _ total long none = record {
+pub summing_none : (old : List Plane) (inclusion : Inclusion) (base : List ℕ) → length old ≡ 32 → Summing old inclusion base 0 old base
+summing_none old _ base long = record {
   long = long;
   behind = λ r h. refl;
   done = λ i ib h. absurd (omega (arith, h));
-  totals = λ i ib. none i ib;
+  totals = λ i ib. omega (arith, half_below base i);
 }
 
-module _ (old : List Plane) (inclusion : Inclusion) (row : ℕ) (rows : List Plane) (total next : List ℕ) (small : row < 32) (before : Summing old inclusion row rows total)
+module _ (old : List Plane) (inclusion : Inclusion) (base : List ℕ) (row : ℕ) (rows : List Plane) (total next : List ℕ) (small : row < 32) (before : Summing old inclusion base row rows total)
     (is : (i : ℕ) → i < 512 → half next i ≡ (half total i + half (plane_at rows row) i) % 2 ^ 32) where
-  own_number : (i : ℕ) → half (plane_at rows row) i ≡ held old (row_start i + row)
-  own_number i =
-      ap (λ p. half p i) (before.behind row (omega arith))
-      ∙ half_same (plane_at old row) i (row_start i + row) (omega (arith, small))
-      ∙ ap (λ r. half (plane_at old r) (row_start i + row)) (let e : row ≡ (row_start i + row) % 32 = omega (arith, small) in e)
+  further : (i : ℕ) → i < 512 → half next i ≡ (half base i + sum_from (held old) (row_start i) (row + 1)) % 2 ^ 32
+  further i ib = next_total old (half base i) row i (half total i) (half next i) small (is i ib ∙ ap (λ p. (half total i + half p i) % 2 ^ 32) (before.behind row (omega arith))) (before.totals i ib)
 
-  pub next_total : (i : ℕ) → i < 512 → half next i ≡ sum_from (held old) (row_start i) (row + 1) % 2 ^ 32
-  next_total i ib =
-      is i ib ∙ ap (λ n. (n + half (plane_at rows row) i) % 2 ^ 32) (before.totals i ib) ∙ ap (λ n. (sum_from (held old) (row_start i) row % 2 ^ 32 + n) % 2 ^ 32) (own_number i)
-      ∙ (let e : (sum_from (held old) (row_start i) row % 2 ^ 32 + held old (row_start i + row)) % 2 ^ 32 ≡ (sum_from (held old) (row_start i) row + held old (row_start i + row)) % 2 ^ 32 = omega arith in e)
-      ∙ ap (λ n. sum_from (held old) (row_start i) n % 2 ^ 32) (let e : suc row ≡ row + 1 = omega arith in e)
-
-  pub own_taken : (i : ℕ) → i < 512 → half (own_of inclusion total next) i ≡ sum_from (held old) (row_start i) (row + owns inclusion) % 2 ^ 32
-  own_taken i ib = elim inclusion as (λ n. half (own_of n total next) i ≡ sum_from (held old) (row_start i) (row + owns n) % 2 ^ 32) [
-    | N.Exclusive ↦ before.totals i ib ∙ ap (λ n. sum_from (held old) (row_start i) n % 2 ^ 32) (let e : row ≡ row + 0 = omega arith in e)
-    | N.Inclusive ↦ next_total i ib
+  own_taken : (i : ℕ) → i < 512 → half (own_of inclusion total next) i ≡ (half base i + sum_from (held old) (row_start i) (row + owns inclusion)) % 2 ^ 32
+  own_taken i ib = elim inclusion as (λ n. half (own_of n total next) i ≡ (half base i + sum_from (held old) (row_start i) (row + owns n)) % 2 ^ 32) [
+    | N.Exclusive ↦ before.totals i ib ∙ ap (λ n. (half base i + sum_from (held old) (row_start i) n) % 2 ^ 32) (let e : row ≡ row + 0 = omega arith in e)
+    | N.Inclusive ↦ further i ib
   ]
 
-  pub summing_more : (taken : List ℕ) → taken ≡ own_of inclusion total next → Summing old inclusion (row + 1) (set rows row (record { bits = taken })) next
+  pub summing_more : (taken : List ℕ) → taken ≡ own_of inclusion total next → Summing old inclusion base (row + 1) (set rows row (record { bits = taken })) next
   summing_more taken at = record {
     long = length-set rows row (record { bits = taken }) ∙ before.long;
     behind = λ r h. plane-set_other rows row r (record { bits = taken }) (λ e. absurd (omega (arith, e, h))) ∙ before.behind r (omega (arith, h));
     done = λ i ib h. elim (cases_eq (i % 32) row) [
       | inl e ↦
           ap (λ r. half (plane_at (set rows row (record { bits = taken })) r) i) e ∙ ap (λ p. half p i) (plane-set_same rows row taken (omega (arith, before.long, small)))
-          ∙ ap (λ p. half p i) at ∙ own_taken i ib ∙ ap (λ r. sum_from (held old) (row_start i) (r + owns inclusion) % 2 ^ 32) (sym e)
+          ∙ ap (λ p. half p i) at ∙ own_taken i ib ∙ ap (λ r. (half base i + sum_from (held old) (row_start i) (r + owns inclusion)) % 2 ^ 32) (sym e)
       | inr n ↦ ap (λ p. half p i) (plane-set_other rows row (i % 32) (record { bits = taken }) n) ∙ before.done i ib (omega (arith, n, h))
     ];
-    totals = next_total;
+    totals = further;
   }
 
 -- ---- the sums before each 32 lanes
@@ -251,42 +260,19 @@ before_all totals start word before sum whole all i ib =
           ∙ ap (before_of totals start) (let z : 2 * w + 1 ≡ i / 32 = omega (arith, e.0) in z)
     ]
 
--- ---- one number added to all of 32 lanes
-
-pub record Adding (old : List Plane) (more : List ℕ) (row : ℕ) (rows : List Plane) : Type 0 where
-  pub long : length rows ≡ 32
-  pub behind : (r : ℕ) → row ≤ r → plane_at rows r ≡ plane_at old r
-  pub done : (i : ℕ) → i < 512 → i % 32 < row → held rows i ≡ (held old i + half more i) % 2 ^ 32
-
-pub adding_none : (old : List Plane) (more : List ℕ) → length old ≡ 32 → Adding old more 0 old
-adding_none old more long = record { long = long; behind = λ r h. refl; done = λ i ib h. absurd (omega (arith, h)) }
-
-pub adding_more : (old : List Plane) (more : List ℕ) (row : ℕ) (rows : List Plane) (sum : List ℕ) → row < 32 → Adding old more row rows
-    → ((i : ℕ) → i < 512 → half sum i ≡ (half (plane_at rows row) i + half more i) % 2 ^ 32) → Adding old more (row + 1) (set rows row (record { bits = sum }))
-adding_more old more row rows sum small before is = record {
-  long = length-set rows row (record { bits = sum }) ∙ before.long;
-  behind = λ r h. plane-set_other rows row r (record { bits = sum }) (λ e. absurd (omega (arith, e, h))) ∙ before.behind r (omega (arith, h));
-  done = λ i ib h. elim (cases_eq (i % 32) row) [
-    | inl e ↦
-        ap (λ r. half (plane_at (set rows row (record { bits = sum })) r) i) e ∙ ap (λ p. half p i) (plane-set_same rows row sum (omega (arith, before.long, small))) ∙ is i ib
-        ∙ ap (λ p. (half p i + half more i) % 2 ^ 32) (before.behind row (omega arith)) ∙ ap (λ r. (half (plane_at old r) i + half more i) % 2 ^ 32) (sym e)
-    | inr n ↦ ap (λ p. half p i) (plane-set_other rows row (i % 32) (record { bits = sum }) n) ∙ before.done i ib (omega (arith, n, h))
-  ];
-}
-
 -- ---- all together
 
-join_sums : (s a b : ℕ) → (a % 2 ^ 32 + (s + b) % 2 ^ 32) % 2 ^ 32 ≡ (s + (b + a)) % 2 ^ 32
+join_sums : (s a b : ℕ) → ((s + b) % 2 ^ 32 + a) % 2 ^ 32 ≡ (s + (b + a)) % 2 ^ 32
 join_sums s a b = omega arith
 
 add_cut : (s a b : ℕ) → a % 2 ^ 32 ≡ b % 2 ^ 32 → (s + a) % 2 ^ 32 ≡ (s + b) % 2 ^ 32
 add_cut s a b e = omega (arith, e)
 
-pub all_summed : (old mid new : List Plane) (inclusion : Inclusion) (totals before : List ℕ) (start : ℕ)
-    → ((i : ℕ) → i < 512 → held mid i ≡ sum_from (held old) (row_start i) (i % 32 + owns inclusion) % 2 ^ 32) → ((i : ℕ) → i < 512 → half totals i ≡ sum_from (held old) (row_start i) 32 % 2 ^ 32)
-    → ((i : ℕ) → i < 512 → half before i ≡ before_of totals start (i / 32)) → ((i : ℕ) → i < 512 → held new i ≡ (held mid i + half before i) % 2 ^ 32)
+pub all_summed : (old new : List Plane) (inclusion : Inclusion) (totals before : List ℕ) (start : ℕ) → ((i : ℕ) → i < 512 → half totals i ≡ sum_from (held old) (row_start i) 32 % 2 ^ 32)
+    → ((i : ℕ) → i < 512 → half before i ≡ before_of totals start (i / 32))
+    → ((i : ℕ) → i < 512 → held new i ≡ (half before i + sum_from (held old) (row_start i) (i % 32 + owns inclusion)) % 2 ^ 32)
     → (i : ℕ) → i < 512 → held new i ≡ (start + sum_from (held old) 0 (i + owns inclusion)) % 2 ^ 32
-all_summed old mid new inclusion totals before start within whole earlier added i ib =
+all_summed old new inclusion totals before start whole earlier added i ib =
     let f : ℕ → ℕ = held old in
     let n : ℕ = i % 32 + owns inclusion in
     let each : sum_from (λ g. half totals (32 * g)) 0 (i / 32) ≡ sum_from (λ g. sum_from f (32 * g) 32 % 2 ^ 32) 0 (i / 32) =
@@ -296,7 +282,7 @@ all_summed old mid new inclusion totals before start within whole earlier added 
     sum_cut (λ g. sum_from f (32 * g) 32) 0 (i / 32) ∙ ap (λ s. s % 2 ^ 32) (sum_groups f (i / 32)) in
     let start_is : before_of totals start (i / 32) ≡ (start + sum_from f 0 (row_start i)) % 2 ^ 32 =
     ap (λ s. (start + s) % 2 ^ 32) each ∙ add_cut start (sum_from (λ g. sum_from f (32 * g) 32 % 2 ^ 32) 0 (i / 32)) (sum_from f 0 (row_start i)) groups in
-    added i ib ∙ ap (λ x. (x + half before i) % 2 ^ 32) (within i ib) ∙ ap (λ x. (sum_from f (row_start i) n % 2 ^ 32 + x) % 2 ^ 32) (earlier i ib ∙ start_is)
+    added i ib ∙ ap (λ x. (x + sum_from f (row_start i) n) % 2 ^ 32) (earlier i ib ∙ start_is)
     ∙ join_sums start (sum_from f (row_start i) n) (sum_from f 0 (row_start i))
     ∙ ap (λ s. (start + s) % 2 ^ 32)
     (ap (λ k. sum_from f 0 (row_start i) + sum_from f k n) (let e : row_start i ≡ 0 + row_start i = omega arith in e) ∙ sym (sum_split f 0 (row_start i) n)

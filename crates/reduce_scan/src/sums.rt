@@ -53,21 +53,14 @@ fn own_of(inclusion: Inclusion, before: u64x8, behind: u64x8) -> u64x8
     }
 }
 
-/// Each number becomes the sum of those of its 32 lanes before it, its own among them or not. The
-/// sums of all 32 are answered.
-fn sum_within(rows: &mut [Plane], inclusion: Inclusion) -> u64x8
-    requires { length rows.old ≡ 32 }
-    ensures long { length rows.new ≡ 32 }
-    ensures numbers { (i : ℕ) → i < 512 → held rows.new i ≡ sum_from (held rows.old) (row_start i) (i % 32 + owns inclusion) % 2 ^ 32 }
-    ensures totals { (i : ℕ) → i < 512 → half result i ≡ sum_from (held rows.old) (row_start i) 32 % 2 ^ 32 }
+/// The sums of the numbers of each 32 lanes, in all of them.
+fn totals(rows: &[Plane]) -> u64x8
+    requires { length rows.now ≡ 32 }
+    ensures { (i : ℕ) → i < 512 → half result i ≡ sum_from (held rows.now) (row_start i) 32 % 2 ^ 32 }
 {
     let mut total = u64x8::splat(0);
     for row in 0..32 {
-        let next = sums(total, rows[row].bits);
-        rows[row] = Plane {
-            bits: own_of(inclusion, total, next),
-        };
-        total = next;
+        total = sums(total, rows[row].bits);
     }
     total
 }
@@ -95,16 +88,20 @@ fn sums_before(totals: u64x8, start: u32) -> u64x8
     u64x8::from_array(before)
 }
 
-/// Adds to each number the one of its 32 lanes.
-fn add_to_all(rows: &mut [Plane], more: u64x8)
+/// Each number becomes the sum of what stands before its 32 lanes and of the numbers before it in
+/// them, its own among them or not.
+fn sum_within(rows: &mut [Plane], inclusion: Inclusion, before: u64x8)
     requires { length rows.old ≡ 32 }
     ensures long { length rows.new ≡ 32 }
-    ensures numbers { (i : ℕ) → i < 512 → held rows.new i ≡ (held rows.old i + half more i) % 2 ^ 32 }
+    ensures numbers { (i : ℕ) → i < 512 → held rows.new i ≡ (half before i + sum_from (held rows.old) (row_start i) (i % 32 + owns inclusion)) % 2 ^ 32 }
 {
+    let mut total = before;
     for row in 0..32 {
+        let next = sums(total, rows[row].bits);
         rows[row] = Plane {
-            bits: sums(rows[row].bits, more),
+            bits: own_of(inclusion, total, next),
         };
+        total = next;
     }
 }
 
@@ -115,6 +112,6 @@ pub(crate) fn sum_all(rows: &mut [Plane], inclusion: Inclusion, start: u32)
     ensures fits { start < 2 ^ 32 }
     ensures numbers { (i : ℕ) → i < 512 → held rows.new i ≡ (start + sum_from (held rows.old) 0 (i + owns inclusion)) % 2 ^ 32 }
 {
-    let totals = sum_within(rows, inclusion);
-    add_to_all(rows, sums_before(totals, start));
+    let before = sums_before(totals(rows), start);
+    sum_within(rows, inclusion, before);
 }

@@ -28,8 +28,9 @@ fn chosen(mask: u64x8, a: u64x8, b: u64x8) -> u64x8
     either(both(mask, a), both(opposite(mask), b))
 }
 
-/// The numbers of a field of 32 bits in the active lanes of a block, and another one in the others.
-pub(crate) fn rows_or(block: &Block, offset: u32, context: u32, other: u32) -> Rows
+/// The numbers of a field of 32 bits in the active lanes of a block, and another one in the others,
+/// chosen plane by plane.
+fn rows_chosen(block: &Block, offset: u32, context: u32, other: u32) -> Rows
     requires field { offset + 32 ≤ context }
     requires context { context < length block.now.planes.items }
     ensures { (i : ℕ) → i < 512 → held result.planes i
@@ -45,6 +46,20 @@ pub(crate) fn rows_or(block: &Block, offset: u32, context: u32, other: u32) -> R
         };
     }
     Rows::of_field(&planes, 0, 32)
+}
+
+/// The numbers of a field of 32 bits in the active lanes of a block, and another one in the others:
+/// where all are active, the field as it stands.
+pub(crate) fn rows_or(block: &Block, offset: u32, context: u32, other: u32) -> Rows
+    requires field { offset + 32 ≤ context }
+    requires context { context < length block.now.planes.items }
+    ensures { (i : ℕ) → i < 512 → held result.planes i
+        ≡ (if bit (plane_at block.now.planes.items context) i == 1 then number block.now.planes.items offset 32 i else other) }
+{
+    if count(opposite(block.plane(context))) == 0 {
+        return Rows::of_field(&block.planes, offset, 32);
+    }
+    rows_chosen(block, offset, context, other)
 }
 
 /// A running fold: from which start, at which lanes it begins anew (lane 0 stands for the place behind

@@ -1,26 +1,16 @@
-use Rattle.std.proofs.Common.{◌≡◌, ◌+◌, cond, eqb, subst, ap, ◌∙◌, arith}
-use Rattle.std.specs.Int.{bit_at}
-use Rattle.std.proofs.lemmas.Nat.Bits.{bit_at-lt}
+use Rattle.std.proofs.Common.{◌≡◌, ◌-◌, cond, eqb, List, sym, ap, ◌∙◌, arith}
+use Rattle.std.proofs.lemmas.Bool.{eq-eqb}
+use Rattle.bit_planes.specs.declared.plane.Plane.{Plane}
 use Rattle.bit_planes.specs.Bits.{bit}
-use Rattle.bit_planes.specs.Planes.{plane_at}
-use Rattle.reduce_scan.proofs.WordRuns.{Chosen, chosen_more, digit_is, number_chosen}
+use Rattle.bit_planes.specs.Planes.{plane_at, number}
+use Rattle.bit_planes.proofs.Words.{bit-lt}
+use Rattle.reduce_scan.proofs.WordRuns.{none_before}
 use Rattle.reduce_scan.proofs.words.rows_or.Goals as goal
 
-pub loop-j-preserved : goal.loop-j-preserved
-loop-j-preserved c =
+pub returns-then-count-eq0 : goal.returns-then-count-eq0
+returns-then-count-eq0 c = λ i b.
     let planes = c.args.block.now.planes.items in
-    let j = c.loop-j.j in
-    let x = c.args.other in
-    let own = c.plane-own.result in
-    chosen_more planes c.args.offset c.args.context x j c.loop-j.planes c.chosen.result c.loop-j-test.true c.loop-j.invariant
-    (λ i b. c.chosen.ensures i b ∙ ap (λ m. cond (eqb (bit m i) 1) (bit own i) (bit c.repeated-elsewhere.result i)) c.plane-active.ensures
-    ∙ ap (λ p. cond (eqb (bit (plane_at planes c.args.context) i) 1) (bit p i) (bit c.repeated-elsewhere.result i)) c.plane-own.ensures
-    ∙ ap (λ d. cond (eqb (bit (plane_at planes c.args.context) i) 1) (bit (plane_at planes (c.args.offset + j)) i) d) (c.repeated-elsewhere.ensures i b ∙ digit_is (bit_at x j) (bit_at-lt x j)))
-
-pub returns : goal.returns
-returns c = λ i b.
-    let planes = c.args.block.now.planes.items in
-    let last : c.loop-j.j ≡ 32 = omega (arith, c.loop-j-test.false, c.loop-j.auto.j-end) in
-    c.of_field.ensures i b
-    ∙ number_chosen planes c.args.offset c.args.context c.args.other c.loop-j.planes c.ranges.other.fits
-    (subst (λ n. Chosen planes c.args.offset c.args.context c.args.other n c.loop-j.planes) last c.loop-j.invariant) i b
+    let idle : bit c.opposite.result i ≡ 0 = none_before c.opposite.result 512 (sym c.count.ensures ∙ c.if-count-eq0.true) i b in
+    let on : bit c.plane.result i ≡ 1 = omega (arith, idle, c.opposite.ensures i b, bit-lt c.plane.result i) in
+    c.of_field.ensures i b ∙ ap (λ (ps : List Plane). number ps c.args.offset 32 i) c.deref.ensures.value
+    ∙ sym (ap (λ t. cond t (number planes c.args.offset 32 i) c.args.other) (eq-eqb (bit (plane_at planes c.args.context) i) 1 (ap (λ p. bit p i) (sym c.plane.ensures) ∙ on)))
