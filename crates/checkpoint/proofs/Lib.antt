@@ -5,3 +5,4 @@ pub mod Leaving
 pub mod Lists
 pub mod Numbers
 pub mod Reading
+pub mod Same

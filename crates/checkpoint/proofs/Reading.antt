@@ -1,8 +1,8 @@
 -- What bytes begin with is told by their front: the parts of a point, one behind the other.
-use Rattle.std.proofs.Common.{◌≡◌, ◌++◌, ◌+◌, ◌*◌, ◌^◌, ◌<◌, ◌≤◌, ℕ, List, [], ◌∷◌, length, take, drop, refl, sym, ◌∙◌, ap, append_assoc, arith}
+use Rattle.std.proofs.Common.{◌≡◌, ◌++◌, ◌+◌, ◌*◌, ◌^◌, ◌<◌, ◌≤◌, ℕ, List, [], ◌∷◌, length, take, drop, get_or, zero, suc, lit<, refl, sym, ◌∙◌, ap, append_assoc, arith}
 use Rattle.std.proofs.lemmas.List.{flat_map_more, length-append, length-take, take-append-drop}
 use Rattle.std.specs.List.{flat_map}
-use Rattle.checkpoint.specs.Bytes.{counted, eight_bytes, four_bytes, measured}
+use Rattle.checkpoint.specs.Bytes.{AreWords, counted, eight_bytes, four_bytes, measured}
 use Rattle.checkpoint.proofs.Numbers.{eight_length, eight_same, four_length, four_same}
 
 -- two lists that are cut at the same length
@@ -146,6 +146,15 @@ one_more_number behind list new left after n g e f =
 
 pub one_more_counted : (list new : List ℕ) (n counter : ℕ) → new ≡ list ++ n ∷ [] → length list ≡ counter → length new ≡ counter + 1
 one_more_counted list new n counter g l = omega (arith, ap length g, length-append list (n ∷ []))
+
+appended_word : (list : List ℕ) (n : ℕ) → AreWords list → n < 2 ^ 32 → (k : ℕ) → get_or (list ++ n ∷ []) k 0 < 2 ^ 32
+appended_word [] n words small zero = small
+appended_word [] n words small (suc k) = lit< tt
+appended_word (x ∷ list) n words small zero = words 0
+appended_word (x ∷ list) n words small (suc k) = appended_word list n (λ i. words (suc i)) small k
+
+pub one_more_word : (list new : List ℕ) (n : ℕ) → new ≡ list ++ n ∷ [] → AreWords list → n < 2 ^ 32 → AreWords new
+one_more_word list new n g words small k = rw g (appended_word list n words small k)
 
 pub word_cut : (count : ℕ) (s word front back : List ℕ) → word ≡ front → front ≡ take count s → back ≡ drop count s → s ≡ word ++ back
 word_cut count s word front back e f g = rw (e, f, g) (sym (take-append-drop count s))

@@ -42,6 +42,21 @@ pub record IsCounted (point : Point) : Type 0 where
   pub listing : length point.listing < 2 ^ 64
   pub bits : length point.bits < 2 ^ 64
 
+-- each of the numbers has 32 bits
+abbrev pub AreWords : List ℕ → Type 0
+AreWords numbers = (k : ℕ) → slice_index numbers k < 2 ^ 32
+
+-- so has each number of a point
+pub record HasWords (point : Point) : Type 0 where
+  pub at : point.at < 2 ^ 32
+  pub regs : AreWords point.regs
+  pub returns : AreWords point.returns
+
+-- its bytes determine a point
+abbrev pub BytesDetermine : Point → Point → Type 0
+BytesDetermine one other =
+    IsCounted one → IsCounted other → HasWords one → HasWords other → bytes_of one ≡ bytes_of other → one ≡ other
+
 -- these bytes are those of a point
 abbrev pub IsOfPoint : List ℕ → Type 0
 IsOfPoint bytes = (point : Point) × IsCounted point × (bytes_of point ≡ bytes)

@@ -1,12 +1,14 @@
 //! Saved points: a stopped run as bytes, and back.
 #![tactic(auto)]
 
+mod determined;
 mod loading;
 mod point;
 mod saving;
 #[cfg(test)]
 mod tests;
 
+pub use determined::bytes_determine_point;
 pub use loading::{LoadFault, load};
 pub use point::Point;
 pub use saving::save;

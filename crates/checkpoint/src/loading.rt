@@ -2,7 +2,7 @@
 
 ghost use Rattle.std.specs.Prelude.{◌≡◌, ◌++◌, ◌<◌, ◌≤◌, ◌^◌, IfErr, IfOk, MatchOption, length, min, ℕ, List, false, slice_index};
 ghost use Rattle.std.specs.List.{flat_map};
-ghost use Rattle.checkpoint.specs.Bytes.{IsCounted, LeavesAt, Stand, body_of, bytes_of, counted, eight_bytes, four_bytes, may_stand, measured, winner_byte};
+ghost use Rattle.checkpoint.specs.Bytes.{AreWords, HasWords, IsCounted, LeavesAt, Stand, body_of, bytes_of, counted, eight_bytes, four_bytes, may_stand, measured, winner_byte};
 ghost use Rattle.checkpoint.specs.declared.loading.LoadFault.TheVariants.{Bad};
 ghost use Rattle.checkpoint.specs.declared.loading.Stop.TheVariants.{Short};
 ghost use Rattle.checkpoint.specs.declared.point.Point.{Point};
@@ -55,6 +55,7 @@ const HEAD: usize = 10;
 pub fn load(alloc: Global, bytes: &[u8]) -> Result<Point, LoadFault>
     requires { length bytes.now < 2 ^ 32 }
     ensures point { IfOk result (λ point. IsCounted point) }
+    ensures words { IfOk result (λ point. HasWords point) }
     ensures inverse { IfOk result (λ point. bytes_of point ≡ bytes.now) }
     ensures bad { IfErr result (λ fault. (at : ℕ) → fault ≡ Bad at → LeavesAt bytes.now at) }
 {
@@ -123,6 +124,7 @@ fn point_of(
     bytes: &[u8],
 ) -> Result<(Point, &[u8]), Stop>
     ensures point { IfOk result (λ read. IsCounted read.0) }
+    ensures words { IfOk result (λ read. HasWords read.0) }
     ensures winner { IfOk result (λ read. read.0.winner ≡ winner) }
     ensures ended { IfOk result (λ read. read.0.ended ≡ ended) }
     ensures read { IfOk result (λ read. bytes.now ≡ body_of read.0 ++ read.1.now) }
@@ -149,6 +151,7 @@ fn point_of(
 /// The list of numbers that these bytes begin with, behind its count, and the bytes behind.
 fn numbers_of(alloc: Global, bytes: &[u8]) -> Result<(Numbers, &[u8]), Stop>
     ensures count { IfOk result (λ read. length read.0 < 2 ^ 32) }
+    ensures words { IfOk result (λ read. AreWords read.0) }
     ensures read { IfOk result (λ read. bytes.now ≡ counted read.0 ++ read.1.now) }
     ensures short { IfErr result (λ stop. stop ≡ Short → (numbers rest : List ℕ) → length numbers < 2 ^ 32
         → bytes.now ≡ counted numbers ++ rest → ⊥) }

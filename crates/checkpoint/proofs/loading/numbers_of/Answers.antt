@@ -1,6 +1,6 @@
 use Rattle.std.proofs.Common.{◌≡◌, ◌≤◌, length, arith}
 use Rattle.std.proofs.lemmas.Result.{err_from_is_err_and}
-use Rattle.checkpoint.proofs.Reading.{no_count, numbers_short, numbers_read, one_more_counted, one_more_number}
+use Rattle.checkpoint.proofs.Reading.{no_count, numbers_short, numbers_read, one_more_counted, one_more_number, one_more_word}
 use Rattle.checkpoint.proofs.loading.numbers_of.Goals as goal
 
 pub returns-in_err-count-clause-short : goal.returns-in_err-count-clause-short
@@ -18,6 +18,7 @@ returns-in_err-number-clause-short c =
 pub loop-preserved : goal.loop-preserved
 loop-preserved c = record {
   count = one_more_counted _ _ _ _ c.in_ok-push.ensures.items c.loop.invariant.count;
+  words = one_more_word _ _ _ c.in_ok-push.ensures.items c.loop.invariant.words c.in_ok-number.ensures.small;
   read = one_more_number _ _ _ _ _ _ c.in_ok-push.ensures.items c.loop.invariant.read c.in_ok-number.ensures.read;
 }
 
@@ -30,3 +31,6 @@ pub returns-clause-read : goal.returns-clause-read
 returns-clause-read c =
     let whole : length c.loop.list.items ≡ c.in_ok-count.count = omega (arith, c.loop.invariant.count, c.loop.auto.counter-end, c.loop-test.false) in
     rw c.of.ensures (numbers_read _ _ _ _ _ c.in_ok-count.ensures.read c.loop.invariant.read whole)
+
+pub returns-clause-words : goal.returns-clause-words
+returns-clause-words c = rw c.of.ensures c.loop.invariant.words
