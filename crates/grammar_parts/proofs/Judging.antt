@@ -16,7 +16,7 @@ use Rattle.grammar_parts.proofs.Reaching.{kinds_at, kinds_end}
 onward : List Kind → ℕ → Option State → Verdict
 onward kinds at o = elim o [ None ↦ syntax_at at | Some t ↦ if is_deep t then depth_at at else verdict kinds (at + 1) t ]
 
-levels-append : (parts more : List Part) → levels (parts ++ more) ≡ levels parts + levels more
+pub levels-append : (parts more : List Part) → levels (parts ++ more) ≡ levels parts + levels more
 levels-append [] more = omega arith
 levels-append (p ∷ parts) more = let e = levels-append parts more in omega arith
 
@@ -45,10 +45,10 @@ takes {tokens} {at} {c = c} {kind = kind} {parts = parts} p inside n outside s i
     ∙ ap (λ (i : ℕ). verdict_at tokens i (parts ++ inside) (n + c) outside) (sym s.next_is)
 
 -- one is too many
-pub deepens : {tokens : List Token} {at next c : ℕ} {kind : Kind} {place : Place} {parts : List Part} (p : Part) (inside : List Part) (n : ℕ) (outside : List Part) → Stands tokens at kind place next → act p (Some kind) ≡ take_it c parts → is_deep (record { inside = parts ++ inside; operators = n + c; outside = outside }) ≡ true → verdict_at tokens at (p ∷ inside) n outside ≡ depth_at at
+pub deepens : (tokens : List Token) (at : ℕ) {c : ℕ} {kind : Kind} {parts : List Part} (p : Part) (inside : List Part) (n : ℕ) (outside : List Part) → token_kind tokens at ≡ Some kind → act p (Some kind) ≡ take_it c parts → is_deep (record { inside = parts ++ inside; operators = n + c; outside = outside }) ≡ true → verdict_at tokens at (p ∷ inside) n outside ≡ depth_at at
 unfolding onward
-deepens {tokens} {at} {c = c} {kind = kind} {parts = parts} p inside n outside s is deep =
-    judged tokens at kind (p ∷ inside) n outside _ s.kind_is (step_within p kind inside n outside is) ∙ ap (λ (b : Bool). if b then depth_at at else verdict (kinds_from tokens (at + 1)) (at + 1) (record { inside = parts ++ inside; operators = n + c; outside = outside })) deep
+deepens tokens at {c} {kind} {parts} p inside n outside stands is deep =
+    judged tokens at kind (p ∷ inside) n outside _ stands (step_within p kind inside n outside is) ∙ ap (λ (b : Bool). if b then depth_at at else verdict (kinds_from tokens (at + 1)) (at + 1) (record { inside = parts ++ inside; operators = n + c; outside = outside })) deep
 
 -- two lists of open parts that do the same at what stands here
 pub judged_alike : (tokens : List Token) (at : ℕ) (parts others : List Part) (n : ℕ) (outside : List Part) → ((kind : Kind) → token_kind tokens at ≡ Some kind → inner_step parts n outside kind ≡ inner_step others n outside kind) → (token_kind tokens at ≡ None → may_end (parts ++ outside) ≡ may_end (others ++ outside)) → verdict_at tokens at parts n outside ≡ verdict_at tokens at others n outside
