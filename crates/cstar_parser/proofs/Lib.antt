@@ -2,6 +2,7 @@ pub mod Behind
 pub mod Casting
 pub mod ExpressionNodes
 pub mod Fitting
+pub mod Following
 pub mod Grammar
 pub mod Operands
 pub mod Sizes

@@ -1,11 +1,13 @@
 //! The reader of a text, one token at a time.
 
-ghost use Rattle.std.specs.Prelude.{◌≡◌, ◌≤◌, ◌<◌, ◌+◌, length, Some, None, IfSome, IfNone, IsSome, true, false};
+ghost use Rattle.std.specs.Prelude.{◌≡◌, ◌≤◌, ◌<◌, ◌+◌, length, Some, None, IfErr, IfSome, IfNone, IsSome, true, false};
 ghost use Rattle.cstar_tree.specs.Positions.{token_kind, token_place};
 ghost use Rattle.cstar_tree.specs.declared.token.Kind.TheVariants as Kinds;
 ghost use Rattle.cstar_tree.specs.declared.token.Mark.{Mark};
-ghost use Rattle.cstar_parser.specs.Faults.{IsAmong};
+ghost use Rattle.grammar_parts.specs.Parts as P;
+ghost use Rattle.cstar_parser.specs.declared.fault.ParseFault.TheVariants.{Depth, Syntax};
 ghost use Rattle.cstar_parser.specs.Fits.{Adds, Keeps, Opens};
+ghost use Rattle.cstar_parser.specs.Following.{IsLevelTooMany, IsOperatorTooMany, IsOverfull, StopsAt};
 ghost use Rattle.cstar_parser.specs.Reading.{IsMark, IsName, IsRead, IsToken, Reads};
 
 use crate::fault::ParseFault;
@@ -98,25 +100,24 @@ impl<'a> Reader<'a> {
     /// No text goes on with this token.
     pub fn hopeless(&self, at: usize) -> ParseFault
         requires within { at ≤ length self.now.tokens.now }
-        ensures { IsAmong (length self.now.tokens.now) result }
+        ensures { result ≡ Syntax at }
     {
-        let _count = self.tokens.len();
         ParseFault::Syntax { token: at as u32 }
     }
 
     /// A level or an operator too many begins with this token.
     pub fn too_deep(&self, at: usize) -> ParseFault
         requires within { at < length self.now.tokens.now }
-        ensures { IsAmong (length self.now.tokens.now) result }
+        ensures { result ≡ Depth at }
     {
-        let _count = self.tokens.len();
         ParseFault::Depth { token: at as u32 }
     }
 
     /// Reads a reserved word or punctuator that has to stand here, and answers its place.
     pub fn expect(&self, spot: &mut Spot, mark: Mark) -> Result<Place, ParseFault>
         requires within { spot.old.at ≤ length self.now.tokens.now }
-        ensures { Reads (IsMark mark) Keeps self.now.tokens.now spot.old spot.new result }
+        ensures read { Reads (IsMark mark) Keeps self.now.tokens.now spot.old spot.new result }
+        ensures stops { IfErr result (StopsAt self.now.tokens.now (P.mark mark) ⊥ spot.old.at) }
     {
         if !self.is_mark(spot.at, mark) {
             return Err(self.hopeless(spot.at));
@@ -128,7 +129,8 @@ impl<'a> Reader<'a> {
     /// level beside those that are open, of which there may be no more than 99.
     pub fn open(&self, spot: &mut Spot, mark: Mark, levels: u32) -> Result<Place, ParseFault>
         requires within { spot.old.at ≤ length self.now.tokens.now }
-        ensures { Reads (IsMark mark) (Opens levels) self.now.tokens.now spot.old spot.new result }
+        ensures read { Reads (IsMark mark) (Opens levels) self.now.tokens.now spot.old spot.new result }
+        ensures stops { IfErr result (StopsAt self.now.tokens.now (P.mark mark) (IsLevelTooMany self.now.tokens.now mark spot.old.at levels) spot.old.at) }
     {
         if !self.is_mark(spot.at, mark) {
             return Err(self.hopeless(spot.at));
@@ -142,7 +144,8 @@ impl<'a> Reader<'a> {
     /// Reads the operator that stands here, and answers its place.
     pub fn take_operator(&self, spot: &mut Spot) -> Result<Place, ParseFault>
         requires there { spot.old.at < length self.now.tokens.now }
-        ensures { Reads IsToken (Adds 1) self.now.tokens.now spot.old spot.new result }
+        ensures read { Reads IsToken (Adds 1) self.now.tokens.now spot.old spot.new result }
+        ensures stops { IfErr result (IsOverfull spot.old.at spot.old.operators) }
     {
         if spot.operators >= OPERATORS {
             return Err(self.too_deep(spot.at));
@@ -154,7 +157,8 @@ impl<'a> Reader<'a> {
     /// Reads an operator that has to stand here, and answers its place.
     pub fn expect_operator(&self, spot: &mut Spot, mark: Mark) -> Result<Place, ParseFault>
         requires within { spot.old.at ≤ length self.now.tokens.now }
-        ensures { Reads (IsMark mark) (Adds 1) self.now.tokens.now spot.old spot.new result }
+        ensures read { Reads (IsMark mark) (Adds 1) self.now.tokens.now spot.old spot.new result }
+        ensures stops { IfErr result (StopsAt self.now.tokens.now (P.operator mark) (IsOperatorTooMany self.now.tokens.now mark spot.old.at spot.old.operators) spot.old.at) }
     {
         if !self.is_mark(spot.at, mark) {
             return Err(self.hopeless(spot.at));
@@ -165,7 +169,8 @@ impl<'a> Reader<'a> {
     /// Reads the name that has to stand here.
     pub fn read_name(&self, spot: &mut Spot) -> Result<Name, ParseFault>
         requires within { spot.old.at ≤ length self.now.tokens.now }
-        ensures { Reads IsName Keeps self.now.tokens.now spot.old spot.new result }
+        ensures read { Reads IsName Keeps self.now.tokens.now spot.old spot.new result }
+        ensures stops { IfErr result (StopsAt self.now.tokens.now P.name ⊥ spot.old.at) }
     {
         let word = match self.kind_at(spot.at) {
             Some(Kind::Name(word)) => word.copied(self.alloc)?,

@@ -9,7 +9,7 @@ use Rattle.cstar_parser.proofs.reader.Reader.+expression.Goals as goal
 
 pub read_assignment-returns : goal.read_assignment-returns
 read_assignment-returns t c =
-    node.assign c.in_ok-assignment.ensures c.in_ok-left.ensures c.in-Some.ensures.found c.in_ok-place.ensures c.in_ok-value.ensures
+    node.assign c.in_ok-assignment.ensures c.in_ok-left.ensures c.in-Some.ensures.found c.in_ok-place.ensures.read c.in_ok-value.ensures
 
 pub read_assignment-returns-in_default : goal.read_assignment-returns-in_default
 read_assignment-returns-in_default t c = weakened_result _ _ _ _ {more = 1} 0 (lit≤ tt) c.read_choice_from.result (c.read_choice_from.ensures _ c.in_ok-left.ensures)
@@ -22,7 +22,7 @@ read_choice_from-returns-then-not-is_mark t c = λ from x. weakened {more = 2} 1
 
 pub read_choice_from-returns : goal.read_choice_from-returns
 read_choice_from-returns t c =
-    λ from x. node.choice c.in_ok-choice.ensures (c.in_ok-test.ensures.read from x) c.in_ok-place.ensures c.in_ok-then.ensures c.in_ok-expect_operator.ensures c.in_ok-otherwise.ensures
+    λ from x. node.choice c.in_ok-choice.ensures (c.in_ok-test.ensures.read from x) c.in_ok-place.ensures.read c.in_ok-then.ensures c.in_ok-expect_operator.ensures.read c.in_ok-otherwise.ensures
 
 pub read_binary-returns-clause-read : goal.read_binary-returns-clause-read
 read_binary-returns-clause-read t c = c.read_operators.ensures.read _ c.in_ok-left.ensures
@@ -32,7 +32,7 @@ read_operators-operators-init t c = (omega arith, c.requires.within, λ from x. 
 
 pub read_operators-operators-preserved : goal.read_operators-operators-preserved
 read_operators-operators-preserved t c =
-    let o = c.in_ok-place.ensures in
+    let o = c.in_ok-place.ensures.read in
     let r = c.in_ok-right.ensures.read in
     (omega arith, r.inside, λ from x. let before = c.operators.invariant.2 from x in (left_next c.in_ok-left.ensures before.0 c.in-Some.ensures.strong (o.spelled _ c.in-Some.ensures.found) (rw c.level_of.ensures.level at r.spelled) (rw c.level_of.ensures.level at c.in_ok-right.ensures.ends), fitting.binary c.in_ok-left.ensures before.1 o.fits r.fits, omega arith))
 
@@ -63,7 +63,7 @@ read_cast-returns t c =
     }
 
 pub read_operand-returns-in-Some-clause-read : goal.read_operand-returns-in-Some-clause-read
-read_operand-returns-in-Some-clause-read t c = node.prefix c.in_ok-prefix.ensures c.in-Some.ensures.found c.in_ok-place.ensures c.in_ok-operand.ensures
+read_operand-returns-in-Some-clause-read t c = node.prefix c.in_ok-prefix.ensures c.in-Some.ensures.found c.in_ok-place.ensures.read c.in_ok-operand.ensures
 
 pub read_operand-returns-in-Some-clause-single : goal.read_operand-returns-in-Some-clause-single
 read_operand-returns-in-Some-clause-single t c = rw c.in_ok-prefix.ensures refl
@@ -75,39 +75,39 @@ pub read_operand-returns-clause-single : goal.read_operand-returns-clause-single
 read_operand-returns-clause-single t c = single_ok _ _ _ _ c.read_steps.result (c.read_steps.ensures _ _ (weakened {more = 15} 14 (lit≤ tt) c.in_ok-operand-2.ensures))
 
 pub read_brackets-returns : goal.read_brackets-returns
-read_brackets-returns t c = node.brackets c.in_ok-brackets.ensures c.in_ok-place.ensures c.in_ok-inner.ensures c.in_ok-expect.ensures
+read_brackets-returns t c = node.brackets c.in_ok-brackets.ensures c.in_ok-place.ensures.read c.in_ok-inner.ensures c.in_ok-expect.ensures.read
 
 pub read_named-returns-then-is_mark : goal.read_named-returns-then-is_mark
-read_named-returns-then-is_mark t c = node.call _ c.in_ok-call.ensures c.in_ok-name.ensures c.in_ok-arguments.ensures
+read_named-returns-then-is_mark t c = node.call _ c.in_ok-call.ensures c.in_ok-name.ensures.read c.in_ok-arguments.ensures
 
 pub read_named-returns-then-not-is_mark : goal.read_named-returns-then-not-is_mark
-read_named-returns-then-not-is_mark t c = node.name c.in_ok-new.ensures.ok c.requires.depth c.in_ok-name.ensures
+read_named-returns-then-not-is_mark t c = node.name c.in_ok-new.ensures.ok c.requires.depth c.in_ok-name.ensures.read
 
 pub read_named-returns : goal.read_named-returns
-read_named-returns t c = node.element c.in_ok-element.ensures c.in_ok-name.ensures c.in_ok-bracket.ensures
+read_named-returns t c = node.element c.in_ok-element.ensures c.in_ok-name.ensures.read c.in_ok-bracket.ensures
 
 pub read_index-returns : goal.read_index-returns
-read_index-returns t c = node.indexed c.in_ok-place.ensures c.in_ok-index.ensures c.in_ok-expect.ensures
+read_index-returns t c = node.indexed c.in_ok-place.ensures.read c.in_ok-index.ensures c.in_ok-expect.ensures.read
 
 pub read_arguments-returns-then-is_mark : goal.read_arguments-returns-then-is_mark
-read_arguments-returns-then-is_mark t c = node.no_arguments c.new.ensures.items c.in_ok-open.ensures c.in_ok-expect.ensures
+read_arguments-returns-then-is_mark t c = node.no_arguments c.new.ensures.items c.in_ok-open.ensures.read c.in_ok-expect.ensures.read
 
 pub read_arguments-returns : goal.read_arguments-returns
 read_arguments-returns t c =
-    node.some_arguments c.push.new.self (rw (c.in_ok-push.ensures.items, c.new-arguments.ensures.items, c.into_inner.ensures) refl) c.in_ok-open.ensures c.in_ok-first.ensures c.in_ok-read_more.ensures
+    node.some_arguments c.push.new.self (rw (c.in_ok-push.ensures.items, c.new-arguments.ensures.items, c.into_inner.ensures) refl) c.in_ok-open.ensures.read c.in_ok-first.ensures c.in_ok-read_more.ensures
 
 pub read_more-commas-init : goal.read_more-commas-init
 read_more-commas-init t c = (omega arith, c.requires.within, X.no_more, λ before f. f)
 
 pub read_more-commas-preserved : goal.read_more-commas-preserved
 read_more-commas-preserved t c =
-    let comma = c.in_ok-expect.ensures in
+    let comma = c.in_ok-expect.ensures.read in
     let next = c.in_ok-next.ensures in
     (omega arith, next.inside, rw (c.in_ok-push.ensures.items, c.into_inner.ensures) (X.more c.commas.invariant.2 comma.spelled next.spelled.spelled), λ before f. rw (c.in_ok-push.ensures.items, c.into_inner.ensures) (fitting.parts_more _ (c.commas.invariant.3 before f) (rw comma.fits at next.fits)))
 
 pub read_more-returns : goal.read_more-returns
 read_more-returns t c =
-    let end = c.in_ok-expect-2.ensures in
+    let end = c.in_ok-expect-2.ensures.read in
     record { spelled = X.rest c.commas.invariant.2 end.spelled; fits = λ before f. rw end.fits (c.commas.invariant.3 before f); forward = omega arith; inside = end.inside }
 
 pub read_left_index-indexes-init : goal.read_left_index-indexes-init
@@ -122,22 +122,22 @@ read_left_index-indexes-preserved t c =
 
 pub read_left_index-returns : goal.read_left_index-returns
 read_left_index-returns t c =
-    node.left_index _ c.in_ok-left_index.ensures c.indexes.invariant.2 c.indexes.invariant.3 c.indexes.invariant.0 c.in_ok-name.ensures
+    node.left_index _ c.in_ok-left_index.ensures c.indexes.invariant.2 c.indexes.invariant.3 c.indexes.invariant.0 c.in_ok-name.ensures.read
 
 pub read_pcoord-returns : goal.read_pcoord-returns
-read_pcoord-returns t c = node.pcoord c.in_ok-pcoord.ensures c.in_ok-place.ensures c.in_ok-open.ensures c.in_ok-axis.ensures c.in_ok-expect.ensures
+read_pcoord-returns t c = node.pcoord c.in_ok-pcoord.ensures c.in_ok-place.ensures.read c.in_ok-open.ensures.read c.in_ok-axis.ensures c.in_ok-expect.ensures.read
 
 pub read_dim_of-returns : goal.read_dim_of-returns
 read_dim_of-returns t c =
-    node.dim_of c.in_ok-dim_of.ensures c.in_ok-place.ensures c.in_ok-open.ensures c.in_ok-shape.ensures c.in_ok-expect.ensures c.in_ok-axis.ensures c.in_ok-expect-2.ensures
+    node.dim_of c.in_ok-dim_of.ensures c.in_ok-place.ensures.read c.in_ok-open.ensures.read c.in_ok-shape.ensures.read c.in_ok-expect.ensures.read c.in_ok-axis.ensures c.in_ok-expect-2.ensures.read
 
 pub read_scan-returns : goal.read_scan-returns
 read_scan-returns t c =
-    node.scan c.in_ok-scan.ensures c.in_ok-place.ensures c.in_ok-open.ensures c.in_ok-source.ensures c.in_ok-expect.ensures c.in_ok-axis.ensures c.in_ok-options.ensures
+    node.scan c.in_ok-scan.ensures c.in_ok-place.ensures.read c.in_ok-open.ensures.read c.in_ok-source.ensures c.in_ok-expect.ensures.read c.in_ok-axis.ensures c.in_ok-options.ensures.read
 
 pub read_enumerate-returns : goal.read_enumerate-returns
-read_enumerate-returns t c = node.enumerate c.in_ok-enumerate.ensures c.in_ok-place.ensures c.in_ok-open.ensures c.in_ok-axis.ensures c.in_ok-options.ensures
+read_enumerate-returns t c = node.enumerate c.in_ok-enumerate.ensures c.in_ok-place.ensures.read c.in_ok-open.ensures.read c.in_ok-axis.ensures c.in_ok-options.ensures.read
 
 pub read_printf-returns : goal.read_printf-returns
 read_printf-returns t c =
-    node.printf c.new.result _ c.in_ok-printf.ensures c.new.ensures.items c.in_ok-place.ensures c.in_ok-open.ensures c.in_ok-text.ensures c.in_ok-arguments.ensures
+    node.printf c.new.result _ c.in_ok-printf.ensures c.new.ensures.items c.in_ok-place.ensures.read c.in_ok-open.ensures.read c.in_ok-text.ensures.read c.in_ok-arguments.ensures

@@ -9,17 +9,17 @@ casts-init c = (omega arith, c.requires.within, rw c.new-casts.ensures.items X.n
 
 pub casts-preserved : goal.casts-preserved
 casts-preserved c =
-    let begin = c.in_ok-place.ensures in
-    let name = c.in_ok-type_name.ensures in
-    let end = c.in_ok-expect.ensures in
+    let begin = c.in_ok-place.ensures.read in
+    let name = c.in_ok-type_name.ensures.read in
+    let end = c.in_ok-expect.ensures.read in
     let scalar = of_scalar _ (sym c.is_some.ensures ∙ c.if-is_some.false) in
     (omega arith, end.inside, rw c.in_ok-push.ensures.items (X.one_more _ c.casts.invariant.2 begin.spelled (element_of name.spelled (sym c.is_some.ensures ∙ c.if-is_some.false)) end.spelled), omega arith)
 
 pub returns-then-not-begins_cast : goal.returns-then-not-begins_cast
 returns-then-not-begins_cast c =
-    let begin = c.in_ok-place.ensures in
-    let name = c.in_ok-type_name.ensures in
-    let end = c.in_ok-expect.ensures in
+    let begin = c.in_ok-place.ensures.read in
+    let name = c.in_ok-type_name.ensures.read in
+    let end = c.in_ok-expect.ensures.read in
     let scalar = of_scalar _ (sym c.is_some.ensures ∙ c.if-is_some.false) in
     record {
       spelled = record {
@@ -34,9 +34,9 @@ returns-then-not-begins_cast c =
 
 pub returns-then-is_some : goal.returns-then-is_some
 returns-then-is_some c =
-    let begin = c.in_ok-place.ensures in
-    let name = c.in_ok-type_name.ensures in
-    let end = c.in_ok-expect.ensures in
+    let begin = c.in_ok-place.ensures.read in
+    let name = c.in_ok-type_name.ensures.read in
+    let end = c.in_ok-expect.ensures.read in
     let parallel = of_parallel _ (sym c.is_some.ensures ∙ c.if-is_some.true) in
     record {
       spelled = record {

@@ -5,8 +5,8 @@ use Rattle.cstar_parser.proofs.reader.Reader.read_for_head.Goals as goal
 
 pub returns : goal.returns
 returns c =
-    let word = c.in_ok-place.ensures in
-    let opens = c.in_ok-expect.ensures in
+    let word = c.in_ok-place.ensures.read in
+    let opens = c.in_ok-expect.ensures.read in
     let first = c.in_ok-first.ensures in
     let test = c.in_ok-test.ensures in
     let step = c.in_ok-step.ensures in

@@ -8,6 +8,6 @@ returns-then-not-is_mark c = record { spelled = X.no_initial; fits = fit_none c.
 
 pub returns : goal.returns
 returns c =
-    let sign = c.in_ok-place.ensures in
+    let sign = c.in_ok-place.ensures.read in
     let value = c.in_ok-value.ensures in
     rw c.into_inner-value.ensures (record { spelled = X.initial_is sign.spelled value.spelled.spelled; fits = value.fits; forward = omega arith; inside = value.inside })

@@ -8,7 +8,7 @@ returns-then-not-is_mark c = record { spelled = X.no_length; fits = fit_none c.r
 
 pub returns : goal.returns
 returns c =
-    let begin = c.in_ok-expect.ensures in
+    let begin = c.in_ok-expect.ensures.read in
     let length = c.in_ok-length.ensures in
-    let end = c.in_ok-expect-2.ensures in
+    let end = c.in_ok-expect-2.ensures.read in
     record { spelled = X.length_is begin.spelled length.spelled.spelled end.spelled; fits = length.fits; forward = omega arith; inside = end.inside }

@@ -4,7 +4,7 @@ use Rattle.cstar_parser.proofs.reader.Reader.read_parameters.Goals as goal
 
 pub returns-then-is_mark : goal.returns-then-is_mark
 returns-then-is_mark c =
-    let word = c.in_ok-expect.ensures in
+    let word = c.in_ok-expect.ensures.read in
     record { spelled = rw c.new-parameters.ensures.items (X.void word.spelled); fits = tt; forward = omega arith; inside = word.inside }
 
 pub returns-then-is_mark-2 : goal.returns-then-is_mark-2
@@ -17,7 +17,7 @@ parameters-init c =
 
 pub parameters-preserved : goal.parameters-preserved
 parameters-preserved c =
-    let comma = c.in_ok-expect-2.ensures in
+    let comma = c.in_ok-expect-2.ensures.read in
     let next = c.in_ok-read_parameter-2.ensures in
     (omega arith, next.inside, rw c.in_ok-push-2.ensures.items (X.next_parameter c.parameters.invariant.2 comma.spelled next.spelled))
 

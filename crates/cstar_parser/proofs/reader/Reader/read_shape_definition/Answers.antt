@@ -17,5 +17,5 @@ extents-preserved c =
 
 pub returns : goal.returns
 returns c =
-    let name = c.in_ok-name.ensures in
+    let name = c.in_ok-name.ensures.read in
     record { spelled = X.shape_definition c.extents.invariant.2.1 name.spelled; fits = c.extents.invariant.3; forward = omega arith; inside = name.inside }

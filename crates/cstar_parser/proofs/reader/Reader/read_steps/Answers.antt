@@ -6,7 +6,7 @@ steps-init c = (c.requires.within, λ levels from before. before)
 
 pub steps-preserved : goal.steps-preserved
 steps-preserved c =
-    let o = c.in_ok-place.ensures in
+    let o = c.in_ok-place.ensures.read in
     (o.inside, λ levels from before. node.postfix c.in_ok-operand.ensures (c.steps.invariant.1 levels from before) c.in-Some.ensures.found o)
 
 pub returns : goal.returns

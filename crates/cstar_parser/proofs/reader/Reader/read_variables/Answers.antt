@@ -11,12 +11,12 @@ variables-init c =
 
 pub variables-preserved : goal.variables-preserved
 variables-preserved c =
-    let comma = c.in_ok-expect.ensures in
-    let name = c.in_ok-name.ensures in
+    let comma = c.in_ok-expect.ensures.read in
+    let name = c.in_ok-name.ensures.read in
     let next = c.in_ok-read_declarator-2.ensures in
     (omega arith, next.inside, λ from named. rw c.in_ok-push-2.ensures.items (X.next_name (c.variables.invariant.2 from named) comma.spelled (next.spelled _ name.spelled)), rw c.in_ok-push-2.ensures.items (fit_more declarator_expressions _ _ c.variables.invariant.3 next.fits))
 
 pub returns : goal.returns
 returns c =
-    let end = c.in_ok-expect-2.ensures in
+    let end = c.in_ok-expect-2.ensures.read in
     record { spelled = λ from mid type_is named. X.declaration type_is (c.variables.invariant.2 mid named) end.spelled; fits = c.variables.invariant.3; forward = omega arith; inside = end.inside }
