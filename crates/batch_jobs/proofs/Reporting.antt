@@ -133,12 +133,12 @@ run_of name file text options from course left rest is here none of_text goes fe
 )
 
 -- what the command says of a run that came to an end, and of the output of any
-abbrev pub WholeOf : List (List ℕ) → ℕ → ℕ → Held → Held → Held → Held → Option (List ℕ) → Option (List ℕ) → List ℕ → (Options → Origin → Course → Type 0) → Type 0
+abbrev pub WholeOf : List (List ℕ) → ℕ → ℕ → Held → Held → Held → Held → Option (List ℕ) → Option (List ℕ) → List ℕ → (Options → List ℕ → Origin → Course → Type 0) → Type 0
 WholeOf words status err_limit out out' err err' left rest file More =
     AsksToRun words → IsWhole status
     → (options : Options) × Reads (rows_in words) options × ((text : List ℕ) × Holds tells held_under file options.file.now text
     × ((answer : Answer) × (status_of answer ≡ status) × Takes (may_have err_limit) err err' (line_of (told_name options answer) answer)
-    × ReportsText (may_have 1048576) out out' left rest options text answer (More options)))
+    × ReportsText (may_have 1048576) out out' left rest options text answer (More options text)))
 
 abbrev pub PartOf : List (List ℕ) → Held → Held → Option (List ℕ) → Option (List ℕ) → List ℕ → Type 0
 PartOf words out out' left rest file =
@@ -153,7 +153,7 @@ LongOf words status err_limit err err' file =
     → RefusesLong (may_have err_limit) err err' (named words) status
 
 -- a run that came to an end
-pub run_told : (name file : List ℕ) (words : List (List ℕ)) (status err_limit : ℕ) (out out' err err' : Held) (left rest : Option (List ℕ)) (More : Options → Origin → Course → Type 0) → words ≡ words_of_job name → left ≡ Some [] → IsWhole status → status ≢ 7 → status ≢ 9
+pub run_told : (name file : List ℕ) (words : List (List ℕ)) (status err_limit : ℕ) (out out' err err' : Held) (left rest : Option (List ℕ)) (More : Options → List ℕ → Origin → Course → Type 0) → words ≡ words_of_job name → left ≡ Some [] → IsWhole status → status ≢ 7 → status ≢ 9
     → IsEmpty out → IsEmpty err → out'.faults ≡ 0 → err'.faults ≡ 0 → length out'.bytes ≤ 1048576
     → WholeOf words status err_limit out out' err err' left rest file More → ReportsRun name file (record { status = status; out = out'.bytes; err = err'.bytes })
 run_told name file words status err_limit out out' err err' left rest More asked none whole seven nine empty silent out_whole err_whole within reported =

@@ -52,7 +52,11 @@ measured_same xs ys a b few more e =
 
 pub bytes_determine : (p q : Point) → BytesDetermine p q
 unfolding bytes_of
-bytes_determine p q few more small less e =
+bytes_determine p q held also e =
+    let few = held.counted in
+    let more = also.counted in
+    let small = held.words in
+    let less = also.words in
     let head = same_split (codes "PARISCP1") (codes "PARISCP1") _ _ refl e in
     let flags = same_split (winner_byte p.winner ∷ flag_byte p.ended ∷ []) (winner_byte q.winner ∷ flag_byte q.ended ∷ []) _ _ refl head.rests in
     let won : winner_byte p.winner ≡ winner_byte q.winner = cc in

@@ -52,10 +52,14 @@ pub record HasWords (point : Point) : Type 0 where
   pub regs : AreWords point.regs
   pub returns : AreWords point.returns
 
--- its bytes determine a point
+-- all its numbers are those that the bytes of a point can hold
+pub record IsHeld (point : Point) : Type 0 where
+  pub counted : IsCounted point
+  pub words : HasWords point
+
+-- its bytes determine such a point
 abbrev pub BytesDetermine : Point → Point → Type 0
-BytesDetermine one other =
-    IsCounted one → IsCounted other → HasWords one → HasWords other → bytes_of one ≡ bytes_of other → one ≡ other
+BytesDetermine one other = IsHeld one → IsHeld other → bytes_of one ≡ bytes_of other → one ≡ other
 
 -- these bytes are those of a point
 abbrev pub IsOfPoint : List ℕ → Type 0

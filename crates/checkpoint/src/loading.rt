@@ -2,7 +2,7 @@
 
 ghost use Rattle.std.specs.Prelude.{◌≡◌, ◌++◌, ◌<◌, ◌≤◌, ◌^◌, IfErr, IfOk, MatchOption, length, min, ℕ, List, false, slice_index};
 ghost use Rattle.std.specs.List.{flat_map};
-ghost use Rattle.checkpoint.specs.Bytes.{AreWords, HasWords, IsCounted, LeavesAt, Stand, body_of, bytes_of, counted, eight_bytes, four_bytes, may_stand, measured, winner_byte};
+ghost use Rattle.checkpoint.specs.Bytes.{AreWords, HasWords, IsCounted, IsHeld, LeavesAt, Stand, body_of, bytes_of, counted, eight_bytes, four_bytes, may_stand, measured, winner_byte};
 ghost use Rattle.checkpoint.specs.declared.loading.LoadFault.TheVariants.{Bad};
 ghost use Rattle.checkpoint.specs.declared.loading.Stop.TheVariants.{Short};
 ghost use Rattle.checkpoint.specs.declared.point.Point.{Point};
@@ -54,8 +54,7 @@ const HEAD: usize = 10;
 /// with which they begin none, or their count where they end too early.
 pub fn load(alloc: Global, bytes: &[u8]) -> Result<Point, LoadFault>
     requires { length bytes.now < 2 ^ 32 }
-    ensures point { IfOk result (λ point. IsCounted point) }
-    ensures words { IfOk result (λ point. HasWords point) }
+    ensures held { IfOk result IsHeld }
     ensures inverse { IfOk result (λ point. bytes_of point ≡ bytes.now) }
     ensures bad { IfErr result (λ fault. (at : ℕ) → fault ≡ Bad at → LeavesAt bytes.now at) }
 {

@@ -48,7 +48,7 @@ fn strings(alloc: Global, words: &[&str]) -> Result<Vec<String>, Memory> {
 }
 
 /// A shelf that holds the text under both names: `a.paris` is what tests call a listing.
-fn shelf_with(alloc: Global, text: &[u8], failing: &[u64]) -> Result<MemShelf, Memory> {
+pub fn shelf_with(alloc: Global, text: &[u8], failing: &[u64]) -> Result<MemShelf, Memory> {
     let source = Word::of(Vec::from_slice(alloc, b"a.cs")?);
     let listing = Word::of(Vec::from_slice(alloc, b"a.paris")?);
     let mut files = Vec::new(alloc);
@@ -86,8 +86,20 @@ pub fn command_by<R: Threads + Sync, G: Gate + Sync>(
     outside: Outside,
     gate: &G,
 ) -> Result<Done, Memory> {
-    let words = strings(alloc, words)?;
     let mut shelf = shelf_with(alloc, text, outside.shelf)?;
+    command_on(rt, alloc, words, &mut shelf, outside, gate)
+}
+
+/// The command on these words and the files of a shelf, which it may change.
+pub fn command_on<R: Threads + Sync, G: Gate + Sync>(
+    rt: &R,
+    alloc: Global,
+    words: &[&str],
+    shelf: &mut MemShelf,
+    outside: Outside,
+    gate: &G,
+) -> Result<Done, Memory> {
+    let words = strings(alloc, words)?;
     let mut input = MemSource::new(
         Vec::from_slice(alloc, outside.input)?,
         Vec::from_slice(alloc, outside.source)?,
@@ -98,7 +110,7 @@ pub fn command_by<R: Threads + Sync, G: Gate + Sync>(
         rt,
         alloc,
         words.as_slice(),
-        &mut shelf,
+        shelf,
         &mut input,
         &mut out,
         &mut err,

@@ -1,5 +1,5 @@
 //! Tests that need more than rows of text: an outside that fails, every byte and every
-//! beginning of a program, tokens, gates, and a listing of an image that breaks rules. Rows of programs,
+//! beginning of a program, tokens, gates, files that are kept, and a listing of an image that breaks rules. Rows of programs,
 //! listings and commands stand in `row_runs`.
 #![tactic(auto)]
 
@@ -15,5 +15,7 @@ mod gates;
 mod listings;
 #[cfg(test)]
 mod numbers;
+#[cfg(test)]
+mod saved;
 #[cfg(test)]
 mod tokens;

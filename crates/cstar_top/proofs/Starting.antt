@@ -6,6 +6,7 @@ use Rattle.cstar_base.specs.declared.operators.Winner.{Winner}
 use Rattle.cstar_compile.specs.Compiled.{IsOfProgram}
 use Rattle.cstar_words.specs.declared.options.Mode.{Mode}
 use Rattle.cstar_words.specs.declared.options.Mode.TheVariants as M
+use Rattle.listed_images.specs.Meaning.{IsListable}
 use Rattle.paris_code.specs.declared.program.Image.{Image}
 use Rattle.paris_code.specs.Listing.{listing}
 use Rattle.paris_code.specs.Sound.{IsSound}
@@ -20,17 +21,17 @@ use Rattle.cstar_top.specs.Refusals.{CanName, NamesOnly, RefusesRun}
 use Rattle.cstar_top.specs.Reported.{Begins}
 
 -- a new run of the image of a program, and of a listing, and one that goes on from a point
-pub program_begins : (mode : Mode) (winner : Winner) (text : List ℕ) (image : Image) (r : Result Start NoImage) → mode ≡ M.Run → length text ≤ 1048576 → IsSound image → IsOfProgram image
+pub program_begins : (mode : Mode) (winner : Winner) (text : List ℕ) (image : Image) (r : Result Start NoImage) → mode ≡ M.Run → length text ≤ 1048576 → IsSound image → IsListable image → IsOfProgram image
     → IfOk r (λ start. origin_of start ≡ new_start image winner) → IfOk r (λ start. Begins mode winner text (origin_of start))
-program_begins mode winner text image (Ok start) is within sound of new =
-    subst (λ (m : Mode). Begins m winner text (origin_of start)) (sym is) (image, within, sound, of, new)
-program_begins mode winner text image (Err none) is within sound of new = tt
+program_begins mode winner text image (Ok start) is within sound listable of new =
+    subst (λ (m : Mode). Begins m winner text (origin_of start)) (sym is) (image, within, sound, listable, of, new)
+program_begins mode winner text image (Err none) is within sound listable of new = tt
 
-pub listing_begins : (mode : Mode) (winner : Winner) (text : List ℕ) (image : Image) (r : Result Start NoImage) → mode ≡ M.Asm → length text ≤ 1048576 → IsSound image → listing image ≡ text → FitsMachine image
+pub listing_begins : (mode : Mode) (winner : Winner) (text : List ℕ) (image : Image) (r : Result Start NoImage) → mode ≡ M.Asm → length text ≤ 1048576 → IsSound image → IsListable image → listing image ≡ text → FitsMachine image
     → IfOk r (λ start. origin_of start ≡ new_start image winner) → IfOk r (λ start. Begins mode winner text (origin_of start))
-listing_begins mode winner text image (Ok start) is within sound listed fits new =
-    subst (λ (m : Mode). Begins m winner text (origin_of start)) (sym is) (image, within, sound, listed, fits, new)
-listing_begins mode winner text image (Err none) is within sound listed fits new = tt
+listing_begins mode winner text image (Ok start) is within sound listable listed fits new =
+    subst (λ (m : Mode). Begins m winner text (origin_of start)) (sym is) (image, within, sound, listable, listed, fits, new)
+listing_begins mode winner text image (Err none) is within sound listable listed fits new = tt
 
 pub point_begins : (mode : Mode) (winner : Winner) (text : List ℕ) (r : Result Start NoImage) → mode ≡ M.Resume
     → IfOk r (λ start. Resumes text (origin_of start)) → IfOk r (λ start. Begins mode winner text (origin_of start))

@@ -2,7 +2,7 @@
 use Rattle.std.proofs.Common.{◌≡◌, ◌≢◌, ◌∙◌, ℕ, Bool, true, List, Option, Some, None, ◌⊎◌, inl, inr, ap, sym, subst, refl, arith, true≢false}
 use Rattle.std.specs.Prelude.{IfSome, IsTrue, is_some, option_map}
 use Rattle.checkpoint.specs.declared.point.Point.{Point}
-use Rattle.checkpoint.specs.Bytes.{IsCounted, bytes_of}
+use Rattle.checkpoint.specs.Bytes.{IsHeld, bytes_of}
 use Rattle.cstar_base.specs.declared.operators.Winner.{Winner}
 use Rattle.paris_code.specs.Memory.{BitMemory}
 use Rattle.paris_machine.specs.declared.outcome.End.{End}
@@ -33,7 +33,7 @@ stopped_is turns E.Memory four = absurd (omega arith)
 
 -- a run comes with the point at which it stopped, where it did and that is asked for
 pub comes_with : (asked : Bool) (from : Origin) (course : Course) (point : Option Point) (turns : ℕ) (r answer : Answer) (winner : Winner) → from.memory.winner ≡ winner → answer ≡ answer_to_end turns course.end → r ≡ answer
-    → IfSome point (λ p. IsCounted p × (status_of answer ≡ 4) × (r ≡ answer) × (p ≡ point_with from.image course.stopped winner course.memory))
+    → IfSome point (λ p. IsHeld p × (status_of answer ≡ 4) × (r ≡ answer) × (p ≡ point_with from.image course.stopped winner course.memory))
     → (r ≡ answer → status_of answer ≡ 4 → asked ≡ true → is_some point ≡ true) → ComesWith asked from point course
 comes_with asked from course None turns r answer winner chosen own is made none = λ wants stopped.
     absurd (true≢false (sym (none is (ap status_of own ∙ ap (λ (e : End). status_of (answer_to_end turns e)) stopped) wants)))
@@ -49,7 +49,7 @@ comes_elsewhere asked from m (Some point) course same comes =
     (comes.0, comes.1 ∙ ap (λ (w : Winner). point_with from.image course.stopped w course.memory) same)
 
 -- an end with the status 4
-stopped_of : (turns : ℕ) (end : End) (answer : Answer) → Answers turns end answer → status_of answer ≡ 4 → end ≡ E.Stopped
+pub stopped_of : (turns : ℕ) (end : End) (answer : Answer) → Answers turns end answer → status_of answer ≡ 4 → end ≡ E.Stopped
 stopped_of turns end answer (inl is) four = stopped_is turns end (sym (ap status_of is) ∙ four)
 stopped_of turns end answer (inr said) four = said.1
 
@@ -66,10 +66,10 @@ none_held tells file old new options answer from course said comes = λ four nam
     absurd (comes (asked_for (λ word. word.now) options.save name is) (stopped_of options.turns course.end answer said four))
 
 -- and one that came with a point, which was kept, has that held
-pub point_held : {S : Type 0} (tells : S → Bool) (file : S → List ℕ → Option (List ℕ)) (old new : S) (options : Options) (status : ℕ) (from : Origin) (course : Course) (point : Point) (name : List ℕ) → save_name options ≡ Some name → IsCounted point → ComesWith (is_some options.save) from (Some point) course
+pub point_held : {S : Type 0} (tells : S → Bool) (file : S → List ℕ → Option (List ℕ)) (old new : S) (options : Options) (status : ℕ) (from : Origin) (course : Course) (point : Point) (name : List ℕ) → save_name options ≡ Some name → IsHeld point → ComesWith (is_some options.save) from (Some point) course
     → (IsTrue (tells old) → file new name ≡ Some (bytes_of point)) → HoldsPoint tells file old new options status from course
 point_held tells file old new options status from course point name named counted comes kept = λ four other is. (
-  subst (λ (p : Point). IsCounted p) comes.1 counted,
+  subst (λ (p : Point). IsHeld p) comes.1 counted,
   λ told. ap (file new) (sym (same_name name other (sym named ∙ is))) ∙ kept told ∙ ap (λ (p : Point). Some (bytes_of p)) comes.1,
 )
 
@@ -88,7 +88,7 @@ saves_one file old new agrees s t left rest options from answer point name named
 
 -- where the point was found
 pub saves_from : {S O : Type 0} (file : S → List ℕ → Option (List ℕ)) (old new : S) (agrees : O → List ℕ → Type 0) (s t : O) (left rest : Option (List ℕ)) (options : Options) (from : Origin) (answer : Answer) (found : Option Point) (point : Point) (name : List ℕ) → found ≡ Some point → save_name options ≡ Some name → OthersStay file old new name
-    → IfSome found (λ p. IsCounted p × (status_of answer ≡ 4)) → (status_of answer ≢ 6 → status_of answer ≢ 8 → Reports agrees s t left rest options from answer (ComesWith (is_some options.save) from found)) → SavesOne file old new left rest options from
+    → IfSome found (λ p. IsHeld p × (status_of answer ≡ 4)) → (status_of answer ≢ 6 → status_of answer ≢ 8 → Reports agrees s t left rest options from answer (ComesWith (is_some options.save) from found)) → SavesOne file old new left rest options from
 saves_from file old new agrees s t left rest options from answer None point name is named others saved said = cc
 saves_from file old new agrees s t left rest options from answer (Some p) point name is named others saved said =
     saves_one file old new agrees s t left rest options from answer p name named others (said (λ six. omega (arith, saved.1)) (λ eight. omega (arith, saved.1)))

@@ -5,6 +5,7 @@ use Rattle.cstar_compile.specs.Compiled.{IsOfProgram}
 use Rattle.cstar_words.specs.declared.options.Mode.{Mode}
 use Rattle.cstar_words.specs.declared.options.Mode.TheVariants as M
 use Rattle.cstar_words.specs.declared.options.Options.{Options}
+use Rattle.listed_images.specs.Meaning.{IsListable}
 use Rattle.paris_code.specs.declared.program.Image.{Image}
 use Rattle.paris_code.specs.Listing.{listing}
 use Rattle.paris_code.specs.Sound.{IsSound}
@@ -26,14 +27,14 @@ abbrev pub IsWhole : ℕ → Type 0
 IsWhole status = (status ≡ 0) ⊎ ((status ≡ 1) ⊎ ((status ≡ 4) ⊎ ((status ≡ 7) ⊎ (status ≡ 9))))
 
 -- Where a run of a text of no more than 2^20 bytes begins: it is a new run of an image that keeps the image
--- rules. In mode asm the text is its listing, and the machine has what it asks for; else the image is what
+-- rules, and whose listing determines what its code means. In mode asm the text is its listing, and the machine has what it asks for; else the image is what
 -- the compiler makes of a typed program. In mode resume the run goes on from the point that the text is.
 abbrev pub Begins : Mode → Winner → List ℕ → Origin → Type 0
 Begins M.Asm winner text from =
-    (image : Image) × (length text ≤ 1048576) × IsSound image × (listing image ≡ text) × FitsMachine image × (from ≡ new_start image winner)
+    (image : Image) × (length text ≤ 1048576) × IsSound image × IsListable image × (listing image ≡ text) × FitsMachine image × (from ≡ new_start image winner)
 Begins M.Resume winner text from = Resumes text from
 Begins _ winner text from =
-    (image : Image) × (length text ≤ 1048576) × IsSound image × IsOfProgram image × (from ≡ new_start image winner)
+    (image : Image) × (length text ≤ 1048576) × IsSound image × IsListable image × IsOfProgram image × (from ≡ new_start image winner)
 
 -- a sink took the report of a run of the text
 abbrev pub ReportsText : {O : Type 0} → (O → List ℕ → Type 0) → O → O → Option (List ℕ) → Option (List ℕ) → Options → List ℕ → Answer → (Origin → Course → Type 0) → Type 0

@@ -1,12 +1,15 @@
 -- Runs that stop and are saved, and what becomes of the files.
 use Rattle.std.specs.Prelude.{◌≡◌, ◌≢◌, ℕ, Bool, List, Option, Some, None, IsTrue, true, option_map}
 use Rattle.checkpoint.specs.declared.point.Point.{Point}
-use Rattle.checkpoint.specs.Bytes.{IsCounted, bytes_of}
+use Rattle.checkpoint.specs.Bytes.{IsHeld, bytes_of}
 use Rattle.cstar_io.specs.Faults.{RisesBy}
 use Rattle.cstar_io.specs.declared.call.Call.{Call}
 use Rattle.cstar_io.specs.declared.call.Call.TheVariants.{Keep}
+use Rattle.cstar_words.specs.declared.options.Mode.{Mode}
+use Rattle.cstar_words.specs.declared.options.Mode.TheVariants as M
 use Rattle.cstar_words.specs.declared.options.Options.{Options}
 use Rattle.paris_machine.specs.declared.outcome.End.TheVariants as E
+use Rattle.point_laws.specs.Joined.{GoesOn, Keeps}
 use Rattle.point_runs.specs.Courses.{Course, Feeds, IsCourse}
 use Rattle.point_runs.specs.Points.{point_at}
 use Rattle.point_runs.specs.Starts.{Origin}
@@ -28,7 +31,23 @@ OthersStay file old new name = (other : List ℕ) → other ≢ name → file ne
 abbrev pub HoldsPoint : {S : Type 0} → (S → Bool) → (S → List ℕ → Option (List ℕ)) → S → S → Options → ℕ → Origin → Course → Type 0
 HoldsPoint tells file old new options status from course =
     status ≡ 4 → (name : List ℕ) → save_name options ≡ Some name
-    → IsCounted (point_at from course) × (IsTrue (tells old) → file new name ≡ Some (bytes_of (point_at from course)))
+    → IsHeld (point_at from course) × (IsTrue (tells old) → file new name ≡ Some (bytes_of (point_at from course)))
+
+-- so they are bytes that keep the run, whatever text resumes it
+abbrev pub HoldsRun : {S : Type 0} → (S → Bool) → (S → List ℕ → Option (List ℕ)) → S → S → Options → ℕ → Origin → Course → Type 0
+HoldsRun tells file old new options status from course =
+    status ≡ 4 → (name : List ℕ) → save_name options ≡ Some name
+    → (bytes : List ℕ) × Keeps bytes from options.turns course × (IsTrue (tells old) → file new name ≡ Some bytes)
+
+-- in mode resume the run goes on from the one that the text keeps
+abbrev pub TakesUp : Mode → List ℕ → ℕ → Course → Type 0
+TakesUp M.Resume text turns course = GoesOn text turns course
+TakesUp _ text turns course = Unit {0}
+
+-- both are so of the run of a text
+abbrev pub IsSaved : {S : Type 0} → (S → Bool) → (S → List ℕ → Option (List ℕ)) → S → S → Options → List ℕ → ℕ → Origin → Course → Type 0
+IsSaved tells file old new options text status from course =
+    HoldsRun tells file old new options status from course × TakesUp options.mode text options.turns course
 
 -- the run stopped and was to be saved, and no file changed but the one of that name
 abbrev pub SavesOne : {S : Type 0} → (S → List ℕ → Option (List ℕ)) → S → S → Option (List ℕ) → Option (List ℕ) → Options → Origin → Type 0

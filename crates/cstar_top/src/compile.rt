@@ -5,6 +5,7 @@ ghost use Rattle.cstar_base.specs.declared.faults.Fault.TheVariants as F;
 ghost use Rattle.cstar_lexer.specs.Reading.{IsText};
 ghost use Rattle.cstar_tree.specs.declared.token.Token.{Token};
 ghost use Rattle.cstar_tree.specs.IsTyped.{IsTyped};
+ghost use Rattle.listed_images.specs.Meaning.{IsListable};
 ghost use Rattle.paris_code.specs.Sound.{IsSound};
 ghost use Rattle.point_runs.specs.declared.refusal.NoImage.TheVariants as N;
 ghost use Rattle.point_runs.specs.Refusals.{file_start};
@@ -19,6 +20,7 @@ use cstar_tree::syntax::Tree;
 use cstar_tree::token::Tokens;
 use cstar_tree::typed::Typed;
 use image_check::{CheckErr, Sound};
+use paris_asm::is_plain;
 use point_runs::{FILE_LIMIT, FILE_START, NoImage, refused, too_long, verified};
 use shape_types::{TypeFault, check};
 use std::alloc::Global;
@@ -68,17 +70,22 @@ fn accepted_tokens(alloc: Global, tokens: &Tokens) -> Result<TypedText, NoImage>
     }
 }
 
-/// The checked image of a typed program. That every image of the compiler keeps the image rules is
-/// not proved yet; one that did not would be refused as a form that is not built.
+/// The checked image of a typed program. That every image of the compiler keeps the image rules, and
+/// has names that a listing can be read back with, is not proved yet; one that did not would be
+/// refused as a form that is not built.
 pub fn compile(alloc: Global, typed: &Typed) -> Result<Sound, NoImage>
     requires { IsTyped typed.now }
     ensures compiled { IfOk result (λ sound. IsCompiled typed.now sound) }
     ensures sound { IfOk result IsSound }
+    ensures listable { IfOk result IsListable }
     ensures refused { IfErr result (NamesOnly (λ fault. fault ≡ F.NotBuilt)) }
 {
     let Ok(image) = image_of(alloc, typed) else {
         return Err(NoImage::Memory);
     };
+    if !is_plain(&image) {
+        return Err(not_built());
+    }
     match verified(alloc, image) {
         Ok(sound) => Ok(sound),
         Err(CheckErr::Bad { .. }) => Err(not_built()),
@@ -86,7 +93,7 @@ pub fn compile(alloc: Global, typed: &Typed) -> Result<Sound, NoImage>
     }
 }
 
-/// The refusal of an image of the compiler that breaks an image rule.
+/// The refusal of an image of the compiler that breaks an image rule, or that no listing can be of.
 fn not_built() -> NoImage
     ensures { result ≡ N.Refused F.NotBuilt file_start }
 {

@@ -1,7 +1,7 @@
 //! A run of an image, and the listing, the final values and the count that go with it.
 
 ghost use Rattle.std.specs.Prelude.{◌≡◌, ◌≢◌, ◌⊎◌, ℕ, ◌++◌, ◌||◌, IfSome, is_some, true, false, codes, decimal};
-ghost use Rattle.checkpoint.specs.Bytes.{IsCounted};
+ghost use Rattle.checkpoint.specs.Bytes.{IsHeld};
 ghost use Rattle.cstar_base.specs.declared.operators.Winner.{Winner};
 ghost use Rattle.cstar_io.specs.Faults.{RisesBy};
 ghost use Rattle.cstar_io.specs.Output.{Takes, TakesNothing, TakesPrefix};
@@ -112,7 +112,7 @@ fn run_on_phases<R: Threads + Sync, I: Source, O: Sink, G: Gate + Sync>(
     ensures report { status_of result.answer ≢ 6 → status_of result.answer ≢ 8 → Reports O.agrees out.old out.new (I.left input.old) (I.left input.new) options.now (origin_of start) result.answer
         (ComesWith (is_some options.now.save) (origin_of start) result.point) }
     ensures part { ReportsPart O.agrees out.old out.new (I.left input.old) (I.left input.new) options.now (origin_of start) }
-    ensures saved { IfSome result.point (λ point. IsCounted point × (status_of result.answer ≡ 4)) }
+    ensures saved { IfSome result.point (λ point. IsHeld point × (status_of result.answer ≡ 4)) }
 {
     let phase = |machine: &mut Machine, instr: &Instr, args: &[u32], winner: Winner| -> Reply
         requires { CanDo machine.now instr.now args.now }
@@ -188,7 +188,7 @@ fn run_on<P: Phases, I: Source, O: Sink>(
         (ComesWith (is_some options.now.save) (record { image = start.sound; kept = start.kept; memory = P.memory phases.old }) result.point) }
     ensures part { ReportsPart O.agrees out.old out.new (I.left input.old) (I.left input.new) options.now
         (record { image = start.sound; kept = start.kept; memory = P.memory phases.old }) }
-    ensures saved { IfSome result.point (λ point. IsCounted point × (status_of result.answer ≡ 4)) }
+    ensures saved { IfSome result.point (λ point. IsHeld point × (status_of result.answer ≡ 4)) }
 {
     let Start {
         sound,
@@ -226,7 +226,7 @@ fn with_point<P: Phases>(
     requires shapes { P.shapes phases.now ≡ shapes_of sound.now }
     requires settled { P.settled phases.now }
     ensures own { (result.answer ≡ answer) ⊎ ((status_of answer ≡ 4) × (result.answer ≡ A.Memory)) }
-    ensures point { IfSome result.point (λ point. IsCounted point × (status_of answer ≡ 4) × (result.answer ≡ answer)
+    ensures point { IfSome result.point (λ point. IsHeld point × (status_of answer ≡ 4) × (result.answer ≡ answer)
         × (point ≡ point_with sound.now kept winner (P.memory phases.now))) }
     ensures none { result.answer ≡ answer → status_of answer ≡ 4 → is_some options.now.save ≡ true → is_some result.point ≡ true }
 {

@@ -1,7 +1,7 @@
 //! The point of a run that stopped, kept on the shelf.
 
 ghost use Rattle.std.specs.Prelude.{◌≡◌, ◌≢◌, ℕ, List, Some, IsTrue, OnOk, false};
-ghost use Rattle.checkpoint.specs.Bytes.{IsCounted, bytes_of};
+ghost use Rattle.checkpoint.specs.Bytes.{IsHeld, bytes_of};
 ghost use Rattle.cstar_io.specs.Files.{has_failed};
 ghost use Rattle.cstar_top.specs.Saved.{CannotKeep, OthersStay};
 
@@ -17,7 +17,7 @@ pub fn keep_point<S: Shelf>(
     point: &Point,
     shelf: &mut S,
 ) -> Result<(), ShelfErr>
-    requires { IsCounted point.now }
+    requires { IsHeld point.now }
     ensures kept { OnOk result (IsTrue (S.tells shelf.old) → S.file shelf.new name.now ≡ Some (bytes_of point.now)) }
     ensures others { OthersStay S.file shelf.old shelf.new name.now }
     ensures failed { IsTrue (has_failed result) → CannotKeep S.faults S.last_failed shelf.old shelf.new name.now }

@@ -12,6 +12,7 @@ ghost use Rattle.cstar_words.specs.declared.options.Mode.{Mode};
 ghost use Rattle.cstar_words.specs.declared.options.Mode.TheVariants as M;
 ghost use Rattle.cstar_words.specs.declared.options.Options.{Options};
 ghost use Rattle.cstar_words.specs.Reading.{Reads, is_command, rows_in};
+ghost use Rattle.listed_images.specs.Meaning.{IsListable};
 ghost use Rattle.paris_code.specs.Sound.{IsSound};
 ghost use Rattle.point_runs.specs.declared.refusal.NoImage.TheVariants as N;
 ghost use Rattle.point_runs.specs.Refusals.{TellsWhy, file_start};
@@ -26,7 +27,7 @@ ghost use Rattle.cstar_top.specs.Outcomes.{CanAnswer};
 ghost use Rattle.cstar_top.specs.Refusals.{AnswersWhy, CanName, HoldsLong, NamesOnly, RefusesLong, RefusesRun, answer_to_none};
 ghost use Rattle.cstar_top.specs.Reported.{AsksToRun, Begins, Holds, IsWhole, ReportsText, ReportsTextPart};
 ghost use Rattle.cstar_top.specs.Reports.{CannotFetch, PutsAnswer, PutsPartOfAnswer, told_name};
-ghost use Rattle.cstar_top.specs.Saved.{AllStay, CannotKeep, CannotSaveRun, HoldsPoint, SavesOne};
+ghost use Rattle.cstar_top.specs.Saved.{AllStay, CannotKeep, CannotSaveRun, IsSaved, SavesOne};
 
 use crate::answer::Answer;
 use crate::compile::{accepted, compile};
@@ -63,7 +64,7 @@ fn answer<R: Threads + Sync, S: Shelf, I: Source, O: Sink, G: Gate + Sync>(
     ensures report { runs_image options.now.mode ≡ true → status_of result ≢ 3 → status_of result ≢ 5 → status_of result ≢ 6 → status_of result ≢ 8
         → (text : List ℕ) × Holds S.tells S.file shelf.old options.now.file.now text
         × ReportsText O.agrees out.old out.new (I.left input.old) (I.left input.new) options.now text result
-        (HoldsPoint S.tells S.file shelf.old shelf.new options.now (status_of result)) }
+        (IsSaved S.tells S.file shelf.old shelf.new options.now text (status_of result)) }
     ensures part_of_report { runs_image options.now.mode ≡ true → TakesNothing O.agrees out.old out.new
         ⊎ ((text : List ℕ) × Holds S.tells S.file shelf.old options.now.file.now text
         × ReportsTextPart O.agrees out.old out.new (I.left input.old) (I.left input.new) options.now text) }
@@ -166,7 +167,7 @@ fn run_text<R: Threads + Sync, S: Shelf, I: Source, O: Sink, G: Gate + Sync>(
     ensures why { AnswersWhy (RefusesRun options.now.mode text.items) result }
     ensures report { status_of result ≢ 3 → status_of result ≢ 6 → status_of result ≢ 8
         → ReportsText O.agrees out.old out.new (I.left input.old) (I.left input.new) options.now text.items result
-        (HoldsPoint S.tells S.file shelf.old shelf.new options.now (status_of result)) }
+        (IsSaved S.tells S.file shelf.old shelf.new options.now text.items (status_of result)) }
     ensures part { TakesNothing O.agrees out.old out.new
         ⊎ ReportsTextPart O.agrees out.old out.new (I.left input.old) (I.left input.new) options.now text.items }
     ensures write_fault { status_of result ≡ 6 → RisesBy (O.faults out.old) (O.faults out.new) }
@@ -223,6 +224,7 @@ fn new_run(alloc: Global, sound: Sound, winner: Winner) -> Result<Start, NoImage
 fn compiled(alloc: Global, text: &[u8]) -> Result<Sound, NoImage>
     ensures compiled { IfOk result (λ sound. IsOfProgram sound) }
     ensures sound { IfOk result IsSound }
+    ensures listable { IfOk result IsListable }
     ensures within { IfOk result (λ sound. length text.now ≤ FILE_LIMIT) }
     ensures too_long { FILE_LIMIT < length text.now → result ≡ Err (N.Refused F.TooLong file_start) }
     ensures refused { IfErr result (NamesOnly (CanName M.List)) }
@@ -285,7 +287,7 @@ pub fn cstar<R: Threads + Sync, S: Shelf, I: Source, O: Sink, E: Sink, G: Gate +
         → (options : Options) × Reads (rows_in (map string_bytes words.now)) options × ((text : List ℕ) × Holds S.tells S.file shelf.old options.file.now text
         × ((answer : Answer) × (status_of answer ≡ result) × Takes E.agrees err.old err.new (line_of (told_name options answer) answer)
         × ReportsText O.agrees out.old out.new (I.left input.old) (I.left input.new) options text answer
-        (HoldsPoint S.tells S.file shelf.old shelf.new options result))) }
+        (IsSaved S.tells S.file shelf.old shelf.new options text result))) }
     ensures part_of_report { AsksToRun (map string_bytes words.now) → TakesNothing O.agrees out.old out.new
         ⊎ ((options : Options) × Reads (rows_in (map string_bytes words.now)) options × ((text : List ℕ) × Holds S.tells S.file shelf.old options.file.now text
         × ReportsTextPart O.agrees out.old out.new (I.left input.old) (I.left input.new) options text)) }

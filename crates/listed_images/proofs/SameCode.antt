@@ -1,5 +1,5 @@
 -- Two images that hold the same have the same meaning.
-use Rattle.std.proofs.Common.{◌≡◌, ◌∙◌, ◌+◌, ◌++◌, cond, ℕ, zero, suc, List, [], ◌∷◌, length, map, Vec, Global, refl, sym, subst, ap, ap₂}
+use Rattle.std.proofs.Common.{◌≡◌, ◌∙◌, ◌+◌, ◌++◌, cond, ℕ, zero, suc, List, [], ◌∷◌, length, map, Some, Vec, Global, refl, sym, subst, ap, ap₂}
 use Rattle.std.specs.List.{slice_get, slice_index}
 use Rattle.cstar_base.specs.declared.faults.RunFault.TheVariants.{Index}
 use Rattle.cstar_base.specs.declared.operators.Place.{Place}
@@ -100,6 +100,17 @@ module _ (image : Image) (s : CodeState) where
   begun_same (I.FrontCheckTarget set place cs) j same = front_target_same set place cs j same
   begun_same i j same = ap (λ k. begun image k s) (plain_same i j same)
 
+-- an instruction without a list stands in both
+stands : (is js : List Instr) (k : ℕ) (instr : Instr) → map step_of is ≡ map step_of js → step_of instr ≡ Plain instr → slice_get is k ≡ Some instr → slice_get js k ≡ Some instr
+stands [] js k instr same plain at = cc
+stands (i ∷ is) [] k instr same plain at = cc
+stands (i ∷ is) (j ∷ js) zero instr same plain at =
+    let first : step_of i ≡ step_of j = cc in
+    let here : i ≡ instr = cc in
+    ap Some (sym (plain_same instr j (sym plain ∙ ap step_of (sym here) ∙ first)))
+stands (i ∷ is) (j ∷ js) (suc k) instr same plain at =
+    let rest : map step_of is ≡ map step_of js = cc in stands is js k instr rest plain at
+
 module _ (one other : Image) (shapes : shapes_of one ≡ shapes_of other) (units : one.units.items ≡ other.units.items) where
   controlled_same : (i : Instr) (s : CodeState) → controlled one i s ≡ controlled other i s
   controlled_same (I.FrontCheckTarget set place cs) s = ap (λ t. checked (any_register_outside (extents_at t set) cs.items s.registers) Index place s) shapes
@@ -132,10 +143,11 @@ module _ (one other : Image) (shapes : shapes_of one ≡ shapes_of other) (units
     code_same (suc n) s = ap (go_on (λ t. code one n t)) (step_same s) ∙ go_same (λ t. code one n t) (λ t. code other n t) (code_same n) (step other s)
 
 pub same_meaning : (one other : Image) → DeterminesMeaning one other
-same_meaning one other plain also words more listed =
-    let same : SameImage one other = determines one other plain also words more listed in
+same_meaning one other listable also listed =
+    let same : SameImage one other = determines one other listable.plain also.plain listable.words also.words listed in
     record {
       sets = same.shapes;
+      same = λ place instr plain at. stands one.code.items other.code.items place instr same.code plain at;
       step = step_same one other same.shapes same.units same.code;
       code = code_same one other same.shapes same.units same.code;
     }

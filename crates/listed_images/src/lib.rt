@@ -9,7 +9,7 @@ mod words;
 
 pub use words::have_words;
 
-/// Two plain images with the same listing have the same sets, and their code means the same.
+/// Two listable images with the same listing have the same sets, and their code means the same.
 pub fn listing_determines_meaning()
     ensures { (one other : Image) → DeterminesMeaning one other }
 {}

@@ -10,3 +10,4 @@ mod plain;
 mod words;
 
 pub use listing::{AsmFault, read};
+pub use plain::is_plain;

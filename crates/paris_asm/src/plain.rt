@@ -1,7 +1,37 @@
 //! The names that plain images have.
 
 ghost use Rattle.std.specs.Prelude.{◌≡◌, ◌↔◌, All, IsTrue, true};
-ghost use Rattle.paris_code.specs.Plain.{IsBracketed, IsElementName, IsName, IsNumeral, begins_name, goes_on_name, is_digit};
+ghost use Rattle.paris_code.specs.Plain.{AreFinalNames, AreGrids, AreUnitNames, IsBracketed, IsElementName, IsName, IsNumeral, IsPlain, begins_name, goes_on_name, is_digit};
+
+use paris_code::{Entry, Final, Image, ShapeBits};
+
+/// Whether the listing of the image can be read back: its units have names, its final variables those
+/// of variables or of elements of arrays, and each of its shapes an axis at least.
+pub fn is_plain(image: &Image) -> bool
+    ensures { result ≡ true → IsPlain image.now }
+{
+    are_unit_names(image.units.as_slice())
+        && are_final_names(image.finals.as_slice())
+        && are_grids(image.shapes.as_slice())
+}
+
+fn are_unit_names(units: &[Entry]) -> bool
+    ensures { result ≡ true → AreUnitNames units.now }
+{
+    units.iter().all(|unit| is_name(unit.name.bytes()))
+}
+
+fn are_final_names(finals: &[Final]) -> bool
+    ensures { result ≡ true → AreFinalNames finals.now }
+{
+    finals.iter().all(|last| is_element_name(last.name.bytes()))
+}
+
+fn are_grids(shapes: &[ShapeBits]) -> bool
+    ensures { result ≡ true → AreGrids shapes.now }
+{
+    shapes.iter().all(|shape| !shape.extents.is_empty())
+}
 
 /// Whether the byte is a letter or `_`.
 fn begins_name(byte: u8) -> bool

@@ -12,7 +12,8 @@ use Rattle.paris_machine.proofs.Same.{bits_after}
 use Rattle.point_runs.specs.Courses.{Course, IsCourse, joined}
 use Rattle.point_runs.specs.Points.{point_at, start_at}
 use Rattle.point_runs.specs.Starts.{Origin}
-use Rattle.point_laws.specs.Joined.{HasBits, RunsAsOne}
+use Rattle.point_laws.specs.Joined.{HasBits, ResumesWell}
+use Rattle.point_laws.proofs.Listed.{from_kept}
 use Rattle.point_laws.proofs.Restoring.{restored_same}
 use Rattle.point_laws.proofs.Steady.{Steady, Leads, code_steady, steady_same, step_leads}
 
@@ -65,5 +66,7 @@ module _ (from : Origin) (sound : IsSound from.image) (bits : HasBits (shapes_of
         (last.0, ap (λ (xs : List ℕ). xs ++ second.taken) ended.1 ∙ last.1, last.2);
   }
 
-pub runs_as_one : (from : Origin) → IsSound from.image → HasBits (shapes_of from.image) from.memory → RunsAsOne from
-runs_as_one from sound bits turns more first second one stop two = as_one from sound bits turns more first second one stop two
+-- bytes that keep a run determine where it goes on
+pub resumes_well : (bytes : List ℕ) → ResumesWell bytes
+resumes_well bytes to more second resumes ran from turns first keeps =
+    as_one from keeps.origin.sound keeps.origin.bits turns more first second keeps.ran keeps.stopped (from_kept bytes from turns first to more second keeps resumes ran)

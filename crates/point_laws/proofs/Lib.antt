@@ -1,3 +1,5 @@
 pub mod Joining
+pub mod Listed
+pub mod Origins
 pub mod Restoring
 pub mod Steady

@@ -1,13 +1,11 @@
 //! The law of saved runs, which readers find here by name.
 #![tactic(auto)]
 
-ghost use Rattle.paris_code.specs.Shapes.{shapes_of};
-ghost use Rattle.paris_code.specs.Sound.{IsSound};
-ghost use Rattle.point_laws.specs.Joined.{HasBits, RunsAsOne};
-ghost use Rattle.point_runs.specs.Starts.{Origin};
+ghost use Rattle.std.specs.Prelude.{ℕ, List};
+ghost use Rattle.point_laws.specs.Joined.{ResumesWell};
 
-/// A run that stopped, and one that goes on from its point, are together the run with the sum of the
-/// turns.
-pub fn saved_run_is_one()
-    ensures { (from : Origin) → IsSound from.image → HasBits (shapes_of from.image) from.memory → RunsAsOne from }
+/// A run that stopped and was kept as bytes, and one that goes on from these, are together the run
+/// with the sum of the turns.
+pub fn kept_run_goes_on()
+    ensures { (bytes : List ℕ) → ResumesWell bytes }
 {}

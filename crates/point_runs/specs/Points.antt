@@ -1,13 +1,14 @@
 -- The points at which runs stop, where runs go on from them, and why others are refused.
 use Rattle.std.specs.Prelude.{◌≡◌, ◌<◌, ◌≤◌, ◌+◌, ℕ, List, length}
 use Rattle.checkpoint.specs.declared.point.Point.{Point}
-use Rattle.checkpoint.specs.Bytes.{IsCounted, LeavesAt, bytes_of}
+use Rattle.checkpoint.specs.Bytes.{IsHeld, LeavesAt, bytes_of}
 use Rattle.cstar_base.specs.declared.faults.Fault.{Fault}
 use Rattle.cstar_base.specs.declared.faults.Fault.TheVariants as F
 use Rattle.cstar_base.specs.declared.operators.Place.{Place}
 use Rattle.cstar_base.specs.declared.operators.Winner.{Winner}
 use Rattle.front_end.specs.declared.kept.Kept.{Kept}
 use Rattle.front_end.specs.Kept.{KeptFits}
+use Rattle.listed_images.specs.Meaning.{IsListable}
 use Rattle.paris_code.specs.declared.instr.Instr.TheVariants as I
 use Rattle.paris_code.specs.declared.program.Image.{Image}
 use Rattle.paris_code.specs.Listing.{listing}
@@ -54,14 +55,15 @@ pub record CanGoOn (image : Image) (kept : Kept) (bits : List ℕ) : Type 0 wher
   pub turn : IsAt image kept.at I.FrontTurn
   pub sets : AreBits (shapes_of image) bits
 
--- an image that is run on from a point has its listing, keeps the image rules, and has room in the machine
+-- an image that is run on from a point has its listing, which determines what its code means, keeps the image
+-- rules, and has room in the machine
 abbrev pub IsImageOf : Point → Image → Type 0
-IsImageOf point image = IsSound image × IsListed point.listing image × FitsSets image
+IsImageOf point image = IsSound image × IsListable image × IsListed point.listing image × FitsSets image
 
 -- the bytes, at most 2^30, are those of a point
 pub record IsPointOf (text : List ℕ) (point : Point) : Type 0 where
   pub within : length text ≤ 1073741824
-  pub counted : IsCounted point
+  pub held : IsHeld point
   pub bytes : bytes_of point ≡ text
 
 -- a run goes on from a point

@@ -3,7 +3,9 @@
 ghost use Rattle.std.specs.Prelude.{◌≡◌, ◌<◌, ◌≤◌, ◌^◌, Err, IfErr, IfOk, true, false, length};
 ghost use Rattle.cstar_base.specs.declared.faults.Fault.TheVariants as F;
 ghost use Rattle.image_check.specs.Errors.{IsRefusalOf};
+ghost use Rattle.listed_images.specs.Meaning.{IsListable};
 ghost use Rattle.paris_code.specs.Listing.{listing};
+ghost use Rattle.paris_code.specs.Plain.{IsPlain};
 ghost use Rattle.paris_code.specs.Sound.{IsSound};
 ghost use Rattle.point_runs.specs.declared.refusal.NoImage.TheVariants as N;
 ghost use Rattle.point_runs.specs.Assembled.{BreaksRule, FitsMachine, FitsSets, RefusesListing, RefusesPart, RefusesSets, bits_of_set, bits_of_sets, line_in};
@@ -12,6 +14,7 @@ ghost use Rattle.point_runs.specs.Refusals.{TellsWhy, file_start};
 use crate::refusal::{FILE_LIMIT, FILE_START, NoImage, refused, too_long};
 use cstar_base::{Fault, Place};
 use image_check::{CheckErr, Sound, verify};
+use listed_images::have_words;
 use paris_asm::{AsmFault, read};
 use paris_code::{Image, ShapeBits};
 use std::alloc::Global;
@@ -35,6 +38,7 @@ const MOST_NUMBERED: usize = u32::MAX as usize;
 pub fn assembled(alloc: Global, text: &[u8]) -> Result<Sound, NoImage>
     ensures listed { IfOk result (λ sound. listing sound ≡ text.now) }
     ensures sound { IfOk result IsSound }
+    ensures listable { IfOk result IsListable }
     ensures within { IfOk result (λ sound. length text.now ≤ FILE_LIMIT) }
     ensures fits { IfOk result (λ sound. FitsMachine sound) }
     ensures too_long { FILE_LIMIT < length text.now → result ≡ Err (N.Refused F.TooLong file_start) }
@@ -54,6 +58,7 @@ pub(crate) fn assembled_part(alloc: Global, text: &[u8]) -> Result<Sound, NoImag
     requires { length text.now < 2 ^ 32 }
     ensures listed { IfOk result (λ sound. listing sound ≡ text.now) }
     ensures sound { IfOk result IsSound }
+    ensures listable { IfOk result IsListable }
     ensures fits { IfOk result (λ sound. FitsSets sound) }
     ensures refused { IfErr result (TellsWhy (RefusesPart text.now)) }
 {
@@ -67,6 +72,7 @@ pub(crate) fn assembled_part(alloc: Global, text: &[u8]) -> Result<Sound, NoImag
 fn listed(alloc: Global, text: &[u8]) -> Result<Image, NoImage>
     requires { length text.now < 2 ^ 32 }
     ensures listed { IfOk result (λ image. listing image ≡ text.now) }
+    ensures plain { IfOk result IsPlain }
     ensures fits { IfOk result (λ image. FitsSets image) }
     ensures refused { IfErr result (TellsWhy (RefusesSets text.now)) }
 {
@@ -87,9 +93,11 @@ fn listed(alloc: Global, text: &[u8]) -> Result<Image, NoImage>
 /// machine has.
 fn fitting(alloc: Global, image: Image, text: &[u8]) -> Result<Sound, NoImage>
     requires listed { listing image ≡ text.now }
+    requires plain { IsPlain image }
     requires fits { FitsSets image }
     ensures listed { IfOk result (λ sound. listing sound ≡ text.now) }
     ensures sound { IfOk result IsSound }
+    ensures listable { IfOk result IsListable }
     ensures fits { IfOk result (λ sound. FitsMachine sound) }
     ensures refused { IfErr result (TellsWhy (RefusesListing text.now)) }
 {
@@ -133,8 +141,10 @@ fn bits_of_set(shape: &ShapeBits) -> u128
 /// The image with the proof that it keeps the image rules. A broken rule is refused at the line of
 /// its instruction.
 fn checked(alloc: Global, image: Image) -> Result<Sound, NoImage>
+    requires plain { IsPlain image }
     ensures same { IfOk result (λ sound. sound ≡ image) }
     ensures sound { IfOk result IsSound }
+    ensures listable { IfOk result IsListable }
     ensures refused { IfErr result (TellsWhy (BreaksRule image)) }
 {
     match verified(alloc, image) {
@@ -150,17 +160,25 @@ fn checked(alloc: Global, image: Image) -> Result<Sound, NoImage>
     }
 }
 
-/// The image with the proof that it keeps the image rules, or its first fault. Units or instructions
-/// past the numbers of 32 bits count as want of memory.
+/// The plain image with the proof that it keeps the image rules, or its first fault. Units or
+/// instructions past the numbers of 32 bits count as want of memory.
 pub fn verified(alloc: Global, image: Image) -> Result<Sound, CheckErr>
+    requires plain { IsPlain image }
     ensures same { IfOk result (λ sound. sound ≡ image) }
     ensures sound { IfOk result IsSound }
+    ensures listable { IfOk result IsListable }
     ensures refused { IfErr result (IsRefusalOf image) }
 {
     if image.units.len() > MOST_NUMBERED || image.code.len() > MOST_NUMBERED {
         return Err(CheckErr::Memory { image });
     }
-    verify(alloc, image)
+    match verify(alloc, image) {
+        Ok(sound) => {
+            have_words(sound.image());
+            Ok(sound)
+        }
+        Err(refusal) => Err(refusal),
+    }
 }
 
 /// The line of an instruction in the listing of its image; that behind the last line for the index

@@ -1,7 +1,7 @@
 //! From a run that stopped to its point.
 
 ghost use Rattle.std.specs.Prelude.{◌≡◌, ◌<◌, ◌^◌, IfOk, length};
-ghost use Rattle.checkpoint.specs.Bytes.{IsCounted};
+ghost use Rattle.checkpoint.specs.Bytes.{AreWords, IsHeld};
 ghost use Rattle.front_end.specs.Kept.{KeptFits};
 ghost use Rattle.paris_code.specs.Listing.{listing};
 ghost use Rattle.paris_code.specs.Shapes.{shapes_of};
@@ -30,11 +30,13 @@ pub fn point_of<P: Phases>(
     requires shapes { P.shapes phases.now ≡ shapes_of sound.now }
     requires settled { P.settled phases.now }
     ensures point { IfOk result (λ point. point ≡ point_with sound.now kept winner (P.memory phases.now)) }
-    ensures counted { IfOk result IsCounted }
+    ensures held { IfOk result IsHeld }
 {
     let image = sound.image();
     let _slots = slots(image);
     let _depth = depth(image);
+    are_words(kept.regs.list());
+    are_words(kept.returns.list());
     let bits = gather(alloc, sound, phases)?;
     let listing = listing_of(alloc, sound)?;
     Ok(Point {
@@ -61,6 +63,11 @@ fn depth(image: &Image) -> u32
 {
     image.depth
 }
+
+/// Each of the numbers has 32 bits, by its type.
+fn are_words(numbers: &[u32])
+    ensures { AreWords numbers.now }
+{}
 
 /// The listing of an image.
 fn listing_of(alloc: Global, sound: &Sound) -> Result<Word, Memory>

@@ -2,7 +2,7 @@ use Rattle.std.proofs.Common.{◌≡◌, ◌≢◌, ◌∙◌, ℕ, List, [], Op
 use Rattle.std.specs.String.{string_bytes}
 use Rattle.cstar_words.specs.Reading.{is_command}
 use Rattle.cstar_words.specs.declared.options.Options.{Options}
-use Rattle.cstar_top.specs.Saved.{HoldsPoint}
+use Rattle.cstar_top.specs.Saved.{IsSaved}
 use Rattle.batch_jobs.specs.declared.one_file.OneFile.{OneFile}
 use Rattle.batch_jobs.specs.Answering.{AnswersJob, ReportsRefusal, words_of_job}
 use Rattle.batch_jobs.specs.declared.page.Page.{Page}
@@ -47,7 +47,7 @@ returns g c =
     let eight : status ≢ 8 = λ is. omega (arith, c.if-status-eq-NO_MEMORY.false, is) in
     let seven : status ≢ 7 = λ is. never_rises (c.cstar-status.ensures.input_fault is) in
     let five : status ≢ 5 = λ is. never_rises (c.cstar-status.ensures.unreadable is).2.0 in
-    let More = λ (options : Options). HoldsPoint {S = OneFile} (λ shelf. true) (λ shelf under. Some shelf.text.now) c.new-shelf.result c.cstar-status.new.shelf options status in
+    let More = λ (options : Options) (text : List ℕ). IsSaved {S = OneFile} (λ shelf. true) (λ shelf under. Some shelf.text.now) c.new-shelf.result c.cstar-status.new.shelf options text status in
     let nine : status ≢ 9 = λ is. never_rises (c.cstar-status.ensures.cannot_save is).2.0 in
     let two : status ≢ 2 = λ is. true≢false (sym (ap is_command asked ∙ is_job_command name) ∙ (c.cstar-status.ensures.usage is).0) in
     let counts = c.cstar-status.ensures.counts six in

@@ -8,7 +8,7 @@ use Rattle.cstar_top.specs.Modes.{budget, limit_of}
 use Rattle.cstar_top.specs.Outcomes.{CanAnswer}
 use Rattle.cstar_top.specs.Refusals.{AnswersWhy, RefusesRun}
 use Rattle.cstar_top.specs.Reported.{Begins, ReportsText, ReportsTextPart}
-use Rattle.cstar_top.specs.Saved.{HoldsPoint}
+use Rattle.cstar_top.specs.Saved.{IsSaved}
 use Rattle.cstar_top.proofs.Refusals.{budget_is, check_not_run, cut_is_long, held_or_long, left_not_run, list_not_run, long_why, text_limit}
 use Rattle.cstar_top.proofs.Reported.{reported_as}
 use Rattle.cstar_top.proofs.top.answer.Goals as goal
@@ -50,10 +50,10 @@ returns-then-runs_image-clause-report g c runs three five six eight =
       | inl same ↦ (
         held.0,
         held.1,
-        subst (λ (text : List ℕ). ReportsText g.O.Sink.agrees c.args.out.now c.run_text.new.out (g.I.Source.left c.args.input.now) (g.I.Source.left c.run_text.new.input) options text c.run_text.result (HoldsPoint g.S.Shelf.tells g.S.Shelf.file c.args.shelf.now c.run_text.new.shelf options status)) (sym same)
+        subst (λ (text : List ℕ). ReportsText g.O.Sink.agrees c.args.out.now c.run_text.new.out (g.I.Source.left c.args.input.now) (g.I.Source.left c.run_text.new.input) options text c.run_text.result (IsSaved g.S.Shelf.tells g.S.Shelf.file c.args.shelf.now c.run_text.new.shelf options text status)) (sym same)
             (reported_as g.O.Sink.agrees c.args.out.now c.run_text.new.out (g.I.Source.left c.args.input.now) (g.I.Source.left c.run_text.new.input) options c.in-Ok.text.items c.run_text.result
-            (HoldsPoint g.S.Shelf.tells g.S.Shelf.file c.fetch.new.self c.run_text.new.shelf options status) (HoldsPoint g.S.Shelf.tells g.S.Shelf.file c.args.shelf.now c.run_text.new.shelf options status)
-            (λ from course holds four name is. ((holds four name is).0, λ told. (holds four name is).1 (subst (λ (t : Bool). IsTrue t) (sym c.in-Ok.ensures.tells) told)))
+            (IsSaved g.S.Shelf.tells g.S.Shelf.file c.fetch.new.self c.run_text.new.shelf options c.in-Ok.text.items status) (IsSaved g.S.Shelf.tells g.S.Shelf.file c.args.shelf.now c.run_text.new.shelf options c.in-Ok.text.items status)
+            (λ from course saved. ((λ four name is. let held = saved.0 four name is in (held.0, held.1, λ told. held.2 (subst (λ (t : Bool). IsTrue t) (sym c.in-Ok.ensures.tells) told))), saved.1))
             (c.run_text.ensures.report three six eight)),
       )
       | inr long ↦ let cut : limit_of options.mode < length c.in-Ok.text.items = omega (arith, at, long.1) in

@@ -7,7 +7,7 @@ use Rattle.cstar_top.specs.Answers.{line_of, status_of}
 use Rattle.cstar_top.specs.Modes.{budget, leaves_input, limit_of, named, reads_file, runs_image}
 use Rattle.cstar_top.specs.Refusals.{AnswersWhy, HoldsLong, RefusesLong, RefusesRun}
 use Rattle.cstar_top.specs.Reported.{Holds}
-use Rattle.cstar_top.specs.Saved.{HoldsPoint}
+use Rattle.cstar_top.specs.Saved.{IsSaved}
 use Rattle.cstar_top.proofs.Asked.{budget_is, few_workers, mode_is, named_is, told_named, told_of_long, told_of_refusal}
 use Rattle.cstar_top.proofs.Lines.{status_is}
 use Rattle.cstar_top.proofs.Listings.{nothing_taken}
@@ -147,8 +147,8 @@ returns-in-Ok-clause-report g c asks whole =
           sym same,
           subst (λ (name : List ℕ). Takes g.E.Sink.agrees c.args.err.now c.report.new.err (line_of name answer)) c.told_name.ensures own,
           reported_as g.O.Sink.agrees c.args.out.now c.answer-answer.new.out (g.I.Source.left c.args.input.now) (g.I.Source.left c.answer-answer.new.input) options reported.0 answer
-              (HoldsPoint g.S.Shelf.tells g.S.Shelf.file c.args.shelf.now c.answer-answer.new.shelf options (status_of answer)) (HoldsPoint g.S.Shelf.tells g.S.Shelf.file c.args.shelf.now c.answer-answer.new.shelf options c.report.result)
-              (λ from course holds four. holds (sym same ∙ four)) reported.2,
+              (IsSaved g.S.Shelf.tells g.S.Shelf.file c.args.shelf.now c.answer-answer.new.shelf options reported.0 (status_of answer)) (IsSaved g.S.Shelf.tells g.S.Shelf.file c.args.shelf.now c.answer-answer.new.shelf options reported.0 c.report.result)
+              (λ from course saved. ((λ four. saved.0 (sym same ∙ four)), saved.1)) reported.2,
         ),
       ),
     )

@@ -3,6 +3,7 @@ use Rattle.cstar_top.specs.declared.answer.Answer.{Answer}
 use Rattle.cstar_top.specs.Outcomes.{CanAnswer}
 use Rattle.cstar_top.specs.Refusals.{AnswersWhy, RefusesRun}
 use Rattle.point_runs.specs.Starts.{origin_of}
+use Rattle.cstar_top.proofs.Keeping.{report_saved}
 use Rattle.cstar_top.proofs.Outcomes.{can_run, refusal_why, run_answers, run_refused}
 use Rattle.cstar_top.proofs.top.run_text.Goals as goal
 
@@ -15,8 +16,11 @@ returns-in-Ok-clause-why g c =
     run_answers (RefusesRun c.args.options.now.mode c.args.text.items) c.args.options.now.turns c.run_image.result c.run_image.ensures.end
 
 pub returns-in-Ok-clause-report : goal.returns-in-Ok-clause-report
-returns-in-Ok-clause-report g c three six eight =
-    (origin_of c.in-Ok.start, c.in-Ok.ensures.begins, c.run_image.ensures.report six eight)
+returns-in-Ok-clause-report g c three six eight = (
+  origin_of c.in-Ok.start,
+  c.in-Ok.ensures.begins,
+  report_saved g.O.Sink.agrees c.args.out.now c.run_image.new.out (g.I.Source.left c.args.input.now) (g.I.Source.left c.run_image.new.input) g.S.Shelf.tells g.S.Shelf.file c.args.shelf.now c.run_image.new.shelf c.args.options.now c.args.text.items (origin_of c.in-Ok.start) c.run_image.result c.in-Ok.ensures.begins (c.run_image.ensures.report six eight),
+)
 
 pub returns-in-Ok-clause-part : goal.returns-in-Ok-clause-part
 returns-in-Ok-clause-part g c =

@@ -9,7 +9,7 @@ returns-in-Ok-clause-begins c =
     let options = c.args.options.now in
     let text = c.args.text.items in
     let within = subst (λ (xs : List ℕ). length xs ≤ 1048576) c.as_slice.ensures.value c.in-Ok.ensures.within in
-    program_begins options.mode options.winner text c.in-Ok.sound c.new_run.result c.in-Run.is within c.in-Ok.ensures.sound c.in-Ok.ensures.compiled c.new_run.ensures.new
+    program_begins options.mode options.winner text c.in-Ok.sound c.new_run.result c.in-Run.is within c.in-Ok.ensures.sound c.in-Ok.ensures.listable c.in-Ok.ensures.compiled c.new_run.ensures.new
 
 pub returns-in-Ok-clause-refused : goal.returns-in-Ok-clause-refused
 returns-in-Ok-clause-refused c =
@@ -22,7 +22,7 @@ returns-in-Ok-assembled-clause-begins c =
     let same = c.as_slice-in-Asm.ensures.value in
     let within = subst (λ (xs : List ℕ). length xs ≤ 1048576) same c.in-Ok-assembled.ensures.within in
     let listed = subst (λ (xs : List ℕ). listing c.in-Ok-assembled.sound ≡ xs) same c.in-Ok-assembled.ensures.listed in
-    listing_begins options.mode options.winner text c.in-Ok-assembled.sound c.new_run-in-Ok-assembled.result c.in-Asm.is within c.in-Ok-assembled.ensures.sound listed c.in-Ok-assembled.ensures.fits c.new_run-in-Ok-assembled.ensures.new
+    listing_begins options.mode options.winner text c.in-Ok-assembled.sound c.new_run-in-Ok-assembled.result c.in-Asm.is within c.in-Ok-assembled.ensures.sound c.in-Ok-assembled.ensures.listable listed c.in-Ok-assembled.ensures.fits c.new_run-in-Ok-assembled.ensures.new
 
 pub returns-in-Ok-assembled-clause-refused : goal.returns-in-Ok-assembled-clause-refused
 returns-in-Ok-assembled-clause-refused c =

@@ -16,4 +16,4 @@ returns-then-not-can_go_on-clause-refused c =
     let image = c.in-Ok.sound in
     let listed = subst (λ (text : List ℕ). IsListed text image) c.bytes.ensures c.in-Ok.ensures.listed in
     let not = λ (goes : CanGoOn image (kept_in point) point.bits). c.if-not-can_go_on.ensures (subst (λ (bits : List ℕ). CanGoOn image (kept_in point) bits) (sym c.bytes-2.ensures) goes) in
-    subst (λ (none : NoImage). TellsWhy (RefusesState point) none) (sym c.refused.ensures) (refl, (image, (c.in-Ok.ensures.sound, listed, c.in-Ok.ensures.fits), not))
+    subst (λ (none : NoImage). TellsWhy (RefusesState point) none) (sym c.refused.ensures) (refl, (image, (c.in-Ok.ensures.sound, c.in-Ok.ensures.listable, listed, c.in-Ok.ensures.fits), not))
