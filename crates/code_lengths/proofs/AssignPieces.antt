@@ -17,13 +17,13 @@ use Rattle.paris_code.specs.declared.operands.Field.{Field}
 use Rattle.lower_base.specs.declared.emit.Out.{Out}
 use Rattle.lower_base.specs.declared.emit.Out.TheVariants as O
 use Rattle.lower_base.specs.Drafts.{Draft, Made, in_register}
-use Rattle.lower_base.specs.Layouts.{Layout}
+use Rattle.lower_base.specs.Layouts.{Layout, elements_of}
 use Rattle.lower_comm.specs.Messages.{communicated, assigned}
 use Rattle.lower_base.specs.Operators.{assign_op_of}
 use Rattle.lower_expr.specs.declared.spots.Spot.{Spot}
 use Rattle.lower_expr.specs.declared.spots.Spot.TheVariants as S
 use Rattle.lower_expr.specs.declared.steps.Right.{Right}
-use Rattle.lower_expr.specs.Lengths.{conversion_length, operate_length, spread_length, bare, is_sent, is_send, load_length, store_length, send_length, set_length, compound_length, assign_length, step_once_length, step_length}
+use Rattle.lower_expr.specs.Lengths.{conversion_length, operate_length, spread_length, bare, is_sent, is_send, index_check_length, load_length, store_length, send_length, set_length, compound_length, assign_length, step_once_length, step_length}
 use Rattle.lower_expr.specs.Operands.{operand_by, operand_length}
 use Rattle.lower_expr.specs.Spots.{stored}
 use Rattle.lower_expr.specs.Steps.{is_kept}
@@ -31,7 +31,7 @@ use Rattle.lower_expr.specs.Values.{Code, spread_by, element_spot, read_to, read
 use Rattle.code_lengths.specs.Shaped.{HasNoShape, HasShape}
 use Rattle.code_lengths.specs.Growth.{Grows, Stands, Anything}
 use Rattle.code_lengths.proofs.Drafting.{as_it_was, and_instr, makes, sized, behind, bind, weaker, in_register_grows, in_field_grows, register_grows, entry_grows, fresh_grows}
-use Rattle.code_lengths.proofs.Pieces.{InRegister, InField, fails_grow, in_place_grows, operated_more}
+use Rattle.code_lengths.proofs.Pieces.{InRegister, InField, fails_grow, word_in_grows, in_place_grows, operated_more}
 use Rattle.code_lengths.proofs.Communication.{Is, nothing_more, one_part_stored_grows, sent_grows, folded_onto_grows}
 use Rattle.code_lengths.proofs.SpotPieces.{Fits, loaded_grows, stored_grows, index_checked_grows}
 use Rattle.code_lengths.proofs.ValuePieces.{IsCode, spread_by_grows, IsRight, before_length, after_length, right_by_grows, right_operated_grows, right_together}
@@ -41,11 +41,14 @@ abbrev pub IsSpotCode : ℕ → TExpr → (Draft → Made Spot) → Type 0
 IsSpotCode n b spot = (d : Draft) → Grows d n (Fits b) (spot d)
 
 pub element_spot_grows : (t : Typed) (l : Layout) (ty : ValueType) (place : Place) (array : Variable) (p : _) (index : TExpr) (k : Bool) (code : Code) (n : ℕ) (d : Draft) → HasShape ty → IsCode n k code →
-    Grows d (n + 5) (Fits (T.Element' ty place array p index)) (element_spot t l ty place array code d)
+    Grows d (n + index_check_length l (elements_of t l array)) (Fits (T.Element' ty place array p index)) (element_spot t l ty place array code d)
 unfolding element_spot
 element_spot_grows t l ty place array p index k code n d h c =
-    bind (Stands k) _ d n 5 _ _ (c d) (λ v between s. in_register_grows _ between 5 k v _ s (λ r _.
-    bind Anything _ between 5 0 _ _ (index_checked_grows t l array _ place r between) (λ _ after _. makes _ (S.Element array r) after after 0 (refl, h) (as_it_was after))))
+    bind (Stands k) _ d n _ _ _ (c d) (λ v between s. in_register_grows _ between _ k v _ s (λ r _. sized _ between _ _ _ (and_nothing _)
+    (bind Anything _ between _ 0 _ _ (index_checked_grows t l array _ place r between) (λ _ after _. makes _ (S.Element array r) after after 0 (refl, h) (as_it_was after)))))
+  where
+    and_nothing : (n : ℕ) → n + 0 ≡ n
+    and_nothing n = omega arith
 
 pub read_to_grows : (k : Bool) (t : Typed) (l : Layout) (e : TExpr) (spot : Draft → Made Spot) (dest : Out) (n : ℕ) (d : Draft) → IsSpotCode n (bare e) spot → Stands k dest →
     Grows d (n + load_length t l e) (Stands k) (read_to t l e spot dest d)
@@ -259,7 +262,7 @@ assign_rest : (b : Bool) (t : Typed) (l : Layout) (e target value : TExpr) (op :
 assign_rest true t l e target value op place spot code n m o d s h g f i a c b set = sent_by_grows _ t l e target spot (spread_by code value set) n (spread_length m value) (send_length op) d s i a (λ y. spread_by_grows code value m set y c)
 assign_rest false t l e target value op place spot code n m o d s h g f i a c b set = assigned_grows (assign_op_of op) t l e target value place (type_of target).shape spot code n m o d h (g s) f a c b
 
-pub assign_grows : (t : Typed) (l : Layout) (ty : ValueType) (place : Place) (op : AssignOp) (p : _) (target : TExpr) (q : _) (value : TExpr) (spot : Draft → Made Spot) (code : Code) (n m : ℕ) (d : Draft) → type_of (bare target) ≡ type_of target → IsSpotCode n (bare target) spot → IsCode m (is_kept value) code → IsCode (operand_length m true value) (is_kept value) (operand_by t l code true value) →
+pub assign_grows : (t : Typed) (l : Layout) (ty : ValueType) (place : Place) (op : AssignOp) (p : _) (target : TExpr) (q : _) (value : TExpr) (spot : Draft → Made Spot) (code : Code) (n m : ℕ) (d : Draft) → type_of (bare target) ≡ type_of target → IsSpotCode n (bare target) spot → IsCode m (is_kept value) code → IsCode (operand_length l m true value) (is_kept value) (operand_by t l code true value) →
     Grows d (assign_length t l op target n m value) (Stands (is_none (type_of (bare target)).shape)) (assign_by t l (T.Assign' ty place op p target q value) op place target value spot code d)
 unfolding assign_by assign_length
 assign_grows t l ty place op p target q value spot code n m d h a c b =
@@ -267,24 +270,25 @@ assign_grows t l ty place op p target q value spot code n m d h a c b =
     (λ s. assign_there t l ty place op p target q value s) (assign_folds t l ty place op p target q value) (assign_sends t l ty place op p target q value) a c b _
 
 -- a step
-once_grows : (k : Bool) (op : StepOp) (old dest : Out) (d : Draft) → Stands k old → Stands k dest → Grows d (step_once_length k) (Stands k) (stepped_once op old dest d)
+once_grows : (l : Layout) (k : Bool) (op : StepOp) (old dest : Out) (d : Draft) → Stands k old → Stands k dest → Grows d (step_once_length l k) (Stands k) (stepped_once l op old dest d)
 unfolding stepped_once step_once_length
-once_grows true op old (O.Scalar r) d s h = in_register_grows _ d 2 true old _ s (λ q _. makes InRegister (O.Scalar r) d _ 2 refl (and_instr _ d _ 1 (and_instr _ d d 0 (as_it_was d))))
-once_grows false op old (O.Field f) d s h = in_field_grows _ d 1 false old _ s (λ q _. makes InField (O.Field f) d _ 1 refl (and_instr _ d d 0 (as_it_was d)))
-once_grows false op old (O.Scalar r) d s h = cc
-once_grows true op old (O.Field f) d s h = cc
-once_grows k op old O.Nothing d s h = fails_grow _ d _
+once_grows l true op old (O.Scalar r) d s h =
+    in_register_grows _ d _ true old _ s (λ q _. bind Anything InRegister d _ 1 _ _ (word_in_grows l 1 d) (λ one after _. makes InRegister (O.Scalar r) after _ 1 refl (and_instr _ after after 0 (as_it_was after))))
+once_grows l false op old (O.Field f) d s h = in_field_grows _ d 1 false old _ s (λ q _. makes InField (O.Field f) d _ 1 refl (and_instr _ d d 0 (as_it_was d)))
+once_grows l false op old (O.Scalar r) d s h = cc
+once_grows l true op old (O.Field f) d s h = cc
+once_grows l k op old O.Nothing d s h = fails_grow _ d _
 
 stepped_at_grows : (k : Bool) (t : Typed) (l : Layout) (e : TExpr) (op : StepOp) (target : TExpr) (there : Spot) (old new : Out) (d : Draft) → k ≡ is_none (type_of (bare target)).shape → StoresThere t l e target → Fits (bare target) there → Stands k old → Stands k new →
-    Grows d (load_length t l target + (step_once_length k + (conversion_length k (type_of target).elem + store_length t l target))) (λ (w : Out). Unit {0}) (stepped_at t l e op target there old new d)
+    Grows d (load_length t l target + (step_once_length l k + (conversion_length k (type_of target).elem + store_length t l target))) (λ (w : Out). Unit {0}) (stepped_at t l e op target there old new d)
 unfolding stepped_at
 stepped_at_grows k t l e op target there old new d h g fits so sn =
-    bind (Stands k) _ d _ _ _ _ (loaded_grows k t l target there old d fits so) (λ _ begun _. bind (Stands k) _ begun _ _ _ _ (once_grows k op old new begun so sn) (λ _ between _.
+    bind (Stands k) _ d _ _ _ _ (loaded_grows k t l target there old d fits so) (λ _ begun _. bind (Stands k) _ begun _ _ _ _ (once_grows l k op old new begun so sn) (λ _ between _.
     bind (Stands k) _ between _ _ _ _ (in_place_grows k new (type_of target).elem between sn) (λ _ after _.
     weaker (Stands (is_none (type_of (bare target)).shape)) (λ (w : Out). Unit {0}) after _ _ (λ w _. tt) (store_grows t l e target k there new after fits g (λ sh. h ∙ sh) sn))))
 
 stepped_in_grows : (k : Bool) (t : Typed) (l : Layout) (e : TExpr) (op : StepOp) (order : StepOrder) (target : TExpr) (there : Spot) (first second : Out) (d : Draft) → k ≡ is_none (type_of (bare target)).shape → StoresThere t l e target → Fits (bare target) there → Stands k first → Stands k second →
-    Grows d ((load_length t l target + (step_once_length k + (conversion_length k (type_of target).elem + store_length t l target))) + 0) (Stands k) (stepped_in t l e op order target there first second d)
+    Grows d ((load_length t l target + (step_once_length l k + (conversion_length k (type_of target).elem + store_length t l target))) + 0) (Stands k) (stepped_in t l e op order target there first second d)
 unfolding stepped_in
 stepped_in_grows k t l e op Or.Prefix target there first second d h g fits sf ss =
     bind (λ (w : Out). Unit {0}) (Stands k) d _ 0 _ _ (stepped_at_grows k t l e op target there second first d h g fits ss sf) (λ _ after _. makes (Stands k) first after after 0 sf (as_it_was after))
@@ -296,7 +300,7 @@ pub step_grows : (t : Typed) (l : Layout) (ty : ValueType) (op : StepOp) (order 
 unfolding step_by step_length
 step_grows t l ty op order p target spot n d h a =
     let k = is_none (type_of target).shape in
-    sized _ d _ _ _ (sum n (load_length t l target) (step_once_length k) (conversion_length k (type_of target).elem) (store_length t l target))
+    sized _ d _ _ _ (sum n (load_length t l target) (step_once_length l k) (conversion_length k (type_of target).elem) (store_length t l target))
     (bind (Stands k) (Stands k) d 0 _ _ _ (fresh_grows (type_of target).shape d) (λ first begun sf. bind (Stands k) (Stands k) begun 0 _ _ _ (fresh_grows (type_of target).shape begun) (λ second next ss.
     bind (Fits (bare target)) (Stands k) next n _ _ _ (a next) (λ there after fits.
     stepped_in_grows k t l (T.Step' ty op order p target) op order target there first second after (ap (λ (y : ValueType). is_none y.shape) (sym h)) (step_there t l ty op order p target) fits sf ss))))

@@ -1,5 +1,5 @@
 -- The code of communication is as long as described.
-use Rattle.std.proofs.Common.{◌≡◌, ℕ, ◌+◌, Bool, true, false, ◌||◌, ◌==◌, List, [], ◌∷◌, ◌++◌, Option, Some, None, is_none, refl, sym, ap, ◌∙◌, subst, arith, if◌then◌else◌}
+use Rattle.std.proofs.Common.{◌≡◌, ℕ, suc, ◌+◌, Bool, true, false, not, ◌&&◌, ◌||◌, ◌==◌, List, [], ◌∷◌, ◌++◌, length, length-append, Option, Some, None, is_none, refl, sym, ap, ◌∙◌, subst, arith, if◌then◌else◌}
 use denote.Hole.Carrier
 use Rattle.cstar_base.specs.declared.elem.Elem.{Elem}
 use Rattle.cstar_base.specs.declared.operators.Op.{Op}
@@ -26,12 +26,12 @@ use Rattle.lower_comm.specs.declared.gets.Hop.{Hop}
 use Rattle.lower_comm.specs.declared.news.NewsStep.{NewsStep}
 use Rattle.lower_base.specs.Drafts.{Draft, Made, Makes, then_make, from, in_register, a_register, fresh_for, in_field, with_instr, an_entry}
 use Rattle.lower_base.specs.Layouts.{Layout, field_of, own_field}
-use Rattle.lower_comm.specs.Messages.{front_located, each_located, located_at, located, checked_part, grid_steps, with_grid_check, along, stepwise, gotten_by_steps, read_at, part_register, part_field, folded_onto, negated_by, reduced, indexed_field, stored, sent_value, sent_to, sent, scanned, segment_field, enumerated, communicated}
+use Rattle.lower_comm.specs.Messages.{front_located, each_located, located_at, located, checked_part, grid_steps, with_grid_check, hopped, moving_part, moving_steps, stepwise, with_hop, gotten_by_steps, read_at, part_register, part_field, folded_onto, negated_by, reduced, indexed_field, stored, sent_value, sent_to, sent, scanned, segment_field, enumerated, communicated}
 use Rattle.lower_comm.specs.News.{step_of}
 use Rattle.lower_base.specs.Operators.{assign_op_of}
-use Rattle.lower_expr.specs.Lengths.{load_length_of, reduce_length, send_length, read_length, news_move, is_checked, news_moves, news_checked}
+use Rattle.lower_expr.specs.Lengths.{load_length_of, reduce_length, send_length, read_length, moves_length, news_move, is_checked, news_moves, news_checked}
 use Rattle.code_lengths.specs.Growth.{Extended, Grows, Stands, Anything}
-use Rattle.code_lengths.proofs.Drafting.{as_it_was, and_step, and_instr, makes, sized, behind, bind, weaker, in_register_grows, in_field_grows, from_grows, register_grows, entry_grows}
+use Rattle.code_lengths.proofs.Drafting.{as_it_was, extended, resized, and_step, and_instr, makes, sized, behind, bind, weaker, in_register_grows, in_field_grows, from_grows, register_grows, entry_grows}
 use Rattle.code_lengths.proofs.Pieces.{InRegister, InField, kind_of, stands, fails_grow}
 
 -- a value that stands in a register, or in a field
@@ -108,33 +108,70 @@ grid_check_more set place [] d = as_it_was d
 grid_check_more set place (s ∷ steps) d = and_step _ d d 0 (as_it_was d)
 
 -- the moves
-moved_by : (b : Bool) (axis : ℕ) (s : NewsStep) (hop other : Hop) (d e : Draft) → Extended d 1 e → Grows d (if b then 0 else 1) (λ (h : Hop). Unit {0}) (if b then Makes hop d else Makes other e)
-moved_by true axis s hop other d e x = makes _ hop d d 0 tt (as_it_was d)
-moved_by false axis s hop other d e x = makes _ other d e 1 tt x
+moves_by : (b : Bool) (s : GridStep) → length (if b then [] else s ∷ []) ≡ (if b then 0 else 1)
+moves_by true s = refl
+moves_by false s = refl
 
-along_grows : (axis : ℕ) (s : Option NewsStep) (hop : Hop) (d : Draft) → Grows d (news_move s) (λ (h : Hop). Unit {0}) (along axis s hop d)
-unfolding along news_move
-along_grows axis None hop d = makes _ hop d d 0 tt (as_it_was d)
-along_grows axis (Some s) hop d = moved_by (s.by == 0) axis s hop _ d _ (and_instr _ d d 0 (as_it_was d))
+part_moves : (axis : ℕ) (s : Option NewsStep) → length (moving_part axis s) ≡ news_move s
+unfolding moving_part news_move
+part_moves axis None = refl
+part_moves axis (Some s) = moves_by (s.by == 0) _
 
-stepwise_grows : (of axis : ℕ) (indexes : List TExpr) (hop : Hop) (d : Draft) → Grows d (news_moves of axis indexes) (λ (f : Field). Unit {0}) (stepwise of axis indexes hop d)
-unfolding stepwise news_moves
-stepwise_grows of axis [] hop d = makes _ hop.source d d 0 tt (as_it_was d)
-stepwise_grows of axis (e ∷ rest) hop d =
-    bind (λ (h : Hop). Unit {0}) (λ (f : Field). Unit {0}) d _ _ _ _ (along_grows axis (step_of of axis e) hop d) (λ next after _. stepwise_grows of (axis + 1) rest next after)
+moves_counted : (of axis : ℕ) (indexes : List TExpr) → length (moving_steps of axis indexes) ≡ news_moves of axis indexes
+unfolding moving_steps news_moves
+moves_counted of axis [] = refl
+moves_counted of axis (e ∷ rest) =
+    length-append (moving_part axis (step_of of axis e)) (moving_steps of (axis + 1) rest)
+    ∙ ap (λ (n : ℕ). n + length (moving_steps of (axis + 1) rest)) (part_moves axis (step_of of axis e))
+    ∙ ap (λ (n : ℕ). news_move (step_of of axis e) + n) (moves_counted of (axis + 1) rest)
 
-steps_grow : (of : ℕ) (indexes : List TExpr) (elem : Elem) (source dest : Field) (d : Draft) → Grows d (news_moves of 0 indexes + 1) InField (gotten_by_steps of indexes elem source dest d)
+hop_more : (step : GridStep) (hop : Hop) (d : Draft) → Extended d 1 (with_hop step hop d)
+unfolding with_hop
+hop_more step hop d = and_instr _ d d 0 (as_it_was d)
+
+not_zero : (n : ℕ) → (suc n == 0) ≡ false
+not_zero n = grind (arith)
+
+some_moves : (elem : Elem) (n : ℕ) → moves_length elem (suc n) ≡ (if elem.bits == 32 then suc n else suc n + 1)
+unfolding moves_length
+some_moves elem n = ap (λ (none : Bool). if not none && elem.bits == 32 then suc n else suc n + 1) (not_zero n)
+
+stepwise_on : (elem : Elem) (dest : Field) (step next : GridStep) (steps : List GridStep) (hop : Hop) (d : Draft) →
+    stepwise elem dest (step ∷ (next ∷ steps)) hop d ≡ stepwise elem dest (next ∷ steps) (hopped hop) (with_hop step hop d)
+unfolding stepwise
+stepwise_on elem dest step next steps hop d =
+    ap (λ (last : Bool). if last && elem.bits == 32 then with_instr (I.GetFromNews dest hop.source step.axis step.step) d else stepwise elem dest (next ∷ steps) (hopped hop) (with_hop step hop d))
+    (not_zero (length steps))
+
+one_more_move : (b : Bool) (n : ℕ) → 1 + (if b then suc n else suc n + 1) ≡ (if b then suc (suc n) else suc (suc n) + 1)
+one_more_move true n = omega arith
+one_more_move false n = omega arith
+
+stepwise_more : (elem : Elem) (dest : Field) (steps : List GridStep) (hop : Hop) (d : Draft) → Extended d (moves_length elem (length steps)) (stepwise elem dest steps hop d)
+unfolding stepwise moves_length
+stepwise_more elem dest [] hop d = and_instr _ d d 0 (as_it_was d)
+stepwise_more elem dest (step ∷ []) hop d = by (elem.bits == 32)
+  where
+    by : (b : Bool) → Extended d (if b then 1 else 2) (if b then with_instr (I.GetFromNews dest hop.source step.axis step.step) d else with_instr (I.Move elem.signed dest (hopped hop).source) (with_hop step hop d))
+    by true = and_instr _ d d 0 (as_it_was d)
+    by false = and_instr _ d _ 1 (hop_more step hop d)
+stepwise_more elem dest (step ∷ (next ∷ steps)) hop d =
+    let longer : 1 + moves_length elem (suc (length steps)) ≡ moves_length elem (suc (suc (length steps))) =
+    ap (λ (n : ℕ). 1 + n) (some_moves elem (length steps)) ∙ one_more_move (elem.bits == 32) (length steps) ∙ sym (some_moves elem (suc (length steps))) in
+    subst (λ (e : Draft). Extended d (moves_length elem (suc (suc (length steps)))) e) (sym (stepwise_on elem dest step next steps hop d))
+    (resized d _ _ _ longer (extended d (with_hop step hop d) _ 1 _ (hop_more step hop d) (stepwise_more elem dest (next ∷ steps) (hopped hop) (with_hop step hop d))))
+
+steps_grow : (of : ℕ) (indexes : List TExpr) (elem : Elem) (source dest : Field) (d : Draft) → Grows d (moves_length elem (news_moves of 0 indexes)) InField (gotten_by_steps of indexes elem source dest d)
 unfolding gotten_by_steps
 steps_grow of indexes elem source dest d =
-    sized InField d _ _ _ (nothing_more (news_moves of 0 indexes + 1))
+    sized InField d _ _ _ (nothing_before _)
     (bind Anything InField d 0 _ _ _ (entry_grows _ _ _ d) (λ one b _.
-    sized InField b _ _ _ (nothing_more (news_moves of 0 indexes + 1))
+    sized InField b _ _ _ (nothing_before _)
     (bind Anything InField b 0 _ _ _ (entry_grows _ _ _ b) (λ other c _.
-    bind (λ (f : Field). Unit {0}) InField c (news_moves of 0 indexes) 1 _ _ (stepwise_grows of 0 indexes _ c)
-    (λ last after _. makes InField (O.Field dest) after _ 1 refl (and_instr _ after after 0 (as_it_was after)))))))
+    makes InField (O.Field dest) c _ _ refl (resized c _ _ _ (ap (moves_length elem) (moves_counted of 0 indexes)) (stepwise_more elem dest (moving_steps of 0 indexes) _ c))))))
   where
-    nothing_more : (n : ℕ) → 0 + n ≡ n
-    nothing_more n = omega arith
+    nothing_before : (n : ℕ) → 0 + n ≡ n
+    nothing_before n = omega arith
 
 -- a read through a left index
 pub nothing_more : (n : ℕ) → 0 + n ≡ n
@@ -160,7 +197,7 @@ read_grows k ty of indexes source at into d h s = by ty.shape at h
     by shape O.Nothing h = absurd h
 
 pub read_by_news_grows : (k : Bool) (of : ℕ) (indexes : List TExpr) (elem : Elem) (source : Field) (into : Out) (d : Draft) → Stands k into →
-    Grows d (news_moves of 0 indexes + 1) (Stands k) (read_at of indexes elem source O.Nothing into d)
+    Grows d (moves_length elem (news_moves of 0 indexes)) (Stands k) (read_at of indexes elem source O.Nothing into d)
 unfolding read_at
 read_by_news_grows k of indexes elem source into d s =
     in_field_grows _ d _ k into _ s (λ dest h. weaker InField (Stands k) d _ _ (λ v f. subst (λ b. Stands b v) (sym h) f) (steps_grow of indexes elem source dest d))

@@ -1,6 +1,6 @@
 -- The code of a value that goes to a variable, of a test, and of an expression whose value is not
 -- used, is as long as described.
-use Rattle.std.proofs.Common.{◌≡◌, ℕ, ◌+◌, Bool, true, false, not, ◌&&◌, ◌||◌, ◌==◌, [], ◌∷◌, Option, Some, None, is_none, refl, sym, ap, ◌∙◌, subst, arith, if◌then◌else◌}
+use Rattle.std.proofs.Common.{◌≡◌, ℕ, ◌+◌, Bool, true, false, not, ◌&&◌, ◌||◌, ◌==◌, Option, Some, None, is_none, refl, sym, ap, ◌∙◌, subst, arith, if◌then◌else◌}
 use Rattle.cstar_base.specs.declared.elem.Elem.{Elem}
 use Rattle.cstar_base.specs.declared.operators.Op.{Op}
 use Rattle.cstar_base.specs.declared.operators.Place.{Place}
@@ -18,23 +18,24 @@ use Rattle.paris_code.specs.declared.operands.Field.{Field}
 use Rattle.lower_base.specs.declared.emit.Out.{Out}
 use Rattle.lower_base.specs.declared.emit.Out.TheVariants as O
 use Rattle.lower_base.specs.Drafts.{Draft, Made, Makes, then_make, with_instr, a_register}
+use Rattle.lower_base.specs.Constants.{word_length}
 use Rattle.lower_base.specs.Layouts.{Layout, field_of}
 use Rattle.lower_base.specs.Operators.{assign_op_of}
 use Rattle.lower_expr.specs.declared.operands.Own.{Own}
 use Rattle.lower_expr.specs.Effects.{next_operand, next_length, moved, register_converted, converted_to, binary_to, gone_to, computed_to, put_to, narrowed_to, written_register, with_settled, register_operated, field_operated, variable_operated, variable_stepped, folds, assigned_own, assigned_narrow, variable_assigned, assignment_effect, step_effect, effect_of, computed_length, narrowed_length, put_length, settled_length, operated_length, assigned_length, stepped_length, assignment_length, step_effect_length, effect_length_of}
-use Rattle.lower_expr.specs.Lengths.{length_of, spot_length_of, load_length, load_length_of, bare, arm_length_of, choice_length, tested_length, tested_by_length, operate_length, unary_length, right_length, binary_length}
+use Rattle.lower_expr.specs.Lengths.{length_of, spot_length_of, load_length, load_length_of, bare, arm_length_of, choice_length, tested_length, tested_by_length, operate_length, reduce_length, unary_length, right_length, binary_length}
 use Rattle.lower_expr.specs.Operands.{is_plus, is_quiet, own_of, in_place, standing, operand_length}
 use Rattle.lower_expr.specs.Steps.{is_kept, has_truth, has_word, register_word, word_of, word_for, word_put, negated}
 use Rattle.lower_expr.specs.Values.{Code, value_of, tested, register_binary_of, field_binary_of, arm_of, scalar_choice_of}
 use Rattle.code_lengths.specs.Growth.{Extended, Grows, Stands, Anything}
 use Rattle.code_lengths.specs.Shaped.{HasNoShape, HasShape, IsShaped}
-use Rattle.code_lengths.proofs.Drafting.{as_it_was, resized, and_instr, makes, sized, behind, bind, weaker, in_register_grows, in_field_grows, register_grows, entry_grows}
-use Rattle.code_lengths.proofs.Pieces.{InRegister, InField, put_value_grows, operated_more, negated_grows}
+use Rattle.code_lengths.proofs.Drafting.{as_it_was, resized, and_instr, makes, sized, bind, weaker, in_register_grows, in_field_grows, register_grows, entry_grows}
+use Rattle.code_lengths.proofs.Pieces.{InRegister, InField, word_in_grows, put_value_grows, operated_more, negated_grows}
 use Rattle.code_lengths.proofs.Communication.{Is, is_stands, nothing_more, field_of_grows}
 use Rattle.code_lengths.proofs.ValuePieces.{IsRight, Known, right_by_grows, right_operated_grows, right_together, registers_grow, fields_grow, word_put_grows, arm_grows, scalar_choice_grows, tested_by_grows}
-use Rattle.code_lengths.proofs.OperandPieces.{OwnFits, own_target_fits, standing_grows, operand_grows}
+use Rattle.code_lengths.proofs.OperandPieces.{OwnFits, choice_kept, not_held, own_target_fits, standing_grows, operand_grows}
 use Rattle.code_lengths.proofs.AssignPieces.{read_to_grows}
-use Rattle.code_lengths.proofs.ExpressionLengths.{value_grows, truth_grows, values_grow, spot_grows, message_to_grows, scan_grows, call_to_grows, index_read_to_grows}
+use Rattle.code_lengths.proofs.ExpressionLengths.{value_grows, truth_grows, values_grow, spot_grows, message_to_grows, reduce_grows, scan_grows, call_to_grows, index_read_to_grows}
 
 -- the operand of an instruction that is next
 pub next_grows : (t : Typed) (l : Layout) (e : TExpr) → IsShaped e → (d : Draft) → Grows d (next_length t l e) (Stands (is_kept e)) (next_operand t l e d)
@@ -95,7 +96,7 @@ converted_grows k t l O.Nothing e elem operand d s h g = absurd s
 
 -- a binary operator
 binary_to_grows : (k : Bool) (t : Typed) (l : Layout) (dest : Out) (place : Place) (op : Op) (left : TExpr) (right : TExpr) (d : Draft) → Is k dest → IsShaped left → IsShaped right →
-    Grows d (binary_length k op (operand_length (length_of t l left) (is_quiet right) left) left (operand_length (length_of t l right) true right) right) (Stands k) (binary_to t l dest op place left right d)
+    Grows d (binary_length k op (operand_length l (length_of t l left) (is_quiet right) left) left (operand_length l (length_of t l right) true right) right) (Stands k) (binary_to t l dest op place left right d)
 unfolding binary_to binary_length register_binary_of field_binary_of
 binary_to_grows true t l (O.Scalar r) place op left right d s h g =
     registers_grow op _ place r (is_kept left) (is_kept right) _ _ _ _ d (operand_grows t l _ left _ _ h (value_grows t l left h)) (operand_grows t l _ right _ _ g (value_grows t l right g))
@@ -113,9 +114,9 @@ binary_suits false ty place op p left q right u = sym u
 
 -- a unary operator that is no `+`
 negated_to_grows : (k : Bool) (t : Typed) (l : Layout) (dest : Out) (op : UnaryOp) (operand : TExpr) (d : Draft) → Is k dest → IsShaped operand →
-    Grows d (next_length t l operand + unary_length op (is_kept operand)) (Stands k) (then_make (next_operand t l operand d) (λ v after. negated op dest v after))
+    Grows d (next_length t l operand + unary_length l op (is_kept operand)) (Stands k) (then_make (next_operand t l operand d) (λ v after. negated l op dest v after))
 negated_to_grows k t l dest op operand d s h =
-    bind (Stands (is_kept operand)) (Stands k) d _ _ _ _ (next_grows t l operand h d) (λ v after g. negated_grows op k (is_kept operand) dest v after (is_stands k dest s) g)
+    bind (Stands (is_kept operand)) (Stands k) d _ _ _ _ (next_grows t l operand h d) (λ v after g. negated_grows l op k (is_kept operand) dest v after (is_stands k dest s) g)
 
 plus_suits : (k shaped kept : Bool) (operand : TExpr) → IsShaped operand → shaped ≡ is_kept operand → (k ≡ true → shaped ≡ true) → (k ≡ false → shaped ≡ false) → Suits k operand
 plus_suits true shaped kept operand h a f g = sym a ∙ f refl
@@ -152,12 +153,23 @@ decided_by_one false q n arms e = cc
 
 -- `?:` with a scalar condition, into a register or a field
 choice_to_grows : (k : Bool) (t : Typed) (l : Layout) (ty : ValueType) (test first second : TExpr) (dest : Out) (d : Draft) → k ≡ is_none ty.shape → Stands k dest → IsShaped test → IsShaped first → IsShaped second →
-    Grows d ((operand_length (length_of t l test) true test + (arm_length_of t l ty first + arm_length_of t l ty second)) + 2) (Stands k) (scalar_choice_of t l ty test first second dest d)
+    Grows d ((operand_length l (length_of t l test) true test + (arm_length_of t l ty first + arm_length_of t l ty second)) + 2) (Stands k) (scalar_choice_of t l ty test first second dest d)
 unfolding scalar_choice_of arm_of arm_length_of
 choice_to_grows k t l ty test first second dest d a s h g i =
     weaker (Stands (is_none ty.shape)) (Stands k) d _ _ (λ v g. subst (λ (b : Bool). Stands b v) (sym a) g) (scalar_choice_grows (is_none ty.shape) (is_kept test) dest _ _ _ _ _ _ d (subst (λ (b : Bool). Stands b dest) a s)
     (operand_grows t l true test _ _ h (value_grows t l test h)) (arm_grows (is_none ty.shape) (is_kept first) first _ _ (operand_grows t l true first _ _ g (value_grows t l first g)))
     (arm_grows (is_none ty.shape) (is_kept second) second _ _ (operand_grows t l true second _ _ i (value_grows t l second i))))
+
+-- a `?:` with a parallel condition is no constant
+choice_next : (t : Typed) (l : Layout) (ty : ValueType) (p : _) (test : TExpr) (q : _) (first : TExpr) (r : _) (second : TExpr) → is_kept test ≡ false →
+    next_length t l (T.Choice' ty p test q first r second) ≡ length_of t l (T.Choice' ty p test q first r second)
+unfolding next_length operand_length in_place own_of
+choice_next t l ty p test q first r second k =
+    ap (λ (o : Option ℕ). elim o as (λ _. ℕ) [ Some _ ↦ 0 | None ↦ length_of t l (T.Choice' ty p test q first r second) ])
+    (not_held l (T.Choice' ty p test q first r second) (λ c. no (sym (choice_kept ty p test q first r second c) ∙ k)))
+  where
+    no : true ≡ false → ⊥
+    no e = cc
 
 -- a value that is no constant
 computed_grows : (k : Bool) (t : Typed) (l : Layout) (dest : Out) (e : TExpr) (d : Draft) → Is k dest → IsShaped e → Suits k e → Grows d (computed_length t l k e) (Stands k) (computed_to t l dest e d)
@@ -170,9 +182,9 @@ computed_grows k t l dest (T.Convert' ty p operand) d s h u =
 computed_grows k t l dest (T.Unary' ty op p operand) d s h u =
     let a = unary_sides k ty op p operand u in
     either_grows (Stands k) (is_plus op) d _ _ _ _ (λ _. computed_grows k t l dest operand d s h.1 (plus_suits k (is_none ty.shape) k operand h.1 h.0 (λ e. sym a ∙ e) (λ e. sym a ∙ e)))
-    (λ e. sized (Stands k) d _ _ _ (ap (λ (b : Bool). operand_length (length_of t l operand) (not b) operand + unary_length op (is_kept operand)) (sym e)) (negated_to_grows k t l dest op operand d s h.1))
+    (λ e. sized (Stands k) d _ _ _ (ap (λ (b : Bool). (if b then length_of t l operand else operand_length l (length_of t l operand) true operand) + unary_length l op (is_kept operand)) (sym e)) (negated_to_grows k t l dest op operand d s h.1))
 computed_grows k t l dest (T.Binary' ty place op p left q right) d s h u =
-    sized (Stands k) d _ _ _ (ap (λ (b : Bool). binary_length b op (operand_length (length_of t l left) (is_quiet right) left) left (operand_length (length_of t l right) true right) right) (binary_suits k ty place op p left q right u))
+    sized (Stands k) d _ _ _ (ap (λ (b : Bool). binary_length b op (operand_length l (length_of t l left) (is_quiet right) left) left (operand_length l (length_of t l right) true right) right) (binary_suits k ty place op p left q right u))
     (binary_to_grows k t l dest place op left right d s h.0 h.1)
 computed_grows k t l dest (T.Pcoord ty axis) d s h u =
     in_field_grows _ d 1 k dest _ (is_stands k dest s) (λ f _. makes (Stands k) dest d _ 1 (is_stands k dest s) (and_instr _ d d 0 (as_it_was d)))
@@ -182,13 +194,16 @@ computed_grows k t l dest (T.GetChar ty) d s h u =
     in_register_grows _ d 1 k dest _ (is_stands k dest s) (λ r _. makes (Stands k) dest d _ 1 (is_stands k dest s) (and_instr _ d d 0 (as_it_was d)))
 computed_grows k t l dest (T.Choice' ty p test q first r second) d s h u =
     sized (Stands k) d _ _ _ (one_more_unless (is_kept test) _) (either_grows (Stands k) (is_kept test) d _ _ _ _
-    (λ e. sized (Stands k) d _ _ _ (decided_by_one (is_kept test) (is_quiet first) (λ (b : Bool). operand_length (length_of t l test) b test) (arm_length_of t l ty first + arm_length_of t l ty second) e)
+    (λ e. sized (Stands k) d _ _ _ (decided_by_one (is_kept test) (is_quiet first) (λ (b : Bool). operand_length l (length_of t l test) b test) (arm_length_of t l ty first + arm_length_of t l ty second) e)
     (choice_to_grows k t l ty test first second dest d (sides k (T.Choice' ty p test q first r second) u refl) (is_stands k dest s) h.0 h.1 h.2))
-    (λ _. moved_grows k t l dest (T.Choice' ty p test q first r second) d s h))
+    (λ e. sized (Stands k) d _ _ _ (ap (λ (n : ℕ). n + 1) (choice_next t l ty p test q first r second e)) (moved_grows k t l dest (T.Choice' ty p test q first r second) d s h)))
 computed_grows k t l dest (T.Element' ty place array p index) d s h u =
     read_to_grows k t l (T.Element' ty place array p index) _ dest _ d (spot_grows t l (T.Element' ty place array p index) h) (is_stands k dest s)
 computed_grows k t l dest (T.LeftIndex' ty place p indexes x of) d s h u =
     gone_grows k (Stands k) dest _ _ d s (index_read_to_grows k t l ty place p indexes x of _ _ dest d (spot_grows t l (T.LeftIndex' ty place p indexes x of) h) (is_stands k dest s))
+computed_grows k t l dest (T.Reduce' ty op p operand) d s h u =
+    gone_grows k (Stands k) dest _ _ d s (message_to_grows k t l (T.Reduce' ty op p operand) _ _ (reduce_length op) (is_kept operand) dest d
+    (operand_grows t l true operand _ _ h (value_grows t l operand h)) (is_stands k dest s) (reduce_grows _ t l ty op p operand))
 computed_grows k t l dest (T.Scan' ty p source axis combiner direction mode bit within) d s h u =
     gone_grows k (Stands k) dest _ _ d s (message_to_grows k t l (T.Scan' ty p source axis combiner direction mode bit within) _ _ 1 (is_kept source) dest d
     (operand_grows t l true source _ _ h (value_grows t l source h)) (is_stands k dest s) (scan_grows _ t l ty p source axis combiner direction mode bit within))
@@ -263,8 +278,8 @@ field_operated_grows : (t : Typed) (l : Layout) (op : Op) (signed : Bool) (place
     Grows d (right_length (next_length t l value) op value) InField (field_operated t l op signed place f value d)
 unfolding field_operated next_length
 field_operated_grows t l op signed place f value d h =
-    sized InField d _ _ _ (nothing_more _ ∙ right_together (operand_length (length_of t l value) true value) op value) (bind Anything InField d 0 _ _ _ (entry_grows _ _ _ d) (λ spare begun _.
-    bind (IsRight op value) InField begun _ _ _ _ (right_by_grows _ (operand_length (length_of t l value) true value) op value begun (operand_grows t l true value _ _ h (value_grows t l value h))) (λ v after r.
+    sized InField d _ _ _ (nothing_more _ ∙ right_together (operand_length l (length_of t l value) true value) op value) (bind Anything InField d 0 _ _ _ (entry_grows _ _ _ d) (λ spare begun _.
+    bind (IsRight op value) InField begun _ _ _ _ (right_by_grows _ (operand_length l (length_of t l value) true value) op value begun (operand_grows t l true value _ _ h (value_grows t l value h))) (λ v after r.
     right_operated_grows op signed place value f f v spare after r)))
 
 variable_operated_grows : (k : Bool) (t : Typed) (l : Layout) (op : Op) (place : Place) (target value : TExpr) (dest : Out) (d : Draft) → Is k dest → IsShaped value →
@@ -276,19 +291,19 @@ variable_operated_grows true t l op place target value (O.Field f) d s h = cc
 variable_operated_grows false t l op place target value (O.Scalar r) d s h = cc
 variable_operated_grows k t l op place target value O.Nothing d s h = absurd s
 
-variable_stepped_grows : (k : Bool) (elem : Elem) (op : StepOp) (dest : Out) (d : Draft) → Is k dest → Grows d (if k then 2 + settled_length elem else 1) (Stands k) (variable_stepped elem op dest d)
+variable_stepped_grows : (k : Bool) (l : Layout) (elem : Elem) (op : StepOp) (dest : Out) (d : Draft) → Is k dest → Grows d (if k then (word_length l 1 + 1) + settled_length elem else 1) (Stands k) (variable_stepped l elem op dest d)
 unfolding variable_stepped
-variable_stepped_grows true elem op (O.Scalar r) d s =
-    sized InRegister d _ _ _ (sum (settled_length elem)) (bind Anything InRegister d 0 _ _ _ (register_grows d) (λ one between _.
-    bind Anything InRegister between (1 + 0) _ _ _ (behind Anything between _ 1 0 _ (and_instr _ between between 0 (as_it_was between)) (written_register_grows elem r _)) (λ written after _.
+variable_stepped_grows true l elem op (O.Scalar r) d s =
+    sized InRegister d _ _ _ (sum (word_length l 1) (settled_length elem)) (bind Anything InRegister d _ _ _ _ (word_in_grows l 1 d) (λ one between _.
+    bind Anything InRegister between 0 _ _ _ (written_register_grows elem r between) (λ written after _.
     makes InRegister (O.Scalar r) after _ _ refl (settled_more elem written r 1 after _ (and_instr _ after after 0 (as_it_was after))))))
   where
-    sum : (s : ℕ) → 0 + ((1 + 0) + (1 + s)) ≡ 2 + s
-    sum s = omega arith
-variable_stepped_grows false elem op (O.Field f) d s = makes InField (O.Field f) d _ 1 refl (and_instr _ d d 0 (as_it_was d))
-variable_stepped_grows true elem op (O.Field f) d s = cc
-variable_stepped_grows false elem op (O.Scalar r) d s = cc
-variable_stepped_grows k elem op O.Nothing d s = absurd s
+    sum : (w s : ℕ) → w + (0 + (1 + s)) ≡ (w + 1) + s
+    sum w s = omega arith
+variable_stepped_grows false l elem op (O.Field f) d s = makes InField (O.Field f) d _ 1 refl (and_instr _ d d 0 (as_it_was d))
+variable_stepped_grows true l elem op (O.Field f) d s = cc
+variable_stepped_grows false l elem op (O.Scalar r) d s = cc
+variable_stepped_grows k l elem op O.Nothing d s = absurd s
 
 -- assignments that write their variable themselves
 Writes : Typed → Layout → AssignOp → Place → TExpr → TExpr → Option Own → Type 0
@@ -343,11 +358,11 @@ assignment_in None (Some x) t l op place target value whole n d w h g =
 assignment_in None None t l op place target value whole n d w h g = g
 
 step_in : (o : Option Own) (t : Typed) (l : Layout) (op : StepOp) (target : TExpr) (whole : Code) (n : ℕ) (d : Draft) → Grows d n (λ (v : Out). Unit {0}) (whole d) →
-    Grows d (elim o as (λ _. ℕ) [ Some own ↦ stepped_length (is_none own.shape) (type_of target).elem | None ↦ n ]) (λ (v : Out). Unit {0})
-    (elim o as (λ _. Made Out) [ Some own ↦ then_make (standing t l own d) (λ dest after. variable_stepped (type_of target).elem op dest after) | None ↦ whole d ])
+    Grows d (elim o as (λ _. ℕ) [ Some own ↦ stepped_length l (is_none own.shape) (type_of target).elem | None ↦ n ]) (λ (v : Out). Unit {0})
+    (elim o as (λ _. Made Out) [ Some own ↦ then_make (standing t l own d) (λ dest after. variable_stepped l (type_of target).elem op dest after) | None ↦ whole d ])
 step_in (Some own) t l op target whole n d g =
     sized _ d _ _ _ (nothing_more _) (bind (Is (is_none own.shape)) (λ (v : Out). Unit {0}) d 0 _ _ _ (standing_grows (is_none own.shape) t l own d refl) (λ dest after s.
-    weaker (Stands (is_none own.shape)) (λ (v : Out). Unit {0}) after _ _ (λ v _. tt) (variable_stepped_grows (is_none own.shape) (type_of target).elem op dest after s)))
+    weaker (Stands (is_none own.shape)) (λ (v : Out). Unit {0}) after _ _ (λ v _. tt) (variable_stepped_grows (is_none own.shape) l (type_of target).elem op dest after s)))
 step_in None t l op target whole n d g = g
 
 -- an expression whose value is not used

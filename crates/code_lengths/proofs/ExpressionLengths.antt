@@ -1,8 +1,9 @@
 -- The code of every expression is as long as described, and its value stands where the expression says.
 use denote.Hole.Carrier
-use Rattle.std.proofs.Common.{◌≡◌, ℕ, suc, ◌+◌, Bool, true, false, List, [], ◌∷◌, ◌++◌, length, Option, is_none, slice_get, refl, sym, ap, ◌∙◌, subst, arith, if◌then◌else◌, length-append}
+use Rattle.std.proofs.Common.{◌≡◌, ℕ, suc, ◌+◌, Bool, true, false, List, [], ◌∷◌, ◌++◌, length, Option, Some, None, is_none, is_some, slice_get, refl, sym, ap, ◌∙◌, subst, arith, if◌then◌else◌, length-append}
 use mathlib.Core.Former.{Count}
 use Rattle.cstar_base.specs.declared.operators.Place.{Place}
+use Rattle.cstar_tree.specs.declared.syntax.ReduceOp.{ReduceOp}
 use Rattle.cstar_tree.specs.declared.typed.TExpr.{TExpr, Row_of-TExpr, end_of-TExpr, more_of-TExpr, items-the_row-TExpr, items_shown-the_row-TExpr-0, out-TExpr}
 use Rattle.cstar_tree.specs.declared.typed.TExpr as T
 use Rattle.cstar_tree.specs.declared.typed.Piece.{Piece}
@@ -14,20 +15,21 @@ use Rattle.paris_code.specs.declared.operands.Field.{Field}
 use Rattle.lower_base.specs.declared.emit.Out.{Out}
 use Rattle.lower_base.specs.declared.emit.Out.TheVariants as O
 use Rattle.lower_base.specs.Drafts.{Draft, Made, Makes, then_make, fresh_for}
+use Rattle.lower_base.specs.Constants.{word_in, word_length}
 use Rattle.lower_base.specs.Layouts.{Layout, elements_of}
-use Rattle.lower_comm.specs.Messages.{communicated, checked_grid}
+use Rattle.lower_comm.specs.Messages.{communicated, checked_grid, located}
 use Rattle.lower_comm.specs.News.{goes_by_news}
-use Rattle.lower_expr.specs.Frames.{called}
 use Rattle.lower_expr.specs.declared.spots.Spot.{Spot}
 use Rattle.lower_expr.specs.declared.spots.Spot.TheVariants as S
-use Rattle.lower_expr.specs.Lengths.{length_of, truth_length_of, tested_length, tested_by_length, arm_length_of, spot_length_of, lengths_of, call_length, bare, load_length, load_length_of, read_length, news_length, news_moves, news_checked, four_times}
+use Rattle.lower_expr.specs.Lengths.{length_of, truth_length_of, tested_length, tested_by_length, arm_length_of, spot_length_of, lengths_of, call_length, bare, load_length, load_length_of, located_length, moves_length, read_length, reduce_length, news_length, news_moves, news_checked, elements_length, index_check_length}
+use Rattle.lower_expr.specs.Positions.{known_position}
 use Rattle.lower_expr.specs.Spots.{variable_spot}
 use Rattle.lower_expr.specs.Steps.{has_truth, is_kept, pieces_printed}
 use Rattle.lower_expr.specs.Values.{Code, Codes, Test, condition_by, value_of, truth_of, spot_of, values_of, element_spot, indexed_spot, news_to, read_to, read_by, index_read_to, index_read_by, message_to, message_by, call_to}
 use Rattle.code_lengths.specs.Shaped.{HasShape, IsShaped, IsTarget, AreShaped}
 use Rattle.code_lengths.specs.Growth.{Grows, Stands, Anything}
 use Rattle.code_lengths.proofs.Drafting.{as_it_was, and_instr, makes, sized, bind, weaker, fresh_grows}
-use Rattle.code_lengths.proofs.Pieces.{InField, constant_grows, in_place_grows, printed_grows}
+use Rattle.code_lengths.proofs.Pieces.{InField, constant_grows, word_in_grows, in_place_grows, printed_grows}
 use Rattle.code_lengths.proofs.Communication.{Is, fresh_is, located_grows, nothing_more, field_of_grows, read_by_news_grows, grid_check_more, grid_checked, reduced_grows, scanned_grows, segment_field_grows, enumerated_grows, part_field_grows}
 use Rattle.code_lengths.proofs.SpotPieces.{Fits, variable_fits, bare_type}
 use Rattle.code_lengths.proofs.CallPieces.{called_grows}
@@ -44,16 +46,39 @@ of_kind : (k b : Bool) (d : Draft) (n : ℕ) (m : Made Out) → k ≡ b → Grow
 of_kind k b d n m h g = weaker (Stands k) (Stands b) d n m (λ v s. subst (λ x. Stands x v) h s) g
 
 -- left indexes
-indexed_spot_grows : (e : TExpr) (codes : Codes) (n count : ℕ) (d : Draft) → AreCodes n count codes → ((at : Out) → Is (is_none (type_of e).shape) at → Fits (bare e) (S.Indexed at)) →
-    Grows d (2 + n) (Fits (bare e)) (indexed_spot e codes d)
-unfolding indexed_spot
-indexed_spot_grows e codes n count d c f =
+spot_by_indexes : (e : TExpr) (codes : Codes) (n count : ℕ) (d : Draft) → AreCodes n count codes → ((at : Out) → Is (is_none (type_of e).shape) at → Fits (bare e) (S.Indexed at)) →
+    Grows d (2 + n) (Fits (bare e)) (then_make (fresh_for (type_of e).shape d) (λ at begun. then_make (codes [] begun) (λ parts between. then_make (located e parts at between) (λ out after. Makes (S.Indexed out) after))))
+spot_by_indexes e codes n count d c f =
     sized _ d _ _ _ (sum n) (bind (Is (is_none (type_of e).shape)) _ d 0 _ _ _ (fresh_is (type_of e).shape d) (λ at begun h.
     bind (λ (given : List Out). length given ≡ 0 + count) _ begun n _ _ _ (c [] begun) (λ parts between _.
     bind (Is (is_none (type_of e).shape)) _ between 2 0 _ _ (located_grows (is_none (type_of e).shape) e parts at between h) (λ out after k. makes _ (S.Indexed out) after after 0 (f out k) (as_it_was after)))))
   where
     sum : (n : ℕ) → 0 + (n + (2 + 0)) ≡ 2 + n
     sum n = omega arith
+
+spot_in : (o : Option ℕ) (l : Layout) (e : TExpr) (n : ℕ) (made : Made Spot) (d : Draft) → (is_some o ≡ true → is_none (type_of e).shape ≡ true) → ((at : Out) → Is (is_none (type_of e).shape) at → Fits (bare e) (S.Indexed at)) → Grows d n (Fits (bare e)) made →
+    Grows d (elim o as (λ _. ℕ) [ Some position ↦ word_length l position | None ↦ n ]) (Fits (bare e))
+    (elim o as (λ _. Made Spot) [ Some position ↦ then_make (word_in l position d) (λ r after. Makes (S.Indexed (O.Scalar r)) after) | None ↦ made ])
+spot_in (Some position) l e n made d k f g =
+    sized _ d _ _ _ (and_nothing (word_length l position)) (bind Anything _ d _ 0 _ _ (word_in_grows l position d) (λ r after _. makes _ (S.Indexed (O.Scalar r)) after after 0 (f (O.Scalar r) (k refl)) (as_it_was after)))
+  where
+    and_nothing : (n : ℕ) → n + 0 ≡ n
+    and_nothing n = omega arith
+spot_in None l e n made d k f g = g
+
+indexed_spot_grows : (t : Typed) (l : Layout) (e : TExpr) (codes : Codes) (n count : ℕ) (d : Draft) → AreCodes n count codes → (is_some (known_position t e) ≡ true → is_none (type_of e).shape ≡ true) → ((at : Out) → Is (is_none (type_of e).shape) at → Fits (bare e) (S.Indexed at)) →
+    Grows d (located_length t l e n) (Fits (bare e)) (indexed_spot t l e codes d)
+unfolding indexed_spot located_length
+indexed_spot_grows t l e codes n count d c k f = spot_in (known_position t e) l e (2 + n) _ d k f (spot_by_indexes e codes n count d c f)
+
+-- a position is known where one element is meant
+some_if : (b : Bool) (o : Option ℕ) → is_some (if b then o else None) ≡ true → b ≡ true
+some_if true o h = refl
+some_if false o h = cc
+
+known_scalar : (t : Typed) (ty : ValueType) (place : Place) (p : _) (indexes : Row_of-TExpr _) (x : Variable) (of : ℕ) → is_some (known_position t (T.LeftIndex' ty place p indexes x of)) ≡ true → is_none ty.shape ≡ true
+unfolding known_position out-TExpr Carrier.out
+known_scalar t ty place p indexes x of h = some_if (is_none ty.shape) _ h
 
 pub message_to_grows : (k : Bool) (t : Typed) (l : Layout) (e : TExpr) (code : Code) (n m : ℕ) (ks : Bool) (dest : Out) (d : Draft) → IsCode n ks code → Stands k dest →
     ((v into : Out) (b : Draft) → Stands k into → Grows b m (Stands k) (communicated t l e O.Nothing (v ∷ []) into b)) → Grows d (n + m) (Stands k) (message_to t l e code dest d)
@@ -80,10 +105,10 @@ variable_value : (t : Typed) (l : Layout) (ty : ValueType) (x : Variable) (d : D
 variable_value t l ty x d = sized _ d _ _ _ (one_read t l ty x) (read_by_grows t l (T.Variable ty x) ty _ 0 d (variable_spots l ty x))
 
 element_value : (t : Typed) (l : Layout) (ty : ValueType) (place : Place) (array : Variable) (p : _) (index : TExpr) (d : Draft) → HasShape ty → (k : Bool) (code : Code) (n : ℕ) → IsCode n k code →
-    Grows d ((n + 5) + four_times (elements_of t l array)) (Stands (is_none ty.shape)) (read_by t l (T.Element' ty place array p index) ty (element_spot t l ty place array code) d)
+    Grows d ((n + index_check_length l (elements_of t l array)) + elements_length l (elements_of t l array) 0) (Stands (is_none ty.shape)) (read_by t l (T.Element' ty place array p index) ty (element_spot t l ty place array code) d)
 unfolding load_length load_length_of bare
 element_value t l ty place array p index d h k code n c =
-    read_by_grows t l (T.Element' ty place array p index) ty _ (n + 5) d (λ b. element_spot_grows t l ty place array p index k code n b h c)
+    read_by_grows t l (T.Element' ty place array p index) ty _ (n + index_check_length l (elements_of t l array)) d (λ b. element_spot_grows t l ty place array p index k code n b h c)
 
 nothing_behind : (n : ℕ) → n ≡ n + 0
 nothing_behind n = omega arith
@@ -114,24 +139,24 @@ grid_value ty place p indexes x of d =
     sized _ d _ _ _ (ap (λ (b : Bool). if b then 1 else 0) (grid_checked of 0 _ ∙ ap (λ (xs : List TExpr). news_checked of 0 xs) (items_shown-the_row-TExpr-0 p indexes))) (makes _ O.Nothing d _ _ tt (grid_check_more _ place _ d))
 
 news_read : (k : Bool) (t : Typed) (l : Layout) (ty : ValueType) (place : Place) (p : _) (indexes : Row_of-TExpr _) (x : Variable) (of : ℕ) (into : Out) (d : Draft) → Stands k into →
-    Grows d (news_moves of 0 (items-the_row-TExpr _ indexes) + 1) (Stands k) (communicated t l (T.LeftIndex' ty place p indexes x of) O.Nothing [] into d)
+    Grows d (moves_length ty.elem (news_moves of 0 (items-the_row-TExpr _ indexes))) (Stands k) (communicated t l (T.LeftIndex' ty place p indexes x of) O.Nothing [] into d)
 unfolding communicated out-TExpr Carrier.out
 news_read k t l ty place p indexes x of into d s =
-    sized _ d _ _ _ (nothing_more _ ∙ ap (λ (xs : List TExpr). news_moves of 0 xs + 1) (items_shown-the_row-TExpr-0 p indexes))
+    sized _ d _ _ _ (nothing_more _ ∙ ap (λ (xs : List TExpr). moves_length ty.elem (news_moves of 0 xs)) (items_shown-the_row-TExpr-0 p indexes))
     (bind Anything (Stands k) d 0 _ _ _ (field_of_grows t l x 0 d) (λ source after _. read_by_news_grows k of _ ty.elem source into after s))
 
 news_to_grows : (k : Bool) (t : Typed) (l : Layout) (ty : ValueType) (place : Place) (p : _) (indexes : Row_of-TExpr _) (x : Variable) (of : ℕ) (dest : Out) (d : Draft) → Stands k dest →
-    Grows d (news_length of (items-the_row-TExpr _ indexes)) (Stands k) (news_to t l (T.LeftIndex' ty place p indexes x of) dest d)
+    Grows d (news_length of ty.elem (items-the_row-TExpr _ indexes)) (Stands k) (news_to t l (T.LeftIndex' ty place p indexes x of) dest d)
 unfolding news_to news_length
 news_to_grows k t l ty place p indexes x of dest d s =
-    sized _ d _ _ _ (sum (news_moves of 0 (items-the_row-TExpr _ indexes) + 1) (if news_checked of 0 (items-the_row-TExpr _ indexes) then 1 else 0))
+    sized _ d _ _ _ (sum (moves_length ty.elem (news_moves of 0 (items-the_row-TExpr _ indexes))) (if news_checked of 0 (items-the_row-TExpr _ indexes) then 1 else 0))
     (bind (λ (v : Out). Unit {0}) _ d _ _ _ _ (grid_value ty place p indexes x of d) (λ _ after _. news_read k t l ty place p indexes x of dest after s))
   where
     sum : (a b : ℕ) → b + a ≡ a + b
     sum a b = omega arith
 
 index_read_by_news : (b : Bool) (k : Bool) (t : Typed) (l : Layout) (ty : ValueType) (place : Place) (p : _) (indexes : Row_of-TExpr _) (x : Variable) (of : ℕ) (spot : Draft → Made Spot) (n : ℕ) (dest : Out) (d : Draft) →
-    IsSpotCode n (T.LeftIndex' ty place p indexes x of) spot → Stands k dest → Grows d (if b then news_length of (items-the_row-TExpr _ indexes) else n + read_length ty) (Stands k)
+    IsSpotCode n (T.LeftIndex' ty place p indexes x of) spot → Stands k dest → Grows d (if b then news_length of ty.elem (items-the_row-TExpr _ indexes) else n + read_length ty) (Stands k)
     (if b then news_to t l (T.LeftIndex' ty place p indexes x of) dest d else read_to t l (T.LeftIndex' ty place p indexes x of) spot dest d)
 unfolding load_length load_length_of bare
 index_read_by_news true k t l ty place p indexes x of spot n dest d c s = news_to_grows k t l ty place p indexes x of dest d s
@@ -139,19 +164,19 @@ index_read_by_news false k t l ty place p indexes x of spot n dest d c s = read_
 
 pub index_read_to_grows : (k : Bool) (t : Typed) (l : Layout) (ty : ValueType) (place : Place) (p : _) (indexes : Row_of-TExpr _) (x : Variable) (of : ℕ) (spot : Draft → Made Spot) (n : ℕ) (dest : Out) (d : Draft) →
     IsSpotCode n (T.LeftIndex' ty place p indexes x of) spot → Stands k dest →
-    Grows d (if goes_by_news (T.LeftIndex' ty place p indexes x of) then news_length of (items-the_row-TExpr _ indexes) else n + read_length ty) (Stands k)
+    Grows d (if goes_by_news (T.LeftIndex' ty place p indexes x of) then news_length of ty.elem (items-the_row-TExpr _ indexes) else n + read_length ty) (Stands k)
     (index_read_to t l (T.LeftIndex' ty place p indexes x of) spot dest d)
 unfolding index_read_to
 index_read_to_grows k t l ty place p indexes x of spot n dest d c s =
     index_read_by_news (goes_by_news (T.LeftIndex' ty place p indexes x of)) k t l ty place p indexes x of spot n dest d c s
 
 left_index_value : (t : Typed) (l : Layout) (ty : ValueType) (place : Place) (p : _) (indexes : Row_of-TExpr _) (x : Variable) (of : ℕ) (codes : Codes) (n count : ℕ) (d : Draft) → AreCodes n count codes →
-    Grows d (if goes_by_news (T.LeftIndex' ty place p indexes x of) then news_length of (items-the_row-TExpr _ indexes) else (2 + n) + read_length ty) (Stands (is_none ty.shape))
-    (index_read_by t l (T.LeftIndex' ty place p indexes x of) ty (indexed_spot (T.LeftIndex' ty place p indexes x of) codes) d)
+    Grows d (if goes_by_news (T.LeftIndex' ty place p indexes x of) then news_length of ty.elem (items-the_row-TExpr _ indexes) else located_length t l (T.LeftIndex' ty place p indexes x of) n + read_length ty) (Stands (is_none ty.shape))
+    (index_read_by t l (T.LeftIndex' ty place p indexes x of) ty (indexed_spot t l (T.LeftIndex' ty place p indexes x of) codes) d)
 unfolding index_read_by bare
 left_index_value t l ty place p indexes x of codes n count d c =
     sized _ d _ _ _ (nothing_more _) (bind (Stands (is_none ty.shape)) _ d 0 _ _ _ (fresh_grows ty.shape d) (λ dest begun s.
-    index_read_to_grows (is_none ty.shape) t l ty place p indexes x of _ (2 + n) dest begun (λ b. indexed_spot_grows (T.LeftIndex' ty place p indexes x of) codes n count b c (λ at h. h)) s))
+    index_read_to_grows (is_none ty.shape) t l ty place p indexes x of _ _ dest begun (λ b. indexed_spot_grows t l (T.LeftIndex' ty place p indexes x of) codes n count b c (known_scalar t ty place p indexes x of) (λ at h. h)) s))
 
 printed_value : (k : Bool) (pieces : List Piece) (codes : Codes) (n count : ℕ) (d : Draft) → AreCodes n count codes →
     Grows d (length pieces + n) (Stands k) (then_make (codes [] d) (λ given after. pieces_printed pieces given after))
@@ -161,6 +186,12 @@ printed_value k pieces codes n count d c =
   where
     sum : (n m : ℕ) → n + m ≡ m + n
     sum n m = omega arith
+
+-- a reduction of a value
+pub reduce_grows : (k : Bool) (t : Typed) (l : Layout) (ty : ValueType) (op : ReduceOp) (p : _) (operand : TExpr) (v into : Out) (b : Draft) → Stands k into →
+    Grows b (reduce_length op) (Stands k) (communicated t l (T.Reduce' ty op p operand) O.Nothing (v ∷ []) into b)
+unfolding communicated out-TExpr Carrier.out
+reduce_grows k t l ty op p operand v into b s = reduced_grows k op _ (v ∷ []) into b s
 
 -- a scan of a value that stands in a field
 pub scan_grows : (k : Bool) (t : Typed) (l : Layout) (ty : ValueType) (p : _) (source : TExpr) (axis : _) (combiner : _) (direction : _) (mode : _) (bit : _) (within : _) (v into : Out) (b : Draft) → Stands k into →
@@ -198,11 +229,11 @@ mutual
       sized _ d _ _ _ (nothing_more _) (bind (Stands (is_none ty.shape)) _ d 0 _ _ _ (fresh_grows ty.shape d) (λ dest after s.
       binary_grows (is_none ty.shape) dest op _ place _ left _ _ right _ after s
       (operand_grows t l _ left _ _ h.0 (value_grows t l left h.0)) (operand_grows t l _ right _ _ h.1 (value_grows t l right h.1))))
-  value_grows t l (T.Unary' ty op p operand) h d = unary_grows ty op (is_kept operand) operand _ _ _ d h.0 (value_grows t l operand h.1) (operand_grows t l true operand _ _ h.1 (value_grows t l operand h.1))
+  value_grows t l (T.Unary' ty op p operand) h d = unary_grows l ty op (is_kept operand) _ _ _ _ d h.0 (value_grows t l operand h.1) (operand_grows t l true operand _ _ h.1 (value_grows t l operand h.1))
   value_grows t l (T.Step' ty op order p target) h d =
       of_kind _ _ d _ _ (ap is_none (sym h.0)) (step_grows t l ty op order p target _ _ d (bare_type target h.1) (spot_grows t l target h.1))
   value_grows t l (T.Reduce' ty op p operand) h d =
-      message_grows t l (T.Reduce' ty op p operand) ty _ _ _ (is_kept operand) d (operand_grows t l true operand _ _ h (value_grows t l operand h)) (λ v into b s. reduced_grows _ op _ (v ∷ []) into b s)
+      message_grows t l (T.Reduce' ty op p operand) ty _ _ _ (is_kept operand) d (operand_grows t l true operand _ _ h (value_grows t l operand h)) (reduce_grows _ t l ty op p operand)
   value_grows t l (T.Casts' ty elems p operand) h d =
       bind (Stands (is_kept operand)) _ d _ _ _ _ (value_grows t l operand h.1 d) (λ v after s. of_kind true _ after _ _ (sym h.0) (casts_grow (is_kept operand) elems.items v after s))
   value_grows t l (T.ParallelCast' ty p operand) h d =
@@ -242,7 +273,7 @@ mutual
   spot_grows t l (T.Variable ty x) h d = makes _ _ d d 0 (variable_fits l ty x) (as_it_was d)
   spot_grows t l (T.Element' ty place array p index) h d = element_spot_grows t l ty place array p index _ _ _ d h.0 (value_grows t l index h.1)
   spot_grows t l (T.LeftIndex' ty place p indexes x of) h d =
-      indexed_spot_grows (T.LeftIndex' ty place p indexes x of) _ _ _ d (values_grow t l _ indexes h) (λ at k. k)
+      indexed_spot_grows t l (T.LeftIndex' ty place p indexes x of) _ _ _ d (values_grow t l _ indexes h) (known_scalar t ty place p indexes x of) (λ at k. k)
   spot_grows t l (T.Brackets' ty p inner) h d = spot_grows t l inner h.1 d
   spot_grows t l _ h d = absurd h
 

@@ -1,5 +1,6 @@
 -- Operands where they stand have no code, and those that are copied have that of their value.
-use Rattle.std.proofs.Common.{◌≡◌, ℕ, Bool, true, false, ◌||◌, ◌==◌, Option, Some, None, is_none, refl, sym, subst, if◌then◌else◌}
+use Rattle.std.proofs.Common.{◌≡◌, ℕ, Bool, true, false, ◌&&◌, ◌||◌, ◌==◌, Option, Some, None, is_none, is_some, refl, sym, subst, if◌then◌else◌}
+use Rattle.cstar_base.specs.Numbers.{converted}
 use Rattle.cstar_tree.specs.declared.typed.TExpr.{TExpr}
 use Rattle.cstar_tree.specs.declared.typed.TExpr as T
 use Rattle.cstar_tree.specs.declared.typed.Typed.{Typed}
@@ -11,8 +12,11 @@ use Rattle.lower_base.specs.declared.emit.Out.TheVariants as O
 use Rattle.lower_base.specs.Drafts.{Draft, Made, Makes, then_make}
 use Rattle.lower_base.specs.Layouts.{Layout, register_of, field_of}
 use Rattle.lower_expr.specs.declared.operands.Own.{Own}
-use Rattle.lower_expr.specs.Operands.{own_of, standing, in_place, operand_by, operand_length}
-use Rattle.lower_expr.specs.Steps.{is_kept}
+use Rattle.lower_base.specs.Constants.{constant_register}
+use Rattle.lower_expr.specs.Operands.{held, own_of, standing, in_place, operand_by, operand_length}
+use Rattle.lower_expr.specs.Steps.{is_kept, register_word}
+use Rattle.source_meaning.specs.Constants as C
+use Rattle.source_meaning.specs.Reductions.{int_type}
 use Rattle.lower_expr.specs.Values.{Code}
 use Rattle.code_lengths.specs.Growth.{Grows, Stands, Anything}
 use Rattle.code_lengths.specs.Shaped.{IsShaped, IsTarget}
@@ -63,10 +67,62 @@ operand_in : (o : Option Own) (k : Bool) (t : Typed) (l : Layout) (code : Code) 
 operand_in None k t l code n d h c = c d
 operand_in (Some own) k t l code n d h c = weaker (Is k) (Stands k) d 0 _ (λ v s. is_stands k v s) (standing_grows k t l own d h)
 
+-- a constant stands in a register
+first : (a b : Bool) → (a && b) ≡ true → a ≡ true
+first true b h = refl
+first false b h = cc
+
+second : (a b : Bool) → (a && b) ≡ true → b ≡ true
+second true b h = h
+second false b h = cc
+
+constant_kept : (e : TExpr) → C.is_constant e ≡ true → is_kept e ≡ true
+unfolding C.is_constant is_kept
+constant_kept (T.Number ty value) h = first _ _ h
+constant_kept (T.PositionsOf ty shape value) h = first _ _ h
+constant_kept (T.RankOf ty shape value) h = first _ _ h
+constant_kept (T.DimOf ty shape axis value) h = first _ _ h
+constant_kept (T.Brackets' ty p inner) h = constant_kept inner (second _ _ h)
+constant_kept (T.Casts' ty elems p operand) h = first _ _ (first _ _ h)
+constant_kept (T.Convert' ty p operand) h = constant_kept operand (second _ _ h)
+constant_kept (T.Unary' ty op p operand) h = first _ _ (first _ _ h)
+constant_kept (T.Binary' ty place op p left q right) h = first _ _ (first _ _ (first _ _ h))
+constant_kept (T.LogicalOr' ty p left q right) h = first _ _ (first _ _ (first _ _ h))
+constant_kept (T.LogicalAnd' ty p left q right) h = first _ _ (first _ _ (first _ _ h))
+constant_kept (T.Choice' ty p test q one r other) h = first _ _ (first _ _ (first _ _ (first _ _ (first _ _ h))))
+constant_kept _ h = cc
+
+held_kept : (l : Layout) (e : TExpr) → is_some (held l e) ≡ true → is_kept e ≡ true
+unfolding held register_word C.constant_of
+held_kept l e h = by (C.is_constant e) refl h
+  where
+    by : (b : Bool) → C.is_constant e ≡ b → is_some (C.then_value (C.then_value (if b then C.value_of e else None) (λ v. Some (converted int_type (type_of e).elem v))) (constant_register l)) ≡ true → is_kept e ≡ true
+    by true c h = constant_kept e c
+    by false c h = cc
+
+pub not_held : (l : Layout) (e : TExpr) → (C.is_constant e ≡ true → ⊥) → held l e ≡ None
+unfolding held register_word C.constant_of
+not_held l e h = by (C.is_constant e) refl
+  where
+    by : (b : Bool) → C.is_constant e ≡ b → C.then_value (C.then_value (if b then C.value_of e else None) (λ v. Some (converted int_type (type_of e).elem v))) (constant_register l) ≡ None
+    by true c = absurd (h c)
+    by false c = refl
+
+-- the condition of a constant `?:` is constant
+pub choice_kept : (ty : ValueType) (p : _) (test : TExpr) (q : _) (one : TExpr) (r : _) (other : TExpr) → C.is_constant (T.Choice' ty p test q one r other) ≡ true → is_kept test ≡ true
+unfolding C.is_constant
+choice_kept ty p test q one r other h = constant_kept test (second _ _ (first _ _ (first _ _ h)))
+
+held_in : (o : Option ℕ) (k : Bool) (n : ℕ) (made : Made Out) (d : Draft) → (is_some o ≡ true → k ≡ true) → Grows d n (Stands k) made →
+    Grows d (elim o as (λ _. ℕ) [ Some _ ↦ 0 | None ↦ n ]) (Stands k) (elim o as (λ _. Made Out) [ Some r ↦ Makes (O.Scalar r) d | None ↦ made ])
+held_in (Some r) k n made d h g = makes (Stands k) (O.Scalar r) d d 0 (h refl) (as_it_was d)
+held_in None k n made d h g = g
+
 place_fits : (quiet : Bool) (e : TExpr) → IsShaped e → OwnFits (in_place quiet e) (is_kept e)
 unfolding in_place
 place_fits quiet e h = own_or_none quiet (own_of e) (is_kept e) (own_fits e h)
 
-pub operand_grows : (t : Typed) (l : Layout) (quiet : Bool) (e : TExpr) (code : Code) (n : ℕ) → IsShaped e → IsCode n (is_kept e) code → IsCode (operand_length n quiet e) (is_kept e) (operand_by t l code quiet e)
+pub operand_grows : (t : Typed) (l : Layout) (quiet : Bool) (e : TExpr) (code : Code) (n : ℕ) → IsShaped e → IsCode n (is_kept e) code → IsCode (operand_length l n quiet e) (is_kept e) (operand_by t l code quiet e)
 unfolding operand_by operand_length
-operand_grows t l quiet e code n h c d = operand_in (in_place quiet e) (is_kept e) t l code n d (place_fits quiet e h) c
+operand_grows t l quiet e code n h c d =
+    held_in (held l e) (is_kept e) _ _ d (held_kept l e) (operand_in (in_place quiet e) (is_kept e) t l code n d (place_fits quiet e h) c)

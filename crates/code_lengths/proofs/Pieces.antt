@@ -1,5 +1,5 @@
 -- Short stretches of code are as long as described.
-use Rattle.std.proofs.Common.{◌≡◌, ℕ, suc, ◌+◌, ◌≤◌, ◌-◌, Bool, true, false, not, ◌==◌, List, [], ◌∷◌, length, refl, arith, if◌then◌else◌, ◌⊎◌, inl, inr}
+use Rattle.std.proofs.Common.{◌≡◌, ℕ, suc, ◌+◌, ◌≤◌, ◌-◌, Bool, true, false, not, ◌==◌, List, [], ◌∷◌, length, Option, Some, None, refl, arith, if◌then◌else◌, ◌⊎◌, inl, inr}
 use Rattle.std.specs.Prelude.{nat_lt}
 use Rattle.cstar_base.specs.declared.elem.Elem.{Elem}
 use Rattle.cstar_base.specs.declared.operators.Op.{Op}
@@ -20,7 +20,9 @@ use Rattle.lower_base.specs.declared.emit.Out.{Out}
 use Rattle.lower_base.specs.declared.emit.Out.TheVariants as O
 use Rattle.lower_base.specs.declared.operators.Machine.{Machine}
 use Rattle.lower_base.specs.declared.operators.Machine.TheVariants as M
-use Rattle.lower_base.specs.Drafts.{Draft, Makes, Fails, with_instr, in_register, in_field}
+use Rattle.lower_base.specs.Constants.{constant_register, word_in, word_length}
+use Rattle.lower_base.specs.Drafts.{Draft, Made, Makes, Fails, then_make, with_instr, a_register, in_register, in_field}
+use Rattle.lower_base.specs.Layouts.{Layout}
 use Rattle.lower_base.specs.Operators.{machine_of}
 use Rattle.lower_expr.specs.declared.steps.Right.TheVariants as R
 use Rattle.lower_expr.specs.Steps.{constant_in, put_test, field_converted, converted_in_place, put_in_field, put_value, with_register_check, with_field_check, on_registers, operated, on_fields, fields_operated, takes_word, on_word, right_operated, in_a_field, register_negated, field_negated, negated, pieces_printed, relates, shifted_back}
@@ -39,6 +41,18 @@ pub constant_grows : (value : ℕ) (d : Draft) → Grows d 1 InRegister (constan
 unfolding constant_in
 constant_grows value d =
     bind Anything InRegister d 0 1 _ _ (register_grows d) (λ r e _. makes InRegister (O.Scalar r) e _ 1 refl (and_instr _ e e 0 (as_it_was e)))
+
+-- a number in a register, where it stands or in a fresh one
+word_by : (o : Option ℕ) (word : ℕ) (d : Draft) → Grows d (elim o as (λ _. ℕ) [ Some _ ↦ 0 | None ↦ 1 ]) Anything (elim o as (λ _. Made ℕ) [
+  | Some r ↦ Makes r d
+  | None ↦ then_make (a_register d) (λ r after. Makes r (with_instr (I.FrontConst r word) after))
+])
+word_by (Some r) word d = makes Anything r d d 0 tt (as_it_was d)
+word_by None word d = bind Anything Anything d 0 1 _ _ (register_grows d) (λ r after _. makes Anything r after _ 1 tt (and_instr _ after after 0 (as_it_was after)))
+
+pub word_in_grows : (l : Layout) (word : ℕ) (d : Draft) → Grows d (word_length l word) Anything (word_in l word d)
+unfolding word_in word_length
+word_in_grows l word d = word_by (constant_register l word) word d
 
 pub test_grows : (dest : Field) (d : Draft) → Grows d 2 InField (put_test dest d)
 unfolding put_test
@@ -219,34 +233,34 @@ in_a_field_grows false (O.Field f) spare d s = (tt, as_it_was d)
 in_a_field_grows k O.Nothing spare d s = tt
 
 -- unary operators
-register_negated_grows : (op : UnaryOp) (dest source : ℕ) (d : Draft) → Grows d (unary_length op true) InRegister (register_negated op dest source d)
+register_negated_grows : (l : Layout) (op : UnaryOp) (dest source : ℕ) (d : Draft) → Grows d (unary_length l op true) InRegister (register_negated l op dest source d)
 unfolding unary_length register_negated Grows
-register_negated_grows Un.Plus dest source d = tt
-register_negated_grows Un.Minus dest source d = (refl, and_instr _ d d 0 (as_it_was d))
-register_negated_grows Un.Complement dest source d = (refl, and_instr _ d d 0 (as_it_was d))
-register_negated_grows Un.Not dest source d =
-    bind Anything InRegister d 0 2 _ _ (register_grows d) (λ zero e _. makes InRegister (O.Scalar dest) e _ 2 refl (and_instr _ e _ 1 (and_instr _ e e 0 (as_it_was e))))
+register_negated_grows l Un.Plus dest source d = tt
+register_negated_grows l Un.Minus dest source d = (refl, and_instr _ d d 0 (as_it_was d))
+register_negated_grows l Un.Complement dest source d = (refl, and_instr _ d d 0 (as_it_was d))
+register_negated_grows l Un.Not dest source d =
+    bind Anything InRegister d (word_length l 0) 1 _ _ (word_in_grows l 0 d) (λ zero e _. makes InRegister (O.Scalar dest) e _ 1 refl (and_instr _ e e 0 (as_it_was e)))
 
-field_negated_grows : (op : UnaryOp) (dest source : Field) (d : Draft) → Grows d (unary_length op false) InField (field_negated op dest source d)
+field_negated_grows : (l : Layout) (op : UnaryOp) (dest source : Field) (d : Draft) → Grows d (unary_length l op false) InField (field_negated op dest source d)
 unfolding unary_length field_negated Grows
-field_negated_grows Un.Plus dest source d = tt
-field_negated_grows Un.Minus dest source d = (refl, and_instr _ d d 0 (as_it_was d))
-field_negated_grows Un.Complement dest source d = (refl, and_instr _ d d 0 (as_it_was d))
-field_negated_grows Un.Not dest source d = behind InField d _ 1 2 _ (and_instr _ d d 0 (as_it_was d)) (test_grows dest _)
+field_negated_grows l Un.Plus dest source d = tt
+field_negated_grows l Un.Minus dest source d = (refl, and_instr _ d d 0 (as_it_was d))
+field_negated_grows l Un.Complement dest source d = (refl, and_instr _ d d 0 (as_it_was d))
+field_negated_grows l Un.Not dest source d = behind InField d _ 1 2 _ (and_instr _ d d 0 (as_it_was d)) (test_grows dest _)
 
-pub negated_grows : (op : UnaryOp) (k kept : Bool) (dest v : Out) (d : Draft) → Stands k dest → Stands kept v → Grows d (unary_length op kept) (Stands k) (negated op dest v d)
+pub negated_grows : (l : Layout) (op : UnaryOp) (k kept : Bool) (dest v : Out) (d : Draft) → Stands k dest → Stands kept v → Grows d (unary_length l op kept) (Stands k) (negated l op dest v d)
 unfolding negated in_register in_field Grows
-negated_grows op true true (O.Scalar r) (O.Scalar q) d s t = register_negated_grows op r q d
-negated_grows op false kept (O.Scalar r) v d s t = cc
-negated_grows op true false (O.Scalar r) (O.Scalar q) d s t = cc
-negated_grows op true kept (O.Scalar r) (O.Field f) d s t = tt
-negated_grows op true kept (O.Scalar r) O.Nothing d s t = tt
-negated_grows op true kept (O.Field f) v d s t = cc
-negated_grows op false false (O.Field f) (O.Field g) d s t = field_negated_grows op f g d
-negated_grows op false true (O.Field f) (O.Field g) d s t = cc
-negated_grows op false kept (O.Field f) (O.Scalar q) d s t = tt
-negated_grows op false kept (O.Field f) O.Nothing d s t = tt
-negated_grows op k kept O.Nothing v d s t = tt
+negated_grows l op true true (O.Scalar r) (O.Scalar q) d s t = register_negated_grows l op r q d
+negated_grows l op false kept (O.Scalar r) v d s t = cc
+negated_grows l op true false (O.Scalar r) (O.Scalar q) d s t = cc
+negated_grows l op true kept (O.Scalar r) (O.Field f) d s t = tt
+negated_grows l op true kept (O.Scalar r) O.Nothing d s t = tt
+negated_grows l op true kept (O.Field f) v d s t = cc
+negated_grows l op false false (O.Field f) (O.Field g) d s t = field_negated_grows l op f g d
+negated_grows l op false true (O.Field f) (O.Field g) d s t = cc
+negated_grows l op false kept (O.Field f) (O.Scalar q) d s t = tt
+negated_grows l op false kept (O.Field f) O.Nothing d s t = tt
+negated_grows l op k kept O.Nothing v d s t = tt
 
 -- printing
 pub one_and : (n : ℕ) → 1 + n ≡ suc n

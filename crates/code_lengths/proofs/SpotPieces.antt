@@ -15,12 +15,13 @@ use Rattle.lower_base.specs.Layouts.{Layout, elements_of}
 use Rattle.lower_comm.specs.Messages.{communicated}
 use Rattle.lower_expr.specs.declared.spots.Spot.{Spot}
 use Rattle.lower_expr.specs.declared.spots.Spot.TheVariants as S
-use Rattle.lower_expr.specs.Lengths.{bare, four_times, load_length_of, store_length_of, load_length, store_length}
+use Rattle.lower_base.specs.Constants.{word_length}
+use Rattle.lower_expr.specs.Lengths.{bare, elements_length, index_check_length, load_length_of, store_length_of, load_length, store_length}
 use Rattle.lower_expr.specs.Spots.{variable_spot, skips_unless, field_loaded, elements_loaded, loaded, field_stored, elements_stored, stored, index_checked}
 use Rattle.code_lengths.specs.Shaped.{HasNoShape, HasShape, IsTarget}
 use Rattle.code_lengths.specs.Growth.{Grows, Stands, Anything}
 use Rattle.code_lengths.proofs.Drafting.{as_it_was, and_step, and_instr, makes, sized, bind, weaker, in_register_grows, in_field_grows, from_grows, register_grows}
-use Rattle.code_lengths.proofs.Pieces.{InRegister, InField, put_in_field_grows, put_register_grows}
+use Rattle.code_lengths.proofs.Pieces.{InRegister, InField, word_in_grows, put_in_field_grows, put_register_grows}
 use Rattle.code_lengths.proofs.Communication.{Is, IsAddress, field_of_grows, left_index_read_grows}
 
 -- a located place is one of the kind that the bare target has
@@ -31,30 +32,26 @@ Fits (T.Element' ty place array p index) (S.Element a r) = (a ≡ array) × HasS
 Fits (T.LeftIndex' ty place p indexes x of) (S.Indexed at) = Is (is_none ty.shape) at
 Fits _ _ = ⊥
 
-skips_grow : (index number : ℕ) (d : Draft) → Grows d 3 Anything (skips_unless index number d)
+skips_grow : (l : Layout) (index number : ℕ) (d : Draft) → Grows d (word_length l number + 2) Anything (skips_unless l index number d)
 unfolding skips_unless
-skips_grow index number d =
-    bind Anything Anything d 0 3 _ _ (register_grows d) (λ test after _. makes Anything test after _ 3 tt (and_instr _ after _ 2 (and_instr _ after _ 1 (and_instr _ after after 0 (as_it_was after)))))
+skips_grow l index number d =
+    bind Anything Anything d _ 2 _ _ (word_in_grows l number d) (λ word between _. bind Anything Anything between 0 2 _ _ (register_grows between)
+    (λ test after _. makes Anything test after _ 2 tt (and_instr _ after _ 1 (and_instr _ after after 0 (as_it_was after)))))
 
 field_loaded_grows : (t : Typed) (l : Layout) (signed : Bool) (x : Variable) (element : ℕ) (dest : Field) (d : Draft) → Grows d 1 InField (field_loaded t l signed x element dest d)
 unfolding field_loaded
 field_loaded_grows t l signed x element dest d =
     bind Anything InField d 0 1 _ _ (field_of_grows t l x element d) (λ source after _. makes InField (O.Field dest) after _ 1 refl (and_instr _ after after 0 (as_it_was after)))
 
-four_more : (n : ℕ) → 3 + (1 + four_times n) ≡ four_times (suc n)
-unfolding four_times
-four_more n = omega arith
-
-no_four : 0 ≡ four_times 0
-unfolding four_times
-no_four = refl
+one_more_element : (w n : ℕ) → (w + 2) + (1 + n) ≡ (w + 3) + n
+one_more_element w n = omega arith
 
 elements_loaded_grow : (t : Typed) (l : Layout) (signed : Bool) (array : Variable) (index : ℕ) (dest : Field) (more element : ℕ) (d : Draft) →
-    Grows d (four_times more) InField (elements_loaded t l signed array index dest more element d)
-unfolding elements_loaded
-elements_loaded_grow t l signed array index dest zero element d = sized InField d _ _ _ no_four (makes InField (O.Field dest) d d 0 refl (as_it_was d))
+    Grows d (elements_length l more element) InField (elements_loaded t l signed array index dest more element d)
+unfolding elements_loaded elements_length
+elements_loaded_grow t l signed array index dest zero element d = makes InField (O.Field dest) d d 0 refl (as_it_was d)
 elements_loaded_grow t l signed array index dest (suc more) element d =
-    sized InField d _ _ _ (four_more more) (bind Anything InField d 3 _ _ _ (skips_grow index element d) (λ _ between _.
+    sized InField d _ _ _ (one_more_element (word_length l element) _) (bind Anything InField d _ _ _ _ (skips_grow l index element d) (λ _ between _.
     bind InField InField between 1 _ _ _ (field_loaded_grows t l signed array element dest between) (λ _ after _.
     elements_loaded_grow t l signed array index dest more (element + 1) after)))
 
@@ -65,11 +62,11 @@ field_stored_grows t l x element v d =
     bind InField _ between 1 0 _ _ (put_in_field_grows dest v between) (λ _ after _. makes _ v after after 0 refl (as_it_was after)))
 
 elements_stored_grow : (t : Typed) (l : Layout) (array : Variable) (index : ℕ) (v : Out) (more element : ℕ) (d : Draft) →
-    Grows d (four_times more) (λ w. w ≡ v) (elements_stored t l array index v more element d)
-unfolding elements_stored
-elements_stored_grow t l array index v zero element d = sized _ d _ _ _ no_four (makes _ v d d 0 refl (as_it_was d))
+    Grows d (elements_length l more element) (λ w. w ≡ v) (elements_stored t l array index v more element d)
+unfolding elements_stored elements_length
+elements_stored_grow t l array index v zero element d = makes _ v d d 0 refl (as_it_was d)
 elements_stored_grow t l array index v (suc more) element d =
-    sized _ d _ _ _ (four_more more) (bind Anything _ d 3 _ _ _ (skips_grow index element d) (λ _ between _.
+    sized _ d _ _ _ (one_more_element (word_length l element) _) (bind Anything _ d _ _ _ _ (skips_grow l index element d) (λ _ between _.
     bind (λ w. w ≡ v) _ between 1 _ _ _ (field_stored_grows t l array element v between) (λ _ after _.
     elements_stored_grow t l array index v more (element + 1) after)))
 
@@ -84,9 +81,9 @@ unfolding load_length_of
 one_read_whole t l (T.Variable ty y) x h = refl
 one_read_whole t l _ x h = absurd h
 
-all_read : (t : Typed) (l : Layout) (b : TExpr) (a : Variable) (r : ℕ) → Fits b (S.Element a r) → four_times (elements_of t l a) ≡ load_length_of t l b
+all_read : (t : Typed) (l : Layout) (b : TExpr) (a : Variable) (r : ℕ) → Fits b (S.Element a r) → elements_length l (elements_of t l a) 0 ≡ load_length_of t l b
 unfolding load_length_of
-all_read t l (T.Element' ty place array p index) a r h = ap (λ (y : Variable). four_times (elements_of t l y)) h.0
+all_read t l (T.Element' ty place array p index) a r h = ap (λ (y : Variable). elements_length l (elements_of t l y) 0) h.0
 all_read t l _ a r h = absurd h
 
 is_address : (b : TExpr) (at : Out) → Fits b (S.Indexed at) → IsAddress b at
@@ -125,9 +122,9 @@ unfolding store_length_of
 one_write_at t l (T.LeftIndex' ty place p indexes x of) at h = refl
 one_write_at t l _ at h = absurd h
 
-all_written : (t : Typed) (l : Layout) (b : TExpr) (a : Variable) (r : ℕ) → Fits b (S.Element a r) → four_times (elements_of t l a) ≡ store_length_of t l b
+all_written : (t : Typed) (l : Layout) (b : TExpr) (a : Variable) (r : ℕ) → Fits b (S.Element a r) → elements_length l (elements_of t l a) 0 ≡ store_length_of t l b
 unfolding store_length_of
-all_written t l (T.Element' ty place array p index) a r h = ap (λ (y : Variable). four_times (elements_of t l y)) h.0
+all_written t l (T.Element' ty place array p index) a r h = ap (λ (y : Variable). elements_length l (elements_of t l y) 0) h.0
 all_written t l _ a r h = absurd h
 
 -- which spots a target with a shape, or without one, has
@@ -162,11 +159,11 @@ stored_grows t l e target (S.Indexed at) v d h f g =
     sized _ d _ _ _ (sym (one_write_at t l (bare target) at h)) (bind _ _ d 1 0 _ _ (g at h d) (λ _ after s. makes _ v after after 0 (refl, s) (as_it_was after)))
 
 -- the range check of a right index
-pub index_checked_grows : (t : Typed) (l : Layout) (array : Variable) (set : ℕ) (place : Place) (index : ℕ) (d : Draft) → Grows d 5 Anything (index_checked t l array set place index d)
-unfolding index_checked
+pub index_checked_grows : (t : Typed) (l : Layout) (array : Variable) (set : ℕ) (place : Place) (index : ℕ) (d : Draft) → Grows d (index_check_length l (elements_of t l array)) Anything (index_checked t l array set place index d)
+unfolding index_checked index_check_length
 index_checked_grows t l array set place index d =
-    bind Anything Anything d 0 5 _ _ (register_grows d) (λ test after _. from_grows Anything after 5 _ _ (λ info.
-    makes Anything test after _ 5 tt (and_step _ after _ 4 (and_instr _ after _ 3 (and_instr _ after _ 2 (and_instr _ after _ 1 (and_instr _ after after 0 (as_it_was after))))))))
+    bind Anything Anything d _ 4 _ _ (word_in_grows l (elements_of t l array) d) (λ limit between _. bind Anything Anything between 0 4 _ _ (register_grows between) (λ test after _.
+    from_grows Anything after 4 _ _ (λ info. makes Anything test after _ 4 tt (and_step _ after _ 3 (and_instr _ after _ 2 (and_instr _ after _ 1 (and_instr _ after after 0 (as_it_was after))))))))
 
 -- a variable's spot
 spot_by : (shape : Option ℕ) (elem : _) (l : Layout) (x : Variable) → Fits (T.Variable (record { elem = elem; shape = shape }) x) (variable_spot l (record { elem = elem; shape = shape }) x)

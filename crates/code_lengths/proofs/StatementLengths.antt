@@ -23,10 +23,10 @@ use Rattle.lower_stmt.specs.declared.statement.Frame.{Frame}
 use Rattle.lower_stmt.specs.declared.statement.Outcome.{Outcome}
 use Rattle.lower_stmt.specs.declared.statement.Outcome.TheVariants as R
 use Rattle.lower_stmt.specs.Frames.{has_result, in_loop, in_context, with_end}
-use Rattle.lower_stmt.specs.Lengths.{one_more, at_loop, part_length_of, condition_length_of, clear_length_of, initial_length_of, locals_length_of, storing_length, statement_length_of, statements_length_of, else_length_of}
+use Rattle.lower_stmt.specs.Lengths.{one_more, at_loop, part_length_of, condition_length_of, clear_length_of, initial_length_of, locals_length_of, storing_length, statement_length_of, statements_length_of, else_length_of, body_length_of}
 use Rattle.lower_stmt.specs.Statements as L
-use Rattle.lower_stmt.specs.Statements.{statement_of, statements_of, else_of, otherwise_of, part_of, condition_of, jump_back_of, stored_result, given_back, returned, closing}
-use Rattle.lower_stmt.specs.Variables.{cleared_fields, with_home, cleared, all_cleared, variable_of, initial_put, initialised, all_initialised, declared}
+use Rattle.lower_stmt.specs.Statements.{body_of, statement_of, statements_of, else_of, otherwise_of, part_of, condition_of, jump_back_of, stored_result, given_back, returned, closing}
+use Rattle.lower_stmt.specs.Variables.{is_kept_so, cleared_fields, with_home, cleared, all_cleared, variable_of, initial_put, initialised, all_initialised, declared}
 use Rattle.code_lengths.specs.Shaped.{IsShaped}
 use Rattle.code_lengths.specs.ShapedStatements.{IsShapedPart, IsShapedInitial, AreShapedLocals, IsShapedStatement, AreShapedStatements, IsShapedElse}
 use Rattle.code_lengths.specs.Agreement.{StandsAmong}
@@ -126,30 +126,31 @@ cleared_fields_grow (suc n) set len d =
     one_and : (n : ℕ) → 0 + (1 + n) ≡ suc n
     one_and n = omega arith
 
-cleared_by : (shape : Option ℕ) (l : Layout) (info : VarInfo) (n : ℕ) (d : Draft) →
-    Grows d (elim shape as (λ _. ℕ) [ None ↦ 1 | Some s ↦ entries_of info ]) Done (elim shape as (λ _. Made (Unit {0})) [
-      | None ↦ Makes tt (with_instr (I.FrontConst (register_of l (V.Local n)) 0) d)
+cleared_by : (kept : Bool) (shape : Option ℕ) (l : Layout) (info : VarInfo) (n : ℕ) (d : Draft) →
+    Grows d (elim shape as (λ _. ℕ) [ None ↦ if kept then 0 else 1 | Some s ↦ entries_of info ]) Done (elim shape as (λ _. Made (Unit {0})) [
+      | None ↦ if kept then Makes tt d else Makes tt (with_instr (I.FrontConst (register_of l (V.Local n)) 0) d)
       | Some s ↦ cleared_fields (entries_of info) s info.elem.bits (with_home d)
     ])
-cleared_by None l info n d = makes Done tt d _ 1 tt (and_instr _ d d 0 (as_it_was d))
-cleared_by (Some s) l info n d = sized Done d _ _ _ (nothing_more _) (behind Done d _ 0 (entries_of info) _ (home_more d) (cleared_fields_grow (entries_of info) s _ _))
+cleared_by true None l info n d = makes Done tt d d 0 tt (as_it_was d)
+cleared_by false None l info n d = makes Done tt d _ 1 tt (and_instr _ d d 0 (as_it_was d))
+cleared_by kept (Some s) l info n d = sized Done d _ _ _ (nothing_more _) (behind Done d _ 0 (entries_of info) _ (home_more d) (cleared_fields_grow (entries_of info) s _ _))
 
-cleared_grows : (l : Layout) (info : VarInfo) (n : ℕ) (d : Draft) → Grows d (clear_length_of info) Done (cleared l info n d)
+cleared_grows : (l : Layout) (at_start : Bool) (local : LocalVar) (n : ℕ) (d : Draft) → Grows d (clear_length_of at_start local) Done (cleared l at_start local n d)
 unfolding cleared clear_length_of
-cleared_grows l info n d = cleared_by info.shape l info n d
+cleared_grows l at_start local n d = cleared_by (is_kept_so at_start local) local.info.shape l local.info n d
 
-clears : List LocalVar → ℕ
-clears [] = 0
-clears (local ∷ locals) = clear_length_of local.info + clears locals
+clears : Bool → List LocalVar → ℕ
+clears at_start [] = 0
+clears at_start (local ∷ locals) = clear_length_of at_start local + clears at_start locals
 
 initials : Typed → Layout → List LocalVar → ℕ
 initials t l [] = 0
 initials t l (local ∷ locals) = initial_length_of t l local.info local.initial + initials t l locals
 
-all_cleared_grow : (l : Layout) (locals : List LocalVar) (n : ℕ) (d : Draft) → Grows d (clears locals) Done (all_cleared l locals n d)
+all_cleared_grow : (l : Layout) (at_start : Bool) (locals : List LocalVar) (n : ℕ) (d : Draft) → Grows d (clears at_start locals) Done (all_cleared l at_start locals n d)
 unfolding all_cleared clears
-all_cleared_grow l [] n d = makes Done tt d d 0 tt (as_it_was d)
-all_cleared_grow l (local ∷ locals) n d = bind Done Done d _ _ _ _ (cleared_grows l local.info n d) (λ _ after _. all_cleared_grow l locals (n + 1) after)
+all_cleared_grow l at_start [] n d = makes Done tt d d 0 tt (as_it_was d)
+all_cleared_grow l at_start (local ∷ locals) n d = bind Done Done d _ _ _ _ (cleared_grows l at_start local n d) (λ _ after _. all_cleared_grow l at_start locals (n + 1) after)
 
 variable_by : (shape : Option ℕ) (t : Typed) (l : Layout) (n : ℕ) (d : Draft) → Grows d 0 (Is (is_none shape)) (elim shape as (λ _. Made Out) [
   | None ↦ Makes (O.Scalar (register_of l (V.Local n))) d
@@ -188,18 +189,18 @@ unfolding all_initialised initialised initials AreShapedLocals
 all_initialised_grow t l [] n d h = makes Done tt d d 0 tt (as_it_was d)
 all_initialised_grow t l (local ∷ locals) n d h = bind Done Done d _ _ _ _ (initial_by local.initial t l local.info n d h.0) (λ _ after _. all_initialised_grow t l locals (n + 1) after h.1)
 
-locals_sum : (t : Typed) (l : Layout) (locals : List LocalVar) → clears locals + (initials t l locals + 0) ≡ locals_length_of t l locals
+locals_sum : (t : Typed) (l : Layout) (at_start : Bool) (locals : List LocalVar) → clears at_start locals + (initials t l locals + 0) ≡ locals_length_of t l at_start locals
 unfolding clears initials locals_length_of
-locals_sum t l [] = refl
-locals_sum t l (local ∷ locals) = swap (clear_length_of local.info) (clears locals) (initial_length_of t l local.info local.initial) (initials t l locals) ∙ ap (λ (n : ℕ). clear_length_of local.info + initial_length_of t l local.info local.initial + n) (locals_sum t l locals)
+locals_sum t l at_start [] = refl
+locals_sum t l at_start (local ∷ locals) = swap (clear_length_of at_start local) (clears at_start locals) (initial_length_of t l local.info local.initial) (initials t l locals) ∙ ap (λ (n : ℕ). clear_length_of at_start local + initial_length_of t l local.info local.initial + n) (locals_sum t l at_start locals)
   where
     swap : (a b c d : ℕ) → (a + b) + ((c + d) + 0) ≡ (a + c) + (b + (d + 0))
     swap a b c d = omega arith
 
-declared_grows : (t : Typed) (l : Layout) (locals : List LocalVar) (n : ℕ) (d : Draft) → AreShapedLocals locals → Grows d (locals_length_of t l locals) Done (declared t l locals n d)
+declared_grows : (t : Typed) (l : Layout) (at_start : Bool) (locals : List LocalVar) (n : ℕ) (d : Draft) → AreShapedLocals locals → Grows d (locals_length_of t l at_start locals) Done (declared t l at_start locals n d)
 unfolding declared
-declared_grows t l locals n d h =
-    sized Done d _ _ _ (locals_sum t l locals) (bind Done Done d _ _ _ _ (all_cleared_grow l locals n d) (λ _ between _. bind Done Done between _ 0 _ _ (all_initialised_grow t l locals n between h) (λ _ after _. makes Done _ after after 0 tt (as_it_was after))))
+declared_grows t l at_start locals n d h =
+    sized Done d _ _ _ (locals_sum t l at_start locals) (bind Done Done d _ _ _ _ (all_cleared_grow l at_start locals n d) (λ _ between _. bind Done Done between _ 0 _ _ (all_initialised_grow t l locals n between h) (λ _ after _. makes Done _ after after 0 tt (as_it_was after))))
 
 -- how many contexts a jump loads is how many are saved
 pub deeper : (f : Frame) (contexts : List Field) (saved : Field) → StandsAmong f contexts → StandsAmong (in_context f) (contexts ++ saved ∷ [])
@@ -286,7 +287,7 @@ mutual
 
   pub statement_grows : (t : Typed) (l : Layout) (s : TStmt) (f : Frame) (contexts : List Field) (n : ℕ) (d : Draft) → IsShapedStatement s → StandsAmong f contexts → Grows d (statement_length_of t l (has_result f) f.saved s) Done (statement_of t l s f contexts n d)
   statement_grows t l (S.Block' locals p statements) f contexts n d h k =
-      bind Done Done d _ _ _ _ (declared_grows t l locals.items n d h.0) (λ m after _. statements_grow t l statements f contexts m after h.1 k)
+      bind Done Done d _ _ _ _ (declared_grows t l false locals.items n d h.0) (λ m after _. statements_grow t l statements f contexts m after h.1 k)
   statement_grows t l (S.Expression e) f contexts n d h k = sized Done d _ _ _ (and_nothing _) (bind Done Done d _ 0 _ _ (part_grows t l (Some e) d h) (λ _ after _. makes Done n after after 0 tt (as_it_was after)))
   statement_grows t l S.Empty f contexts n d h k = makes Done n d d 0 tt (as_it_was d)
   statement_grows t l (S.If' test p first second) f contexts n d h k =
@@ -329,3 +330,10 @@ mutual
   otherwise_grows t l (Some' p s) f contexts shape saved holds n d h k =
       sized Done d _ _ _ (else_sum (statement_length_of t l (has_result f) (one_more f.saved) s)) (bind Done Done d _ 1 _ _ (behind Done d _ 2 _ _ (and_instr _ d _ 1 (and_instr _ d d 0 (as_it_was d))) (statement_grows t l s (in_context f) (contexts ++ saved ∷ []) n _ h (deeper f contexts saved k)))
       (λ m last _. makes Done m last _ 1 tt (and_instr _ last last 0 (as_it_was last))))
+
+-- the body of an instance
+pub whole_grows : (t : Typed) (l : Layout) (s : TStmt) (f : Frame) (d : Draft) → IsShapedStatement s → StandsAmong f [] → Grows d (body_length_of t l f.is_main (has_result f) f.saved s) Done (body_of t l f s d)
+unfolding body_of body_length_of IsShapedStatement
+whole_grows t l (S.Block' locals p statements) f d h k =
+    bind Done Done d _ _ _ _ (declared_grows t l f.is_main locals.items 0 d h.0) (λ m after _. statements_grow t l statements f [] m after h.1 k)
+whole_grows t l s f d h k = statement_grows t l s f [] 0 d h k

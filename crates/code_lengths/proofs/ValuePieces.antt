@@ -21,7 +21,8 @@ use Rattle.lower_base.specs.Drafts.{Draft, Made, Makes, Fails, then_make, from, 
 use Rattle.lower_expr.specs.declared.steps.Right.{Right}
 use Rattle.lower_expr.specs.declared.steps.Right.TheVariants as R
 use Rattle.lower_expr.specs.Lengths.{unary_length, operate_length, logical_length, choice_length, arm_length, compared_length, spread_length, spare_length, right_length, binary_length}
-use Rattle.lower_expr.specs.Operands.{is_plus, in_place, operand_length}
+use Rattle.lower_base.specs.Layouts.{Layout}
+use Rattle.lower_expr.specs.Operands.{is_plus}
 use Rattle.lower_expr.specs.Steps.{is_kept, has_word, register_word, word_for, word_put, word_of, word_taken, relates, put_value, right_operated, in_a_field, negated}
 use Rattle.lower_expr.specs.Values.{Code, Test, Arm, Condition, spread_into, spread_by, right_given, right_by, coordinate_in, byte_in, casts_put, unary_by, registers_by, fields_by, binary_at, jump_if_decided, narrowed_by, decided, limited, logical_ended, scalar_logical_by, nonzero_tested, zero_tested, tested_by, compared, relation_by, decided_by, jumped, jumped_over, narrowed_again, limited_by, parallel_logical_by, logical_by, arm_by, scalar_choice_by, turned_over, parallel_choice_by, choice_by}
 use Rattle.code_lengths.specs.Growth.{Extended, Grows, Stands, Anything}
@@ -432,31 +433,25 @@ casts_more (kind ∷ inner) r d = resized d _ _ _ (one (length inner)) (and_inst
 pub casts_grow : (k : Bool) (elems : List Elem) (v : Out) (d : Draft) → Stands k v → Grows d (length elems) InRegister (in_register v (λ r. Makes v (casts_put elems r d)))
 casts_grow k elems v d s = in_register_grows _ d _ k v _ s (λ r h. makes InRegister v d _ _ (subst (λ b. Stands b v) h s) (casts_more elems r d))
 
-plus_length : (op : UnaryOp) (k : Bool) (n : ℕ) → is_plus op ≡ true → n ≡ n + unary_length op k
+plus_length : (l : Layout) (op : UnaryOp) (k : Bool) (n : ℕ) → is_plus op ≡ true → n ≡ n + unary_length l op k
 unfolding is_plus unary_length
-plus_length Un.Plus k n h = omega arith
-plus_length Un.Minus k n h = cc
-plus_length Un.Complement k n h = cc
-plus_length Un.Not k n h = cc
+plus_length l Un.Plus k n h = omega arith
+plus_length l Un.Minus k n h = cc
+plus_length l Un.Complement k n h = cc
+plus_length l Un.Not k n h = cc
 
-unary_rest : (b : Bool) (ty : ValueType) (op : UnaryOp) (k : Bool) (code operand : Code) (n m : ℕ) (d : Draft) → is_plus op ≡ b → is_none ty.shape ≡ k → IsCode n k code → IsCode m k operand →
-    Grows d ((if b then n else m) + unary_length op k) (Stands (is_none ty.shape)) (if b then code d else then_make (fresh_for ty.shape d) (λ dest between. then_make (operand between) (λ v after. negated op dest v after)))
-unary_rest true ty op k code operand n m d h e c o = sized _ d _ _ _ (plus_length op k n h) (weaker (Stands k) _ d n _ (λ v s. subst (λ b. Stands b v) (sym e) s) (c d))
-unary_rest false ty op k code operand n m d h e c o =
+unary_rest : (b : Bool) (l : Layout) (ty : ValueType) (op : UnaryOp) (k : Bool) (code operand : Code) (n m : ℕ) (d : Draft) → is_plus op ≡ b → is_none ty.shape ≡ k → IsCode n k code → IsCode m k operand →
+    Grows d ((if b then n else m) + unary_length l op k) (Stands (is_none ty.shape)) (if b then code d else then_make (fresh_for ty.shape d) (λ dest between. then_make (operand between) (λ v after. negated l op dest v after)))
+unary_rest true l ty op k code operand n m d h e c o = sized _ d _ _ _ (plus_length l op k n h) (weaker (Stands k) _ d n _ (λ v s. subst (λ b. Stands b v) (sym e) s) (c d))
+unary_rest false l ty op k code operand n m d h e c o =
     sized _ d _ _ _ (nothing_more _) (bind (Stands (is_none ty.shape)) _ d 0 _ _ _ (fresh_grows ty.shape d) (λ dest between s.
-    bind (Stands k) _ between m _ _ _ (o between) (λ v after t. negated_grows op (is_none ty.shape) k dest v after s t)))
+    bind (Stands k) _ between m _ _ _ (o between) (λ v after t. negated_grows l op (is_none ty.shape) k dest v after s t)))
 
 -- the operand of `+` is the value, and that of another operator may stand where it is
-either_operand : (b : Bool) (n : ℕ) (e : TExpr) → (if b then n else operand_length n true e) ≡ operand_length n (not b) e
-unfolding operand_length in_place
-either_operand true n e = refl
-either_operand false n e = refl
-
-pub unary_grows : (ty : ValueType) (op : UnaryOp) (k : Bool) (e : TExpr) (code operand : Code) (n : ℕ) (d : Draft) → is_none ty.shape ≡ k → IsCode n k code → IsCode (operand_length n true e) k operand →
-    Grows d (operand_length n (not (is_plus op)) e + unary_length op k) (Stands (is_none ty.shape)) (unary_by ty op code operand d)
+pub unary_grows : (l : Layout) (ty : ValueType) (op : UnaryOp) (k : Bool) (code operand : Code) (n m : ℕ) (d : Draft) → is_none ty.shape ≡ k → IsCode n k code → IsCode m k operand →
+    Grows d ((if is_plus op then n else m) + unary_length l op k) (Stands (is_none ty.shape)) (unary_by l ty op code operand d)
 unfolding unary_by
-unary_grows ty op k e code operand n d h c o =
-    sized _ d _ _ _ (ap (λ (x : ℕ). x + unary_length op k) (either_operand (is_plus op) n e)) (unary_rest (is_plus op) ty op k code operand n (operand_length n true e) d refl h c o)
+unary_grows l ty op k code operand n m d h c o = unary_rest (is_plus op) l ty op k code operand n m d refl h c o
 
 pub coordinate_grows : (shape : Option ℕ) (axis : ℕ) (d : Draft) → Grows d 1 InField (coordinate_in shape axis d)
 unfolding coordinate_in

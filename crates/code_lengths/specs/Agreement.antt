@@ -1,6 +1,6 @@
 -- The code of an expression, and of a statement, is as long as described, and only appends: what the
 -- unit had is as it was, and the jumps that were written by these lengths lead behind the code.
-use Rattle.std.specs.Prelude.{◌≡◌, ◌≤◌, ℕ, ◌+◌, Bool, true, false, List, [], length}
+use Rattle.std.specs.Prelude.{◌≡◌, ◌≤◌, ℕ, ◌+◌, Bool, true, false, if◌then◌else◌, List, [], length}
 use mathlib.Core.Former.{Count}
 use Rattle.cstar_tree.specs.declared.typed.Instance.{Instance}
 use Rattle.cstar_tree.specs.declared.typed.TExpr.{TExpr, Row_of-TExpr, items-the_row-TExpr}
@@ -20,9 +20,9 @@ use Rattle.lower_expr.specs.Steps.{is_kept}
 use Rattle.lower_expr.specs.Values.{value_of, values_of, spot_of, tested}
 use Rattle.lower_stmt.specs.declared.statement.Frame.{Frame}
 use Rattle.lower_stmt.specs.Frames.{has_result}
-use Rattle.lower_stmt.specs.Lengths.{statement_length_of}
+use Rattle.lower_stmt.specs.Lengths.{body_length_of, statement_length_of}
 use Rattle.lower_stmt.specs.Programs.{begun, blank, body_frame, own_fields_of, own_result_of, unit_of}
-use Rattle.lower_stmt.specs.Statements.{statement_of}
+use Rattle.lower_stmt.specs.Statements.{ends_in_return, statement_of}
 use Rattle.code_lengths.specs.Growth.{Extended, Grows, Stands, Anything}
 use Rattle.code_lengths.specs.Shaped.{HasShape, IsShaped, IsTarget, AreShaped}
 use Rattle.code_lengths.specs.ShapedStatements.{IsShapedStatement}
@@ -34,7 +34,7 @@ use Rattle.code_lengths.specs.ShapedStatements.{IsShapedStatement}
 pub record ExpressionLengths (t : Typed) (l : Layout) : Type 0 where
   pub value : (e : TExpr) (d : Draft) → IsShaped e → Grows d (length_of t l e) (Stands (is_kept e)) (value_of t l e d)
   pub operand : (quiet : Bool) (e : TExpr) (d : Draft) → IsShaped e →
-      Grows d (operand_length (length_of t l e) quiet e) (Stands (is_kept e)) (operand_by t l (value_of t l e) quiet e d)
+      Grows d (operand_length l (length_of t l e) quiet e) (Stands (is_kept e)) (operand_by t l (value_of t l e) quiet e d)
   pub list : (quiet : Bool) (n : Count) (row : Row_of-TExpr n) (d : Draft) → AreShaped row →
       Grows d (lengths_of t l quiet row) (λ (given : List Out). length given ≡ length (items-the_row-TExpr n row)) (values_of t l quiet row [] d)
   pub spot : (e : TExpr) (d : Draft) → IsTarget e → Grows d (spot_length_of t l e) (λ (s : Spot). Anything s) (spot_of t l e d)
@@ -57,19 +57,26 @@ StatementsAreAsLongAsDescribed =
     (t : Typed) (l : Layout) (s : TStmt) (f : Frame) (contexts : List Field) (n : ℕ) (d : Draft) → IsShapedStatement s → StandsAmong f contexts →
     Grows d (statement_length_of t l (has_result f) f.saved s) (λ (m : ℕ). Anything m) (statement_of t l s f contexts n d)
 
--- what a unit begins with: the entries of its parameters and of its result, and in `main` the values
--- that the file's variables begin with
+-- what a unit begins with: the entries of its parameters and of its result, and in `main` the constants
+-- and the values that the file's variables begin with
 unfoldable pub opening_of : Typed → Layout → Bool → ℕ → Instance → Made (Unit {0})
 opening_of t l is_main regs instance =
     then_make (own_fields_of instance.params.items (blank instance.name regs))
     (λ _ d. then_make (own_result_of instance.result d) (λ _ ready. begun t l is_main ready))
+
+-- the body of an instance, and the instruction that ends it where it does not end itself
+unfoldable pub end_length : TStmt → ℕ
+end_length body = if ends_in_return body then 0 else 1
+
+unfoldable pub whole_length : Typed → Layout → Frame → TStmt → ℕ
+whole_length t l f body = body_length_of t l f.is_main (has_result f) f.saved body + end_length body
 
 -- behind what a unit begins with stand its body, as long as described, and the instruction that ends it
 abbrev pub UnitsAreAsLongAsDescribed : Type 0
 UnitsAreAsLongAsDescribed =
     (t : Typed) (l : Layout) (is_main : Bool) (regs : ℕ) (instance : Instance) (start unit : Draft) → IsShapedStatement instance.body →
     opening_of t l is_main regs instance ≡ Makes tt start → unit_of t l is_main regs instance ≡ Makes tt unit →
-    Extended start (statement_length_of t l (has_result (body_frame is_main instance)) (body_frame is_main instance).saved instance.body + 1) unit
+    Extended start (whole_length t l (body_frame is_main instance) instance.body) unit
 
 -- the place behind a piece of code, to which a jump over it leads, is that before it and its length
 abbrev pub CodeEndsWhereItsLengthSays : Type 0

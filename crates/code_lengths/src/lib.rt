@@ -16,7 +16,7 @@ pub fn statements_are_as_long_as_described()
 {}
 
 /// The code of every unit has, behind what it begins with, its body, as long as described, and the
-/// instruction that ends it: the places to which its jumps lead are counted from its start.
+/// instruction that ends it where it does not end itself: the places to which its jumps lead are counted from its start.
 pub fn units_are_as_long_as_described()
     ensures { UnitsAreAsLongAsDescribed }
 {}

@@ -48,9 +48,9 @@ unfolding variables_step declared_by
 variables_block declared statements = ap variables_of (sym (rolls-Block declared statements)) ∙ fold-roll-TStmt (List VarInfo) variables_step (TStmt-F.Block declared statements)
 
 -- whichever instance saw the numbering before, another one sees it as from the start
-pub entered_of : (t : Typed) (n m : ℕ) → entered t n (layout_of t m) ≡ layout_of t n
+pub entered_of : (t : Typed) (words : List ℕ) (n m : ℕ) → entered t n (layout_of t words m) ≡ layout_of t words n
 unfolding entered layout_of
-entered_of t n m = refl
+entered_of t words n m = refl
 
-pub entered_from : (t : Typed) (n m : ℕ) (before after : Layout) → before ≡ layout_of t m → after ≡ entered t n before → after ≡ layout_of t n
-entered_from t n m before after h e = e ∙ ap (entered t n) h ∙ entered_of t n m
+pub entered_from : (t : Typed) (words : List ℕ) (n m : ℕ) (before after : Layout) → before ≡ layout_of t words m → after ≡ entered t n before → after ≡ layout_of t words n
+entered_from t words n m before after h e = e ∙ ap (entered t n) h ∙ entered_of t words n m

@@ -14,12 +14,14 @@ use Rattle.lower_base.specs.declared.names.Names.{Names}
 use Rattle.lower_base.specs.Drafts.{Draft, Made, Makes, from, an_entry}
 
 -- For each variable of the file the number of its first field, for each instance its first register
--- with the first that no variable has behind them, and of this instance: its first register, the
--- entries of its parameters and of its result, and the variables of its blocks.
+-- with the first that no variable has behind them, the constants that stand in registers from there
+-- on, and of this instance: its first register, the entries of its parameters and of its result, and
+-- the variables of its blocks.
 pub record Layout : Type 0 where
   pub files : List ℕ
   pub bases : List ℕ
   pub end : ℕ
+  pub constants : List ℕ
   pub base : ℕ
   pub params : List ℕ
   pub outcome : ℕ
@@ -30,6 +32,7 @@ layout names = record {
   files = names.files.items;
   bases = names.bases.items;
   end = names.end;
+  constants = names.constants.items;
   base = names.base;
   params = names.params.items;
   outcome = names.outcome;
@@ -144,15 +147,16 @@ entered t n l =
       locals = (numbered variables nothing_numbered).locals;
     }
 
--- The numbering of a typed program: the variables of the file have the first registers, and the
--- instances those behind them.
-unfoldable pub layout_of : Typed → ℕ → Layout
-layout_of t n =
+-- The numbering of a typed program: the variables of the file have the first registers, the
+-- instances those behind them, and constants come last.
+unfoldable pub layout_of : Typed → List ℕ → ℕ → Layout
+layout_of t words n =
     let registers : Registers = registers_of t.instances.items (length t.vars.items) in
     entered t n (record {
       files = first_fields 0 t.vars.items;
       bases = registers.bases;
       end = registers.end;
+      constants = words;
       base = 0;
       params = [];
       outcome = 0;

@@ -1,3 +1,4 @@
+pub mod Constants
 pub mod Drafts
 pub mod Layouts
 pub mod Operators

@@ -4,7 +4,7 @@
 //! field for each of its elements. Instances of one function share their registers, as a function is
 //! never called while it runs.
 
-ghost use Rattle.std.specs.Prelude.{◌≡◌, ℕ, ◌+◌, ◌<◌, ◌++◌, length, map, fold, IfOk, OnOk, IfSome};
+ghost use Rattle.std.specs.Prelude.{◌≡◌, ℕ, List, ◌+◌, ◌<◌, ◌++◌, length, map, fold, IfOk, OnOk, IfSome};
 ghost use Rattle.cstar_tree.specs.declared.typed.LocalVar.{LocalVar};
 ghost use Rattle.cstar_tree.specs.TypedParts.{concat};
 ghost use Rattle.lower_base.specs.Drafts.{Makes, draft, from, an_entry};
@@ -38,6 +38,8 @@ pub struct Names {
     pub bases: Vec<u32>,
     /// The first register that no variable has.
     pub end: u32,
+    /// The constants that stand in registers from there on.
+    pub constants: Vec<u32>,
     /// The first register of this instance.
     pub base: u32,
     /// For each parameter of this instance, the number of its entry, if it is parallel.
@@ -49,11 +51,11 @@ pub struct Names {
 }
 
 impl Names {
-    /// The numbering as `main` sees it.
+    /// The numbering as `main` sees it, with these constants in registers.
     #[tactic(auto, unfolding(crate::specs::Layouts::layout_of, crate::specs::Layouts::entered, crate::specs::Layouts::layout))]
-    pub fn of(alloc: Global, t: &Typed) -> Result<Names, Memory>
+    pub fn of(alloc: Global, t: &Typed, constants: Vec<u32>) -> Result<Names, Memory>
         requires { 0 < length t.now.instances.items }
-        ensures layout { IfOk result (λ names. layout names ≡ layout_of t.now 0) }
+        ensures layout { IfOk result (λ names. layout names ≡ layout_of t.now constants.items 0) }
         ensures each_instance { IfOk result (λ names. length names.bases.items ≡ length t.now.instances.items) }
     {
         let files = first_fields(alloc, &t.vars)?;
@@ -63,6 +65,7 @@ impl Names {
             files,
             bases,
             end,
+            constants,
             base: 0,
             params: Vec::new(alloc),
             outcome: 0,
@@ -76,7 +79,7 @@ impl Names {
     pub fn enter(&mut self, t: &Typed, number: usize) -> Result<(), Memory>
         requires instance { number < length t.now.instances.items }
         requires each_instance { length self.old.bases.items ≡ length t.now.instances.items }
-        ensures layout { (k : ℕ) → layout self.old ≡ layout_of t.now k → OnOk result (layout self.new ≡ layout_of t.now number) }
+        ensures layout { (words : List ℕ) (k : ℕ) → layout self.old ≡ layout_of t.now words k → OnOk result (layout self.new ≡ layout_of t.now words number) }
         ensures each_instance { self.new.bases ≡ self.old.bases }
     {
         self.see_as(t, number)?;

@@ -1,15 +1,16 @@
 //! What the code of an instance is written from: the typed program, and where its variables are.
 
-ghost use Rattle.std.specs.Prelude.{◌≡◌, ◌<◌, ℕ, length, IfOk, OnOk};
+ghost use Rattle.std.specs.Prelude.{◌≡◌, ◌<◌, ℕ, List, length, IfOk, OnOk};
 ghost use Rattle.lower_base.specs.Drafts.{Makes, draft, from, an_entry};
+ghost use Rattle.lower_base.specs.Constants.{constant_register, first_free, register_with, word_in, word_length};
 ghost use Rattle.lower_base.specs.Layouts.{layout, layout_of, elements_of, result_register, register_of, field_of};
 ghost use Rattle.paris_code.specs.declared.program.Owner.TheVariants as W;
 
-use crate::emit::{count, entry, plus};
+use crate::emit::{count, entry, plus, put, register};
 use crate::names::{Names, entries_of, own_entry};
 use cstar_base::Memory;
 use cstar_tree::typed::{Typed, VarInfo, Variable};
-use paris_code::{Field, Owner, Unit};
+use paris_code::{Field, Instr, Owner, Unit};
 use std::alloc::Global;
 
 /// A typed program as one of its instances sees it. All code of the instance is written from it.
@@ -24,15 +25,15 @@ pub struct View<'a> {
 }
 
 impl<'a> View<'a> {
-    /// The program as `main` sees it. `Memory` where memory ends, or where the number of a register
-    /// or a field would be 2^32 or more.
-    pub fn of(alloc: Global, typed: &'a Typed) -> Result<View<'a>, Memory>
+    /// The program as `main` sees it, with these constants in registers. `Memory` where memory ends,
+    /// or where the number of a register or a field would be 2^32 or more.
+    pub fn of(alloc: Global, typed: &'a Typed, constants: Vec<u32>) -> Result<View<'a>, Memory>
         requires { 0 < length typed.now.instances.items }
         ensures typed { IfOk result (λ view. view.typed.now ≡ typed.now) }
-        ensures names { IfOk result (λ view. layout view.names ≡ layout_of typed.now 0) }
+        ensures names { IfOk result (λ view. layout view.names ≡ layout_of typed.now constants.items 0) }
         ensures each_instance { IfOk result (λ view. length view.names.bases.items ≡ length typed.now.instances.items) }
     {
-        let names = Names::of(alloc, typed)?;
+        let names = Names::of(alloc, typed, constants)?;
         Ok(View {
             alloc,
             typed,
@@ -45,7 +46,7 @@ impl<'a> View<'a> {
         requires instance { number < length self.old.typed.now.instances.items }
         requires each_instance { length self.old.names.bases.items ≡ length self.old.typed.now.instances.items }
         ensures typed { self.new.typed.now ≡ self.old.typed.now }
-        ensures names { (k : ℕ) → layout self.old.names ≡ layout_of self.old.typed.now k → OnOk result (layout self.new.names ≡ layout_of self.old.typed.now number) }
+        ensures names { (words : List ℕ) (k : ℕ) → layout self.old.names ≡ layout_of self.old.typed.now words k → OnOk result (layout self.new.names ≡ layout_of self.old.typed.now words number) }
         ensures each_instance { self.new.names.bases ≡ self.old.names.bases }
     {
         self.names.enter(self.typed, number)
@@ -107,6 +108,46 @@ impl<'a> View<'a> {
         }
     }
 
+    /// The register in which a number stands, where it is one of the constants.
+    #[tactic(auto, unfolding(crate::specs::Constants::constant_register, crate::specs::Layouts::layout))]
+    pub fn constant_register(&self, word: u32) -> Result<Option<u32>, Memory>
+        ensures { IfOk result (λ r. r ≡ constant_register (layout self.now.names) word) }
+    {
+        register_with(word, self.names.constants.as_slice(), self.names.end)
+    }
+
+    /// The first register that neither a variable nor a constant has.
+    #[tactic(auto, unfolding(crate::specs::Constants::first_free, crate::specs::Layouts::layout))]
+    pub fn first_free(&self) -> Result<u32, Memory>
+        ensures { IfOk result (λ r. r ≡ first_free (layout self.now.names)) }
+    {
+        plus(self.names.end, count(self.names.constants.len())?)
+    }
+
+    /// A number in a register: where it stands, or else a fresh one.
+    #[tactic(auto, unfolding(crate::specs::Constants::word_in, crate::specs::Drafts::then_make))]
+    pub fn word(&self, word: u32, u: &mut Unit) -> Result<u32, Memory>
+        ensures draft { IfOk result (λ r. word_in (layout self.now.names) word (draft u.old) ≡ Makes r (draft u.new)) }
+    {
+        if let Some(register) = self.constant_register(word)? {
+            return Ok(register);
+        }
+        let dest = register(u)?;
+        put(u, Instr::FrontConst { dest, value: word })?;
+        Ok(dest)
+    }
+
+    /// How many instructions `word` appends.
+    #[tactic(auto, unfolding(crate::specs::Constants::word_length))]
+    pub fn word_length(&self, word: u32) -> Result<u32, Memory>
+        ensures { IfOk result (λ n. n ≡ word_length (layout self.now.names) word) }
+    {
+        match self.constant_register(word)? {
+            Some(_) => Ok(0),
+            None => Ok(1),
+        }
+    }
+
     /// How many elements an array has.
     #[tactic(auto, unfolding(crate::specs::Layouts::elements_of, crate::specs::Layouts::layout))]
     pub fn elements(&self, variable: Variable) -> u32
@@ -124,6 +165,21 @@ impl<'a> View<'a> {
             },
         }
     }
+}
+
+/// The register of a number among these, the first of which stands in `first`.
+#[tactic(auto, unfolding(crate::specs::Constants::register_with))]
+fn register_with(word: u32, words: &[u32], first: u32) -> Result<Option<u32>, Memory>
+    ensures { IfOk result (λ r. r ≡ register_with word words.now first) }
+{
+    let mut register = first;
+    for held in words {
+        if *held == word {
+            return Ok(Some(register));
+        }
+        register = plus(register, 1)?;
+    }
+    Ok(None)
 }
 
 /// The field of a variable of the file, as one more entry.

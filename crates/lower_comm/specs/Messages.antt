@@ -1,5 +1,5 @@
 -- The code of communication, over parts that stand in registers and fields already.
-use Rattle.std.specs.Prelude.{ℕ, Bool, true, false, ◌+◌, ◌==◌, if◌then◌else◌, List, [], ◌∷◌, ◌++◌, map, slice_get, Option, Some, None}
+use Rattle.std.specs.Prelude.{ℕ, Bool, true, false, ◌+◌, ◌==◌, ◌&&◌, if◌then◌else◌, List, [], ◌∷◌, ◌++◌, length, map, slice_get, Option, Some, None}
 use Rattle.cstar_base.specs.declared.elem.Elem.{Elem}
 use Rattle.cstar_base.specs.declared.operators.Op.{Op}
 use Rattle.cstar_base.specs.declared.operators.Place.{Place}
@@ -105,27 +105,36 @@ checked_grid e d =
       | _ ↦ Fails
     ]
 
--- one step along an axis, from a field to the next one; none where it is 0
-unfoldable pub along : ℕ → Option NewsStep → Hop → Draft → Made Hop
-along axis None hop d = Makes hop d
-along axis (Some step) hop d =
-    if step.by == 0 then Makes hop d
-    else Makes (record { source = hop.next; next = hop.spare; spare = hop.next })
-    (with_instr (I.GetFromNewsAlways hop.next hop.source axis (K.Imm step.by)) d)
+-- the steps of a get by NEWS that are not 0, each with its axis, from this axis on
+unfoldable pub moving_part : ℕ → Option NewsStep → List GridStep
+moving_part axis None = []
+moving_part axis (Some step) = if step.by == 0 then [] else record { axis = axis; step = K.Imm step.by } ∷ []
 
--- the steps from this axis on
-unfoldable pub stepwise : ℕ → ℕ → List TExpr → Hop → Draft → Made Field
-stepwise of axis [] hop d = Makes hop.source d
-stepwise of axis (index ∷ indexes) hop d =
-    then_make (along axis (step_of of axis index) hop d) (λ next after. stepwise of (axis + 1) indexes next after)
+unfoldable pub moving_steps : ℕ → ℕ → List TExpr → List GridStep
+moving_steps of axis [] = []
+moving_steps of axis (index ∷ indexes) = moving_part axis (step_of of axis index) ++ moving_steps of (axis + 1) indexes
 
--- a get by NEWS, by turns into one fresh field and into another
+-- one step along an axis, from a field to the next one, and where the values are then
+unfoldable pub with_hop : GridStep → Hop → Draft → Draft
+with_hop step hop d = with_instr (I.GetFromNewsAlways hop.next hop.source step.axis step.step) d
+
+unfoldable pub hopped : Hop → Hop
+hopped hop = record { source = hop.next; next = hop.spare; spare = hop.next }
+
+-- steps, by turns into one field and into another, at every processor, and then what was got becomes the
+-- value of the destination; the last step of 32 bits goes there itself
+unfoldable pub stepwise : Elem → Field → List GridStep → Hop → Draft → Draft
+stepwise elem dest [] hop d = with_instr (I.Move elem.signed dest hop.source) d
+stepwise elem dest (step ∷ steps) hop d =
+    if length steps == 0 && elem.bits == 32 then with_instr (I.GetFromNews dest hop.source step.axis step.step) d
+    else stepwise elem dest steps (hopped hop) (with_hop step hop d)
+
+-- a get by NEWS, with two fresh fields to go through
 unfoldable pub gotten_by_steps : ℕ → List TExpr → Elem → Field → Field → Draft → Made Out
 gotten_by_steps of indexes elem source dest d =
     then_make (an_entry dest.set source.len W.Own d)
     (λ one b. then_make (an_entry dest.set source.len W.Own b)
-    (λ other c. then_make (stepwise of 0 indexes (record { source = source; next = one; spare = other }) c)
-    (λ last after. Makes (O.Field dest) (with_instr (I.Move elem.signed dest last) after))))
+    (λ other c. Makes (O.Field dest) (stepwise elem dest (moving_steps of 0 indexes) (record { source = source; next = one; spare = other }) c)))
 
 -- a read through a left index: of one element, by the router (what has 32 bits goes straight to its
 -- destination), or by NEWS
@@ -249,4 +258,4 @@ reached e (out ∷ outs) d = then_make (fresh_for (type_of e).shape d) (λ at af
 -- one communication, as the first instance of this name sees the variables
 unfoldable pub communicated_by : Typed → List ℕ → TExpr → Out → List Out → Out → Draft → Made Out
 communicated_by t name e at parts into d =
-    from (first_named 0 name t.instances.items) (λ n. communicated t (layout_of t n) e at parts into d)
+    from (first_named 0 name t.instances.items) (λ n. communicated t (layout_of t [] n) e at parts into d)

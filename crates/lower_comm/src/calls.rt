@@ -71,7 +71,8 @@ pub fn locate(
 }
 
 /// Appends the code of one communication, and answers where its result is: in `into`, or nowhere.
-/// The numbering of the variables is that of the first instance with the unit's name.
+/// The numbering of the variables is that of the first instance with the unit's name, and no constant
+/// stands in a register.
 ///
 /// - A read through the left index that was located at `at`: no parts.
 /// - An assignment or a step through one: the value that is stored or sent. It has no result.
@@ -95,7 +96,7 @@ pub fn comm(
     requires instance { IsSome (first_named 0 u.old.name t.now.instances.items) }
     ensures draft { IfOk result (λ out. communicated_by t.now u.old.name e.now at parts.now into (draft u.old) ≡ Makes out (draft u.new)) }
 {
-    let mut view = View::of(alloc, t)?;
+    let mut view = View::of(alloc, t, Vec::new(alloc))?;
     let Some(instance) = named(t, u.name.bytes()) else {
         unreachable!()
     };

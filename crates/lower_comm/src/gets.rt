@@ -1,18 +1,21 @@
 //! Reads through a left index.
 
-ghost use Rattle.std.specs.Prelude.{◌≡◌, IfOk};
-ghost use Rattle.lower_base.specs.Drafts.{Makes, draft};
-ghost use Rattle.lower_comm.specs.Messages.{along, stepwise, gotten_by_steps, read_at};
+ghost use Rattle.std.specs.Prelude.{◌≡◌, ◌++◌, IfOk, OnOk};
+ghost use Rattle.paris_code.specs.declared.instr.Instr.TheVariants as I;
+ghost use Rattle.lower_base.specs.Drafts.{Makes, draft, with_instr};
+ghost use Rattle.lower_comm.specs.Messages.{gotten_by_steps, hopped, moving_part, moving_steps, read_at, stepwise, with_hop};
 
 use crate::news::{NewsStep, step_of};
 use cstar_base::{Elem, Memory};
 use cstar_tree::typed::TExpr;
 use lower_base::emit::{Out, count, entry, put};
-use paris_code::{Field, Instr, Konst, Owner, Unit};
+use paris_code::{Field, GridStep, Instr, Konst, Owner, Unit};
+use std::alloc::Global;
 
 /// A read through a left index: of one element, by the router, or by NEWS.
 #[tactic(auto, unfolding(crate::specs::Messages::read_at, lower_base::specs::Drafts::in_register, lower_base::specs::Drafts::in_field, lower_base::specs::Drafts::then_make))]
 pub fn read(
+    alloc: Global,
     of: u16,
     indexes: &[TExpr],
     elem: Elem,
@@ -69,7 +72,7 @@ pub fn read(
             )?;
             Ok(into)
         }
-        Out::Nothing => by_steps(of, indexes, elem, source, into.field()?, u),
+        Out::Nothing => by_steps(alloc, of, indexes, elem, source, into.field()?, u),
     }
 }
 
@@ -84,9 +87,24 @@ pub struct Hop {
     pub spare: Field,
 }
 
+impl Hop {
+    /// Where the values are behind one more step.
+    #[tactic(auto, unfolding(crate::specs::Messages::hopped))]
+    fn hopped(self) -> Hop
+        ensures { result ≡ hopped self }
+    {
+        Hop {
+            source: self.next,
+            next: self.spare,
+            spare: self.next,
+        }
+    }
+}
+
 /// A get by NEWS: one step along each axis, the values in between at every processor.
 #[tactic(auto, unfolding(crate::specs::Messages::gotten_by_steps, lower_base::specs::Drafts::then_make))]
 fn by_steps(
+    alloc: Global,
     of: u16,
     indexes: &[TExpr],
     elem: Elem,
@@ -98,59 +116,103 @@ fn by_steps(
 {
     let next = entry(u, dest.set, source.len, Owner::Own)?;
     let spare = entry(u, dest.set, source.len, Owner::Own)?;
+    let steps = moving_steps(alloc, of, indexes)?;
     let hop = Hop {
         source,
         next,
         spare,
     };
-    let last = stepwise(of, indexes, hop, u)?;
+    stepwise(elem, dest, steps.as_slice(), hop, u)?;
+    Ok(Out::Field(dest))
+}
+
+/// Steps, and then what was got becomes the value of `dest`. The last step of 32 bits goes there
+/// itself.
+#[tactic(auto, unfolding(crate::specs::Messages::stepwise))]
+fn stepwise(
+    elem: Elem,
+    dest: Field,
+    steps: &[GridStep],
+    start: Hop,
+    u: &mut Unit,
+) -> Result<(), Memory>
+    ensures draft { OnOk result (stepwise elem dest steps.now start (draft u.old) ≡ draft u.new) }
+{
+    let mut hop = start;
+    for (number, step) in steps.iter().enumerate() {
+        if steps.len() - (number + 1) == 0 && elem.bits == 32 {
+            return step_to(*step, hop.source, dest, u);
+        }
+        step_on(*step, hop, u)?;
+        hop = hop.hopped();
+    }
     put(
         u,
         Instr::Move {
             signed: elem.signed,
             dest,
-            source: last,
+            source: hop.source,
         },
-    )?;
-    Ok(Out::Field(dest))
+    )
 }
 
-/// The steps along all axes. Answers the field where the values are then.
-#[tactic(auto, unfolding(crate::specs::Messages::stepwise, lower_base::specs::Drafts::then_make))]
-fn stepwise(of: u16, indexes: &[TExpr], start: Hop, u: &mut Unit) -> Result<Field, Memory>
-    ensures draft { IfOk result (λ f. stepwise of 0 indexes.now start (draft u.old) ≡ Makes f (draft u.new)) }
+/// One step along an axis, at every processor.
+#[tactic(auto, unfolding(crate::specs::Messages::with_hop))]
+fn step_on(step: GridStep, hop: Hop, u: &mut Unit) -> Result<(), Memory>
+    ensures draft { OnOk result (with_hop step hop (draft u.old) ≡ draft u.new) }
 {
-    let mut hop = start;
-    for (axis, index) in indexes.iter().enumerate() {
-        let step = step_of(of, axis, index);
-        hop = along(count(axis)?, step, hop, u)?;
-    }
-    Ok(hop.source)
-}
-
-/// One step along an axis; none where it is 0.
-#[tactic(auto, unfolding(crate::specs::Messages::along))]
-fn along(axis: u32, step: Option<NewsStep>, hop: Hop, u: &mut Unit) -> Result<Hop, Memory>
-    ensures draft { IfOk result (λ next. along axis step hop (draft u.old) ≡ Makes next (draft u.new)) }
-{
-    let Some(step) = step else {
-        return Ok(hop);
-    };
-    if step.by == 0 {
-        return Ok(hop);
-    }
     put(
         u,
         Instr::GetFromNewsAlways {
             dest: hop.next,
             source: hop.source,
-            axis,
-            by: Konst::Imm(step.by),
+            axis: step.axis,
+            by: step.step,
         },
-    )?;
-    Ok(Hop {
-        source: hop.next,
-        next: hop.spare,
-        spare: hop.next,
-    })
+    )
+}
+
+/// One step along an axis, at the active processors.
+fn step_to(step: GridStep, source: Field, dest: Field, u: &mut Unit) -> Result<(), Memory>
+    ensures draft { OnOk result (with_instr (I.GetFromNews dest source step.axis step.step) (draft u.old) ≡ draft u.new) }
+{
+    put(
+        u,
+        Instr::GetFromNews {
+            dest,
+            source,
+            axis: step.axis,
+            by: step.step,
+        },
+    )
+}
+
+/// The steps that are not 0, each with its axis.
+#[tactic(auto, unfolding(crate::specs::Messages::moving_steps))]
+fn moving_steps(alloc: Global, of: u16, indexes: &[TExpr]) -> Result<Vec<GridStep>, Memory>
+    ensures { IfOk result (λ steps. steps.items ≡ moving_steps of 0 indexes.now) }
+{
+    let mut steps = Vec::new(alloc);
+    for (axis, index) in indexes.iter().enumerate() {
+        let step = step_of(of, axis, index);
+        add_moving(count(axis)?, step, &mut steps)?;
+    }
+    Ok(steps)
+}
+
+/// One step more, if it is not 0.
+#[tactic(auto, unfolding(crate::specs::Messages::moving_part))]
+fn add_moving(axis: u32, step: Option<NewsStep>, steps: &mut Vec<GridStep>) -> Result<(), Memory>
+    ensures { OnOk result (steps.new.items ≡ steps.old.items ++ moving_part axis step) }
+{
+    let Some(step) = step else {
+        return Ok(());
+    };
+    if step.by != 0 {
+        steps.push(GridStep {
+            axis,
+            step: Konst::Imm(step.by),
+        })?;
+    }
+    Ok(())
 }

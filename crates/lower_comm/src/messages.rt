@@ -58,7 +58,7 @@ pub fn comm_in(
             ..
         } => {
             let source = view.field(*variable, 0, u)?;
-            read(*of, indexes, ty.elem, source, at, into, u)
+            read(view.alloc, *of, indexes, ty.elem, source, at, into, u)
         }
         TExpr::Assign {
             op,

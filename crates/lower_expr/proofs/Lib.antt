@@ -1,4 +1,5 @@
 pub mod Casts
+pub mod Coordinates
 pub mod Elements
 pub mod Lists
 pub mod Relations

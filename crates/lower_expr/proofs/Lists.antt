@@ -1,5 +1,5 @@
 -- The lengths and the code of lists of expressions, as they stand in memory.
-use Rattle.std.proofs.Common.{◌≡◌, ℕ, ◌+◌, List, [], ◌∷◌, ◌++◌, length, slice_get, Vec, Box, refl, ap, ◌∙◌, Bool, true, ◌&&◌, if◌then◌else◌, is_none}
+use Rattle.std.proofs.Common.{◌≡◌, ℕ, ◌+◌, List, [], ◌∷◌, ◌++◌, length, slice_get, Option, Some, None, Vec, Box, refl, ap, ◌∙◌, Bool, true, ◌&&◌, if◌then◌else◌, is_none}
 use Rattle.std.specs.declared.alloc.Global.{Global}
 use mathlib.Core.Former.{Count}
 use Rattle.cstar_base.specs.declared.operators.Place.{Place}
@@ -11,14 +11,18 @@ use Rattle.cstar_tree.specs.declared.typed.ValueType.{ValueType}
 use Rattle.cstar_tree.specs.declared.typed.Variable.{Variable}
 use Rattle.cstar_tree.specs.Typed.{type_of}
 use Rattle.lower_base.specs.declared.emit.Out.{Out}
+use Rattle.lower_base.specs.declared.emit.Out.TheVariants as O
+use Rattle.lower_base.specs.Constants.{word_in}
 use Rattle.lower_base.specs.Drafts.{Draft, Made, Makes, Fails, then_make, fresh_for}
 use Rattle.lower_base.specs.Layouts.{Layout}
 use Rattle.lower_comm.specs.Messages.{located}
 use Rattle.lower_comm.specs.News.{goes_by_news}
+use Rattle.lower_expr.specs.declared.spots.Spot.{Spot}
 use Rattle.lower_expr.specs.declared.spots.Spot.TheVariants as S
 use Rattle.lower_expr.specs.Effects.{computed_to, gone_to}
 use Rattle.lower_expr.specs.Frames.{called}
-use Rattle.lower_expr.specs.Lengths.{logical_length, tested_length, length_of, spot_length_of, lengths_of, lengths_in, call_length, news_length, read_length}
+use Rattle.lower_expr.specs.Lengths.{logical_length, tested_length, length_of, spot_length_of, lengths_of, lengths_in, call_length, located_length, news_length, read_length}
+use Rattle.lower_expr.specs.Positions.{known_position}
 use Rattle.lower_expr.specs.Operands.{is_quiet, are_quiet, all_quiet, operand_by, operand_length}
 use Rattle.lower_expr.specs.Steps.{is_kept, pieces_printed}
 use Rattle.lower_expr.specs.Values.{call_of, call_to, print_of, indexed_spot, index_read_by, value_of, spot_of, values_of, values_in}
@@ -46,7 +50,7 @@ lengths_of_row : (t : Typed) (l : Layout) (quiet : Bool) (n : _) (row : Row_of-T
     lengths_of t l quiet row ≡ lengths_in t l quiet (items-the_row-TExpr n row)
 unfolding lengths_of lengths_in
 lengths_of_row t l quiet n end_of-TExpr = refl
-lengths_of_row t l quiet n (more_of-TExpr e rest) = ap (λ m. operand_length (length_of t l e) quiet e + m) (lengths_of_row t l quiet _ rest)
+lengths_of_row t l quiet n (more_of-TExpr e rest) = ap (λ m. operand_length l (length_of t l e) quiet e + m) (lengths_of_row t l quiet _ rest)
 
 lengths_of_items : (t : Typed) (l : Layout) (n : Count) (row : Row_of-TExpr n) (items : List TExpr) → items-the_row-TExpr n row ≡ items →
     lengths_of t l (are_quiet row) row ≡ lengths_in t l (all_quiet items) items
@@ -67,29 +71,29 @@ length_of_call t l ty instance arguments =
 
 pub length_of_or : (t : Typed) (l : Layout) (ty : ValueType) (left right : Box TExpr Global) →
     length_of t l (T.LogicalOr ty left right)
-    ≡ logical_length (is_none ty.shape) (is_kept left.value) (is_kept right.value) (operand_length (length_of t l left.value) true left.value)
-    (operand_length (length_of t l right.value) true right.value) (tested_length t l left.value) (tested_length t l right.value)
+    ≡ logical_length (is_none ty.shape) (is_kept left.value) (is_kept right.value) (operand_length l (length_of t l left.value) true left.value)
+    (operand_length l (length_of t l right.value) true right.value) (tested_length t l left.value) (tested_length t l right.value)
 unfolding length_of tested_length
 length_of_or t l ty left right = refl
 
 pub length_of_and : (t : Typed) (l : Layout) (ty : ValueType) (left right : Box TExpr Global) →
     length_of t l (T.LogicalAnd ty left right)
-    ≡ logical_length (is_none ty.shape) (is_kept left.value) (is_kept right.value) (operand_length (length_of t l left.value) true left.value)
-    (operand_length (length_of t l right.value) true right.value) (tested_length t l left.value) (tested_length t l right.value)
+    ≡ logical_length (is_none ty.shape) (is_kept left.value) (is_kept right.value) (operand_length l (length_of t l left.value) true left.value)
+    (operand_length l (length_of t l right.value) true right.value) (tested_length t l left.value) (tested_length t l right.value)
 unfolding length_of tested_length
 length_of_and t l ty left right = refl
 
 pub length_of_left_index : (t : Typed) (l : Layout) (ty : ValueType) (place : Place) (indexes : Vec TExpr Global) (x : Variable) (of : ℕ) →
     length_of t l (T.LeftIndex ty place indexes x of)
-    ≡ (if goes_by_news (T.LeftIndex ty place indexes x of) then news_length of indexes.items
-    else (2 + lengths_in t l (all_quiet indexes.items) indexes.items) + read_length ty)
+    ≡ (if goes_by_news (T.LeftIndex ty place indexes x of) then news_length of ty.elem indexes.items
+    else located_length t l (T.LeftIndex ty place indexes x of) (lengths_in t l (all_quiet indexes.items) indexes.items) + read_length ty)
 unfolding length_of
 length_of_left_index t l ty place indexes x of =
     let e = T.LeftIndex ty place indexes x of in
     let row = row_of e in
     let same = items_hidden-the_row-TExpr-0 indexes in
-    ap (λ (m : ℕ). if goes_by_news e then news_length of (items-the_row-TExpr row.0 row.1) else (2 + m) + read_length ty) (lengths_of_items t l row.0 row.1 indexes.items same)
-    ∙ ap (λ (xs : List TExpr). if goes_by_news e then news_length of xs else (2 + lengths_in t l (all_quiet indexes.items) indexes.items) + read_length ty) same
+    ap (λ (m : ℕ). if goes_by_news e then news_length of ty.elem (items-the_row-TExpr row.0 row.1) else located_length t l e m + read_length ty) (lengths_of_items t l row.0 row.1 indexes.items same)
+    ∙ ap (λ (xs : List TExpr). if goes_by_news e then news_length of ty.elem xs else located_length t l e (lengths_in t l (all_quiet indexes.items) indexes.items) + read_length ty) same
 
 pub length_of_printf : (t : Typed) (l : Layout) (ty : ValueType) (pieces : Vec Piece Global) (arguments : Vec TExpr Global) →
     length_of t l (T.Printf ty pieces arguments) ≡ length pieces.items + lengths_in t l (all_quiet arguments.items) arguments.items
@@ -99,11 +103,12 @@ length_of_printf t l ty pieces arguments =
     ap (λ (m : ℕ). length pieces.items + m) (lengths_of_items t l row.0 row.1 arguments.items (items_hidden-the_row-TExpr-0 arguments))
 
 pub spot_length_of_left_index : (t : Typed) (l : Layout) (ty : ValueType) (place : Place) (indexes : Vec TExpr Global) (x : Variable) (of : ℕ) →
-    spot_length_of t l (T.LeftIndex ty place indexes x of) ≡ 2 + lengths_in t l (all_quiet indexes.items) indexes.items
+    spot_length_of t l (T.LeftIndex ty place indexes x of) ≡ located_length t l (T.LeftIndex ty place indexes x of) (lengths_in t l (all_quiet indexes.items) indexes.items)
 unfolding spot_length_of
 spot_length_of_left_index t l ty place indexes x of =
-    let row = row_of (T.LeftIndex ty place indexes x of) in
-    ap (λ (m : ℕ). 2 + m) (lengths_of_items t l row.0 row.1 indexes.items (items_hidden-the_row-TExpr-0 indexes))
+    let e = T.LeftIndex ty place indexes x of in
+    let row = row_of e in
+    ap (λ (m : ℕ). located_length t l e m) (lengths_of_items t l row.0 row.1 indexes.items (items_hidden-the_row-TExpr-0 indexes))
 
 -- what does the same behind a piece of code does the same with it
 pub same_behind : {A B : Type 0} (made : Made A) (f g : A → Draft → Made B) → ((x : A) (d : Draft) → f x d ≡ g x d) → then_make made f ≡ then_make made g
@@ -163,14 +168,20 @@ pub value_of_left_index : (t : Typed) (l : Layout) (ty : ValueType) (place : Pla
 unfolding value_of spot_of
 value_of_left_index t l ty place indexes x of d = refl
 
+either_spot : (o : Option ℕ) (known : ℕ → Made Spot) (one other : Made Spot) → one ≡ other →
+    (elim o as (λ _. Made Spot) [ Some position ↦ known position | None ↦ one ]) ≡ (elim o as (λ _. Made Spot) [ Some position ↦ known position | None ↦ other ])
+either_spot (Some position) known one other same = refl
+either_spot None known one other same = same
+
 pub spot_of_left_index : (t : Typed) (l : Layout) (ty : ValueType) (place : Place) (indexes : Vec TExpr Global) (x : Variable) (of : ℕ) (d : Draft) →
-    spot_of t l (T.LeftIndex ty place indexes x of) d ≡ indexed_spot (T.LeftIndex ty place indexes x of) (values_in t l (all_quiet indexes.items) indexes.items) d
+    spot_of t l (T.LeftIndex ty place indexes x of) d ≡ indexed_spot t l (T.LeftIndex ty place indexes x of) (values_in t l (all_quiet indexes.items) indexes.items) d
 unfolding spot_of indexed_spot
 spot_of_left_index t l ty place indexes x of d =
     let e = T.LeftIndex ty place indexes x of in
     let row = row_of e in
-    same_behind (fresh_for (type_of e).shape d)
+    either_spot (known_position t e) (λ position. then_make (word_in l position d) (λ r after. Makes (S.Indexed (O.Scalar r)) after)) _ _
+    (same_behind (fresh_for (type_of e).shape d)
     (λ at begun. then_make (values_of t l (are_quiet row.1) row.1 [] begun) (λ parts between. then_make (located e parts at between) (λ out after. Makes (S.Indexed out) after)))
     (λ at begun. then_make (values_in t l (all_quiet indexes.items) indexes.items [] begun) (λ parts between. then_make (located e parts at between) (λ out after. Makes (S.Indexed out) after)))
     (λ at begun. ap (λ (m : Made (List Out)). then_make m (λ parts between. then_make (located e parts at between) (λ out after. Makes (S.Indexed out) after)))
-    (values_of_items t l row.0 row.1 indexes.items (items_hidden-the_row-TExpr-0 indexes) [] begun))
+    (values_of_items t l row.0 row.1 indexes.items (items_hidden-the_row-TExpr-0 indexes) [] begun)))

@@ -17,6 +17,7 @@ use Rattle.paris_code.specs.declared.operands.Konst.TheVariants as K
 use Rattle.lower_base.specs.declared.emit.Out.{Out}
 use Rattle.lower_base.specs.declared.emit.Out.TheVariants as O
 use Rattle.lower_base.specs.Drafts.{Draft, Made, Makes, Fails, then_make, with_instr, a_register, a_field, in_register, in_field}
+use Rattle.lower_base.specs.Constants.{word_in, word_length}
 use Rattle.lower_base.specs.Layouts.{Layout, field_of}
 use Rattle.lower_base.specs.Operators.{assign_op_of}
 use Rattle.lower_expr.specs.declared.operands.Own.{Own}
@@ -30,7 +31,7 @@ unfoldable pub next_operand : Typed → Layout → TExpr → Draft → Made Out
 next_operand t l e d = operand_by t l (value_of t l e) true e d
 
 unfoldable pub next_length : Typed → Layout → TExpr → ℕ
-next_length t l e = operand_length (length_of t l e) true e
+next_length t l e = operand_length l (length_of t l e) true e
 
 -- a value moved to a register or a field, and one converted into a register
 unfoldable pub moved : Typed → Layout → Out → TExpr → Draft → Made Out
@@ -64,7 +65,7 @@ computed_to t l dest (T.Convert' ty p operand) d =
     else converted_to t l dest (T.Convert' ty p operand) ty.elem operand d
 computed_to t l dest (T.Unary' ty op p operand) d =
     if is_plus op then computed_to t l dest operand d
-    else then_make (next_operand t l operand d) (λ v after. negated op dest v after)
+    else then_make (next_operand t l operand d) (λ v after. negated l op dest v after)
 computed_to t l dest (T.Binary' ty place op p left q right) d = binary_to t l dest op place left right d
 computed_to t l dest (T.Pcoord ty axis) d = in_field dest (λ f. Makes dest (with_instr (I.MyNewsCoordinate f axis) d))
 computed_to t l dest (T.Variable ty x) d = read_to t l (T.Variable ty x) (spot_of t l (T.Variable ty x)) dest d
@@ -74,6 +75,8 @@ computed_to t l dest (T.Choice' ty p test q first r second) d =
 computed_to t l dest (T.Element' ty place array p index) d = read_to t l (T.Element' ty place array p index) (spot_of t l (T.Element' ty place array p index)) dest d
 computed_to t l dest (T.LeftIndex' ty place p indexes x of) d =
     gone_to dest (index_read_to t l (T.LeftIndex' ty place p indexes x of) (spot_of t l (T.LeftIndex' ty place p indexes x of)) dest d)
+computed_to t l dest (T.Reduce' ty op p operand) d =
+    gone_to dest (message_to t l (T.Reduce' ty op p operand) (operand_by t l (value_of t l operand) true operand) dest d)
 computed_to t l dest (T.Scan' ty p source axis combiner direction mode bit within) d =
     gone_to dest (message_to t l (T.Scan' ty p source axis combiner direction mode bit within) (operand_by t l (value_of t l source) true source) dest d)
 computed_to t l dest (T.Call' ty instance p arguments) d =
@@ -112,13 +115,13 @@ variable_operated t l op place target value (O.Field f) d =
 variable_operated t l op place target value O.Nothing d = Fails
 
 -- a step of a variable
-unfoldable pub variable_stepped : Elem → StepOp → Out → Draft → Made Out
-variable_stepped elem op (O.Scalar r) d =
-    then_make (a_register d) (λ one between. then_make (written_register elem r (with_instr (I.FrontConst one 1) between))
+unfoldable pub variable_stepped : Layout → Elem → StepOp → Out → Draft → Made Out
+variable_stepped l elem op (O.Scalar r) d =
+    then_make (word_in l 1 d) (λ one between. then_make (written_register elem r between)
     (λ written after. Makes (O.Scalar r) (with_settled elem written r (with_instr (I.FrontOperate (step_operation op) written r one) after))))
-variable_stepped elem op (O.Field f) d =
+variable_stepped l elem op (O.Field f) d =
     Makes (O.Field f) (with_instr (I.OperateConstant (step_operation op) f f (K.Imm 1)) d)
-variable_stepped elem op O.Nothing d = Fails
+variable_stepped l elem op O.Nothing d = Fails
 
 -- A value becomes that of a field of fewer than 32 bits: of one that was converted to `bool` the test
 -- flag, of one that was converted to another narrow type its lowest bits.
@@ -170,7 +173,7 @@ assignment_effect t l op place target value whole d =
 unfoldable pub step_effect : Typed → Layout → StepOp → TExpr → Code → Draft → Made Out
 step_effect t l op target whole d =
     elim (own_of target) [
-      | Some own ↦ then_make (standing t l own d) (λ dest after. variable_stepped (type_of target).elem op dest after)
+      | Some own ↦ then_make (standing t l own d) (λ dest after. variable_stepped l (type_of target).elem op dest after)
       | None ↦ whole d
     ]
 
@@ -197,6 +200,7 @@ computed_length t l scalar (T.Choice' ty p test q first r second) =
     length_of t l (T.Choice' ty p test q first r second) + (if is_kept test then 0 else 1)
 computed_length t l scalar (T.Element' ty place array p index) = length_of t l (T.Element' ty place array p index)
 computed_length t l scalar (T.LeftIndex' ty place p indexes x of) = length_of t l (T.LeftIndex' ty place p indexes x of)
+computed_length t l scalar (T.Reduce' ty op p operand) = length_of t l (T.Reduce' ty op p operand)
 computed_length t l scalar (T.Scan' ty p source axis combiner direction mode bit within) =
     length_of t l (T.Scan' ty p source axis combiner direction mode bit within)
 computed_length t l scalar (T.Call' ty instance p arguments) = length_of t l (T.Call' ty instance p arguments)
@@ -227,8 +231,8 @@ assigned_length t l scalar op elem value =
       | Some o ↦ operated_length t l scalar elem o value
     ]
 
-abbrev pub stepped_length : Bool → Elem → ℕ
-stepped_length scalar elem = if scalar then 2 + settled_length elem else 1
+abbrev pub stepped_length : Layout → Bool → Elem → ℕ
+stepped_length l scalar elem = if scalar then (word_length l 1 + 1) + settled_length elem else 1
 
 unfoldable pub assignment_length : Typed → Layout → AssignOp → TExpr → TExpr → ℕ → ℕ
 assignment_length t l op target value whole =
@@ -237,13 +241,13 @@ assignment_length t l op target value whole =
       | None ↦ elim (assigned_narrow op target) [ Some x ↦ narrowed_length t l value | None ↦ whole ]
     ]
 
-unfoldable pub step_effect_length : TExpr → ℕ → ℕ
-step_effect_length target whole =
-    elim (own_of target) [ Some own ↦ stepped_length (is_none own.shape) (type_of target).elem | None ↦ whole ]
+unfoldable pub step_effect_length : Layout → TExpr → ℕ → ℕ
+step_effect_length l target whole =
+    elim (own_of target) [ Some own ↦ stepped_length l (is_none own.shape) (type_of target).elem | None ↦ whole ]
 
 unfoldable pub effect_length_of : Typed → Layout → TExpr → ℕ
 effect_length_of t l (T.Brackets' ty p inner) = effect_length_of t l inner
 effect_length_of t l (T.Assign' ty place op p target q value) =
     assignment_length t l op target value (length_of t l (T.Assign' ty place op p target q value))
-effect_length_of t l (T.Step' ty op order p target) = step_effect_length target (length_of t l (T.Step' ty op order p target))
+effect_length_of t l (T.Step' ty op order p target) = step_effect_length l target (length_of t l (T.Step' ty op order p target))
 effect_length_of t l e = length_of t l e

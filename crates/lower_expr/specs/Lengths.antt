@@ -1,6 +1,6 @@
 -- How many instructions an expression compiles to. Jumps are written once, since the lengths of
 -- what they pass over are known beforehand.
-use Rattle.std.specs.Prelude.{ℕ, ◌+◌, ◌-◌, Bool, true, false, not, ◌==◌, ◌&&◌, ◌||◌, if◌then◌else◌, List, [], ◌∷◌, length, slice_get, Option, Some, None, is_none, is_some}
+use Rattle.std.specs.Prelude.{ℕ, zero, suc, ◌+◌, ◌-◌, Bool, true, false, not, ◌==◌, ◌&&◌, ◌||◌, if◌then◌else◌, List, [], ◌∷◌, length, slice_get, Option, Some, None, is_none, is_some}
 use Rattle.cstar_base.specs.declared.elem.Elem.{Elem}
 use Rattle.cstar_base.specs.declared.operators.Op.{Op}
 use Rattle.cstar_base.specs.Operators.{divides}
@@ -18,10 +18,12 @@ use Rattle.cstar_tree.specs.declared.typed.ValueType.{ValueType}
 use Rattle.cstar_tree.specs.declared.typed.VarInfo.{VarInfo}
 use Rattle.cstar_tree.specs.Typed.{type_of}
 use Rattle.lower_comm.specs.declared.news.NewsStep.{NewsStep}
+use Rattle.lower_base.specs.Constants.{word_length}
 use Rattle.lower_base.specs.Layouts.{Layout, elements_of}
 use Rattle.lower_comm.specs.News.{step_of, goes_by_news}
 use Rattle.lower_base.specs.Operators.{assign_op_of}
 use Rattle.lower_expr.specs.Operands.{is_plus, is_quiet, are_quiet, operand_length}
+use Rattle.lower_expr.specs.Positions.{known_position}
 use Rattle.lower_expr.specs.Steps.{is_kept, has_truth, has_word, word_of, relates, word_taken}
 
 -- a conversion in place
@@ -30,11 +32,11 @@ conversion_length scalar elem =
     if elem.bits == 32 then 0 else (if scalar then 1 else (if elem.bits == 1 then 3 else 2))
 
 -- an operator before its operand
-unfoldable pub unary_length : UnaryOp → Bool → ℕ
-unary_length Un.Plus scalar = 0
-unary_length Un.Minus scalar = 1
-unary_length Un.Complement scalar = 1
-unary_length Un.Not scalar = if scalar then 2 else 3
+unfoldable pub unary_length : Layout → UnaryOp → Bool → ℕ
+unary_length l Un.Plus scalar = 0
+unary_length l Un.Minus scalar = 1
+unary_length l Un.Complement scalar = 1
+unary_length l Un.Not scalar = if scalar then word_length l 0 + 1 else 3
 
 -- a binary operator, with the check of its divisor
 unfoldable pub operate_length : Op → Bool → ℕ
@@ -90,9 +92,13 @@ unfoldable pub news_checked : ℕ → ℕ → List TExpr → Bool
 news_checked of axis [] = false
 news_checked of axis (e ∷ rest) = is_checked (step_of of axis e) || news_checked of (axis + 1) rest
 
--- a get by NEWS: its check, its moves, and the move of what was got
-unfoldable pub news_length : ℕ → List TExpr → ℕ
-news_length of indexes = (news_moves of 0 indexes + 1) + (if news_checked of 0 indexes then 1 else 0)
+-- so many moves, and that of what was got, where the last of them does not go to the destination itself
+unfoldable pub moves_length : Elem → ℕ → ℕ
+moves_length elem n = if not (n == 0) && elem.bits == 32 then n else n + 1
+
+-- a get by NEWS: its moves and its check
+unfoldable pub news_length : ℕ → Elem → List TExpr → ℕ
+news_length of elem indexes = moves_length elem (news_moves of 0 indexes) + (if news_checked of 0 indexes then 1 else 0)
 
 -- a target without the brackets around it
 unfoldable pub bare : TExpr → TExpr
@@ -107,22 +113,32 @@ is_sent _ = false
 unfoldable pub is_send : TExpr → Bool
 is_send target = is_sent (bare target)
 
--- four instructions for each element
-unfoldable pub four_times : ℕ → ℕ
-four_times n = (n + n) + (n + n)
+-- so many elements of an array, from one on: for each its number, a test, a jump and a move
+unfoldable pub elements_length : Layout → ℕ → ℕ → ℕ
+elements_length l zero element = 0
+elements_length l (suc more) element = (word_length l element + 3) + elements_length l more (element + 1)
+
+-- the range check of the index of an array with so many elements
+unfoldable pub index_check_length : Layout → ℕ → ℕ
+index_check_length l elements = word_length l elements + 4
 
 -- a read through a left index: of every position, or of one
 unfoldable pub read_length : ValueType → ℕ
 read_length ty = if is_none ty.shape || ty.elem.bits == 32 then 1 else 2
 
+-- what locates a left index, by the length of its indexes' codes: a position that is known stands in a
+-- register, and else there are a check and the address
+unfoldable pub located_length : Typed → Layout → TExpr → ℕ → ℕ
+located_length t l e n = elim (known_position t e) [ Some position ↦ word_length l position | None ↦ 2 + n ]
+
 -- what reads a located place, and what writes it; a send is counted with its assignment
 unfoldable pub load_length_of : Typed → Layout → TExpr → ℕ
-load_length_of t l (T.Element' ty place array p index) = four_times (elements_of t l array)
+load_length_of t l (T.Element' ty place array p index) = elements_length l (elements_of t l array) 0
 load_length_of t l (T.LeftIndex' ty place p indexes x of) = read_length ty
 load_length_of t l _ = 1
 
 unfoldable pub store_length_of : Typed → Layout → TExpr → ℕ
-store_length_of t l (T.Element' ty place array p index) = four_times (elements_of t l array)
+store_length_of t l (T.Element' ty place array p index) = elements_length l (elements_of t l array) 0
 store_length_of t l _ = 1
 
 unfoldable pub load_length : Typed → Layout → TExpr → ℕ
@@ -152,16 +168,16 @@ assign_length t l op target there n e =
     else elim (assign_op_of op) [
       | None ↦ set_length (is_none (type_of target).shape) (there + store_length t l target) n e
       | Some o ↦ compound_length (is_none (type_of target).shape) (type_of target).elem
-          ((there + store_length t l target) + load_length t l target) o (operand_length n true e) e
+          ((there + store_length t l target) + load_length t l target) o (operand_length l n true e) e
     ]
 
-unfoldable pub step_once_length : Bool → ℕ
-step_once_length scalar = if scalar then 2 else 1
+unfoldable pub step_once_length : Layout → Bool → ℕ
+step_once_length l scalar = if scalar then word_length l 1 + 1 else 1
 
 -- a step, by the length of its target
 unfoldable pub step_length : Typed → Layout → TExpr → ℕ → ℕ
 step_length t l target there =
-    (there + (step_once_length (is_none (type_of target).shape)
+    (there + (step_once_length l (is_none (type_of target).shape)
     + conversion_length (is_none (type_of target).shape) (type_of target).elem))
     + (load_length t l target + store_length t l target)
 
@@ -185,8 +201,8 @@ unfoldable pub compared_length : ℕ → Op → TExpr → ℕ
 compared_length n op e = elim (word_taken op e) [ Some _ ↦ 2 | None ↦ n + (spare_length op (is_kept e) + 1) ]
 
 -- a value as the test flags, by the length of its truth and of its code
-unfoldable pub tested_by_length : ℕ → ℕ → TExpr → ℕ
-tested_by_length truth n e = if has_truth e then truth else operand_length n true e + 1
+unfoldable pub tested_by_length : Layout → ℕ → ℕ → TExpr → ℕ
+tested_by_length l truth n e = if has_truth e then truth else operand_length l n true e + 1
 
 unfoldable mutual
   -- the value of an expression
@@ -194,31 +210,32 @@ unfoldable mutual
   length_of t l (T.Assign' ty place op p target q value) =
       assign_length t l op target (spot_length_of t l target) (length_of t l value) value
   length_of t l (T.Choice' ty p test q first r second) =
-      (operand_length (length_of t l test) (is_kept test || is_quiet first) test
-      + (arm_length (is_none ty.shape) (operand_length (length_of t l first) true first) first
-      + arm_length (is_none ty.shape) (operand_length (length_of t l second) true second) second))
+      (operand_length l (length_of t l test) (is_kept test || is_quiet first) test
+      + (arm_length (is_none ty.shape) (operand_length l (length_of t l first) true first) first
+      + arm_length (is_none ty.shape) (operand_length l (length_of t l second) true second) second))
       + choice_length (is_kept test)
   length_of t l (T.LogicalOr' ty p left q right) =
       logical_length (is_none ty.shape) (is_kept left) (is_kept right)
-      (operand_length (length_of t l left) true left) (operand_length (length_of t l right) true right)
-      (tested_by_length (truth_length_of t l left) (length_of t l left) left) (tested_by_length (truth_length_of t l right) (length_of t l right) right)
+      (operand_length l (length_of t l left) true left) (operand_length l (length_of t l right) true right)
+      (tested_by_length l (truth_length_of t l left) (length_of t l left) left) (tested_by_length l (truth_length_of t l right) (length_of t l right) right)
   length_of t l (T.LogicalAnd' ty p left q right) =
       logical_length (is_none ty.shape) (is_kept left) (is_kept right)
-      (operand_length (length_of t l left) true left) (operand_length (length_of t l right) true right)
-      (tested_by_length (truth_length_of t l left) (length_of t l left) left) (tested_by_length (truth_length_of t l right) (length_of t l right) right)
+      (operand_length l (length_of t l left) true left) (operand_length l (length_of t l right) true right)
+      (tested_by_length l (truth_length_of t l left) (length_of t l left) left) (tested_by_length l (truth_length_of t l right) (length_of t l right) right)
   length_of t l (T.Binary' ty place op p left q right) =
-      binary_length (is_none ty.shape) op (operand_length (length_of t l left) (is_quiet right) left) left
-      (operand_length (length_of t l right) true right) right
+      binary_length (is_none ty.shape) op (operand_length l (length_of t l left) (is_quiet right) left) left
+      (operand_length l (length_of t l right) true right) right
   length_of t l (T.Unary' ty op p operand) =
-      operand_length (length_of t l operand) (not (is_plus op)) operand + unary_length op (is_kept operand)
+      (if is_plus op then length_of t l operand else operand_length l (length_of t l operand) true operand) + unary_length l op (is_kept operand)
   length_of t l (T.Step' ty op order p target) = step_length t l target (spot_length_of t l target)
-  length_of t l (T.Reduce' ty op p operand) = operand_length (length_of t l operand) true operand + reduce_length op
+  length_of t l (T.Reduce' ty op p operand) = operand_length l (length_of t l operand) true operand + reduce_length op
   length_of t l (T.Casts' ty elems p operand) = length_of t l operand + length elems.items
   length_of t l (T.ParallelCast' ty p operand) = spread_length (length_of t l operand) operand + conversion_length false ty.elem
   length_of t l (T.Convert' ty p operand) = length_of t l operand + conversion_length (is_kept operand) ty.elem
   length_of t l (T.Promote' ty p operand) = length_of t l operand
   length_of t l (T.Variable ty x) = 1
-  length_of t l (T.Element' ty place array p index) = (length_of t l index + 5) + four_times (elements_of t l array)
+  length_of t l (T.Element' ty place array p index) =
+      (length_of t l index + index_check_length l (elements_of t l array)) + elements_length l (elements_of t l array) 0
   length_of t l (T.Number ty value) = 1
   length_of t l (T.Dot ty axis) = 1
   length_of t l (T.Brackets' ty p inner) = length_of t l inner
@@ -226,13 +243,13 @@ unfoldable mutual
       call_length (slice_get t.instances.items instance) (length (items-the_row-TExpr _ arguments))
       + lengths_of t l (are_quiet arguments) arguments
   length_of t l (T.LeftIndex' ty place p indexes x of) =
-      if goes_by_news (T.LeftIndex' ty place p indexes x of) then news_length of (items-the_row-TExpr _ indexes)
-      else (2 + lengths_of t l (are_quiet indexes) indexes) + read_length ty
+      if goes_by_news (T.LeftIndex' ty place p indexes x of) then news_length of ty.elem (items-the_row-TExpr _ indexes)
+      else located_length t l (T.LeftIndex' ty place p indexes x of) (lengths_of t l (are_quiet indexes) indexes) + read_length ty
   length_of t l (T.Pcoord ty axis) = 1
   length_of t l (T.PositionsOf ty shape value) = 1
   length_of t l (T.RankOf ty shape value) = 1
   length_of t l (T.DimOf ty shape axis value) = 1
-  length_of t l (T.Scan' ty p source axis combiner direction mode bit _) = operand_length (length_of t l source) true source + 1
+  length_of t l (T.Scan' ty p source axis combiner direction mode bit _) = operand_length l (length_of t l source) true source + 1
   length_of t l (T.Enumerate ty axis direction _ mode bit) = 2
   length_of t l (T.Printf' ty pieces p arguments) = length pieces.items + lengths_of t l (are_quiet arguments) arguments
   length_of t l (T.GetChar ty) = 1
@@ -242,31 +259,32 @@ unfoldable mutual
   truth_length_of t l (T.Brackets' ty p inner) = truth_length_of t l inner
   truth_length_of t l (T.Variable ty x) = 1
   truth_length_of t l (T.Binary' ty place op p left q right) =
-      spread_length (operand_length (length_of t l left) (is_quiet right) left) left
-      + compared_length (operand_length (length_of t l right) true right) op right
-  truth_length_of t l (T.Unary' ty op p operand) = operand_length (length_of t l operand) true operand + 1
+      spread_length (operand_length l (length_of t l left) (is_quiet right) left) left
+      + compared_length (operand_length l (length_of t l right) true right) op right
+  truth_length_of t l (T.Unary' ty op p operand) = operand_length l (length_of t l operand) true operand + 1
   truth_length_of t l _ = 0
 
   -- what locates a target or a reference
   pub spot_length_of : Typed → Layout → TExpr → ℕ
   spot_length_of t l (T.Brackets' ty p inner) = spot_length_of t l inner
-  spot_length_of t l (T.Element' ty place array p index) = length_of t l index + 5
-  spot_length_of t l (T.LeftIndex' ty place p indexes x of) = 2 + lengths_of t l (are_quiet indexes) indexes
+  spot_length_of t l (T.Element' ty place array p index) = length_of t l index + index_check_length l (elements_of t l array)
+  spot_length_of t l (T.LeftIndex' ty place p indexes x of) =
+      located_length t l (T.LeftIndex' ty place p indexes x of) (lengths_of t l (are_quiet indexes) indexes)
   spot_length_of t l _ = 0
 
   -- a list of expressions; whether all are quiet is told
   pub lengths_of : {n : _} → Typed → Layout → Bool → Row_of-TExpr n → ℕ
   lengths_of t l quiet end_of-TExpr = 0
-  lengths_of t l quiet (more_of-TExpr e rest) = operand_length (length_of t l e) quiet e + lengths_of t l quiet rest
+  lengths_of t l quiet (more_of-TExpr e rest) = operand_length l (length_of t l e) quiet e + lengths_of t l quiet rest
 
 -- the same of a list as it stands in memory
 unfoldable pub lengths_in : Typed → Layout → Bool → List TExpr → ℕ
 lengths_in t l quiet [] = 0
-lengths_in t l quiet (e ∷ rest) = operand_length (length_of t l e) quiet e + lengths_in t l quiet rest
+lengths_in t l quiet (e ∷ rest) = operand_length l (length_of t l e) quiet e + lengths_in t l quiet rest
 
 -- a parallel value as the test flags, and an arm of `?:`
 unfoldable pub tested_length : Typed → Layout → TExpr → ℕ
-tested_length t l e = tested_by_length (truth_length_of t l e) (length_of t l e) e
+tested_length t l e = tested_by_length l (truth_length_of t l e) (length_of t l e) e
 
 unfoldable pub arm_length_of : Typed → Layout → ValueType → TExpr → ℕ
-arm_length_of t l ty e = arm_length (is_none ty.shape) (operand_length (length_of t l e) true e) e
+arm_length_of t l ty e = arm_length (is_none ty.shape) (operand_length l (length_of t l e) true e) e

@@ -1,5 +1,7 @@
--- Operands that stand in a variable's own register or field, and when they may be used there.
+-- Operands that stand in a register or a field already, that of a constant or a variable's own, and when
+-- they may be used there.
 use Rattle.std.specs.Prelude.{ℕ, Bool, true, false, ◌==◌, ◌&&◌, ◌||◌, if◌then◌else◌, List, [], ◌∷◌, Option, Some, None, is_none}
+use Rattle.source_meaning.specs.Constants.{then_value}
 use Rattle.cstar_tree.specs.declared.typed.TExpr.{TExpr, Row_of-TExpr, end_of-TExpr, more_of-TExpr}
 use Rattle.cstar_tree.specs.declared.typed.TExpr as T
 use Rattle.cstar_tree.specs.declared.typed.Typed.{Typed}
@@ -7,9 +9,11 @@ use Rattle.cstar_tree.specs.declared.typed.UnaryOp.{UnaryOp}
 use Rattle.cstar_tree.specs.declared.typed.UnaryOp.TheVariants as Un
 use Rattle.lower_base.specs.declared.emit.Out.{Out}
 use Rattle.lower_base.specs.declared.emit.Out.TheVariants as O
+use Rattle.lower_base.specs.Constants.{constant_register}
 use Rattle.lower_base.specs.Drafts.{Draft, Made, Makes, then_make}
 use Rattle.lower_base.specs.Layouts.{Layout, register_of, field_of}
 use Rattle.lower_expr.specs.declared.operands.Own.{Own}
+use Rattle.lower_expr.specs.Steps.{register_word}
 
 -- does the expression leave all variables, the turns, the input and the output as they are: it has
 -- no assignment, no step, no call, no `printf` and no `getchar`
@@ -70,13 +74,21 @@ standing t l own d =
 unfoldable pub in_place : Bool → TExpr → Option Own
 in_place quiet e = if quiet then own_of e else None
 
--- the value of an operand, which has this code where it is copied
+-- the register in which the word of a scalar constant stands
+unfoldable pub held : Layout → TExpr → Option ℕ
+held l e = then_value (register_word e) (constant_register l)
+
+-- the value of an operand, which has this code where it does not stand anywhere
 unfoldable pub operand_by : Typed → Layout → (Draft → Made Out) → Bool → TExpr → Draft → Made Out
-operand_by t l code quiet e d = elim (in_place quiet e) [ Some own ↦ standing t l own d | None ↦ code d ]
+operand_by t l code quiet e d =
+    elim (held l e) [
+      | Some r ↦ Makes (O.Scalar r) d
+      | None ↦ elim (in_place quiet e) [ Some own ↦ standing t l own d | None ↦ code d ]
+    ]
 
 -- how many instructions it has, by the length of that code
-unfoldable pub operand_length : ℕ → Bool → TExpr → ℕ
-operand_length n quiet e = elim (in_place quiet e) [ Some _ ↦ 0 | None ↦ n ]
+unfoldable pub operand_length : Layout → ℕ → Bool → TExpr → ℕ
+operand_length l n quiet e = elim (held l e) [ Some _ ↦ 0 | None ↦ elim (in_place quiet e) [ Some _ ↦ 0 | None ↦ n ] ]
 
 -- the operator before an operand that has no code
 unfoldable pub is_plus : UnaryOp → Bool

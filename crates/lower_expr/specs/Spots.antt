@@ -14,6 +14,7 @@ use Rattle.paris_code.specs.declared.operands.RegisterCoordinate.{RegisterCoordi
 use Rattle.lower_base.specs.declared.emit.Out.{Out}
 use Rattle.lower_base.specs.declared.emit.Out.TheVariants as O
 use Rattle.lower_base.specs.Drafts.{Draft, Made, Makes, FrontChecksTarget, then_make, from, here, with_step, with_instr, a_register, in_register, in_field}
+use Rattle.lower_base.specs.Constants.{word_in}
 use Rattle.lower_base.specs.Layouts.{Layout, elements_of, register_of, field_of}
 use Rattle.lower_comm.specs.Messages.{communicated}
 use Rattle.lower_expr.specs.declared.spots.Spot.{Spot}
@@ -26,11 +27,10 @@ unfoldable pub variable_spot : Layout → ValueType → Variable → Spot
 variable_spot l ty x = elim ty.shape [ None ↦ S.Register (register_of l x) | Some _ ↦ S.Whole x ]
 
 -- a jump over the next instruction unless the index is this number
-unfoldable pub skips_unless : ℕ → ℕ → Draft → Made ℕ
-skips_unless index number d =
-    then_make (a_register d)
-    (λ test after. Makes test (with_instr (I.FrontJumpZero test (here after + 4))
-    (with_instr (I.FrontCompare C.UEq test index test) (with_instr (I.FrontConst test number) after))))
+unfoldable pub skips_unless : Layout → ℕ → ℕ → Draft → Made ℕ
+skips_unless l index number d =
+    then_make (word_in l number d) (λ word between. then_make (a_register between)
+    (λ test after. Makes test (with_instr (I.FrontJumpZero test (here after + 3)) (with_instr (I.FrontCompare C.UEq test index word) after))))
 
 -- a copy of a field of a variable, read signed or not
 unfoldable pub field_loaded : Typed → Layout → Bool → Variable → ℕ → Field → Draft → Made Out
@@ -41,7 +41,7 @@ field_loaded t l signed x element dest d =
 unfoldable pub elements_loaded : Typed → Layout → Bool → Variable → ℕ → Field → ℕ → ℕ → Draft → Made Out
 elements_loaded t l signed array index dest zero element d = Makes (O.Field dest) d
 elements_loaded t l signed array index dest (suc more) element d =
-    then_make (skips_unless index element d) (λ _ between. then_make (field_loaded t l signed array element dest between)
+    then_make (skips_unless l index element d) (λ _ between. then_make (field_loaded t l signed array element dest between)
     (λ _ after. elements_loaded t l signed array index dest more (element + 1) after))
 
 -- the value that the spot has, in a register or a field
@@ -61,7 +61,7 @@ field_stored t l x element v d =
 unfoldable pub elements_stored : Typed → Layout → Variable → ℕ → Out → ℕ → ℕ → Draft → Made Out
 elements_stored t l array index v zero element d = Makes v d
 elements_stored t l array index v (suc more) element d =
-    then_make (skips_unless index element d) (λ _ between. then_make (field_stored t l array element v between)
+    then_make (skips_unless l index element d) (λ _ between. then_make (field_stored t l array element v between)
     (λ _ after. elements_stored t l array index v more (element + 1) after))
 
 -- a value becomes that of the spot, at the active positions; the expression is the assignment
@@ -78,7 +78,8 @@ everywhere_at register extents = map (λ _. record { register = register; signed
 -- the range check of a right index: outside, coordinates of -1 are checked, which fails
 unfoldable pub index_checked : Typed → Layout → Variable → ℕ → Place → ℕ → Draft → Made ℕ
 index_checked t l array set place index d =
-    then_make (a_register d) (λ test after. from (slice_get t.shapes.items set) (λ info. Makes test
+    then_make (word_in l (elements_of t l array) d) (λ limit between. then_make (a_register between) (λ test after.
+    from (slice_get t.shapes.items set) (λ info. Makes test
     (with_step (FrontChecksTarget set place (everywhere_at test info.extents.items))
-    (with_instr (I.FrontConst test (2 ^ 32 - 1)) (with_instr (I.FrontJumpNonzero test (here after + 5))
-    (with_instr (I.FrontCompare C.ULt test index test) (with_instr (I.FrontConst test (elements_of t l array)) after)))))))
+    (with_instr (I.FrontConst test (2 ^ 32 - 1)) (with_instr (I.FrontJumpNonzero test (here after + 4))
+    (with_instr (I.FrontCompare C.ULt test index limit) after)))))))

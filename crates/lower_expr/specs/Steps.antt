@@ -26,6 +26,8 @@ use Rattle.lower_base.specs.declared.emit.Out.{Out}
 use Rattle.lower_base.specs.declared.emit.Out.TheVariants as O
 use Rattle.lower_base.specs.declared.operators.Machine.{Machine}
 use Rattle.lower_base.specs.declared.operators.Machine.TheVariants as M
+use Rattle.lower_base.specs.Constants.{word_in}
+use Rattle.lower_base.specs.Layouts.{Layout}
 use Rattle.lower_base.specs.Drafts.{Draft, Made, Makes, Fails, then_make, with_instr, a_register, a_flag, in_register, in_field}
 use Rattle.lower_base.specs.Operators.{machine_of, is_signed}
 use Rattle.lower_expr.specs.declared.steps.Right.{Right}
@@ -183,13 +185,12 @@ in_a_field (O.Scalar r) spare d = Makes spare (with_instr (I.MoveConstant spare 
 in_a_field O.Nothing spare d = Fails
 
 -- a unary operator other than `+` on a register, and on a field
-unfoldable pub register_negated : UnaryOp → ℕ → ℕ → Draft → Made Out
-register_negated Un.Plus dest source d = Fails
-register_negated Un.Minus dest source d = Makes (O.Scalar dest) (with_instr (I.FrontNegate dest source) d)
-register_negated Un.Complement dest source d = Makes (O.Scalar dest) (with_instr (I.FrontLognot dest source) d)
-register_negated Un.Not dest source d =
-    then_make (a_register d) (λ zero after. Makes (O.Scalar dest) (with_instr (I.FrontCompare C.UEq dest source zero)
-    (with_instr (I.FrontConst zero 0) after)))
+unfoldable pub register_negated : Layout → UnaryOp → ℕ → ℕ → Draft → Made Out
+register_negated l Un.Plus dest source d = Fails
+register_negated l Un.Minus dest source d = Makes (O.Scalar dest) (with_instr (I.FrontNegate dest source) d)
+register_negated l Un.Complement dest source d = Makes (O.Scalar dest) (with_instr (I.FrontLognot dest source) d)
+register_negated l Un.Not dest source d =
+    then_make (word_in l 0 d) (λ zero after. Makes (O.Scalar dest) (with_instr (I.FrontCompare C.UEq dest source zero) after))
 
 unfoldable pub field_negated : UnaryOp → Field → Field → Draft → Made Out
 field_negated Un.Plus dest source d = Fails
@@ -197,10 +198,10 @@ field_negated Un.Minus dest source d = Makes (O.Field dest) (with_instr (I.Negat
 field_negated Un.Complement dest source d = Makes (O.Field dest) (with_instr (I.Lognot dest source) d)
 field_negated Un.Not dest source d = put_test dest (with_instr (I.EqZero source) d)
 
-unfoldable pub negated : UnaryOp → Out → Out → Draft → Made Out
-negated op (O.Scalar dest) v d = in_register v (λ source. register_negated op dest source d)
-negated op (O.Field dest) v d = in_field v (λ source. field_negated op dest source d)
-negated op O.Nothing v d = Fails
+unfoldable pub negated : Layout → UnaryOp → Out → Out → Draft → Made Out
+negated l op (O.Scalar dest) v d = in_register v (λ source. register_negated l op dest source d)
+negated l op (O.Field dest) v d = in_field v (λ source. field_negated op dest source d)
+negated l op O.Nothing v d = Fails
 
 -- the pieces of a text, each conversion with the next value
 unfoldable pub pieces_printed : List Piece → List Out → Draft → Made Out

@@ -27,6 +27,7 @@ use Rattle.paris_code.specs.declared.operands.Operation.TheVariants as Act
 use Rattle.lower_base.specs.declared.emit.Out.{Out}
 use Rattle.lower_base.specs.declared.emit.Out.TheVariants as O
 use Rattle.lower_base.specs.Drafts.{Draft, Made, Makes, Fails, then_make, from, here, with_instr, a_register, a_field, a_flag, fresh_for, in_register, in_field}
+use Rattle.lower_base.specs.Constants.{word_in}
 use Rattle.lower_base.specs.Layouts.{Layout, field_of, first_named, layout_of}
 use Rattle.lower_comm.specs.Messages.{located, checked_grid, communicated}
 use Rattle.lower_comm.specs.News.{goes_by_news}
@@ -40,6 +41,7 @@ use Rattle.lower_expr.specs.declared.steps.Right.TheVariants as R
 use Rattle.lower_expr.specs.Frames.{called}
 use Rattle.lower_expr.specs.Lengths.{is_send, length_of, arm_length_of, tested_length}
 use Rattle.lower_expr.specs.Operands.{is_plus, is_quiet, are_quiet, all_quiet, operand_by, operand_length}
+use Rattle.lower_expr.specs.Positions.{known_position}
 use Rattle.lower_expr.specs.Spots.{variable_spot, index_checked, loaded, stored}
 use Rattle.lower_expr.specs.Steps.{is_kept, has_truth, word_for, word_put, word_of, word_taken, constant_in, put_test, converted_in_place, put_value, operated, right_operated, in_a_field, negated, pieces_printed, assigned_signed}
 
@@ -94,10 +96,10 @@ casts_put [] r d = d
 casts_put (kind ∷ inner) r d = with_instr (I.FrontConvert r r kind) (casts_put inner r d)
 
 -- a unary operator; `+` has no code
-unfoldable pub unary_by : ValueType → UnaryOp → Code → Code → Draft → Made Out
-unary_by ty op code operand d =
+unfoldable pub unary_by : Layout → ValueType → UnaryOp → Code → Code → Draft → Made Out
+unary_by l ty op code operand d =
     if is_plus op then code d
-    else then_make (fresh_for ty.shape d) (λ dest between. then_make (operand between) (λ v after. negated op dest v after))
+    else then_make (fresh_for ty.shape d) (λ dest between. then_make (operand between) (λ v after. negated l op dest v after))
 
 -- a binary operator on registers, and one on fields: its last instruction writes the result, and a
 -- scalar operand that the operation does not take is spread into the spare field
@@ -245,10 +247,13 @@ element_spot t l ty place array index d =
     then_make (index d) (λ v between. in_register v (λ r.
     then_make (index_checked t l array (unwrap_or ty.shape 0) place r between) (λ _ after. Makes (S.Element array r) after)))
 
-unfoldable pub indexed_spot : TExpr → Codes → Draft → Made Spot
-indexed_spot e indexes d =
-    then_make (fresh_for (type_of e).shape d) (λ at begun. then_make (indexes [] begun) (λ parts between.
-    then_make (located e parts at between) (λ out after. Makes (S.Indexed out) after)))
+unfoldable pub indexed_spot : Typed → Layout → TExpr → Codes → Draft → Made Spot
+indexed_spot t l e indexes d =
+    elim (known_position t e) [
+      | Some position ↦ then_make (word_in l position d) (λ r after. Makes (S.Indexed (O.Scalar r)) after)
+      | None ↦ then_make (fresh_for (type_of e).shape d) (λ at begun. then_make (indexes [] begun) (λ parts between.
+          then_make (located e parts at between) (λ out after. Makes (S.Indexed out) after)))
+    ]
 
 -- the value at a spot, and that of a get by NEWS, to a register or a field
 unfoldable pub read_to : Typed → Layout → TExpr → (Draft → Made Spot) → Out → Draft → Made Out
@@ -327,18 +332,18 @@ unfoldable pub step_operation : StepOp → Operation
 step_operation Sp.Increment = Act.SAdd
 step_operation Sp.Decrement = Act.SSubtract
 
-unfoldable pub stepped_once : StepOp → Out → Out → Draft → Made Out
-stepped_once op old (O.Scalar dest) d =
-    in_register old (λ r. Makes (O.Scalar dest)
-    (with_instr (I.FrontOperate (step_operation op) dest r dest) (with_instr (I.FrontConst dest 1) d)))
-stepped_once op old (O.Field dest) d =
+unfoldable pub stepped_once : Layout → StepOp → Out → Out → Draft → Made Out
+stepped_once l op old (O.Scalar dest) d =
+    in_register old (λ r. then_make (word_in l 1 d)
+    (λ one after. Makes (O.Scalar dest) (with_instr (I.FrontOperate (step_operation op) dest r one) after)))
+stepped_once l op old (O.Field dest) d =
     in_field old (λ f. Makes (O.Field dest) (with_instr (I.OperateConstant (step_operation op) dest f (K.Imm 1)) d))
-stepped_once op old O.Nothing d = Fails
+stepped_once l op old O.Nothing d = Fails
 
 -- a step at a spot, from the old value to the new one
 unfoldable pub stepped_at : Typed → Layout → TExpr → StepOp → TExpr → Spot → Out → Out → Draft → Made Out
 stepped_at t l e op target there old new d =
-    then_make (loaded t l target there old d) (λ _ begun. then_make (stepped_once op old new begun) (λ _ between.
+    then_make (loaded t l target there old d) (λ _ begun. then_make (stepped_once l op old new begun) (λ _ between.
     then_make (converted_in_place new (type_of target).elem between) (λ _ after. stored t l e there new after)))
 
 unfoldable pub stepped_in : Typed → Layout → TExpr → StepOp → StepOrder → TExpr → Spot → Out → Out → Draft → Made Out
@@ -369,7 +374,7 @@ unfoldable pub condition_by : Typed → Layout → Code → Test → TExpr → C
 condition_by t l code truth e = record {
   kept = is_kept e;
   code = operand_by t l code true e;
-  long = operand_length (length_of t l e) true e;
+  long = operand_length l (length_of t l e) true e;
   test = tested_by (has_truth e) truth (operand_by t l code true e);
   tested_long = tested_length t l e;
 }
@@ -394,7 +399,7 @@ unfoldable mutual
       (λ dest after. binary_at dest op (is_signed (type_of left).elem) place
       (operand_by t l (value_of t l left) (is_quiet right) left) left (operand_by t l (value_of t l right) true right) right after)
   value_of t l (T.Unary' ty op p operand) d =
-      unary_by ty op (value_of t l operand) (operand_by t l (value_of t l operand) true operand) d
+      unary_by l ty op (value_of t l operand) (operand_by t l (value_of t l operand) true operand) d
   value_of t l (T.Step' ty op order p target) d =
       step_by t l (T.Step' ty op order p target) op order target (spot_of t l target) d
   value_of t l (T.Reduce' ty op p operand) d =
@@ -415,7 +420,7 @@ unfoldable mutual
       then_make (fresh_for ty.shape d) (λ dest begun. call_to t l instance (values_of t l (are_quiet arguments) arguments) dest begun)
   value_of t l (T.LeftIndex' ty place p indexes x of) d =
       index_read_by t l (T.LeftIndex' ty place p indexes x of) ty
-      (indexed_spot (T.LeftIndex' ty place p indexes x of) (values_of t l (are_quiet indexes) indexes)) d
+      (indexed_spot t l (T.LeftIndex' ty place p indexes x of) (values_of t l (are_quiet indexes) indexes)) d
   value_of t l (T.Pcoord ty axis) d = coordinate_in ty.shape axis d
   value_of t l (T.PositionsOf ty shape value) d = constant_in value d
   value_of t l (T.RankOf ty shape value) d = constant_in value d
@@ -445,7 +450,7 @@ unfoldable mutual
   spot_of t l (T.Variable ty x) d = Makes (variable_spot l ty x) d
   spot_of t l (T.Element' ty place array p index) d = element_spot t l ty place array (value_of t l index) d
   spot_of t l (T.LeftIndex' ty place p indexes x of) d =
-      indexed_spot (T.LeftIndex' ty place p indexes x of) (values_of t l (are_quiet indexes) indexes) d
+      indexed_spot t l (T.LeftIndex' ty place p indexes x of) (values_of t l (are_quiet indexes) indexes) d
   spot_of t l _ d = Fails
 
   -- the values of a list of expressions, behind those that there are; whether all are quiet is told
@@ -518,6 +523,6 @@ spread_of t l e set d = spread_by (value_of t l e) e set d
 unfoldable pub expression_of : Typed → List ℕ → TExpr → Draft → Made Out
 expression_of t name e d =
     from (first_named 0 name t.instances.items) (λ n. elim (type_of e).shape [
-      | None ↦ value_of t (layout_of t n) e d
-      | Some set ↦ spread_of t (layout_of t n) e set d
+      | None ↦ value_of t (layout_of t [] n) e d
+      | Some set ↦ spread_of t (layout_of t [] n) e set d
     ])

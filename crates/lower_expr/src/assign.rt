@@ -136,28 +136,34 @@ fn step_at(
     ensures draft { OnOk result (stepped_at view.now.typed.now (layout view.now.names) located.now.whole.now op located.now.target.now located.now.spot (out_of before) (out_of behind) (draft u.old) ≡ Makes (out_of behind) (draft u.new)) }
 {
     load(view, located.target, located.spot, before, u)?;
-    step_once(op, before, behind, u)?;
+    step_once(view, op, before, behind, u)?;
     convert(behind, located.target.ty().elem, u)?;
     store(view, located.whole, located.spot, behind, u)
 }
 
 /// One more or one less.
-#[tactic(auto, unfolding(crate::specs::Values::stepped_once, lower_base::specs::Drafts::in_register, lower_base::specs::Drafts::in_field))]
-fn step_once(op: StepOp, before: Operand, behind: Operand, u: &mut Unit) -> Result<(), Memory>
-    ensures draft { OnOk result (stepped_once op (out_of before) (out_of behind) (draft u.old) ≡ Makes (out_of behind) (draft u.new)) }
+#[tactic(auto, unfolding(crate::specs::Values::stepped_once, lower_base::specs::Drafts::then_make, lower_base::specs::Drafts::in_register, lower_base::specs::Drafts::in_field))]
+fn step_once(
+    view: &View,
+    op: StepOp,
+    before: Operand,
+    behind: Operand,
+    u: &mut Unit,
+) -> Result<(), Memory>
+    ensures draft { OnOk result (stepped_once (layout view.now.names) op (out_of before) (out_of behind) (draft u.old) ≡ Makes (out_of behind) (draft u.new)) }
 {
     let op = step_operation(op);
     match behind {
         Operand::Register(dest) => {
             let left = before.register()?;
-            put(u, Instr::FrontConst { dest, value: 1 })?;
+            let right = view.word(1, u)?;
             put(
                 u,
                 Instr::FrontOperate {
                     op,
                     dest,
                     left,
-                    right: dest,
+                    right,
                 },
             )
         }

@@ -15,7 +15,7 @@ use std::alloc::Global;
 
 /// Appends the code of one expression, and answers where its value is: in a field where the
 /// expression is parallel, else in a register, or nowhere where it has none. The numbering of the
-/// variables is that of the first instance with the unit's name.
+/// variables is that of the first instance with the unit's name, and no constant stands in a register.
 ///
 /// `Memory` comes where memory ends, where a count, the place that a jump leads to, or the number of
 /// a register or a field would be 2^32 or more, and where the tree is not what typing makes.
@@ -25,7 +25,7 @@ pub fn expr(alloc: Global, t: &Typed, e: &TExpr, u: &mut Unit) -> Result<Out, Me
     requires instance { IsSome (first_named 0 u.old.name t.now.instances.items) }
     ensures draft { IfOk result (λ out. expression_of t.now u.old.name e.now (draft u.old) ≡ Makes out (draft u.new)) }
 {
-    let mut view = View::of(alloc, t)?;
+    let mut view = View::of(alloc, t, Vec::new(alloc))?;
     let Some(instance) = named(t, u.name.bytes()) else {
         unreachable!()
     };

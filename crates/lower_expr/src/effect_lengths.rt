@@ -1,7 +1,7 @@
 //! How many instructions an expression compiles to whose value goes to a variable, decides where a
 //! context is narrowed, or is not used.
 
-ghost use Rattle.std.specs.Prelude.{◌≡◌, ◌≤◌, true, is_none, IfOk};
+ghost use Rattle.std.specs.Prelude.{◌≡◌, true, is_none, IfOk};
 ghost use Rattle.cstar_tree.specs.Typed.{type_of};
 ghost use Rattle.lower_base.specs.Layouts.{layout};
 ghost use Rattle.lower_expr.specs.Effects.{assigned_length, assignment_length, computed_length, effect_length_of, narrowed_length, operated_length, put_length, settled_length, stepped_length};
@@ -42,7 +42,7 @@ pub fn effect_length(view: &View, e: &TExpr) -> Result<u32, Memory>
             let Some(own) = own_of(target) else {
                 return length(view, e);
             };
-            Ok(stepped_length(own.shape.is_none(), target.ty().elem))
+            stepped_length(view, own.shape.is_none(), target.ty().elem)
         }
         _ => length(view, e),
     }
@@ -65,17 +65,20 @@ fn assigned_length(
 }
 
 /// A step that writes its variable itself.
-fn stepped_length(scalar: bool, elem: Elem) -> u32
-    ensures { result ≡ stepped_length scalar elem }
+fn stepped_length(view: &View, scalar: bool, elem: Elem) -> Result<u32, Memory>
+    ensures { IfOk result (λ n. n ≡ stepped_length (layout view.now.names) scalar elem) }
 {
-    if scalar { 2 + settled_length(elem) } else { 1 }
+    if scalar {
+        plus(plus(view.word_length(1)?, 1)?, settled_length(elem))
+    } else {
+        Ok(1)
+    }
 }
 
 /// The instruction that converts what was written into a variable of a narrow type.
 #[tactic(auto, unfolding(crate::specs::Effects::settled_length))]
 fn settled_length(elem: Elem) -> u32
-    ensures outcome { result ≡ settled_length elem }
-    ensures most { result ≤ 1 }
+    ensures { result ≡ settled_length elem }
 {
     if elem.bits == 32 { 0 } else { 1 }
 }
@@ -139,6 +142,7 @@ fn computed_length(view: &View, scalar: bool, e: &TExpr) -> Result<u32, Memory>
         TExpr::Binary { .. }
         | TExpr::Element { .. }
         | TExpr::LeftIndex { .. }
+        | TExpr::Reduce { .. }
         | TExpr::Scan { .. }
         | TExpr::Call { .. } => length(view, e),
         TExpr::Choice { test, .. } => {

@@ -12,7 +12,7 @@ use crate::assign::step_operation;
 use crate::operands::{Own, is_plus, own_of, standing};
 use crate::parts::{Assignment, Binary, Choice, Operator};
 use crate::steps::{
-    assign_signed, constant, operate, operate_right, put_word, set, stays_scalar, unary, word_for,
+    assign_signed, operate, operate_right, put_word, set, stays_scalar, unary, word_for,
 };
 use crate::value::{
     binary_in_field, binary_in_register, call_to, message_to, operand, read_indexed_to, read_to,
@@ -54,7 +54,7 @@ pub fn effect(view: &View, e: &TExpr, u: &mut Unit) -> Result<Out, Memory>
                 return value(view, e, u);
             };
             let dest = standing(view, own, u)?;
-            step_variable(target.ty().elem, *op, dest, u)?;
+            step_variable(view, target.ty().elem, *op, dest, u)?;
             Ok(dest.out())
         }
         _ => value(view, e, u),
@@ -197,7 +197,7 @@ fn compute_to(view: &View, dest: Operand, e: &TExpr, u: &mut Unit) -> Result<(),
                 return compute_to(view, dest, inner, u);
             }
             let v = operand(view, true, inner, u)?;
-            unary(*op, dest, v, u)
+            unary(view, *op, dest, v, u)
         }
         TExpr::Binary {
             place,
@@ -249,7 +249,11 @@ fn compute_to(view: &View, dest: Operand, e: &TExpr, u: &mut Unit) -> Result<(),
             read_indexed_to(view, e, dest, u)?;
             Ok(())
         }
-        TExpr::Scan { source, .. } => {
+        TExpr::Reduce {
+            operand: source,
+            ..
+        }
+        | TExpr::Scan { source, .. } => {
             message_to(view, e, source, dest, u)?;
             Ok(())
         }
@@ -404,14 +408,20 @@ fn operate_field(
 }
 
 /// A step of a variable.
-#[tactic(auto, unfolding(crate::specs::Effects::variable_stepped, crate::specs::Steps::constant_in, lower_base::specs::Drafts::then_make))]
-fn step_variable(elem: Elem, op: StepOp, dest: Operand, u: &mut Unit) -> Result<(), Memory>
-    ensures draft { OnOk result (variable_stepped elem op (out_of dest) (draft u.old) ≡ Makes (out_of dest) (draft u.new)) }
+#[tactic(auto, unfolding(crate::specs::Effects::variable_stepped, lower_base::specs::Drafts::then_make))]
+fn step_variable(
+    view: &View,
+    elem: Elem,
+    op: StepOp,
+    dest: Operand,
+    u: &mut Unit,
+) -> Result<(), Memory>
+    ensures draft { OnOk result (variable_stepped (layout view.now.names) elem op (out_of dest) (draft u.old) ≡ Makes (out_of dest) (draft u.new)) }
 {
     let op = step_operation(op);
     match dest {
         Operand::Register(left) => {
-            let right = constant(1, u)?;
+            let right = view.word(1, u)?;
             let written = written_register(elem, left, u)?;
             put(
                 u,

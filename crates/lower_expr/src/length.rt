@@ -1,14 +1,15 @@
 //! How many instructions an expression compiles to. Jumps are written once, since the lengths of
 //! what they pass over are known beforehand.
 
-ghost use Rattle.std.specs.Prelude.{◌≡◌, ◌+◌, true, IfOk, slice_get};
+ghost use Rattle.std.specs.Prelude.{◌≡◌, true, IfOk, slice_get};
 ghost use Rattle.lower_base.specs.Layouts.{layout};
 ghost use Rattle.lower_expr.specs.Operands.{all_quiet, operand_length};
 ghost use Rattle.lower_expr.specs.Steps.{has_truth, is_kept};
-ghost use Rattle.lower_expr.specs.Lengths.{arm_length_of, compared_length, tested_length, truth_length_of, conversion_length, unary_length, operate_length, logical_length, spread_length, right_length, binary_length, spare_length, choice_length, step_once_length, params_length, news_move, is_checked, news_length, read_length, four_times, load_length, store_length, send_length, set_length, compound_length, assign_length, step_length, reduce_length, call_length, length_of, spot_length_of, lengths_in};
+ghost use Rattle.lower_expr.specs.Lengths.{arm_length_of, compared_length, tested_length, truth_length_of, conversion_length, unary_length, operate_length, logical_length, spread_length, right_length, binary_length, spare_length, choice_length, step_once_length, params_length, news_move, is_checked, located_length, moves_length, news_length, read_length, elements_length, index_check_length, load_length, store_length, send_length, set_length, compound_length, assign_length, step_length, reduce_length, call_length, length_of, spot_length_of, lengths_in};
 
 use crate::assign::is_send;
-use crate::operands::{are_quiet, in_place, is_plus, is_quiet};
+use crate::operands::{are_quiet, held, in_place, is_plus, is_quiet};
+use crate::positions::known_position;
 use crate::spots::bare;
 use crate::steps::{constant_word, has_truth, has_word, immediate, is_relation, stays_scalar};
 use cstar_base::{Elem, Memory, Op};
@@ -49,16 +50,21 @@ pub fn length(view: &View, e: &TExpr) -> Result<u32, Memory>
             plus(n, conversion(false, ty.elem))
         }
         TExpr::Unary { op, operand, .. } => {
-            let n = used_length(view, !is_plus(*op), operand)?;
-            plus(n, unary_length(*op, stays_scalar(operand)))
+            let n = if is_plus(*op) {
+                length(view, operand)?
+            } else {
+                used_length(view, true, operand)?
+            };
+            plus(n, unary_length(view, *op, stays_scalar(operand))?)
         }
         TExpr::Reduce { op, operand, .. } => {
             plus(used_length(view, true, operand)?, reduce_length(*op))
         }
         TExpr::Scan { source, .. } => plus(used_length(view, true, source)?, 1),
         TExpr::Element { array, index, .. } => {
-            let located = plus(length(view, index)?, 5)?;
-            plus(located, times_four(view.elements(*array))?)
+            let elements = view.elements(*array);
+            let located = plus(length(view, index)?, index_check_length(view, elements)?)?;
+            plus(located, elements_length(view, elements)?)
         }
         TExpr::Binary {
             ty,
@@ -110,9 +116,9 @@ pub fn length(view: &View, e: &TExpr) -> Result<u32, Memory>
             ..
         } => {
             if goes_by_news(e) {
-                return news_length(*of, indexes.as_slice());
+                return news_length(*of, ty.elem, indexes.as_slice());
             }
-            let located = located_length(view, indexes.as_slice())?;
+            let located = located_length(view, indexes.as_slice(), e)?;
             plus(located, read_length(*ty))
         }
         TExpr::Call {
@@ -140,8 +146,11 @@ pub fn length(view: &View, e: &TExpr) -> Result<u32, Memory>
 #[cycle(length)]
 #[tactic(auto, unfolding(crate::specs::Operands::operand_length))]
 pub fn used_length(view: &View, quiet: bool, e: &TExpr) -> Result<u32, Memory>
-    ensures { IfOk result (λ n. n ≡ operand_length (length_of view.now.typed.now (layout view.now.names) e.now) quiet e.now) }
+    ensures { IfOk result (λ n. n ≡ operand_length (layout view.now.names) (length_of view.now.typed.now (layout view.now.names) e.now) quiet e.now) }
 {
+    if held(view, e)?.is_some() {
+        return Ok(0);
+    }
     match in_place(quiet, e) {
         Some(_) => Ok(0),
         None => length(view, e),
@@ -152,7 +161,7 @@ pub fn used_length(view: &View, quiet: bool, e: &TExpr) -> Result<u32, Memory>
 #[cycle(length)]
 #[tactic(auto, unfolding(crate::specs::Lengths::logical_length, crate::specs::Lengths::tested_length))]
 fn logical_length(view: &View, scalar: bool, left: &TExpr, right: &TExpr) -> Result<u32, Memory>
-    ensures { IfOk result (λ n. n ≡ logical_length scalar (is_kept left.now) (is_kept right.now) (operand_length (length_of view.now.typed.now (layout view.now.names) left.now) true left.now) (operand_length (length_of view.now.typed.now (layout view.now.names) right.now) true right.now) (tested_length view.now.typed.now (layout view.now.names) left.now) (tested_length view.now.typed.now (layout view.now.names) right.now)) }
+    ensures { IfOk result (λ n. n ≡ logical_length scalar (is_kept left.now) (is_kept right.now) (operand_length (layout view.now.names) (length_of view.now.typed.now (layout view.now.names) left.now) true left.now) (operand_length (layout view.now.names) (length_of view.now.typed.now (layout view.now.names) right.now) true right.now) (tested_length view.now.typed.now (layout view.now.names) left.now) (tested_length view.now.typed.now (layout view.now.names) right.now)) }
 {
     if scalar {
         let operands = plus(
@@ -224,12 +233,17 @@ pub fn arm_length(view: &View, ty: ValueType, e: &TExpr) -> Result<u32, Memory>
     }
 }
 
-/// The indexes of a left index, their range check, and the address.
+/// What locates a left index by these indexes: their codes, their range check, and the address, or
+/// the position where it is known.
 #[cycle(length)]
-fn located_length(view: &View, indexes: &[TExpr]) -> Result<u32, Memory>
-    ensures { IfOk result (λ n. n ≡ 2 + lengths_in view.now.typed.now (layout view.now.names) (all_quiet indexes.now) indexes.now) }
+#[tactic(auto, unfolding(crate::specs::Lengths::located_length))]
+fn located_length(view: &View, indexes: &[TExpr], e: &TExpr) -> Result<u32, Memory>
+    ensures { IfOk result (λ n. n ≡ located_length view.now.typed.now (layout view.now.names) e.now (lengths_in view.now.typed.now (layout view.now.names) (all_quiet indexes.now) indexes.now)) }
 {
-    plus(2, list_length(view, indexes)?)
+    match known_position(view, e)? {
+        Some(position) => view.word_length(position),
+        None => plus(2, list_length(view, indexes)?),
+    }
 }
 
 /// The instructions of a list of values.
@@ -262,8 +276,11 @@ fn spot_length(view: &View, e: &TExpr) -> Result<u32, Memory>
 {
     match e {
         TExpr::Brackets { inner, .. } => spot_length(view, inner),
-        TExpr::Element { index, .. } => plus(length(view, index)?, 5),
-        TExpr::LeftIndex { indexes, .. } => located_length(view, indexes.as_slice()),
+        TExpr::Element { array, index, .. } => {
+            let elements = view.elements(*array);
+            plus(length(view, index)?, index_check_length(view, elements)?)
+        }
+        TExpr::LeftIndex { indexes, .. } => located_length(view, indexes.as_slice(), e),
         TExpr::Variable { .. }
         | TExpr::Assign { .. }
         | TExpr::Choice { .. }
@@ -364,13 +381,19 @@ pub fn conversion(scalar: bool, elem: Elem) -> u32
 }
 
 #[tactic(auto, unfolding(crate::specs::Lengths::unary_length))]
-fn unary_length(op: UnaryOp, scalar: bool) -> u32
-    ensures { result ≡ unary_length op scalar }
+fn unary_length(view: &View, op: UnaryOp, scalar: bool) -> Result<u32, Memory>
+    ensures { IfOk result (λ n. n ≡ unary_length (layout view.now.names) op scalar) }
 {
     match op {
-        UnaryOp::Plus => 0,
-        UnaryOp::Minus | UnaryOp::Complement => 1,
-        UnaryOp::Not => if scalar { 2 } else { 3 },
+        UnaryOp::Plus => Ok(0),
+        UnaryOp::Minus | UnaryOp::Complement => Ok(1),
+        UnaryOp::Not => {
+            if scalar {
+                plus(view.word_length(0)?, 1)
+            } else {
+                Ok(3)
+            }
+        }
     }
 }
 
@@ -422,8 +445,8 @@ fn compared_length(n: u32, op: Op, e: &TExpr) -> Result<u32, Memory>
 
 /// A get by NEWS.
 #[tactic(auto, unfolding(crate::specs::Lengths::news_length, crate::specs::Lengths::news_moves, crate::specs::Lengths::news_checked))]
-fn news_length(of: u16, indexes: &[TExpr]) -> Result<u32, Memory>
-    ensures { IfOk result (λ n. n ≡ news_length of indexes.now) }
+fn news_length(of: u16, elem: Elem, indexes: &[TExpr]) -> Result<u32, Memory>
+    ensures { IfOk result (λ n. n ≡ news_length of elem indexes.now) }
 {
     let mut moves = 0u32;
     let mut is_checked = false;
@@ -432,7 +455,19 @@ fn news_length(of: u16, indexes: &[TExpr]) -> Result<u32, Memory>
         moves = plus(moves, news_move(step))?;
         is_checked = is_checked || news_checked(step);
     }
-    plus(plus(moves, 1)?, if is_checked { 1 } else { 0 })
+    plus(moves_length(elem, moves)?, if is_checked { 1 } else { 0 })
+}
+
+/// So many moves, and that of what was got, where the last of them does not go to its destination.
+#[tactic(auto, unfolding(crate::specs::Lengths::moves_length))]
+fn moves_length(elem: Elem, moves: u32) -> Result<u32, Memory>
+    ensures { IfOk result (λ n. n ≡ moves_length elem moves) }
+{
+    if moves != 0 && elem.bits == 32 {
+        Ok(moves)
+    } else {
+        plus(moves, 1)
+    }
 }
 
 /// The move of a step along an axis.
@@ -463,7 +498,7 @@ fn load_length(view: &View, target: &TExpr) -> Result<u32, Memory>
     ensures { IfOk result (λ n. n ≡ load_length view.now.typed.now (layout view.now.names) target.now) }
 {
     match bare(target) {
-        TExpr::Element { array, .. } => times_four(view.elements(*array)),
+        TExpr::Element { array, .. } => elements_length(view, view.elements(*array)),
         TExpr::LeftIndex { ty, .. } => Ok(read_length(*ty)),
         _ => Ok(1),
     }
@@ -487,17 +522,29 @@ fn store_length(view: &View, target: &TExpr) -> Result<u32, Memory>
     ensures { IfOk result (λ n. n ≡ store_length view.now.typed.now (layout view.now.names) target.now) }
 {
     match bare(target) {
-        TExpr::Element { array, .. } => times_four(view.elements(*array)),
+        TExpr::Element { array, .. } => elements_length(view, view.elements(*array)),
         _ => Ok(1),
     }
 }
 
-#[tactic(auto, unfolding(crate::specs::Lengths::four_times))]
-fn times_four(n: u32) -> Result<u32, Memory>
-    ensures { IfOk result (λ m. m ≡ four_times n) }
+/// The elements of an array: for each its number, a test, a jump and a move.
+#[tactic(auto, using(crate::proofs::Elements::one_counted, crate::proofs::Elements::none_counted))]
+fn elements_length(view: &View, elements: u32) -> Result<u32, Memory>
+    ensures { IfOk result (λ n. n ≡ elements_length (layout view.now.names) elements 0) }
 {
-    let twice = plus(n, n)?;
-    plus(twice, twice)
+    let mut sum = 0;
+    for element in 0..elements {
+        sum = plus(sum, plus(view.word_length(element)?, 3)?)?;
+    }
+    Ok(sum)
+}
+
+/// The range check of the index of an array with so many elements.
+#[tactic(auto, unfolding(crate::specs::Lengths::index_check_length))]
+fn index_check_length(view: &View, elements: u32) -> Result<u32, Memory>
+    ensures { IfOk result (λ n. n ≡ index_check_length (layout view.now.names) elements) }
+{
+    plus(view.word_length(elements)?, 4)
 }
 
 /// An assignment, by the lengths of its target and of its value.
@@ -521,7 +568,7 @@ fn assign_length(
         None => set_length(ty.shape.is_none(), stored, n, value),
         Some(op) => {
             let both = plus(stored, load_length(view, target)?)?;
-            let n = if in_place(true, value).is_some() {
+            let n = if held(view, value)?.is_some() || in_place(true, value).is_some() {
                 0
             } else {
                 n
@@ -586,7 +633,7 @@ fn step_length(view: &View, target: &TExpr, there: u32) -> Result<u32, Memory>
 {
     let ty = target.ty();
     let own = plus(
-        step_once_length(ty.shape.is_none()),
+        step_once_length(view, ty.shape.is_none())?,
         conversion(ty.shape.is_none(), ty.elem),
     )?;
     let loaded = load_length(view, target)?;
@@ -596,10 +643,14 @@ fn step_length(view: &View, target: &TExpr, there: u32) -> Result<u32, Memory>
 
 /// One more or one less.
 #[tactic(auto, unfolding(crate::specs::Lengths::step_once_length))]
-fn step_once_length(scalar: bool) -> u32
-    ensures { result ≡ step_once_length scalar }
+fn step_once_length(view: &View, scalar: bool) -> Result<u32, Memory>
+    ensures { IfOk result (λ n. n ≡ step_once_length (layout view.now.names) scalar) }
 {
-    if scalar { 2 } else { 1 }
+    if scalar {
+        plus(view.word_length(1)?, 1)
+    } else {
+        Ok(1)
+    }
 }
 
 /// A call beside its arguments: zeroing and copying, the turn, the call, and the result.

@@ -11,6 +11,7 @@ pub mod length;
 mod logical;
 pub mod operands;
 pub mod parts;
+mod positions;
 mod spots;
 pub mod steps;
 pub mod value;

@@ -1,10 +1,12 @@
-//! Operands that stand in a variable's own register or field, and when they may be used there.
+//! Operands that stand in a register or a field already, that of a constant or a variable's own, and
+//! when they may be used there.
 
 ghost use Rattle.std.specs.Prelude.{◌≡◌, IfOk};
 ghost use Rattle.lower_base.specs.Drafts.{Makes, draft, out_of};
 ghost use Rattle.lower_base.specs.Layouts.{layout};
-ghost use Rattle.lower_expr.specs.Operands.{all_quiet, in_place, is_plus, is_quiet, own_of, standing};
+ghost use Rattle.lower_expr.specs.Operands.{all_quiet, held, in_place, is_plus, is_quiet, own_of, standing};
 
+use crate::steps::register_word;
 use cstar_base::Memory;
 use cstar_tree::typed::{TExpr, UnaryOp, Variable};
 use lower_base::{Operand, View};
@@ -104,6 +106,17 @@ pub fn standing(view: &View, own: Own, u: &mut Unit) -> Result<Operand, Memory>
     match own.shape {
         None => Ok(Operand::Register(view.register(own.variable)?)),
         Some(_) => Ok(Operand::Field(view.field(own.variable, 0, u)?)),
+    }
+}
+
+/// The register in which the word of a scalar constant stands, if it is one of the program's.
+#[tactic(auto, unfolding(crate::specs::Operands::held))]
+pub fn held(view: &View, e: &TExpr) -> Result<Option<u32>, Memory>
+    ensures { IfOk result (λ r. r ≡ held (layout view.now.names) e.now) }
+{
+    match register_word(e) {
+        Some(word) => view.constant_register(word),
+        None => Ok(None),
     }
 }
 

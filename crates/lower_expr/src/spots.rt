@@ -85,7 +85,7 @@ fn load_elements(
     ensures draft { OnOk result (elements_loaded view.now.typed.now (layout view.now.names) signed array index dest (elements_of view.now.typed.now (layout view.now.names) array) 0 (draft u.old) ≡ Makes (O.Field dest) (draft u.new)) }
 {
     for element in 0..view.elements(array) {
-        skip_unless(index, element, u)?;
+        skip_unless(view, index, element, u)?;
         load_field(view, signed, array, element, dest, u)?;
     }
     Ok(())
@@ -120,7 +120,7 @@ fn store_elements(
     ensures draft { OnOk result (elements_stored view.now.typed.now (layout view.now.names) array index (out_of from) (elements_of view.now.typed.now (layout view.now.names) array) 0 (draft u.old) ≡ Makes (out_of from) (draft u.new)) }
 {
     for element in 0..view.elements(array) {
-        skip_unless(index, element, u)?;
+        skip_unless(view, index, element, u)?;
         store_field(view, array, element, from, u)?;
     }
     Ok(())
@@ -167,25 +167,19 @@ fn store_field(
 /// Jumps over the next instruction unless the index is this number; answers the register of the
 /// test.
 #[tactic(auto, unfolding(crate::specs::Spots::skips_unless, lower_base::specs::Drafts::then_make))]
-fn skip_unless(index: u32, number: u32, u: &mut Unit) -> Result<u32, Memory>
-    ensures draft { IfOk result (λ r. skips_unless index number (draft u.old) ≡ Makes r (draft u.new)) }
+fn skip_unless(view: &View, index: u32, number: u32, u: &mut Unit) -> Result<u32, Memory>
+    ensures draft { IfOk result (λ r. skips_unless (layout view.now.names) index number (draft u.old) ≡ Makes r (draft u.new)) }
 {
+    let right = view.word(number, u)?;
     let test = register(u)?;
-    let target = plus(here(u)?, 4)?;
-    put(
-        u,
-        Instr::FrontConst {
-            dest: test,
-            value: number,
-        },
-    )?;
+    let target = plus(here(u)?, 3)?;
     put(
         u,
         Instr::FrontCompare {
             relation: paris_code::Compare::UEq,
             dest: test,
             left: index,
-            right: test,
+            right,
         },
     )?;
     put(u, Instr::FrontJumpZero { test, target })?;
@@ -208,22 +202,16 @@ pub fn check_index(
     let Some(info) = view.typed.shapes.get(set as usize) else {
         return Err(Memory);
     };
+    let right = view.word(view.elements(array), u)?;
     let test = register(u)?;
-    let target = plus(here(u)?, 5)?;
-    put(
-        u,
-        Instr::FrontConst {
-            dest: test,
-            value: view.elements(array),
-        },
-    )?;
+    let target = plus(here(u)?, 4)?;
     put(
         u,
         Instr::FrontCompare {
             relation: paris_code::Compare::ULt,
             dest: test,
             left: index,
-            right: test,
+            right,
         },
     )?;
     put(u, Instr::FrontJumpNonzero { test, target })?;

@@ -3,7 +3,10 @@
 ghost use Rattle.std.specs.Prelude.{◌≡◌, false, IfOk, OnOk};
 ghost use Rattle.lower_base.specs.declared.emit.Out.TheVariants as O;
 ghost use Rattle.lower_base.specs.declared.operators.Machine.TheVariants as M;
-ghost use Rattle.lower_base.specs.Drafts.{Makes, draft, out_of};
+ghost use Rattle.lower_base.specs.Drafts.{Makes, draft, out_of, with_instr};
+ghost use Rattle.paris_code.specs.declared.instr.Instr.TheVariants as I;
+ghost use Rattle.paris_code.specs.declared.operands.Konst.TheVariants as K;
+ghost use Rattle.lower_base.specs.Layouts.{layout};
 ghost use Rattle.lower_expr.specs.Operands.{is_plus};
 ghost use Rattle.lower_expr.specs.Steps.{is_kept, negates, has_truth, has_word, word_for, word_put, register_word, word_of, relates, word_taken, constant_in, put_test, field_converted, converted_in_place, put_in_field, put_value, operated, fields_operated, right_operated, takes_word, in_a_field, register_negated, field_negated, negated, pieces_printed, assigned_signed};
 ghost use Rattle.lower_expr.specs.Values.{compared};
@@ -13,7 +16,7 @@ use cstar_base::{Elem, Memory, Op, numbers};
 use cstar_tree::typed::{Piece, TExpr, UnaryOp};
 use lower_base::emit::{flag, put};
 use lower_base::operators::{Machine, divides, machine_op, promoted_signed};
-use lower_base::{Operand, Out};
+use lower_base::{Operand, Out, View};
 use paris_code::{Compare, Field, Instr, Konst, Operation, Unit};
 use source_meaning::constant as constant_value;
 use std::alloc::Global;
@@ -439,6 +442,15 @@ fn takes_word(op: Op, word: Konst) -> bool
     }
 }
 
+/// A word at every position of a field.
+pub fn spread_word(word: u32, dest: Field, u: &mut Unit) -> Result<Field, Memory>
+    ensures draft { IfOk result (λ f. Makes dest (with_instr (I.MoveConstant dest (K.Imm word)) (draft u.old)) ≡ Makes f (draft u.new)) }
+{
+    let value = Konst::Imm(word);
+    put(u, Instr::MoveConstant { dest, value })?;
+    Ok(dest)
+}
+
 /// An operand of a parallel operation as a field: a register is spread into `spare`.
 #[tactic(auto, unfolding(crate::specs::Steps::in_a_field))]
 pub fn as_field(v: Operand, spare: Field, u: &mut Unit) -> Result<Field, Memory>
@@ -461,14 +473,20 @@ pub fn as_field(v: Operand, spare: Field, u: &mut Unit) -> Result<Field, Memory>
 
 /// A unary operator other than `+`, which has no code.
 #[tactic(auto, unfolding(crate::specs::Steps::negated, lower_base::specs::Drafts::in_register, lower_base::specs::Drafts::in_field))]
-pub fn unary(op: UnaryOp, dest: Operand, v: Operand, u: &mut Unit) -> Result<(), Memory>
+pub fn unary(
+    view: &View,
+    op: UnaryOp,
+    dest: Operand,
+    v: Operand,
+    u: &mut Unit,
+) -> Result<(), Memory>
     requires { is_plus op ≡ false }
-    ensures draft { OnOk result (negated op (out_of dest) (out_of v) (draft u.old) ≡ Makes (out_of dest) (draft u.new)) }
+    ensures draft { OnOk result (negated (layout view.now.names) op (out_of dest) (out_of v) (draft u.old) ≡ Makes (out_of dest) (draft u.new)) }
 {
     match dest {
         Operand::Register(dest) => {
             let source = v.register()?;
-            unary_register(op, dest, source, u)
+            unary_register(view, op, dest, source, u)
         }
         Operand::Field(dest) => {
             let source = v.field()?;
@@ -477,17 +495,23 @@ pub fn unary(op: UnaryOp, dest: Operand, v: Operand, u: &mut Unit) -> Result<(),
     }
 }
 
-#[tactic(auto, unfolding(crate::specs::Operands::is_plus, crate::specs::Steps::register_negated, crate::specs::Steps::constant_in, lower_base::specs::Drafts::then_make))]
-fn unary_register(op: UnaryOp, dest: u32, source: u32, u: &mut Unit) -> Result<(), Memory>
+#[tactic(auto, unfolding(crate::specs::Operands::is_plus, crate::specs::Steps::register_negated, lower_base::specs::Drafts::then_make))]
+fn unary_register(
+    view: &View,
+    op: UnaryOp,
+    dest: u32,
+    source: u32,
+    u: &mut Unit,
+) -> Result<(), Memory>
     requires { is_plus op ≡ false }
-    ensures draft { OnOk result (register_negated op dest source (draft u.old) ≡ Makes (O.Scalar dest) (draft u.new)) }
+    ensures draft { OnOk result (register_negated (layout view.now.names) op dest source (draft u.old) ≡ Makes (O.Scalar dest) (draft u.new)) }
 {
     match op {
         UnaryOp::Plus => unreachable!(),
         UnaryOp::Minus => put(u, Instr::FrontNegate { dest, source }),
         UnaryOp::Complement => put(u, Instr::FrontLognot { dest, source }),
         UnaryOp::Not => {
-            let zero = constant(0, u)?;
+            let zero = view.word(0, u)?;
             put(
                 u,
                 Instr::FrontCompare {

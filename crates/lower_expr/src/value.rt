@@ -19,13 +19,14 @@ use crate::frames::enter;
 use crate::leaves::{cast_all, coordinate, news_to, next_byte, right_value};
 use crate::length::{arm_length, test_length, used_length};
 use crate::logical::{decide, end_logical, jump_to_end, limit, narrow, turn_over};
-use crate::operands::{are_quiet, in_place, is_plus, is_quiet, standing};
+use crate::operands::{are_quiet, held, in_place, is_plus, is_quiet, standing};
 use crate::parts::{Assignment, Binary, Choice, Operator};
+use crate::positions::known_position;
 use crate::spots::{Spot, check_index, load, store};
 use crate::steps::{
     Right, as_field, assign_signed, compare, constant, constant_word, convert, has_truth,
-    immediate, operate, operate_right, print_pieces, put_word, set, stays_scalar, test_value,
-    unary, word_for,
+    immediate, operate, operate_right, print_pieces, put_word, set, spread_word, stays_scalar,
+    test_value, unary, word_for,
 };
 use cstar_base::{Memory, Op};
 use cstar_tree::syntax::StepOp;
@@ -39,15 +40,27 @@ use paris_code::{Field, Instr, Konst, Unit};
 
 /// The value of a parallel expression in a field, that of a promoted scalar too.
 #[cycle(value)]
-#[tactic(auto, unfolding(crate::specs::Values::spread_of, crate::specs::Values::spread_by, crate::specs::Values::spread_into, crate::specs::Operands::operand_by, crate::specs::Operands::in_place, lower_base::specs::Drafts::then_make))]
+#[tactic(auto, unfolding(crate::specs::Values::spread_of, crate::specs::Values::spread_by, lower_base::specs::Drafts::then_make))]
 pub fn spread(view: &View, e: &TExpr, shape: u16, u: &mut Unit) -> Result<Operand, Memory>
     ensures draft { IfOk result (λ v. spread_of view.now.typed.now (layout view.now.names) e.now shape (draft u.old) ≡ Makes (out_of v) (draft u.new)) }
 {
     if stays_scalar(e) {
         let dest = field(u, shape)?;
-        Ok(Operand::Field(spread_to(view, false, e, dest, u)?))
+        Ok(Operand::Field(spread_value(view, e, dest, u)?))
     } else {
         value(view, e, u)?.operand()
+    }
+}
+
+/// A value that stands in a register, spread into `dest`.
+#[cycle(value)]
+#[tactic(auto, unfolding(crate::specs::Values::spread_into, lower_base::specs::Drafts::then_make))]
+fn spread_value(view: &View, e: &TExpr, dest: Field, u: &mut Unit) -> Result<Field, Memory>
+    ensures draft { IfOk result (λ f. spread_into (value_of view.now.typed.now (layout view.now.names) e.now) e.now dest (draft u.old) ≡ Makes f (draft u.new)) }
+{
+    match constant_word(e) {
+        Some(word) => spread_word(word, dest, u),
+        None => as_field(value(view, e, u)?.operand()?, dest, u),
     }
 }
 
@@ -64,11 +77,7 @@ pub fn spread_to(
     ensures draft { IfOk result (λ f. spread_into (operand_by view.now.typed.now (layout view.now.names) (value_of view.now.typed.now (layout view.now.names) e.now) quiet e.now) e.now dest (draft u.old) ≡ Makes f (draft u.new)) }
 {
     match constant_word(e) {
-        Some(word) => {
-            let value = Konst::Imm(word);
-            put(u, Instr::MoveConstant { dest, value })?;
-            Ok(dest)
-        }
+        Some(word) => spread_word(word, dest, u),
         None => as_field(operand(view, quiet, e, u)?, dest, u),
     }
 }
@@ -85,13 +94,16 @@ pub fn right_operand(view: &View, op: Op, e: &TExpr, u: &mut Unit) -> Result<Rig
     }
 }
 
-/// The value of an operand: a variable is used where it stands if all is quiet that is evaluated
-/// before its use.
+/// The value of an operand: a constant is used where it stands, and a variable too if all is quiet that
+/// is evaluated before its use.
 #[cycle(value)]
 #[tactic(auto, unfolding(crate::specs::Operands::operand_by))]
 pub fn operand(view: &View, quiet: bool, e: &TExpr, u: &mut Unit) -> Result<Operand, Memory>
     ensures draft { IfOk result (λ v. operand_by view.now.typed.now (layout view.now.names) (value_of view.now.typed.now (layout view.now.names) e.now) quiet e.now (draft u.old) ≡ Makes (out_of v) (draft u.new)) }
 {
+    if let Some(register) = held(view, e)? {
+        return Ok(Operand::Register(register));
+    }
     match in_place(quiet, e) {
         Some(own) => standing(view, own, u),
         None => value(view, e, u)?.operand(),
@@ -234,14 +246,14 @@ fn prefixed(
     inner: &TExpr,
     u: &mut Unit,
 ) -> Result<Out, Memory>
-    ensures draft { IfOk result (λ out. unary_by ty op (value_of view.now.typed.now (layout view.now.names) inner.now) (operand_by view.now.typed.now (layout view.now.names) (value_of view.now.typed.now (layout view.now.names) inner.now) true inner.now) (draft u.old) ≡ Makes out (draft u.new)) }
+    ensures draft { IfOk result (λ out. unary_by (layout view.now.names) ty op (value_of view.now.typed.now (layout view.now.names) inner.now) (operand_by view.now.typed.now (layout view.now.names) (value_of view.now.typed.now (layout view.now.names) inner.now) true inner.now) (draft u.old) ≡ Makes out (draft u.new)) }
 {
     if is_plus(op) {
         return value(view, inner, u);
     }
     let dest = fresh(ty, u)?;
     let v = operand(view, true, inner, u)?;
-    unary(op, dest, v, u)?;
+    unary(view, op, dest, v, u)?;
     Ok(dest.out())
 }
 
@@ -330,7 +342,7 @@ fn scalar_logical(
     right: &TExpr,
     u: &mut Unit,
 ) -> Result<Out, Memory>
-    ensures draft { IfOk result (λ out. scalar_logical_by is_or (operand_by view.now.typed.now (layout view.now.names) (value_of view.now.typed.now (layout view.now.names) left.now) true left.now) (operand_by view.now.typed.now (layout view.now.names) (value_of view.now.typed.now (layout view.now.names) right.now) true right.now) (operand_length (length_of view.now.typed.now (layout view.now.names) right.now) true right.now) (draft u.old) ≡ Makes out (draft u.new)) }
+    ensures draft { IfOk result (λ out. scalar_logical_by is_or (operand_by view.now.typed.now (layout view.now.names) (value_of view.now.typed.now (layout view.now.names) left.now) true left.now) (operand_by view.now.typed.now (layout view.now.names) (value_of view.now.typed.now (layout view.now.names) right.now) true right.now) (operand_length (layout view.now.names) (length_of view.now.typed.now (layout view.now.names) right.now) true right.now) (draft u.old) ≡ Makes out (draft u.new)) }
 {
     let dest = constant(u32::from(is_or), u)?;
     let a = operand(view, true, left, u)?;
@@ -599,12 +611,12 @@ fn locate(view: &View, e: &TExpr, u: &mut Unit) -> Result<Spot, Memory>
     }
 }
 
-/// Locates a left index by these indexes.
+/// Locates a left index by these indexes, or by its position where that is known.
 #[cycle(value)]
 #[tactic(auto, unfolding(crate::specs::Values::indexed_spot, lower_comm::specs::Messages::located, lower_comm::specs::Messages::is_left_index, lower_base::specs::Drafts::then_make))]
 fn locate_indexed(view: &View, indexes: &[TExpr], e: &TExpr, u: &mut Unit) -> Result<Spot, Memory>
     requires { is_left_index e.now ≡ true }
-    ensures draft { IfOk result (λ there. indexed_spot e.now (values_in view.now.typed.now (layout view.now.names) (all_quiet indexes.now) indexes.now) (draft u.old) ≡ Makes there (draft u.new)) }
+    ensures draft { IfOk result (λ there. indexed_spot view.now.typed.now (layout view.now.names) e.now (values_in view.now.typed.now (layout view.now.names) (all_quiet indexes.now) indexes.now) (draft u.old) ≡ Makes there (draft u.new)) }
 {
     let TExpr::LeftIndex {
         ty,
@@ -616,6 +628,10 @@ fn locate_indexed(view: &View, indexes: &[TExpr], e: &TExpr, u: &mut Unit) -> Re
     else {
         unreachable!()
     };
+    if let Some(position) = known_position(view, e)? {
+        let at = view.word(position, u)?;
+        return Ok(Spot::Indexed(Out::Scalar(at)));
+    }
     let at = fresh(*ty, u)?;
     let parts = values(view, are_quiet(indexes), indexes, u)?;
     let reference = Indexes {

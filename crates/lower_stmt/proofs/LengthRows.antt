@@ -1,5 +1,5 @@
 -- The statements of a block, as a list.
-use Rattle.std.proofs.Common.{◌≡◌, ℕ, ◌+◌, Bool, List, [], ◌∷◌, Vec, Global, refl, ap, ◌∙◌}
+use Rattle.std.proofs.Common.{◌≡◌, ℕ, ◌+◌, Bool, false, List, [], ◌∷◌, Vec, Global, refl, ap, ◌∙◌}
 use mathlib.Core.Former.{Count}
 use Rattle.cstar_tree.specs.declared.typed.LocalVar.{LocalVar}
 use Rattle.cstar_tree.specs.declared.typed.TStmt.{TStmt, Row_of-TStmt, end_of-TStmt, more_of-TStmt, items-the_row-TStmt, items_hidden-the_row-TStmt-0}
@@ -26,9 +26,9 @@ row_of _ = (_, end_of-TStmt)
 
 pub block_length : (t : Typed) (l : Layout) (has_result : Bool) (saved : Saved) (locals : Vec LocalVar Global) (statements : Vec TStmt Global) →
     statement_length_of t l has_result saved (S.Block locals statements)
-    ≡ locals_length_of t l locals.items + listed_length t l has_result saved statements.items
+    ≡ locals_length_of t l false locals.items + listed_length t l has_result saved statements.items
 unfolding statement_length_of statements_length_of
 block_length t l has_result saved locals statements =
     let row = row_of (S.Block locals statements) in
-    ap (λ k. locals_length_of t l locals.items + k)
+    ap (λ k. locals_length_of t l false locals.items + k)
     (as_list t l has_result saved row.0 row.1 ∙ ap (listed_length t l has_result saved) (items_hidden-the_row-TStmt-0 statements))

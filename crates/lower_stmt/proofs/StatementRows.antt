@@ -1,5 +1,5 @@
 -- The statements of a block, as a list.
-use Rattle.std.proofs.Common.{◌≡◌, ℕ, List, [], ◌∷◌, Vec, Global, refl, ap, ◌∙◌}
+use Rattle.std.proofs.Common.{◌≡◌, ℕ, false, List, [], ◌∷◌, Vec, Global, refl, ap, ◌∙◌}
 use mathlib.Core.Former.{Count}
 use Rattle.cstar_tree.specs.declared.typed.LocalVar.{LocalVar}
 use Rattle.cstar_tree.specs.declared.typed.TStmt.{TStmt, Row_of-TStmt, end_of-TStmt, more_of-TStmt, items-the_row-TStmt, items_hidden-the_row-TStmt-0}
@@ -9,13 +9,8 @@ use Rattle.paris_code.specs.declared.operands.Field.{Field}
 use Rattle.lower_base.specs.Drafts.{Draft, Made, Makes, Fails, then_make}
 use Rattle.lower_base.specs.Layouts.{Layout}
 use Rattle.lower_stmt.specs.declared.statement.Frame.{Frame}
-use Rattle.lower_stmt.specs.Statements.{statement_of, statements_of}
+use Rattle.lower_stmt.specs.Statements.{body_of, listed, statement_of, statements_of}
 use Rattle.lower_stmt.specs.Variables.{declared}
-
--- statements in a list, one behind the other
-unfoldable pub listed : Typed → Layout → List TStmt → Frame → List Field → ℕ → Draft → Made ℕ
-listed t l [] f contexts n d = Makes n d
-listed t l (s ∷ rest) f contexts n d = then_make (statement_of t l s f contexts n d) (λ m after. listed t l rest f contexts m after)
 
 same_next : (made : Made ℕ) (next other : ℕ → Draft → Made ℕ) → ((m : ℕ) (d : Draft) → next m d ≡ other m d) →
     then_make made next ≡ then_make made other
@@ -36,10 +31,20 @@ row_of _ = (_, end_of-TStmt)
 
 pub block_code : (t : Typed) (l : Layout) (locals : Vec LocalVar Global) (statements : Vec TStmt Global) (f : Frame) (contexts : List Field) (n : ℕ) (d : Draft) →
     statement_of t l (S.Block locals statements) f contexts n d
-    ≡ then_make (declared t l locals.items n d) (λ m after. listed t l statements.items f contexts m after)
+    ≡ then_make (declared t l false locals.items n d) (λ m after. listed t l statements.items f contexts m after)
 unfolding statement_of statements_of
 block_code t l locals statements f contexts n d =
     let row = row_of (S.Block locals statements) in
-    same_next (declared t l locals.items n d) _ _
+    same_next (declared t l false locals.items n d) _ _
     (λ m after. as_list t l f contexts row.0 row.1 m after
     ∙ ap (λ xs. listed t l xs f contexts m after) (items_hidden-the_row-TStmt-0 statements))
+
+pub body_code : (t : Typed) (l : Layout) (locals : Vec LocalVar Global) (statements : Vec TStmt Global) (f : Frame) (d : Draft) →
+    body_of t l f (S.Block locals statements) d
+    ≡ then_make (declared t l f.is_main locals.items 0 d) (λ m after. listed t l statements.items f [] m after)
+unfolding body_of
+body_code t l locals statements f d =
+    let row = row_of (S.Block locals statements) in
+    same_next (declared t l f.is_main locals.items 0 d) _ _
+    (λ m after. as_list t l f [] row.0 row.1 m after
+    ∙ ap (λ xs. listed t l xs f [] m after) (items_hidden-the_row-TStmt-0 statements))

@@ -8,11 +8,11 @@ use Rattle.lower_base.specs.Drafts.{Draft, Makes, draft, step}
 use Rattle.lower_base.specs.Layouts.{layout_of}
 use Rattle.lower_stmt.specs.Programs.{instructions_in, joined, slots_behind, unit_of, units_of}
 
-pub first_unit : (t : Typed) (instance : Instance) (instances : List Instance) (number regs : ℕ) (u : U.Unit) →
-    unit_of t (layout_of t number) (number == 0) regs instance ≡ Makes tt (draft u) →
-    units_of t (instance ∷ instances) number regs ≡ draft u ∷ units_of t instances (number + 1) u.regs
+pub first_unit : (t : Typed) (words : List ℕ) (instance : Instance) (instances : List Instance) (number regs : ℕ) (u : U.Unit) →
+    unit_of t (layout_of t words number) (number == 0) regs instance ≡ Makes tt (draft u) →
+    units_of t words (instance ∷ instances) number regs ≡ draft u ∷ units_of t words instances (number + 1) u.regs
 unfolding units_of joined draft
-first_unit t instance instances number regs u made = rw made refl
+first_unit t words instance instances number regs u made = rw made refl
 
 pub one_more_unit : (units : List U.Unit) (u : U.Unit) (rest : List Draft) → map draft (units ++ u ∷ []) ++ rest ≡ map draft units ++ draft u ∷ rest
 one_more_unit [] u rest = refl

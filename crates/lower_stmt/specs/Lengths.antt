@@ -1,5 +1,5 @@
 -- How many instructions a statement compiles to.
-use Rattle.std.specs.Prelude.{ℕ, ◌+◌, Bool, ◌||◌, ◌==◌, List, [], ◌∷◌, Option, Some, None, is_none, if◌then◌else◌}
+use Rattle.std.specs.Prelude.{ℕ, ◌+◌, Bool, false, ◌||◌, ◌==◌, List, [], ◌∷◌, Option, Some, None, is_none, if◌then◌else◌}
 use Rattle.cstar_tree.specs.declared.typed.LocalVar.{LocalVar}
 use Rattle.cstar_tree.specs.declared.typed.TExpr.{TExpr}
 use Rattle.cstar_tree.specs.declared.typed.TStmt.{TStmt, Row_of-TStmt, end_of-TStmt, more_of-TStmt, Held-TStmt-If-2, None', Some'}
@@ -10,6 +10,7 @@ use Rattle.lower_base.specs.Layouts.{Layout, entries_of}
 use Rattle.lower_expr.specs.Effects.{effect_length_of, narrowed_length, next_length, put_length}
 use Rattle.lower_expr.specs.Lengths.{tested_length}
 use Rattle.lower_stmt.specs.declared.length.Saved.{Saved}
+use Rattle.lower_stmt.specs.Variables.{is_kept_so}
 
 -- one more context is saved
 unfoldable pub one_more : Saved → Saved
@@ -30,8 +31,9 @@ condition_length_of t l None = 0
 condition_length_of t l (Some e) = next_length t l e
 
 -- a variable becomes zero: one instruction, or one for each field
-unfoldable pub clear_length_of : VarInfo → ℕ
-clear_length_of info = elim info.shape [ None ↦ 1 | Some s ↦ entries_of info ]
+unfoldable pub clear_length_of : Bool → LocalVar → ℕ
+clear_length_of at_start local =
+    elim local.info.shape [ None ↦ if is_kept_so at_start local then 0 else 1 | Some s ↦ entries_of local.info ]
 
 -- its initialiser
 unfoldable pub initial_length_of : Typed → Layout → VarInfo → Option TExpr → ℕ
@@ -40,10 +42,10 @@ initial_length_of t l info (Some e) =
     if is_none info.shape || info.elem.bits == 32 then put_length t l (is_none info.shape) e else narrowed_length t l e
 
 -- the variables of a block
-unfoldable pub locals_length_of : Typed → Layout → List LocalVar → ℕ
-locals_length_of t l [] = 0
-locals_length_of t l (local ∷ locals) =
-    clear_length_of local.info + initial_length_of t l local.info local.initial + locals_length_of t l locals
+unfoldable pub locals_length_of : Typed → Layout → Bool → List LocalVar → ℕ
+locals_length_of t l at_start [] = 0
+locals_length_of t l at_start (local ∷ locals) =
+    clear_length_of at_start local + initial_length_of t l local.info local.initial + locals_length_of t l at_start locals
 
 -- how a returned value is stored: by one instruction, where the function has a result
 unfoldable pub storing_length : Bool → ℕ
@@ -53,7 +55,7 @@ unfoldable mutual
   -- a statement of a function that has a result or none, where so many contexts are saved
   pub statement_length_of : Typed → Layout → Bool → Saved → TStmt → ℕ
   statement_length_of t l has_result saved (S.Block' locals p statements) =
-      locals_length_of t l locals.items + statements_length_of t l has_result saved statements
+      locals_length_of t l false locals.items + statements_length_of t l has_result saved statements
   statement_length_of t l has_result saved (S.Expression e) = effect_length_of t l e
   statement_length_of t l has_result saved S.Empty = 0
   statement_length_of t l has_result saved (S.If' test p first second) =
@@ -86,3 +88,9 @@ unfoldable mutual
   pub else_length_of : Typed → Layout → Bool → Saved → ℕ → Held-TStmt-If-2 → ℕ
   else_length_of t l has_result saved around None' = 0
   else_length_of t l has_result saved around (Some' p s) = statement_length_of t l has_result saved s + around
+
+-- the body of an instance, and of `main` where it starts
+unfoldable pub body_length_of : Typed → Layout → Bool → Bool → Saved → TStmt → ℕ
+body_length_of t l at_start has_result saved (S.Block' locals p statements) =
+    locals_length_of t l at_start locals.items + statements_length_of t l has_result saved statements
+body_length_of t l at_start has_result saved s = statement_length_of t l has_result saved s

@@ -15,8 +15,7 @@ use Rattle.lower_base.specs.Layouts.{Layout, layout_of, entries_of, register_of,
 use Rattle.lower_stmt.specs.declared.statement.Frame.{Frame}
 use Rattle.lower_stmt.specs.declared.statement.Outcome.{Outcome}
 use Rattle.lower_stmt.specs.declared.statement.Outcome.TheVariants as R
-use Rattle.lower_stmt.specs.Frames.{with_end}
-use Rattle.lower_stmt.specs.Statements.{statement_of}
+use Rattle.lower_stmt.specs.Statements.{body_of, ended}
 
 -- a unit that has nothing yet but its name, whose registers begin here
 unfoldable pub blank : List ℕ → ℕ → Draft
@@ -66,9 +65,14 @@ start_values_of t l [] number d = Makes tt d
 start_values_of t l (info ∷ infos) number d =
     then_make (start_value_of t l info number d) (λ _ after. start_values_of t l infos (number + 1) after)
 
--- `main` begins with the values of the file's variables
+-- constants put in registers, from this one on
+unfoldable pub constants_put : List ℕ → ℕ → Draft → Draft
+constants_put [] r d = d
+constants_put (word ∷ words) r d = constants_put words (r + 1) (with_instr (I.FrontConst r word) d)
+
+-- `main` begins with the constants, and with the values of the file's variables
 unfoldable pub begun : Typed → Layout → Bool → Draft → Made (Unit {0})
-begun t l true d = start_values_of t l t.vars.items 0 d
+begun t l true d = start_values_of t l t.vars.items 0 (constants_put l.constants l.end d)
 begun t l false d = Makes tt d
 
 -- where a body stands: in no loop, and no context is saved
@@ -85,8 +89,8 @@ body_frame is_main instance = record {
 unfoldable pub unit_of : Typed → Layout → Bool → ℕ → Instance → Made (Unit {0})
 unit_of t l is_main regs instance =
     then_make (own_fields_of instance.params.items (blank instance.name regs)) (λ _ d. then_make (own_result_of instance.result d)
-    (λ _ ready. then_make (begun t l is_main ready) (λ _ start. then_make (statement_of t l instance.body (body_frame is_main instance) [] 0 start)
-    (λ _ end. Makes tt (with_end is_main end)))))
+    (λ _ ready. then_make (begun t l is_main ready) (λ _ start. then_make (body_of t l (body_frame is_main instance) instance.body start)
+    (λ _ end. Makes tt (ended is_main instance.body end)))))
 
 -- a unit, and those that come behind it
 unfoldable pub joined : Made (Unit {0}) → (Draft → List Draft) → List Draft
@@ -95,10 +99,10 @@ joined Fails rest = []
 
 -- The units of instances, from a number and a register on. The first is `main`. The registers of
 -- a unit begin behind those of the one before.
-unfoldable pub units_of : Typed → List Instance → ℕ → ℕ → List Draft
-units_of t [] number regs = []
-units_of t (instance ∷ instances) number regs =
-    joined (unit_of t (layout_of t number) (number == 0) regs instance) (λ d. units_of t instances (number + 1) d.regs)
+unfoldable pub units_of : Typed → List ℕ → List Instance → ℕ → ℕ → List Draft
+units_of t words [] number regs = []
+units_of t words (instance ∷ instances) number regs =
+    joined (unit_of t (layout_of t words number) (number == 0) regs instance) (λ d. units_of t words instances (number + 1) d.regs)
 
 -- the first register behind units
 unfoldable pub slots_behind : ℕ → List Draft → ℕ

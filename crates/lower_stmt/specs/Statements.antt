@@ -1,10 +1,11 @@
 -- The code of a statement, as what it makes of the draft before it. It answers how many variables
 -- of blocks are declared behind it. The contexts that are saved where it stands are in a list, the
 -- outermost first.
-use Rattle.std.specs.Prelude.{ℕ, ◌+◌, List, [], ◌∷◌, ◌++◌, reverse, take, Option, Some, None}
+use Rattle.std.specs.Prelude.{ℕ, ◌+◌, Bool, true, false, if◌then◌else◌, List, [], ◌∷◌, ◌++◌, reverse, take, Option, Some, None}
 use Rattle.cstar_tree.specs.declared.typed.TExpr.{TExpr}
-use Rattle.cstar_tree.specs.declared.typed.TStmt.{TStmt, Row_of-TStmt, end_of-TStmt, more_of-TStmt, Held-TStmt-If-2, None', Some'}
+use Rattle.cstar_tree.specs.declared.typed.TStmt.{TStmt, out-TStmt, Row_of-TStmt, end_of-TStmt, more_of-TStmt, Held-TStmt-If-2, None', Some'}
 use Rattle.cstar_tree.specs.declared.typed.TStmt as S
+use Rattle.cstar_tree.specs.declared.typed.TStmt.TheOpen.{TStmt-F}
 use Rattle.cstar_tree.specs.declared.typed.Typed.{Typed}
 use Rattle.paris_code.specs.declared.instr.Instr.TheVariants as I
 use Rattle.paris_code.specs.declared.operands.Field.{Field}
@@ -95,7 +96,7 @@ past (Some' p s) place = place + 1
 unfoldable mutual
   pub statement_of : Typed → Layout → TStmt → Frame → List Field → ℕ → Draft → Made ℕ
   statement_of t l (S.Block' locals p statements) f contexts n d =
-      then_make (declared t l locals.items n d) (λ m after. statements_of t l statements f contexts m after)
+      then_make (declared t l false locals.items n d) (λ m after. statements_of t l statements f contexts m after)
   statement_of t l (S.Expression e) f contexts n d = then_make (part_of t l (Some e) d) (λ _ after. Makes n after)
   statement_of t l S.Empty f contexts n d = Makes n d
   statement_of t l (S.If' test p first second) f contexts n d =
@@ -163,3 +164,31 @@ turns_of t l body test next f contexts n d =
     let after = next + next_length t l test + 1 in
     then_make (statement_of t l body (in_loop next after f) contexts n (with_instr I.FrontTurn d))
     (λ m behind. then_make (jump_back_of t l (Some test) (here d) behind) (λ _ end. Makes m end))
+
+-- statements in a list, one behind the other
+unfoldable pub listed : Typed → Layout → List TStmt → Frame → List Field → ℕ → Draft → Made ℕ
+listed t l [] f contexts n d = Makes n d
+listed t l (s ∷ rest) f contexts n d = then_make (statement_of t l s f contexts n d) (λ m after. listed t l rest f contexts m after)
+
+-- the body of an instance; the scalar variables of the outermost block of `main` are zero already
+unfoldable pub body_of : Typed → Layout → Frame → TStmt → Draft → Made ℕ
+body_of t l f (S.Block' locals p statements) d =
+    then_make (declared t l f.is_main locals.items 0 d) (λ m after. statements_of t l statements f [] m after)
+body_of t l f s d = statement_of t l s f [] 0 d
+
+-- is the statement a `return`, and the last one of a list, behind one that is or is none
+unfoldable pub is_return : TStmt → Bool
+is_return (S.Return e) = true
+is_return _ = false
+
+unfoldable pub returns_last : Bool → List TStmt → Bool
+returns_last before [] = before
+returns_last before (s ∷ rest) = returns_last (is_return s) rest
+
+-- does a body end with a `return`
+unfoldable pub ends_in_return : TStmt → Bool
+ends_in_return s = elim (out-TStmt s) [ TStmt-F.Block locals statements ↦ returns_last false statements.items | _ ↦ false ]
+
+-- the end of a body that has none of its own
+unfoldable pub ended : Bool → TStmt → Draft → Draft
+ended is_main body d = if ends_in_return body then d else with_end is_main d

@@ -5,6 +5,7 @@ ghost use Rattle.lower_base.specs.Layouts.{layout};
 ghost use Rattle.cstar_tree.specs.declared.typed.TStmt.{back-TStmt-If-2};
 ghost use Rattle.lower_stmt.specs.Lengths.{one_more, at_loop, condition_length_of, part_length_of, clear_length_of, initial_length_of, locals_length_of, statement_length_of, else_length_of};
 
+use crate::variables::is_kept_so;
 use cstar_base::Memory;
 use cstar_tree::typed::{LocalVar, TExpr, TStmt, VarInfo};
 use lower_base::View;
@@ -58,7 +59,7 @@ pub fn statement_length(
 {
     match s {
         TStmt::Block { locals, statements } => {
-            let mut sum = locals_length(view, locals)?;
+            let mut sum = locals_length(view, false, locals)?;
             for inner in statements {
                 sum = plus(sum, statement_length(view, inner, has_result, saved)?)?;
             }
@@ -163,12 +164,12 @@ pub fn condition_length(view: &View, test: &Option<TExpr>) -> Result<u32, Memory
 
 /// The variables of a block: each becomes zero, and then takes its initialiser.
 #[tactic(auto, using(std::proofs::lemmas::List::drop_more), unfolding(crate::specs::Lengths::locals_length_of))]
-fn locals_length(view: &View, locals: &[LocalVar]) -> Result<u32, Memory>
-    ensures { IfOk result (λ n. n ≡ locals_length_of view.now.typed.now (layout view.now.names) locals.now) }
+fn locals_length(view: &View, at_start: bool, locals: &[LocalVar]) -> Result<u32, Memory>
+    ensures { IfOk result (λ n. n ≡ locals_length_of view.now.typed.now (layout view.now.names) at_start locals.now) }
 {
     let mut sum = 0;
     for local in locals {
-        let zeroed = clear_length(&local.info);
+        let zeroed = clear_length(at_start, local);
         let stored = initial_length(view, &local.info, &local.initial)?;
         sum = plus(sum, plus(zeroed, stored)?)?;
     }
@@ -177,12 +178,12 @@ fn locals_length(view: &View, locals: &[LocalVar]) -> Result<u32, Memory>
 
 /// A variable that becomes zero.
 #[tactic(auto, unfolding(crate::specs::Lengths::clear_length_of))]
-fn clear_length(info: &VarInfo) -> u32
-    ensures { result ≡ clear_length_of info.now }
+fn clear_length(at_start: bool, local: &LocalVar) -> u32
+    ensures { result ≡ clear_length_of at_start local.now }
 {
-    match info.shape {
-        None => 1,
-        Some(_) => entries_of(info),
+    match local.info.shape {
+        None => if is_kept_so(at_start, local) { 0 } else { 1 },
+        Some(_) => entries_of(&local.info),
     }
 }
 

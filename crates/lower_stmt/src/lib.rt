@@ -1,6 +1,7 @@
 //! The lowering of statements and programs.
 #![tactic(auto)]
 
+mod constants;
 mod length;
 mod program;
 mod statement;

@@ -3,12 +3,13 @@
 ghost use Rattle.std.specs.Prelude.{◌≡◌, ◌<◌, ◌+◌, ◌-◌, ◌^◌, ◌++◌, length, map, IfOk, OnOk};
 ghost use Rattle.cstar_tree.specs.IsTyped.{IsTyped};
 ghost use Rattle.lower_base.specs.Drafts.{Makes, draft};
-ghost use Rattle.lower_base.specs.Layouts.{layout, layout_of, entries_of};
-ghost use Rattle.lower_stmt.specs.Lowered.{IsLowered};
-ghost use Rattle.lower_stmt.specs.Programs.{begun, blank, body_frame, elements_begun, element_finals, final_name_of, finals_of, instructions_in, outcome_of, own_field_of, own_fields_of, own_result_of, slots_behind, space, spaces_of, start_value_of, start_values_of, unit_of, units_of, variable_finals};
+ghost use Rattle.lower_base.specs.Layouts.{layout, entries_of};
+ghost use Rattle.lower_stmt.specs.Lowered.{IsLowered, IsLoweredWith};
+ghost use Rattle.lower_stmt.specs.Programs.{begun, blank, body_frame, constants_put, elements_begun, element_finals, final_name_of, finals_of, instructions_in, outcome_of, own_field_of, own_fields_of, own_result_of, space, spaces_of, start_value_of, start_values_of, unit_of, units_of, variable_finals};
 
+use crate::constants::words_in;
 use crate::length::Saved;
-use crate::statement::{Body, Frame, Outcome, leave};
+use crate::statement::{Body, Frame, Outcome, end};
 use cstar_base::{Memory, Word};
 use cstar_tree::typed::{Instance, Typed, VarInfo, Variable};
 use itoa::Buffer;
@@ -25,7 +26,6 @@ use std::alloc::Global;
 /// `Memory` comes where memory ends, where a count, the place that a jump leads to, or the number of
 /// a register or a field would be 2^32 or more, where all units have as many instructions together,
 /// and where a statement or an expression is not as typing makes it.
-#[tactic(auto, unfolding(crate::specs::Programs::units_of))]
 pub fn lower(alloc: Global, t: &Typed) -> Result<Program, Memory>
     requires { IsTyped t.now }
     ensures lowered { IfOk result (λ program. IsLowered t.now program) }
@@ -33,9 +33,32 @@ pub fn lower(alloc: Global, t: &Typed) -> Result<Program, Memory>
     ensures numbered { IfOk result (λ program. instructions_in (map draft program.units.items) < 2 ^ 32) }
     ensures each_shape { IfOk result (λ program. length program.shapes.items ≡ length t.now.shapes.items) }
 {
-    let mut view = View::of(alloc, t)?;
+    let words = words_of(alloc, t)?;
+    lower_with(alloc, t, words)
+}
+
+/// The numbers that the program needs in registers, each once: those that its code, with no constant
+/// in a register yet, puts there.
+fn words_of(alloc: Global, t: &Typed) -> Result<Vec<u32>, Memory>
+    requires { IsTyped t.now }
+{
+    let program = lower_with(alloc, t, Vec::new(alloc))?;
+    let view = View::of(alloc, t, Vec::new(alloc))?;
+    words_in(alloc, &program, view.first_free()?)
+}
+
+/// The program with these constants in registers.
+#[tactic(auto, unfolding(crate::specs::Programs::units_of))]
+fn lower_with(alloc: Global, t: &Typed, words: Vec<u32>) -> Result<Program, Memory>
+    requires { IsTyped t.now }
+    ensures lowered { IfOk result (λ program. IsLoweredWith t.now words.items program) }
+    ensures each_instance { IfOk result (λ program. length program.units.items ≡ length t.now.instances.items) }
+    ensures numbered { IfOk result (λ program. instructions_in (map draft program.units.items) < 2 ^ 32) }
+    ensures each_shape { IfOk result (λ program. length program.shapes.items ≡ length t.now.shapes.items) }
+{
+    let mut view = View::of(alloc, t, words)?;
     let mut units: Vec<Unit> = Vec::new(alloc);
-    let mut slots = view.names.end;
+    let mut slots = view.first_free()?;
     let mut instructions = 0;
     for (number, instance) in t.instances.iter().enumerate() {
         view.enter(number)?;
@@ -67,8 +90,8 @@ fn lower_unit(view: &View, instance: &Instance, is_main: bool, regs: u32) -> Res
         contexts: Vec::new(view.alloc),
         declared: 0,
     };
-    body.statement(view, &instance.body, body_frame(is_main, instance))?;
-    leave(is_main, &mut body.unit)?;
+    body.whole(view, &instance.body, body_frame(is_main, instance))?;
+    end(is_main, &instance.body, &mut body.unit)?;
     Ok(body.unit)
 }
 
@@ -153,16 +176,31 @@ fn outcome(info: &Option<VarInfo>) -> Outcome
     }
 }
 
-/// `main` begins with the values of the file's variables. At the start every position is active.
+/// `main` begins with the constants, and with the values of the file's variables. At the start every
+/// position is active.
 #[tactic(auto, unfolding(crate::specs::Programs::begun))]
 fn begin(view: &View, is_main: bool, u: &mut Unit) -> Result<(), Memory>
     ensures draft { OnOk result (begun view.now.typed.now (layout view.now.names) is_main (draft u.old) ≡ Makes tt (draft u.new)) }
 {
     if is_main {
+        put_constants(view, u)?;
         start_values(view, u)
     } else {
         Ok(())
     }
+}
+
+/// The constants become those of their registers.
+#[tactic(auto, unfolding(crate::specs::Programs::constants_put, lower_base::specs::Layouts::layout))]
+fn put_constants(view: &View, u: &mut Unit) -> Result<(), Memory>
+    ensures draft { OnOk result (constants_put (layout view.now.names).constants (layout view.now.names).end (draft u.old) ≡ draft u.new) }
+{
+    let mut dest = view.names.end;
+    for word in view.names.constants.as_slice() {
+        put(u, Instr::FrontConst { dest, value: *word })?;
+        dest = plus(dest, 1)?;
+    }
+    Ok(())
 }
 
 /// The variables of the file that do not begin as zero.

@@ -2,7 +2,7 @@
 //! to the turn that the loop's body begins with. A jump out of `where` and `everywhere` first loads
 //! the contexts that they saved, the innermost first, so that the outermost one stays.
 
-ghost use Rattle.std.specs.Prelude.{◌≡◌, ◌+◌, ◌++◌, [], ◌∷◌, IfOk, OnOk, Some};
+ghost use Rattle.std.specs.Prelude.{◌≡◌, ◌+◌, ◌++◌, [], ◌∷◌, false, IfOk, OnOk, Some};
 ghost use Rattle.cstar_tree.specs.declared.typed.TStmt as S;
 ghost use Rattle.cstar_tree.specs.declared.typed.TStmt.{back-TStmt-If-2};
 ghost use Rattle.paris_code.specs.declared.instr.Instr.TheVariants as I;
@@ -11,7 +11,7 @@ ghost use Rattle.lower_base.specs.Layouts.{layout};
 ghost use Rattle.lower_stmt.specs.Bodies.{code_in, grown};
 ghost use Rattle.lower_stmt.specs.Frames.{has_result, in_loop, in_context, with_end};
 ghost use Rattle.lower_stmt.specs.Lengths.{at_loop, statement_length_of};
-ghost use Rattle.lower_stmt.specs.Statements.{closing, condition_of, else_of, given_back, jump_back_of, narrowed, part_of, past, restored, returned, statement_of, stored_result, turned, turns_of, widened};
+ghost use Rattle.lower_stmt.specs.Statements.{body_of, closing, condition_of, else_of, ended, ends_in_return, given_back, is_return, jump_back_of, listed, narrowed, part_of, past, restored, returned, returns_last, statement_of, stored_result, turned, turns_of, widened};
 
 use crate::length::{Saved, condition_length, part_length, statement_length};
 use crate::variables::declare;
@@ -107,11 +107,8 @@ impl Body {
     {
         match s {
             TStmt::Block { locals, statements } => {
-                self.declared = declare(view, locals, self.declared, &mut self.unit)?;
-                for inner in statements {
-                    self.statement(view, inner, f)?;
-                }
-                Ok(())
+                self.declared = declare(view, false, locals, self.declared, &mut self.unit)?;
+                self.statements(view, statements, f)
             }
             TStmt::Expression(e) => evaluate(view, e, &mut self.unit),
             TStmt::Empty => Ok(()),
@@ -151,6 +148,46 @@ impl Body {
                 then,
                 otherwise,
             } => self.narrow_and_run(view, *shape, test, then, otherwise, f),
+        }
+    }
+
+    /// Appends the code of statements, one behind the other.
+    #[cycle(statement)]
+    #[tactic(auto, unfolding(crate::specs::Statements::listed, lower_base::specs::Drafts::then_make))]
+    fn statements(&mut self, view: &View, statements: &[TStmt], f: Frame) -> Result<(), Memory>
+        ensures draft { OnOk result (listed view.now.typed.now (layout view.now.names) statements.now f self.old.contexts.items self.old.declared (draft self.old.unit) ≡ grown self.new) }
+        ensures contexts { OnOk result (self.new.contexts.items ≡ self.old.contexts.items) }
+    {
+        for inner in statements {
+            self.statement(view, inner, f)?;
+        }
+        Ok(())
+    }
+
+    /// Appends the code of the body of an instance, before which there is nothing of it.
+    #[tactic(auto, unfolding(crate::specs::Statements::body_of, lower_base::specs::Drafts::then_make))]
+    pub fn whole(&mut self, view: &View, s: &TStmt, f: Frame) -> Result<(), Memory>
+        requires contexts { self.old.contexts.items ≡ [] }
+        requires declared { self.old.declared ≡ 0 }
+        ensures draft { OnOk result (body_of view.now.typed.now (layout view.now.names) f s.now (draft self.old.unit) ≡ grown self.new) }
+    {
+        match s {
+            TStmt::Block { locals, statements } => {
+                self.declared = declare(view, f.is_main, locals, self.declared, &mut self.unit)?;
+                self.statements(view, statements, f)
+            }
+            TStmt::Expression(_)
+            | TStmt::Empty
+            | TStmt::If { .. }
+            | TStmt::While { .. }
+            | TStmt::Do { .. }
+            | TStmt::For { .. }
+            | TStmt::Break
+            | TStmt::Continue
+            | TStmt::Return(_)
+            | TStmt::With { .. }
+            | TStmt::Everywhere { .. }
+            | TStmt::Where { .. } => self.statement(view, s, f),
         }
     }
 
@@ -357,7 +394,7 @@ fn condition(view: &View, e: &TExpr, u: &mut Unit) -> Result<u32, Memory>
 
 /// The end of a function, and that of `main`.
 #[tactic(auto, unfolding(crate::specs::Frames::with_end))]
-pub fn leave(is_main: bool, u: &mut Unit) -> Result<(), Memory>
+fn leave(is_main: bool, u: &mut Unit) -> Result<(), Memory>
     ensures draft { OnOk result (with_end is_main (draft u.old) ≡ draft u.new) }
 {
     if is_main {
@@ -365,6 +402,47 @@ pub fn leave(is_main: bool, u: &mut Unit) -> Result<(), Memory>
     } else {
         put(u, Instr::FrontReturn)
     }
+}
+
+/// The end of a body, where it has none of its own.
+#[tactic(auto, unfolding(crate::specs::Statements::ended))]
+pub fn end(is_main: bool, body: &TStmt, u: &mut Unit) -> Result<(), Memory>
+    ensures draft { OnOk result (ended is_main body.now (draft u.old) ≡ draft u.new) }
+{
+    if ends_in_return(body) {
+        return Ok(());
+    }
+    leave(is_main, u)
+}
+
+/// Whether a body ends with a `return`.
+#[tactic(auto, unfolding(crate::specs::Statements::ends_in_return))]
+fn ends_in_return(body: &TStmt) -> bool
+    ensures { result ≡ ends_in_return body.now }
+{
+    let TStmt::Block { statements, .. } = body else {
+        return false;
+    };
+    returns_last(statements)
+}
+
+/// Whether the last of the statements is a `return`.
+#[tactic(auto, unfolding(crate::specs::Statements::returns_last))]
+fn returns_last(statements: &[TStmt]) -> bool
+    ensures { result ≡ returns_last false statements.now }
+{
+    let mut returns = false;
+    for statement in statements {
+        returns = is_return(statement);
+    }
+    returns
+}
+
+#[tactic(auto, unfolding(crate::specs::Statements::is_return))]
+fn is_return(s: &TStmt) -> bool
+    ensures { result ≡ is_return s.now }
+{
+    matches!(s, TStmt::Return(_))
 }
 
 /// Loads the newest saved contexts, so many of them, the newest first.

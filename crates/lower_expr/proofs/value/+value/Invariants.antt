@@ -32,6 +32,9 @@ decreases-right_operand l = 16 * size-TExpr l.e.now + 5
 abbrev pub decreases-spread_to : goal.decreases-spread_to
 decreases-spread_to l = 16 * size-TExpr l.e.now + 5
 
+abbrev pub decreases-spread_value : goal.decreases-spread_value
+decreases-spread_value l = 16 * size-TExpr l.e.now + 5
+
 abbrev pub decreases-spread : goal.decreases-spread
 decreases-spread l = 16 * size-TExpr l.e.now + 6
 

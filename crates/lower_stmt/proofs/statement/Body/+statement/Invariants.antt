@@ -3,13 +3,15 @@ use Rattle.cstar_tree.specs.declared.typed.TStmt.{size-TStmt}
 use Rattle.cstar_tree.specs.declared.typed.TStmt.TheShapes.{weighed-TStmt-If-2}
 use Rattle.lower_base.specs.Drafts.{draft}
 use Rattle.lower_base.specs.Layouts.{layout}
-use Rattle.lower_stmt.proofs.StatementRows.{listed}
-use Rattle.lower_stmt.specs.Bodies.{code_in}
+use Rattle.lower_stmt.specs.Statements.{listed}
 use Rattle.lower_stmt.proofs.statement.Body.+statement.Given as goal
 
 -- a function that is handed the parts of a statement comes before those that it hands them on to
 abbrev pub decreases-statement : goal.decreases-statement
 decreases-statement l = 4 * goal.size-statement l
+
+abbrev pub decreases-statements : goal.decreases-statements
+decreases-statements l = 4 * goal.size-statements l + 1
 
 abbrev pub decreases-within : goal.decreases-within
 decreases-within l = 4 * goal.size-within l + 1
@@ -33,10 +35,10 @@ abbrev pub decreases-narrow_and_run : goal.decreases-narrow_and_run
 decreases-narrow_and_run l = 4 * max (size-TStmt l.then.now.value) (weighed-TStmt-If-2.weight _ size-TStmt l.otherwise.now) + 2
 
 -- the statements that are left, from here on, give the whole, and the saved contexts are the same
-abbrev pub invariant-statement-loop-inner : goal.invariant-statement-loop-inner
-invariant-statement-loop-inner l = record {
+abbrev pub invariant-statements-loop-inner : goal.invariant-statements-loop-inner
+invariant-statements-loop-inner l = record {
   whole :
-      listed l.view.typed.now (layout l.view.names) (drop l.inner-index l.inner-items) l.f l.self.contexts.items l.self.declared (draft l.self.unit)
-      ≡ code_in l.view l.s l.f l.fn.self;
+      listed l.view.typed.now (layout l.view.names) (drop l.inner-index l.statements) l.f l.self.contexts.items l.self.declared (draft l.self.unit)
+      ≡ listed l.view.typed.now (layout l.view.names) l.statements l.f l.fn.self.contexts.items l.fn.self.declared (draft l.fn.self.unit);
   same : l.self.contexts.items ≡ l.fn.self.contexts.items;
 }
