@@ -33,7 +33,7 @@ HoldsPoint tells file old new options status from course =
     status ≡ 4 → (name : List ℕ) → save_name options ≡ Some name
     → IsHeld (point_at from course) × (IsTrue (tells old) → file new name ≡ Some (bytes_of (point_at from course)))
 
--- so they are bytes that keep the run, whatever text resumes it
+-- so the shelf holds bytes that keep the run, whatever text resumes it
 abbrev pub HoldsRun : {S : Type 0} → (S → Bool) → (S → List ℕ → Option (List ℕ)) → S → S → Options → ℕ → Origin → Course → Type 0
 HoldsRun tells file old new options status from course =
     status ≡ 4 → (name : List ℕ) → save_name options ≡ Some name

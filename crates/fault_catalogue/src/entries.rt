@@ -6,7 +6,7 @@ pub static ENTRIES: [Entry; 46] = [
     Entry {
         number: "E00",
         name: "NotBuilt",
-        advice: "No fault of the file: the compiler made an image that breaks an image rule, which would be a defect of `cstar`.",
+        advice: "No fault of the file: the compiler made an image that breaks an image rule, or one that cannot be read back from its listing, which would be a defect of `cstar`.",
     },
     Entry {
         number: "E01",
