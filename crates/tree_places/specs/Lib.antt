@@ -1,0 +1,5 @@
+pub mod Laws
+pub mod Order
+pub mod Rising
+pub mod Statements
+pub mod Within
