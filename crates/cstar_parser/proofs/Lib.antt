@@ -3,6 +3,7 @@ pub mod Casting
 pub mod ExpressionNodes
 pub mod Fitting
 pub mod Following
+pub mod FollowingExpressions
 pub mod Grammar
 pub mod Operands
 pub mod Sizes
