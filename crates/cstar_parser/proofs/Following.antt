@@ -37,7 +37,7 @@ pub behind : {tokens : List Token} {around within at n mid m to k : ℕ} {parts 
 behind {tokens} {around} {within} {at} {n} {mid} {m} {to} {k} {parts} {first} {left} more g f e = record { on = λ inside outside h. f.on inside outside h ∙ beside tokens mid m to k around first left more (λ i o x. g.on i o (x ∙ e)) inside outside h }
 
 -- one of them takes a token
-taken_at : {tokens : List Token} {around at n mid m next k c : ℕ} {parts rest : List Part} {kind : Kind} {place : Place} (p : Part) (more : List Part) → Stands tokens mid kind place next → k ≡ m + c → k ≤ 1000 → act p (Some kind) ≡ take_it c rest → levels rest + (levels more + around) ≤ 100 → Goes tokens around at n parts mid m (p ∷ more) → Goes tokens around at n parts next k (rest ++ more)
+pub taken_at : {tokens : List Token} {around at n mid m next k c : ℕ} {parts rest : List Part} {kind : Kind} {place : Place} (p : Part) (more : List Part) → Stands tokens mid kind place next → k ≡ m + c → k ≤ 1000 → act p (Some kind) ≡ take_it c rest → levels rest + (levels more + around) ≤ 100 → Goes tokens around at n parts mid m (p ∷ more) → Goes tokens around at n parts next k (rest ++ more)
 taken_at {tokens} {around} {m = m} {next = next} {c = c} {rest = rest} p more s counted most is few f = record {
   on = λ inside outside h.
       let shown = levels-append more inside in
@@ -98,7 +98,7 @@ stop Memory first more b f e = tt
 refused_at : {tokens : List Token} {around at n mid m k : ℕ} {parts : List Part} (p : Part) (more : List Part) → k ≡ mid → act p (token_kind tokens mid) ≡ refuse → Goes tokens around at n parts mid m (p ∷ more) → Falls tokens around at n parts (syntax_at k)
 refused_at {tokens} {mid = mid} {m = m} p more here is f = record { to = λ inside outside h. f.on inside outside h ∙ refuses tokens mid p (more ++ inside) m outside is ∙ ap syntax_at (sym here) }
 
-deep_at : {tokens : List Token} {around at n mid m k c : ℕ} {parts next : List Part} {kind : Kind} (p : Part) (more : List Part) → k ≡ mid → token_kind tokens mid ≡ Some kind → act p (Some kind) ≡ take_it c next → ((inside outside : List Part) → levels inside + levels outside ≡ around → is_deep (record { inside = next ++ (more ++ inside); operators = m + c; outside = outside }) ≡ true) → Goes tokens around at n parts mid m (p ∷ more) → Falls tokens around at n parts (depth_at k)
+pub deep_at : {tokens : List Token} {around at n mid m k c : ℕ} {parts next : List Part} {kind : Kind} (p : Part) (more : List Part) → k ≡ mid → token_kind tokens mid ≡ Some kind → act p (Some kind) ≡ take_it c next → ((inside outside : List Part) → levels inside + levels outside ≡ around → is_deep (record { inside = next ++ (more ++ inside); operators = m + c; outside = outside }) ≡ true) → Goes tokens around at n parts mid m (p ∷ more) → Falls tokens around at n parts (depth_at k)
 deep_at {tokens} {mid = mid} {m = m} p more here stands is deep f = record { to = λ inside outside h. f.on inside outside h ∙ deepens tokens mid p (more ++ inside) m outside stands is (deep inside outside h) ∙ ap depth_at (sym here) }
 
 or_true : (a b : Bool) → b ≡ true → a || b ≡ true

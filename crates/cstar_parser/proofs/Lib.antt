@@ -1,10 +1,13 @@
 pub mod Behind
 pub mod Casting
+pub mod Exact
 pub mod ExpressionNodes
 pub mod Fitting
 pub mod Following
+pub mod FollowingExpressions
 pub mod Grammar
 pub mod Operands
+pub mod Outside
 pub mod Sizes
 pub mod StatementFitting
 pub mod StatementNodes

@@ -1,13 +1,14 @@
 -- The reader follows the verdict of the table of open parts: it goes on where the verdict does, and a
 -- fault is the verdict.
-use Rattle.std.specs.Prelude.{◌≡◌, ℕ, ◌≤◌, List, [], ◌∷◌, Option, Some, Result, Ok, Err}
+use Rattle.std.specs.Prelude.{◌≡◌, ℕ, ◌+◌, ◌≤◌, true, List, [], ◌∷◌, Option, Some, Result, Ok, Err}
 use Rattle.cstar_tree.specs.declared.token.Token.{Token}
 use Rattle.cstar_tree.specs.declared.token.Kind.{Kind}
 use Rattle.cstar_tree.specs.declared.token.Kind.TheVariants as K
 use Rattle.cstar_tree.specs.declared.token.Mark.{Mark}
+use Rattle.cstar_tree.specs.declared.token.Mark.TheVariants as M
 use Rattle.cstar_tree.specs.Positions.{token_kind}
-use Rattle.grammar_parts.specs.Actions.{act, IsReal}
-use Rattle.grammar_parts.specs.Parts.{Part, before, refuse, skip}
+use Rattle.grammar_parts.specs.Actions.{IsReal, act, at_mark, type_action}
+use Rattle.grammar_parts.specs.Parts.{Action, Part, before, is_taken, refuse, skip, take_it}
 use Rattle.grammar_parts.specs.Parts as P
 use Rattle.grammar_parts.specs.Verdicts.{Verdict, depth_at, syntax_at}
 use Rattle.grammar_parts.specs.Verdicts as V
@@ -44,6 +45,22 @@ pub record IsSized (kind : Option Kind) : Type 0 where
 
 pub record IsUnsized (kind : Option Kind) : Type 0 where
   pub skipped : act P.width_or_none kind ≡ skip
+
+-- a cast begins there: a bracket and a type
+abbrev pub IsCast : List Token → ℕ → Type 0
+IsCast tokens at = (token_kind tokens at ≡ Some (K.Mark M.LeftParen)) × (is_taken (type_action (token_kind tokens (at + 1))) ≡ true)
+
+-- what an operand does in which no expression stands
+abbrev pub plain_marks : Mark → Action
+plain_marks M.Dot = take_it 1 (P.steps ∷ [])
+plain_marks M.PositionsOf = take_it 0 (P.operands_of M.PositionsOf ∷ P.steps ∷ [])
+plain_marks M.RankOf = take_it 0 (P.operands_of M.RankOf ∷ P.steps ∷ [])
+plain_marks M.GetChar = take_it 0 (P.operands_of M.GetChar ∷ P.steps ∷ [])
+plain_marks _ = refuse
+
+abbrev pub plain_action : Option Kind → Action
+plain_action (Some (K.Num _ _)) = take_it 0 (P.steps ∷ [])
+plain_action kind = at_mark plain_marks refuse kind
 
 -- ---- parts of a whole expression
 

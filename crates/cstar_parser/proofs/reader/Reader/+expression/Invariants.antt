@@ -1,7 +1,10 @@
-use Rattle.std.proofs.Common.{ℕ, ◌≤◌, ◌<◌, ◌+◌, ◌-◌, ◌*◌, length}
+use Rattle.std.proofs.Common.{◌≡◌, ℕ, ◌≤◌, ◌<◌, ◌+◌, ◌-◌, ◌*◌, [], ◌∷◌, length}
+use Rattle.cstar_tree.specs.declared.token.Mark.TheVariants as M
+use Rattle.grammar_parts.specs.Parts as P
 use Rattle.cstar_tree.specs.Expressions.{AreIndexes, GoesOn}
 use Rattle.cstar_parser.specs.declared.spot.Spot.{Spot}
 use Rattle.cstar_parser.specs.Fits.{FitParts, FitsPart}
+use Rattle.cstar_parser.specs.Following.{Goes}
 use Rattle.cstar_parser.specs.Operands.{IsLeft}
 use Rattle.cstar_parser.proofs.ExpressionNodes.{Part}
 use Rattle.cstar_parser.proofs.reader.Reader.+expression.Given as goal
@@ -72,6 +75,7 @@ abbrev pub invariant-read_operators-operators : goal.invariant-read_operators-op
 invariant-read_operators-operators l =
     (l.fn.spot.at ≤ l.spot.at) × (l.spot.at ≤ length l.self.tokens.now)
     × ((from : Spot) → Part l.self.tokens.now 13 l.levels from l.fn.left l.fn.spot → (IsLeft l.self.tokens.now from.at l.strength l.left.value l.spot.at × FitsPart l.levels l.left.value from.operators l.spot.operators × (from.at < l.spot.at)))
+    × Goes l.self.tokens.now l.levels l.fn.spot.at l.fn.spot.operators (P.operators l.strength ∷ []) l.spot.at l.spot.operators (P.operators l.strength ∷ [])
 
 abbrev pub decreases-read_operators-operators : goal.decreases-read_operators-operators
 decreases-read_operators-operators l = length l.self.tokens.now - l.spot.at
@@ -80,6 +84,7 @@ abbrev pub invariant-read_more-commas : goal.invariant-read_more-commas
 invariant-read_more-commas l =
     (l.fn.spot.at ≤ l.spot.at) × (l.spot.at ≤ length l.self.tokens.now) × GoesOn l.self.tokens.now l.fn.spot.at l.fn.list.items l.list.items l.spot.at
     × ((before : ℕ) → FitParts l.levels l.fn.list.items before l.fn.spot.operators → FitParts l.levels l.list.items before l.spot.operators)
+    × ((around : ℕ) → around + 1 ≡ l.levels → Goes l.self.tokens.now around l.fn.spot.at l.fn.spot.operators (P.more_arguments ∷ []) l.spot.at l.spot.operators (P.more_arguments ∷ []))
 
 abbrev pub decreases-read_more-commas : goal.decreases-read_more-commas
 decreases-read_more-commas l = length l.self.tokens.now - l.spot.at
@@ -88,6 +93,7 @@ abbrev pub invariant-read_left_index-indexes : goal.invariant-read_left_index-in
 invariant-read_left_index-indexes l =
     (l.fn.spot.at < l.spot.at) × (l.spot.at ≤ length l.self.tokens.now) × AreIndexes l.self.tokens.now l.fn.spot.at l.place l.indexes.items l.spot.at
     × FitParts (l.levels + 1) l.indexes.items l.fn.spot.operators l.spot.operators
+    × Goes l.self.tokens.now l.levels l.fn.spot.at l.fn.spot.operators (P.mark M.LeftBracket ∷ P.expression ∷ P.close M.RightBracket ∷ P.indexes ∷ []) l.spot.at l.spot.operators (P.indexes ∷ [])
 
 abbrev pub decreases-read_left_index-indexes : goal.decreases-read_left_index-indexes
 decreases-read_left_index-indexes l = length l.self.tokens.now - l.spot.at

@@ -1,4 +1,6 @@
-use Rattle.std.proofs.Common.{◌≤◌, ◌<◌, ◌+◌, ◌-◌, ◌*◌, length}
+use Rattle.cstar_parser.specs.Outside.{Passes}
+use Rattle.grammar_parts.specs.Parts as P
+use Rattle.std.proofs.Common.{◌≤◌, ◌<◌, ◌+◌, ◌-◌, ◌*◌, length, [], ◌∷◌}
 use Rattle.cstar_tree.specs.Bounds.{declared_expressions}
 use Rattle.cstar_tree.specs.Declarations.{AreDeclarations}
 use Rattle.cstar_tree.specs.Statements.{AreStmts}
@@ -33,6 +35,7 @@ abbrev pub invariant-read_block-declarations : goal.invariant-read_block-declara
 invariant-read_block-declarations l =
     (l.fn.spot.at < l.spot.at) × (l.spot.at ≤ length l.self.tokens.now) × AreDeclarations l.self.tokens.now l.initial.spot.at l.declarations.items l.spot.at
     × FitWhole l.levels (declared_expressions l.declarations.items)
+    × Passes l.self.tokens.now l.levels l.fn.spot.at (P.block ∷ []) l.spot.at (P.declarations ∷ P.statements ∷ [])
 
 abbrev pub decreases-read_block-declarations : goal.decreases-read_block-declarations
 decreases-read_block-declarations l = length l.self.tokens.now - l.spot.at
@@ -41,6 +44,7 @@ abbrev pub invariant-read_block-statements : goal.invariant-read_block-statement
 invariant-read_block-statements l =
     (l.fn.spot.at < l.spot.at) × (l.spot.at ≤ length l.self.tokens.now) × AreStmts l.self.tokens.now l.initial.spot.at l.statements.items l.spot.at
     × FitStatements l.levels l.statements.items
+    × Passes l.self.tokens.now l.levels l.fn.spot.at (P.block ∷ []) l.spot.at (P.statements ∷ [])
 
 abbrev pub decreases-read_block-statements : goal.decreases-read_block-statements
 decreases-read_block-statements l = length l.self.tokens.now - l.spot.at

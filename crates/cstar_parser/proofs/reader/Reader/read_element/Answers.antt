@@ -1,5 +1,4 @@
 use Rattle.std.proofs.Common.{[], ◌∷◌, ◌≡◌, ◌∙◌, ap, sym, arith, refl, rules}
-use Rattle.cstar_tree.specs.declared.token.Kind.TheVariants as K
 use Rattle.cstar_tree.specs.declared.token.Mark.TheVariants as M
 use Rattle.grammar_parts.specs.Actions.{act, type_words}
 use Rattle.grammar_parts.specs.Parts as P

@@ -1,7 +1,5 @@
-use Rattle.std.proofs.Common.{[], ◌∷◌, arith, refl}
-use Rattle.cstar_tree.specs.declared.token.Kind.TheVariants as K
+use Rattle.std.proofs.Common.{[], arith, refl}
 use Rattle.cstar_tree.specs.declared.token.Mark.TheVariants as M
-use Rattle.grammar_parts.specs.Actions.{act}
 use Rattle.grammar_parts.specs.Parts as P
 use Rattle.cstar_parser.proofs.Following.{begin, behind, seen}
 use Rattle.cstar_parser.proofs.reader.Reader.read_size.Goals as goal

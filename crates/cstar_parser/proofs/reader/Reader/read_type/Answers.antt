@@ -4,7 +4,7 @@ use Rattle.cstar_tree.specs.declared.token.Mark.TheVariants as M
 use Rattle.cstar_tree.specs.Types as T
 use Rattle.grammar_parts.specs.Actions.{act}
 use Rattle.grammar_parts.specs.Parts as P
-use Rattle.cstar_parser.proofs.Following.{begin, hopeless, no_colon, nothing_behind, operated, refused, shaped, skipped, takes_operator, turned, unwritten}
+use Rattle.cstar_parser.proofs.Following.{begin, hopeless, no_colon, nothing_behind, operated, refused, shaped, skipped, turned, unwritten}
 use Rattle.cstar_parser.proofs.reader.Reader.read_type.Goals as goal
 
 pub returns-then-not-is_mark-clause-read : goal.returns-then-not-is_mark-clause-read
