@@ -60,34 +60,31 @@ module _ (P : Place → Type 0) (tokens : List Token) (start stop : ℕ) (holds 
   stands l h s = let fs = token_ends s in holds _ _ l (omega arith) s.place_is
 
   pub shape : {from to : ℕ} {shape : ShapeRef} → start ≤ from → to ≤ stop → IsShape tokens from shape to → ShapeWithin P shape
-  unfolding NameWithin CastWithin ShapeWithin TypeWithin Each
+  unfolding NameWithin ShapeWithin
   shape l h (T.named a) = stands l h a
   shape l h (T.current a) = stands l h a
 
   pub type : {from to : ℕ} {t : TypeName} → start ≤ from → to ≤ stop → IsType tokens from t to → TypeWithin P t
-  unfolding NameWithin CastWithin ShapeWithin TypeWithin Each
+  unfolding TypeWithin
   type l h (T.scalar a b) = let fb = words_ends b in (holds _ _ l (omega arith) a, tt)
   type l h (T.parallel a b c d) = let fb = words_ends b in let fc = token_ends c in let fd = shape_ends d in (holds _ _ l (omega arith) a, shape (omega arith) h d)
 
   pub bracketed : {from to : ℕ} {shape : ShapeRef} → start ≤ from → to ≤ stop → IsBracketedShape tokens from shape to → ShapeWithin P shape
-  unfolding NameWithin CastWithin ShapeWithin TypeWithin Each
   bracketed l h (O.bracketed a b c) = let fa = token_ends a in let fb = shape_ends b in let fc = token_ends c in shape (omega arith) (omega arith) b
 
   pub bit : {from to : ℕ} {bit : Option Name} → start ≤ from → to ≤ stop → IsBit tokens from bit to → IfSome bit (NameWithin P)
-  unfolding NameWithin CastWithin ShapeWithin TypeWithin Each
+  unfolding NameWithin
   bit l h (O.no_bit a b) = tt
   bit l h (O.bit a b c) = let fa = token_ends a in let fb = token_ends b in let fc = token_ends c in stands (omega arith) h c
 
   pub scan_options : {from to : ℕ} {combiner : Combiner} {direction : Direction} {mode : SegmentMode} {bit : Option Name} {inclusion : Inclusion} → start ≤ from → to ≤ stop → AreScanOptions tokens from combiner direction mode bit inclusion to → IfSome bit (NameWithin P)
-  unfolding NameWithin CastWithin ShapeWithin TypeWithin Each
   scan_options l h (O.scan_options a b c d e f) = let fa = some_listed_ends _ _ _ _ a in let fb = listed_ends b in let fc = listed_ends c in let fd = bit_ends d in let fe = listed_ends e in let ff = token_ends f in bit (omega arith) (omega arith) d
 
   pub enumerate_options : {from to : ℕ} {direction : Direction} {inclusion : Inclusion} {mode : SegmentMode} {bit : Option Name} → start ≤ from → to ≤ stop → AreEnumerateOptions tokens from direction inclusion mode bit to → IfSome bit (NameWithin P)
-  unfolding NameWithin CastWithin ShapeWithin TypeWithin Each
   enumerate_options l h (O.enumerate_options a b c d e) = let fa = listed_ends a in let fb = listed_ends b in let fc = listed_ends c in let fd = bit_ends d in let fe = token_ends e in bit (omega arith) (omega arith) d
 
   pub casts : {from to : ℕ} {list : List Cast} → start ≤ from → to ≤ stop → AreCasts tokens from list to → Each (CastWithin P) list
-  unfolding NameWithin CastWithin ShapeWithin TypeWithin Each
+  unfolding CastWithin Each
   casts l h X.no_cast = tt
   casts l h (X.one_more {casts = list} cast a b c d) = let fa = casts_ends a in let fb = token_ends b in let fc = words_ends c in let fd = token_ends d in each_more (CastWithin P) list cast (casts l (omega arith) a) (stands (omega arith) (omega arith) b)
 
@@ -137,29 +134,28 @@ module _ (P : Place → Type 0) (tokens : List Token) (start stop : ℕ) (holds 
     indexes l h (X.next_index {list = list} a b) = let fa = indexes_ends a in let fb = index_ends b in let i = indexes l (omega arith) a in let j = index (omega arith) h b in (i.0, each_more (ExpressionWithin P) list _ i.1 j.1)
 
   pub length_of : {from to : ℕ} {length : Option Expr} → start ≤ from → to ≤ stop → IsLength tokens from length to → IfSome length (ExpressionWithin P)
-  unfolding NameWithin InitialWithin DeclaratorWithin DeclarationWithin Each
   length_of l h D.no_length = tt
   length_of l h (D.length_is a b c) = let fa = token_ends a in let fb = expression_ends b in let fc = token_ends c in expression (omega arith) (omega arith) b
 
   pub initial : {from to : ℕ} {initial : Option Initializer} → start ≤ from → to ≤ stop → IsInitial tokens from initial to → IfSome initial (InitialWithin P)
-  unfolding NameWithin InitialWithin DeclaratorWithin DeclarationWithin Each
+  unfolding InitialWithin
   initial l h D.no_initial = tt
   initial l h (D.initial_is a b) = let fa = token_ends a in let fb = expression_ends b in (stands l (omega arith) a, expression (omega arith) h b)
 
   pub declarator : {from to : ℕ} {d : Declarator} → start ≤ from → to ≤ stop → IsDeclarator tokens from d to → DeclaratorWithin P d
-  unfolding NameWithin InitialWithin DeclaratorWithin DeclarationWithin Each
+  unfolding NameWithin DeclaratorWithin
   declarator l h (D.declarator a b c) = let fa = token_ends a in let fb = length_of_ends b in let fc = initial_ends c in (stands l (omega arith) a, length_of (omega arith) (omega arith) b, initial (omega arith) h c)
 
   pub declarators : {from to : ℕ} {list : List Declarator} → start ≤ from → to ≤ stop → AreDeclarators tokens from list to → Each (DeclaratorWithin P) list
-  unfolding NameWithin InitialWithin DeclaratorWithin DeclarationWithin Each
+  unfolding Each
   declarators l h (D.first_name a) = (declarator l h a, tt)
   declarators l h (D.next_name {list = list} a b c) = let fa = declarators_ends a in let fb = token_ends b in let fc = declarator_ends c in each_more (DeclaratorWithin P) list _ (declarators l (omega arith) a) (declarator (omega arith) h c)
 
   pub declaration : {from to : ℕ} {d : Declaration} → start ≤ from → to ≤ stop → IsDeclaration tokens from d to → DeclarationWithin P d
-  unfolding NameWithin InitialWithin DeclaratorWithin DeclarationWithin Each
+  unfolding DeclarationWithin
   declaration l h (D.declaration a b c) = let fa = type_ends a in let fb = declarators_ends b in let fc = token_ends c in (type l (omega arith) a, declarators (omega arith) (omega arith) b)
 
   pub declarations : {from to : ℕ} {list : List Declaration} → start ≤ from → to ≤ stop → AreDeclarations tokens from list to → Each (DeclarationWithin P) list
-  unfolding NameWithin InitialWithin DeclaratorWithin DeclarationWithin Each
+  unfolding Each
   declarations l h D.no_declaration = tt
   declarations l h (D.one_more {mid = mid} {to = to} {list = list} a b) = let fa = declarations_ends a in let fb = declaration_ends b in each_more (DeclarationWithin P) list _ (declarations l (omega arith) a) (declaration {from = mid} {to = to} (omega arith) h b)

@@ -70,12 +70,10 @@ module _ (P : Place → Type 0) (tokens : List Token) (start stop : ℕ) (holds 
   declarations l h x = places.declarations P tokens start stop holds l h x
 
   pub part : {from to : ℕ} {mark : Mark} {e : Option Expr} → start ≤ from → to ≤ stop → IsPart tokens from e mark to → IfSome e (ExpressionWithin P)
-  unfolding NameWithin
   part l h (Y.no_part a) = tt
   part l h (Y.part a b) = let fa = expression_ends a in let fb = token_ends b in expression l (omega arith) a
 
   pub test : {from to : ℕ} {e : Expr} → start ≤ from → to ≤ stop → IsTest tokens from e to → ExpressionWithin P e
-  unfolding NameWithin
   test l h (Y.test a b c) = let fa = token_ends a in let fb = expression_ends b in let fc = token_ends c in expression (omega arith) (omega arith) b
 
   mutual
@@ -106,41 +104,41 @@ module _ (P : Place → Type 0) (tokens : List Token) (start stop : ℕ) (holds 
     block l h (Y.block it a b c d) = let fa = token_ends a in let fb = declarations_ends b in let fc = statements_ends c in let fd = token_ends d in (stands l (omega arith) a, declarations (omega arith) (omega arith) b, statements (omega arith) (omega arith) c)
 
   pub shape_definition : {from to : ℕ} {s : ShapeDefinition} → start ≤ from → to ≤ stop → IsShapeDefinition tokens from s to → ShapeDefinitionWithin P s
-  unfolding NameWithin ShapeDefinitionWithin ParameterWithin ResultWithin FunctionWithin ItemWithin Each
+  unfolding NameWithin ShapeDefinitionWithin
   shape_definition l h (Z.shape_definition a b) = let fa = indexes_ends a in let fb = token_ends b in let i = indexes l (omega arith) a in (i.1, stands (omega arith) h b)
 
   pub shape_definitions : {from to : ℕ} {list : List ShapeDefinition} → start ≤ from → to ≤ stop → AreShapeDefinitions tokens from list to → Each (ShapeDefinitionWithin P) list
-  unfolding NameWithin ShapeDefinitionWithin ParameterWithin ResultWithin FunctionWithin ItemWithin Each
+  unfolding Each
   shape_definitions l h (Z.first_shape a) = (shape_definition l h a, tt)
   shape_definitions l h (Z.next_shape {next = next} {to = to} {list = list} a b c) = let fa = shape_definitions_ends a in let fb = token_ends b in let fc = shape_definition_ends c in each_more (ShapeDefinitionWithin P) list _ (shape_definitions l (omega arith) a) (shape_definition {from = next} {to = to} (omega arith) h c)
 
   pub parameter : {from to : ℕ} {p : Parameter} → start ≤ from → to ≤ stop → IsParameter tokens from p to → ParameterWithin P p
-  unfolding NameWithin ShapeDefinitionWithin ParameterWithin ResultWithin FunctionWithin ItemWithin Each
+  unfolding NameWithin ParameterWithin
   parameter l h (Z.parameter a b) = let fa = type_ends a in let fb = token_ends b in (type l (omega arith) a, stands (omega arith) h b)
 
   pub named : {from to : ℕ} {list : List Parameter} → start ≤ from → to ≤ stop → AreNamed tokens from list to → Each (ParameterWithin P) list
-  unfolding NameWithin ShapeDefinitionWithin ParameterWithin ResultWithin FunctionWithin ItemWithin Each
+  unfolding Each
   named l h (Z.first_parameter a) = (parameter l h a, tt)
   named l h (Z.next_parameter {list = list} a b c) = let fa = named_ends a in let fb = token_ends b in let fc = parameter_ends c in each_more (ParameterWithin P) list _ (named l (omega arith) a) (parameter (omega arith) h c)
 
   pub parameters : {from to : ℕ} {list : List Parameter} → start ≤ from → to ≤ stop → AreParameters tokens from list to → Each (ParameterWithin P) list
-  unfolding NameWithin ShapeDefinitionWithin ParameterWithin ResultWithin FunctionWithin ItemWithin Each
+  unfolding Each
   parameters l h Z.nothing = tt
   parameters l h (Z.void a) = tt
   parameters l h (Z.named a) = named l h a
 
   pub result : {from to : ℕ} {r : ResultType} → start ≤ from → to ≤ stop → IsResult tokens from r to → ResultWithin P r
-  unfolding NameWithin ShapeDefinitionWithin ParameterWithin ResultWithin FunctionWithin ItemWithin Each
+  unfolding ResultWithin
   result l h Z.unwritten = tt
   result l h (Z.void a) = tt
   result l h (Z.written a) = type l h a
 
   pub function : {from to : ℕ} {f : Function} → start ≤ from → to ≤ stop → IsFunction tokens from f to → FunctionWithin P f
-  unfolding NameWithin ShapeDefinitionWithin ParameterWithin ResultWithin FunctionWithin ItemWithin Each
+  unfolding NameWithin FunctionWithin
   function l h (Z.function it a b c d e f g) = let fb = result_ends b in let fc = token_ends c in let fd = token_ends d in let fe = parameters_ends e in let ff = token_ends f in let fg = block_ends g in (holds _ _ l (omega arith) a, result l (omega arith) b, stands (omega arith) (omega arith) c, parameters (omega arith) (omega arith) e, block (omega arith) h g)
 
   pub item : {from to : ℕ} {item : Item} → start ≤ from → to ≤ stop → IsItem tokens from item to → ItemWithin P item
-  unfolding NameWithin ShapeDefinitionWithin ParameterWithin ResultWithin FunctionWithin ItemWithin Each
+  unfolding ItemWithin
   item l h (Z.shapes a b c) = let fa = token_ends a in let fb = shape_definitions_ends b in let fc = token_ends c in (stands l (omega arith) a, shape_definitions (omega arith) (omega arith) b)
   item l h (Z.variables a) = declaration l h a
   item l h (Z.function_is a) = function l h a
