@@ -1,5 +1,5 @@
 -- The levels and the operators of each expression, from those of its parts.
-use Rattle.std.proofs.Common.{◌≡◌, ℕ, ◌+◌, max, Bool, List, [], ◌∷◌, ◌++◌, map, Option, Vec, Box, arith, sym, ap, ◌∙◌}
+use Rattle.std.proofs.Common.{◌≡◌, ℕ, ◌+◌, max, List, [], ◌∷◌, ◌++◌, map, Option, Vec, Box, arith, sym, ap, ◌∙◌}
 use Rattle.std.specs.declared.alloc.Global.{Global}
 use Rattle.cstar_base.specs.declared.operators.Place.{Place}
 use Rattle.cstar_base.specs.declared.operators.Combiner.{Combiner}
@@ -87,17 +87,9 @@ pub postfix : {p : Place} {op : StepOp} {operand : Box Expr Global} {e : Expr} �
 unfolding greatest total
 postfix {p = p} {op = op} {operand = operand} is = sized (is ∙ sym (rolled.rolls-Postfix p op operand)) (fold-roll-Expr ℕ levels_step (Expr-F.Postfix p op operand)) (fold-roll-Expr ℕ operators_step (Expr-F.Postfix p op operand))
 
-pub name : {n : Name} {e : Expr} → e ≡ E.Name n → IsSized e (0) (0 + 0)
-unfolding greatest total
-name {n = n} is = sized (is ∙ sym (rolled.rolls-Name n)) (fold-roll-Expr ℕ levels_step (Expr-F.Name n)) (fold-roll-Expr ℕ operators_step (Expr-F.Name n))
-
 pub element : {n : Name} {bracket : Place} {index : Box Expr Global} {e : Expr} → e ≡ E.Element n bracket index → IsSized e (1 + levels_in index.value) (0 + (operators_in index.value + 0))
 unfolding greatest total
 element {n = n} {bracket = bracket} {index = index} is = sized (is ∙ sym (rolled.rolls-Element n bracket index)) (fold-roll-Expr ℕ levels_step (Expr-F.Element n bracket index)) (fold-roll-Expr ℕ operators_step (Expr-F.Element n bracket index))
-
-pub number : {p : Place} {value : ℕ} {unsigned : Bool} {e : Expr} → e ≡ E.Number p value unsigned → IsSized e (0) (0 + 0)
-unfolding greatest total
-number {p = p} {value = value} {unsigned = unsigned} is = sized (is ∙ sym (rolled.rolls-Number p value unsigned)) (fold-roll-Expr ℕ levels_step (Expr-F.Number p value unsigned)) (fold-roll-Expr ℕ operators_step (Expr-F.Number p value unsigned))
 
 pub dot : {p : Place} {e : Expr} → e ≡ E.Dot p → IsSized e (0) (1 + 0)
 unfolding greatest total
