@@ -89,17 +89,25 @@ an_entry set len owner d =
     Makes (record { set = set; offset = length d.fields; len = len })
     (record d { fields = d.fields ++ record { set = set; len = len; owner = owner } ∷ [] })
 
--- a fresh field for a value, and one for a flag
-abbrev pub a_field : ℕ → Draft → Made Field
-a_field set d = an_entry set 32 W.Own d
+-- a fresh field of so many bits for a value, and one for a flag
+abbrev pub a_field : ℕ → ℕ → Draft → Made Field
+a_field set bits d = an_entry set bits W.Own d
 
 abbrev pub a_flag : ℕ → Draft → Made Field
 a_flag set d = an_entry set 1 W.Own d
 
--- a fresh field for a value of a shape, or a fresh register for a scalar one
-unfoldable pub fresh_for : Option ℕ → Draft → Made Out
-fresh_for None d = then_make (a_register d) (λ r after. Makes (O.Scalar r) after)
-fresh_for (Some set) d = then_make (a_field set d) (λ f after. Makes (O.Field f) after)
+-- a fresh field of so many bits for a value of a shape, or a fresh register for a scalar one
+unfoldable pub fresh_for : Option ℕ → ℕ → Draft → Made Out
+fresh_for None bits d = then_make (a_register d) (λ r after. Makes (O.Scalar r) after)
+fresh_for (Some set) bits d = then_make (a_field set bits d) (λ f after. Makes (O.Field f) after)
+
+-- the lowest bits of a field, and of a value that stands in one
+unfoldable pub first_bits : ℕ → Field → Field
+first_bits bits f = record f { len = bits }
+
+unfoldable pub shortened : ℕ → Out → Out
+shortened bits (O.Field f) = O.Field (first_bits bits f)
+shortened bits out = out
 
 -- an operand, as what an expression answers
 abbrev pub out_of : Operand → Out

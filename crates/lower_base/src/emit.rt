@@ -4,14 +4,14 @@ ghost use Rattle.std.specs.Prelude.{◌≡◌, ◌+◌, IfOk, OnOk};
 ghost use Rattle.paris_code.specs.declared.program.Owner.TheVariants as W;
 ghost use Rattle.lower_base.specs.declared.emit.Operand.TheVariants as P;
 ghost use Rattle.lower_base.specs.declared.emit.Out.TheVariants as O;
-ghost use Rattle.lower_base.specs.Drafts.{Makes, draft, here, with_instr, a_register, an_entry, fresh_for, out_of};
+ghost use Rattle.lower_base.specs.Drafts.{Makes, draft, here, with_instr, a_register, an_entry, first_bits, fresh_for, out_of, shortened};
 
 use cstar_base::Memory;
 use cstar_tree::typed::ValueType;
 use paris_code::{Field, Instr, Owner, Unit, Virtual};
 
-/// Where a value stands: in a register, or in a field. One of at most 32 bits stands there promoted
-/// to 32 bits.
+/// Where a value stands: in a register, promoted to 32 bits, or in a field, which has as many of its
+/// lowest bits as are wanted.
 #[derive(Clone, Copy, PartialEq, Eq)]
 pub enum Operand {
     Register(u32),
@@ -63,11 +63,11 @@ pub fn entry(u: &mut Unit, set: u16, len: u8, owner: Owner) -> Result<Field, Mem
     Ok(Field { set, offset, len })
 }
 
-/// A fresh field of 32 bits, for a value.
-pub fn field(u: &mut Unit, set: u16) -> Result<Field, Memory>
-    ensures draft { IfOk result (λ f. an_entry set 32 W.Own (draft u.old) ≡ Makes f (draft u.new)) }
+/// A fresh field of so many bits, for a value.
+pub fn field(u: &mut Unit, set: u16, bits: u8) -> Result<Field, Memory>
+    ensures draft { IfOk result (λ f. an_entry set bits W.Own (draft u.old) ≡ Makes f (draft u.new)) }
 {
-    entry(u, set, 32, Owner::Own)
+    entry(u, set, bits, Owner::Own)
 }
 
 /// A fresh field of one bit, for a flag.
@@ -77,14 +77,26 @@ pub fn flag(u: &mut Unit, set: u16) -> Result<Field, Memory>
     entry(u, set, 1, Owner::Own)
 }
 
-/// A fresh field for a value of the type, or a fresh register where it is scalar.
+/// A fresh field of so many bits for a value of the type, or a fresh register where it is scalar.
 #[tactic(auto, unfolding(crate::specs::Drafts::fresh_for, crate::specs::Drafts::then_make))]
-pub fn fresh(ty: ValueType, u: &mut Unit) -> Result<Operand, Memory>
-    ensures draft { IfOk result (λ dest. fresh_for ty.shape (draft u.old) ≡ Makes (out_of dest) (draft u.new)) }
+pub fn fresh(ty: ValueType, bits: u8, u: &mut Unit) -> Result<Operand, Memory>
+    ensures draft { IfOk result (λ dest. fresh_for ty.shape bits (draft u.old) ≡ Makes (out_of dest) (draft u.new)) }
 {
     match ty.shape {
-        Some(set) => Ok(Operand::Field(field(u, set)?)),
+        Some(set) => Ok(Operand::Field(field(u, set, bits)?)),
         None => Ok(Operand::Register(register(u)?)),
+    }
+}
+
+/// The lowest bits of a field.
+#[tactic(auto, unfolding(crate::specs::Drafts::first_bits))]
+pub fn first_bits(bits: u8, field: Field) -> Field
+    ensures { result ≡ first_bits bits field }
+{
+    Field {
+        set: field.set,
+        offset: field.offset,
+        len: bits,
     }
 }
 
@@ -141,6 +153,17 @@ impl Operand {
 }
 
 impl Out {
+    /// The lowest bits of a value that stands in a field; any other value as it is.
+    #[tactic(auto, unfolding(crate::specs::Drafts::shortened))]
+    pub fn shortened(self, bits: u8) -> Out
+        ensures { result ≡ shortened bits self }
+    {
+        match self {
+            Out::Field(field) => Out::Field(first_bits(bits, field)),
+            Out::Scalar(_) | Out::Nothing => self,
+        }
+    }
+
     /// Where the value stands. `Memory` where it stands nowhere.
     pub fn operand(self) -> Result<Operand, Memory>
         ensures { IfOk result (λ value. self ≡ out_of value) }

@@ -1,5 +1,5 @@
 -- The code of communication, over parts that stand in registers and fields already.
-use Rattle.std.specs.Prelude.{ℕ, Bool, true, false, ◌+◌, ◌==◌, ◌&&◌, if◌then◌else◌, List, [], ◌∷◌, ◌++◌, length, map, slice_get, Option, Some, None}
+use Rattle.std.specs.Prelude.{ℕ, Bool, true, false, not, ◌+◌, ◌==◌, ◌&&◌, nat_lt, if◌then◌else◌, List, [], ◌∷◌, ◌++◌, length, map, slice_get, Option, Some, None}
 use Rattle.cstar_base.specs.declared.elem.Elem.{Elem}
 use Rattle.cstar_base.specs.declared.operators.Op.{Op}
 use Rattle.cstar_base.specs.declared.operators.Place.{Place}
@@ -27,7 +27,7 @@ use Rattle.lower_base.specs.declared.emit.Out.TheVariants as O
 use Rattle.lower_comm.specs.declared.gets.Hop.{Hop}
 use Rattle.lower_comm.specs.declared.messages.Line.{Line}
 use Rattle.lower_comm.specs.declared.news.NewsStep.{NewsStep}
-use Rattle.lower_base.specs.Drafts.{Draft, Made, Makes, Fails, then_make, from, with_instr, with_step, a_register, a_field, an_entry, fresh_for, in_register, in_field, ChecksGrid, ChecksTarget, MakesAddress, FrontChecksTarget, FrontMakesAddress}
+use Rattle.lower_base.specs.Drafts.{Draft, Made, Makes, Fails, then_make, from, with_instr, with_step, a_register, a_field, an_entry, first_bits, fresh_for, in_register, in_field, ChecksGrid, ChecksTarget, MakesAddress, FrontChecksTarget, FrontMakesAddress}
 use Rattle.lower_base.specs.Layouts.{Layout, field_of, first_named, layout_of}
 use Rattle.lower_comm.specs.News.{step_of}
 use Rattle.lower_base.specs.Operators.{operation_of, assign_op_of, fold_of, reduce_op_of, scan_fold_of, is_signed}
@@ -121,30 +121,39 @@ with_hop step hop d = with_instr (I.GetFromNewsAlways hop.next hop.source step.a
 unfoldable pub hopped : Hop → Hop
 hopped hop = record { source = hop.next; next = hop.spare; spare = hop.next }
 
+-- has the destination more bits than a variable, whose values are then extended to it
+unfoldable pub is_extended : Elem → Field → Bool
+is_extended elem dest = nat_lt elem.bits dest.len
+
+-- what is read of a variable: all its bits, or as many of the lowest as the destination has
+unfoldable pub bits_read : Elem → Field → Field → Field
+bits_read elem dest source = if is_extended elem dest then source else first_bits dest.len source
+
 -- steps, by turns into one field and into another, at every processor, and then what was got becomes the
--- value of the destination; the last step of 32 bits goes there itself
+-- value of the destination; the last step goes there itself where the values need no more bits
 unfoldable pub stepwise : Elem → Field → List GridStep → Hop → Draft → Draft
 stepwise elem dest [] hop d = with_instr (I.Move elem.signed dest hop.source) d
 stepwise elem dest (step ∷ steps) hop d =
-    if length steps == 0 && elem.bits == 32 then with_instr (I.GetFromNews dest hop.source step.axis step.step) d
+    if length steps == 0 && not (is_extended elem dest) then with_instr (I.GetFromNews dest hop.source step.axis step.step) d
     else stepwise elem dest steps (hopped hop) (with_hop step hop d)
 
 -- a get by NEWS, with two fresh fields to go through
 unfoldable pub gotten_by_steps : ℕ → List TExpr → Elem → Field → Field → Draft → Made Out
 gotten_by_steps of indexes elem source dest d =
-    then_make (an_entry dest.set source.len W.Own d)
-    (λ one b. then_make (an_entry dest.set source.len W.Own b)
-    (λ other c. Makes (O.Field dest) (stepwise elem dest (moving_steps of 0 indexes) (record { source = source; next = one; spare = other }) c)))
+    let read : Field = bits_read elem dest source in
+    then_make (an_entry dest.set read.len W.Own d)
+    (λ one b. then_make (an_entry dest.set read.len W.Own b)
+    (λ other c. Makes (O.Field dest) (stepwise elem dest (moving_steps of 0 indexes) (record { source = read; next = one; spare = other }) c)))
 
--- a read through a left index: of one element, by the router (what has 32 bits goes straight to its
--- destination), or by NEWS
+-- a read through a left index: of one element, by the router (straight to the destination, where the
+-- values need no more bits), or by NEWS
 unfoldable pub read_at : ℕ → List TExpr → Elem → Field → Out → Out → Draft → Made Out
 read_at of indexes elem source (O.Scalar processor) into d =
     in_register into (λ dest. Makes into (with_instr (I.ReadFromProcessor elem.signed dest processor source) d))
 read_at of indexes elem source (O.Field to) into d =
-    in_field into (λ dest. if elem.bits == 32 then Makes into (with_instr (I.Get dest to source) d)
-    else then_make (an_entry dest.set source.len W.Own d)
-    (λ got after. Makes into (with_instr (I.Move elem.signed dest got) (with_instr (I.Get got to source) after))))
+    in_field into (λ dest. if is_extended elem dest then then_make (an_entry dest.set source.len W.Own d)
+    (λ got after. Makes into (with_instr (I.Move elem.signed dest got) (with_instr (I.Get got to source) after)))
+    else Makes into (with_instr (I.Get dest to (first_bits dest.len source)) d))
 read_at of indexes elem source O.Nothing into d = in_field into (λ dest. gotten_by_steps of indexes elem source dest d)
 
 -- the parts of a communication that stand in a register, and in a field
@@ -191,14 +200,13 @@ stored t l target processor parts d =
 
 -- what is sent with a combiner: what is to be subtracted is added as its negative
 unfoldable pub sent_value : Op → Field → Draft → Made Field
-sent_value Op.Sub value d = then_make (a_field value.set d) (λ source after. Makes source (with_instr (I.Negate source value) after))
+sent_value Op.Sub value d = then_make (a_field value.set 32 d) (λ source after. Makes source (with_instr (I.Negate source value) after))
 sent_value _ value d = Makes value d
 
--- a send to a field: without a combiner of a value of its width, else of 32 bits
+-- a send to a field: without a combiner of a value of its length, else of 32 bits
 unfoldable pub sent_to : Option Op → Bool → Elem → Field → Field → Field → Draft → Made Out
 sent_to None signed kind dest to value d =
-    then_make (an_entry value.set dest.len W.Own d) (λ source after. Makes O.Nothing
-    (with_instr (I.SendWithOverwrite dest kind to source) (with_instr (I.Move false source value) after)))
+    Makes O.Nothing (with_instr (I.SendWithOverwrite dest kind to value) d)
 sent_to (Some op) signed kind dest to value d =
     then_make (sent_value op value d)
     (λ source after. Makes O.Nothing (with_instr (I.SendWithCombiner (fold_of op signed) dest kind to source) after))
@@ -227,7 +235,7 @@ segment_field t l (Some x) d = then_make (field_of t l x 0 d) (λ f after. Makes
 -- an enumeration, which is a scan of ones
 unfoldable pub enumerated : Typed → Layout → Line → Option Variable → Out → Draft → Made Out
 enumerated t l line bit into d =
-    in_field into (λ dest. then_make (a_field dest.set d) (λ ones b. then_make
+    in_field into (λ dest. then_make (a_field dest.set 32 d) (λ ones b. then_make
     (segment_field t l bit (with_instr (I.MoveConstant ones (K.Imm 1)) b))
     (λ bits after. scanned F.SAdd ones line bits into after)))
 
@@ -253,7 +261,7 @@ communicated t l e at parts into d =
 -- a left index with the values of its indexes; a get by NEWS has none
 unfoldable pub reached : TExpr → List Out → Draft → Made Out
 reached e [] d = checked_grid e d
-reached e (out ∷ outs) d = then_make (fresh_for (type_of e).shape d) (λ at after. located e (out ∷ outs) at after)
+reached e (out ∷ outs) d = then_make (fresh_for (type_of e).shape 32 d) (λ at after. located e (out ∷ outs) at after)
 
 -- one communication, as the first instance of this name sees the variables
 unfoldable pub communicated_by : Typed → List ℕ → TExpr → Out → List Out → Out → Draft → Made Out

@@ -63,7 +63,7 @@ pub fn locate(
             Ok(Out::Nothing)
         }
         [_, ..] => {
-            let at = fresh(*ty, u)?;
+            let at = fresh(*ty, 32, u)?;
             reference.locate(alloc, indexes, at, u)?;
             Ok(at.out())
         }

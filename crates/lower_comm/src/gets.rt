@@ -3,12 +3,12 @@
 ghost use Rattle.std.specs.Prelude.{◌≡◌, ◌++◌, IfOk, OnOk};
 ghost use Rattle.paris_code.specs.declared.instr.Instr.TheVariants as I;
 ghost use Rattle.lower_base.specs.Drafts.{Makes, draft, with_instr};
-ghost use Rattle.lower_comm.specs.Messages.{gotten_by_steps, hopped, moving_part, moving_steps, read_at, stepwise, with_hop};
+ghost use Rattle.lower_comm.specs.Messages.{bits_read, gotten_by_steps, hopped, is_extended, moving_part, moving_steps, read_at, stepwise, with_hop};
 
 use crate::news::{NewsStep, step_of};
 use cstar_base::{Elem, Memory};
 use cstar_tree::typed::TExpr;
-use lower_base::emit::{Out, count, entry, put};
+use lower_base::emit::{Out, count, entry, first_bits, put};
 use paris_code::{Field, GridStep, Instr, Konst, Owner, Unit};
 use std::alloc::Global;
 
@@ -42,7 +42,8 @@ pub fn read(
         }
         Out::Field(address) => {
             let dest = into.field()?;
-            if elem.bits == 32 {
+            if !is_extended(elem, dest) {
+                let source = first_bits(dest.len, source);
                 put(
                     u,
                     Instr::Get {
@@ -76,10 +77,30 @@ pub fn read(
     }
 }
 
-/// The fields of a get by NEWS, all of as many bits as the variable that it reads.
+/// Whether the destination has more bits than a variable, whose values are then extended to it.
+#[tactic(auto, unfolding(crate::specs::Messages::is_extended))]
+fn is_extended(elem: Elem, dest: Field) -> bool
+    ensures { result ≡ is_extended elem dest }
+{
+    elem.bits < dest.len
+}
+
+/// What is read of a variable: all its bits, or as many of the lowest as the destination has.
+#[tactic(auto, unfolding(crate::specs::Messages::bits_read))]
+fn bits_read(elem: Elem, dest: Field, source: Field) -> Field
+    ensures { result ≡ bits_read elem dest source }
+{
+    if is_extended(elem, dest) {
+        source
+    } else {
+        first_bits(dest.len, source)
+    }
+}
+
+/// The fields of a get by NEWS, all of as many bits as are read of the variable.
 #[derive(Clone, Copy)]
 pub struct Hop {
-    /// Where the values are: at first the variable itself.
+    /// Where the values are: at first in the variable itself.
     pub source: Field,
     /// Where they go next.
     pub next: Field,
@@ -114,6 +135,7 @@ fn by_steps(
 ) -> Result<Out, Memory>
     ensures draft { IfOk result (λ out. gotten_by_steps of indexes.now elem source dest (draft u.old) ≡ Makes out (draft u.new)) }
 {
+    let source = bits_read(elem, dest, source);
     let next = entry(u, dest.set, source.len, Owner::Own)?;
     let spare = entry(u, dest.set, source.len, Owner::Own)?;
     let steps = moving_steps(alloc, of, indexes)?;
@@ -126,8 +148,8 @@ fn by_steps(
     Ok(Out::Field(dest))
 }
 
-/// Steps, and then what was got becomes the value of `dest`. The last step of 32 bits goes there
-/// itself.
+/// Steps, and then what was got becomes the value of `dest`. The last step goes there itself where the
+/// values need no more bits.
 #[tactic(auto, unfolding(crate::specs::Messages::stepwise))]
 fn stepwise(
     elem: Elem,
@@ -140,7 +162,7 @@ fn stepwise(
 {
     let mut hop = start;
     for (number, step) in steps.iter().enumerate() {
-        if steps.len() - (number + 1) == 0 && elem.bits == 32 {
+        if steps.len() - (number + 1) == 0 && !is_extended(elem, dest) {
             return step_to(*step, hop.source, dest, u);
         }
         step_on(*step, hop, u)?;

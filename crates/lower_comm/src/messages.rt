@@ -13,9 +13,9 @@ use cstar_base::{Direction, Elem, Inclusion, Memory, Op, SegmentMode};
 use cstar_tree::syntax::ReduceOp;
 use cstar_tree::typed::{TExpr, Typed, Variable};
 use lower_base::View;
-use lower_base::emit::{Out, entry, field, put, register};
+use lower_base::emit::{Out, field, put, register};
 use lower_base::operators::{assign_op, fold_of, operation, promoted_signed, reduce_op, scan_fold};
-use paris_code::{Field, Instr, Konst, Owner, Reduction, Unit};
+use paris_code::{Field, Instr, Konst, Reduction, Unit};
 
 /// Whether the get goes by NEWS: each index is a step along its own axis.
 #[tactic(auto, unfolding(crate::specs::News::goes_by_news))]
@@ -312,7 +312,7 @@ fn send(
     send_to(op, signed, target.ty().elem, dest, address, value, u)
 }
 
-/// A send to a field: without a combiner of a value of the field's width, else of 32 bits.
+/// A send to a field: without a combiner of a value of the field's length, else of 32 bits.
 #[tactic(auto, unfolding(crate::specs::Messages::sent_to, lower_base::specs::Drafts::then_make))]
 fn send_to(
     op: Option<Op>,
@@ -326,22 +326,13 @@ fn send_to(
     ensures draft { IfOk result (λ out. sent_to op signed kind dest address value (draft u.old) ≡ Makes out (draft u.new)) }
 {
     let Some(op) = op else {
-        let source = entry(u, value.set, dest.len, Owner::Own)?;
-        put(
-            u,
-            Instr::Move {
-                signed: false,
-                dest: source,
-                source: value,
-            },
-        )?;
         put(
             u,
             Instr::SendWithOverwrite {
                 dest,
                 kind,
                 address,
-                source,
+                source: value,
             },
         )?;
         return Ok(Out::Nothing);
@@ -367,7 +358,7 @@ fn sent_value(op: Op, value: Field, u: &mut Unit) -> Result<Field, Memory>
 {
     match op {
         Op::Sub => {
-            let source = field(u, value.set)?;
+            let source = field(u, value.set, 32)?;
             put(
                 u,
                 Instr::Negate {
@@ -402,7 +393,7 @@ fn enumerate(
     ensures draft { IfOk result (λ out. enumerated view.now.typed.now (layout view.now.names) line bit into (draft u.old) ≡ Makes out (draft u.new)) }
 {
     let dest = into.field()?;
-    let ones = field(u, dest.set)?;
+    let ones = field(u, dest.set, 32)?;
     put(
         u,
         Instr::MoveConstant {

@@ -1,6 +1,6 @@
 -- Operands that stand in a register or a field already, that of a constant or a variable's own, and when
 -- they may be used there.
-use Rattle.std.specs.Prelude.{ℕ, Bool, true, false, ◌==◌, ◌&&◌, ◌||◌, if◌then◌else◌, List, [], ◌∷◌, Option, Some, None, is_none}
+use Rattle.std.specs.Prelude.{ℕ, Bool, true, false, ◌==◌, ◌&&◌, ◌||◌, nat_le, if◌then◌else◌, List, [], ◌∷◌, Option, Some, None, is_none}
 use Rattle.source_meaning.specs.Constants.{then_value}
 use Rattle.cstar_tree.specs.declared.typed.TExpr.{TExpr, Row_of-TExpr, end_of-TExpr, more_of-TExpr}
 use Rattle.cstar_tree.specs.declared.typed.TExpr as T
@@ -10,10 +10,11 @@ use Rattle.cstar_tree.specs.declared.typed.UnaryOp.TheVariants as Un
 use Rattle.lower_base.specs.declared.emit.Out.{Out}
 use Rattle.lower_base.specs.declared.emit.Out.TheVariants as O
 use Rattle.lower_base.specs.Constants.{constant_register}
-use Rattle.lower_base.specs.Drafts.{Draft, Made, Makes, then_make}
+use Rattle.lower_base.specs.Drafts.{Draft, Made, Makes, then_make, first_bits}
 use Rattle.lower_base.specs.Layouts.{Layout, register_of, field_of}
 use Rattle.lower_expr.specs.declared.operands.Own.{Own}
-use Rattle.lower_expr.specs.Steps.{register_word}
+use Rattle.lower_expr.specs.Kinds.{is_unchanged}
+use Rattle.lower_expr.specs.Steps.{is_kept, register_word}
 
 -- does the expression leave all variables, the turns, the input and the output as they are: it has
 -- no assignment, no step, no call, no `printf` and no `getchar`
@@ -52,43 +53,43 @@ unfoldable pub all_quiet : List TExpr → Bool
 all_quiet [] = true
 all_quiet (e ∷ rest) = is_quiet e && all_quiet rest
 
--- The variable in whose own register or field the value stands: a scalar one, or a parallel one of
--- 32 bits; a conversion to 32 bits has no code.
-unfoldable pub own_of : TExpr → Option Own
-own_of (T.Variable ty x) =
-    if is_none ty.shape || ty.elem.bits == 32 then Some (record { shape = ty.shape; variable = x }) else None
-own_of (T.Brackets' ty p inner) = own_of inner
-own_of (T.Promote' ty p operand) = own_of operand
-own_of (T.Convert' ty p operand) = if ty.elem.bits == 32 then own_of operand else None
-own_of _ = None
+-- The variable in whose own register or field so many bits of the value stand: a scalar one, or a
+-- parallel one that is as long; a conversion that leaves these bits as they are has no code.
+unfoldable pub own_of : ℕ → TExpr → Option Own
+own_of bits (T.Variable ty x) =
+    if is_none ty.shape || nat_le bits ty.elem.bits then Some (record { shape = ty.shape; variable = x }) else None
+own_of bits (T.Brackets' ty p inner) = own_of bits inner
+own_of bits (T.Promote' ty p operand) = own_of bits operand
+own_of bits (T.Convert' ty p operand) = if is_unchanged bits ty.elem (is_kept operand) then own_of bits operand else None
+own_of bits _ = None
 
--- that register or field
-unfoldable pub standing : Typed → Layout → Own → Draft → Made Out
-standing t l own d =
+-- that register, or so many bits of that field
+unfoldable pub standing : Typed → Layout → ℕ → Own → Draft → Made Out
+standing t l bits own d =
     elim own.shape [
       | None ↦ Makes (O.Scalar (register_of l own.variable)) d
-      | Some _ ↦ then_make (field_of t l own.variable 0 d) (λ f after. Makes (O.Field f) after)
+      | Some _ ↦ then_make (field_of t l own.variable 0 d) (λ f after. Makes (O.Field (first_bits bits f)) after)
     ]
 
 -- an operand is used where it stands if all is quiet that is evaluated before its use
-unfoldable pub in_place : Bool → TExpr → Option Own
-in_place quiet e = if quiet then own_of e else None
+unfoldable pub in_place : ℕ → Bool → TExpr → Option Own
+in_place bits quiet e = if quiet then own_of bits e else None
 
 -- the register in which the word of a scalar constant stands
 unfoldable pub held : Layout → TExpr → Option ℕ
 held l e = then_value (register_word e) (constant_register l)
 
--- the value of an operand, which has this code where it does not stand anywhere
-unfoldable pub operand_by : Typed → Layout → (Draft → Made Out) → Bool → TExpr → Draft → Made Out
-operand_by t l code quiet e d =
+-- so many bits of the value of an operand, which has this code where it does not stand anywhere
+unfoldable pub operand_by : Typed → Layout → ℕ → (Draft → Made Out) → Bool → TExpr → Draft → Made Out
+operand_by t l bits code quiet e d =
     elim (held l e) [
       | Some r ↦ Makes (O.Scalar r) d
-      | None ↦ elim (in_place quiet e) [ Some own ↦ standing t l own d | None ↦ code d ]
+      | None ↦ elim (in_place bits quiet e) [ Some own ↦ standing t l bits own d | None ↦ code d ]
     ]
 
 -- how many instructions it has, by the length of that code
-unfoldable pub operand_length : Layout → ℕ → Bool → TExpr → ℕ
-operand_length l n quiet e = elim (held l e) [ Some _ ↦ 0 | None ↦ elim (in_place quiet e) [ Some _ ↦ 0 | None ↦ n ] ]
+unfoldable pub operand_length : Layout → ℕ → ℕ → Bool → TExpr → ℕ
+operand_length l bits n quiet e = elim (held l e) [ Some _ ↦ 0 | None ↦ elim (in_place bits quiet e) [ Some _ ↦ 0 | None ↦ n ] ]
 
 -- the operator before an operand that has no code
 unfoldable pub is_plus : UnaryOp → Bool

@@ -96,10 +96,11 @@ word_taken op e = then_value (word_of e) (λ w. if divides op && w == 0 then Non
 unfoldable pub constant_in : ℕ → Draft → Made Out
 constant_in value d = then_make (a_register d) (λ r after. Makes (O.Scalar r) (with_instr (I.FrontConst r value) after))
 
--- the test flag as the value of a field, 0 or 1
+-- the test flag as the value of a field, 0 or 1: of one bit at once, and else from a flag
 unfoldable pub put_test : Field → Draft → Made Out
 put_test dest d =
-    then_make (a_flag dest.set d)
+    if dest.len == 1 then Makes (O.Field dest) (with_instr (I.StoreTest dest) d)
+    else then_make (a_flag dest.set d)
     (λ kept after. Makes (O.Field dest) (with_instr (I.Move false dest kept) (with_instr (I.StoreTest kept) after)))
 
 -- A field of 32 bits converted in place: to `bool` by a test, to another narrow type by shifting

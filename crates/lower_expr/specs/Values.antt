@@ -1,7 +1,8 @@
--- The code of an expression. Its value goes to a register or a field that is taken first; those of
--- its parts are taken behind it, in the order of the text. An operand that is a variable is used where
--- it stands, or copied where a later part may change it.
-use Rattle.std.specs.Prelude.{ℕ, ◌+◌, Bool, true, false, not, ◌||◌, if◌then◌else◌, List, [], ◌∷◌, ◌++◌, Option, Some, None, unwrap_or}
+-- The code of an expression, of whose value so many bits are wanted where it is parallel: its field has
+-- so many. A value goes to a register or a field that is taken first; those of its parts are taken
+-- behind it, in the order of the text. An operand that is a variable is used where it stands, or copied
+-- where a later part may change it.
+use Rattle.std.specs.Prelude.{ℕ, ◌+◌, ◌==◌, Bool, true, false, not, ◌||◌, nat_lt, if◌then◌else◌, List, [], ◌∷◌, ◌++◌, Option, Some, None, unwrap_or}
 use Rattle.std.specs.Int.{from_bool}
 use Rattle.cstar_base.specs.declared.elem.Elem.{Elem}
 use Rattle.cstar_base.specs.declared.operators.Op.{Op}
@@ -26,7 +27,7 @@ use Rattle.paris_code.specs.declared.operands.Operation.{Operation}
 use Rattle.paris_code.specs.declared.operands.Operation.TheVariants as Act
 use Rattle.lower_base.specs.declared.emit.Out.{Out}
 use Rattle.lower_base.specs.declared.emit.Out.TheVariants as O
-use Rattle.lower_base.specs.Drafts.{Draft, Made, Makes, Fails, then_make, from, here, with_instr, a_register, a_field, a_flag, fresh_for, in_register, in_field}
+use Rattle.lower_base.specs.Drafts.{Draft, Made, Makes, Fails, then_make, from, here, with_instr, a_register, a_field, a_flag, fresh_for, shortened, in_register, in_field}
 use Rattle.lower_base.specs.Constants.{word_in}
 use Rattle.lower_base.specs.Layouts.{Layout, field_of, first_named, layout_of}
 use Rattle.lower_comm.specs.Messages.{located, checked_grid, communicated}
@@ -39,7 +40,8 @@ use Rattle.lower_expr.specs.declared.spots.Spot.TheVariants as S
 use Rattle.lower_expr.specs.declared.steps.Right.{Right}
 use Rattle.lower_expr.specs.declared.steps.Right.TheVariants as R
 use Rattle.lower_expr.specs.Frames.{called}
-use Rattle.lower_expr.specs.Lengths.{is_send, length_of, arm_length_of, tested_length}
+use Rattle.lower_expr.specs.Kinds.{assigned_bits, bits_of, kind_of, list_bits, operand_bits, reads_signed, relation_kind, result_bits, unary_bits}
+use Rattle.lower_expr.specs.Lengths.{is_send, length_of, arm_length_of, test_put_length, tested_length}
 use Rattle.lower_expr.specs.Operands.{is_plus, is_quiet, are_quiet, all_quiet, operand_by, operand_length}
 use Rattle.lower_expr.specs.Positions.{known_position}
 use Rattle.lower_expr.specs.Spots.{variable_spot, index_checked, loaded, stored}
@@ -64,9 +66,9 @@ spread_into code e dest d = elim (word_of e) [
   | None ↦ then_make (code d) (λ v after. in_a_field v dest after)
 ]
 
-unfoldable pub spread_by : Code → TExpr → ℕ → Draft → Made Out
-spread_by code e set d =
-    if is_kept e then then_make (a_field set d) (λ dest between. then_make (spread_into code e dest between)
+unfoldable pub spread_by : Code → TExpr → ℕ → ℕ → Draft → Made Out
+spread_by code e set bits d =
+    if is_kept e then then_make (a_field set bits d) (λ dest between. then_make (spread_into code e dest between)
     (λ f after. Makes (O.Field f) after))
     else code d
 
@@ -82,10 +84,14 @@ right_by code op e d = elim (word_taken op e) [
   | None ↦ then_make (code d) (λ v after. from (right_given v) (λ right. Makes right after))
 ]
 
+-- the lowest bits of what is made
+unfoldable pub lowest : ℕ → Made Out → Made Out
+lowest bits made = then_make made (λ v after. Makes (shortened bits v) after)
+
 -- the own coordinate, and the next byte of the input
-unfoldable pub coordinate_in : Option ℕ → ℕ → Draft → Made Out
-coordinate_in shape axis d =
-    then_make (a_field (unwrap_or shape 0) d) (λ f after. Makes (O.Field f) (with_instr (I.MyNewsCoordinate f axis) after))
+unfoldable pub coordinate_in : Option ℕ → ℕ → ℕ → Draft → Made Out
+coordinate_in shape bits axis d =
+    then_make (a_field (unwrap_or shape 0) bits d) (λ f after. Makes (O.Field f) (with_instr (I.MyNewsCoordinate f axis) after))
 
 unfoldable pub byte_in : Draft → Made Out
 byte_in d = then_make (a_register d) (λ r after. Makes (O.Scalar r) (with_instr (I.FrontGetByte r) after))
@@ -95,11 +101,30 @@ unfoldable pub casts_put : List Elem → ℕ → Draft → Draft
 casts_put [] r d = d
 casts_put (kind ∷ inner) r d = with_instr (I.FrontConvert r r kind) (casts_put inner r d)
 
+-- A parallel value converted to a type: to `bool` by its test, to a type that has fewer bits than are
+-- wanted by its bits of that type, which are extended; else the wanted bits stay as they are.
+unfoldable pub extended : Bool → Field → Code → Draft → Made Out
+extended signed dest code d =
+    then_make (code d) (λ v after. in_field v (λ source. Makes (O.Field dest) (with_instr (I.Move signed dest source) after)))
+
+unfoldable pub truth_put : Field → Test → Draft → Made Out
+truth_put dest test d = then_make (test d) (λ _ after. put_test dest after)
+
+unfoldable pub cast_by : ℕ → ℕ → Elem → Test → Code → Code → Draft → Made Out
+cast_by set bits elem test own whole d =
+    if elem.bits == 1 then then_make (a_field set bits d) (λ dest begun. truth_put dest test begun)
+    else if nat_lt elem.bits bits then then_make (a_field set bits d) (λ dest begun. extended elem.signed dest own begun)
+    else whole d
+
+-- a value that is kept in a register, converted there
+unfoldable pub register_cast_by : Elem → Code → Draft → Made Out
+register_cast_by elem code d = then_make (code d) (λ v after. converted_in_place v elem after)
+
 -- a unary operator; `+` has no code
-unfoldable pub unary_by : Layout → ValueType → UnaryOp → Code → Code → Draft → Made Out
-unary_by l ty op code operand d =
+unfoldable pub unary_by : Layout → ValueType → ℕ → UnaryOp → Code → Code → Draft → Made Out
+unary_by l ty bits op code operand d =
     if is_plus op then code d
-    else then_make (fresh_for ty.shape d) (λ dest between. then_make (operand between) (λ v after. negated l op dest v after))
+    else then_make (fresh_for ty.shape bits d) (λ dest between. then_make (operand between) (λ v after. negated l op dest v after))
 
 -- a binary operator on registers, and one on fields: its last instruction writes the result, and a
 -- scalar operand that the operation does not take is spread into the spare field
@@ -113,10 +138,20 @@ fields_by op signed place f spare first left second right d =
     then_make (spread_into first left spare d) (λ a between. then_make (right_by second op right between)
     (λ b after. right_operated op signed place f a b spare after))
 
-unfoldable pub binary_at : Out → Op → Bool → Place → Code → TExpr → Code → TExpr → Draft → Made Out
-binary_at (O.Scalar r) op signed place first left second right d = registers_by op signed place r first second d
-binary_at (O.Field f) op signed place first left second right d = fields_by op signed place f f first left second right d
-binary_at O.Nothing op signed place first left second right d = Fails
+-- the spare field is the result's, but for a relation, whose operands have other bits
+unfoldable pub spare_for : Op → Field → ℕ → Draft → Made Field
+spare_for op dest bits d = if relates op then a_field dest.set bits d else Makes dest d
+
+unfoldable pub parallel_binary_by : ℕ → ℕ → Op → Place → Code → TExpr → Code → TExpr → Draft → Made Out
+parallel_binary_by set bits op place first left second right d =
+    then_make (a_field set (result_bits bits op right) d) (λ dest begun.
+    then_make (spare_for op dest (operand_bits bits op left right) begun) (λ spare between.
+    lowest bits (fields_by op (reads_signed op left right) place dest spare first left second right between)))
+
+unfoldable pub binary_by : Option ℕ → ℕ → Op → Place → Code → TExpr → Code → TExpr → Draft → Made Out
+binary_by None bits op place first left second right d =
+    then_make (a_register d) (λ r after. registers_by op (is_signed (type_of left).elem) place r first second after)
+binary_by (Some set) bits op place first left second right d = parallel_binary_by set bits op place first left second right d
 
 -- a jump where the left operand of `&&` is zero, or that of `||` is not
 unfoldable pub jump_if_decided : Bool → ℕ → ℕ → Draft → Draft
@@ -165,16 +200,16 @@ compared (M.Compare relation) left (R.Field right) spare d = Makes tt (with_inst
 compared (M.Compare relation) left (R.Word word) spare d =
     Makes tt (with_instr (I.Compare relation left spare) (with_instr (I.MoveConstant spare word) d))
 
-unfoldable pub relation_by : ℕ → Op → Bool → Code → TExpr → Code → TExpr → Test
-relation_by set op signed first left second right d =
-    then_make (a_field set d) (λ spare begun. then_make (spread_into first left spare begun) (λ a between.
-    then_make (right_by second op right between) (λ b after. compared (machine_of op signed) a b spare after)))
+unfoldable pub relation_by : ℕ → Op → Code → TExpr → Code → TExpr → Test
+relation_by set op first left second right d =
+    then_make (a_field set (bits_of (relation_kind left right)) d) (λ spare begun. then_make (spread_into first left spare begun) (λ a between.
+    then_make (right_by second op right between) (λ b after. compared (machine_of op (reads_signed op left right)) a b spare after)))
 
 -- `&&` and `||` with a parallel right operand, behind a scalar left one: a jump
 unfoldable pub decided_by : Bool → Field → Code → Test → ℕ → Draft → Made Out
 decided_by is_or dest first second n d =
-    then_make (first d) (λ v between. then_make (decided is_or v n 3 between)
-    (λ _ next. then_make (second next) (λ _ after. put_test dest after)))
+    then_make (first d) (λ v between. then_make (decided is_or v n (1 + test_put_length dest.len) between)
+    (λ _ next. truth_put dest second next))
 
 -- behind a parallel left one: a narrower context for the right one and for the result
 unfoldable pub jumped : Bool → Out → Test
@@ -200,16 +235,16 @@ pub record Condition : Type 0 where
   pub test : Test
   pub tested_long : ℕ
 
-unfoldable pub parallel_logical_by : Bool → ℕ → Condition → Condition → Draft → Made Out
-parallel_logical_by is_or set left right d =
-    then_make (a_field set d) (λ dest begun. then_make (a_flag set begun) (λ saved next.
+unfoldable pub parallel_logical_by : Bool → ℕ → ℕ → Condition → Condition → Draft → Made Out
+parallel_logical_by is_or set bits left right d =
+    then_make (a_field set bits d) (λ dest begun. then_make (a_flag set begun) (λ saved next.
     let ready = with_instr (I.MoveConstant dest (K.Imm (from_bool is_or))) next in
     if left.kept then decided_by is_or dest left.code right.test right.tested_long ready
     else limited_by is_or dest saved left.test (if right.kept then jumped_over is_or right.code else narrowed_again is_or dest.set right.test) ready))
 
-unfoldable pub logical_by : Bool → Option ℕ → Condition → Condition → Draft → Made Out
-logical_by is_or None left right d = scalar_logical_by is_or left.code right.code right.long d
-logical_by is_or (Some set) left right d = parallel_logical_by is_or set left right d
+unfoldable pub logical_by : Bool → Option ℕ → ℕ → Condition → Condition → Draft → Made Out
+logical_by is_or None bits left right d = scalar_logical_by is_or left.code right.code right.long d
+logical_by is_or (Some set) bits left right d = parallel_logical_by is_or set bits left right d
 
 -- an arm of `?:`, which becomes the value of a register or a field: a constant in one instruction
 abbrev pub Arm : Type 0
@@ -236,9 +271,9 @@ parallel_choice_by dest test first second d =
     then_make (limited saved c next) (λ condition third. then_make (first dest third) (λ _ fourth.
     then_make (second dest (turned_over saved condition fourth)) (λ _ last. Makes dest (with_instr (I.LoadContext saved) last)))))))
 
-unfoldable pub choice_by : ValueType → Bool → Code → Arm → Arm → ℕ → ℕ → Draft → Made Out
-choice_by ty kept test first second n m d =
-    then_make (fresh_for ty.shape d) (λ dest after.
+unfoldable pub choice_by : ValueType → ℕ → Bool → Code → Arm → Arm → ℕ → ℕ → Draft → Made Out
+choice_by ty bits kept test first second n m d =
+    then_make (fresh_for ty.shape bits d) (λ dest after.
     if kept then scalar_choice_by dest test first second n m after else parallel_choice_by dest test first second after)
 
 -- the spot of an element, and that of a left index
@@ -251,7 +286,7 @@ unfoldable pub indexed_spot : Typed → Layout → TExpr → Codes → Draft →
 indexed_spot t l e indexes d =
     elim (known_position t e) [
       | Some position ↦ then_make (word_in l position d) (λ r after. Makes (S.Indexed (O.Scalar r)) after)
-      | None ↦ then_make (fresh_for (type_of e).shape d) (λ at begun. then_make (indexes [] begun) (λ parts between.
+      | None ↦ then_make (fresh_for (type_of e).shape 32 d) (λ at begun. then_make (indexes [] begun) (λ parts between.
           then_make (located e parts at between) (λ out after. Makes (S.Indexed out) after)))
     ]
 
@@ -265,11 +300,11 @@ news_to t l e dest d = then_make (checked_grid e d) (λ _ after. communicated t 
 unfoldable pub index_read_to : Typed → Layout → TExpr → (Draft → Made Spot) → Out → Draft → Made Out
 index_read_to t l e spot dest d = if goes_by_news e then news_to t l e dest d else read_to t l e spot dest d
 
-unfoldable pub read_by : Typed → Layout → TExpr → ValueType → (Draft → Made Spot) → Draft → Made Out
-read_by t l e ty spot d = then_make (fresh_for ty.shape d) (λ dest begun. read_to t l e spot dest begun)
+unfoldable pub read_by : Typed → Layout → TExpr → ValueType → ℕ → (Draft → Made Spot) → Draft → Made Out
+read_by t l e ty bits spot d = then_make (fresh_for ty.shape bits d) (λ dest begun. read_to t l e spot dest begun)
 
-unfoldable pub index_read_by : Typed → Layout → TExpr → ValueType → (Draft → Made Spot) → Draft → Made Out
-index_read_by t l e ty spot d = then_make (fresh_for ty.shape d) (λ dest begun. index_read_to t l e spot dest begun)
+unfoldable pub index_read_by : Typed → Layout → TExpr → ValueType → ℕ → (Draft → Made Spot) → Draft → Made Out
+index_read_by t l e ty bits spot d = then_make (fresh_for ty.shape bits d) (λ dest begun. index_read_to t l e spot dest begun)
 
 -- an assignment without an operator; a send has no value
 unfoldable pub set_by : Typed → Layout → TExpr → (Draft → Made Spot) → Code → Draft → Made Out
@@ -304,28 +339,32 @@ register_folded t l e target dest there v d =
 
 unfoldable pub updated_by : Typed → Layout → TExpr → Op → Place → TExpr → TExpr → Option ℕ → (Draft → Made Spot) → Code → Draft → Made Out
 updated_by t l e op place target value (Some set) spot code d =
-    then_make (a_field set d) (λ dest begun. then_make (a_field set begun) (λ spare next.
-    then_make (spot next) (λ there between. then_make (right_by (operand_by t l code true value) op value between) (λ v after.
+    then_make (a_field set 32 d) (λ dest begun. then_make (a_field set 32 begun) (λ spare next.
+    then_make (spot next) (λ there between. then_make (right_by (operand_by t l 32 code true value) op value between) (λ v after.
     field_updated t l e op (assigned_signed op (type_of target).elem (type_of value).elem) place target dest spare there v after))))
 updated_by t l e op place target value None spot code d =
     then_make (a_register d) (λ dest begun. then_make (spot begun) (λ there between.
-    then_make (operand_by t l code true value between) (λ v after.
+    then_make (operand_by t l 32 code true value between) (λ v after.
     if is_kept value then register_updated t l e op (assigned_signed op (type_of target).elem (type_of value).elem) place target dest there v after
     else register_folded t l e target dest there v after)))
 
 -- an assignment
-unfoldable pub plainly_set_by : Typed → Layout → TExpr → TExpr → Option ℕ → (Draft → Made Spot) → Code → Draft → Made Out
-plainly_set_by t l e value (Some set) spot code d = set_by t l e spot (spread_by code value set) d
-plainly_set_by t l e value None spot code d = set_by t l e spot code d
+unfoldable pub plainly_set_by : Typed → Layout → TExpr → ℕ → TExpr → Option ℕ → (Draft → Made Spot) → Code → Draft → Made Out
+plainly_set_by t l e bits value (Some set) spot code d = set_by t l e spot (spread_by code value set bits) d
+plainly_set_by t l e bits value None spot code d = set_by t l e spot code d
 
-unfoldable pub assigned_by : Typed → Layout → TExpr → Option Op → Place → TExpr → TExpr → Option ℕ → (Draft → Made Spot) → Code → Draft → Made Out
-assigned_by t l e None place target value shape spot code d = plainly_set_by t l e value shape spot code d
-assigned_by t l e (Some op) place target value shape spot code d = updated_by t l e op place target value shape spot code d
+unfoldable pub assigned_by : Typed → Layout → TExpr → ℕ → Option Op → Place → TExpr → TExpr → Option ℕ → (Draft → Made Spot) → Code → Draft → Made Out
+assigned_by t l e bits None place target value shape spot code d = plainly_set_by t l e bits value shape spot code d
+assigned_by t l e bits (Some op) place target value shape spot code d = updated_by t l e op place target value shape spot code d
 
-unfoldable pub assign_by : Typed → Layout → TExpr → AssignOp → Place → TExpr → TExpr → (Draft → Made Spot) → Code → Draft → Made Out
-assign_by t l e op place target value spot code d =
-    if is_send target then sent_by t l e spot (spread_by code value (unwrap_or (type_of target).shape 0)) d
-    else assigned_by t l e (assign_op_of op) place target value (type_of target).shape spot code d
+-- so many bits of the value are computed
+abbrev pub taken_bits : ℕ → AssignOp → TExpr → ℕ
+taken_bits bits op target = assigned_bits bits op (is_send target) (type_of target).elem
+
+unfoldable pub assign_by : Typed → Layout → TExpr → ℕ → AssignOp → Place → TExpr → TExpr → (Draft → Made Spot) → Code → Draft → Made Out
+assign_by t l e bits op place target value spot code d =
+    if is_send target then sent_by t l e spot (spread_by code value (unwrap_or (type_of target).shape 0) (taken_bits bits op target)) d
+    else lowest bits (assigned_by t l e (taken_bits bits op target) (assign_op_of op) place target value (type_of target).shape spot code d)
 
 -- one more, or one less
 unfoldable pub step_operation : StepOp → Operation
@@ -353,17 +392,17 @@ stepped_in t l e op Or.Postfix target there outcome second d =
     then_make (stepped_at t l e op target there outcome second d) (λ _ after. Makes outcome after)
 
 -- the value of a step, and the other one of the two in a second register or field
-unfoldable pub step_by : Typed → Layout → TExpr → StepOp → StepOrder → TExpr → (Draft → Made Spot) → Draft → Made Out
-step_by t l e op order target spot d =
-    then_make (fresh_for (type_of target).shape d) (λ outcome begun. then_make (fresh_for (type_of target).shape begun) (λ second next.
-    then_make (spot next) (λ there after. stepped_in t l e op order target there outcome second after)))
+unfoldable pub step_by : Typed → Layout → TExpr → ℕ → StepOp → StepOrder → TExpr → (Draft → Made Spot) → Draft → Made Out
+step_by t l e bits op order target spot d =
+    then_make (fresh_for (type_of target).shape 32 d) (λ outcome begun. then_make (fresh_for (type_of target).shape 32 begun) (λ second next.
+    then_make (spot next) (λ there after. lowest bits (stepped_in t l e op order target there outcome second after))))
 
 -- a reduction or a scan of a value, to a register or a field
 unfoldable pub message_to : Typed → Layout → TExpr → Code → Out → Draft → Made Out
 message_to t l e code dest d = then_make (code d) (λ v after. communicated t l e O.Nothing (v ∷ []) dest after)
 
-unfoldable pub message_by : Typed → Layout → TExpr → ValueType → Code → Draft → Made Out
-message_by t l e ty code d = then_make (fresh_for ty.shape d) (λ dest begun. message_to t l e code dest begun)
+unfoldable pub message_by : Typed → Layout → TExpr → ValueType → ℕ → Code → Draft → Made Out
+message_by t l e ty bits code d = then_make (fresh_for ty.shape 32 d) (λ dest begun. lowest bits (message_to t l e code dest begun))
 
 -- a call with the values of its arguments, whose result goes to a register or a field
 unfoldable pub call_to : Typed → Layout → ℕ → Codes → Out → Draft → Made Out
@@ -373,156 +412,183 @@ call_to t l instance arguments dest d = then_make (arguments [] d) (λ given aft
 unfoldable pub condition_by : Typed → Layout → Code → Test → TExpr → Condition
 condition_by t l code truth e = record {
   kept = is_kept e;
-  code = operand_by t l code true e;
-  long = operand_length l (length_of t l e) true e;
-  test = tested_by (has_truth e) truth (operand_by t l code true e);
+  code = operand_by t l (bits_of (kind_of e)) code true e;
+  long = operand_length l (bits_of (kind_of e)) (length_of t l (bits_of (kind_of e)) e) true e;
+  test = tested_by (has_truth e) truth (operand_by t l (bits_of (kind_of e)) code true e);
   tested_long = tested_length t l e;
 }
 
+-- a conversion of an expression, by the code of its truth and the codes of its values of any bits
+unfoldable pub cast_from : Typed → Layout → ℕ → ValueType → TExpr → Test → (ℕ → Code) → Draft → Made Out
+cast_from t l bits ty e truth code d =
+    cast_by (unwrap_or ty.shape 0) bits ty.elem
+    (tested_by (has_truth e) truth
+    (spread_by (operand_by t l (bits_of (kind_of e)) (code (bits_of (kind_of e))) true e) e (unwrap_or ty.shape 0) (bits_of (kind_of e))))
+    (spread_by (operand_by t l ty.elem.bits (code ty.elem.bits) true e) e (unwrap_or ty.shape 0) ty.elem.bits)
+    (spread_by (code bits) e (unwrap_or ty.shape 0) bits) d
+
 unfoldable mutual
-  -- the value of an expression; that of a promoted scalar stays in its register
-  pub value_of : Typed → Layout → TExpr → Draft → Made Out
-  value_of t l (T.Assign' ty place op p target q value) d =
-      assign_by t l (T.Assign' ty place op p target q value) op place target value (spot_of t l target) (value_of t l value) d
-  value_of t l (T.Choice' ty p test q first r second) d =
-      choice_by ty (is_kept test) (operand_by t l (value_of t l test) (is_kept test || is_quiet first) test)
-      (arm_by (operand_by t l (value_of t l first) true first) first) (arm_by (operand_by t l (value_of t l second) true second) second)
-      (arm_length_of t l ty first) (arm_length_of t l ty second) d
-  value_of t l (T.LogicalOr' ty p left q right) d =
-      logical_by true ty.shape (condition_by t l (value_of t l left) (truth_of t l left) left)
-      (condition_by t l (value_of t l right) (truth_of t l right) right) d
-  value_of t l (T.LogicalAnd' ty p left q right) d =
-      logical_by false ty.shape (condition_by t l (value_of t l left) (truth_of t l left) left)
-      (condition_by t l (value_of t l right) (truth_of t l right) right) d
-  value_of t l (T.Binary' ty place op p left q right) d =
-      then_make (fresh_for ty.shape d)
-      (λ dest after. binary_at dest op (is_signed (type_of left).elem) place
-      (operand_by t l (value_of t l left) (is_quiet right) left) left (operand_by t l (value_of t l right) true right) right after)
-  value_of t l (T.Unary' ty op p operand) d =
-      unary_by l ty op (value_of t l operand) (operand_by t l (value_of t l operand) true operand) d
-  value_of t l (T.Step' ty op order p target) d =
-      step_by t l (T.Step' ty op order p target) op order target (spot_of t l target) d
-  value_of t l (T.Reduce' ty op p operand) d =
-      message_by t l (T.Reduce' ty op p operand) ty (operand_by t l (value_of t l operand) true operand) d
-  value_of t l (T.Casts' ty elems p operand) d =
-      then_make (value_of t l operand d) (λ v after. in_register v (λ r. Makes v (casts_put elems.items r after)))
-  value_of t l (T.ParallelCast' ty p operand) d =
-      then_make (spread_by (value_of t l operand) operand (unwrap_or ty.shape 0) d) (λ v after. converted_in_place v ty.elem after)
-  value_of t l (T.Convert' ty p operand) d = then_make (value_of t l operand d) (λ v after. converted_in_place v ty.elem after)
-  value_of t l (T.Promote' ty p operand) d = value_of t l operand d
-  value_of t l (T.Variable ty x) d = read_by t l (T.Variable ty x) ty (λ between. Makes (variable_spot l ty x) between) d
-  value_of t l (T.Element' ty place array p index) d =
-      read_by t l (T.Element' ty place array p index) ty (element_spot t l ty place array (value_of t l index)) d
-  value_of t l (T.Number ty value) d = constant_in value d
-  value_of t l (T.Dot ty axis) d = coordinate_in ty.shape axis d
-  value_of t l (T.Brackets' ty p inner) d = value_of t l inner d
-  value_of t l (T.Call' ty instance p arguments) d =
-      then_make (fresh_for ty.shape d) (λ dest begun. call_to t l instance (values_of t l (are_quiet arguments) arguments) dest begun)
-  value_of t l (T.LeftIndex' ty place p indexes x of) d =
-      index_read_by t l (T.LeftIndex' ty place p indexes x of) ty
-      (indexed_spot t l (T.LeftIndex' ty place p indexes x of) (values_of t l (are_quiet indexes) indexes)) d
-  value_of t l (T.Pcoord ty axis) d = coordinate_in ty.shape axis d
-  value_of t l (T.PositionsOf ty shape value) d = constant_in value d
-  value_of t l (T.RankOf ty shape value) d = constant_in value d
-  value_of t l (T.DimOf ty shape axis value) d = constant_in value d
-  value_of t l (T.Scan' ty p source axis combiner direction mode bit within) d =
-      message_by t l (T.Scan' ty p source axis combiner direction mode bit within) ty (operand_by t l (value_of t l source) true source) d
-  value_of t l (T.Enumerate ty axis direction within mode bit) d =
-      then_make (fresh_for ty.shape d)
-      (λ dest after. communicated t l (T.Enumerate ty axis direction within mode bit) O.Nothing [] dest after)
-  value_of t l (T.Printf' ty pieces p arguments) d =
-      then_make (values_of t l (are_quiet arguments) arguments [] d) (λ given after. pieces_printed pieces.items given after)
-  value_of t l (T.GetChar ty) d = byte_in d
+  -- so many bits of the value of an expression; that of a promoted scalar stays in its register
+  pub value_of : Typed → Layout → ℕ → TExpr → Draft → Made Out
+  value_of t l bits (T.Assign' ty place op p target q value) d =
+      assign_by t l (T.Assign' ty place op p target q value) bits op place target value (spot_of t l target)
+      (value_of t l (taken_bits bits op target) value) d
+  value_of t l bits (T.Choice' ty p test q first r second) d =
+      choice_by ty bits (is_kept test)
+      (operand_by t l (bits_of (kind_of test)) (value_of t l (bits_of (kind_of test)) test) (is_kept test || is_quiet first) test)
+      (arm_by (operand_by t l bits (value_of t l bits first) true first) first) (arm_by (operand_by t l bits (value_of t l bits second) true second) second)
+      (arm_length_of t l ty bits first) (arm_length_of t l ty bits second) d
+  value_of t l bits (T.LogicalOr' ty p left q right) d =
+      logical_by true ty.shape bits (condition_by t l (value_of t l (bits_of (kind_of left)) left) (truth_of t l left) left)
+      (condition_by t l (value_of t l (bits_of (kind_of right)) right) (truth_of t l right) right) d
+  value_of t l bits (T.LogicalAnd' ty p left q right) d =
+      logical_by false ty.shape bits (condition_by t l (value_of t l (bits_of (kind_of left)) left) (truth_of t l left) left)
+      (condition_by t l (value_of t l (bits_of (kind_of right)) right) (truth_of t l right) right) d
+  value_of t l bits (T.Binary' ty place op p left q right) d =
+      binary_by ty.shape bits op place
+      (operand_by t l (operand_bits bits op left right) (value_of t l (operand_bits bits op left right) left) (is_quiet right) left) left
+      (operand_by t l (operand_bits bits op left right) (value_of t l (operand_bits bits op left right) right) true right) right d
+  value_of t l bits (T.Unary' ty op p operand) d =
+      unary_by l ty bits op (value_of t l bits operand)
+      (operand_by t l (unary_bits bits op operand) (value_of t l (unary_bits bits op operand) operand) true operand) d
+  value_of t l bits (T.Step' ty op order p target) d =
+      step_by t l (T.Step' ty op order p target) bits op order target (spot_of t l target) d
+  value_of t l bits (T.Reduce' ty op p operand) d =
+      message_by t l (T.Reduce' ty op p operand) ty bits (operand_by t l 32 (value_of t l 32 operand) true operand) d
+  value_of t l bits (T.Casts' ty elems p operand) d =
+      then_make (value_of t l bits operand d) (λ v after. in_register v (λ r. Makes v (casts_put elems.items r after)))
+  value_of t l bits (T.ParallelCast' ty p operand) d =
+      cast_from t l bits ty operand (truth_of t l operand) (λ n. value_of t l n operand) d
+  value_of t l bits (T.Convert' ty p operand) d =
+      if is_kept operand then register_cast_by ty.elem (value_of t l bits operand) d
+      else cast_from t l bits ty operand (truth_of t l operand) (λ n. value_of t l n operand) d
+  value_of t l bits (T.Promote' ty p operand) d = value_of t l bits operand d
+  value_of t l bits (T.Variable ty x) d = read_by t l (T.Variable ty x) ty bits (λ between. Makes (variable_spot l ty x) between) d
+  value_of t l bits (T.Element' ty place array p index) d =
+      read_by t l (T.Element' ty place array p index) ty bits (element_spot t l ty place array (value_of t l 32 index)) d
+  value_of t l bits (T.Number ty value) d = constant_in value d
+  value_of t l bits (T.Dot ty axis) d = coordinate_in ty.shape bits axis d
+  value_of t l bits (T.Brackets' ty p inner) d = value_of t l bits inner d
+  value_of t l bits (T.Call' ty instance p arguments) d =
+      then_make (fresh_for ty.shape bits d) (λ dest begun. call_to t l instance (values_of t l true (are_quiet arguments) arguments) dest begun)
+  value_of t l bits (T.LeftIndex' ty place p indexes x of) d =
+      index_read_by t l (T.LeftIndex' ty place p indexes x of) ty bits
+      (indexed_spot t l (T.LeftIndex' ty place p indexes x of) (values_of t l false (are_quiet indexes) indexes)) d
+  value_of t l bits (T.Pcoord ty axis) d = coordinate_in ty.shape bits axis d
+  value_of t l bits (T.PositionsOf ty shape value) d = constant_in value d
+  value_of t l bits (T.RankOf ty shape value) d = constant_in value d
+  value_of t l bits (T.DimOf ty shape axis value) d = constant_in value d
+  value_of t l bits (T.Scan' ty p source axis combiner direction mode bit within) d =
+      message_by t l (T.Scan' ty p source axis combiner direction mode bit within) ty bits (operand_by t l 32 (value_of t l 32 source) true source) d
+  value_of t l bits (T.Enumerate ty axis direction within mode bit) d =
+      then_make (fresh_for ty.shape 32 d)
+      (λ dest after. lowest bits (communicated t l (T.Enumerate ty axis direction within mode bit) O.Nothing [] dest after))
+  value_of t l bits (T.Printf' ty pieces p arguments) d =
+      then_make (values_of t l false (are_quiet arguments) arguments [] d) (λ given after. pieces_printed pieces.items given after)
+  value_of t l bits (T.GetChar ty) d = byte_in d
 
   -- the test flags, of a value that has a truth without its value
   pub truth_of : Typed → Layout → TExpr → Test
   truth_of t l (T.Brackets' ty p inner) d = truth_of t l inner d
   truth_of t l (T.Variable ty x) d = then_make (field_of t l x 0 d) (λ source after. Makes tt (with_instr (I.NeZero source) after))
   truth_of t l (T.Binary' ty place op p left q right) d =
-      relation_by (unwrap_or ty.shape 0) op (is_signed (type_of left).elem)
-      (operand_by t l (value_of t l left) (is_quiet right) left) left (operand_by t l (value_of t l right) true right) right d
-  truth_of t l (T.Unary' ty op p operand) d = zero_tested (operand_by t l (value_of t l operand) true operand) d
+      relation_by (unwrap_or ty.shape 0) op
+      (operand_by t l (bits_of (relation_kind left right)) (value_of t l (bits_of (relation_kind left right)) left) (is_quiet right) left) left
+      (operand_by t l (bits_of (relation_kind left right)) (value_of t l (bits_of (relation_kind left right)) right) true right) right d
+  truth_of t l (T.Unary' ty op p operand) d =
+      zero_tested (operand_by t l (bits_of (kind_of operand)) (value_of t l (bits_of (kind_of operand)) operand) true operand) d
   truth_of t l _ d = Fails
 
   -- where a target or a reference is: its indexes, their range check, and the address
   pub spot_of : Typed → Layout → TExpr → Draft → Made Spot
   spot_of t l (T.Brackets' ty p inner) d = spot_of t l inner d
   spot_of t l (T.Variable ty x) d = Makes (variable_spot l ty x) d
-  spot_of t l (T.Element' ty place array p index) d = element_spot t l ty place array (value_of t l index) d
+  spot_of t l (T.Element' ty place array p index) d = element_spot t l ty place array (value_of t l 32 index) d
   spot_of t l (T.LeftIndex' ty place p indexes x of) d =
-      indexed_spot t l (T.LeftIndex' ty place p indexes x of) (values_of t l (are_quiet indexes) indexes) d
+      indexed_spot t l (T.LeftIndex' ty place p indexes x of) (values_of t l false (are_quiet indexes) indexes) d
   spot_of t l _ d = Fails
 
-  -- the values of a list of expressions, behind those that there are; whether all are quiet is told
-  pub values_of : {n : _} → Typed → Layout → Bool → Row_of-TExpr n → List Out → Draft → Made (List Out)
-  values_of t l quiet end_of-TExpr outs d = Makes outs d
-  values_of t l quiet (more_of-TExpr e rest) outs d =
-      then_make (operand_by t l (value_of t l e) quiet e d) (λ v after. values_of t l quiet rest (outs ++ v ∷ []) after)
+  -- the values of a list of expressions, behind those that there are, each as long as its own type or of
+  -- 32 bits; whether all are quiet is told
+  pub values_of : {n : _} → Typed → Layout → Bool → Bool → Row_of-TExpr n → List Out → Draft → Made (List Out)
+  values_of t l own quiet end_of-TExpr outs d = Makes outs d
+  values_of t l own quiet (more_of-TExpr e rest) outs d =
+      then_make (operand_by t l (list_bits own e) (value_of t l (list_bits own e) e) quiet e d)
+      (λ v after. values_of t l own quiet rest (outs ++ v ∷ []) after)
 
 -- the same of a list as it stands in memory
-unfoldable pub values_in : Typed → Layout → Bool → List TExpr → List Out → Draft → Made (List Out)
-values_in t l quiet [] outs d = Makes outs d
-values_in t l quiet (e ∷ rest) outs d =
-    then_make (operand_by t l (value_of t l e) quiet e d) (λ v after. values_in t l quiet rest (outs ++ v ∷ []) after)
+unfoldable pub values_in : Typed → Layout → Bool → Bool → List TExpr → List Out → Draft → Made (List Out)
+values_in t l own quiet [] outs d = Makes outs d
+values_in t l own quiet (e ∷ rest) outs d =
+    then_make (operand_by t l (list_bits own e) (value_of t l (list_bits own e) e) quiet e d)
+    (λ v after. values_in t l own quiet rest (outs ++ v ∷ []) after)
+
+-- the operand of an instruction that is next, of which so many bits are wanted
+abbrev pub next_of : Typed → Layout → ℕ → Bool → TExpr → Code
+next_of t l bits quiet e = operand_by t l bits (value_of t l bits e) quiet e
 
 -- an operand of `&&` or `||`, and the test flags of a value
 abbrev pub condition_of : Typed → Layout → TExpr → Condition
-condition_of t l e = condition_by t l (value_of t l e) (truth_of t l e) e
+condition_of t l e = condition_by t l (value_of t l (bits_of (kind_of e)) e) (truth_of t l e) e
 
 abbrev pub tested : Typed → Layout → TExpr → Test
-tested t l e = tested_by (has_truth e) (truth_of t l e) (operand_by t l (value_of t l e) true e)
+tested t l e = tested_by (has_truth e) (truth_of t l e) (next_of t l (bits_of (kind_of e)) true e)
+
+-- a conversion to a type
+unfoldable pub cast_of : Typed → Layout → ℕ → ValueType → TExpr → Draft → Made Out
+cast_of t l bits ty e d = cast_from t l bits ty e (truth_of t l e) (λ n. value_of t l n e) d
 
 -- `?:` of these operands, into this register or field
-unfoldable pub arm_of : Typed → Layout → TExpr → Arm
-arm_of t l e = arm_by (operand_by t l (value_of t l e) true e) e
+unfoldable pub arm_of : Typed → Layout → ℕ → TExpr → Arm
+arm_of t l bits e = arm_by (next_of t l bits true e) e
 
-unfoldable pub scalar_choice_of : Typed → Layout → ValueType → TExpr → TExpr → TExpr → Out → Draft → Made Out
-scalar_choice_of t l ty test first second dest d =
-    scalar_choice_by dest (operand_by t l (value_of t l test) true test) (arm_of t l first) (arm_of t l second)
-    (arm_length_of t l ty first) (arm_length_of t l ty second) d
+unfoldable pub scalar_choice_of : Typed → Layout → ValueType → ℕ → TExpr → TExpr → TExpr → Out → Draft → Made Out
+scalar_choice_of t l ty bits test first second dest d =
+    scalar_choice_by dest (next_of t l (bits_of (kind_of test)) true test) (arm_of t l bits first) (arm_of t l bits second)
+    (arm_length_of t l ty bits first) (arm_length_of t l ty bits second) d
 
-unfoldable pub parallel_choice_of : Typed → Layout → TExpr → TExpr → TExpr → Out → Draft → Made Out
-parallel_choice_of t l test first second dest d =
-    parallel_choice_by dest (operand_by t l (value_of t l test) (is_quiet first) test) (arm_of t l first) (arm_of t l second) d
+unfoldable pub parallel_choice_of : Typed → Layout → ℕ → TExpr → TExpr → TExpr → Out → Draft → Made Out
+parallel_choice_of t l bits test first second dest d =
+    parallel_choice_by dest (next_of t l (bits_of (kind_of test)) (is_quiet first) test) (arm_of t l bits first) (arm_of t l bits second) d
 
-unfoldable pub choice_of : Typed → Layout → ValueType → TExpr → TExpr → TExpr → Draft → Made Out
-choice_of t l ty test first second d =
-    choice_by ty (is_kept test) (operand_by t l (value_of t l test) (is_kept test || is_quiet first) test)
-    (arm_of t l first) (arm_of t l second) (arm_length_of t l ty first) (arm_length_of t l ty second) d
+unfoldable pub choice_of : Typed → Layout → ValueType → ℕ → TExpr → TExpr → TExpr → Draft → Made Out
+choice_of t l ty bits test first second d =
+    choice_by ty bits (is_kept test) (next_of t l (bits_of (kind_of test)) (is_kept test || is_quiet first) test)
+    (arm_of t l bits first) (arm_of t l bits second) (arm_length_of t l ty bits first) (arm_length_of t l ty bits second) d
 
 -- a binary operator of these operands whose last instruction writes this register, or this field
-unfoldable pub register_binary_of : Typed → Layout → Op → Place → TExpr → TExpr → ℕ → Draft → Made Out
-register_binary_of t l op place left right r d =
+unfoldable pub register_binary_of : Typed → Layout → ℕ → Op → Place → TExpr → TExpr → ℕ → Draft → Made Out
+register_binary_of t l bits op place left right r d =
     registers_by op (is_signed (type_of left).elem) place r
-    (operand_by t l (value_of t l left) (is_quiet right) left) (operand_by t l (value_of t l right) true right) d
+    (next_of t l (operand_bits bits op left right) (is_quiet right) left) (next_of t l (operand_bits bits op left right) true right) d
 
-unfoldable pub field_binary_of : Typed → Layout → Op → Place → TExpr → TExpr → Field → Field → Draft → Made Out
-field_binary_of t l op place left right f spare d =
-    fields_by op (is_signed (type_of left).elem) place f spare
-    (operand_by t l (value_of t l left) (is_quiet right) left) left (operand_by t l (value_of t l right) true right) right d
+unfoldable pub field_binary_of : Typed → Layout → ℕ → Op → Place → TExpr → TExpr → Field → Field → Draft → Made Out
+field_binary_of t l bits op place left right f spare d =
+    fields_by op (reads_signed op left right) place f spare
+    (next_of t l (operand_bits bits op left right) (is_quiet right) left) left
+    (next_of t l (operand_bits bits op left right) true right) right d
 
-unfoldable pub binary_of : Typed → Layout → Option ℕ → Op → Place → TExpr → TExpr → Draft → Made Out
-binary_of t l shape op place left right d =
-    then_make (fresh_for shape d)
-    (λ dest after. binary_at dest op (is_signed (type_of left).elem) place
-    (operand_by t l (value_of t l left) (is_quiet right) left) left (operand_by t l (value_of t l right) true right) right after)
+unfoldable pub binary_of : Typed → Layout → Option ℕ → ℕ → Op → Place → TExpr → TExpr → Draft → Made Out
+binary_of t l shape bits op place left right d =
+    binary_by shape bits op place (next_of t l (operand_bits bits op left right) (is_quiet right) left) left
+    (next_of t l (operand_bits bits op left right) true right) right d
 
 -- a call with these arguments, and `printf` with them
 unfoldable pub call_of : Typed → Layout → ℕ → List TExpr → Out → Draft → Made Out
-call_of t l instance arguments dest d = call_to t l instance (values_in t l (all_quiet arguments) arguments) dest d
+call_of t l instance arguments dest d = call_to t l instance (values_in t l true (all_quiet arguments) arguments) dest d
 
 unfoldable pub print_of : Typed → Layout → List Piece → List TExpr → Draft → Made Out
 print_of t l pieces arguments d =
-    then_make (values_in t l (all_quiet arguments) arguments [] d) (λ given after. pieces_printed pieces given after)
+    then_make (values_in t l false (all_quiet arguments) arguments [] d) (λ given after. pieces_printed pieces given after)
 
--- the value of a parallel expression in a field, that of a promoted scalar too
-unfoldable pub spread_of : Typed → Layout → TExpr → ℕ → Draft → Made Out
-spread_of t l e set d = spread_by (value_of t l e) e set d
+-- so many bits of the value of a parallel expression in a field, of that of a promoted scalar too
+unfoldable pub spread_of : Typed → Layout → ℕ → TExpr → ℕ → Draft → Made Out
+spread_of t l bits e set d = spread_by (value_of t l bits e) e set bits d
 
 -- an expression of the instance that the unit is named after; a parallel value is in a field
 unfoldable pub expression_of : Typed → List ℕ → TExpr → Draft → Made Out
 expression_of t name e d =
     from (first_named 0 name t.instances.items) (λ n. elim (type_of e).shape [
-      | None ↦ value_of t (layout_of t [] n) e d
-      | Some set ↦ spread_of t (layout_of t [] n) e set d
+      | None ↦ value_of t (layout_of t [] n) 32 e d
+      | Some set ↦ spread_of t (layout_of t [] n) (type_of e).elem.bits e set d
     ])

@@ -31,7 +31,7 @@ pub fn expr(alloc: Global, t: &Typed, e: &TExpr, u: &mut Unit) -> Result<Out, Me
     };
     view.enter(instance)?;
     match e.ty().shape {
-        Some(set) => Ok(spread(&view, e, set, u)?.out()),
-        None => value(&view, e, u),
+        Some(set) => Ok(spread(&view, e.ty().elem.bits, e, set, u)?.out()),
+        None => value(&view, 32, e, u),
     }
 }

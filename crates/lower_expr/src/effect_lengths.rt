@@ -1,14 +1,17 @@
 //! How many instructions an expression compiles to whose value goes to a variable, decides where a
 //! context is narrowed, or is not used.
 
-ghost use Rattle.std.specs.Prelude.{◌≡◌, true, is_none, IfOk};
+ghost use Rattle.std.specs.Prelude.{◌≡◌, ◌+◌, true, is_none, IfOk};
 ghost use Rattle.cstar_tree.specs.Typed.{type_of};
 ghost use Rattle.lower_base.specs.Layouts.{layout};
-ghost use Rattle.lower_expr.specs.Effects.{assigned_length, assignment_length, computed_length, effect_length_of, narrowed_length, operated_length, put_length, settled_length, stepped_length};
+ghost use Rattle.lower_expr.specs.Effects.{assigned_length, assignment_length, computed_length, converted_to_length, effect_length_of, length_unchanged, operated_length, own_bits, put_length, settled_length, stepped_length};
+ghost use Rattle.lower_expr.specs.Lengths.{used_length_of};
 
-use crate::effects::{assigned_narrow, assigned_own};
-use crate::length::{length, operate_length, right_length, test_length, used_length};
-use crate::operands::{Own, is_plus, own_of};
+use crate::effects::{assigned_own, fits_field, stepped_own};
+use crate::length::{
+    length, operate_length, right_length, test_length, test_put_length, used_length,
+};
+use crate::operands::{Own, is_plus};
 use crate::steps::{has_word, stays_scalar};
 use cstar_base::{Elem, Memory, Op};
 use cstar_tree::syntax::AssignOp;
@@ -25,26 +28,24 @@ pub fn effect_length(view: &View, e: &TExpr) -> Result<u32, Memory>
     match e {
         TExpr::Brackets { inner, .. } => effect_length(view, inner),
         TExpr::Assign {
+            ty,
             op,
             target,
             value,
             ..
         } => {
-            if let Some(own) = assigned_own(target, value) {
-                return assigned_length(view, own, *op, target, value);
-            }
-            match assigned_narrow(*op, target) {
-                Some(_) => narrowed_length(view, value),
-                None => length(view, e),
+            match assigned_own(*op, target, value) {
+                Some(own) => assigned_length(view, own, *op, target, value),
+                None => length(view, ty.elem.bits, e),
             }
         }
-        TExpr::Step { target, .. } => {
-            let Some(own) = own_of(target) else {
-                return length(view, e);
+        TExpr::Step { ty, target, .. } => {
+            let Some(own) = stepped_own(target) else {
+                return length(view, ty.elem.bits, e);
             };
             stepped_length(view, own.shape.is_none(), target.ty().elem)
         }
-        _ => length(view, e),
+        _ => length(view, e.ty().elem.bits, e),
     }
 }
 
@@ -58,10 +59,19 @@ fn assigned_length(
 ) -> Result<u32, Memory>
     ensures { IfOk result (λ n. n ≡ assigned_length view.now.typed.now (layout view.now.names) (is_none own.shape) op (type_of target.now).elem value.now) }
 {
+    let (scalar, elem) = (own.shape.is_none(), target.ty().elem);
     match assign_op(op) {
-        None => put_length(view, own.shape.is_none(), value),
-        Some(op) => { operated_length(view, own.shape.is_none(), target.ty().elem, op, value) }
+        None => put_length(view, scalar, own_bits(scalar, elem), value),
+        Some(op) => operated_length(view, scalar, elem, op, value),
     }
+}
+
+/// How many bits a variable takes.
+#[tactic(auto, unfolding(crate::specs::Effects::own_bits))]
+pub fn own_bits(scalar: bool, elem: Elem) -> u8
+    ensures { result ≡ own_bits scalar elem }
+{
+    if scalar { 32 } else { elem.bits }
 }
 
 /// A step that writes its variable itself.
@@ -84,7 +94,7 @@ fn settled_length(elem: Elem) -> u32
 }
 
 /// An operator on a variable and a value.
-#[tactic(auto, unfolding(crate::specs::Effects::operated_length, crate::specs::Effects::next_length))]
+#[tactic(auto, unfolding(crate::specs::Effects::operated_length))]
 fn operated_length(
     view: &View,
     scalar: bool,
@@ -94,82 +104,119 @@ fn operated_length(
 ) -> Result<u32, Memory>
     ensures { IfOk result (λ n. n ≡ operated_length view.now.typed.now (layout view.now.names) scalar elem op value.now) }
 {
-    let n = used_length(view, true, value)?;
     if scalar {
-        plus(plus(n, operate_length(op, true))?, settled_length(elem))
+        let n = used_length(view, 32, true, value)?;
+        plus(
+            plus(n, operate_length(32, op, true))?,
+            settled_length(elem),
+        )
     } else {
-        right_length(n, op, value)
+        let n = used_length(view, elem.bits, true, value)?;
+        right_length(elem.bits, n, op, value)
     }
 }
 
-/// A value that becomes that of a register, or of a field of 32 bits: what `put_to` appends.
+/// A value that becomes that of a register, or so many bits of it that of a field: what `put_to`
+/// appends.
 #[tactic(auto, unfolding(crate::specs::Effects::put_length))]
-pub fn put_length(view: &View, scalar: bool, e: &TExpr) -> Result<u32, Memory>
-    ensures { IfOk result (λ n. n ≡ put_length view.now.typed.now (layout view.now.names) scalar e.now) }
+pub fn put_length(view: &View, scalar: bool, bits: u8, e: &TExpr) -> Result<u32, Memory>
+    ensures { IfOk result (λ n. n ≡ put_length view.now.typed.now (layout view.now.names) scalar bits e.now) }
 {
     if has_word(scalar, e) {
         Ok(1)
     } else {
-        computed_length(view, scalar, e)
+        computed_length(view, scalar, bits, e)
     }
 }
 
 /// A value that is no constant.
-#[tactic(auto, unfolding(crate::specs::Effects::computed_length, crate::specs::Effects::next_length))]
-fn computed_length(view: &View, scalar: bool, e: &TExpr) -> Result<u32, Memory>
-    ensures { IfOk result (λ n. n ≡ computed_length view.now.typed.now (layout view.now.names) scalar e.now) }
+#[tactic(auto, unfolding(crate::specs::Effects::computed_length))]
+fn computed_length(view: &View, scalar: bool, bits: u8, e: &TExpr) -> Result<u32, Memory>
+    ensures { IfOk result (λ n. n ≡ computed_length view.now.typed.now (layout view.now.names) scalar bits e.now) }
 {
     match e {
-        TExpr::Brackets { inner, .. } => computed_length(view, scalar, inner),
+        TExpr::Brackets { inner, .. } => computed_length(view, scalar, bits, inner),
         TExpr::Convert { ty, operand } => {
-            if ty.elem.bits == 32 {
-                return computed_length(view, scalar, operand);
-            }
-            let moved = if scalar {
-                used_length(view, true, operand)?
+            if goes_unchanged(scalar, bits, ty.elem) {
+                computed_length(view, scalar, bits, operand)
             } else {
-                used_length(view, true, e)?
-            };
-            plus(moved, 1)
+                converted_length(view, scalar, bits, e, ty.elem, operand)
+            }
         }
         TExpr::Unary { op, operand, .. } => {
             if is_plus(*op) {
-                computed_length(view, scalar, operand)
+                computed_length(view, scalar, bits, operand)
             } else {
-                length(view, e)
+                length(view, bits, e)
             }
         }
-        TExpr::Binary { .. }
-        | TExpr::Element { .. }
+        TExpr::Binary { op, right, .. } => {
+            if scalar || fits_field(bits, *op, right) {
+                length(view, bits, e)
+            } else {
+                moved_length(view, bits, e)
+            }
+        }
+        TExpr::Scan { .. } => {
+            if bits == 32 {
+                length(view, bits, e)
+            } else {
+                moved_length(view, bits, e)
+            }
+        }
+        TExpr::Element { .. }
         | TExpr::LeftIndex { .. }
         | TExpr::Reduce { .. }
-        | TExpr::Scan { .. }
-        | TExpr::Call { .. } => length(view, e),
+        | TExpr::Call { .. } => length(view, bits, e),
         TExpr::Choice { test, .. } => {
-            plus(length(view, e)?, if stays_scalar(test) { 0 } else { 1 })
+            plus(
+                length(view, bits, e)?,
+                if stays_scalar(test) { 0 } else { 1 },
+            )
         }
         TExpr::Pcoord { .. } | TExpr::Variable { .. } | TExpr::GetChar { .. } => Ok(1),
-        _ => plus(used_length(view, true, e)?, 1),
+        _ => moved_length(view, bits, e),
     }
 }
 
-/// A value that becomes that of a field of fewer than 32 bits: what `narrow_to` appends.
-#[tactic(auto, unfolding(crate::specs::Effects::narrowed_length, crate::specs::Effects::next_length))]
-pub fn narrowed_length(view: &View, e: &TExpr) -> Result<u32, Memory>
-    ensures { IfOk result (λ n. n ≡ narrowed_length view.now.typed.now (layout view.now.names) e.now) }
+/// A value that is moved.
+fn moved_length(view: &View, bits: u8, e: &TExpr) -> Result<u32, Memory>
+    ensures { IfOk result (λ n. n ≡ used_length_of view.now.typed.now (layout view.now.names) bits true e.now + 1) }
 {
-    match e {
-        TExpr::Brackets { inner, .. } => narrowed_length(view, inner),
-        TExpr::Convert { ty, operand } => {
-            let value = if stays_scalar(operand) {
-                used_length(view, true, e)?
-            } else if ty.elem.bits == 1 {
-                test_length(view, operand)?
-            } else {
-                used_length(view, true, operand)?
-            };
-            plus(value, 1)
-        }
-        _ => plus(used_length(view, true, e)?, 1),
+    plus(used_length(view, bits, true, e)?, 1)
+}
+
+/// Whether so many bits of a converted value are those of the value itself.
+#[tactic(auto, unfolding(crate::specs::Effects::length_unchanged))]
+fn goes_unchanged(scalar: bool, bits: u8, elem: Elem) -> bool
+    ensures { result ≡ length_unchanged scalar bits elem }
+{
+    if scalar {
+        elem.bits == 32
+    } else {
+        bits <= elem.bits && elem.bits != 1
+    }
+}
+
+/// A value `e`, which is `inner` converted to a type.
+#[tactic(auto, unfolding(crate::specs::Effects::converted_to_length))]
+fn converted_length(
+    view: &View,
+    scalar: bool,
+    bits: u8,
+    e: &TExpr,
+    elem: Elem,
+    inner: &TExpr,
+) -> Result<u32, Memory>
+    ensures { IfOk result (λ n. n ≡ converted_to_length view.now.typed.now (layout view.now.names) scalar bits e.now elem inner.now) }
+{
+    if scalar {
+        moved_length(view, 32, inner)
+    } else if stays_scalar(inner) {
+        moved_length(view, bits, e)
+    } else if elem.bits == 1 {
+        plus(test_length(view, inner)?, test_put_length(bits))
+    } else {
+        moved_length(view, elem.bits, inner)
     }
 }

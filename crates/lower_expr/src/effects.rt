@@ -5,14 +5,16 @@ ghost use Rattle.std.specs.Prelude.{◌≡◌, IfOk, OnOk};
 ghost use Rattle.lower_base.specs.declared.emit.Out.TheVariants as O;
 ghost use Rattle.lower_base.specs.Drafts.{Makes, draft, out_of};
 ghost use Rattle.lower_base.specs.Layouts.{layout};
-ghost use Rattle.lower_expr.specs.Effects.{assigned_narrow, assigned_own, assignment_effect, binary_to, computed_to, converted_to, effect_of, field_operated, folds, moved, narrow_of, narrowed_to, put_to, register_converted, register_operated, variable_assigned, variable_operated, variable_stepped, with_settled, written_register};
+ghost use Rattle.lower_expr.specs.Effects.{assigned_own, assignment_effect, binary_to, bits_for, cast_to, computed_to, converted_to, effect_of, field_binary_to, field_operated, fits_field, folds, goes_unchanged, moved, put_to, register_converted, register_operated, stepped_own, variable_assigned, variable_operated, variable_stepped, whole_of, with_settled, writes_itself, written_register};
 ghost use Rattle.lower_expr.specs.Values.{step_operation, value_of};
 
 use crate::assign::step_operation;
+use crate::kinds::{operation_bits, unary_bits, works_within};
 use crate::operands::{Own, is_plus, own_of, standing};
 use crate::parts::{Assignment, Binary, Choice, Operator};
 use crate::steps::{
-    assign_signed, operate, operate_right, put_word, set, stays_scalar, unary, word_for,
+    assign_signed, extend, is_relation, operate, operate_right, put_word, set, stays_scalar,
+    test_value, unary, word_for,
 };
 use crate::value::{
     binary_in_field, binary_in_register, call_to, message_to, operand, read_indexed_to, read_to,
@@ -20,7 +22,7 @@ use crate::value::{
 };
 use cstar_base::{Elem, Memory, Op};
 use cstar_tree::syntax::{AssignOp, StepOp};
-use cstar_tree::typed::{TExpr, Variable};
+use cstar_tree::typed::TExpr;
 use lower_base::emit::{field, put, register};
 use lower_base::operators::assign_op;
 use lower_base::{Operand, Out, View};
@@ -34,11 +36,11 @@ pub fn effect(view: &View, e: &TExpr, u: &mut Unit) -> Result<Out, Memory>
     match e {
         TExpr::Brackets { inner, .. } => effect(view, inner, u),
         TExpr::Assign {
+            ty,
             place,
             op,
             target,
             value,
-            ..
         } => {
             let assignment = Assignment {
                 whole: e,
@@ -47,98 +49,85 @@ pub fn effect(view: &View, e: &TExpr, u: &mut Unit) -> Result<Out, Memory>
                 target,
                 value,
             };
-            assign_effect(view, &assignment, u)
+            assign_effect(view, ty.elem.bits, &assignment, u)
         }
-        TExpr::Step { op, target, .. } => {
-            let Some(own) = own_of(target) else {
-                return value(view, e, u);
+        TExpr::Step { ty, op, target, .. } => {
+            let Some(own) = stepped_own(target) else {
+                return value(view, ty.elem.bits, e, u);
             };
-            let dest = standing(view, own, u)?;
+            let dest = whole(view, target, own, u)?;
             step_variable(view, target.ty().elem, *op, dest, u)?;
             Ok(dest.out())
         }
-        _ => value(view, e, u),
+        _ => value(view, e.ty().elem.bits, e, u),
     }
 }
 
-/// An assignment whose value is not used: one to a variable of 32 bits, a scalar one, or without an
-/// operator writes the variable itself.
+/// An assignment whose value is not used, of which else so many bits were wanted.
 #[tactic(auto, unfolding(crate::specs::Effects::assignment_effect, lower_base::specs::Drafts::then_make))]
-fn assign_effect(view: &View, assignment: &Assignment, u: &mut Unit) -> Result<Out, Memory>
-    ensures draft { IfOk result (λ out. assignment_effect view.now.typed.now (layout view.now.names) assignment.now.op assignment.now.place assignment.now.target.now assignment.now.value.now (value_of view.now.typed.now (layout view.now.names) assignment.now.whole.now) (draft u.old) ≡ Makes out (draft u.new)) }
+fn assign_effect(
+    view: &View,
+    bits: u8,
+    assignment: &Assignment,
+    u: &mut Unit,
+) -> Result<Out, Memory>
+    ensures draft { IfOk result (λ out. assignment_effect view.now.typed.now (layout view.now.names) assignment.now.op assignment.now.place assignment.now.target.now assignment.now.value.now (value_of view.now.typed.now (layout view.now.names) bits assignment.now.whole.now) (draft u.old) ≡ Makes out (draft u.new)) }
 {
-    if let Some(own) = assigned_own(assignment.target, assignment.value) {
-        let dest = standing(view, own, u)?;
-        assign_variable(view, assignment, dest, u)?;
-        return Ok(dest.out());
-    }
-    match assigned_narrow(assignment.op, assignment.target) {
-        Some(variable) => {
-            let dest = view.field(variable, 0, u)?;
-            narrow_to(view, dest, assignment.value, u)?;
-            Ok(Out::Field(dest))
+    match assigned_own(assignment.op, assignment.target, assignment.value) {
+        Some(own) => {
+            let dest = whole(view, assignment.target, own, u)?;
+            assign_variable(view, assignment, dest, u)?;
+            Ok(dest.out())
         }
-        None => value(view, assignment.whole, u),
+        None => value(view, bits, assignment.whole, u),
     }
 }
 
-/// The parallel variable of fewer than 32 bits that an assignment without an operator writes.
-pub fn assigned_narrow(op: AssignOp, target: &TExpr) -> Option<Variable>
-    ensures { result ≡ assigned_narrow op target.now }
+/// A variable, with all its bits.
+fn whole(view: &View, target: &TExpr, own: Own, u: &mut Unit) -> Result<Operand, Memory>
+    ensures draft { IfOk result (λ v. whole_of view.now.typed.now (layout view.now.names) target.now own (draft u.old) ≡ Makes (out_of v) (draft u.new)) }
 {
+    standing(view, target.ty().elem.bits, own, u)
+}
+
+/// The variable that an assignment writes itself. None for a fold of a parallel value into a scalar
+/// variable, and for an operator that needs more bits than the variable has.
+pub fn assigned_own(op: AssignOp, target: &TExpr, value: &TExpr) -> Option<Own>
+    ensures { result ≡ assigned_own op target.now value.now }
+{
+    let own = own_of(1, target)?;
+    if writes_itself(own, op, target.ty().elem, value) {
+        Some(own)
+    } else {
+        None
+    }
+}
+
+/// Whether an assignment to the variable writes it itself.
+#[tactic(auto, unfolding(crate::specs::Effects::writes_itself))]
+fn writes_itself(own: Own, op: AssignOp, elem: Elem, value: &TExpr) -> bool
+    ensures { result ≡ writes_itself own op elem value.now }
+{
+    if folds(own, value) {
+        return false;
+    }
     match assign_op(op) {
-        None => narrow_of(target),
-        Some(_) => None,
+        None => true,
+        Some(op) => own.shape.is_none() || works_within(elem, op, value),
     }
 }
 
-/// The parallel variable of fewer than 32 bits that a target is.
-#[tactic(auto, unfolding(crate::specs::Effects::narrow_of))]
-fn narrow_of(target: &TExpr) -> Option<Variable>
-    ensures { result ≡ narrow_of target.now }
+/// The variable that a step writes itself. None for a parallel one of `bool`, which is converted behind
+/// it.
+pub fn stepped_own(target: &TExpr) -> Option<Own>
+    ensures { result ≡ stepped_own target.now }
 {
-    match target {
-        TExpr::Brackets { inner, .. } => narrow_of(inner),
-        TExpr::Variable { ty, variable } => {
-            if ty.shape.is_none() || ty.elem.bits == 32 {
-                None
-            } else {
-                Some(*variable)
-            }
-        }
-        _ => None,
+    let own = own_of(1, target)?;
+    if own.shape.is_none() || target.ty().elem.bits != 1 {
+        Some(own)
+    } else {
+        None
     }
-}
-
-/// A value becomes that of a field of fewer than 32 bits: of one that was converted to `bool` the
-/// test flag, of one that was converted to another narrow type its lowest bits.
-#[tactic(auto, unfolding(crate::specs::Effects::narrowed_to, lower_base::specs::Drafts::then_make))]
-pub fn narrow_to(view: &View, dest: Field, e: &TExpr, u: &mut Unit) -> Result<(), Memory>
-    ensures draft { OnOk result (narrowed_to view.now.typed.now (layout view.now.names) dest e.now (draft u.old) ≡ Makes (O.Field dest) (draft u.new)) }
-{
-    match e {
-        TExpr::Brackets { inner, .. } => narrow_to(view, dest, inner, u),
-        TExpr::Convert { ty, operand } => {
-            if stays_scalar(operand) {
-                move_to(view, Operand::Field(dest), e, u)
-            } else if ty.elem.bits == 1 {
-                test(view, operand, u)?;
-                put(u, Instr::StoreTest { dest })
-            } else {
-                move_to(view, Operand::Field(dest), operand, u)
-            }
-        }
-        _ => move_to(view, Operand::Field(dest), e, u),
-    }
-}
-
-/// The variable that an assignment may write itself. None for a fold of a parallel value into a
-/// scalar variable.
-pub fn assigned_own(target: &TExpr, value: &TExpr) -> Option<Own>
-    ensures { result ≡ assigned_own target.now value.now }
-{
-    let own = own_of(target)?;
-    if folds(own, value) { None } else { Some(own) }
 }
 
 /// Whether the value is parallel and the variable scalar, so that it is folded.
@@ -164,7 +153,8 @@ fn assign_variable(
     }
 }
 
-/// A value becomes that of a register, or of a field of 32 bits, which its last instruction writes.
+/// A value becomes that of a register, or as many of its bits as a field has that of the field. Its last
+/// instruction writes there.
 #[tactic(auto, unfolding(crate::specs::Effects::put_to))]
 pub fn put_to(view: &View, dest: Operand, e: &TExpr, u: &mut Unit) -> Result<(), Memory>
     ensures draft { OnOk result (put_to view.now.typed.now (layout view.now.names) (out_of dest) e.now (draft u.old) ≡ Makes (out_of dest) (draft u.new)) }
@@ -176,14 +166,14 @@ pub fn put_to(view: &View, dest: Operand, e: &TExpr, u: &mut Unit) -> Result<(),
 }
 
 /// A value that is no constant becomes that of a register or a field.
-#[tactic(auto, unfolding(crate::specs::Effects::computed_to, crate::specs::Effects::gone_to, crate::specs::Effects::next_operand, lower_base::specs::Drafts::then_make, lower_base::specs::Drafts::in_field, lower_base::specs::Drafts::in_register))]
+#[tactic(auto, unfolding(crate::specs::Effects::computed_to, crate::specs::Effects::gone_to, lower_base::specs::Drafts::then_make, lower_base::specs::Drafts::in_field, lower_base::specs::Drafts::in_register))]
 fn compute_to(view: &View, dest: Operand, e: &TExpr, u: &mut Unit) -> Result<(), Memory>
     ensures draft { OnOk result (computed_to view.now.typed.now (layout view.now.names) (out_of dest) e.now (draft u.old) ≡ Makes (out_of dest) (draft u.new)) }
 {
     match e {
         TExpr::Brackets { inner, .. } => compute_to(view, dest, inner, u),
         TExpr::Convert { ty, operand } => {
-            if ty.elem.bits == 32 {
+            if goes_unchanged(dest, ty.elem) {
                 return compute_to(view, dest, operand, u);
             }
             convert_to(view, dest, e, ty.elem, operand, u)
@@ -196,7 +186,8 @@ fn compute_to(view: &View, dest: Operand, e: &TExpr, u: &mut Unit) -> Result<(),
             if is_plus(*op) {
                 return compute_to(view, dest, inner, u);
             }
-            let v = operand(view, true, inner, u)?;
+            let bits = unary_bits(bits_for(dest), *op, inner);
+            let v = operand(view, bits, true, inner, u)?;
             unary(view, *op, dest, v, u)
         }
         TExpr::Binary {
@@ -212,7 +203,7 @@ fn compute_to(view: &View, dest: Operand, e: &TExpr, u: &mut Unit) -> Result<(),
                 left,
                 right,
             };
-            binary_to(view, dest, &binary, u)
+            binary_to(view, dest, e, &binary, u)
         }
         TExpr::Pcoord { axis, .. } => {
             let field = dest.field()?;
@@ -242,7 +233,7 @@ fn compute_to(view: &View, dest: Operand, e: &TExpr, u: &mut Unit) -> Result<(),
                 then,
                 otherwise,
             };
-            scalar_choice(view, *ty, &choice, dest, u)
+            scalar_choice(view, *ty, bits_for(dest), &choice, dest, u)
         }
         TExpr::Variable { .. } | TExpr::Element { .. } => read_to(view, e, dest, u),
         TExpr::LeftIndex { .. } => {
@@ -252,8 +243,14 @@ fn compute_to(view: &View, dest: Operand, e: &TExpr, u: &mut Unit) -> Result<(),
         TExpr::Reduce {
             operand: source,
             ..
+        } => {
+            message_to(view, e, source, dest, u)?;
+            Ok(())
         }
-        | TExpr::Scan { source, .. } => {
+        TExpr::Scan { source, .. } => {
+            if bits_for(dest) != 32 {
+                return move_to(view, dest, e, u);
+            }
             message_to(view, e, source, dest, u)?;
             Ok(())
         }
@@ -269,16 +266,38 @@ fn compute_to(view: &View, dest: Operand, e: &TExpr, u: &mut Unit) -> Result<(),
     }
 }
 
+/// How many bits of a value go to a register or a field.
+#[tactic(auto, unfolding(crate::specs::Effects::bits_for))]
+fn bits_for(dest: Operand) -> u8
+    ensures { result ≡ bits_for (out_of dest) }
+{
+    match dest {
+        Operand::Register(_) => 32,
+        Operand::Field(field) => field.len,
+    }
+}
+
+/// Whether what goes there of a converted value is that of the value itself.
+#[tactic(auto, unfolding(crate::specs::Effects::goes_unchanged))]
+fn goes_unchanged(dest: Operand, elem: Elem) -> bool
+    ensures { result ≡ goes_unchanged (out_of dest) elem }
+{
+    match dest {
+        Operand::Register(_) => elem.bits == 32,
+        Operand::Field(field) => field.len <= elem.bits && elem.bits != 1,
+    }
+}
+
 /// A value moved to a register or a field.
-#[tactic(auto, unfolding(crate::specs::Effects::moved, crate::specs::Effects::next_operand, lower_base::specs::Drafts::then_make))]
+#[tactic(auto, unfolding(crate::specs::Effects::moved, lower_base::specs::Drafts::then_make))]
 pub fn move_to(view: &View, dest: Operand, e: &TExpr, u: &mut Unit) -> Result<(), Memory>
     ensures draft { OnOk result (moved view.now.typed.now (layout view.now.names) (out_of dest) e.now (draft u.old) ≡ Makes (out_of dest) (draft u.new)) }
 {
-    let v = operand(view, true, e, u)?;
+    let v = operand(view, bits_for(dest), true, e, u)?;
     set(dest, v, u)
 }
 
-/// A value `e`, which is `inner` converted to a narrow type.
+/// A value `e`, which is `inner` converted to a type.
 #[tactic(auto, unfolding(crate::specs::Effects::converted_to))]
 fn convert_to(
     view: &View,
@@ -292,12 +311,36 @@ fn convert_to(
 {
     match dest {
         Operand::Register(register) => convert_to_register(view, register, elem, inner, u),
-        Operand::Field(_) => move_to(view, dest, e, u),
+        Operand::Field(field) => cast_to(view, field, e, elem, inner, u),
+    }
+}
+
+/// A value `e` that goes to a field, which is `inner` converted to a type.
+#[tactic(auto, unfolding(crate::specs::Effects::cast_to, crate::specs::Values::truth_put, crate::specs::Values::extended, lower_base::specs::Drafts::then_make))]
+fn cast_to(
+    view: &View,
+    dest: Field,
+    e: &TExpr,
+    elem: Elem,
+    inner: &TExpr,
+    u: &mut Unit,
+) -> Result<(), Memory>
+    ensures draft { OnOk result (cast_to view.now.typed.now (layout view.now.names) dest e.now elem inner.now (draft u.old) ≡ Makes (O.Field dest) (draft u.new)) }
+{
+    if stays_scalar(inner) {
+        move_to(view, Operand::Field(dest), e, u)
+    } else if elem.bits == 1 {
+        test(view, inner, u)?;
+        test_value(dest, u)
+    } else {
+        let v = operand(view, elem.bits, true, inner, u)?;
+        extend(elem.signed, dest, v, u)?;
+        Ok(())
     }
 }
 
 /// A value converted into a register.
-#[tactic(auto, unfolding(crate::specs::Effects::register_converted, crate::specs::Effects::next_operand, lower_base::specs::Drafts::then_make, lower_base::specs::Drafts::in_register))]
+#[tactic(auto, unfolding(crate::specs::Effects::register_converted, lower_base::specs::Drafts::then_make, lower_base::specs::Drafts::in_register))]
 fn convert_to_register(
     view: &View,
     dest: u32,
@@ -307,22 +350,52 @@ fn convert_to_register(
 ) -> Result<(), Memory>
     ensures draft { OnOk result (register_converted view.now.typed.now (layout view.now.names) dest kind inner.now (draft u.old) ≡ Makes (O.Scalar dest) (draft u.new)) }
 {
-    let source = operand(view, true, inner, u)?.register()?;
+    let source = operand(view, 32, true, inner, u)?.register()?;
     put(u, Instr::FrontConvert { dest, source, kind })
 }
 
-/// A binary operator whose result goes to a register or a field.
-#[tactic(auto, unfolding(crate::specs::Effects::binary_to, lower_base::specs::Drafts::then_make))]
-fn binary_to(view: &View, dest: Operand, binary: &Binary, u: &mut Unit) -> Result<(), Memory>
-    ensures draft { OnOk result (binary_to view.now.typed.now (layout view.now.names) (out_of dest) binary.now.op binary.now.place binary.now.left.now binary.now.right.now (draft u.old) ≡ Makes (out_of dest) (draft u.new)) }
+/// A binary operator, the value `e`, whose result goes to a register or a field.
+#[tactic(auto, unfolding(crate::specs::Effects::binary_to))]
+fn binary_to(
+    view: &View,
+    dest: Operand,
+    e: &TExpr,
+    binary: &Binary,
+    u: &mut Unit,
+) -> Result<(), Memory>
+    ensures draft { OnOk result (binary_to view.now.typed.now (layout view.now.names) (out_of dest) e.now binary.now.op binary.now.place binary.now.left.now binary.now.right.now (draft u.old) ≡ Makes (out_of dest) (draft u.new)) }
 {
     match dest {
-        Operand::Register(register) => binary_in_register(view, binary, register, u),
-        Operand::Field(place) => {
-            let spare = field(u, place.set)?;
-            binary_in_field(view, binary, place, spare, u)
-        }
+        Operand::Register(register) => binary_in_register(view, 32, binary, register, u),
+        Operand::Field(field) => binary_to_field(view, field, e, binary, u),
     }
+}
+
+/// A binary operator, the value `e`, whose result goes to a field: by its last instruction where it
+/// works at as many bits.
+#[tactic(auto, unfolding(crate::specs::Effects::field_binary_to, lower_base::specs::Drafts::then_make))]
+fn binary_to_field(
+    view: &View,
+    dest: Field,
+    e: &TExpr,
+    binary: &Binary,
+    u: &mut Unit,
+) -> Result<(), Memory>
+    ensures draft { OnOk result (field_binary_to view.now.typed.now (layout view.now.names) dest e.now binary.now.op binary.now.place binary.now.left.now binary.now.right.now (draft u.old) ≡ Makes (O.Field dest) (draft u.new)) }
+{
+    if !fits_field(dest.len, binary.op, binary.right) {
+        return move_to(view, Operand::Field(dest), e, u);
+    }
+    let spare = field(u, dest.set, binary.operand_bits(dest.len))?;
+    binary_in_field(view, dest.len, binary, dest, spare, u)
+}
+
+/// Whether a binary operator works at as many bits as the field has to which it goes.
+#[tactic(auto, unfolding(crate::specs::Effects::fits_field))]
+pub fn fits_field(bits: u8, op: Op, right: &TExpr) -> bool
+    ensures { result ≡ fits_field bits op right.now }
+{
+    is_relation(op) || operation_bits(bits, op, right) == bits
 }
 
 /// The register that an operation writes: that of the variable, if its type has 32 bits.
@@ -374,7 +447,7 @@ fn operate_variable(
 }
 
 /// An operator on a scalar variable.
-#[tactic(auto, unfolding(crate::specs::Effects::register_operated, crate::specs::Effects::next_operand, lower_base::specs::Drafts::then_make, lower_base::specs::Drafts::in_register))]
+#[tactic(auto, unfolding(crate::specs::Effects::register_operated, lower_base::specs::Drafts::then_make, lower_base::specs::Drafts::in_register))]
 fn operate_register(
     view: &View,
     operator: Operator,
@@ -385,13 +458,13 @@ fn operate_register(
 ) -> Result<(), Memory>
     ensures draft { OnOk result (register_operated view.now.typed.now (layout view.now.names) operator.op operator.signed operator.place elem variable value.now (draft u.old) ≡ Makes (O.Scalar variable) (draft u.new)) }
 {
-    let right = operand(view, true, value, u)?.register()?;
+    let right = operand(view, 32, true, value, u)?.register()?;
     let written = written_register(elem, variable, u)?;
     operate(operator, written, variable, right, u)?;
     settle(elem, written, variable, u)
 }
 
-/// An operator on a parallel variable of 32 bits.
+/// An operator on a parallel variable, at its bits.
 #[tactic(auto, unfolding(crate::specs::Effects::field_operated, lower_base::specs::Drafts::then_make))]
 fn operate_field(
     view: &View,
@@ -402,8 +475,8 @@ fn operate_field(
 ) -> Result<(), Memory>
     ensures draft { OnOk result (field_operated view.now.typed.now (layout view.now.names) operator.op operator.signed operator.place variable value.now (draft u.old) ≡ Makes (O.Field variable) (draft u.new)) }
 {
-    let spare = field(u, variable.set)?;
-    let right = right_operand(view, operator.op, value, u)?;
+    let spare = field(u, variable.set, variable.len)?;
+    let right = right_operand(view, variable.len, operator.op, value, u)?;
     operate_right(operator, variable, variable, right, spare, u)
 }
 

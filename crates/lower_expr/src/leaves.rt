@@ -26,12 +26,12 @@ pub fn right_value(v: Operand) -> Right
     }
 }
 
-/// The own coordinate along an axis.
+/// So many bits of the own coordinate along an axis.
 #[tactic(auto, unfolding(crate::specs::Values::coordinate_in, lower_base::specs::Drafts::then_make))]
-pub fn coordinate(shape: Option<u16>, axis: u32, u: &mut Unit) -> Result<Out, Memory>
-    ensures draft { IfOk result (λ out. coordinate_in shape axis (draft u.old) ≡ Makes out (draft u.new)) }
+pub fn coordinate(shape: Option<u16>, bits: u8, axis: u32, u: &mut Unit) -> Result<Out, Memory>
+    ensures draft { IfOk result (λ out. coordinate_in shape bits axis (draft u.old) ≡ Makes out (draft u.new)) }
 {
-    let dest = field(u, shape.unwrap_or(0))?;
+    let dest = field(u, shape.unwrap_or(0), bits)?;
     put(u, Instr::MyNewsCoordinate { dest, axis })?;
     Ok(Out::Field(dest))
 }

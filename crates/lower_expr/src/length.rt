@@ -1,13 +1,15 @@
 //! How many instructions an expression compiles to. Jumps are written once, since the lengths of
 //! what they pass over are known beforehand.
 
-ghost use Rattle.std.specs.Prelude.{◌≡◌, true, IfOk, slice_get};
+ghost use Rattle.std.specs.Prelude.{◌≡◌, ◌≤◌, true, IfOk, slice_get};
 ghost use Rattle.lower_base.specs.Layouts.{layout};
-ghost use Rattle.lower_expr.specs.Operands.{all_quiet, operand_length};
+ghost use Rattle.lower_expr.specs.Kinds.{bits_of, kind_of};
+ghost use Rattle.lower_expr.specs.Operands.{all_quiet};
 ghost use Rattle.lower_expr.specs.Steps.{has_truth, is_kept};
-ghost use Rattle.lower_expr.specs.Lengths.{arm_length_of, compared_length, tested_length, truth_length_of, conversion_length, unary_length, operate_length, logical_length, spread_length, right_length, binary_length, spare_length, choice_length, step_once_length, params_length, news_move, is_checked, located_length, moves_length, news_length, read_length, elements_length, index_check_length, load_length, store_length, send_length, set_length, compound_length, assign_length, step_length, reduce_length, call_length, length_of, spot_length_of, lengths_in};
+ghost use Rattle.lower_expr.specs.Lengths.{arm_length_of, cast_length, compared_length, test_put_length, tested_length, truth_length_of, used_length_of, conversion_length, unary_length, operate_length, logical_length, spread_length, right_length, binary_length, spare_length, choice_length, step_once_length, params_length, news_move, is_checked, located_length, moves_length, news_length, read_length, elements_length, index_check_length, load_length, store_length, send_length, set_length, compound_length, assign_length, step_length, reduce_length, call_length, length_of, spot_length_of, lengths_in};
 
 use crate::assign::is_send;
+use crate::kinds::{assigned_bits, list_bits, operand_bits, relation_bits, test_bits, unary_bits};
 use crate::operands::{are_quiet, held, in_place, is_plus, is_quiet};
 use crate::positions::known_position;
 use crate::spots::bare;
@@ -21,11 +23,11 @@ use lower_base::operators::{assign_op, divides};
 use lower_comm::messages::goes_by_news;
 use lower_comm::news::{NewsStep, step_of};
 
-/// The instructions of a value: what `value` appends.
+/// The instructions of so many bits of a value: what `value` appends.
 #[cycle(length)]
 #[tactic(auto, unfolding(crate::specs::Lengths::length_of, crate::specs::Lengths::arm_length_of, crate::specs::Lengths::tested_length))]
-pub fn length(view: &View, e: &TExpr) -> Result<u32, Memory>
-    ensures { IfOk result (λ n. n ≡ length_of view.now.typed.now (layout view.now.names) e.now) }
+pub fn length(view: &View, bits: u8, e: &TExpr) -> Result<u32, Memory>
+    ensures { IfOk result (λ n. n ≡ length_of view.now.typed.now (layout view.now.names) bits e.now) }
 {
     match e {
         TExpr::Number { .. }
@@ -38,32 +40,34 @@ pub fn length(view: &View, e: &TExpr) -> Result<u32, Memory>
         | TExpr::Variable { .. } => Ok(1),
         TExpr::Enumerate { .. } => Ok(2),
         TExpr::Brackets { inner: operand, .. } | TExpr::Promote { operand, .. } => {
-            length(view, operand)
+            length(view, bits, operand)
         }
         TExpr::Convert { ty, operand } => {
-            let n = length(view, operand)?;
-            plus(n, conversion(stays_scalar(operand), ty.elem))
+            if stays_scalar(operand) {
+                plus(length(view, bits, operand)?, conversion(true, ty.elem))
+            } else {
+                cast_length(view, bits, ty.elem, operand)
+            }
         }
-        TExpr::Casts { elems, operand, .. } => { plus(length(view, operand)?, count(elems.len())?) }
-        TExpr::ParallelCast { ty, operand } => {
-            let n = spread_by(length(view, operand)?, operand)?;
-            plus(n, conversion(false, ty.elem))
+        TExpr::Casts { elems, operand, .. } => {
+            plus(length(view, bits, operand)?, count(elems.len())?)
         }
+        TExpr::ParallelCast { ty, operand } => cast_length(view, bits, ty.elem, operand),
         TExpr::Unary { op, operand, .. } => {
             let n = if is_plus(*op) {
-                length(view, operand)?
+                length(view, bits, operand)?
             } else {
-                used_length(view, true, operand)?
+                used_length(view, unary_bits(bits, *op, operand), true, operand)?
             };
-            plus(n, unary_length(view, *op, stays_scalar(operand))?)
+            plus(n, unary_length(view, bits, *op, stays_scalar(operand))?)
         }
         TExpr::Reduce { op, operand, .. } => {
-            plus(used_length(view, true, operand)?, reduce_length(*op))
+            plus(used_length(view, 32, true, operand)?, reduce_length(*op))
         }
-        TExpr::Scan { source, .. } => plus(used_length(view, true, source)?, 1),
+        TExpr::Scan { source, .. } => plus(used_length(view, 32, true, source)?, 1),
         TExpr::Element { array, index, .. } => {
             let elements = view.elements(*array);
-            let located = plus(length(view, index)?, index_check_length(view, elements)?)?;
+            let located = plus(length(view, 32, index)?, index_check_length(view, elements)?)?;
             plus(located, elements_length(view, elements)?)
         }
         TExpr::Binary {
@@ -73,15 +77,16 @@ pub fn length(view: &View, e: &TExpr) -> Result<u32, Memory>
             right,
             ..
         } => {
-            let a = used_length(view, is_quiet(right), left)?;
-            let b = used_length(view, true, right)?;
-            binary_length(ty.shape.is_none(), *op, a, left, b, right)
+            let own = operand_bits(bits, *op, left, right);
+            let a = used_length(view, own, is_quiet(right), left)?;
+            let b = used_length(view, own, true, right)?;
+            binary_length(ty.shape.is_none(), bits, *op, a, left, b, right)
         }
         TExpr::LogicalOr { ty, left, right } => {
-            logical_length(view, ty.shape.is_none(), left, right)
+            logical_length(view, ty.shape.is_none(), bits, left, right)
         }
         TExpr::LogicalAnd { ty, left, right } => {
-            logical_length(view, ty.shape.is_none(), left, right)
+            logical_length(view, ty.shape.is_none(), bits, left, right)
         }
         TExpr::Choice {
             ty,
@@ -89,9 +94,10 @@ pub fn length(view: &View, e: &TExpr) -> Result<u32, Memory>
             then,
             otherwise,
         } => {
-            let c = used_length(view, stays_scalar(test) || is_quiet(then), test)?;
-            let a = arm_length(view, *ty, then)?;
-            let b = arm_length(view, *ty, otherwise)?;
+            let quiet = stays_scalar(test) || is_quiet(then);
+            let c = used_length(view, test_bits(test), quiet, test)?;
+            let a = arm_length(view, *ty, bits, then)?;
+            let b = arm_length(view, *ty, bits, otherwise)?;
             let operands = plus(c, plus(a, b)?)?;
             plus(operands, choice_length(stays_scalar(test)))
         }
@@ -102,7 +108,8 @@ pub fn length(view: &View, e: &TExpr) -> Result<u32, Memory>
             ..
         } => {
             let there = spot_length(view, target)?;
-            let n = length(view, value)?;
+            let own = assigned_bits(bits, *op, is_send(target), target.ty().elem);
+            let n = length(view, own, value)?;
             assign_length(view, *op, target, there, n, value)
         }
         TExpr::Step { target, .. } => {
@@ -116,10 +123,10 @@ pub fn length(view: &View, e: &TExpr) -> Result<u32, Memory>
             ..
         } => {
             if goes_by_news(e) {
-                return news_length(*of, ty.elem, indexes.as_slice());
+                return news_length(bits, *of, ty.elem, indexes.as_slice());
             }
             let located = located_length(view, indexes.as_slice(), e)?;
-            plus(located, read_length(*ty))
+            plus(located, read_length(bits, *ty))
         }
         TExpr::Call {
             instance,
@@ -127,7 +134,7 @@ pub fn length(view: &View, e: &TExpr) -> Result<u32, Memory>
             ..
         } => {
             let own = frame_length(view.typed, *instance, arguments.len())?;
-            plus(own, list_length(view, arguments.as_slice())?)
+            plus(own, list_length(view, true, arguments.as_slice())?)
         }
         TExpr::Printf {
             pieces,
@@ -136,7 +143,7 @@ pub fn length(view: &View, e: &TExpr) -> Result<u32, Memory>
         } => {
             plus(
                 count(pieces.len())?,
-                list_length(view, arguments.as_slice())?,
+                list_length(view, false, arguments.as_slice())?,
             )
         }
     }
@@ -145,36 +152,61 @@ pub fn length(view: &View, e: &TExpr) -> Result<u32, Memory>
 /// The instructions of an operand: none where it is used where it stands.
 #[cycle(length)]
 #[tactic(auto, unfolding(crate::specs::Operands::operand_length))]
-pub fn used_length(view: &View, quiet: bool, e: &TExpr) -> Result<u32, Memory>
-    ensures { IfOk result (λ n. n ≡ operand_length (layout view.now.names) (length_of view.now.typed.now (layout view.now.names) e.now) quiet e.now) }
+pub fn used_length(view: &View, bits: u8, quiet: bool, e: &TExpr) -> Result<u32, Memory>
+    ensures { IfOk result (λ n. n ≡ used_length_of view.now.typed.now (layout view.now.names) bits quiet e.now) }
 {
     if held(view, e)?.is_some() {
         return Ok(0);
     }
-    match in_place(quiet, e) {
+    match in_place(bits, quiet, e) {
         Some(_) => Ok(0),
-        None => length(view, e),
+        None => length(view, bits, e),
+    }
+}
+
+/// A conversion of a parallel value.
+#[cycle(length)]
+#[tactic(auto, unfolding(crate::specs::Lengths::cast_length, crate::specs::Lengths::tested_by_length))]
+fn cast_length(view: &View, bits: u8, elem: Elem, e: &TExpr) -> Result<u32, Memory>
+    ensures { IfOk result (λ n. n ≡ cast_length (layout view.now.names) bits elem e.now (truth_length_of view.now.typed.now (layout view.now.names) e.now) (λ own. length_of view.now.typed.now (layout view.now.names) own e.now)) }
+{
+    if elem.bits == 1 {
+        let test = if has_truth(e) {
+            truth_length(view, e)?
+        } else {
+            plus(spread_by(used_length(view, test_bits(e), true, e)?, e)?, 1)?
+        };
+        plus(test, test_put_length(bits))
+    } else if elem.bits < bits {
+        plus(spread_by(used_length(view, elem.bits, true, e)?, e)?, 1)
+    } else {
+        spread_by(length(view, bits, e)?, e)
     }
 }
 
 /// `&&` or `||`: a scalar operand by its value, a parallel one by its test.
 #[cycle(length)]
 #[tactic(auto, unfolding(crate::specs::Lengths::logical_length, crate::specs::Lengths::tested_length))]
-fn logical_length(view: &View, scalar: bool, left: &TExpr, right: &TExpr) -> Result<u32, Memory>
-    ensures { IfOk result (λ n. n ≡ logical_length scalar (is_kept left.now) (is_kept right.now) (operand_length (layout view.now.names) (length_of view.now.typed.now (layout view.now.names) left.now) true left.now) (operand_length (layout view.now.names) (length_of view.now.typed.now (layout view.now.names) right.now) true right.now) (tested_length view.now.typed.now (layout view.now.names) left.now) (tested_length view.now.typed.now (layout view.now.names) right.now)) }
+fn logical_length(
+    view: &View,
+    scalar: bool,
+    bits: u8,
+    left: &TExpr,
+    right: &TExpr,
+) -> Result<u32, Memory>
+    ensures { IfOk result (λ n. n ≡ logical_length scalar bits (is_kept left.now) (is_kept right.now) (used_length_of view.now.typed.now (layout view.now.names) (bits_of (kind_of left.now)) true left.now) (used_length_of view.now.typed.now (layout view.now.names) (bits_of (kind_of right.now)) true right.now) (tested_length view.now.typed.now (layout view.now.names) left.now) (tested_length view.now.typed.now (layout view.now.names) right.now)) }
 {
     if scalar {
-        let operands = plus(
-            used_length(view, true, left)?,
-            used_length(view, true, right)?,
-        )?;
-        plus(operands, 4)
+        let first = used_length(view, test_bits(left), true, left)?;
+        let second = used_length(view, test_bits(right), true, right)?;
+        plus(plus(first, second)?, 4)
     } else if stays_scalar(left) {
-        let operands = plus(used_length(view, true, left)?, test_length(view, right)?)?;
-        plus(operands, 4)
+        let first = used_length(view, test_bits(left), true, left)?;
+        let own = plus(2, test_put_length(bits))?;
+        plus(plus(first, test_length(view, right)?)?, own)
     } else {
         let second = if stays_scalar(right) {
-            used_length(view, true, right)?
+            used_length(view, test_bits(right), true, right)?
         } else {
             test_length(view, right)?
         };
@@ -191,7 +223,7 @@ pub fn test_length(view: &View, e: &TExpr) -> Result<u32, Memory>
     if has_truth(e) {
         truth_length(view, e)
     } else {
-        plus(used_length(view, true, e)?, 1)
+        plus(used_length(view, test_bits(e), true, e)?, 1)
     }
 }
 
@@ -205,15 +237,18 @@ fn truth_length(view: &View, e: &TExpr) -> Result<u32, Memory>
     match e {
         TExpr::Brackets { inner, .. } => truth_length(view, inner),
         TExpr::Variable { .. } => Ok(1),
-        TExpr::Unary { operand, .. } => plus(used_length(view, true, operand)?, 1),
+        TExpr::Unary { operand, .. } => {
+            plus(used_length(view, test_bits(operand), true, operand)?, 1)
+        }
         TExpr::Binary {
             op,
             left,
             right,
             ..
         } => {
-            let a = spread_by(used_length(view, is_quiet(right), left)?, left)?;
-            let n = used_length(view, true, right)?;
+            let own = relation_bits(left, right);
+            let a = spread_by(used_length(view, own, is_quiet(right), left)?, left)?;
+            let n = used_length(view, own, true, right)?;
             plus(a, compared_length(n, *op, right)?)
         }
         _ => unreachable!(),
@@ -223,13 +258,13 @@ fn truth_length(view: &View, e: &TExpr) -> Result<u32, Memory>
 /// An arm of `?:`.
 #[cycle(length)]
 #[tactic(auto, unfolding(crate::specs::Lengths::arm_length_of, crate::specs::Lengths::arm_length))]
-pub fn arm_length(view: &View, ty: ValueType, e: &TExpr) -> Result<u32, Memory>
-    ensures { IfOk result (λ n. n ≡ arm_length_of view.now.typed.now (layout view.now.names) ty e.now) }
+pub fn arm_length(view: &View, ty: ValueType, bits: u8, e: &TExpr) -> Result<u32, Memory>
+    ensures { IfOk result (λ n. n ≡ arm_length_of view.now.typed.now (layout view.now.names) ty bits e.now) }
 {
     if has_word(ty.shape.is_none(), e) {
         Ok(1)
     } else {
-        plus(used_length(view, true, e)?, 1)
+        plus(used_length(view, bits, true, e)?, 1)
     }
 }
 
@@ -238,31 +273,31 @@ pub fn arm_length(view: &View, ty: ValueType, e: &TExpr) -> Result<u32, Memory>
 #[cycle(length)]
 #[tactic(auto, unfolding(crate::specs::Lengths::located_length))]
 fn located_length(view: &View, indexes: &[TExpr], e: &TExpr) -> Result<u32, Memory>
-    ensures { IfOk result (λ n. n ≡ located_length view.now.typed.now (layout view.now.names) e.now (lengths_in view.now.typed.now (layout view.now.names) (all_quiet indexes.now) indexes.now)) }
+    ensures { IfOk result (λ n. n ≡ located_length view.now.typed.now (layout view.now.names) e.now (lengths_in view.now.typed.now (layout view.now.names) false (all_quiet indexes.now) indexes.now)) }
 {
     match known_position(view, e)? {
         Some(position) => view.word_length(position),
-        None => plus(2, list_length(view, indexes)?),
+        None => plus(2, list_length(view, false, indexes)?),
     }
 }
 
-/// The instructions of a list of values.
+/// The instructions of a list of values, each as long as its own type or of 32 bits.
 #[cycle(length)]
-fn list_length(view: &View, es: &[TExpr]) -> Result<u32, Memory>
-    ensures { IfOk result (λ n. n ≡ lengths_in view.now.typed.now (layout view.now.names) (all_quiet es.now) es.now) }
+fn list_length(view: &View, own: bool, es: &[TExpr]) -> Result<u32, Memory>
+    ensures { IfOk result (λ n. n ≡ lengths_in view.now.typed.now (layout view.now.names) own (all_quiet es.now) es.now) }
 {
-    lengths(view, are_quiet(es), es)
+    lengths(view, own, are_quiet(es), es)
 }
 
 /// The instructions of a list of values, of which it is told whether all are quiet.
 #[cycle(length)]
 #[tactic(auto, unfolding(crate::specs::Lengths::lengths_in))]
-fn lengths(view: &View, quiet: bool, es: &[TExpr]) -> Result<u32, Memory>
-    ensures { IfOk result (λ n. n ≡ lengths_in view.now.typed.now (layout view.now.names) quiet es.now) }
+fn lengths(view: &View, own: bool, quiet: bool, es: &[TExpr]) -> Result<u32, Memory>
+    ensures { IfOk result (λ n. n ≡ lengths_in view.now.typed.now (layout view.now.names) own quiet es.now) }
 {
     let mut sum = 0u32;
     for e in es {
-        let next = used_length(view, quiet, e)?;
+        let next = used_length(view, list_bits(own, e), quiet, e)?;
         sum = plus(sum, next)?;
     }
     Ok(sum)
@@ -278,7 +313,7 @@ fn spot_length(view: &View, e: &TExpr) -> Result<u32, Memory>
         TExpr::Brackets { inner, .. } => spot_length(view, inner),
         TExpr::Element { array, index, .. } => {
             let elements = view.elements(*array);
-            plus(length(view, index)?, index_check_length(view, elements)?)
+            plus(length(view, 32, index)?, index_check_length(view, elements)?)
         }
         TExpr::LeftIndex { indexes, .. } => located_length(view, indexes.as_slice(), e),
         TExpr::Variable { .. }
@@ -323,30 +358,38 @@ pub fn spread_by(n: u32, e: &TExpr) -> Result<u32, Memory>
 #[tactic(auto, unfolding(crate::specs::Lengths::binary_length))]
 fn binary_length(
     scalar: bool,
+    bits: u8,
     op: Op,
     a: u32,
     left: &TExpr,
     b: u32,
     right: &TExpr,
 ) -> Result<u32, Memory>
-    ensures { IfOk result (λ n. n ≡ binary_length scalar op a left.now b right.now) }
+    ensures { IfOk result (λ n. n ≡ binary_length scalar bits op a left.now b right.now) }
 {
     if scalar {
-        plus(plus(a, b)?, operate_length(op, true))
+        plus(plus(a, b)?, operate_length(bits, op, true))
     } else {
-        plus(spread_by(a, left)?, right_length(b, op, right)?)
+        plus(spread_by(a, left)?, right_length(bits, b, op, right)?)
     }
 }
 
 /// A right operand of a parallel operation, and the operation.
 #[tactic(auto, unfolding(crate::specs::Lengths::right_length))]
-pub fn right_length(n: u32, op: Op, e: &TExpr) -> Result<u32, Memory>
-    ensures { IfOk result (λ sum. sum ≡ right_length n op e.now) }
+pub fn right_length(bits: u8, n: u32, op: Op, e: &TExpr) -> Result<u32, Memory>
+    ensures { IfOk result (λ sum. sum ≡ right_length bits n op e.now) }
 {
     match immediate(op, e) {
-        Some(_) => Ok(if is_relation(op) { 4 } else { 1 }),
+        Some(_) => {
+            if is_relation(op) {
+                plus(2, test_put_length(bits))
+            } else {
+                Ok(1)
+            }
+        }
         None => {
-            let own = plus(operate_length(op, false), spare_length(op, stays_scalar(e)))?;
+            let operated = operate_length(bits, op, false);
+            let own = plus(operated, spare_length(op, stays_scalar(e)))?;
             plus(n, own)
         }
     }
@@ -380,9 +423,18 @@ pub fn conversion(scalar: bool, elem: Elem) -> u32
     }
 }
 
+/// The test flag as a value of so many bits.
+#[tactic(auto, unfolding(crate::specs::Lengths::test_put_length))]
+pub fn test_put_length(bits: u8) -> u32
+    ensures value { result ≡ test_put_length bits }
+    ensures few { result ≤ 2 }
+{
+    if bits == 1 { 1 } else { 2 }
+}
+
 #[tactic(auto, unfolding(crate::specs::Lengths::unary_length))]
-fn unary_length(view: &View, op: UnaryOp, scalar: bool) -> Result<u32, Memory>
-    ensures { IfOk result (λ n. n ≡ unary_length (layout view.now.names) op scalar) }
+fn unary_length(view: &View, bits: u8, op: UnaryOp, scalar: bool) -> Result<u32, Memory>
+    ensures { IfOk result (λ n. n ≡ unary_length (layout view.now.names) bits op scalar) }
 {
     match op {
         UnaryOp::Plus => Ok(0),
@@ -391,7 +443,7 @@ fn unary_length(view: &View, op: UnaryOp, scalar: bool) -> Result<u32, Memory>
             if scalar {
                 plus(view.word_length(0)?, 1)
             } else {
-                Ok(3)
+                plus(1, test_put_length(bits))
             }
         }
     }
@@ -408,17 +460,17 @@ fn reduce_length(op: ReduceOp) -> u32
     }
 }
 
-/// A binary operator, with the check of its divisor.
+/// A binary operator with a result of so many bits, with the check of its divisor.
 #[tactic(auto, unfolding(crate::specs::Lengths::operate_length))]
-pub fn operate_length(op: Op, scalar: bool) -> u32
-    ensures { result ≡ operate_length op scalar }
+pub fn operate_length(bits: u8, op: Op, scalar: bool) -> u32
+    ensures { result ≡ operate_length bits op scalar }
 {
     if divides(op) {
         2
     } else if scalar {
         1
     } else if is_relation(op) {
-        3
+        1 + test_put_length(bits)
     } else {
         1
     }
@@ -445,8 +497,8 @@ fn compared_length(n: u32, op: Op, e: &TExpr) -> Result<u32, Memory>
 
 /// A get by NEWS.
 #[tactic(auto, unfolding(crate::specs::Lengths::news_length, crate::specs::Lengths::news_moves, crate::specs::Lengths::news_checked))]
-fn news_length(of: u16, elem: Elem, indexes: &[TExpr]) -> Result<u32, Memory>
-    ensures { IfOk result (λ n. n ≡ news_length of elem indexes.now) }
+fn news_length(bits: u8, of: u16, elem: Elem, indexes: &[TExpr]) -> Result<u32, Memory>
+    ensures { IfOk result (λ n. n ≡ news_length bits of elem indexes.now) }
 {
     let mut moves = 0u32;
     let mut is_checked = false;
@@ -455,15 +507,15 @@ fn news_length(of: u16, elem: Elem, indexes: &[TExpr]) -> Result<u32, Memory>
         moves = plus(moves, news_move(step))?;
         is_checked = is_checked || news_checked(step);
     }
-    plus(moves_length(elem, moves)?, if is_checked { 1 } else { 0 })
+    plus(moves_length(bits, elem, moves)?, if is_checked { 1 } else { 0 })
 }
 
 /// So many moves, and that of what was got, where the last of them does not go to its destination.
 #[tactic(auto, unfolding(crate::specs::Lengths::moves_length))]
-fn moves_length(elem: Elem, moves: u32) -> Result<u32, Memory>
-    ensures { IfOk result (λ n. n ≡ moves_length elem moves) }
+fn moves_length(bits: u8, elem: Elem, moves: u32) -> Result<u32, Memory>
+    ensures { IfOk result (λ n. n ≡ moves_length bits elem moves) }
 {
-    if moves != 0 && elem.bits == 32 {
+    if moves != 0 && elem.bits >= bits {
         Ok(moves)
     } else {
         plus(moves, 1)
@@ -494,25 +546,25 @@ fn news_checked(step: Option<NewsStep>) -> bool
 
 /// What reads a located place.
 #[tactic(auto, unfolding(crate::specs::Lengths::load_length, crate::specs::Lengths::load_length_of))]
-fn load_length(view: &View, target: &TExpr) -> Result<u32, Memory>
-    ensures { IfOk result (λ n. n ≡ load_length view.now.typed.now (layout view.now.names) target.now) }
+fn load_length(view: &View, bits: u8, target: &TExpr) -> Result<u32, Memory>
+    ensures { IfOk result (λ n. n ≡ load_length view.now.typed.now (layout view.now.names) bits target.now) }
 {
     match bare(target) {
         TExpr::Element { array, .. } => elements_length(view, view.elements(*array)),
-        TExpr::LeftIndex { ty, .. } => Ok(read_length(*ty)),
+        TExpr::LeftIndex { ty, .. } => Ok(read_length(bits, *ty)),
         _ => Ok(1),
     }
 }
 
 /// A read through a left index: of every position, or of one.
 #[tactic(auto, unfolding(crate::specs::Lengths::read_length))]
-fn read_length(ty: ValueType) -> u32
-    ensures { result ≡ read_length ty }
+fn read_length(bits: u8, ty: ValueType) -> u32
+    ensures { result ≡ read_length bits ty }
 {
-    if ty.shape.is_none() || ty.elem.bits == 32 {
-        1
-    } else {
+    if ty.shape.is_some() && ty.elem.bits < bits {
         2
+    } else {
+        1
     }
 }
 
@@ -567,8 +619,8 @@ fn assign_length(
     match assign_op(op) {
         None => set_length(ty.shape.is_none(), stored, n, value),
         Some(op) => {
-            let both = plus(stored, load_length(view, target)?)?;
-            let n = if held(view, value)?.is_some() || in_place(true, value).is_some() {
+            let both = plus(stored, load_length(view, 32, target)?)?;
+            let n = if held(view, value)?.is_some() || in_place(32, true, value).is_some() {
                 0
             } else {
                 n
@@ -584,7 +636,7 @@ fn send_length(op: AssignOp) -> u32
     ensures { result ≡ send_length op }
 {
     match op {
-        AssignOp::Set | AssignOp::Sub => 2,
+        AssignOp::Sub => 2,
         _ => 1,
     }
 }
@@ -615,13 +667,13 @@ fn compound_length(
 {
     if scalar {
         if stays_scalar(e) {
-            let operated = plus(n, operate_length(op, true))?;
+            let operated = plus(n, operate_length(32, op, true))?;
             plus(plus(both, operated)?, conversion(true, elem))
         } else {
             plus(plus(both, n)?, 3)
         }
     } else {
-        let operated = right_length(n, op, e)?;
+        let operated = right_length(32, n, op, e)?;
         plus(plus(both, operated)?, conversion(false, elem))
     }
 }
@@ -636,7 +688,7 @@ fn step_length(view: &View, target: &TExpr, there: u32) -> Result<u32, Memory>
         step_once_length(view, ty.shape.is_none())?,
         conversion(ty.shape.is_none(), ty.elem),
     )?;
-    let loaded = load_length(view, target)?;
+    let loaded = load_length(view, 32, target)?;
     let stored = store_length(view, target)?;
     plus(plus(there, own)?, plus(loaded, stored)?)
 }

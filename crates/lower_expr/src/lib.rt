@@ -7,6 +7,7 @@ pub mod effect_lengths;
 pub mod effects;
 mod frames;
 mod leaves;
+mod kinds;
 pub mod length;
 mod logical;
 pub mod operands;

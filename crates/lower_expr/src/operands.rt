@@ -6,9 +6,11 @@ ghost use Rattle.lower_base.specs.Drafts.{Makes, draft, out_of};
 ghost use Rattle.lower_base.specs.Layouts.{layout};
 ghost use Rattle.lower_expr.specs.Operands.{all_quiet, held, in_place, is_plus, is_quiet, own_of, standing};
 
-use crate::steps::register_word;
+use crate::kinds::is_unchanged;
+use crate::steps::{register_word, stays_scalar};
 use cstar_base::Memory;
 use cstar_tree::typed::{TExpr, UnaryOp, Variable};
+use lower_base::emit::first_bits;
 use lower_base::{Operand, View};
 use paris_code::Unit;
 
@@ -82,30 +84,36 @@ pub fn are_quiet(es: &[TExpr]) -> bool
 /// The variable in whose own register or field the value stands: a scalar one, or a parallel one of
 /// 32 bits.
 #[tactic(auto, unfolding(crate::specs::Operands::own_of))]
-pub fn own_of(e: &TExpr) -> Option<Own>
-    ensures { result ≡ own_of e.now }
+pub fn own_of(bits: u8, e: &TExpr) -> Option<Own>
+    ensures { result ≡ own_of bits e.now }
 {
     match e {
-        TExpr::Variable { ty, variable } if ty.shape.is_none() || ty.elem.bits == 32 => {
+        TExpr::Variable { ty, variable } if ty.shape.is_none() || bits <= ty.elem.bits => {
             Some(Own {
                 shape: ty.shape,
                 variable: *variable,
             })
         }
-        TExpr::Brackets { inner: operand, .. } | TExpr::Promote { operand, .. } => own_of(operand),
-        TExpr::Convert { ty, operand } if ty.elem.bits == 32 => own_of(operand),
+        TExpr::Brackets { inner: operand, .. } | TExpr::Promote { operand, .. } => {
+            own_of(bits, operand)
+        }
+        TExpr::Convert { ty, operand }
+            if is_unchanged(bits, ty.elem, stays_scalar(operand)) => own_of(bits, operand),
         _ => None,
     }
 }
 
-/// The register or the field of a variable.
+/// The register of a variable, or so many bits of its field.
 #[tactic(auto, unfolding(crate::specs::Operands::standing, lower_base::specs::Drafts::then_make))]
-pub fn standing(view: &View, own: Own, u: &mut Unit) -> Result<Operand, Memory>
-    ensures draft { IfOk result (λ v. standing view.now.typed.now (layout view.now.names) own (draft u.old) ≡ Makes (out_of v) (draft u.new)) }
+pub fn standing(view: &View, bits: u8, own: Own, u: &mut Unit) -> Result<Operand, Memory>
+    ensures draft { IfOk result (λ v. standing view.now.typed.now (layout view.now.names) bits own (draft u.old) ≡ Makes (out_of v) (draft u.new)) }
 {
     match own.shape {
         None => Ok(Operand::Register(view.register(own.variable)?)),
-        Some(_) => Ok(Operand::Field(view.field(own.variable, 0, u)?)),
+        Some(_) => {
+            let field = view.field(own.variable, 0, u)?;
+            Ok(Operand::Field(first_bits(bits, field)))
+        }
     }
 }
 
@@ -122,10 +130,10 @@ pub fn held(view: &View, e: &TExpr) -> Result<Option<u32>, Memory>
 
 /// An operand is used where it stands if all is quiet that is evaluated before its use.
 #[tactic(auto, unfolding(crate::specs::Operands::in_place))]
-pub fn in_place(quiet: bool, e: &TExpr) -> Option<Own>
-    ensures { result ≡ in_place quiet e.now }
+pub fn in_place(bits: u8, quiet: bool, e: &TExpr) -> Option<Own>
+    ensures { result ≡ in_place bits quiet e.now }
 {
-    if quiet { own_of(e) } else { None }
+    if quiet { own_of(bits, e) } else { None }
 }
 
 /// Whether the operator is `+`, which has no code.

@@ -3,7 +3,11 @@
 ghost use Rattle.std.specs.Prelude.{◌≡◌};
 ghost use Rattle.cstar_tree.specs.Typed.{type_of};
 ghost use Rattle.lower_base.specs.Operators.{is_signed};
+ghost use Rattle.lower_expr.specs.Kinds.{operand_bits, reads_signed};
+ghost use Rattle.lower_expr.specs.Values.{taken_bits};
 
+use crate::assign::is_send;
+use crate::kinds::{assigned_bits, operand_bits, reads_signed};
 use cstar_base::{Op, Place};
 use cstar_tree::syntax::AssignOp;
 use cstar_tree::typed::TExpr;
@@ -28,7 +32,25 @@ pub struct Binary<'a> {
 }
 
 impl Binary<'_> {
-    /// The operator, which reads both operands as the left one's type says.
+    /// How many bits of the operands are needed for so many of the result.
+    pub fn operand_bits(&self, bits: u8) -> u8
+        ensures { result ≡ operand_bits bits self.now.op self.now.left.now self.now.right.now }
+    {
+        operand_bits(bits, self.op, self.left, self.right)
+    }
+
+    /// The operator on fields: a relation reads them as the type says in which it compares.
+    pub fn parallel_operator(&self) -> Operator
+        ensures { result ≡ record { op = self.now.op; signed = reads_signed self.now.op self.now.left.now self.now.right.now; place = self.now.place } }
+    {
+        Operator {
+            op: self.op,
+            signed: reads_signed(self.op, self.left, self.right),
+            place: self.place,
+        }
+    }
+
+    /// The operator on registers, which reads both operands as the left one's type says.
     pub fn operator(&self) -> Operator
         ensures { result ≡ record { op = self.now.op; signed = is_signed (type_of self.now.left.now).elem; place = self.now.place } }
     {
@@ -57,4 +79,13 @@ pub struct Assignment<'a> {
     pub op: AssignOp,
     pub target: &'a TExpr,
     pub value: &'a TExpr,
+}
+
+impl Assignment<'_> {
+    /// How many bits of the value are computed where so many of the assignment's are wanted.
+    pub fn taken_bits(&self, bits: u8) -> u8
+        ensures { result ≡ taken_bits bits self.now.op self.now.target.now }
+    {
+        assigned_bits(bits, self.op, is_send(self.target), self.target.ty().elem)
+    }
 }

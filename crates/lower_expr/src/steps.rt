@@ -3,7 +3,7 @@
 ghost use Rattle.std.specs.Prelude.{◌≡◌, false, IfOk, OnOk};
 ghost use Rattle.lower_base.specs.declared.emit.Out.TheVariants as O;
 ghost use Rattle.lower_base.specs.declared.operators.Machine.TheVariants as M;
-ghost use Rattle.lower_base.specs.Drafts.{Makes, draft, out_of, with_instr};
+ghost use Rattle.lower_base.specs.Drafts.{Makes, draft, in_field, out_of, with_instr};
 ghost use Rattle.paris_code.specs.declared.instr.Instr.TheVariants as I;
 ghost use Rattle.paris_code.specs.declared.operands.Konst.TheVariants as K;
 ghost use Rattle.lower_base.specs.Layouts.{layout};
@@ -217,11 +217,14 @@ fn convert_field(f: Field, elem: Elem, u: &mut Unit) -> Result<(), Memory>
     }
 }
 
-/// The test flag as a value, 0 or 1.
+/// The test flag as a value, 0 or 1: of one bit at once, and else from a flag.
 #[tactic(auto, unfolding(crate::specs::Steps::put_test, lower_base::specs::Drafts::then_make))]
 pub fn test_value(dest: Field, u: &mut Unit) -> Result<(), Memory>
     ensures draft { OnOk result (put_test dest (draft u.old) ≡ Makes (O.Field dest) (draft u.new)) }
 {
+    if dest.len == 1 {
+        return put(u, Instr::StoreTest { dest });
+    }
     let source = flag(u, dest.set)?;
     put(u, Instr::StoreTest { dest: source })?;
     put(
@@ -232,6 +235,23 @@ pub fn test_value(dest: Field, u: &mut Unit) -> Result<(), Memory>
             source,
         },
     )
+}
+
+/// A value becomes that of a longer field, with its sign or with zeros in front.
+#[tactic(auto, unfolding(lower_base::specs::Drafts::in_field))]
+pub fn extend(signed: bool, dest: Field, v: Operand, u: &mut Unit) -> Result<Out, Memory>
+    ensures draft { IfOk result (λ out. in_field (out_of v) (λ source. Makes (O.Field dest) (with_instr (I.Move signed dest source) (draft u.old))) ≡ Makes out (draft u.new)) }
+{
+    let source = v.field()?;
+    put(
+        u,
+        Instr::Move {
+            signed,
+            dest,
+            source,
+        },
+    )?;
+    Ok(Out::Field(dest))
 }
 
 /// Compares fields; a word is spread into `spare` first.

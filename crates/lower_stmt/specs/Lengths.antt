@@ -1,14 +1,15 @@
 -- How many instructions a statement compiles to.
-use Rattle.std.specs.Prelude.{ℕ, ◌+◌, Bool, false, ◌||◌, ◌==◌, List, [], ◌∷◌, Option, Some, None, is_none, if◌then◌else◌}
+use Rattle.std.specs.Prelude.{ℕ, ◌+◌, Bool, true, false, List, [], ◌∷◌, Option, Some, None, is_none, if◌then◌else◌}
 use Rattle.cstar_tree.specs.declared.typed.LocalVar.{LocalVar}
 use Rattle.cstar_tree.specs.declared.typed.TExpr.{TExpr}
 use Rattle.cstar_tree.specs.declared.typed.TStmt.{TStmt, Row_of-TStmt, end_of-TStmt, more_of-TStmt, Held-TStmt-If-2, None', Some'}
 use Rattle.cstar_tree.specs.declared.typed.TStmt as S
 use Rattle.cstar_tree.specs.declared.typed.Typed.{Typed}
 use Rattle.cstar_tree.specs.declared.typed.VarInfo.{VarInfo}
+use Rattle.cstar_tree.specs.Typed.{type_of}
 use Rattle.lower_base.specs.Layouts.{Layout, entries_of}
-use Rattle.lower_expr.specs.Effects.{effect_length_of, narrowed_length, next_length, put_length}
-use Rattle.lower_expr.specs.Lengths.{tested_length}
+use Rattle.lower_expr.specs.Effects.{effect_length_of, own_bits, put_length}
+use Rattle.lower_expr.specs.Lengths.{tested_length, used_length_of}
 use Rattle.lower_stmt.specs.declared.length.Saved.{Saved}
 use Rattle.lower_stmt.specs.Variables.{is_kept_so}
 
@@ -28,7 +29,7 @@ part_length_of t l (Some e) = effect_length_of t l e
 -- its condition, which may be left out too
 unfoldable pub condition_length_of : Typed → Layout → Option TExpr → ℕ
 condition_length_of t l None = 0
-condition_length_of t l (Some e) = next_length t l e
+condition_length_of t l (Some e) = used_length_of t l 32 true e
 
 -- a variable becomes zero: one instruction, or one for each field
 unfoldable pub clear_length_of : Bool → LocalVar → ℕ
@@ -38,8 +39,7 @@ clear_length_of at_start local =
 -- its initialiser
 unfoldable pub initial_length_of : Typed → Layout → VarInfo → Option TExpr → ℕ
 initial_length_of t l info None = 0
-initial_length_of t l info (Some e) =
-    if is_none info.shape || info.elem.bits == 32 then put_length t l (is_none info.shape) e else narrowed_length t l e
+initial_length_of t l info (Some e) = put_length t l (is_none info.shape) (own_bits (is_none info.shape) info.elem) e
 
 -- the variables of a block
 unfoldable pub locals_length_of : Typed → Layout → Bool → List LocalVar → ℕ
@@ -59,18 +59,18 @@ unfoldable mutual
   statement_length_of t l has_result saved (S.Expression e) = effect_length_of t l e
   statement_length_of t l has_result saved S.Empty = 0
   statement_length_of t l has_result saved (S.If' test p first second) =
-      next_length t l test + 1 + statement_length_of t l has_result saved first + else_length_of t l has_result saved 1 second
+      used_length_of t l 32 true test + 1 + statement_length_of t l has_result saved first + else_length_of t l has_result saved 1 second
   statement_length_of t l has_result saved (S.While' test p body) =
-      next_length t l test + 3 + statement_length_of t l has_result (at_loop saved) body
+      used_length_of t l 32 true test + 3 + statement_length_of t l has_result (at_loop saved) body
   statement_length_of t l has_result saved (S.Do' p body test) =
-      next_length t l test + 2 + statement_length_of t l has_result (at_loop saved) body
+      used_length_of t l 32 true test + 2 + statement_length_of t l has_result (at_loop saved) body
   statement_length_of t l has_result saved (S.For' first test step p body) =
       part_length_of t l first + condition_length_of t l test + part_length_of t l step + 3 + statement_length_of t l has_result (at_loop saved) body
   statement_length_of t l has_result saved S.Break = saved.in_loop + 1
   statement_length_of t l has_result saved S.Continue = saved.in_loop + 1
   statement_length_of t l has_result saved (S.Return None) = saved.in_all + 1
   statement_length_of t l has_result saved (S.Return (Some e)) =
-      next_length t l e + storing_length has_result + saved.in_all + 1
+      used_length_of t l (type_of e).elem.bits true e + storing_length has_result + saved.in_all + 1
   statement_length_of t l has_result saved (S.With' shape p body) = statement_length_of t l has_result saved body
   statement_length_of t l has_result saved (S.Everywhere' shape p body) =
       statement_length_of t l has_result (one_more saved) body + 3

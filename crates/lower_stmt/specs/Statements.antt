@@ -7,6 +7,7 @@ use Rattle.cstar_tree.specs.declared.typed.TStmt.{TStmt, out-TStmt, Row_of-TStmt
 use Rattle.cstar_tree.specs.declared.typed.TStmt as S
 use Rattle.cstar_tree.specs.declared.typed.TStmt.TheOpen.{TStmt-F}
 use Rattle.cstar_tree.specs.declared.typed.Typed.{Typed}
+use Rattle.cstar_tree.specs.Typed.{type_of}
 use Rattle.paris_code.specs.declared.instr.Instr.TheVariants as I
 use Rattle.paris_code.specs.declared.operands.Field.{Field}
 use Rattle.lower_base.specs.declared.emit.Out.{Out}
@@ -14,8 +15,9 @@ use Rattle.lower_base.specs.declared.emit.Out.TheVariants as O
 use Rattle.lower_base.specs.Drafts.{Draft, Made, Makes, then_make, here, with_instr, an_entry, in_register}
 use Rattle.paris_code.specs.declared.program.Owner.TheVariants as W
 use Rattle.lower_base.specs.Layouts.{Layout, result_register, own_field}
-use Rattle.lower_expr.specs.Effects.{effect_of, next_length, next_operand}
-use Rattle.lower_expr.specs.Values.{tested}
+use Rattle.lower_expr.specs.Effects.{effect_of}
+use Rattle.lower_expr.specs.Lengths.{used_length_of}
+use Rattle.lower_expr.specs.Values.{next_of, tested}
 use Rattle.lower_expr.specs.Steps.{put_value}
 use Rattle.lower_stmt.specs.declared.statement.Frame.{Frame}
 use Rattle.lower_stmt.specs.declared.statement.Outcome.{Outcome}
@@ -40,7 +42,7 @@ part_of t l (Some e) d = then_make (effect_of t l e d) (λ _ after. Makes tt aft
 
 -- the value of a condition, in a register
 unfoldable pub condition_of : Typed → Layout → TExpr → Draft → Made ℕ
-condition_of t l e d = then_make (next_operand t l e d) (λ v after. in_register v (λ r. Makes r after))
+condition_of t l e d = then_make (next_of t l 32 true e d) (λ v after. in_register v (λ r. Makes r after))
 
 -- back to the turn of a loop, if its condition holds; one that is left out does
 unfoldable pub jump_back_of : Typed → Layout → Option TExpr → ℕ → Draft → Made (Unit {0})
@@ -55,7 +57,7 @@ stored_result l R.Parallel v d =
     then_make (own_field l.outcome d) (λ dest between. then_make (put_value (O.Field dest) v between) (λ _ after. Makes tt after))
 
 unfoldable pub given_back : Typed → Layout → TExpr → Outcome → Draft → Made (Unit {0})
-given_back t l e outcome d = then_make (next_operand t l e d) (λ v after. stored_result l outcome v after)
+given_back t l e outcome d = then_make (next_of t l (type_of e).elem.bits true e d) (λ v after. stored_result l outcome v after)
 
 -- the value of `return`, if it has one
 unfoldable pub returned : Typed → Layout → Option TExpr → Outcome → Draft → Made (Unit {0})
@@ -107,14 +109,14 @@ unfoldable mutual
   statement_of t l (S.While' test p body) f contexts n d =
       let turn = here d + 1 in
       let next = turn + statement_length_of t l (has_result f) (at_loop f.saved) body + 1 in
-      let after = next + next_length t l test + 1 in
+      let after = next + used_length_of t l 32 true test + 1 in
       then_make
       (statement_of t l body (in_loop next after f) contexts n (with_instr I.FrontTurn (with_instr (I.FrontJump next) d)))
       (λ m behind. then_make (jump_back_of t l (Some test) turn behind) (λ _ end. Makes m end))
   statement_of t l (S.Do' p body test) f contexts n d =
       let turn = here d in
       let next = turn + statement_length_of t l (has_result f) (at_loop f.saved) body + 1 in
-      let after = next + next_length t l test + 1 in
+      let after = next + used_length_of t l 32 true test + 1 in
       then_make (statement_of t l body (in_loop next after f) contexts n (with_instr I.FrontTurn d))
       (λ m behind. then_make (jump_back_of t l (Some test) turn behind) (λ _ end. Makes m end))
   statement_of t l (S.For' first test step p body) f contexts n d =
@@ -161,7 +163,7 @@ unfoldable mutual
 -- the turns of a loop that begins here, whose body is followed by its condition, at a place
 unfoldable pub turns_of : Typed → Layout → TStmt → TExpr → ℕ → Frame → List Field → ℕ → Draft → Made ℕ
 turns_of t l body test next f contexts n d =
-    let after = next + next_length t l test + 1 in
+    let after = next + used_length_of t l 32 true test + 1 in
     then_make (statement_of t l body (in_loop next after f) contexts n (with_instr I.FrontTurn d))
     (λ m behind. then_make (jump_back_of t l (Some test) (here d) behind) (λ _ end. Makes m end))
 

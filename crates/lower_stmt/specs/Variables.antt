@@ -11,7 +11,8 @@ use Rattle.lower_base.specs.declared.emit.Out.{Out}
 use Rattle.lower_base.specs.declared.emit.Out.TheVariants as O
 use Rattle.lower_base.specs.Drafts.{Draft, Made, Makes, then_make, with_instr, an_entry}
 use Rattle.lower_base.specs.Layouts.{Layout, entries_of, register_of, field_of}
-use Rattle.lower_expr.specs.Effects.{narrowed_to, put_to}
+use Rattle.lower_expr.specs.Effects.{put_to}
+use Rattle.lower_expr.specs.Operands.{standing}
 use Rattle.lower_expr.specs.Steps.{has_word}
 
 -- so many fresh fields of a shape, each of which becomes zero at every position
@@ -47,25 +48,16 @@ all_cleared l at_start [] n d = Makes tt d
 all_cleared l at_start (local ∷ locals) n d =
     then_make (cleared l at_start local n d) (λ _ after. all_cleared l at_start locals (n + 1) after)
 
--- where a variable is
+-- where a variable is, with all its bits
 unfoldable pub variable_of : Typed → Layout → VarInfo → ℕ → Draft → Made Out
-variable_of t l info n d =
-    elim info.shape [
-      | None ↦ Makes (O.Scalar (register_of l (V.Local n))) d
-      | Some s ↦ then_make (field_of t l (V.Local n) 0 d) (λ field after. Makes (O.Field field) after)
-    ]
-
--- a value becomes that of a variable
-unfoldable pub initial_put : Typed → Layout → VarInfo → Out → TExpr → Draft → Made Out
-initial_put t l info (O.Field f) e d = if info.elem.bits == 32 then put_to t l (O.Field f) e d else narrowed_to t l f e d
-initial_put t l info dest e d = put_to t l dest e d
+variable_of t l info n d = standing t l info.elem.bits (record { shape = info.shape; variable = V.Local n }) d
 
 -- its initialiser, if it has one, stored in it
 unfoldable pub initialised : Typed → Layout → LocalVar → ℕ → Draft → Made (Unit {0})
 initialised t l local n d =
     elim local.initial [
       | None ↦ Makes tt d
-      | Some e ↦ then_make (variable_of t l local.info n d) (λ dest between. then_make (initial_put t l local.info dest e between)
+      | Some e ↦ then_make (variable_of t l local.info n d) (λ dest between. then_make (put_to t l dest e between)
           (λ _ after. Makes tt after))
     ]
 

@@ -11,7 +11,7 @@ use cstar_tree::typed::{LocalVar, TExpr, TStmt, VarInfo};
 use lower_base::View;
 use lower_base::emit::plus;
 use lower_base::names::entries_of;
-use lower_expr::effect_lengths::{effect_length, narrowed_length, put_length};
+use lower_expr::effect_lengths::{effect_length, own_bits, put_length};
 use lower_expr::length::{test_length, used_length};
 
 /// How many saved contexts a jump has to load: those that were saved in the innermost loop, and
@@ -48,7 +48,7 @@ impl Saved {
 
 /// The instructions of a statement of a function that has a result or none.
 #[cycle(statement_length)]
-#[tactic(auto, unfolding(crate::specs::Lengths::statement_length_of, crate::specs::Lengths::statements_length_of, crate::specs::Lengths::storing_length, lower_expr::specs::Effects::next_length))]
+#[tactic(auto, unfolding(crate::specs::Lengths::statement_length_of, crate::specs::Lengths::statements_length_of, crate::specs::Lengths::storing_length))]
 pub fn statement_length(
     view: &View,
     s: &TStmt,
@@ -72,18 +72,18 @@ pub fn statement_length(
             then,
             otherwise,
         } => {
-            let test = used_length(view, true, test)?;
+            let test = used_length(view, 32, true, test)?;
             let then = statement_length(view, then, has_result, saved)?;
             let other = else_length(view, otherwise, 1, has_result, saved)?;
             plus(plus(plus(test, then)?, 1)?, other)
         }
         TStmt::While { test, body } => {
             let body = statement_length(view, body, has_result, saved.at_loop())?;
-            plus(plus(used_length(view, true, test)?, body)?, 3)
+            plus(plus(used_length(view, 32, true, test)?, body)?, 3)
         }
         TStmt::Do { body, test } => {
             let body = statement_length(view, body, has_result, saved.at_loop())?;
-            plus(plus(used_length(view, true, test)?, body)?, 2)
+            plus(plus(used_length(view, 32, true, test)?, body)?, 2)
         }
         TStmt::For {
             first,
@@ -101,7 +101,7 @@ pub fn statement_length(
         TStmt::Return(None) => plus(saved.in_all, 1),
         TStmt::Return(Some(e)) => {
             let stored = if has_result { 2 } else { 1 };
-            plus(plus(used_length(view, true, e)?, saved.in_all)?, stored)
+            plus(plus(used_length(view, e.ty().elem.bits, true, e)?, saved.in_all)?, stored)
         }
         TStmt::With { body, .. } => statement_length(view, body, has_result, saved),
         TStmt::Everywhere { body, .. } => {
@@ -152,12 +152,12 @@ pub fn part_length(view: &View, part: &Option<TExpr>) -> Result<u32, Memory>
 }
 
 /// The optional condition of a `for`.
-#[tactic(auto, unfolding(crate::specs::Lengths::condition_length_of, lower_expr::specs::Effects::next_length))]
+#[tactic(auto, unfolding(crate::specs::Lengths::condition_length_of))]
 pub fn condition_length(view: &View, test: &Option<TExpr>) -> Result<u32, Memory>
     ensures { IfOk result (λ n. n ≡ condition_length_of view.now.typed.now (layout view.now.names) test.now) }
 {
     match test {
-        Some(e) => used_length(view, true, e),
+        Some(e) => used_length(view, 32, true, e),
         None => Ok(0),
     }
 }
@@ -194,11 +194,8 @@ fn initial_length(view: &View, info: &VarInfo, initial: &Option<TExpr>) -> Resul
 {
     match initial {
         Some(e) => {
-            if info.shape.is_none() || info.elem.bits == 32 {
-                put_length(view, info.shape.is_none(), e)
-            } else {
-                narrowed_length(view, e)
-            }
+            let scalar = info.shape.is_none();
+            put_length(view, scalar, own_bits(scalar, info.elem), e)
         }
         None => Ok(0),
     }

@@ -268,7 +268,7 @@ impl Body {
 
     /// The turns of a `while` or a `do`, whose body begins here and whose test is at `next`.
     #[cycle(statement)]
-    #[tactic(auto, unfolding(crate::specs::Statements::turns_of, crate::specs::Statements::jump_back_of, lower_expr::specs::Effects::next_length, lower_base::specs::Drafts::then_make))]
+    #[tactic(auto, unfolding(crate::specs::Statements::turns_of, crate::specs::Statements::jump_back_of, lower_base::specs::Drafts::then_make))]
     fn turns(
         &mut self,
         view: &View,
@@ -281,7 +281,7 @@ impl Body {
         ensures contexts { OnOk result (self.new.contexts.items ≡ self.old.contexts.items) }
     {
         let turn = here(&self.unit)?;
-        let after = plus(plus(next, used_length(view, true, test)?)?, 1)?;
+        let after = plus(plus(next, used_length(view, 32, true, test)?)?, 1)?;
         put(&mut self.unit, Instr::FrontTurn)?;
         self.statement(view, body, f.in_loop(next, after))?;
         let test = condition(view, test, &mut self.unit)?;
@@ -385,11 +385,11 @@ fn evaluate_part(view: &View, part: &Option<TExpr>, u: &mut Unit) -> Result<(), 
 }
 
 /// The value of a condition, in a register.
-#[tactic(auto, unfolding(crate::specs::Statements::condition_of, lower_expr::specs::Effects::next_operand, lower_base::specs::Drafts::then_make, lower_base::specs::Drafts::in_register))]
+#[tactic(auto, unfolding(crate::specs::Statements::condition_of, lower_base::specs::Drafts::then_make, lower_base::specs::Drafts::in_register))]
 fn condition(view: &View, e: &TExpr, u: &mut Unit) -> Result<u32, Memory>
     ensures draft { IfOk result (λ r. condition_of view.now.typed.now (layout view.now.names) e.now (draft u.old) ≡ Makes r (draft u.new)) }
 {
-    operand(view, true, e, u)?.register()
+    operand(view, 32, true, e, u)?.register()
 }
 
 /// The end of a function, and that of `main`.
@@ -477,11 +477,11 @@ fn return_value(
 }
 
 /// The returned value becomes the result, that of a field at the active positions.
-#[tactic(auto, unfolding(crate::specs::Statements::given_back, lower_expr::specs::Effects::next_operand, lower_base::specs::Drafts::then_make))]
+#[tactic(auto, unfolding(crate::specs::Statements::given_back, lower_base::specs::Drafts::then_make))]
 fn give_back(view: &View, e: &TExpr, outcome: Outcome, u: &mut Unit) -> Result<(), Memory>
     ensures draft { OnOk result (given_back view.now.typed.now (layout view.now.names) e.now outcome (draft u.old) ≡ Makes tt (draft u.new)) }
 {
-    let v = operand(view, true, e, u)?;
+    let v = operand(view, e.ty().elem.bits, true, e, u)?;
     store_result(view, outcome, v, u)
 }
 

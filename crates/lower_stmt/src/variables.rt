@@ -3,14 +3,15 @@
 ghost use Rattle.std.specs.Prelude.{◌≡◌, IfOk, OnOk};
 ghost use Rattle.lower_base.specs.Drafts.{Makes, draft, out_of};
 ghost use Rattle.lower_base.specs.Layouts.{layout};
-ghost use Rattle.lower_stmt.specs.Variables.{all_cleared, all_initialised, begins_constant, cleared, cleared_fields, declared, initial_put, initialised, is_kept_so, variable_of, with_home};
+ghost use Rattle.lower_stmt.specs.Variables.{all_cleared, all_initialised, begins_constant, cleared, cleared_fields, declared, initialised, is_kept_so, variable_of, with_home};
 
 use cstar_base::Memory;
 use cstar_tree::typed::{LocalVar, TExpr, VarInfo, Variable};
 use lower_base::emit::{entry, plus, put};
 use lower_base::names::{count, entries_of};
 use lower_base::{Operand, View};
-use lower_expr::effects::{narrow_to, put_to};
+use lower_expr::effects::put_to;
+use lower_expr::operands::{Own, standing};
 use lower_expr::steps::has_word;
 use paris_code::{Instr, Owner, Unit};
 
@@ -73,37 +74,21 @@ fn initialise(view: &View, local: &LocalVar, number: u32, u: &mut Unit) -> Resul
         None => Ok(()),
         Some(e) => {
             let dest = variable(view, &local.info, number, u)?;
-            put_initial(view, &local.info, dest, e, u)
+            put_to(view, dest, e, u)
         }
     }
 }
 
-/// A value becomes that of a variable.
-#[tactic(auto, unfolding(crate::specs::Variables::initial_put))]
-fn put_initial(
-    view: &View,
-    info: &VarInfo,
-    dest: Operand,
-    e: &TExpr,
-    u: &mut Unit,
-) -> Result<(), Memory>
-    ensures draft { OnOk result (initial_put view.now.typed.now (layout view.now.names) info.now (out_of dest) e.now (draft u.old) ≡ Makes (out_of dest) (draft u.new)) }
-{
-    match dest {
-        Operand::Field(field) if info.elem.bits != 32 => narrow_to(view, field, e, u),
-        Operand::Register(_) | Operand::Field(_) => put_to(view, dest, e, u),
-    }
-}
-
-/// Where a variable of a block is.
-#[tactic(auto, unfolding(crate::specs::Variables::variable_of, lower_base::specs::Drafts::then_make))]
+/// Where a variable of a block is, with all its bits.
+#[tactic(auto, unfolding(crate::specs::Variables::variable_of))]
 fn variable(view: &View, info: &VarInfo, number: u32, u: &mut Unit) -> Result<Operand, Memory>
     ensures draft { IfOk result (λ dest. variable_of view.now.typed.now (layout view.now.names) info.now number (draft u.old) ≡ Makes (out_of dest) (draft u.new)) }
 {
-    match info.shape {
-        None => Ok(Operand::Register(view.register(Variable::Local(number))?)),
-        Some(_) => Ok(Operand::Field(view.field(Variable::Local(number), 0, u)?)),
-    }
+    let own = Own {
+        shape: info.shape,
+        variable: Variable::Local(number),
+    };
+    standing(view, info.elem.bits, own, u)
 }
 
 /// A variable of a block becomes zero, at every position; a parallel one gets its entries here.
