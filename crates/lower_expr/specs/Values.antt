@@ -45,7 +45,7 @@ use Rattle.lower_expr.specs.Lengths.{is_send, length_of, arm_length_of, test_put
 use Rattle.lower_expr.specs.Operands.{is_plus, is_quiet, are_quiet, all_quiet, operand_by, operand_length}
 use Rattle.lower_expr.specs.Positions.{known_position}
 use Rattle.lower_expr.specs.Spots.{variable_spot, index_checked, loaded, stored}
-use Rattle.lower_expr.specs.Steps.{is_kept, has_truth, word_for, word_put, word_of, word_taken, constant_in, put_test, converted_in_place, put_value, operated, right_operated, in_a_field, negated, pieces_printed, assigned_signed}
+use Rattle.lower_expr.specs.Steps.{is_kept, has_truth, relates, word_for, word_put, word_of, word_taken, constant_in, put_test, converted_in_place, put_value, operated, right_operated, in_a_field, negated, pieces_printed, assigned_signed}
 
 -- the code of a value, and that of a list of values
 abbrev pub Code : Type 0

@@ -1,7 +1,7 @@
 //! How many instructions an expression compiles to. Jumps are written once, since the lengths of
 //! what they pass over are known beforehand.
 
-ghost use Rattle.std.specs.Prelude.{◌≡◌, ◌≤◌, true, IfOk, slice_get};
+ghost use Rattle.std.specs.Prelude.{◌≡◌, ◌≤◌, true, false, IfOk, slice_get};
 ghost use Rattle.lower_base.specs.Layouts.{layout};
 ghost use Rattle.lower_expr.specs.Kinds.{bits_of, kind_of};
 ghost use Rattle.lower_expr.specs.Operands.{all_quiet};
