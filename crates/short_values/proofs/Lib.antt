@@ -1,0 +1,3 @@
+pub mod Comparisons
+pub mod LowestBits
+pub mod NarrowTypes
