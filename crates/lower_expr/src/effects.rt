@@ -334,8 +334,7 @@ fn cast_to(
         test_value(dest, u)
     } else {
         let v = operand(view, elem.bits, true, inner, u)?;
-        extend(elem.signed, dest, v, u)?;
-        Ok(())
+        extend(elem.signed, dest, v, u)
     }
 }
 

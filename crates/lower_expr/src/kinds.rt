@@ -2,9 +2,9 @@
 //! operator works at fewer bits than 32 where the lowest bits of its result depend on the lowest bits of
 //! its operands alone, and a relation compares in a narrow type that has the numbers of both sides.
 
-ghost use Rattle.std.specs.Prelude.{◌≡◌, true};
+ghost use Rattle.std.specs.Prelude.{◌≡◌, Some, true};
 ghost use Rattle.cstar_tree.specs.Typed.{type_of};
-ghost use Rattle.lower_expr.specs.Kinds.{assigned_bits, binary_kind, bits_of, common_kind, converted_kind, has_all, has_number, is_bitwise, is_modular, is_unchanged, kind_of, kind_with, list_bits, longer, narrow, operand_bits, operation_bits, reads_signed, relation_kind, result_bits, shifts_within, unary_bits, works_within};
+ghost use Rattle.lower_expr.specs.Kinds.{assigned_bits, binary_kind, bits_of, common_kind, converted_kind, has_all, has_number, is_bitwise, is_modular, is_unchanged, kind_of, kind_with, list_bits, longer, narrow, operand_bits, operation_bits, reads_signed, relation_kind, result_bits, shifts_within, truth_type, unary_bits, works_within};
 
 use crate::steps::{constant_word, is_relation, negates};
 use cstar_base::{Elem, Op, numbers};
@@ -61,6 +61,13 @@ fn converted_kind(elem: Elem, value: Option<Elem>) -> Option<Elem>
     }
 }
 
+/// The narrow type of truth values.
+fn truth_kind() -> Option<Elem>
+    ensures { result ≡ Some truth_type }
+{
+    Some(Elem::BOOL)
+}
+
 #[tactic(auto, unfolding(crate::specs::Kinds::is_bitwise))]
 fn is_bitwise(op: Op) -> bool
     ensures { result ≡ is_bitwise op }
@@ -73,7 +80,7 @@ fn binary_kind(op: Op, left: Option<Elem>, right: Option<Elem>) -> Option<Elem>
     ensures { result ≡ binary_kind op left right }
 {
     if is_relation(op) {
-        Some(Elem::BOOL)
+        truth_kind()
     } else if is_bitwise(op) {
         common_kind(left, right)
     } else {
@@ -96,14 +103,14 @@ pub fn kind_of(e: &TExpr) -> Option<Elem>
             otherwise,
             ..
         } => common_kind(kind_of(then), kind_of(otherwise)),
-        TExpr::LogicalOr { .. } | TExpr::LogicalAnd { .. } => Some(Elem::BOOL),
+        TExpr::LogicalOr { .. } | TExpr::LogicalAnd { .. } => truth_kind(),
         TExpr::Binary {
             op,
             left,
             right,
             ..
         } => binary_kind(*op, kind_of(left), kind_of(right)),
-        TExpr::Unary { op, .. } => if negates(*op) { Some(Elem::BOOL) } else { None },
+        TExpr::Unary { op, .. } => if negates(*op) { truth_kind() } else { None },
         TExpr::Variable { ty, .. } | TExpr::Element { ty, .. } | TExpr::LeftIndex { ty, .. } => {
             narrow(ty.elem)
         }

@@ -239,8 +239,8 @@ pub fn test_value(dest: Field, u: &mut Unit) -> Result<(), Memory>
 
 /// A value becomes that of a longer field, with its sign or with zeros in front.
 #[tactic(auto, unfolding(lower_base::specs::Drafts::in_field))]
-pub fn extend(signed: bool, dest: Field, v: Operand, u: &mut Unit) -> Result<Out, Memory>
-    ensures draft { IfOk result (λ out. in_field (out_of v) (λ source. Makes (O.Field dest) (with_instr (I.Move signed dest source) (draft u.old))) ≡ Makes out (draft u.new)) }
+pub fn extend(signed: bool, dest: Field, v: Operand, u: &mut Unit) -> Result<(), Memory>
+    ensures draft { OnOk result (in_field (out_of v) (λ source. Makes (O.Field dest) (with_instr (I.Move signed dest source) (draft u.old))) ≡ Makes (O.Field dest) (draft u.new)) }
 {
     let source = v.field()?;
     put(
@@ -250,8 +250,7 @@ pub fn extend(signed: bool, dest: Field, v: Operand, u: &mut Unit) -> Result<Out
             dest,
             source,
         },
-    )?;
-    Ok(Out::Field(dest))
+    )
 }
 
 /// Compares fields; a word is spread into `spare` first.

@@ -286,7 +286,8 @@ fn cast(
     } else if ty.elem.bits < bits {
         let dest = field(u, set, bits)?;
         let v = spread_operand(view, ty.elem.bits, inner, set, u)?;
-        extend(ty.elem.signed, dest, v, u)
+        extend(ty.elem.signed, dest, v, u)?;
+        Ok(Out::Field(dest))
     } else {
         Ok(spread(view, bits, inner, set, u)?.out())
     }
@@ -799,7 +800,7 @@ fn values(
 
 /// An assignment.
 #[cycle(value)]
-#[tactic(auto, unfolding(crate::specs::Values::assign_by, crate::specs::Values::sent_by, crate::specs::Values::assigned_by, crate::specs::Values::plainly_set_by, crate::specs::Values::set_by, crate::specs::Values::spread_of, crate::specs::Values::lowest, lower_base::specs::Drafts::then_make))]
+#[tactic(auto, unfolding(crate::specs::Values::assign_by, crate::specs::Values::sent_by, crate::specs::Values::assigned_by, crate::specs::Values::plainly_set_by, crate::specs::Values::set_by, crate::specs::Values::spread_of, crate::specs::Values::lowest, crate::specs::Kinds::assigned_bits, lower_base::specs::Drafts::then_make))]
 fn assign(
     view: &View,
     bits: u8,

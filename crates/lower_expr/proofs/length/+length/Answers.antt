@@ -7,21 +7,21 @@ use Rattle.lower_expr.proofs.length.+length.Goals as goal
 pub length-returns-in_ok-located-in-LeftIndex : goal.length-returns-in_ok-located-in-LeftIndex
 length-returns-in_ok-located-in-LeftIndex t c =
     let index = c.in-LeftIndex in
-    let code = length_of_left_index c.args.view.now.typed.now (layout c.args.view.now.names) index.ty index.place index.indexes index.variable index.of in
+    let code = length_of_left_index c.args.view.now.typed.now (layout c.args.view.now.names) c.args.bits index.ty index.place index.indexes index.variable index.of in
     let is = index.is in
     grind (arith, common_steps, code, is)
 
 pub length-returns-in_ok-list_length-in-Call : goal.length-returns-in_ok-list_length-in-Call
 length-returns-in_ok-list_length-in-Call t c =
     let call = c.in-Call in
-    let code = length_of_call c.args.view.now.typed.now (layout c.args.view.now.names) call.ty call.instance call.arguments in
+    let code = length_of_call c.args.view.now.typed.now (layout c.args.view.now.names) c.args.bits call.ty call.instance call.arguments in
     let is = call.is in
     grind (arith, common_steps, code, is)
 
 pub length-returns-in_ok-list_length-in-Printf : goal.length-returns-in_ok-list_length-in-Printf
 length-returns-in_ok-list_length-in-Printf t c =
     let printed = c.in-Printf in
-    let code = length_of_printf c.args.view.now.typed.now (layout c.args.view.now.names) printed.ty printed.pieces printed.arguments in
+    let code = length_of_printf c.args.view.now.typed.now (layout c.args.view.now.names) c.args.bits printed.ty printed.pieces printed.arguments in
     let is = printed.is in
     grind (arith, common_steps, code, is)
 
@@ -35,13 +35,13 @@ spot_length-returns-in-LeftIndex t c =
 pub length-returns-in-LogicalOr : goal.length-returns-in-LogicalOr
 length-returns-in-LogicalOr t c =
     let operands = c.in-LogicalOr in
-    let code = length_of_or c.args.view.now.typed.now (layout c.args.view.now.names) operands.ty operands.left operands.right in
+    let code = length_of_or c.args.view.now.typed.now (layout c.args.view.now.names) c.args.bits operands.ty operands.left operands.right in
     let is = operands.is in
     grind (arith, common_steps, code, is)
 
 pub length-returns-in-LogicalAnd : goal.length-returns-in-LogicalAnd
 length-returns-in-LogicalAnd t c =
     let operands = c.in-LogicalAnd in
-    let code = length_of_and c.args.view.now.typed.now (layout c.args.view.now.names) operands.ty operands.left operands.right in
+    let code = length_of_and c.args.view.now.typed.now (layout c.args.view.now.names) c.args.bits operands.ty operands.left operands.right in
     let is = operands.is in
     grind (arith, common_steps, code, is)

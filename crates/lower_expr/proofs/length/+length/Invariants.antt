@@ -6,7 +6,7 @@ use Rattle.lower_expr.proofs.length.+length.Given as goal
 
 abbrev pub invariant-lengths-loop-e : goal.invariant-lengths-loop-e
 invariant-lengths-loop-e l =
-    l.sum + lengths_in l.view.typed.now (layout l.view.names) l.quiet (drop l.e-index l.es) ≡ lengths_in l.view.typed.now (layout l.view.names) l.quiet l.es
+    l.sum + lengths_in l.view.typed.now (layout l.view.names) l.own l.quiet (drop l.e-index l.es) ≡ lengths_in l.view.typed.now (layout l.view.names) l.own l.quiet l.es
 
 -- how deep an expression, or the deepest of its parts, is; what a function calls with the same one
 -- stands below it
@@ -39,3 +39,6 @@ decreases-list_length l = 16 * goal.size-list_length l + 4
 
 abbrev pub decreases-located_length : goal.decreases-located_length
 decreases-located_length l = 16 * goal.size-located_length l + 5
+
+abbrev pub decreases-cast_length : goal.decreases-cast_length
+decreases-cast_length l = 16 * size-TExpr l.e.now + 3

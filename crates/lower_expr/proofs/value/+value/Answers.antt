@@ -15,7 +15,7 @@ locate-returns-in-LeftIndex t c =
 pub value-returns-in-Printf : goal.value-returns-in-Printf
 value-returns-in-Printf t c =
     let printed = c.in-Printf in
-    let code = value_of_printf c.args.view.now.typed.now (layout c.args.view.now.names) printed.ty printed.pieces printed.arguments (draft c.args.u.now) in
+    let code = value_of_printf c.args.view.now.typed.now (layout c.args.view.now.names) c.args.bits printed.ty printed.pieces printed.arguments (draft c.args.u.now) in
     let is = printed.is in
     record { draft = grind (arith, common_steps, code, is) }
 
@@ -23,6 +23,6 @@ pub value-returns-in_ok-dest-in-Call : goal.value-returns-in_ok-dest-in-Call
 value-returns-in_ok-dest-in-Call t c =
     let call = c.in-Call in
     let fresh = c.in_ok-dest-in-Call in
-    let code = value_of_call c.args.view.now.typed.now (layout c.args.view.now.names) call.ty call.instance call.arguments (out_of fresh.dest) _ _ fresh.ensures.draft in
+    let code = value_of_call c.args.view.now.typed.now (layout c.args.view.now.names) c.args.bits call.ty call.instance call.arguments (out_of fresh.dest) _ _ fresh.ensures.draft in
     let is = call.is in
     record { draft = grind (arith, common_steps, code, is) }

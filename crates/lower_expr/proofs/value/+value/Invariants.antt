@@ -7,7 +7,7 @@ use Rattle.lower_expr.proofs.value.+value.Given as goal
 
 abbrev pub invariant-values-loop-e : goal.invariant-values-loop-e
 invariant-values-loop-e l =
-    values_in l.view.typed.now (layout l.view.names) l.quiet (drop l.e-index l.es) l.outs.items (draft l.u) ≡ values_in l.view.typed.now (layout l.view.names) l.quiet l.es [] (draft l.fn.u)
+    values_in l.view.typed.now (layout l.view.names) l.own l.quiet (drop l.e-index l.es) l.outs.items (draft l.u) ≡ values_in l.view.typed.now (layout l.view.names) l.own l.quiet l.es [] (draft l.fn.u)
 
 -- how deep an expression, or the deepest of its parts, is; what a function calls with the same one
 -- stands below it
@@ -109,3 +109,12 @@ decreases-jump_or_test l = 16 * max (size-TExpr l.left.now) (size-TExpr l.right.
 
 abbrev pub decreases-narrow_twice : goal.decreases-narrow_twice
 decreases-narrow_twice l = 16 * max (size-TExpr l.left.now) (size-TExpr l.right.now) + 6
+
+abbrev pub decreases-spread_operand : goal.decreases-spread_operand
+decreases-spread_operand l = 16 * size-TExpr l.e.now + 7
+
+abbrev pub decreases-test_spread : goal.decreases-test_spread
+decreases-test_spread l = 16 * size-TExpr l.e.now + 8
+
+abbrev pub decreases-cast : goal.decreases-cast
+decreases-cast l = 16 * size-TExpr l.inner.now + 9
