@@ -476,7 +476,7 @@ pub casts_grow : (k : Bool) (elems : List Elem) (v : Out) (d : Draft) → Stands
 casts_grow k elems v d s = in_register_grows _ d _ k v _ s (λ r h. makes InRegister v d _ _ (subst (λ b. Stands b v) h s) (casts_more elems r d))
 
 -- a conversion of a parallel value to a field, and one in a register
-extended_grows : (signed : Bool) (dest : Field) (code : Code) (n : ℕ) (d : Draft) → IsCode n false code → Grows d (n + 1) InField (extended signed dest code d)
+pub extended_grows : (signed : Bool) (dest : Field) (code : Code) (n : ℕ) (d : Draft) → IsCode n false code → Grows d (n + 1) InField (extended signed dest code d)
 unfolding extended
 extended_grows signed dest code n d c =
     bind InField InField d n 1 _ _ (c d) (λ v after s. in_field_grows _ after 1 false v _ s (λ source _. makes InField (O.Field dest) after _ 1 refl (and_instr _ after after 0 (as_it_was after))))
