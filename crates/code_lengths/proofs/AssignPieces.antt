@@ -30,7 +30,7 @@ use Rattle.lower_expr.specs.Steps.{is_kept}
 use Rattle.lower_expr.specs.Values.{Code, lowest, spread_by, element_spot, read_to, read_by, set_by, sent_by, field_updated, register_updated, register_folded, updated_by, plainly_set_by, assigned_by, assign_by, stepped_once, stepped_at, stepped_in, step_by}
 use Rattle.code_lengths.specs.Shaped.{HasNoShape, HasShape}
 use Rattle.code_lengths.specs.Growth.{Grows, Stands, Anything}
-use Rattle.code_lengths.proofs.Drafting.{IsAt, at_stands, field_grows, fresh_at, lowest_grows, as_it_was, and_instr, makes, sized, behind, bind, weaker, in_register_grows, in_field_grows, register_grows, entry_grows, fresh_grows}
+use Rattle.code_lengths.proofs.Drafting.{IsAt, at_stands, field_grows, fresh_at, lowest_grows, as_it_was, and_instr, makes, sized, behind, bind, weaker, in_register_grows, in_field_grows, register_grows, entry_grows}
 use Rattle.code_lengths.proofs.Pieces.{InRegister, InField, fails_grow, word_in_grows, in_place_grows, operated_more}
 use Rattle.code_lengths.proofs.Communication.{Is, nothing_more, one_part_stored_grows, sent_grows, folded_onto_grows}
 use Rattle.code_lengths.proofs.SpotPieces.{Fits, loaded_grows, stored_grows, index_checked_grows}

@@ -24,7 +24,7 @@ use Rattle.lower_base.specs.declared.emit.Out.{Out}
 use Rattle.lower_base.specs.declared.emit.Out.TheVariants as O
 use Rattle.lower_comm.specs.declared.gets.Hop.{Hop}
 use Rattle.lower_comm.specs.declared.news.NewsStep.{NewsStep}
-use Rattle.lower_base.specs.Drafts.{Draft, Made, Makes, then_make, from, in_register, a_register, fresh_for, in_field, with_instr, an_entry, first_bits}
+use Rattle.lower_base.specs.Drafts.{Draft, Made, Makes, then_make, from, in_register, fresh_for, in_field, with_instr, an_entry, first_bits}
 use Rattle.lower_base.specs.Layouts.{Layout, field_of, own_field}
 use Rattle.lower_comm.specs.Messages.{front_located, each_located, located_at, located, checked_part, grid_steps, with_grid_check, hopped, is_extended, moving_part, moving_steps, stepwise, with_hop, gotten_by_steps, read_at, part_register, part_field, folded_onto, negated_by, reduced, indexed_field, stored, sent_value, sent_to, sent, scanned, segment_field, enumerated, communicated}
 use Rattle.lower_comm.specs.News.{step_of}
@@ -32,7 +32,7 @@ use Rattle.lower_base.specs.Operators.{assign_op_of}
 use Rattle.lower_expr.specs.Lengths.{load_length_of, reduce_length, send_length, read_length, moves_length, news_move, is_checked, news_moves, news_checked}
 use Rattle.code_lengths.specs.Growth.{Extended, Grows, Stands, Anything}
 use Rattle.code_lengths.proofs.Drafting.{IsAt, at_stands, in_field_at, fresh_at, as_it_was, extended, resized, and_step, and_instr, makes, sized, behind, bind, weaker, in_register_grows, in_field_grows, from_grows, register_grows, entry_grows}
-use Rattle.code_lengths.proofs.Pieces.{InRegister, InField, kind_of, stands, fails_grow}
+use Rattle.code_lengths.proofs.Pieces.{InRegister, InField, kind_of_out, stands, fails_grow}
 
 -- a value that stands in a register, or in a field
 abbrev pub Is : Bool → Out → Type 0
@@ -186,7 +186,7 @@ unfolding read_at read_length is_extended
 read_grows k bits ty of indexes source at into d h s = by ty.shape at h
   where
     extended_or_not : (b : Bool) (to dest : Field) → Grows d (if b then 2 else 1) (Stands k) (if b then then_make (an_entry dest.set source.len W.Own d)
-            (λ got after. Makes into (with_instr (I.Move ty.elem.signed dest got) (with_instr (I.Get got to source) after)))
+        (λ got after. Makes into (with_instr (I.Move ty.elem.signed dest got) (with_instr (I.Get got to source) after)))
         else Makes into (with_instr (I.Get dest to (first_bits dest.len source)) d))
     extended_or_not true to dest =
         bind Anything (Stands k) d 0 2 _ _ (entry_grows _ _ _ d)
@@ -213,11 +213,11 @@ read_by_news_grows k bits of indexes elem source O.Nothing d s = absurd s
 -- parts
 pub part_register_grows : {B : Type 0} (Q : B → Type 0) (d : Draft) (n : ℕ) (parts : List Out) (k : ℕ) (next : ℕ → Made B) → ((r : ℕ) → Grows d n Q (next r)) → Grows d n Q (part_register parts k next)
 unfolding part_register
-part_register_grows Q d n parts k next f = from_grows Q d n _ _ (λ out. in_register_grows Q d n (kind_of out) out next (stands out) (λ r _. f r))
+part_register_grows Q d n parts k next f = from_grows Q d n _ _ (λ out. in_register_grows Q d n (kind_of_out out) out next (stands out) (λ r _. f r))
 
 pub part_field_grows : {B : Type 0} (Q : B → Type 0) (d : Draft) (n : ℕ) (parts : List Out) (k : ℕ) (next : Field → Made B) → ((r : Field) → Grows d n Q (next r)) → Grows d n Q (part_field parts k next)
 unfolding part_field
-part_field_grows Q d n parts k next f = from_grows Q d n _ _ (λ out. in_field_grows Q d n (kind_of out) out next (stands out) (λ r _. f r))
+part_field_grows Q d n parts k next f = from_grows Q d n _ _ (λ out. in_field_grows Q d n (kind_of_out out) out next (stands out) (λ r _. f r))
 
 -- folds onto a register, and unary reductions
 pub folded_onto_grows : (k : Bool) (op : Option Op) (signed : Bool) (elem : Elem) (parts : List Out) (into : Out) (d : Draft) → Stands k into → Grows d 3 (Stands k) (folded_onto op signed elem parts into d)
@@ -243,13 +243,7 @@ indexed_field_grows : (t : Typed) (l : Layout) (e : TExpr) (d : Draft) → Grows
 unfolding indexed_field
 indexed_field_grows t l e d = from_grows Anything d 0 _ _ (λ x. field_of_grows t l x 0 d)
 
-pub element_stored_grows : (t : Typed) (l : Layout) (target : TExpr) (processor : ℕ) (parts : List Out) (d : Draft) → Grows d 1 (λ (v : Out). Unit {0}) (stored t l target processor parts d)
-unfolding stored
-element_stored_grows t l target processor parts d =
-    bind Anything _ d 0 1 _ _ (indexed_field_grows t l target d) (λ dest after _. part_register_grows _ after 1 parts 0 _ (λ value.
-    makes _ O.Nothing after _ 1 tt (and_instr _ after after 0 (as_it_was after))))
-
--- it is of a part that stands in a register
+-- a store to one element is of a part that stands in a register
 pub one_part_stored_grows : (t : Typed) (l : Layout) (target : TExpr) (processor : ℕ) (v : Out) (d : Draft) → Grows d 1 (λ (w : Out). InRegister v) (stored t l target processor (v ∷ []) d)
 unfolding stored part_register from in_register
 one_part_stored_grows t l target processor (O.Scalar r) d =

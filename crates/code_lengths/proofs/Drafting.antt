@@ -6,7 +6,7 @@ use Rattle.paris_code.specs.declared.program.Owner.{Owner}
 use Rattle.paris_code.specs.declared.program.Virtual.{Virtual}
 use Rattle.lower_base.specs.declared.emit.Out.{Out}
 use Rattle.lower_base.specs.declared.emit.Out.TheVariants as O
-use Rattle.lower_base.specs.Drafts.{Draft, Step, Made, Makes, Fails, then_make, from, step, with_step, with_instr, a_register, an_entry, a_field, fresh_for, shortened, first_bits, in_register, in_field}
+use Rattle.lower_base.specs.Drafts.{Draft, Step, Made, Makes, Fails, then_make, from, step, with_step, with_instr, a_register, an_entry, a_field, fresh_for, shortened, in_register, in_field}
 use Rattle.lower_expr.specs.Values.{lowest}
 use Rattle.code_lengths.specs.Growth.{Extended, Grows, Stands, Anything}
 

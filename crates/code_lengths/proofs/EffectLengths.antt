@@ -11,7 +11,6 @@ use Rattle.cstar_tree.specs.declared.typed.TExpr as T
 use Rattle.cstar_tree.specs.declared.typed.Typed.{Typed}
 use Rattle.cstar_tree.specs.declared.typed.UnaryOp.{UnaryOp}
 use Rattle.cstar_tree.specs.declared.typed.ValueType.{ValueType}
-use Rattle.cstar_tree.specs.declared.typed.Variable.{Variable}
 use Rattle.cstar_tree.specs.Typed.{type_of}
 use Rattle.paris_code.specs.declared.instr.Instr.TheVariants as I
 use Rattle.paris_code.specs.declared.operands.Field.{Field}
@@ -19,13 +18,13 @@ use Rattle.lower_base.specs.declared.emit.Out.{Out}
 use Rattle.lower_base.specs.declared.emit.Out.TheVariants as O
 use Rattle.lower_base.specs.Drafts.{Draft, Made, Makes, then_make, with_instr, a_register}
 use Rattle.lower_base.specs.Constants.{word_length}
-use Rattle.lower_base.specs.Layouts.{Layout, field_of}
+use Rattle.lower_base.specs.Layouts.{Layout}
 use Rattle.lower_base.specs.Operators.{assign_op_of}
 use Rattle.lower_expr.specs.declared.operands.Own.{Own}
 use Rattle.lower_expr.specs.Effects.{bits_for, moved, register_converted, goes_unchanged, cast_to, converted_to, fits_field, field_binary_to, binary_to, gone_to, computed_to, put_to, written_register, with_settled, register_operated, field_operated, variable_operated, variable_stepped, folds, writes_itself, assigned_own, whole_of, variable_assigned, assignment_effect, stepped_own, step_effect, effect_of, length_unchanged, converted_to_length, computed_length, put_length, settled_length, operated_length, own_bits, assigned_length, stepped_length, assignment_length, step_effect_length, effect_length_of}
 use Rattle.lower_expr.specs.Kinds.{bits_of, kind_of, operand_bits, unary_bits}
 use Rattle.lower_expr.specs.Lengths.{length_of, used_length_of, test_put_length, spot_length_of, load_length, load_length_of, bare, arm_length_of, choice_length, tested_length, tested_by_length, operate_length, reduce_length, unary_length, right_length, binary_length}
-use Rattle.lower_expr.specs.Operands.{is_plus, is_quiet, own_of, in_place, standing, operand_length}
+use Rattle.lower_expr.specs.Operands.{is_plus, is_quiet, own_of, in_place, operand_length}
 use Rattle.lower_expr.specs.Steps.{is_kept, has_truth, has_word, register_word, word_of, word_for, word_put, negated}
 use Rattle.lower_expr.specs.Values.{Code, value_of, next_of, tested, truth_put, extended, register_binary_of, field_binary_of, arm_of, scalar_choice_of}
 use Rattle.code_lengths.specs.Growth.{Extended, Grows, Stands, Anything}
@@ -350,7 +349,7 @@ kept_unless_folded true true c h e = refl
 kept_unless_folded true false c h e = cc
 kept_unless_folded false b c h e = cc
 
-bits_of_own : (k : Bool) (elem : Elem) (dest : Out) → IsAt k elem.bits dest → bits_for dest ≡ own_bits k elem
+pub bits_of_own : (k : Bool) (elem : Elem) (dest : Out) → IsAt k elem.bits dest → bits_for dest ≡ own_bits k elem
 unfolding bits_for own_bits
 bits_of_own true elem (O.Scalar r) s = refl
 bits_of_own false elem (O.Field f) s = s.1

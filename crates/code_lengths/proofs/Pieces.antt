@@ -1,5 +1,5 @@
 -- Short stretches of code are as long as described.
-use Rattle.std.proofs.Common.{◌≡◌, ℕ, suc, ◌+◌, ◌≤◌, ◌-◌, Bool, true, false, not, ◌==◌, List, [], ◌∷◌, length, Option, Some, None, refl, arith, if◌then◌else◌, ◌⊎◌, inl, inr, ap, ◌∙◌}
+use Rattle.std.proofs.Common.{◌≡◌, ℕ, suc, ◌+◌, ◌≤◌, ◌-◌, Bool, true, false, not, ◌==◌, List, [], ◌∷◌, length, Option, Some, None, refl, arith, if◌then◌else◌, ap}
 use Rattle.std.specs.Prelude.{nat_lt}
 use Rattle.cstar_base.specs.declared.elem.Elem.{Elem}
 use Rattle.cstar_base.specs.declared.operators.Op.{Op}
@@ -73,10 +73,6 @@ test_put bits dest d h = sized InField d _ _ _ (ap test_put_length h) (test_grow
 below_32 : (n : ℕ) → n ≤ 32 → (b : Bool) → (n == 32) ≡ b → (nat_lt n 32 ≡ not b)
 below_32 n h b e = grind (arith, h, e)
 
-bool_cases : (b : Bool) → (b ≡ true) ⊎ (b ≡ false)
-bool_cases true = inl refl
-bool_cases false = inr refl
-
 pub width : (elem : Elem) → nat_lt elem.bits 32 ≡ not (elem.bits == 32)
 width elem = below_32 elem.bits (kind_bits elem.bits elem.signed elem.kind).1 (elem.bits == 32) refl
 
@@ -123,13 +119,13 @@ in_place_grows true (O.Field f) elem d s = let h = s.0 in cc
 in_place_grows k O.Nothing elem d s = absurd s
 
 -- which kind a value is of
-unfoldable pub kind_of : Out → Bool
-kind_of (O.Scalar r) = true
-kind_of (O.Field f) = false
-kind_of O.Nothing = true
+unfoldable pub kind_of_out : Out → Bool
+kind_of_out (O.Scalar r) = true
+kind_of_out (O.Field f) = false
+kind_of_out O.Nothing = true
 
-pub stands : (v : Out) → Stands (kind_of v) v
-unfolding kind_of
+pub stands : (v : Out) → Stands (kind_of_out v) v
+unfolding kind_of_out
 stands (O.Scalar r) = refl
 stands (O.Field f) = refl
 stands O.Nothing = tt
@@ -312,5 +308,5 @@ printed_grows (Pc.Bytes bytes ∷ rest) values d =
     sized _ d _ _ _ (one_and (length rest)) (behind _ d _ 1 (length rest) _ (and_instr _ d d 0 (as_it_was d)) (printed_grows rest values _))
 printed_grows (Pc.Argument format ∷ rest) [] d = fails_grow _ d _
 printed_grows (Pc.Argument format ∷ rest) (v ∷ values) d =
-    in_register_grows _ d _ (kind_of v) v _ (stands v)
+    in_register_grows _ d _ (kind_of_out v) v _ (stands v)
     (λ r h. sized _ d _ _ _ (one_and (length rest)) (behind _ d _ 1 (length rest) _ (and_instr _ d d 0 (as_it_was d)) (printed_grows rest values _)))
