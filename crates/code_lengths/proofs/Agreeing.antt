@@ -2,6 +2,7 @@
 use Rattle.std.proofs.Common.{ℕ, ◌+◌, true, false, [], length, length-append, refl, ap, ◌∙◌}
 use Rattle.lower_base.specs.declared.emit.Out.TheVariants as O
 use Rattle.lower_base.specs.Drafts.{here}
+use Rattle.lower_expr.specs.Effects.{bits_for}
 use Rattle.code_lengths.specs.Agreement.{ExpressionsAreAsLongAsDescribed, StatementsAreAsLongAsDescribed, CodeEndsWhereItsLengthSays}
 use Rattle.code_lengths.proofs.Drafting.{weaker}
 use Rattle.code_lengths.proofs.Communication.{nothing_more}
@@ -11,10 +12,11 @@ use Rattle.code_lengths.proofs.EffectLengths.{put_grows, effect_grows, tested_gr
 use Rattle.code_lengths.proofs.StatementLengths.{statement_grows}
 
 pub expressions : ExpressionsAreAsLongAsDescribed
+unfolding bits_for
 expressions t l = record {
-  value = λ e d h. value_grows t l e h d;
-  operand = λ quiet e d h. operand_grows t l quiet e _ _ h (value_grows t l e h) d;
-  list = λ quiet n row d h. weaker _ _ d _ _ (λ given g. g ∙ nothing_more (length _)) (values_grow t l quiet row h [] d);
+  value = λ bits e d h. value_grows t l bits e h d;
+  operand = λ bits quiet e d h. operand_grows t l bits quiet e _ _ h (value_grows t l bits e h) d;
+  list = λ own quiet n row d h. weaker _ _ d _ _ (λ given g. g ∙ nothing_more (length _)) (values_grow t l own quiet row h [] d);
   spot = λ e d h. weaker _ _ d _ _ (λ s _. tt) (spot_grows t l e h d);
   effect = λ e d h. effect_grows t l e d h;
   test = λ e d h. tested_grows t l e d h;

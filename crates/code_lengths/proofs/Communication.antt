@@ -1,5 +1,5 @@
 -- The code of communication is as long as described.
-use Rattle.std.proofs.Common.{◌≡◌, ℕ, suc, ◌+◌, Bool, true, false, not, ◌&&◌, ◌||◌, ◌==◌, List, [], ◌∷◌, ◌++◌, length, length-append, Option, Some, None, is_none, refl, sym, ap, ◌∙◌, subst, arith, if◌then◌else◌}
+use Rattle.std.proofs.Common.{◌≡◌, ℕ, suc, ◌+◌, Bool, true, false, not, ◌&&◌, ◌||◌, ◌==◌, nat_lt, List, [], ◌∷◌, ◌++◌, length, length-append, Option, Some, None, is_none, refl, sym, ap, ◌∙◌, subst, arith, if◌then◌else◌}
 use denote.Hole.Carrier
 use Rattle.cstar_base.specs.declared.elem.Elem.{Elem}
 use Rattle.cstar_base.specs.declared.operators.Op.{Op}
@@ -24,15 +24,15 @@ use Rattle.lower_base.specs.declared.emit.Out.{Out}
 use Rattle.lower_base.specs.declared.emit.Out.TheVariants as O
 use Rattle.lower_comm.specs.declared.gets.Hop.{Hop}
 use Rattle.lower_comm.specs.declared.news.NewsStep.{NewsStep}
-use Rattle.lower_base.specs.Drafts.{Draft, Made, Makes, then_make, from, in_register, a_register, fresh_for, in_field, with_instr, an_entry}
+use Rattle.lower_base.specs.Drafts.{Draft, Made, Makes, then_make, from, in_register, fresh_for, in_field, with_instr, an_entry, first_bits}
 use Rattle.lower_base.specs.Layouts.{Layout, field_of, own_field}
-use Rattle.lower_comm.specs.Messages.{front_located, each_located, located_at, located, checked_part, grid_steps, with_grid_check, hopped, moving_part, moving_steps, stepwise, with_hop, gotten_by_steps, read_at, part_register, part_field, folded_onto, negated_by, reduced, indexed_field, stored, sent_value, sent_to, sent, scanned, segment_field, enumerated, communicated}
+use Rattle.lower_comm.specs.Messages.{front_located, each_located, located_at, located, checked_part, grid_steps, with_grid_check, hopped, is_extended, moving_part, moving_steps, stepwise, with_hop, gotten_by_steps, read_at, part_register, part_field, folded_onto, negated_by, reduced, indexed_field, stored, sent_value, sent_to, sent, scanned, segment_field, enumerated, communicated}
 use Rattle.lower_comm.specs.News.{step_of}
 use Rattle.lower_base.specs.Operators.{assign_op_of}
 use Rattle.lower_expr.specs.Lengths.{load_length_of, reduce_length, send_length, read_length, moves_length, news_move, is_checked, news_moves, news_checked}
 use Rattle.code_lengths.specs.Growth.{Extended, Grows, Stands, Anything}
-use Rattle.code_lengths.proofs.Drafting.{as_it_was, extended, resized, and_step, and_instr, makes, sized, behind, bind, weaker, in_register_grows, in_field_grows, from_grows, register_grows, entry_grows}
-use Rattle.code_lengths.proofs.Pieces.{InRegister, InField, kind_of, stands, fails_grow}
+use Rattle.code_lengths.proofs.Drafting.{IsAt, at_stands, in_field_at, fresh_at, as_it_was, extended, resized, and_step, and_instr, makes, sized, behind, bind, weaker, in_register_grows, in_field_grows, from_grows, register_grows, entry_grows}
+use Rattle.code_lengths.proofs.Pieces.{InRegister, InField, kind_of_out, stands, fails_grow}
 
 -- a value that stands in a register, or in a field
 abbrev pub Is : Bool → Out → Type 0
@@ -45,10 +45,13 @@ is_stands k (O.Scalar r) h = h
 is_stands k (O.Field f) h = h
 is_stands k O.Nothing h = tt
 
-pub fresh_is : (shape : Option ℕ) (d : Draft) → Grows d 0 (Is (is_none shape)) (fresh_for shape d)
-unfolding fresh_for a_register
-fresh_is None d = bind Anything _ d 0 0 _ _ (register_grows d) (λ r e _. makes _ (O.Scalar r) e e 0 refl (as_it_was e))
-fresh_is (Some s) d = bind Anything _ d 0 0 _ _ (entry_grows _ _ _ d) (λ f e _. makes _ (O.Field f) e e 0 refl (as_it_was e))
+pub at_is : (k : Bool) (bits : ℕ) (v : Out) → IsAt k bits v → Is k v
+at_is k bits (O.Scalar r) h = h
+at_is k bits (O.Field f) h = h.0
+at_is k bits O.Nothing h = h
+
+pub fresh_is : (shape : Option ℕ) (bits : ℕ) (d : Draft) → Grows d 0 (Is (is_none shape)) (fresh_for shape bits d)
+fresh_is shape bits d = weaker (IsAt (is_none shape) bits) _ d 0 _ (λ v s. at_is (is_none shape) bits v s) (fresh_at shape bits d)
 
 -- fields of variables have no code
 pub own_field_grows : (index : ℕ) (d : Draft) → Grows d 0 Anything (own_field index d)
@@ -132,43 +135,43 @@ hop_more step hop d = and_instr _ d d 0 (as_it_was d)
 not_zero : (n : ℕ) → (suc n == 0) ≡ false
 not_zero n = grind (arith)
 
-some_moves : (elem : Elem) (n : ℕ) → moves_length elem (suc n) ≡ (if elem.bits == 32 then suc n else suc n + 1)
+some_moves : (bits : ℕ) (elem : Elem) (n : ℕ) → moves_length bits elem (suc n) ≡ (if not (nat_lt elem.bits bits) then suc n else suc n + 1)
 unfolding moves_length
-some_moves elem n = ap (λ (none : Bool). if not none && elem.bits == 32 then suc n else suc n + 1) (not_zero n)
+some_moves bits elem n = ap (λ (none : Bool). if not none && not (nat_lt elem.bits bits) then suc n else suc n + 1) (not_zero n)
 
 stepwise_on : (elem : Elem) (dest : Field) (step next : GridStep) (steps : List GridStep) (hop : Hop) (d : Draft) →
     stepwise elem dest (step ∷ (next ∷ steps)) hop d ≡ stepwise elem dest (next ∷ steps) (hopped hop) (with_hop step hop d)
 unfolding stepwise
 stepwise_on elem dest step next steps hop d =
-    ap (λ (last : Bool). if last && elem.bits == 32 then with_instr (I.GetFromNews dest hop.source step.axis step.step) d else stepwise elem dest (next ∷ steps) (hopped hop) (with_hop step hop d))
+    ap (λ (last : Bool). if last && not (is_extended elem dest) then with_instr (I.GetFromNews dest hop.source step.axis step.step) d else stepwise elem dest (next ∷ steps) (hopped hop) (with_hop step hop d))
     (not_zero (length steps))
 
 one_more_move : (b : Bool) (n : ℕ) → 1 + (if b then suc n else suc n + 1) ≡ (if b then suc (suc n) else suc (suc n) + 1)
 one_more_move true n = omega arith
 one_more_move false n = omega arith
 
-stepwise_more : (elem : Elem) (dest : Field) (steps : List GridStep) (hop : Hop) (d : Draft) → Extended d (moves_length elem (length steps)) (stepwise elem dest steps hop d)
-unfolding stepwise moves_length
+stepwise_more : (elem : Elem) (dest : Field) (steps : List GridStep) (hop : Hop) (d : Draft) → Extended d (moves_length dest.len elem (length steps)) (stepwise elem dest steps hop d)
+unfolding stepwise moves_length is_extended
 stepwise_more elem dest [] hop d = and_instr _ d d 0 (as_it_was d)
-stepwise_more elem dest (step ∷ []) hop d = by (elem.bits == 32)
+stepwise_more elem dest (step ∷ []) hop d = by (not (nat_lt elem.bits dest.len))
   where
     by : (b : Bool) → Extended d (if b then 1 else 2) (if b then with_instr (I.GetFromNews dest hop.source step.axis step.step) d else with_instr (I.Move elem.signed dest (hopped hop).source) (with_hop step hop d))
     by true = and_instr _ d d 0 (as_it_was d)
     by false = and_instr _ d _ 1 (hop_more step hop d)
 stepwise_more elem dest (step ∷ (next ∷ steps)) hop d =
-    let longer : 1 + moves_length elem (suc (length steps)) ≡ moves_length elem (suc (suc (length steps))) =
-    ap (λ (n : ℕ). 1 + n) (some_moves elem (length steps)) ∙ one_more_move (elem.bits == 32) (length steps) ∙ sym (some_moves elem (suc (length steps))) in
-    subst (λ (e : Draft). Extended d (moves_length elem (suc (suc (length steps)))) e) (sym (stepwise_on elem dest step next steps hop d))
+    let longer : 1 + moves_length dest.len elem (suc (length steps)) ≡ moves_length dest.len elem (suc (suc (length steps))) =
+    ap (λ (n : ℕ). 1 + n) (some_moves dest.len elem (length steps)) ∙ one_more_move (not (nat_lt elem.bits dest.len)) (length steps) ∙ sym (some_moves dest.len elem (suc (length steps))) in
+    subst (λ (e : Draft). Extended d (moves_length dest.len elem (suc (suc (length steps)))) e) (sym (stepwise_on elem dest step next steps hop d))
     (resized d _ _ _ longer (extended d (with_hop step hop d) _ 1 _ (hop_more step hop d) (stepwise_more elem dest (next ∷ steps) (hopped hop) (with_hop step hop d))))
 
-steps_grow : (of : ℕ) (indexes : List TExpr) (elem : Elem) (source dest : Field) (d : Draft) → Grows d (moves_length elem (news_moves of 0 indexes)) InField (gotten_by_steps of indexes elem source dest d)
+steps_grow : (of : ℕ) (indexes : List TExpr) (elem : Elem) (source dest : Field) (d : Draft) → Grows d (moves_length dest.len elem (news_moves of 0 indexes)) InField (gotten_by_steps of indexes elem source dest d)
 unfolding gotten_by_steps
 steps_grow of indexes elem source dest d =
     sized InField d _ _ _ (nothing_before _)
     (bind Anything InField d 0 _ _ _ (entry_grows _ _ _ d) (λ one b _.
     sized InField b _ _ _ (nothing_before _)
     (bind Anything InField b 0 _ _ _ (entry_grows _ _ _ b) (λ other c _.
-    makes InField (O.Field dest) c _ _ refl (resized c _ _ _ (ap (moves_length elem) (moves_counted of 0 indexes)) (stepwise_more elem dest (moving_steps of 0 indexes) _ c))))))
+    makes InField (O.Field dest) c _ _ refl (resized c _ _ _ (ap (moves_length dest.len elem) (moves_counted of 0 indexes)) (stepwise_more elem dest (moving_steps of 0 indexes) _ c))))))
   where
     nothing_before : (n : ℕ) → 0 + n ≡ n
     nothing_before n = omega arith
@@ -177,39 +180,44 @@ steps_grow of indexes elem source dest d =
 pub nothing_more : (n : ℕ) → 0 + n ≡ n
 nothing_more n = omega arith
 
-pub read_grows : (k : Bool) (ty : ValueType) (of : ℕ) (indexes : List TExpr) (source : Field) (at into : Out) (d : Draft) → Is (is_none ty.shape) at → Stands k into →
-    Grows d (read_length ty) (Stands k) (read_at of indexes ty.elem source at into d)
-unfolding read_at read_length
-read_grows k ty of indexes source at into d h s = by ty.shape at h
+pub read_grows : (k : Bool) (bits : ℕ) (ty : ValueType) (of : ℕ) (indexes : List TExpr) (source : Field) (at into : Out) (d : Draft) → Is (is_none ty.shape) at → IsAt k bits into →
+    Grows d (read_length bits ty) (Stands k) (read_at of indexes ty.elem source at into d)
+unfolding read_at read_length is_extended
+read_grows k bits ty of indexes source at into d h s = by ty.shape at h
   where
-    gotten : (b : Bool) (to : Field) → Grows d (if b then 1 else 2) (Stands k) (in_field into (λ dest. if b then Makes into (with_instr (I.Get dest to source) d)
-        else then_make (an_entry dest.set source.len W.Own d) (λ got after. Makes into (with_instr (I.Move ty.elem.signed dest got) (with_instr (I.Get got to source) after)))))
-    gotten true to = in_field_grows _ d 1 k into _ s (λ dest _. makes (Stands k) into d _ 1 s (and_instr _ d d 0 (as_it_was d)))
-    gotten false to =
-        in_field_grows _ d 2 k into _ s (λ dest _. bind Anything (Stands k) d 0 2 _ _ (entry_grows _ _ _ d)
-        (λ got after _. makes (Stands k) into after _ 2 s (and_instr _ after _ 1 (and_instr _ after after 0 (as_it_was after)))))
+    extended_or_not : (b : Bool) (to dest : Field) → Grows d (if b then 2 else 1) (Stands k) (if b then then_make (an_entry dest.set source.len W.Own d)
+        (λ got after. Makes into (with_instr (I.Move ty.elem.signed dest got) (with_instr (I.Get got to source) after)))
+        else Makes into (with_instr (I.Get dest to (first_bits dest.len source)) d))
+    extended_or_not true to dest =
+        bind Anything (Stands k) d 0 2 _ _ (entry_grows _ _ _ d)
+        (λ got after _. makes (Stands k) into after _ 2 (at_stands k bits into s) (and_instr _ after _ 1 (and_instr _ after after 0 (as_it_was after))))
+    extended_or_not false to dest = makes (Stands k) into d _ 1 (at_stands k bits into s) (and_instr _ d d 0 (as_it_was d))
 
-    by : (shape : Option ℕ) (at : Out) → Is (is_none shape) at → Grows d (if is_none shape || ty.elem.bits == 32 then 1 else 2) (Stands k) (read_at of indexes ty.elem source at into d)
-    by None (O.Scalar r) h = in_register_grows _ d 1 k into _ s (λ dest _. makes (Stands k) into d _ 1 s (and_instr _ d d 0 (as_it_was d)))
+    by : (shape : Option ℕ) (at : Out) → Is (is_none shape) at → Grows d (if not (is_none shape) && nat_lt ty.elem.bits bits then 2 else 1) (Stands k) (read_at of indexes ty.elem source at into d)
+    by None (O.Scalar r) h = in_register_grows _ d 1 k into _ (at_stands k bits into s) (λ dest _. makes (Stands k) into d _ 1 (at_stands k bits into s) (and_instr _ d d 0 (as_it_was d)))
     by (Some _) (O.Scalar r) h = cc
     by None (O.Field f) h = cc
-    by (Some _) (O.Field f) h = gotten (ty.elem.bits == 32) f
+    by (Some _) (O.Field f) h =
+        in_field_at _ d _ k bits into _ s (λ dest e. sized (Stands k) d _ _ _ (ap (λ (n : ℕ). if nat_lt ty.elem.bits n then 2 else 1) e) (extended_or_not (nat_lt ty.elem.bits dest.len) f dest))
     by shape O.Nothing h = absurd h
 
-pub read_by_news_grows : (k : Bool) (of : ℕ) (indexes : List TExpr) (elem : Elem) (source : Field) (into : Out) (d : Draft) → Stands k into →
-    Grows d (moves_length elem (news_moves of 0 indexes)) (Stands k) (read_at of indexes elem source O.Nothing into d)
-unfolding read_at
-read_by_news_grows k of indexes elem source into d s =
-    in_field_grows _ d _ k into _ s (λ dest h. weaker InField (Stands k) d _ _ (λ v f. subst (λ b. Stands b v) (sym h) f) (steps_grow of indexes elem source dest d))
+pub read_by_news_grows : (k : Bool) (bits : ℕ) (of : ℕ) (indexes : List TExpr) (elem : Elem) (source : Field) (into : Out) (d : Draft) → IsAt k bits into →
+    Grows d (moves_length bits elem (news_moves of 0 indexes)) (Stands k) (read_at of indexes elem source O.Nothing into d)
+unfolding read_at in_field
+read_by_news_grows k bits of indexes elem source (O.Field dest) d s =
+    sized (Stands k) d _ _ _ (ap (λ (n : ℕ). moves_length n elem (news_moves of 0 indexes)) s.1)
+    (weaker InField (Stands k) d _ _ (λ v f. subst (λ b. Stands b v) (sym s.0) f) (steps_grow of indexes elem source dest d))
+read_by_news_grows k bits of indexes elem source (O.Scalar r) d s = fails_grow _ d _
+read_by_news_grows k bits of indexes elem source O.Nothing d s = absurd s
 
 -- parts
 pub part_register_grows : {B : Type 0} (Q : B → Type 0) (d : Draft) (n : ℕ) (parts : List Out) (k : ℕ) (next : ℕ → Made B) → ((r : ℕ) → Grows d n Q (next r)) → Grows d n Q (part_register parts k next)
 unfolding part_register
-part_register_grows Q d n parts k next f = from_grows Q d n _ _ (λ out. in_register_grows Q d n (kind_of out) out next (stands out) (λ r _. f r))
+part_register_grows Q d n parts k next f = from_grows Q d n _ _ (λ out. in_register_grows Q d n (kind_of_out out) out next (stands out) (λ r _. f r))
 
 pub part_field_grows : {B : Type 0} (Q : B → Type 0) (d : Draft) (n : ℕ) (parts : List Out) (k : ℕ) (next : Field → Made B) → ((r : Field) → Grows d n Q (next r)) → Grows d n Q (part_field parts k next)
 unfolding part_field
-part_field_grows Q d n parts k next f = from_grows Q d n _ _ (λ out. in_field_grows Q d n (kind_of out) out next (stands out) (λ r _. f r))
+part_field_grows Q d n parts k next f = from_grows Q d n _ _ (λ out. in_field_grows Q d n (kind_of_out out) out next (stands out) (λ r _. f r))
 
 -- folds onto a register, and unary reductions
 pub folded_onto_grows : (k : Bool) (op : Option Op) (signed : Bool) (elem : Elem) (parts : List Out) (into : Out) (d : Draft) → Stands k into → Grows d 3 (Stands k) (folded_onto op signed elem parts into d)
@@ -235,13 +243,7 @@ indexed_field_grows : (t : Typed) (l : Layout) (e : TExpr) (d : Draft) → Grows
 unfolding indexed_field
 indexed_field_grows t l e d = from_grows Anything d 0 _ _ (λ x. field_of_grows t l x 0 d)
 
-pub element_stored_grows : (t : Typed) (l : Layout) (target : TExpr) (processor : ℕ) (parts : List Out) (d : Draft) → Grows d 1 (λ (v : Out). Unit {0}) (stored t l target processor parts d)
-unfolding stored
-element_stored_grows t l target processor parts d =
-    bind Anything _ d 0 1 _ _ (indexed_field_grows t l target d) (λ dest after _. part_register_grows _ after 1 parts 0 _ (λ value.
-    makes _ O.Nothing after _ 1 tt (and_instr _ after after 0 (as_it_was after))))
-
--- it is of a part that stands in a register
+-- a store to one element is of a part that stands in a register
 pub one_part_stored_grows : (t : Typed) (l : Layout) (target : TExpr) (processor : ℕ) (v : Out) (d : Draft) → Grows d 1 (λ (w : Out). InRegister v) (stored t l target processor (v ∷ []) d)
 unfolding stored part_register from in_register
 one_part_stored_grows t l target processor (O.Scalar r) d =
@@ -261,8 +263,7 @@ negative_grows value d = bind Anything _ d 0 1 _ _ (entry_grows _ _ _ d) (λ sou
 
 send_to_grows : (op : AssignOp) (signed : Bool) (kind : Elem) (dest to value : Field) (d : Draft) → Grows d (send_length op) (λ (v : Out). Unit {0}) (sent_to (assign_op_of op) signed kind dest to value d)
 unfolding sent_to assign_op_of send_length sent_value
-send_to_grows A.Set signed kind dest to value d =
-    bind Anything _ d 0 2 _ _ (entry_grows _ _ _ d) (λ source after _. makes _ O.Nothing after _ 2 tt (and_instr _ after _ 1 (and_instr _ after after 0 (as_it_was after))))
+send_to_grows A.Set signed kind dest to value d = makes _ O.Nothing d _ 1 tt (and_instr _ d d 0 (as_it_was d))
 send_to_grows A.Sub signed kind dest to value d =
     combined_grows P.Sub 1 value d _ (negative_grows value d) (λ source after. makes _ O.Nothing after _ 1 tt (and_instr _ after after 0 (as_it_was after)))
 send_to_grows _ signed kind dest to value d =
@@ -297,8 +298,9 @@ abbrev pub IsAddress : TExpr → Out → Type 0
 IsAddress (T.LeftIndex' ty place p indexes x of) at = Is (is_none ty.shape) at
 IsAddress _ at = ⊥
 
-pub left_index_read_grows : (k : Bool) (t : Typed) (l : Layout) (b : TExpr) (at into : Out) (d : Draft) → IsAddress b at → Stands k into → Grows d (load_length_of t l b) (Stands k) (communicated t l b at [] into d)
+pub left_index_read_grows : (k : Bool) (bits : ℕ) (t : Typed) (l : Layout) (b : TExpr) (at into : Out) (d : Draft) → IsAddress b at → IsAt k bits into →
+    Grows d (load_length_of t l bits b) (Stands k) (communicated t l b at [] into d)
 unfolding communicated load_length_of out-TExpr Carrier.out
-left_index_read_grows k t l (T.LeftIndex' ty place p indexes x of) at into d h s =
-    sized _ d _ _ _ (nothing_more (read_length ty)) (bind Anything (Stands k) d 0 _ _ _ (field_of_grows t l x 0 d) (λ source after _. read_grows k ty of _ source at into after h s))
-left_index_read_grows k t l _ at into d h s = absurd h
+left_index_read_grows k bits t l (T.LeftIndex' ty place p indexes x of) at into d h s =
+    sized _ d _ _ _ (nothing_more (read_length bits ty)) (bind Anything (Stands k) d 0 _ _ _ (field_of_grows t l x 0 d) (λ source after _. read_grows k bits ty of _ source at into after h s))
+left_index_read_grows k bits t l _ at into d h s = absurd h

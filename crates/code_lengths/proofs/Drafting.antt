@@ -6,7 +6,8 @@ use Rattle.paris_code.specs.declared.program.Owner.{Owner}
 use Rattle.paris_code.specs.declared.program.Virtual.{Virtual}
 use Rattle.lower_base.specs.declared.emit.Out.{Out}
 use Rattle.lower_base.specs.declared.emit.Out.TheVariants as O
-use Rattle.lower_base.specs.Drafts.{Draft, Step, Made, Makes, Fails, then_make, from, step, with_step, with_instr, a_register, an_entry, fresh_for, in_register, in_field}
+use Rattle.lower_base.specs.Drafts.{Draft, Step, Made, Makes, Fails, then_make, from, step, with_step, with_instr, a_register, an_entry, a_field, fresh_for, shortened, in_register, in_field}
+use Rattle.lower_expr.specs.Values.{lowest}
 use Rattle.code_lengths.specs.Growth.{Extended, Grows, Stands, Anything}
 
 pub append_nothing : {A : Type 0} (xs : List A) → xs ≡ xs ++ []
@@ -97,7 +98,44 @@ pub entry_grows : (set len : ℕ) (owner : Owner) (d : Draft) → Grows d 0 Anyt
 unfolding Grows an_entry
 entry_grows set len owner d = (tt, record { name = refl; more = []; code = append_nothing d.code; long = refl; entries = record { set = set; len = len; owner = owner } ∷ []; fields = refl; regs = omega arith; later = []; homes = append_nothing _ })
 
-pub fresh_grows : (shape : Option ℕ) (d : Draft) → Grows d 0 (Stands (is_none shape)) (fresh_for shape d)
-unfolding Grows fresh_for a_register an_entry then_make
-fresh_grows None d = (refl, record { name = refl; more = []; code = append_nothing d.code; long = refl; entries = []; fields = append_nothing d.fields; regs = omega arith; later = []; homes = append_nothing _ })
-fresh_grows (Some s) d = (refl, record { name = refl; more = []; code = append_nothing d.code; long = refl; entries = _; fields = refl; regs = omega arith; later = []; homes = append_nothing _ })
+-- a fresh field has as many bits as were asked for
+pub field_grows : (set bits : ℕ) (d : Draft) → Grows d 0 (λ (f : Field). f.len ≡ bits) (a_field set bits d)
+unfolding Grows an_entry
+field_grows set bits d = (refl, record { name = refl; more = []; code = append_nothing d.code; long = refl; entries = _; fields = refl; regs = omega arith; later = []; homes = append_nothing _ })
+
+-- a value that stands in a register, or in a field of so many bits
+abbrev pub IsAt : Bool → ℕ → Out → Type 0
+IsAt kept bits (O.Scalar r) = kept ≡ true
+IsAt kept bits (O.Field f) = (kept ≡ false) × (f.len ≡ bits)
+IsAt kept bits O.Nothing = ⊥
+
+pub at_stands : (k : Bool) (bits : ℕ) (v : Out) → IsAt k bits v → Stands k v
+at_stands k bits (O.Scalar r) h = h
+at_stands k bits (O.Field f) h = h.0
+at_stands k bits O.Nothing h = tt
+
+pub in_field_at : {B : Type 0} (Q : B → Type 0) (d : Draft) (n : ℕ) (k : Bool) (bits : ℕ) (v : Out) (next : Field → Made B) → IsAt k bits v → ((f : Field) → f.len ≡ bits → Grows d n Q (next f)) → Grows d n Q (in_field v next)
+unfolding Grows in_field
+in_field_at Q d n k bits (O.Scalar r) next s f = tt
+in_field_at Q d n k bits (O.Field g) next s f = f g s.1
+in_field_at Q d n k bits O.Nothing next s f = tt
+
+pub fresh_at : (shape : Option ℕ) (bits : ℕ) (d : Draft) → Grows d 0 (IsAt (is_none shape) bits) (fresh_for shape bits d)
+unfolding fresh_for
+fresh_at None bits d = bind Anything _ d 0 0 _ _ (register_grows d) (λ r e _. makes _ (O.Scalar r) e e 0 refl (as_it_was e))
+fresh_at (Some s) bits d = bind (λ (f : Field). f.len ≡ bits) _ d 0 0 _ _ (field_grows s bits d) (λ f e h. makes _ (O.Field f) e e 0 (refl, h) (as_it_was e))
+
+pub fresh_grows : (shape : Option ℕ) (bits : ℕ) (d : Draft) → Grows d 0 (Stands (is_none shape)) (fresh_for shape bits d)
+fresh_grows shape bits d = weaker (IsAt (is_none shape) bits) _ d 0 _ (λ v s. at_stands (is_none shape) bits v s) (fresh_at shape bits d)
+
+-- the lowest bits of a value stand where it does
+lowest_stand : (k : Bool) (bits : ℕ) (v : Out) → Stands k v → Stands k (shortened bits v)
+unfolding shortened
+lowest_stand k bits (O.Scalar r) h = h
+lowest_stand k bits (O.Field f) h = h
+lowest_stand k bits O.Nothing h = h
+
+pub lowest_grows : (k : Bool) (bits : ℕ) (d : Draft) (n : ℕ) (made : Made Out) → Grows d n (Stands k) made → Grows d n (Stands k) (lowest bits made)
+unfolding Grows lowest then_make
+lowest_grows k bits d n (Makes v e) g = (lowest_stand k bits v g.0, g.1)
+lowest_grows k bits d n Fails g = tt

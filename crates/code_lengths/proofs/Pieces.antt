@@ -1,5 +1,5 @@
 -- Short stretches of code are as long as described.
-use Rattle.std.proofs.Common.{◌≡◌, ℕ, suc, ◌+◌, ◌≤◌, ◌-◌, Bool, true, false, not, ◌==◌, List, [], ◌∷◌, length, Option, Some, None, refl, arith, if◌then◌else◌, ◌⊎◌, inl, inr}
+use Rattle.std.proofs.Common.{◌≡◌, ℕ, suc, ◌+◌, ◌≤◌, ◌-◌, Bool, true, false, not, ◌==◌, List, [], ◌∷◌, length, Option, Some, None, refl, arith, if◌then◌else◌, ap}
 use Rattle.std.specs.Prelude.{nat_lt}
 use Rattle.cstar_base.specs.declared.elem.Elem.{Elem}
 use Rattle.cstar_base.specs.declared.operators.Op.{Op}
@@ -21,14 +21,14 @@ use Rattle.lower_base.specs.declared.emit.Out.TheVariants as O
 use Rattle.lower_base.specs.declared.operators.Machine.{Machine}
 use Rattle.lower_base.specs.declared.operators.Machine.TheVariants as M
 use Rattle.lower_base.specs.Constants.{constant_register, word_in, word_length}
-use Rattle.lower_base.specs.Drafts.{Draft, Made, Makes, Fails, then_make, with_instr, a_register, in_register, in_field}
+use Rattle.lower_base.specs.Drafts.{Draft, Made, Makes, Fails, then_make, with_instr, a_register, a_flag, in_register, in_field}
 use Rattle.lower_base.specs.Layouts.{Layout}
 use Rattle.lower_base.specs.Operators.{machine_of}
 use Rattle.lower_expr.specs.declared.steps.Right.TheVariants as R
 use Rattle.lower_expr.specs.Steps.{constant_in, put_test, field_converted, converted_in_place, put_in_field, put_value, with_register_check, with_field_check, on_registers, operated, on_fields, fields_operated, takes_word, on_word, right_operated, in_a_field, register_negated, field_negated, negated, pieces_printed, relates, shifted_back}
-use Rattle.lower_expr.specs.Lengths.{conversion_length, unary_length, operate_length, spare_length}
+use Rattle.lower_expr.specs.Lengths.{conversion_length, test_put_length, unary_length, operate_length, spare_length}
 use Rattle.code_lengths.specs.Growth.{Extended, Grows, Stands, Anything}
-use Rattle.code_lengths.proofs.Drafting.{as_it_was, resized, and_instr, makes, sized, behind, bind, in_register_grows, register_grows, entry_grows}
+use Rattle.code_lengths.proofs.Drafting.{IsAt, as_it_was, resized, and_instr, makes, sized, behind, bind, in_register_grows, register_grows, entry_grows}
 
 -- a value that stands in a register or nowhere, or in a field or nowhere
 abbrev pub InRegister : Out → Type 0
@@ -54,19 +54,24 @@ pub word_in_grows : (l : Layout) (word : ℕ) (d : Draft) → Grows d (word_leng
 unfolding word_in word_length
 word_in_grows l word d = word_by (constant_register l word) word d
 
-pub test_grows : (dest : Field) (d : Draft) → Grows d 2 InField (put_test dest d)
-unfolding put_test
-test_grows dest d =
-    bind Anything InField d 0 2 _ _ (entry_grows _ _ _ d)
-    (λ kept e _. makes InField (O.Field dest) e _ 2 refl (and_instr _ e _ 1 (and_instr _ e e 0 (as_it_was e))))
+-- the test flag goes to a field of one bit at once
+pub test_grows : (dest : Field) (d : Draft) → Grows d (test_put_length dest.len) InField (put_test dest d)
+unfolding put_test test_put_length
+test_grows dest d = by (dest.len == 1)
+  where
+    by : (b : Bool) → Grows d (if b then 1 else 2) InField (if b then Makes (O.Field dest) (with_instr (I.StoreTest dest) d)
+        else then_make (a_flag dest.set d) (λ kept after. Makes (O.Field dest) (with_instr (I.Move false dest kept) (with_instr (I.StoreTest kept) after))))
+    by true = makes InField (O.Field dest) d _ 1 refl (and_instr _ d d 0 (as_it_was d))
+    by false =
+        bind Anything InField d 0 2 _ _ (entry_grows _ _ _ d)
+        (λ kept e _. makes InField (O.Field dest) e _ 2 refl (and_instr _ e _ 1 (and_instr _ e e 0 (as_it_was e))))
+
+pub test_put : (bits : ℕ) (dest : Field) (d : Draft) → dest.len ≡ bits → Grows d (test_put_length bits) InField (put_test dest d)
+test_put bits dest d h = sized InField d _ _ _ (ap test_put_length h) (test_grows dest d)
 
 -- a width is 32, or narrower
 below_32 : (n : ℕ) → n ≤ 32 → (b : Bool) → (n == 32) ≡ b → (nat_lt n 32 ≡ not b)
 below_32 n h b e = grind (arith, h, e)
-
-bool_cases : (b : Bool) → (b ≡ true) ⊎ (b ≡ false)
-bool_cases true = inl refl
-bool_cases false = inr refl
 
 pub width : (elem : Elem) → nat_lt elem.bits 32 ≡ not (elem.bits == 32)
 width elem = below_32 elem.bits (kind_bits elem.bits elem.signed elem.kind).1 (elem.bits == 32) refl
@@ -78,37 +83,49 @@ in_place_by false r elem d = makes InRegister (O.Scalar r) d _ 1 refl (and_instr
 one_is_narrow : (n : ℕ) → (n == 1) ≡ true → (n == 32) ≡ false
 one_is_narrow n e = grind (arith, e)
 
-field_by : (one full : Bool) (f : Field) (elem : Elem) (d : Draft) → (one ≡ true → full ≡ false) →
+word_test : test_put_length 32 ≡ 2
+unfolding test_put_length
+word_test = refl
+
+field_by : (one full : Bool) (f : Field) (elem : Elem) (d : Draft) → f.len ≡ 32 → (one ≡ true → full ≡ false) →
     Grows d (if full then 0 else (if one then 3 else 2)) InField
     (if one then put_test f (with_instr (I.NeZero f) d) else (if not full then Makes (O.Field f)
     (with_instr (I.OperateConstant (shifted_back elem.signed) f f (K.Imm (32 - elem.bits)))
     (with_instr (I.OperateConstant Act.UShiftLeft f f (K.Imm (32 - elem.bits))) d)) else Makes (O.Field f) d))
-field_by true true f elem d h = absurd (no (h refl))
+field_by true true f elem d w h = absurd (no (h refl))
   where
     no : true ≡ false → ⊥
     no e = cc
-field_by true false f elem d h = behind InField d _ 1 2 _ (and_instr _ d d 0 (as_it_was d)) (test_grows f _)
-field_by false true f elem d h = makes InField (O.Field f) d d 0 refl (as_it_was d)
-field_by false false f elem d h = makes InField (O.Field f) d _ 2 refl (and_instr _ d _ 1 (and_instr _ d d 0 (as_it_was d)))
+field_by true false f elem d w h = behind InField d _ 1 2 _ (and_instr _ d d 0 (as_it_was d)) (sized InField _ _ _ _ word_test (test_put 32 f _ w))
+field_by false true f elem d w h = makes InField (O.Field f) d d 0 refl (as_it_was d)
+field_by false false f elem d w h = makes InField (O.Field f) d _ 2 refl (and_instr _ d _ 1 (and_instr _ d d 0 (as_it_was d)))
 
-pub in_place_grows : (k : Bool) (v : Out) (elem : Elem) (d : Draft) → Stands k v → Grows d (conversion_length k elem) (Stands k) (converted_in_place v elem d)
-unfolding converted_in_place conversion_length field_converted Grows
-in_place_grows true (O.Scalar r) elem d s =
-    rw (width elem) (in_place_by (elem.bits == 32) r elem d)
+-- what stands in a register, and what stands in a field of 32 bits
+pub register_in_place_grows : (v : Out) (elem : Elem) (d : Draft) → InRegister v → Grows d (conversion_length true elem) InRegister (converted_in_place v elem d)
+unfolding converted_in_place conversion_length Grows
+register_in_place_grows (O.Scalar r) elem d s = rw (width elem) (in_place_by (elem.bits == 32) r elem d)
+register_in_place_grows (O.Field f) elem d s = cc
+register_in_place_grows O.Nothing elem d s = tt
+
+field_in_place_grows : (f : Field) (elem : Elem) (d : Draft) → f.len ≡ 32 → Grows d (conversion_length false elem) InField (converted_in_place (O.Field f) elem d)
+unfolding converted_in_place conversion_length field_converted
+field_in_place_grows f elem d w = rw (width elem) (field_by (elem.bits == 1) (elem.bits == 32) f elem d w (one_is_narrow elem.bits))
+
+pub in_place_grows : (k : Bool) (v : Out) (elem : Elem) (d : Draft) → IsAt k 32 v → Grows d (conversion_length k elem) (Stands k) (converted_in_place v elem d)
+in_place_grows true (O.Scalar r) elem d s = register_in_place_grows (O.Scalar r) elem d refl
+in_place_grows false (O.Field f) elem d s = field_in_place_grows f elem d s.1
 in_place_grows false (O.Scalar r) elem d s = cc
-in_place_grows true (O.Field f) elem d s = cc
-in_place_grows false (O.Field f) elem d s =
-    rw (width elem) (field_by (elem.bits == 1) (elem.bits == 32) f elem d (one_is_narrow elem.bits))
-in_place_grows k O.Nothing elem d s = tt
+in_place_grows true (O.Field f) elem d s = let h = s.0 in cc
+in_place_grows k O.Nothing elem d s = absurd s
 
 -- which kind a value is of
-unfoldable pub kind_of : Out → Bool
-kind_of (O.Scalar r) = true
-kind_of (O.Field f) = false
-kind_of O.Nothing = true
+unfoldable pub kind_of_out : Out → Bool
+kind_of_out (O.Scalar r) = true
+kind_of_out (O.Field f) = false
+kind_of_out O.Nothing = true
 
-pub stands : (v : Out) → Stands (kind_of v) v
-unfolding kind_of
+pub stands : (v : Out) → Stands (kind_of_out v) v
+unfolding kind_of_out
 stands (O.Scalar r) = refl
 stands (O.Field f) = refl
 stands O.Nothing = tt
@@ -155,43 +172,57 @@ one_or_two : (b : Bool) → (if b then 1 else 0) + 1 ≡ (if b then 2 else 1)
 one_or_two true = refl
 one_or_two false = refl
 
-pub operated_more : (op : Op) (signed : Bool) (place : Place) (dest left right : ℕ) (d : Draft) → Extended d (operate_length op true) (operated op signed place dest left right d)
+pub operated_more : (bits : ℕ) (op : Op) (signed : Bool) (place : Place) (dest left right : ℕ) (d : Draft) → Extended d (operate_length bits op true) (operated op signed place dest left right d)
 unfolding operated operate_length with_register_check
-operated_more op signed place dest left right d =
+operated_more bits op signed place dest left right d =
     resized d _ _ _ (one_or_two (divides op)) (on_registers_more (machine_of op signed) dest left right _ d _ (check_by (divides op) op place right d))
 
-machine_length : Machine → ℕ
-machine_length (M.Operate act) = 1
-machine_length (M.Compare relation) = 3
+machine_length : ℕ → Machine → ℕ
+machine_length bits (M.Operate act) = 1
+machine_length bits (M.Compare relation) = 1 + test_put_length bits
 
-on_fields_grows : (m : Machine) (dest left right : Field) (d : Draft) → Grows d (machine_length m) InField (on_fields m dest left right d)
+on_fields_grows : (m : Machine) (dest left right : Field) (d : Draft) → Grows d (machine_length dest.len m) InField (on_fields m dest left right d)
 unfolding on_fields machine_length
 on_fields_grows (M.Operate act) dest left right d = makes InField (O.Field dest) d _ 1 refl (and_instr _ d d 0 (as_it_was d))
-on_fields_grows (M.Compare relation) dest left right d = behind InField d _ 1 2 _ (and_instr _ d d 0 (as_it_was d)) (test_grows dest _)
+on_fields_grows (M.Compare relation) dest left right d = behind InField d _ 1 _ _ (and_instr _ d d 0 (as_it_was d)) (test_grows dest _)
 
-fields_length : (op : Op) (signed : Bool) → (if divides op then 1 else 0) + machine_length (machine_of op signed) ≡ operate_length op false
+unchecked : (n : ℕ) → 0 + n ≡ n
+unchecked n = omega arith
+
+fields_length : (bits : ℕ) (op : Op) (signed : Bool) → (if divides op then 1 else 0) + machine_length bits (machine_of op signed) ≡ operate_length bits op false
 unfolding divides relates operate_length machine_of machine_length
-fields_length P.Eq signed = refl
-fields_length P.Ne signed = refl
-fields_length P.Lt signed = refl
-fields_length P.Le signed = refl
-fields_length P.Gt signed = refl
-fields_length P.Ge signed = refl
-fields_length P.Div signed = refl
-fields_length P.Rem signed = refl
-fields_length P.Mod signed = refl
-fields_length _ signed = refl
+fields_length bits P.Eq signed = unchecked _
+fields_length bits P.Ne signed = unchecked _
+fields_length bits P.Lt signed = unchecked _
+fields_length bits P.Le signed = unchecked _
+fields_length bits P.Gt signed = unchecked _
+fields_length bits P.Ge signed = unchecked _
+fields_length bits P.Div signed = refl
+fields_length bits P.Rem signed = refl
+fields_length bits P.Mod signed = refl
+fields_length bits _ signed = refl
 
-pub fields_operated_grows : (op : Op) (signed : Bool) (place : Place) (dest left right : Field) (d : Draft) → Grows d (operate_length op false) InField (fields_operated op signed place dest left right d)
+pub fields_operated_grows : (op : Op) (signed : Bool) (place : Place) (dest left right : Field) (d : Draft) → Grows d (operate_length dest.len op false) InField (fields_operated op signed place dest left right d)
 unfolding fields_operated with_field_check
 fields_operated_grows op signed place dest left right d =
-    sized InField d _ _ _ (fields_length op signed) (behind InField d _ _ _ _ (field_check_by (divides op) op place right d) (on_fields_grows (machine_of op signed) dest left right _))
+    sized InField d _ _ _ (fields_length dest.len op signed) (behind InField d _ _ _ _ (field_check_by (divides op) op place right d) (on_fields_grows (machine_of op signed) dest left right _))
 
 -- an operand that stands in a register
-relation_on_word : (relation : _) (dest left spare : Field) (word : Konst) (d : Draft) → Grows d 4 InField (on_fields (M.Compare relation) dest left spare (with_instr (I.MoveConstant spare word) d))
+relation_on_word : (relation : _) (dest left spare : Field) (word : Konst) (d : Draft) →
+    Grows d (2 + test_put_length dest.len) InField (on_fields (M.Compare relation) dest left spare (with_instr (I.MoveConstant spare word) d))
 unfolding machine_length
 relation_on_word relation dest left spare word d =
-    behind InField d _ 1 3 _ (and_instr _ d d 0 (as_it_was d)) (on_fields_grows (M.Compare relation) dest left spare _)
+    sized InField d _ _ _ (two_and _) (behind InField d _ 1 _ _ (and_instr _ d d 0 (as_it_was d)) (on_fields_grows (M.Compare relation) dest left spare _))
+  where
+    two_and : (n : ℕ) → 1 + (1 + n) ≡ 2 + n
+    two_and n = omega arith
+
+relation_on_register : (relation : _) (dest left spare : Field) (word : Konst) (d : Draft) →
+    Grows d ((1 + test_put_length dest.len) + 1) InField (on_fields (M.Compare relation) dest left spare (with_instr (I.MoveConstant spare word) d))
+relation_on_register relation dest left spare word d = sized InField d _ _ _ (one_and_one _) (relation_on_word relation dest left spare word d)
+  where
+    one_and_one : (n : ℕ) → 2 + n ≡ (1 + n) + 1
+    one_and_one n = omega arith
 
 divided : (act : _) (place : Place) (dest left spare : Field) (word : Konst) (d : Draft) →
     Grows d 3 InField (on_fields (M.Operate act) dest left spare (with_instr (I.CheckDivisor place spare) (with_instr (I.MoveConstant spare word) d)))
@@ -200,21 +231,21 @@ divided act place dest left spare word d =
     behind InField d _ 2 1 _ (and_instr _ d _ 1 (and_instr _ d d 0 (as_it_was d))) (on_fields_grows (M.Operate act) dest left spare _)
 
 pub word_grows : (op : Op) (signed : Bool) (place : Place) (dest left : Field) (r : ℕ) (spare : Field) (d : Draft) →
-    Grows d (operate_length op false + spare_length op true) InField (right_operated op signed place dest left (R.Word (K.Reg r)) spare d)
+    Grows d (operate_length dest.len op false + spare_length op true) InField (right_operated op signed place dest left (R.Word (K.Reg r)) spare d)
 unfolding right_operated on_word machine_of operate_length spare_length relates divides takes_word with_field_check
-word_grows P.Eq signed place dest left r spare d = relation_on_word _ dest left spare (K.Reg r) d
-word_grows P.Ne signed place dest left r spare d = relation_on_word _ dest left spare (K.Reg r) d
-word_grows P.Lt signed place dest left r spare d = relation_on_word _ dest left spare (K.Reg r) d
-word_grows P.Le signed place dest left r spare d = relation_on_word _ dest left spare (K.Reg r) d
-word_grows P.Gt signed place dest left r spare d = relation_on_word _ dest left spare (K.Reg r) d
-word_grows P.Ge signed place dest left r spare d = relation_on_word _ dest left spare (K.Reg r) d
+word_grows P.Eq signed place dest left r spare d = relation_on_register _ dest left spare (K.Reg r) d
+word_grows P.Ne signed place dest left r spare d = relation_on_register _ dest left spare (K.Reg r) d
+word_grows P.Lt signed place dest left r spare d = relation_on_register _ dest left spare (K.Reg r) d
+word_grows P.Le signed place dest left r spare d = relation_on_register _ dest left spare (K.Reg r) d
+word_grows P.Gt signed place dest left r spare d = relation_on_register _ dest left spare (K.Reg r) d
+word_grows P.Ge signed place dest left r spare d = relation_on_register _ dest left spare (K.Reg r) d
 word_grows P.Div signed place dest left r spare d = divided _ place dest left spare (K.Reg r) d
 word_grows P.Rem signed place dest left r spare d = divided _ place dest left spare (K.Reg r) d
 word_grows P.Mod signed place dest left r spare d = divided _ place dest left spare (K.Reg r) d
 word_grows _ signed place dest left r spare d = makes InField (O.Field dest) d _ 1 refl (and_instr _ d d 0 (as_it_was d))
 
 pub number_grows : (op : Op) (signed : Bool) (place : Place) (dest left : Field) (w : ℕ) (spare : Field) (d : Draft) →
-    Grows d (if relates op then 4 else 1) InField (right_operated op signed place dest left (R.Word (K.Imm w)) spare d)
+    Grows d (if relates op then 2 + test_put_length dest.len else 1) InField (right_operated op signed place dest left (R.Word (K.Imm w)) spare d)
 unfolding right_operated on_word machine_of relates divides takes_word with_field_check
 number_grows P.Eq signed place dest left w spare d = relation_on_word _ dest left spare (K.Imm w) d
 number_grows P.Ne signed place dest left w spare d = relation_on_word _ dest left spare (K.Imm w) d
@@ -233,34 +264,34 @@ in_a_field_grows false (O.Field f) spare d s = (tt, as_it_was d)
 in_a_field_grows k O.Nothing spare d s = tt
 
 -- unary operators
-register_negated_grows : (l : Layout) (op : UnaryOp) (dest source : ℕ) (d : Draft) → Grows d (unary_length l op true) InRegister (register_negated l op dest source d)
+register_negated_grows : (l : Layout) (bits : ℕ) (op : UnaryOp) (dest source : ℕ) (d : Draft) → Grows d (unary_length l bits op true) InRegister (register_negated l op dest source d)
 unfolding unary_length register_negated Grows
-register_negated_grows l Un.Plus dest source d = tt
-register_negated_grows l Un.Minus dest source d = (refl, and_instr _ d d 0 (as_it_was d))
-register_negated_grows l Un.Complement dest source d = (refl, and_instr _ d d 0 (as_it_was d))
-register_negated_grows l Un.Not dest source d =
+register_negated_grows l bits Un.Plus dest source d = tt
+register_negated_grows l bits Un.Minus dest source d = (refl, and_instr _ d d 0 (as_it_was d))
+register_negated_grows l bits Un.Complement dest source d = (refl, and_instr _ d d 0 (as_it_was d))
+register_negated_grows l bits Un.Not dest source d =
     bind Anything InRegister d (word_length l 0) 1 _ _ (word_in_grows l 0 d) (λ zero e _. makes InRegister (O.Scalar dest) e _ 1 refl (and_instr _ e e 0 (as_it_was e)))
 
-field_negated_grows : (l : Layout) (op : UnaryOp) (dest source : Field) (d : Draft) → Grows d (unary_length l op false) InField (field_negated op dest source d)
+field_negated_grows : (l : Layout) (bits : ℕ) (op : UnaryOp) (dest source : Field) (d : Draft) → dest.len ≡ bits → Grows d (unary_length l bits op false) InField (field_negated op dest source d)
 unfolding unary_length field_negated Grows
-field_negated_grows l Un.Plus dest source d = tt
-field_negated_grows l Un.Minus dest source d = (refl, and_instr _ d d 0 (as_it_was d))
-field_negated_grows l Un.Complement dest source d = (refl, and_instr _ d d 0 (as_it_was d))
-field_negated_grows l Un.Not dest source d = behind InField d _ 1 2 _ (and_instr _ d d 0 (as_it_was d)) (test_grows dest _)
+field_negated_grows l bits Un.Plus dest source d h = tt
+field_negated_grows l bits Un.Minus dest source d h = (refl, and_instr _ d d 0 (as_it_was d))
+field_negated_grows l bits Un.Complement dest source d h = (refl, and_instr _ d d 0 (as_it_was d))
+field_negated_grows l bits Un.Not dest source d h = behind InField d _ 1 _ _ (and_instr _ d d 0 (as_it_was d)) (test_put bits dest _ h)
 
-pub negated_grows : (l : Layout) (op : UnaryOp) (k kept : Bool) (dest v : Out) (d : Draft) → Stands k dest → Stands kept v → Grows d (unary_length l op kept) (Stands k) (negated l op dest v d)
+pub negated_grows : (l : Layout) (bits : ℕ) (op : UnaryOp) (k kept : Bool) (dest v : Out) (d : Draft) → IsAt k bits dest → Stands kept v → Grows d (unary_length l bits op kept) (Stands k) (negated l op dest v d)
 unfolding negated in_register in_field Grows
-negated_grows l op true true (O.Scalar r) (O.Scalar q) d s t = register_negated_grows l op r q d
-negated_grows l op false kept (O.Scalar r) v d s t = cc
-negated_grows l op true false (O.Scalar r) (O.Scalar q) d s t = cc
-negated_grows l op true kept (O.Scalar r) (O.Field f) d s t = tt
-negated_grows l op true kept (O.Scalar r) O.Nothing d s t = tt
-negated_grows l op true kept (O.Field f) v d s t = cc
-negated_grows l op false false (O.Field f) (O.Field g) d s t = field_negated_grows l op f g d
-negated_grows l op false true (O.Field f) (O.Field g) d s t = cc
-negated_grows l op false kept (O.Field f) (O.Scalar q) d s t = tt
-negated_grows l op false kept (O.Field f) O.Nothing d s t = tt
-negated_grows l op k kept O.Nothing v d s t = tt
+negated_grows l bits op true true (O.Scalar r) (O.Scalar q) d s t = register_negated_grows l bits op r q d
+negated_grows l bits op false kept (O.Scalar r) v d s t = cc
+negated_grows l bits op true false (O.Scalar r) (O.Scalar q) d s t = cc
+negated_grows l bits op true kept (O.Scalar r) (O.Field f) d s t = tt
+negated_grows l bits op true kept (O.Scalar r) O.Nothing d s t = tt
+negated_grows l bits op true kept (O.Field f) v d s t = let h = s.0 in cc
+negated_grows l bits op false false (O.Field f) (O.Field g) d s t = field_negated_grows l bits op f g d s.1
+negated_grows l bits op false true (O.Field f) (O.Field g) d s t = cc
+negated_grows l bits op false kept (O.Field f) (O.Scalar q) d s t = tt
+negated_grows l bits op false kept (O.Field f) O.Nothing d s t = tt
+negated_grows l bits op k kept O.Nothing v d s t = absurd s
 
 -- printing
 pub one_and : (n : ℕ) → 1 + n ≡ suc n
@@ -277,5 +308,5 @@ printed_grows (Pc.Bytes bytes ∷ rest) values d =
     sized _ d _ _ _ (one_and (length rest)) (behind _ d _ 1 (length rest) _ (and_instr _ d d 0 (as_it_was d)) (printed_grows rest values _))
 printed_grows (Pc.Argument format ∷ rest) [] d = fails_grow _ d _
 printed_grows (Pc.Argument format ∷ rest) (v ∷ values) d =
-    in_register_grows _ d _ (kind_of v) v _ (stands v)
+    in_register_grows _ d _ (kind_of_out v) v _ (stands v)
     (λ r h. sized _ d _ _ _ (one_and (length rest)) (behind _ d _ 1 (length rest) _ (and_instr _ d d 0 (as_it_was d)) (printed_grows rest values _)))

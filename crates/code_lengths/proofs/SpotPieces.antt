@@ -20,7 +20,7 @@ use Rattle.lower_expr.specs.Lengths.{bare, elements_length, index_check_length, 
 use Rattle.lower_expr.specs.Spots.{variable_spot, skips_unless, field_loaded, elements_loaded, loaded, field_stored, elements_stored, stored, index_checked}
 use Rattle.code_lengths.specs.Shaped.{HasNoShape, HasShape, IsTarget}
 use Rattle.code_lengths.specs.Growth.{Grows, Stands, Anything}
-use Rattle.code_lengths.proofs.Drafting.{as_it_was, and_step, and_instr, makes, sized, bind, weaker, in_register_grows, in_field_grows, from_grows, register_grows}
+use Rattle.code_lengths.proofs.Drafting.{IsAt, at_stands, as_it_was, and_step, and_instr, makes, sized, bind, weaker, in_register_grows, in_field_grows, from_grows, register_grows}
 use Rattle.code_lengths.proofs.Pieces.{InRegister, InField, word_in_grows, put_in_field_grows, put_register_grows}
 use Rattle.code_lengths.proofs.Communication.{Is, IsAddress, field_of_grows, left_index_read_grows}
 
@@ -71,37 +71,38 @@ elements_stored_grow t l array index v (suc more) element d =
     elements_stored_grow t l array index v more (element + 1) after)))
 
 -- a read of the spot of a bare target
-one_read : (t : Typed) (l : Layout) (b : TExpr) (r : ℕ) → Fits b (S.Register r) → load_length_of t l b ≡ 1
+one_read : (t : Typed) (l : Layout) (bits : ℕ) (b : TExpr) (r : ℕ) → Fits b (S.Register r) → load_length_of t l bits b ≡ 1
 unfolding load_length_of
-one_read t l (T.Variable ty x) r h = refl
-one_read t l _ r h = absurd h
+one_read t l bits (T.Variable ty x) r h = refl
+one_read t l bits _ r h = absurd h
 
-one_read_whole : (t : Typed) (l : Layout) (b : TExpr) (x : Variable) → Fits b (S.Whole x) → load_length_of t l b ≡ 1
+one_read_whole : (t : Typed) (l : Layout) (bits : ℕ) (b : TExpr) (x : Variable) → Fits b (S.Whole x) → load_length_of t l bits b ≡ 1
 unfolding load_length_of
-one_read_whole t l (T.Variable ty y) x h = refl
-one_read_whole t l _ x h = absurd h
+one_read_whole t l bits (T.Variable ty y) x h = refl
+one_read_whole t l bits _ x h = absurd h
 
-all_read : (t : Typed) (l : Layout) (b : TExpr) (a : Variable) (r : ℕ) → Fits b (S.Element a r) → elements_length l (elements_of t l a) 0 ≡ load_length_of t l b
+all_read : (t : Typed) (l : Layout) (bits : ℕ) (b : TExpr) (a : Variable) (r : ℕ) → Fits b (S.Element a r) → elements_length l (elements_of t l a) 0 ≡ load_length_of t l bits b
 unfolding load_length_of
-all_read t l (T.Element' ty place array p index) a r h = ap (λ (y : Variable). elements_length l (elements_of t l y) 0) h.0
-all_read t l _ a r h = absurd h
+all_read t l bits (T.Element' ty place array p index) a r h = ap (λ (y : Variable). elements_length l (elements_of t l y) 0) h.0
+all_read t l bits _ a r h = absurd h
 
 is_address : (b : TExpr) (at : Out) → Fits b (S.Indexed at) → IsAddress b at
 is_address (T.LeftIndex' ty place p indexes x of) at h = h
 is_address _ at h = absurd h
 
-pub loaded_grows : (k : Bool) (t : Typed) (l : Layout) (target : TExpr) (spot : Spot) (dest : Out) (d : Draft) → Fits (bare target) spot → Stands k dest →
-    Grows d (load_length t l target) (Stands k) (loaded t l target spot dest d)
+pub loaded_grows : (k : Bool) (bits : ℕ) (t : Typed) (l : Layout) (target : TExpr) (spot : Spot) (dest : Out) (d : Draft) → Fits (bare target) spot → IsAt k bits dest →
+    Grows d (load_length t l bits target) (Stands k) (loaded t l target spot dest d)
 unfolding loaded load_length
-loaded_grows k t l target (S.Register r) dest d h s =
-    sized _ d _ _ _ (sym (one_read t l (bare target) r h)) (in_register_grows _ d 1 k dest _ s (λ q _. makes (Stands k) dest d _ 1 s (and_instr _ d d 0 (as_it_was d))))
-loaded_grows k t l target (S.Whole x) dest d h s =
-    sized _ d _ _ _ (sym (one_read_whole t l (bare target) x h)) (in_field_grows _ d 1 k dest _ s (λ f e. weaker InField (Stands k) d 1 _ (λ v g. subst (λ b. Stands b v) (sym e) g) (field_loaded_grows t l _ x 0 f d)))
-loaded_grows k t l target (S.Element a r) dest d h s =
-    sized _ d _ _ _ (all_read t l (bare target) a r h) (in_field_grows _ d _ k dest _ s (λ f e. weaker InField (Stands k) d _ _ (λ v g. subst (λ b. Stands b v) (sym e) g) (elements_loaded_grow t l _ a r f (elements_of t l a) 0 d)))
-loaded_grows k t l target (S.Indexed at) dest d h s =
-    sized _ d _ _ _ (and_nothing (load_length_of t l (bare target))) (bind (Stands k) (Stands k) d _ 0 _ _ (left_index_read_grows k t l (bare target) at dest d (is_address (bare target) at h) s)
-    (λ _ after _. makes (Stands k) dest after after 0 s (as_it_was after)))
+loaded_grows k bits t l target (S.Register r) dest d h s =
+    let g = at_stands k bits dest s in
+    sized _ d _ _ _ (sym (one_read t l bits (bare target) r h)) (in_register_grows _ d 1 k dest _ g (λ q _. makes (Stands k) dest d _ 1 g (and_instr _ d d 0 (as_it_was d))))
+loaded_grows k bits t l target (S.Whole x) dest d h s =
+    sized _ d _ _ _ (sym (one_read_whole t l bits (bare target) x h)) (in_field_grows _ d 1 k dest _ (at_stands k bits dest s) (λ f e. weaker InField (Stands k) d 1 _ (λ v g. subst (λ b. Stands b v) (sym e) g) (field_loaded_grows t l _ x 0 f d)))
+loaded_grows k bits t l target (S.Element a r) dest d h s =
+    sized _ d _ _ _ (all_read t l bits (bare target) a r h) (in_field_grows _ d _ k dest _ (at_stands k bits dest s) (λ f e. weaker InField (Stands k) d _ _ (λ v g. subst (λ b. Stands b v) (sym e) g) (elements_loaded_grow t l _ a r f (elements_of t l a) 0 d)))
+loaded_grows k bits t l target (S.Indexed at) dest d h s =
+    sized _ d _ _ _ (and_nothing (load_length_of t l bits (bare target))) (bind (Stands k) (Stands k) d _ 0 _ _ (left_index_read_grows k bits t l (bare target) at dest d (is_address (bare target) at h) s)
+    (λ _ after _. makes (Stands k) dest after after 0 (at_stands k bits dest s) (as_it_was after)))
   where
     and_nothing : (n : ℕ) → n + 0 ≡ n
     and_nothing n = omega arith

@@ -1,5 +1,5 @@
 -- The code of every statement is as long as described.
-use Rattle.std.proofs.Common.{◌≡◌, ℕ, suc, zero, ◌+◌, ◌≤◌, Bool, true, false, List, [], ◌∷◌, ◌++◌, length, reverse, take, Option, Some, None, is_none, ◌||◌, ◌==◌, refl, sym, ap, ◌∙◌, subst, arith, if◌then◌else◌, length-append, add_comm}
+use Rattle.std.proofs.Common.{◌≡◌, ℕ, suc, zero, ◌+◌, ◌≤◌, Bool, true, false, List, [], ◌∷◌, ◌++◌, length, reverse, take, Option, Some, None, is_none, refl, sym, ap, ◌∙◌, subst, arith, if◌then◌else◌, length-append, add_comm}
 use Rattle.cstar_tree.specs.declared.typed.LocalVar.{LocalVar}
 use Rattle.cstar_tree.specs.declared.typed.TExpr.{TExpr}
 use Rattle.cstar_tree.specs.declared.typed.TStmt.{TStmt, Row_of-TStmt, end_of-TStmt, more_of-TStmt, Held-TStmt-If-2, None', Some'}
@@ -12,11 +12,10 @@ use Rattle.cstar_tree.specs.Typed.{type_of}
 use Rattle.paris_code.specs.declared.instr.Instr.TheVariants as I
 use Rattle.paris_code.specs.declared.operands.Field.{Field}
 use Rattle.lower_base.specs.declared.emit.Out.{Out}
-use Rattle.lower_base.specs.declared.emit.Out.TheVariants as O
 use Rattle.lower_base.specs.Drafts.{Draft, Made, Makes, then_make, with_instr}
-use Rattle.lower_base.specs.Layouts.{Layout, entries_of, register_of, field_of}
-use Rattle.lower_expr.specs.Effects.{next_length, put_length, narrowed_length, effect_length_of}
-use Rattle.lower_expr.specs.Lengths.{tested_length}
+use Rattle.lower_base.specs.Layouts.{Layout, entries_of, register_of}
+use Rattle.lower_expr.specs.Effects.{put_to, put_length, own_bits, effect_length_of}
+use Rattle.lower_expr.specs.Lengths.{tested_length, used_length_of}
 use Rattle.lower_expr.specs.Steps.{is_kept, put_value}
 use Rattle.lower_stmt.specs.declared.length.Saved.{Saved}
 use Rattle.lower_stmt.specs.declared.statement.Frame.{Frame}
@@ -26,15 +25,16 @@ use Rattle.lower_stmt.specs.Frames.{has_result, in_loop, in_context, with_end}
 use Rattle.lower_stmt.specs.Lengths.{one_more, at_loop, part_length_of, condition_length_of, clear_length_of, initial_length_of, locals_length_of, storing_length, statement_length_of, statements_length_of, else_length_of, body_length_of}
 use Rattle.lower_stmt.specs.Statements as L
 use Rattle.lower_stmt.specs.Statements.{body_of, statement_of, statements_of, else_of, otherwise_of, part_of, condition_of, jump_back_of, stored_result, given_back, returned, closing}
-use Rattle.lower_stmt.specs.Variables.{is_kept_so, cleared_fields, with_home, cleared, all_cleared, variable_of, initial_put, initialised, all_initialised, declared}
+use Rattle.lower_stmt.specs.Variables.{is_kept_so, cleared_fields, with_home, cleared, all_cleared, variable_of, initialised, all_initialised, declared}
 use Rattle.code_lengths.specs.Shaped.{IsShaped}
 use Rattle.code_lengths.specs.ShapedStatements.{IsShapedPart, IsShapedInitial, AreShapedLocals, IsShapedStatement, AreShapedStatements, IsShapedElse}
 use Rattle.code_lengths.specs.Agreement.{StandsAmong}
 use Rattle.code_lengths.specs.Growth.{Extended, Grows, Stands, Anything}
-use Rattle.code_lengths.proofs.Drafting.{append_nothing, as_it_was, resized, and_instr, makes, sized, behind, bind, weaker, in_register_grows, entry_grows}
-use Rattle.code_lengths.proofs.Pieces.{kind_of, stands, put_value_grows}
-use Rattle.code_lengths.proofs.Communication.{Is, field_of_grows, own_field_grows, nothing_more}
-use Rattle.code_lengths.proofs.EffectLengths.{either_grows, next_grows, narrowed_grows, put_grows, scalar_kept, effect_grows, tested_grows}
+use Rattle.code_lengths.proofs.Drafting.{IsAt, append_nothing, as_it_was, resized, and_instr, makes, sized, behind, bind, weaker, in_register_grows, entry_grows}
+use Rattle.code_lengths.proofs.Pieces.{kind_of_out, stands, put_value_grows}
+use Rattle.code_lengths.proofs.Communication.{at_is, own_field_grows, nothing_more}
+use Rattle.code_lengths.proofs.OperandPieces.{standing_grows}
+use Rattle.code_lengths.proofs.EffectLengths.{bits_of_own, next_grows, suits_by, put_grows, scalar_kept, effect_grows, tested_grows}
 
 abbrev pub Done : {A : Type 0} → A → Type 0
 Done x = Unit {0}
@@ -70,18 +70,18 @@ unfolding part_length_of part_of IsShapedPart
 part_grows t l None d h = makes Done tt d d 0 tt (as_it_was d)
 part_grows t l (Some e) d h = sized Done d _ _ _ (and_nothing _) (bind Done Done d (effect_length_of t l e) 0 _ _ (effect_grows t l e d h) (λ v after _. makes Done tt after after 0 tt (as_it_was after)))
 
-condition_grows : (t : Typed) (l : Layout) (e : TExpr) (d : Draft) → IsShaped e → Grows d (next_length t l e) Done (condition_of t l e d)
+condition_grows : (t : Typed) (l : Layout) (e : TExpr) (d : Draft) → IsShaped e → Grows d (used_length_of t l 32 true e) Done (condition_of t l e d)
 unfolding condition_of
 condition_grows t l e d h =
-    sized Done d _ _ _ (and_nothing _) (bind (Stands (is_kept e)) Done d (next_length t l e) 0 _ _ (next_grows t l e h d) (λ v after s. in_register_grows Done after 0 (is_kept e) v _ s (λ r _. makes Done r after after 0 tt (as_it_was after))))
+    sized Done d _ _ _ (and_nothing _) (bind (Stands (is_kept e)) Done d (used_length_of t l 32 true e) 0 _ _ (next_grows t l 32 true e h d) (λ v after s. in_register_grows Done after 0 (is_kept e) v _ s (λ r _. makes Done r after after 0 tt (as_it_was after))))
 
 back_grows : (t : Typed) (l : Layout) (e : Option TExpr) (turn : ℕ) (d : Draft) → IsShapedPart e → Grows d (condition_length_of t l e + 1) Done (jump_back_of t l e turn d)
 unfolding condition_length_of jump_back_of IsShapedPart
 back_grows t l None turn d h = makes Done tt d _ 1 tt (and_instr _ d d 0 (as_it_was d))
-back_grows t l (Some e) turn d h = bind Done Done d (next_length t l e) 1 _ _ (condition_grows t l e d h) (λ r after _. makes Done tt after _ 1 tt (and_instr _ after after 0 (as_it_was after)))
+back_grows t l (Some e) turn d h = bind Done Done d (used_length_of t l 32 true e) 1 _ _ (condition_grows t l e d h) (λ r after _. makes Done tt after _ 1 tt (and_instr _ after after 0 (as_it_was after)))
 
 put_any : (dest v : Out) (d : Draft) → Grows d 1 Done (put_value dest v d)
-put_any dest v d = weaker (Stands (kind_of dest)) Done d 1 _ (λ _ _. tt) (put_value_grows (kind_of dest) dest v d (stands dest))
+put_any dest v d = weaker (Stands (kind_of_out dest)) Done d 1 _ (λ _ _. tt) (put_value_grows (kind_of_out dest) dest v d (stands dest))
 
 result_by : (o : Outcome) → ℕ
 result_by R.Nothing = 0
@@ -105,12 +105,12 @@ result_length f = by f.outcome
 
 returned_length : Typed → Layout → Option TExpr → Outcome → ℕ
 returned_length t l None o = 0
-returned_length t l (Some e) o = next_length t l e + result_by o
+returned_length t l (Some e) o = used_length_of t l (type_of e).elem.bits true e + result_by o
 
 returned_grows : (t : Typed) (l : Layout) (e : Option TExpr) (o : Outcome) (d : Draft) → IsShapedPart e → Grows d (returned_length t l e o) Done (returned t l e o d)
 unfolding returned given_back returned_length IsShapedPart
 returned_grows t l None o d h = makes Done tt d d 0 tt (as_it_was d)
-returned_grows t l (Some e) o d h = bind (Stands (is_kept e)) Done d (next_length t l e) _ _ _ (next_grows t l e h d) (λ v after _. result_grows l o v after)
+returned_grows t l (Some e) o d h = bind (Stands (is_kept e)) Done d (used_length_of t l (type_of e).elem.bits true e) _ _ _ (next_grows t l (type_of e).elem.bits true e h d) (λ v after _. result_grows l o v after)
 
 -- variables of blocks
 home_more : (d : Draft) → Extended d 0 (with_home d)
@@ -152,36 +152,22 @@ unfolding all_cleared clears
 all_cleared_grow l at_start [] n d = makes Done tt d d 0 tt (as_it_was d)
 all_cleared_grow l at_start (local ∷ locals) n d = bind Done Done d _ _ _ _ (cleared_grows l at_start local n d) (λ _ after _. all_cleared_grow l at_start locals (n + 1) after)
 
-variable_by : (shape : Option ℕ) (t : Typed) (l : Layout) (n : ℕ) (d : Draft) → Grows d 0 (Is (is_none shape)) (elim shape as (λ _. Made Out) [
-  | None ↦ Makes (O.Scalar (register_of l (V.Local n))) d
-  | Some s ↦ then_make (field_of t l (V.Local n) 0 d) (λ field after. Makes (O.Field field) after)
-])
-variable_by None t l n d = makes _ _ d d 0 refl (as_it_was d)
-variable_by (Some s) t l n d = bind Anything _ d 0 0 _ _ (field_of_grows t l (V.Local n) 0 d) (λ field after _. makes _ (O.Field field) after after 0 refl (as_it_was after))
-
 -- a value is written to the variable
-initial_put_grows : (t : Typed) (l : Layout) (info : VarInfo) (dest : Out) (e : TExpr) (d : Draft) → Is (is_none info.shape) dest → IsShaped e → is_none info.shape ≡ is_none (type_of e).shape →
-    Grows d (if is_none info.shape || info.elem.bits == 32 then put_length t l (is_none info.shape) e else narrowed_length t l e) Done (initial_put t l info dest e d)
-unfolding initial_put
-initial_put_grows t l info dest e d s h a = by (is_none info.shape) dest s a
-  where
-    by : (k : Bool) (dest : Out) → Is k dest → k ≡ is_none (type_of e).shape → Grows d (if k || info.elem.bits == 32 then put_length t l k e else narrowed_length t l e) Done (initial_put t l info dest e d)
-    by true (O.Scalar r) s a = weaker (Stands true) Done d _ _ (λ _ _. tt) (put_grows true t l (O.Scalar r) e d refl h (scalar_kept e h (sym a)))
-    by false (O.Field f) s a =
-        either_grows Done (info.elem.bits == 32) d _ _ _ _ (λ _. weaker (Stands false) Done d _ _ (λ _ _. tt) (put_grows false t l (O.Field f) e d refl h (sym a)))
-        (λ _. weaker (Stands false) Done d _ _ (λ _ _. tt) (narrowed_grows t l f e d h))
-    by true (O.Field f) s a = cc
-    by false (O.Scalar r) s a = cc
-    by k O.Nothing s a = absurd s
+initial_put_grows : (t : Typed) (l : Layout) (info : VarInfo) (dest : Out) (e : TExpr) (d : Draft) → IsAt (is_none info.shape) info.elem.bits dest → IsShaped e → is_none info.shape ≡ is_none (type_of e).shape →
+    Grows d (put_length t l (is_none info.shape) (own_bits (is_none info.shape) info.elem) e) Done (put_to t l dest e d)
+initial_put_grows t l info dest e d s h a =
+    let k = is_none info.shape in
+    sized Done d _ _ _ (ap (λ (n : ℕ). put_length t l k n e) (bits_of_own k info.elem dest s))
+    (weaker (Stands k) Done d _ _ (λ _ _. tt) (put_grows k t l dest e d (at_is _ _ dest s) h (suits_by k e (λ g. scalar_kept e h (sym a ∙ g)) (λ g. sym a ∙ g))))
 
 initial_by : (e : Option TExpr) (t : Typed) (l : Layout) (info : VarInfo) (n : ℕ) (d : Draft) → IsShapedInitial info e → Grows d (initial_length_of t l info e) Done (elim e as (λ _. Made (Unit {0})) [
   | None ↦ Makes tt d
-  | Some e ↦ then_make (variable_of t l info n d) (λ dest between. then_make (initial_put t l info dest e between) (λ _ after. Makes tt after))
+  | Some e ↦ then_make (variable_of t l info n d) (λ dest between. then_make (put_to t l dest e between) (λ _ after. Makes tt after))
 ])
 unfolding initial_length_of IsShapedInitial variable_of
 initial_by None t l info n d h = makes Done tt d d 0 tt (as_it_was d)
 initial_by (Some e) t l info n d h =
-    sized Done d _ _ _ (nothing_more _ ∙ and_nothing _) (bind (Is (is_none info.shape)) Done d 0 _ _ _ (variable_by info.shape t l n d) (λ dest between s.
+    sized Done d _ _ _ (nothing_more _ ∙ and_nothing _) (bind (IsAt (is_none info.shape) info.elem.bits) Done d 0 _ _ _ (standing_grows _ t l info.elem.bits (record { shape = info.shape; variable = V.Local n }) d refl) (λ dest between s.
     bind Done Done between _ 0 _ _ (initial_put_grows t l info dest e between s h.1 h.0) (λ _ after _. makes Done tt after after 0 tt (as_it_was after))))
 
 all_initialised_grow : (t : Typed) (l : Layout) (locals : List LocalVar) (n : ℕ) (d : Draft) → AreShapedLocals locals → Grows d (initials t l locals) Done (all_initialised t l locals n d)
@@ -221,11 +207,6 @@ all_of f contexts k = let a = k.all in omega (arith, a)
 pub end_more : (is_main : Bool) (n : ℕ) (d e : Draft) → Extended d n e → Extended d (n + 1) (with_end is_main e)
 unfolding with_end
 end_more is_main n d e x = and_instr _ d e n x
-
--- lengths with `in_loop` and `in_context` of a frame
-same_result : (f : Frame) (next after : ℕ) → has_result (in_loop next after f) ≡ has_result f
-unfolding has_result in_loop
-same_result f next after = refl
 
 assoc3 : (a b c : ℕ) → a + ((1 + b) + c) ≡ ((a + 1) + b) + c
 assoc3 a b c = omega arith
@@ -269,15 +250,12 @@ kept_and_other t l r saved (Some' p s) = one_more_around (statement_length_of t 
 else_sum : (a : ℕ) → (2 + a) + 1 ≡ a + 3
 else_sum a = omega arith
 
-return_sum : (a b : ℕ) → a + (b + 1) ≡ (a + b) + 1
-return_sum a b = omega arith
-
 return_grows : (t : Typed) (l : Layout) (e : Option TExpr) (f : Frame) (contexts : List Field) (n : ℕ) (d : Draft) → IsShapedPart e → StandsAmong f contexts → Grows d (statement_length_of t l (has_result f) f.saved (S.Return e)) Done (statement_of t l (S.Return e) f contexts n d)
 unfolding statement_length_of statement_of returned_length
 return_grows t l None f contexts n d h k = sized Done d _ _ _ (nothing_more _) (bind Done Done d 0 _ _ _ (returned_grows t l None f.outcome d h) (λ _ after _. makes Done n after _ _ tt (end_more f.is_main _ after _ (resized after _ _ _ (nothing_more _) (restored_more contexts f.saved.in_all 0 after after (all_of f contexts k) (as_it_was after))))))
 return_grows t l (Some e) f contexts n d h k =
-    sized Done d _ _ _ (ap (λ (m : ℕ). (next_length t l e + m) + (f.saved.in_all + 1)) (result_length f) ∙ sum (next_length t l e + storing_length (has_result f)) f.saved.in_all)
-    (bind Done Done d (next_length t l e + result_by f.outcome) _ _ _ (returned_grows t l (Some e) f.outcome d h) (λ _ after _. makes Done n after _ _ tt (end_more f.is_main _ after _ (resized after _ _ _ (nothing_more _) (restored_more contexts f.saved.in_all 0 after after (all_of f contexts k) (as_it_was after))))))
+    sized Done d _ _ _ (ap (λ (m : ℕ). (used_length_of t l (type_of e).elem.bits true e + m) + (f.saved.in_all + 1)) (result_length f) ∙ sum (used_length_of t l (type_of e).elem.bits true e + storing_length (has_result f)) f.saved.in_all)
+    (bind Done Done d (used_length_of t l (type_of e).elem.bits true e + result_by f.outcome) _ _ _ (returned_grows t l (Some e) f.outcome d h) (λ _ after _. makes Done n after _ _ tt (end_more f.is_main _ after _ (resized after _ _ _ (nothing_more _) (restored_more contexts f.saved.in_all 0 after after (all_of f contexts k) (as_it_was after))))))
   where
     sum : (a b : ℕ) → a + (b + 1) ≡ (a + b) + 1
     sum a b = omega arith
@@ -291,13 +269,13 @@ mutual
   statement_grows t l (S.Expression e) f contexts n d h k = sized Done d _ _ _ (and_nothing _) (bind Done Done d _ 0 _ _ (part_grows t l (Some e) d h) (λ _ after _. makes Done n after after 0 tt (as_it_was after)))
   statement_grows t l S.Empty f contexts n d h k = makes Done n d d 0 tt (as_it_was d)
   statement_grows t l (S.If' test p first second) f contexts n d h k =
-      sized Done d _ _ _ (assoc3 (next_length t l test) (statement_length_of t l (has_result f) f.saved first) (else_length_of t l (has_result f) f.saved 1 second)) (bind Done Done d _ _ _ _ (condition_grows t l test d h.0) (λ r after _.
+      sized Done d _ _ _ (assoc3 (used_length_of t l 32 true test) (statement_length_of t l (has_result f) f.saved first) (else_length_of t l (has_result f) f.saved 1 second)) (bind Done Done d _ _ _ _ (condition_grows t l test d h.0) (λ r after _.
       bind Done Done after _ _ _ _ (behind Done after _ 1 _ _ (and_instr _ after after 0 (as_it_was after)) (statement_grows t l first f contexts n _ h.1 k)) (λ m last _. else_grows t l second f contexts _ m last h.2 k)))
   statement_grows t l (S.While' test p body) f contexts n d h k =
-      sized Done d _ _ _ (while_sum (next_length t l test) (statement_length_of t l (has_result f) (at_loop f.saved) body)) (bind Done Done d _ _ _ _ (behind Done d _ 2 _ _ (and_instr _ d _ 1 (and_instr _ d d 0 (as_it_was d))) (statement_grows t l body (in_loop _ _ f) contexts n _ h.1 (looped f contexts _ _ k)))
+      sized Done d _ _ _ (while_sum (used_length_of t l 32 true test) (statement_length_of t l (has_result f) (at_loop f.saved) body)) (bind Done Done d _ _ _ _ (behind Done d _ 2 _ _ (and_instr _ d _ 1 (and_instr _ d d 0 (as_it_was d))) (statement_grows t l body (in_loop _ _ f) contexts n _ h.1 (looped f contexts _ _ k)))
       (λ m last _. bind Done Done last _ 0 _ _ (back_grows t l (Some test) _ last h.0) (λ _ end _. makes Done m end end 0 tt (as_it_was end))))
   statement_grows t l (S.Do' p body test) f contexts n d h k =
-      sized Done d _ _ _ (do_sum (next_length t l test) (statement_length_of t l (has_result f) (at_loop f.saved) body)) (bind Done Done d _ _ _ _ (behind Done d _ 1 _ _ (and_instr _ d d 0 (as_it_was d)) (statement_grows t l body (in_loop _ _ f) contexts n _ h.0 (looped f contexts _ _ k)))
+      sized Done d _ _ _ (do_sum (used_length_of t l 32 true test) (statement_length_of t l (has_result f) (at_loop f.saved) body)) (bind Done Done d _ _ _ _ (behind Done d _ 1 _ _ (and_instr _ d d 0 (as_it_was d)) (statement_grows t l body (in_loop _ _ f) contexts n _ h.0 (looped f contexts _ _ k)))
       (λ m last _. bind Done Done last _ 0 _ _ (back_grows t l (Some test) _ last h.1) (λ _ end _. makes Done m end end 0 tt (as_it_was end))))
   statement_grows t l (S.For' first test step p body) f contexts n d h k =
       sized Done d _ _ _ (for_sum (part_length_of t l first) (condition_length_of t l test) (part_length_of t l step) (statement_length_of t l (has_result f) (at_loop f.saved) body)) (bind Done Done d _ _ _ _ (part_grows t l first d h.0) (λ _ begun _.

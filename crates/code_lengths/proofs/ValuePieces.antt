@@ -1,5 +1,5 @@
 -- The code of the forms of expressions, over the code of their parts, is as long as described.
-use Rattle.std.proofs.Common.{◌≡◌, ℕ, suc, ◌+◌, Bool, true, false, not, ◌||◌, List, [], ◌∷◌, length, Option, Some, None, is_none, is_some, refl, sym, ap, ◌∙◌, subst, arith, if◌then◌else◌}
+use Rattle.std.proofs.Common.{◌≡◌, ℕ, suc, ◌+◌, Bool, true, false, not, ◌||◌, ◌==◌, nat_lt, List, [], ◌∷◌, length, Option, Some, None, is_none, is_some, refl, sym, ap, ◌∙◌, subst, arith, if◌then◌else◌}
 use Rattle.cstar_base.specs.declared.elem.Elem.{Elem}
 use Rattle.cstar_base.specs.declared.operators.Op.{Op}
 use Rattle.cstar_base.specs.declared.operators.Place.{Place}
@@ -20,14 +20,15 @@ use Rattle.lower_base.specs.Operators.{machine_of}
 use Rattle.lower_base.specs.Drafts.{Draft, Made, Makes, Fails, then_make, from, with_instr, in_register, a_field, fresh_for}
 use Rattle.lower_expr.specs.declared.steps.Right.{Right}
 use Rattle.lower_expr.specs.declared.steps.Right.TheVariants as R
-use Rattle.lower_expr.specs.Lengths.{unary_length, operate_length, logical_length, choice_length, arm_length, compared_length, spread_length, spare_length, right_length, binary_length}
+use Rattle.lower_expr.specs.Kinds.{operation_bits, reads_signed, result_bits}
+use Rattle.lower_expr.specs.Lengths.{conversion_length, test_put_length, unary_length, operate_length, logical_length, choice_length, arm_length, compared_length, spread_length, spare_length, right_length, binary_length}
 use Rattle.lower_base.specs.Layouts.{Layout}
 use Rattle.lower_expr.specs.Operands.{is_plus}
 use Rattle.lower_expr.specs.Steps.{is_kept, has_word, register_word, word_for, word_put, word_of, word_taken, relates, put_value, right_operated, in_a_field, negated}
-use Rattle.lower_expr.specs.Values.{Code, Test, Arm, Condition, spread_into, spread_by, right_given, right_by, coordinate_in, byte_in, casts_put, unary_by, registers_by, fields_by, binary_at, jump_if_decided, narrowed_by, decided, limited, logical_ended, scalar_logical_by, nonzero_tested, zero_tested, tested_by, compared, relation_by, decided_by, jumped, jumped_over, narrowed_again, limited_by, parallel_logical_by, logical_by, arm_by, scalar_choice_by, turned_over, parallel_choice_by, choice_by}
+use Rattle.lower_expr.specs.Values.{Code, Test, Arm, Condition, spread_into, spread_by, right_given, right_by, coordinate_in, byte_in, casts_put, extended, truth_put, cast_by, register_cast_by, unary_by, registers_by, fields_by, spare_for, parallel_binary_by, binary_by, jump_if_decided, narrowed_by, decided, limited, logical_ended, scalar_logical_by, nonzero_tested, zero_tested, tested_by, compared, relation_by, decided_by, jumped, jumped_over, narrowed_again, limited_by, parallel_logical_by, logical_by, arm_by, scalar_choice_by, turned_over, parallel_choice_by, choice_by}
 use Rattle.code_lengths.specs.Growth.{Extended, Grows, Stands, Anything}
-use Rattle.code_lengths.proofs.Drafting.{as_it_was, resized, and_instr, makes, sized, behind, bind, weaker, in_register_grows, in_field_grows, register_grows, entry_grows, fresh_grows}
-use Rattle.code_lengths.proofs.Pieces.{InRegister, InField, fails_grow, constant_grows, test_grows, put_value_grows, operated_more, fields_operated_grows, word_grows, number_grows, in_a_field_grows, negated_grows}
+use Rattle.code_lengths.proofs.Drafting.{IsAt, field_grows, fresh_at, lowest_grows, as_it_was, resized, and_instr, makes, sized, behind, bind, weaker, in_register_grows, in_field_grows, register_grows, entry_grows, fresh_grows}
+use Rattle.code_lengths.proofs.Pieces.{InRegister, InField, fails_grow, constant_grows, test_grows, put_value_grows, operated_more, register_in_place_grows, fields_operated_grows, word_grows, number_grows, in_a_field_grows, negated_grows}
 use Rattle.code_lengths.proofs.Communication.{Is, is_stands, nothing_more}
 
 -- of what the test flags become nothing is said
@@ -65,21 +66,21 @@ spread_alone n e h = by (word_of e) (is_kept e) n (no_constant true e h) h
     by None true n e f = cc
     by None false n e f = omega arith
 
-spread_by_kept : (k : Bool) (code : Code) (e : TExpr) (n set : ℕ) (d : Draft) → is_kept e ≡ k → IsCode n (is_kept e) code →
-    Grows d (spread_length n e) InField (if k then then_make (a_field set d) (λ dest between. then_make (spread_into code e dest between) (λ f after. Makes (O.Field f) after)) else code d)
-spread_by_kept true code e n set d h c =
+spread_by_kept : (k : Bool) (code : Code) (e : TExpr) (n set bits : ℕ) (d : Draft) → is_kept e ≡ k → IsCode n (is_kept e) code →
+    Grows d (spread_length n e) InField (if k then then_make (a_field set bits d) (λ dest between. then_make (spread_into code e dest between) (λ f after. Makes (O.Field f) after)) else code d)
+spread_by_kept true code e n set bits d h c =
     sized InField d _ _ _ (nothing_more (spread_length n e)) (bind Anything InField d 0 _ _ _ (entry_grows _ _ _ d) (λ dest between _.
     sized InField between _ _ _ (and_nothing (spread_length n e)) (bind (λ (f : Field). Unit {0}) InField between _ 0 _ _ (spread_into_grows code e n dest between c)
     (λ f after _. makes InField (O.Field f) after after 0 refl (as_it_was after)))))
   where
     and_nothing : (n : ℕ) → n + 0 ≡ n
     and_nothing n = omega arith
-spread_by_kept false code e n set d h c =
+spread_by_kept false code e n set bits d h c =
     sized InField d _ _ _ (spread_alone n e h) (weaker (Stands (is_kept e)) InField d n _ (λ v s. subst (λ b. Stands b v) h s) (c d))
 
-pub spread_by_grows : (code : Code) (e : TExpr) (n set : ℕ) (d : Draft) → IsCode n (is_kept e) code → Grows d (spread_length n e) InField (spread_by code e set d)
+pub spread_by_grows : (code : Code) (e : TExpr) (n set bits : ℕ) (d : Draft) → IsCode n (is_kept e) code → Grows d (spread_length n e) InField (spread_by code e set bits d)
 unfolding spread_by
-spread_by_grows code e n set d h = spread_by_kept (is_kept e) code e n set d refl h
+spread_by_grows code e n set bits d h = spread_by_kept (is_kept e) code e n set bits d refl h
 
 -- the right operand, as it is given
 abbrev pub IsRight : Op → TExpr → Right → Type 0
@@ -91,8 +92,8 @@ IsRight op e (R.Word (K.Reg r)) = (word_taken op e ≡ None) × (is_kept e ≡ t
 abbrev pub before_length : ℕ → Op → TExpr → ℕ
 before_length n op e = elim (word_taken op e) [ Some _ ↦ 0 | None ↦ n ]
 
-abbrev pub after_length : Op → TExpr → ℕ
-after_length op e = elim (word_taken op e) [ Some _ ↦ if relates op then 4 else 1 | None ↦ operate_length op false + spare_length op (is_kept e) ]
+abbrev pub after_length : ℕ → Op → TExpr → ℕ
+after_length bits op e = elim (word_taken op e) [ Some _ ↦ if relates op then 2 + test_put_length bits else 1 | None ↦ operate_length bits op false + spare_length op (is_kept e) ]
 
 right_out : (op : Op) (e : TExpr) (v : Out) (d : Draft) → word_taken op e ≡ None → Stands (is_kept e) v → Grows d 0 (IsRight op e) (from (right_given v) (λ right. Makes right d))
 unfolding right_given from
@@ -122,61 +123,95 @@ none_taken : (o : Option ℕ) (k n : ℕ) → o ≡ None → n ≡ (elim o as (�
 none_taken (Some w) k n h = cc
 none_taken None k n h = refl
 
-no_spare : (op : Op) → operate_length op false ≡ operate_length op false + spare_length op false
+no_spare : (bits : ℕ) (op : Op) → operate_length bits op false ≡ operate_length bits op false + spare_length op false
 unfolding spare_length
-no_spare op = omega arith
+no_spare bits op = omega arith
 
-field_operated : (op : Op) (signed : Bool) (place : Place) (dest left f spare : Field) (d : Draft) → Grows d (operate_length op false) InField (right_operated op signed place dest left (R.Field f) spare d)
+field_operated : (op : Op) (signed : Bool) (place : Place) (dest left f spare : Field) (d : Draft) →
+    Grows d (operate_length dest.len op false) InField (right_operated op signed place dest left (R.Field f) spare d)
 unfolding right_operated
 field_operated op signed place dest left f spare d = fields_operated_grows op signed place dest left f d
 
 pub right_operated_grows : (op : Op) (signed : Bool) (place : Place) (e : TExpr) (dest left : Field) (right : Right) (spare : Field) (d : Draft) → IsRight op e right →
-    Grows d (after_length op e) InField (right_operated op signed place dest left right spare d)
+    Grows d (after_length dest.len op e) InField (right_operated op signed place dest left right spare d)
 right_operated_grows op signed place e dest left (R.Field f) spare d h =
-    sized InField d _ _ _ (no_spare op ∙ ap (λ b. operate_length op false + spare_length op b) (sym h.1) ∙ none_taken (word_taken op e) _ _ h.0) (field_operated op signed place dest left f spare d)
+    sized InField d _ _ _ (no_spare dest.len op ∙ ap (λ b. operate_length dest.len op false + spare_length op b) (sym h.1) ∙ none_taken (word_taken op e) _ _ h.0)
+    (field_operated op signed place dest left f spare d)
 right_operated_grows op signed place e dest left (R.Word (K.Imm w)) spare d h =
     sized InField d _ _ _ (constant_taken (word_taken op e) _ _ h) (number_grows op signed place dest left w spare d)
 right_operated_grows op signed place e dest left (R.Word (K.Reg r)) spare d h =
-    sized InField d _ _ _ (ap (λ b. operate_length op false + spare_length op b) (sym h.1) ∙ none_taken (word_taken op e) _ _ h.0) (word_grows op signed place dest left r spare d)
+    sized InField d _ _ _ (ap (λ b. operate_length dest.len op false + spare_length op b) (sym h.1) ∙ none_taken (word_taken op e) _ _ h.0)
+    (word_grows op signed place dest left r spare d)
 
-pub right_together : (n : ℕ) (op : Op) (e : TExpr) → before_length n op e + after_length op e ≡ right_length n op e
+pub right_together : (bits n : ℕ) (op : Op) (e : TExpr) → before_length n op e + after_length bits op e ≡ right_length bits n op e
 unfolding right_length
-right_together n op e = by (word_taken op e) n _ _
+right_together bits n op e = by (word_taken op e) n _ _
   where
     by : (o : Option ℕ) (n k m : ℕ) → (elim o as (λ _. ℕ) [ Some _ ↦ 0 | None ↦ n ]) + (elim o as (λ _. ℕ) [ Some _ ↦ k | None ↦ m ]) ≡ (elim o as (λ _. ℕ) [ Some _ ↦ k | None ↦ n + m ])
     by (Some w) n k m = nothing_more k
     by None n k m = refl
 
 -- binary operators
-pub registers_grow : (op : Op) (signed : Bool) (place : Place) (r : ℕ) (left_kept right_kept : Bool) (first second : Code) (n m : ℕ) (d : Draft) → IsCode n left_kept first → IsCode m right_kept second →
-    Grows d ((n + m) + operate_length op true) InRegister (registers_by op signed place r first second d)
+pub registers_grow : (bits : ℕ) (op : Op) (signed : Bool) (place : Place) (r : ℕ) (left_kept right_kept : Bool) (first second : Code) (n m : ℕ) (d : Draft) → IsCode n left_kept first → IsCode m right_kept second →
+    Grows d ((n + m) + operate_length bits op true) InRegister (registers_by op signed place r first second d)
 unfolding registers_by
-registers_grow op signed place r left_kept right_kept first second n m d a b =
-    sized InRegister d _ _ _ (three n m (operate_length op true)) (bind (Stands left_kept) InRegister d n _ _ _ (a d) (λ v between sv. in_register_grows _ between _ left_kept v _ sv (λ x _.
+registers_grow bits op signed place r left_kept right_kept first second n m d a b =
+    sized InRegister d _ _ _ (three n m (operate_length bits op true)) (bind (Stands left_kept) InRegister d n _ _ _ (a d) (λ v between sv. in_register_grows _ between _ left_kept v _ sv (λ x _.
     bind (Stands right_kept) InRegister between m _ _ _ (b between) (λ w after sw. in_register_grows _ after _ right_kept w _ sw (λ y _.
-    makes InRegister (O.Scalar r) after _ _ refl (operated_more op signed place r x y after))))))
+    makes InRegister (O.Scalar r) after _ _ refl (operated_more bits op signed place r x y after))))))
   where
     three : (n m k : ℕ) → n + (m + k) ≡ (n + m) + k
     three n m k = omega arith
 
 pub fields_grow : (op : Op) (signed : Bool) (place : Place) (f spare : Field) (first : Code) (left : TExpr) (n : ℕ) (second : Code) (right : TExpr) (m : ℕ) (d : Draft) →
     IsCode n (is_kept left) first → IsCode m (is_kept right) second →
-    Grows d (spread_length n left + right_length m op right) InField (fields_by op signed place f spare first left second right d)
+    Grows d (spread_length n left + right_length f.len m op right) InField (fields_by op signed place f spare first left second right d)
 unfolding fields_by
 fields_grow op signed place f spare first left n second right m d a b =
-    sized InField d _ _ _ (ap (λ x. spread_length n left + x) (right_together m op right)) (bind (λ (f : Field). Unit {0}) InField d (spread_length n left) _ _ _ (spread_into_grows first left n spare d a) (λ x between _.
+    sized InField d _ _ _ (ap (λ x. spread_length n left + x) (right_together f.len m op right)) (bind (λ (f : Field). Unit {0}) InField d (spread_length n left) _ _ _ (spread_into_grows first left n spare d a) (λ x between _.
     bind (IsRight op right) InField between _ _ _ _ (right_by_grows second m op right between b) (λ y after sy.
     right_operated_grows op signed place right f x y spare after sy)))
 
-pub binary_grows : (k : Bool) (dest : Out) (op : Op) (signed : Bool) (place : Place) (first : Code) (left : TExpr) (n : ℕ) (second : Code) (right : TExpr) (m : ℕ) (d : Draft) →
-    Stands k dest → IsCode n (is_kept left) first → IsCode m (is_kept right) second →
-    Grows d (binary_length k op n left m right) (Stands k) (binary_at dest op signed place first left second right d)
-unfolding binary_at binary_length
-binary_grows true (O.Scalar r) op signed place first left n second right m d s a b = registers_grow op signed place r (is_kept left) (is_kept right) first second n m d a b
-binary_grows false (O.Field f) op signed place first left n second right m d s a b = fields_grow op signed place f f first left n second right m d a b
-binary_grows true (O.Field f) op signed place first left n second right m d s a b = cc
-binary_grows false (O.Scalar r) op signed place first left n second right m d s a b = cc
-binary_grows k O.Nothing op signed place first left n second right m d s a b = fails_grow _ d _
+-- only that of a relation depends on the bits of its result
+result_length : (bits : ℕ) (op : Op) (e : TExpr) (m : ℕ) → right_length (result_bits bits op e) m op e ≡ right_length bits m op e
+unfolding right_length operate_length result_bits
+result_length bits op e m = by (relates op) (divides op) (word_taken op e) (operation_bits bits op e) (spare_length op (is_kept e))
+  where
+    by : (r v : Bool) (o : Option ℕ) (work s : ℕ) → (elim o as (λ _. ℕ) [
+      | Some _ ↦ if r then 2 + test_put_length (if r then bits else work) else 1
+      | None ↦ m + ((if v then 2 else (if r then 1 + test_put_length (if r then bits else work) else 1)) + s)
+    ]) ≡ (elim o as (λ _. ℕ) [
+      | Some _ ↦ if r then 2 + test_put_length bits else 1
+      | None ↦ m + ((if v then 2 else (if r then 1 + test_put_length bits else 1)) + s)
+    ])
+    by true v o work s = refl
+    by false v o work s = refl
+
+spare_for_grows : (op : Op) (dest : Field) (bits : ℕ) (d : Draft) → Grows d 0 Anything (spare_for op dest bits d)
+unfolding spare_for
+spare_for_grows op dest bits d = by (relates op)
+  where
+    by : (b : Bool) → Grows d 0 Anything (if b then a_field dest.set bits d else Makes dest d)
+    by true = entry_grows _ _ _ d
+    by false = makes Anything dest d d 0 tt (as_it_was d)
+
+parallel_binary_grows : (set bits : ℕ) (op : Op) (place : Place) (first : Code) (left : TExpr) (n : ℕ) (second : Code) (right : TExpr) (m : ℕ) (d : Draft) →
+    IsCode n (is_kept left) first → IsCode m (is_kept right) second →
+    Grows d (spread_length n left + right_length bits m op right) InField (parallel_binary_by set bits op place first left second right d)
+unfolding parallel_binary_by
+parallel_binary_grows set bits op place first left n second right m d a b =
+    sized InField d _ _ _ (nothing_more _ ∙ nothing_more _) (bind (λ (f : Field). f.len ≡ result_bits bits op right) InField d 0 _ _ _ (field_grows _ _ d) (λ dest begun h.
+    bind Anything InField begun 0 _ _ _ (spare_for_grows op dest _ begun) (λ spare between _. lowest_grows false bits between _ _
+    (sized InField between _ _ _ (ap (λ (x : ℕ). spread_length n left + right_length x m op right) h ∙ ap (λ (x : ℕ). spread_length n left + x) (result_length bits op right m))
+    (fields_grow op _ place dest spare first left n second right m between a b)))))
+
+pub binary_grows : (shape : Option ℕ) (bits : ℕ) (op : Op) (place : Place) (first : Code) (left : TExpr) (n : ℕ) (second : Code) (right : TExpr) (m : ℕ) (d : Draft) →
+    IsCode n (is_kept left) first → IsCode m (is_kept right) second →
+    Grows d (binary_length (is_none shape) bits op n left m right) (Stands (is_none shape)) (binary_by shape bits op place first left second right d)
+unfolding binary_by binary_length
+binary_grows None bits op place first left n second right m d a b =
+    sized InRegister d _ _ _ (nothing_more _) (bind Anything InRegister d 0 _ _ _ (register_grows d) (λ r after _. registers_grow bits op _ place r (is_kept left) (is_kept right) first second n m after a b))
+binary_grows (Some set) bits op place first left n second right m d a b = parallel_binary_grows set bits op place first left n second right m d a b
 
 -- jumps and narrower contexts
 jump_more : (is_or : Bool) (test target n : ℕ) (d e : Draft) → Extended d n e → Extended d (n + 1) (jump_if_decided is_or test target e)
@@ -276,21 +311,26 @@ compared_together n op e = by (word_taken op e) n _
     by (Some w) n m = refl
     by None n m = refl
 
-pub relation_grows : (set : ℕ) (op : Op) (signed : Bool) (n m : ℕ) (first second : Code) (left right : TExpr) → relates op ≡ true → IsCode n (is_kept left) first → IsCode m (is_kept right) second →
-    IsTest (spread_length n left + compared_length m op right) (relation_by set op signed first left second right)
+pub relation_grows : (set : ℕ) (op : Op) (n m : ℕ) (first second : Code) (left right : TExpr) → relates op ≡ true → IsCode n (is_kept left) first → IsCode m (is_kept right) second →
+    IsTest (spread_length n left + compared_length m op right) (relation_by set op first left second right)
 unfolding relation_by
-relation_grows set op signed n m first second left right r a b d =
+relation_grows set op n m first second left right r a b d =
     sized _ d _ _ _ (nothing_more _ ∙ ap (λ (x : ℕ). spread_length n left + x) (compared_together m op right))
     (bind Anything Known d 0 _ _ _ (entry_grows _ _ _ d) (λ spare begun _. bind (λ (f : Field). Unit {0}) Known begun _ _ _ _ (spread_into_grows first left n spare begun a) (λ x between _.
-    bind (IsRight op right) Known between _ _ _ _ (right_by_grows second m op right between b) (λ y after s. compared_grows op (machine_of op signed) right x y spare after r s))))
+    bind (IsRight op right) Known between _ _ _ _ (right_by_grows second m op right between b) (λ y after s. compared_grows op (machine_of op (reads_signed op left right)) right x y spare after r s))))
+
+-- the test flag as a value
+pub truth_put_grows : (dest : Field) (test : Test) (n : ℕ) (d : Draft) → IsTest n test → Grows d (n + test_put_length dest.len) InField (truth_put dest test d)
+unfolding truth_put
+truth_put_grows dest test n d a = bind Known InField d n _ _ _ (a d) (λ _ after _. test_grows dest after)
 
 -- `&&` and `||` with a parallel operand
 decided_by_grows : (is_or k : Bool) (dest : Field) (first : Code) (second : Test) (n m : ℕ) (d : Draft) → IsCode n k first → IsTest m second →
-    Grows d (n + (1 + (m + 2))) InField (decided_by is_or dest first second m d)
+    Grows d (n + (1 + (m + test_put_length dest.len))) InField (decided_by is_or dest first second m d)
 unfolding decided_by
 decided_by_grows is_or k dest first second n m d a b =
-    bind (Stands k) InField d n _ _ _ (a d) (λ v between s. bind (λ (x : ℕ). Unit {0}) InField between 1 _ _ _ (decided_grows is_or k v m 3 between s)
-    (λ _ next _. bind Known InField next m 2 _ _ (b next) (λ _ after _. test_grows dest after)))
+    bind (Stands k) InField d n _ _ _ (a d) (λ v between s. bind (λ (x : ℕ). Unit {0}) InField between 1 _ _ _ (decided_grows is_or k v m _ between s)
+    (λ _ next _. truth_put_grows dest second m next b))
 
 jumped_grows : (is_or k : Bool) (w : Out) (d : Draft) → Stands k w → Grows d 1 Known (jumped is_or w d)
 unfolding jumped
@@ -312,13 +352,13 @@ limited_by_grows is_or dest saved first next n m d a b =
     (λ _ after _. makes InField (O.Field dest) after _ 2 refl (and_instr _ after _ 1 (and_instr _ after after 0 (as_it_was after)))))
 
 logical_rest : (is_or lk rk : Bool) (dest saved : Field) (first second : Code) (first_test second_test : Test) (n nt m mt : ℕ) (d : Draft) → IsCode n lk first → IsTest nt first_test → IsCode m rk second → IsTest mt second_test →
-    Grows d (if lk then (n + mt) + 3 else (nt + (if rk then m else mt)) + 5) InField
+    Grows d (if lk then (n + mt) + (1 + test_put_length dest.len) else (nt + (if rk then m else mt)) + 5) InField
     (if lk then decided_by is_or dest first second_test mt d else limited_by is_or dest saved first_test (if rk then jumped_over is_or second else narrowed_again is_or dest.set second_test) d)
 logical_rest is_or true rk dest saved first second first_test second_test n nt m mt d a at b bt =
-    sized InField d _ _ _ (sum n mt) (decided_by_grows is_or true dest first second_test n mt d a bt)
+    sized InField d _ _ _ (sum n mt (test_put_length dest.len)) (decided_by_grows is_or true dest first second_test n mt d a bt)
   where
-    sum : (n m : ℕ) → n + (1 + (m + 2)) ≡ (n + m) + 3
-    sum n m = omega arith
+    sum : (n m put : ℕ) → n + (1 + (m + put)) ≡ (n + m) + (1 + put)
+    sum n m put = omega arith
 logical_rest is_or false rk dest saved first second first_test second_test n nt m mt d a at b bt =
     sized InField d _ _ _ (sum rk nt m mt) (limited_by_grows is_or dest saved first_test _ nt _ d at (second_grows is_or rk dest.set m mt second second_test b bt))
   where
@@ -330,25 +370,27 @@ pub record IsCondition (c : Condition) : Type 0 where
   pub code : IsCode c.long c.kept c.code
   pub test : IsTest c.tested_long c.test
 
-parallel_logical_grows : (is_or : Bool) (set : ℕ) (left right : Condition) (d : Draft) → IsCondition left → IsCondition right →
-    Grows d (if left.kept then (left.long + right.tested_long) + 4 else (left.tested_long + (if right.kept then right.long else right.tested_long)) + 6) InField (parallel_logical_by is_or set left right d)
+parallel_logical_grows : (is_or : Bool) (set bits : ℕ) (left right : Condition) (d : Draft) → IsCondition left → IsCondition right →
+    Grows d (if left.kept then (left.long + right.tested_long) + (2 + test_put_length bits) else (left.tested_long + (if right.kept then right.long else right.tested_long)) + 6) InField
+    (parallel_logical_by is_or set bits left right d)
 unfolding parallel_logical_by
-parallel_logical_grows is_or set left right d a b =
-    sized InField d _ _ _ (sum left.kept right.kept left.long left.tested_long right.long right.tested_long)
-    (bind Anything InField d 0 _ _ _ (entry_grows _ _ _ d) (λ dest begun _. bind Anything InField begun 0 _ _ _ (entry_grows _ _ _ begun) (λ saved next _.
+parallel_logical_grows is_or set bits left right d a b =
+    sized InField d _ _ _ (sum left.kept right.kept left.long left.tested_long right.long right.tested_long (test_put_length bits))
+    (bind (λ (f : Field). f.len ≡ bits) InField d 0 _ _ _ (field_grows _ _ d) (λ dest begun h. bind Anything InField begun 0 _ _ _ (entry_grows _ _ _ begun) (λ saved next _.
     behind InField next _ 1 _ _ (and_instr _ next next 0 (as_it_was next))
-    (logical_rest is_or left.kept right.kept dest saved left.code right.code left.test right.test left.long left.tested_long right.long right.tested_long _ a.code a.test b.code b.test))))
+    (sized InField _ _ _ _ (ap (λ (k : ℕ). if left.kept then (left.long + right.tested_long) + (1 + test_put_length k) else (left.tested_long + (if right.kept then right.long else right.tested_long)) + 5) h)
+    (logical_rest is_or left.kept right.kept dest saved left.code right.code left.test right.test left.long left.tested_long right.long right.tested_long _ a.code a.test b.code b.test)))))
   where
-    sum : (lk rk : Bool) (n nt m mt : ℕ) → 0 + (0 + (1 + (if lk then (n + mt) + 3 else (nt + (if rk then m else mt)) + 5))) ≡ (if lk then (n + mt) + 4 else (nt + (if rk then m else mt)) + 6)
-    sum true rk n nt m mt = omega arith
-    sum false true n nt m mt = omega arith
-    sum false false n nt m mt = omega arith
+    sum : (lk rk : Bool) (n nt m mt put : ℕ) → 0 + (0 + (1 + (if lk then (n + mt) + (1 + put) else (nt + (if rk then m else mt)) + 5))) ≡ (if lk then (n + mt) + (2 + put) else (nt + (if rk then m else mt)) + 6)
+    sum true rk n nt m mt put = omega arith
+    sum false true n nt m mt put = omega arith
+    sum false false n nt m mt put = omega arith
 
-pub logical_grows : (is_or : Bool) (shape : Option ℕ) (left right : Condition) (d : Draft) → IsCondition left → IsCondition right →
-    Grows d (logical_length (is_none shape) left.kept right.kept left.long right.long left.tested_long right.tested_long) (Stands (is_none shape)) (logical_by is_or shape left right d)
+pub logical_grows : (is_or : Bool) (shape : Option ℕ) (bits : ℕ) (left right : Condition) (d : Draft) → IsCondition left → IsCondition right →
+    Grows d (logical_length (is_none shape) bits left.kept right.kept left.long right.long left.tested_long right.tested_long) (Stands (is_none shape)) (logical_by is_or shape bits left right d)
 unfolding logical_by logical_length
-logical_grows is_or None left right d a b = scalar_logical_grows is_or left.kept right.kept left.code right.code left.long right.long d a.code b.code
-logical_grows is_or (Some set) left right d a b = parallel_logical_grows is_or set left right d a b
+logical_grows is_or None bits left right d a b = scalar_logical_grows is_or left.kept right.kept left.code right.code left.long right.long d a.code b.code
+logical_grows is_or (Some set) bits left right d a b = parallel_logical_grows is_or set bits left right d a b
 
 -- arms of `?:`
 abbrev pub IsArm : ℕ → Bool → Arm → Type 0
@@ -415,11 +457,11 @@ unfolding choice_length
 choice_rest k true dest test first second i n m d s c a b = scalar_choice_grows k true dest test first second i n m d s c a b
 choice_rest k false dest test first second i n m d s c a b = parallel_choice_grows k false dest test first second i n m d s c a b
 
-pub choice_grows : (ty : ValueType) (kt : Bool) (test : Code) (first second : Arm) (i n m : ℕ) (d : Draft) → IsCode i kt test → IsArm n (is_none ty.shape) first → IsArm m (is_none ty.shape) second →
-    Grows d ((i + (n + m)) + choice_length kt) (Stands (is_none ty.shape)) (choice_by ty kt test first second n m d)
+pub choice_grows : (ty : ValueType) (bits : ℕ) (kt : Bool) (test : Code) (first second : Arm) (i n m : ℕ) (d : Draft) → IsCode i kt test → IsArm n (is_none ty.shape) first → IsArm m (is_none ty.shape) second →
+    Grows d ((i + (n + m)) + choice_length kt) (Stands (is_none ty.shape)) (choice_by ty bits kt test first second n m d)
 unfolding choice_by
-choice_grows ty kt test first second i n m d c a b =
-    sized _ d _ _ _ (nothing_more _) (bind (Stands (is_none ty.shape)) _ d 0 _ _ _ (fresh_grows ty.shape d) (λ dest after s. choice_rest (is_none ty.shape) kt dest test first second i n m after s c a b))
+choice_grows ty bits kt test first second i n m d c a b =
+    sized _ d _ _ _ (nothing_more _) (bind (Stands (is_none ty.shape)) _ d 0 _ _ _ (fresh_grows ty.shape bits d) (λ dest after s. choice_rest (is_none ty.shape) kt dest test first second i n m after s c a b))
 
 -- casts, unary operators, coordinates
 casts_more : (elems : List Elem) (r : ℕ) (d : Draft) → Extended d (length elems) (casts_put elems r d)
@@ -433,29 +475,53 @@ casts_more (kind ∷ inner) r d = resized d _ _ _ (one (length inner)) (and_inst
 pub casts_grow : (k : Bool) (elems : List Elem) (v : Out) (d : Draft) → Stands k v → Grows d (length elems) InRegister (in_register v (λ r. Makes v (casts_put elems r d)))
 casts_grow k elems v d s = in_register_grows _ d _ k v _ s (λ r h. makes InRegister v d _ _ (subst (λ b. Stands b v) h s) (casts_more elems r d))
 
-plus_length : (l : Layout) (op : UnaryOp) (k : Bool) (n : ℕ) → is_plus op ≡ true → n ≡ n + unary_length l op k
-unfolding is_plus unary_length
-plus_length l Un.Plus k n h = omega arith
-plus_length l Un.Minus k n h = cc
-plus_length l Un.Complement k n h = cc
-plus_length l Un.Not k n h = cc
+-- a conversion of a parallel value to a field, and one in a register
+pub extended_grows : (signed : Bool) (dest : Field) (code : Code) (n : ℕ) (d : Draft) → IsCode n false code → Grows d (n + 1) InField (extended signed dest code d)
+unfolding extended
+extended_grows signed dest code n d c =
+    bind InField InField d n 1 _ _ (c d) (λ v after s. in_field_grows _ after 1 false v _ s (λ source _. makes InField (O.Field dest) after _ 1 refl (and_instr _ after after 0 (as_it_was after))))
 
-unary_rest : (b : Bool) (l : Layout) (ty : ValueType) (op : UnaryOp) (k : Bool) (code operand : Code) (n m : ℕ) (d : Draft) → is_plus op ≡ b → is_none ty.shape ≡ k → IsCode n k code → IsCode m k operand →
-    Grows d ((if b then n else m) + unary_length l op k) (Stands (is_none ty.shape)) (if b then code d else then_make (fresh_for ty.shape d) (λ dest between. then_make (operand between) (λ v after. negated l op dest v after)))
-unary_rest true l ty op k code operand n m d h e c o = sized _ d _ _ _ (plus_length l op k n h) (weaker (Stands k) _ d n _ (λ v s. subst (λ b. Stands b v) (sym e) s) (c d))
-unary_rest false l ty op k code operand n m d h e c o =
-    sized _ d _ _ _ (nothing_more _) (bind (Stands (is_none ty.shape)) _ d 0 _ _ _ (fresh_grows ty.shape d) (λ dest between s.
-    bind (Stands k) _ between m _ _ _ (o between) (λ v after t. negated_grows l op (is_none ty.shape) k dest v after s t)))
+pub cast_by_grows : (set bits : ℕ) (elem : Elem) (test : Test) (own whole : Code) (i n m : ℕ) (d : Draft) → IsTest i test → IsCode n false own → IsCode m false whole →
+    Grows d (if elem.bits == 1 then i + test_put_length bits else (if nat_lt elem.bits bits then n + 1 else m)) InField (cast_by set bits elem test own whole d)
+unfolding cast_by
+cast_by_grows set bits elem test own whole i n m d a b c = by (elem.bits == 1) (nat_lt elem.bits bits)
+  where
+    by : (one less : Bool) → Grows d (if one then i + test_put_length bits else (if less then n + 1 else m)) InField
+        (if one then then_make (a_field set bits d) (λ dest begun. truth_put dest test begun)
+        else (if less then then_make (a_field set bits d) (λ dest begun. extended elem.signed dest own begun) else whole d))
+    by true less =
+        sized InField d _ _ _ (nothing_more _) (bind (λ (f : Field). f.len ≡ bits) InField d 0 _ _ _ (field_grows set bits d) (λ dest begun h.
+        sized InField begun _ _ _ (ap (λ (k : ℕ). i + test_put_length k) h) (truth_put_grows dest test i begun a)))
+    by false true = sized InField d _ _ _ (nothing_more _) (bind Anything InField d 0 _ _ _ (entry_grows _ _ _ d) (λ dest begun _. extended_grows elem.signed dest own n begun b))
+    by false false = c d
+
+pub register_cast_grows : (elem : Elem) (code : Code) (n : ℕ) (d : Draft) → IsCode n true code → Grows d (n + conversion_length true elem) InRegister (register_cast_by elem code d)
+unfolding register_cast_by
+register_cast_grows elem code n d c = bind InRegister InRegister d n _ _ _ (c d) (λ v after s. register_in_place_grows v elem after s)
+
+plus_length : (l : Layout) (bits : ℕ) (op : UnaryOp) (k : Bool) (n : ℕ) → is_plus op ≡ true → n ≡ n + unary_length l bits op k
+unfolding is_plus unary_length
+plus_length l bits Un.Plus k n h = omega arith
+plus_length l bits Un.Minus k n h = cc
+plus_length l bits Un.Complement k n h = cc
+plus_length l bits Un.Not k n h = cc
+
+unary_rest : (b : Bool) (l : Layout) (ty : ValueType) (bits : ℕ) (op : UnaryOp) (k : Bool) (code operand : Code) (n m : ℕ) (d : Draft) → is_plus op ≡ b → is_none ty.shape ≡ k → IsCode n k code → IsCode m k operand →
+    Grows d ((if b then n else m) + unary_length l bits op k) (Stands (is_none ty.shape)) (if b then code d else then_make (fresh_for ty.shape bits d) (λ dest between. then_make (operand between) (λ v after. negated l op dest v after)))
+unary_rest true l ty bits op k code operand n m d h e c o = sized _ d _ _ _ (plus_length l bits op k n h) (weaker (Stands k) _ d n _ (λ v s. subst (λ b. Stands b v) (sym e) s) (c d))
+unary_rest false l ty bits op k code operand n m d h e c o =
+    sized _ d _ _ _ (nothing_more _) (bind (IsAt (is_none ty.shape) bits) _ d 0 _ _ _ (fresh_at ty.shape bits d) (λ dest between s.
+    bind (Stands k) _ between m _ _ _ (o between) (λ v after t. negated_grows l bits op (is_none ty.shape) k dest v after s t)))
 
 -- the operand of `+` is the value, and that of another operator may stand where it is
-pub unary_grows : (l : Layout) (ty : ValueType) (op : UnaryOp) (k : Bool) (code operand : Code) (n m : ℕ) (d : Draft) → is_none ty.shape ≡ k → IsCode n k code → IsCode m k operand →
-    Grows d ((if is_plus op then n else m) + unary_length l op k) (Stands (is_none ty.shape)) (unary_by l ty op code operand d)
+pub unary_grows : (l : Layout) (ty : ValueType) (bits : ℕ) (op : UnaryOp) (k : Bool) (code operand : Code) (n m : ℕ) (d : Draft) → is_none ty.shape ≡ k → IsCode n k code → IsCode m k operand →
+    Grows d ((if is_plus op then n else m) + unary_length l bits op k) (Stands (is_none ty.shape)) (unary_by l ty bits op code operand d)
 unfolding unary_by
-unary_grows l ty op k code operand n m d h c o = unary_rest (is_plus op) l ty op k code operand n m d refl h c o
+unary_grows l ty bits op k code operand n m d h c o = unary_rest (is_plus op) l ty bits op k code operand n m d refl h c o
 
-pub coordinate_grows : (shape : Option ℕ) (axis : ℕ) (d : Draft) → Grows d 1 InField (coordinate_in shape axis d)
+pub coordinate_grows : (shape : Option ℕ) (bits axis : ℕ) (d : Draft) → Grows d 1 InField (coordinate_in shape bits axis d)
 unfolding coordinate_in
-coordinate_grows shape axis d = bind Anything InField d 0 1 _ _ (entry_grows _ _ _ d) (λ f after _. makes InField (O.Field f) after _ 1 refl (and_instr _ after after 0 (as_it_was after)))
+coordinate_grows shape bits axis d = bind Anything InField d 0 1 _ _ (entry_grows _ _ _ d) (λ f after _. makes InField (O.Field f) after _ 1 refl (and_instr _ after after 0 (as_it_was after)))
 
 pub byte_grows : (d : Draft) → Grows d 1 InRegister (byte_in d)
 unfolding byte_in

@@ -27,21 +27,21 @@ use Rattle.code_lengths.specs.Growth.{Extended, Grows, Stands, Anything}
 use Rattle.code_lengths.specs.Shaped.{HasShape, IsShaped, IsTarget, AreShaped}
 use Rattle.code_lengths.specs.ShapedStatements.{IsShapedStatement}
 
--- The code of an expression: its value, which stands in a register exactly where it is kept there;
--- the same as an operand, copied or where it stands; the values of a list; what locates a target; its
--- effect, where the value is not used; its test; and its value put in a register, if it stands in one,
--- or in a field, if it has a shape.
+-- The code of an expression, however many bits of it are wanted: its value, which stands in a register
+-- exactly where it is kept there; the same as an operand, copied or where it stands; the values of a
+-- list; what locates a target; its effect, where the value is not used; its test; and its value put in a
+-- register, if it stands in one, or in a field of any length, if it has a shape.
 pub record ExpressionLengths (t : Typed) (l : Layout) : Type 0 where
-  pub value : (e : TExpr) (d : Draft) → IsShaped e → Grows d (length_of t l e) (Stands (is_kept e)) (value_of t l e d)
-  pub operand : (quiet : Bool) (e : TExpr) (d : Draft) → IsShaped e →
-      Grows d (operand_length l (length_of t l e) quiet e) (Stands (is_kept e)) (operand_by t l (value_of t l e) quiet e d)
-  pub list : (quiet : Bool) (n : Count) (row : Row_of-TExpr n) (d : Draft) → AreShaped row →
-      Grows d (lengths_of t l quiet row) (λ (given : List Out). length given ≡ length (items-the_row-TExpr n row)) (values_of t l quiet row [] d)
+  pub value : (bits : ℕ) (e : TExpr) (d : Draft) → IsShaped e → Grows d (length_of t l bits e) (Stands (is_kept e)) (value_of t l bits e d)
+  pub operand : (bits : ℕ) (quiet : Bool) (e : TExpr) (d : Draft) → IsShaped e →
+      Grows d (operand_length l bits (length_of t l bits e) quiet e) (Stands (is_kept e)) (operand_by t l bits (value_of t l bits e) quiet e d)
+  pub list : (own quiet : Bool) (n : Count) (row : Row_of-TExpr n) (d : Draft) → AreShaped row →
+      Grows d (lengths_of t l own quiet row) (λ (given : List Out). length given ≡ length (items-the_row-TExpr n row)) (values_of t l own quiet row [] d)
   pub spot : (e : TExpr) (d : Draft) → IsTarget e → Grows d (spot_length_of t l e) (λ (s : Spot). Anything s) (spot_of t l e d)
   pub effect : (e : TExpr) (d : Draft) → IsShaped e → Grows d (effect_length_of t l e) (λ (v : Out). Anything v) (effect_of t l e d)
   pub test : (e : TExpr) (d : Draft) → IsShaped e → Grows d (tested_length t l e) (λ (u : Unit {0}). Anything u) (tested t l e d)
-  pub put_register : (r : ℕ) (e : TExpr) (d : Draft) → IsShaped e → is_kept e ≡ true → Grows d (put_length t l true e) (Stands true) (put_to t l (O.Scalar r) e d)
-  pub put_field : (f : Field) (e : TExpr) (d : Draft) → IsShaped e → HasShape (type_of e) → Grows d (put_length t l false e) (Stands false) (put_to t l (O.Field f) e d)
+  pub put_register : (r : ℕ) (e : TExpr) (d : Draft) → IsShaped e → is_kept e ≡ true → Grows d (put_length t l true 32 e) (Stands true) (put_to t l (O.Scalar r) e d)
+  pub put_field : (f : Field) (e : TExpr) (d : Draft) → IsShaped e → HasShape (type_of e) → Grows d (put_length t l false f.len e) (Stands false) (put_to t l (O.Field f) e d)
 
 abbrev pub ExpressionsAreAsLongAsDescribed : Type 0
 ExpressionsAreAsLongAsDescribed = (t : Typed) (l : Layout) → ExpressionLengths t l
