@@ -22,7 +22,7 @@ use Rattle.lower_expr.specs.declared.spots.Spot.TheVariants as S
 use Rattle.lower_expr.specs.Effects.{computed_to, gone_to}
 use Rattle.lower_expr.specs.Frames.{called}
 use Rattle.lower_expr.specs.Kinds.{bits_of, kind_of, list_bits}
-use Rattle.lower_expr.specs.Lengths.{logical_length, tested_length, length_of, used_length_of, spot_length_of, lengths_of, lengths_in, call_length, located_length, news_length, read_length}
+use Rattle.lower_expr.specs.Lengths.{cast_length, conversion_length, logical_length, tested_length, length_of, truth_length_of, used_length_of, spot_length_of, lengths_of, lengths_in, call_length, located_length, news_length, read_length}
 use Rattle.lower_expr.specs.Positions.{known_position}
 use Rattle.lower_expr.specs.Operands.{is_quiet, are_quiet, all_quiet, operand_by, operand_length}
 use Rattle.lower_expr.specs.Steps.{is_kept, pieces_printed}
@@ -85,6 +85,18 @@ pub length_of_and : (t : Typed) (l : Layout) (bits : ℕ) (ty : ValueType) (left
 unfolding length_of tested_length
 length_of_and t l bits ty left right = refl
 
+pub length_of_parallel_cast : (t : Typed) (l : Layout) (bits : ℕ) (ty : ValueType) (operand : Box TExpr Global) →
+    length_of t l bits (T.ParallelCast ty operand)
+    ≡ cast_length l bits ty.elem operand.value (truth_length_of t l operand.value) (λ own. length_of t l own operand.value)
+unfolding length_of
+length_of_parallel_cast t l bits ty operand = refl
+
+pub length_of_conversion : (t : Typed) (l : Layout) (bits : ℕ) (ty : ValueType) (operand : Box TExpr Global) → is_kept operand.value ≡ false →
+    length_of t l bits (T.Convert ty operand)
+    ≡ cast_length l bits ty.elem operand.value (truth_length_of t l operand.value) (λ own. length_of t l own operand.value)
+unfolding length_of
+length_of_conversion t l bits ty operand kept = ap (λ (b : Bool). if b then length_of t l bits operand.value + conversion_length true ty.elem else cast_length l bits ty.elem operand.value (truth_length_of t l operand.value) (λ own. length_of t l own operand.value)) kept
+
 pub length_of_left_index : (t : Typed) (l : Layout) (bits : ℕ) (ty : ValueType) (place : Place) (indexes : Vec TExpr Global) (x : Variable) (of : ℕ) →
     length_of t l bits (T.LeftIndex ty place indexes x of)
     ≡ (if goes_by_news (T.LeftIndex ty place indexes x of) then news_length bits of ty.elem indexes.items
@@ -107,7 +119,7 @@ length_of_printf t l bits ty pieces arguments =
 pub spot_length_of_left_index : (t : Typed) (l : Layout) (ty : ValueType) (place : Place) (indexes : Vec TExpr Global) (x : Variable) (of : ℕ) →
     spot_length_of t l (T.LeftIndex ty place indexes x of) ≡ located_length t l (T.LeftIndex ty place indexes x of) (lengths_in t l false (all_quiet indexes.items) indexes.items)
 unfolding spot_length_of
-spot_length_of_left_index t l bits ty place indexes x of =
+spot_length_of_left_index t l ty place indexes x of =
     let e = T.LeftIndex ty place indexes x of in
     let row = row_of e in
     ap (λ (m : ℕ). located_length t l e m) (lengths_of_items t l false row.0 row.1 indexes.items (items_hidden-the_row-TExpr-0 indexes))
