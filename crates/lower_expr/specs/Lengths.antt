@@ -212,7 +212,7 @@ tested_by_length truth n e = if has_truth e then truth else n + 1
 unfoldable pub cast_length : Layout → ℕ → Elem → TExpr → ℕ → (ℕ → ℕ) → ℕ
 cast_length l bits elem e truth own =
     if elem.bits == 1 then
-        tested_by_length truth (spread_length (operand_length l (bits_of (kind_of e)) (own (bits_of (kind_of e))) true e) e) e + test_put_length bits
+    tested_by_length truth (spread_length (operand_length l (bits_of (kind_of e)) (own (bits_of (kind_of e))) true e) e) e + test_put_length bits
     else if nat_lt elem.bits bits then spread_length (operand_length l elem.bits (own elem.bits) true e) e + 1
     else spread_length (own bits) e
 

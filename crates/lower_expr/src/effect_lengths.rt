@@ -106,10 +106,7 @@ fn operated_length(
 {
     if scalar {
         let n = used_length(view, 32, true, value)?;
-        plus(
-            plus(n, operate_length(32, op, true))?,
-            settled_length(elem),
-        )
+        plus(plus(n, operate_length(32, op, true))?, settled_length(elem))
     } else {
         let n = used_length(view, elem.bits, true, value)?;
         right_length(elem.bits, n, op, value)

@@ -266,7 +266,11 @@ pub fn reads_signed(op: Op, left: &TExpr, right: &TExpr) -> bool
 pub fn unary_bits(bits: u8, op: UnaryOp, operand: &TExpr) -> u8
     ensures { result ≡ unary_bits bits op operand.now }
 {
-    if negates(op) { test_bits(operand) } else { bits }
+    if negates(op) {
+        test_bits(operand)
+    } else {
+        bits
+    }
 }
 
 /// Whether what is wanted of a converted value is that of the value itself. One that is kept in a

@@ -67,7 +67,10 @@ pub fn length(view: &View, bits: u8, e: &TExpr) -> Result<u32, Memory>
         TExpr::Scan { source, .. } => plus(used_length(view, 32, true, source)?, 1),
         TExpr::Element { array, index, .. } => {
             let elements = view.elements(*array);
-            let located = plus(length(view, 32, index)?, index_check_length(view, elements)?)?;
+            let located = plus(
+                length(view, 32, index)?,
+                index_check_length(view, elements)?,
+            )?;
             plus(located, elements_length(view, elements)?)
         }
         TExpr::Binary {
@@ -313,7 +316,10 @@ fn spot_length(view: &View, e: &TExpr) -> Result<u32, Memory>
         TExpr::Brackets { inner, .. } => spot_length(view, inner),
         TExpr::Element { array, index, .. } => {
             let elements = view.elements(*array);
-            plus(length(view, 32, index)?, index_check_length(view, elements)?)
+            plus(
+                length(view, 32, index)?,
+                index_check_length(view, elements)?,
+            )
         }
         TExpr::LeftIndex { indexes, .. } => located_length(view, indexes.as_slice(), e),
         TExpr::Variable { .. }
@@ -507,7 +513,10 @@ fn news_length(bits: u8, of: u16, elem: Elem, indexes: &[TExpr]) -> Result<u32, 
         moves = plus(moves, news_move(step))?;
         is_checked = is_checked || news_checked(step);
     }
-    plus(moves_length(bits, elem, moves)?, if is_checked { 1 } else { 0 })
+    plus(
+        moves_length(bits, elem, moves)?,
+        if is_checked { 1 } else { 0 },
+    )
 }
 
 /// So many moves, and that of what was got, where the last of them does not go to its destination.

@@ -97,8 +97,8 @@ pub fn own_of(bits: u8, e: &TExpr) -> Option<Own>
         TExpr::Brackets { inner: operand, .. } | TExpr::Promote { operand, .. } => {
             own_of(bits, operand)
         }
-        TExpr::Convert { ty, operand }
-            if is_unchanged(bits, ty.elem, stays_scalar(operand)) => own_of(bits, operand),
+        TExpr::Convert { ty, operand } if is_unchanged(bits, ty.elem, stays_scalar(operand)) =>
+            own_of(bits, operand),
         _ => None,
     }
 }

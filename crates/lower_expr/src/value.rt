@@ -17,8 +17,8 @@ ghost use Rattle.lower_expr.specs.Values.{arm_of, assign_by, binary_of, call_of,
 
 use crate::assign::{Located, fold_into_register, is_send, step_in, update_field, update_register};
 use crate::frames::enter;
-use crate::leaves::{cast_all, coordinate, news_to, next_byte, right_value};
 use crate::kinds::{list_bits, relation_bits, result_bits, test_bits, unary_bits};
+use crate::leaves::{cast_all, coordinate, news_to, next_byte, right_value};
 use crate::length::{arm_length, test_length, test_put_length, used_length};
 use crate::logical::{decide, end_logical, jump_to_end, limit, narrow, turn_over};
 use crate::operands::{are_quiet, held, in_place, is_plus, is_quiet, standing};
@@ -27,8 +27,8 @@ use crate::positions::known_position;
 use crate::spots::{Spot, check_index, load, store};
 use crate::steps::{
     Right, as_field, assign_signed, compare, constant, constant_word, convert, extend, has_truth,
-    immediate, is_relation, operate, operate_right, print_pieces, put_word, set, spread_word, stays_scalar,
-    test_value, unary, word_for,
+    immediate, is_relation, operate, operate_right, print_pieces, put_word, set, spread_word,
+    stays_scalar, test_value, unary, word_for,
 };
 use cstar_base::{Memory, Op};
 use cstar_tree::syntax::StepOp;
@@ -43,13 +43,7 @@ use paris_code::{Field, Instr, Konst, Unit};
 /// So many bits of the value of a parallel expression in a field, of that of a promoted scalar too.
 #[cycle(value)]
 #[tactic(auto, unfolding(crate::specs::Values::spread_of, crate::specs::Values::spread_by, lower_base::specs::Drafts::then_make))]
-pub fn spread(
-    view: &View,
-    bits: u8,
-    e: &TExpr,
-    shape: u16,
-    u: &mut Unit,
-) -> Result<Operand, Memory>
+pub fn spread(view: &View, bits: u8, e: &TExpr, shape: u16, u: &mut Unit) -> Result<Operand, Memory>
     ensures draft { IfOk result (λ v. spread_of view.now.typed.now (layout view.now.names) bits e.now shape (draft u.old) ≡ Makes (out_of v) (draft u.new)) }
 {
     if stays_scalar(e) {
@@ -148,7 +142,9 @@ pub fn value(view: &View, bits: u8, e: &TExpr, u: &mut Unit) -> Result<Out, Memo
         | TExpr::PositionsOf { value, .. }
         | TExpr::RankOf { value, .. }
         | TExpr::DimOf { value, .. } => Ok(Out::Scalar(constant(*value, u)?)),
-        TExpr::Dot { ty, axis } | TExpr::Pcoord { ty, axis } => coordinate(ty.shape, bits, *axis, u),
+        TExpr::Dot { ty, axis } | TExpr::Pcoord { ty, axis } => coordinate(
+            ty.shape, bits, *axis, u,
+        ),
         TExpr::GetChar { .. } => next_byte(u),
         TExpr::Brackets { inner: operand, .. } | TExpr::Promote { operand, .. } => {
             value(view, bits, operand, u)
@@ -184,7 +180,9 @@ pub fn value(view: &View, bits: u8, e: &TExpr, u: &mut Unit) -> Result<Out, Memo
             operate_binary(view, ty.shape, bits, &binary, u)
         }
         TExpr::LogicalOr { ty, left, right } => logical(view, true, ty.shape, bits, left, right, u),
-        TExpr::LogicalAnd { ty, left, right } => logical(view, false, ty.shape, bits, left, right, u),
+        TExpr::LogicalAnd { ty, left, right } => logical(
+            view, false, ty.shape, bits, left, right, u,
+        ),
         TExpr::Choice {
             ty,
             test,
@@ -268,13 +266,7 @@ pub fn value(view: &View, bits: u8, e: &TExpr, u: &mut Unit) -> Result<Out, Memo
 /// are wanted by its bits of that type, which are extended. Else the wanted bits stay as they are.
 #[cycle(value)]
 #[tactic(auto, unfolding(crate::specs::Values::cast_of, crate::specs::Values::cast_from, crate::specs::Values::cast_by, crate::specs::Values::extended, crate::specs::Values::truth_put, crate::specs::Values::spread_of, lower_base::specs::Drafts::then_make))]
-fn cast(
-    view: &View,
-    bits: u8,
-    ty: ValueType,
-    inner: &TExpr,
-    u: &mut Unit,
-) -> Result<Out, Memory>
+fn cast(view: &View, bits: u8, ty: ValueType, inner: &TExpr, u: &mut Unit) -> Result<Out, Memory>
     ensures draft { IfOk result (λ out. cast_of view.now.typed.now (layout view.now.names) bits ty inner.now (draft u.old) ≡ Makes out (draft u.new)) }
 {
     let set = ty.shape.unwrap_or(0);
@@ -668,7 +660,13 @@ fn parallel_choice(
     ensures draft { OnOk result (parallel_choice_of view.now.typed.now (layout view.now.names) bits choice.now.test.now choice.now.then.now choice.now.otherwise.now (out_of dest) (draft u.old) ≡ Makes (out_of dest) (draft u.new)) }
 {
     let saved = flag(u, dest.field()?.set)?;
-    let c = operand(view, test_bits(choice.test), is_quiet(choice.then), choice.test, u)?;
+    let c = operand(
+        view,
+        test_bits(choice.test),
+        is_quiet(choice.then),
+        choice.test,
+        u,
+    )?;
     let condition = limit(saved, c, u)?;
     arm(view, bits, dest, choice.then, u)?;
     turn_over(saved, condition, u)?;
@@ -801,12 +799,7 @@ fn values(
 /// An assignment.
 #[cycle(value)]
 #[tactic(auto, unfolding(crate::specs::Values::assign_by, crate::specs::Values::sent_by, crate::specs::Values::assigned_by, crate::specs::Values::plainly_set_by, crate::specs::Values::set_by, crate::specs::Values::spread_of, crate::specs::Values::lowest, crate::specs::Kinds::assigned_bits, lower_base::specs::Drafts::then_make))]
-fn assign(
-    view: &View,
-    bits: u8,
-    assignment: &Assignment,
-    u: &mut Unit,
-) -> Result<Out, Memory>
+fn assign(view: &View, bits: u8, assignment: &Assignment, u: &mut Unit) -> Result<Out, Memory>
     ensures draft { IfOk result (λ out. assign_by view.now.typed.now (layout view.now.names) assignment.now.whole.now bits assignment.now.op assignment.now.place assignment.now.target.now assignment.now.value.now (spot_of view.now.typed.now (layout view.now.names) assignment.now.target.now) (value_of view.now.typed.now (layout view.now.names) (taken_bits bits assignment.now.op assignment.now.target.now) assignment.now.value.now) (draft u.old) ≡ Makes out (draft u.new)) }
 {
     let (target, right) = (assignment.target, assignment.value);

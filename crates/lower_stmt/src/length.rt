@@ -101,7 +101,10 @@ pub fn statement_length(
         TStmt::Return(None) => plus(saved.in_all, 1),
         TStmt::Return(Some(e)) => {
             let stored = if has_result { 2 } else { 1 };
-            plus(plus(used_length(view, e.ty().elem.bits, true, e)?, saved.in_all)?, stored)
+            plus(
+                plus(used_length(view, e.ty().elem.bits, true, e)?, saved.in_all)?,
+                stored,
+            )
         }
         TStmt::With { body, .. } => statement_length(view, body, has_result, saved),
         TStmt::Everywhere { body, .. } => {
