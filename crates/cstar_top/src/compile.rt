@@ -24,12 +24,21 @@ use paris_asm::is_plain;
 use point_runs::{FILE_LIMIT, FILE_START, NoImage, refused, too_long, verified};
 use shape_types::{TypeFault, check};
 use std::alloc::Global;
+use std::mem::forget;
 
 /// A text that the language accepts: how many tokens it has, and its typed program.
 #[derive(Drop)]
 pub struct TypedText {
     pub tokens: usize,
     pub typed: Typed,
+}
+
+/// A text that the language accepts, with all that was made of it on the way.
+#[derive(Drop)]
+struct ReadText {
+    tokens: Tokens,
+    tree: Tree,
+    typed: Typed,
 }
 
 /// The typed program of a file's text. The first fault is that of the length, then of the words of
@@ -41,29 +50,56 @@ pub fn accepted(alloc: Global, text: &[u8]) -> Result<TypedText, NoImage>
     ensures too_long { FILE_LIMIT < length text.now → result ≡ Err (N.Refused F.TooLong file_start) }
     ensures refused { IfErr result (NamesOnly IsOfText) }
 {
-    if text.len() > FILE_LIMIT as usize {
-        return Err(too_long());
-    }
-    match tokens_of(alloc, text) {
-        Ok(tokens) => accepted_tokens(alloc, &tokens),
+    match read_text(alloc, text) {
+        Ok(ReadText { tokens, typed, .. }) => Ok(TypedText {
+            tokens: tokens.list.len(),
+            typed,
+        }),
         Err(no_image) => Err(no_image),
     }
 }
 
-/// The typed program of a text's tokens.
-fn accepted_tokens(alloc: Global, tokens: &Tokens) -> Result<TypedText, NoImage>
-    requires { vec_len tokens.now.list ≤ FILE_LIMIT }
-    ensures count { IfOk result (λ program. program.tokens ≡ length tokens.now.list.items) }
-    ensures typed { IfOk result (λ program. IsTyped program.typed) }
+/// Whether the language accepts a file's text, or its first fault as `accepted` tells it. It is for
+/// a process that ends behind it: what was made of an accepted text is not given back node by node,
+/// which would take a quarter of the time.
+pub fn checked(alloc: Global, text: &[u8]) -> Result<(), NoImage>
+    ensures within { IfOk result (λ _. length text.now ≤ FILE_LIMIT) }
+    ensures read { IfOk result (λ _. (tokens : List Token) × IsText text.now tokens) }
+    ensures too_long { FILE_LIMIT < length text.now → result ≡ Err (N.Refused F.TooLong file_start) }
     ensures refused { IfErr result (NamesOnly IsOfText) }
 {
-    let tree = match tree_of(alloc, tokens) {
+    match read_text(alloc, text) {
+        Ok(read) => {
+            forget(read);
+            Ok(())
+        }
+        Err(no_image) => Err(no_image),
+    }
+}
+
+/// The tokens, the tree and the typed program of a file's text, or its first fault.
+fn read_text(alloc: Global, text: &[u8]) -> Result<ReadText, NoImage>
+    ensures within { IfOk result (λ read. length text.now ≤ FILE_LIMIT) }
+    ensures read { IfOk result (λ read. IsText text.now read.tokens.list.items) }
+    ensures typed { IfOk result (λ read. IsTyped read.typed) }
+    ensures too_long { FILE_LIMIT < length text.now → result ≡ Err (N.Refused F.TooLong file_start) }
+    ensures refused { IfErr result (NamesOnly IsOfText) }
+{
+    if text.len() > FILE_LIMIT as usize {
+        return Err(too_long());
+    }
+    let tokens = match tokens_of(alloc, text) {
+        Ok(tokens) => tokens,
+        Err(no_image) => return Err(no_image),
+    };
+    let tree = match tree_of(alloc, &tokens) {
         Ok(tree) => tree,
         Err(no_image) => return Err(no_image),
     };
     match typed_of(alloc, &tree) {
-        Ok(typed) => Ok(TypedText {
-            tokens: tokens.list.len(),
+        Ok(typed) => Ok(ReadText {
+            tokens,
+            tree,
             typed,
         }),
         Err(no_image) => Err(no_image),

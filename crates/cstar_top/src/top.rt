@@ -30,7 +30,7 @@ ghost use Rattle.cstar_top.specs.Reports.{CannotFetch, PutsAnswer, PutsPartOfAns
 ghost use Rattle.cstar_top.specs.Saved.{AllStay, CannotKeep, CannotSaveRun, IsSaved, SavesOne};
 
 use crate::answer::Answer;
-use crate::compile::{accepted, compile};
+use crate::compile::{accepted, checked, compile};
 use crate::drill::drill;
 use crate::report::report;
 use crate::run::{list_image, run_image};
@@ -137,8 +137,8 @@ fn compile_text<O: Sink>(alloc: Global, mode: Mode, text: &[u8], out: &mut O) ->
     ensures count { status_of result ≢ 6 → O.faults out.new ≡ O.faults out.old }
 {
     match mode {
-        Mode::Check => match accepted(alloc, text) {
-            Ok(_) => Answer::Done,
+        Mode::Check => match checked(alloc, text) {
+            Ok(()) => Answer::Done,
             Err(no_image) => refusal(no_image),
         },
         Mode::List => match compiled(alloc, text) {

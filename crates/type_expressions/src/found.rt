@@ -122,11 +122,16 @@ impl Found {
     }
 }
 
-/// What an expression with a value comes to. The fault that stands at it is recorded.
+/// What an expression with a value comes to. The fault that stands at it is recorded. The expression
+/// is boxed first, so that a pointer is handed on.
 pub fn outcome(faults: &mut Faults, alloc: Global, typed: Result<TExpr, Untyped>) -> Typing {
+    let typed = match typed {
+        Ok(expr) => Ok(Box::new(alloc, expr)?),
+        Err(untyped) => Err(untyped),
+    };
     Ok(match faults.settle(typed)? {
         Some(expr) => Some(TypedExpr {
-            expr: Box::new(alloc, expr)?,
+            expr,
             has_value: true,
         }),
         None => None,

@@ -20,12 +20,14 @@ use type_scopes::sites::Site;
 /// A typed statement, or nothing where it has a fault.
 pub type TypedStatement = Result<Option<Box<TStmt>>, Memory>;
 
-/// What a statement comes to. The fault that stands at it is recorded.
+/// What a statement comes to. The fault that stands at it is recorded. The statement is boxed first,
+/// so that a pointer is handed on.
 fn outcome(faults: &mut Faults, alloc: Global, typed: Result<TStmt, Untyped>) -> TypedStatement {
-    Ok(match faults.settle(typed)? {
-        Some(s) => Some(Box::new(alloc, s)?),
-        None => None,
-    })
+    let typed = match typed {
+        Ok(s) => Ok(Box::new(alloc, s)?),
+        Err(untyped) => Err(untyped),
+    };
+    faults.settle(typed)
 }
 
 /// Types a block in a scope of its own.
