@@ -156,8 +156,8 @@ appended_word (x ∷ list) n words small (suc k) = appended_word list n (λ i. w
 pub one_more_word : (list new : List ℕ) (n : ℕ) → new ≡ list ++ n ∷ [] → AreWords list → n < 2 ^ 32 → AreWords new
 one_more_word list new n g words small k = rw g (appended_word list n words small k)
 
-pub word_cut : (count : ℕ) (s word front back : List ℕ) → word ≡ front → front ≡ take count s → back ≡ drop count s → s ≡ word ++ back
-word_cut count s word front back e f g = rw (e, f, g) (sym (take-append-drop count s))
+pub word_cut : (count : ℕ) (s front back : List ℕ) → front ≡ take count s → back ≡ drop count s → s ≡ front ++ back
+word_cut count s front back f g = rw (f, g) (sym (take-append-drop count s))
 
-pub word_length : (count : ℕ) (s word front : List ℕ) → word ≡ front → front ≡ take count s → count ≤ length s → length word ≡ count
-word_length count s word front e f within = ap length (e ∙ f) ∙ (length-take count s ∙ omega arith)
+pub word_length : (count : ℕ) (s front : List ℕ) → front ≡ take count s → count ≤ length s → length front ≡ count
+word_length count s front f within = ap length f ∙ (length-take count s ∙ omega arith)

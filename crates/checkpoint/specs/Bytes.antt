@@ -4,6 +4,7 @@ use Rattle.std.specs.Int.{w32, w64, to_le_bytes}
 use Rattle.std.specs.List.{flat_map}
 use Rattle.cstar_base.specs.declared.operators.Winner.{Winner}
 use Rattle.cstar_base.specs.declared.operators.Winner.TheVariants.{High, Low}
+use Rattle.checkpoint.specs.declared.loading.Found.{Found}
 use Rattle.checkpoint.specs.declared.point.Point.{Point}
 
 abbrev pub winner_byte : Winner → ℕ
@@ -76,6 +77,18 @@ pub record LeavesAt (bytes : List ℕ) (at : ℕ) : Type 0 where
   pub within : at ≤ length bytes
   pub before : BeginsPoint (take at bytes)
   pub here : at < length bytes → BeginsPoint (take (at + 1) bytes) → ⊥
+
+-- the point that is found among bytes
+abbrev pub point_in : Found → Point
+point_in found = record {
+  winner = found.winner;
+  ended = found.ended;
+  at = found.at;
+  regs = found.regs;
+  returns = found.returns;
+  listing = found.listing;
+  bits = found.bits.now;
+}
 
 -- what of a point's bytes stands before its numbers, and what behind
 unfoldable pub head_of : Winner → Bool → List ℕ

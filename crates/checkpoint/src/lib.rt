@@ -1,6 +1,7 @@
 //! Saved points: a stopped run as bytes, and back.
 #![tactic(auto)]
 
+mod bits;
 mod determined;
 mod loading;
 mod point;
@@ -8,6 +9,7 @@ mod saving;
 #[cfg(test)]
 mod tests;
 
+pub use bits::Bits;
 pub use determined::bytes_determine_point;
 pub use loading::{LoadFault, load};
 pub use point::Point;

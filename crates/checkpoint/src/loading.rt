@@ -1,12 +1,13 @@
 //! From bytes to the point whose they are.
 
-ghost use Rattle.std.specs.Prelude.{◌≡◌, ◌++◌, ◌<◌, ◌≤◌, ◌^◌, IfErr, IfOk, MatchOption, length, min, ℕ, List, false, slice_index};
+ghost use Rattle.std.specs.Prelude.{◌≡◌, ◌++◌, ◌-◌, ◌<◌, ◌≤◌, ◌^◌, IfErr, IfOk, MatchOption, drop, length, min, ℕ, List, false, slice_index};
 ghost use Rattle.std.specs.List.{flat_map};
-ghost use Rattle.checkpoint.specs.Bytes.{AreWords, HasWords, IsCounted, IsHeld, LeavesAt, Stand, body_of, bytes_of, counted, eight_bytes, four_bytes, may_stand, measured, winner_byte};
+ghost use Rattle.checkpoint.specs.Bytes.{AreWords, HasWords, IsCounted, IsHeld, LeavesAt, Stand, body_of, bytes_of, counted, eight_bytes, four_bytes, may_stand, measured, point_in, winner_byte};
 ghost use Rattle.checkpoint.specs.declared.loading.LoadFault.TheVariants.{Bad};
 ghost use Rattle.checkpoint.specs.declared.loading.Stop.TheVariants.{Short};
 ghost use Rattle.checkpoint.specs.declared.point.Point.{Point};
 
+use crate::bits::Bits;
 use crate::point::Point;
 use crate::saving::MARK;
 use cstar_base::{Numbers, Winner, Word};
@@ -50,12 +51,70 @@ impl<T: Drop> From<AllocFailed<T>> for Stop {
 /// How many bytes stand before the numbers of a point: its mark, and two bytes that are 0 or 1.
 const HEAD: usize = 10;
 
-/// The point whose bytes these are. Where they are no point's, `Bad` has the number of the first byte
-/// with which they begin none, or their count where they end too early.
-pub fn load(alloc: Global, bytes: &[u8]) -> Result<Point, LoadFault>
-    requires { length bytes.now < 2 ^ 32 }
+/// A point as it is found among bytes, which still hold its bits.
+#[derive(Drop)]
+pub struct Found<'a> {
+    pub winner: Winner,
+    pub ended: bool,
+    pub at: u32,
+    pub regs: Numbers,
+    pub returns: Numbers,
+    pub listing: Word,
+    pub bits: &'a [u8],
+}
+
+/// The point whose bytes these are; its bits stay in their memory. Where they are no point's, `Bad`
+/// has the number of the first byte with which they begin none, or their count where they end too
+/// early.
+pub fn load(alloc: Global, bytes: Vec<u8>) -> Result<Point, LoadFault>
+    requires { length bytes.items < 2 ^ 32 }
     ensures held { IfOk result IsHeld }
-    ensures inverse { IfOk result (λ point. bytes_of point ≡ bytes.now) }
+    ensures inverse { IfOk result (λ point. bytes_of point ≡ bytes.items) }
+    ensures bad { IfErr result (λ fault. (at : ℕ) → fault ≡ Bad at → LeavesAt bytes.items at) }
+{
+    match find(alloc, bytes.as_slice()) {
+        Ok(
+            Found {
+                winner,
+                ended,
+                at,
+                regs,
+                returns,
+                listing,
+                bits,
+            },
+        ) => {
+            let count = bits.len();
+            Ok(Point {
+                winner,
+                ended,
+                at,
+                regs,
+                returns,
+                listing,
+                bits: Bits::of(last(bytes, count)),
+            })
+        }
+        Err(fault) => Err(fault),
+    }
+}
+
+/// The last bytes, so many, in the memory that held all.
+fn last(mut bytes: Vec<u8>, count: usize) -> Vec<u8>
+    requires { count ≤ length bytes.items }
+    ensures { result.items ≡ drop (length bytes.items - count) bytes.items }
+{
+    let before = bytes.len() - count;
+    bytes.rotate_left(before);
+    bytes.truncate(count);
+    bytes
+}
+
+/// The point whose bytes these are, or why they are no point's.
+fn find(alloc: Global, bytes: &[u8]) -> Result<Found, LoadFault>
+    requires { length bytes.now < 2 ^ 32 }
+    ensures held { IfOk result (λ found. IsHeld (point_in found)) }
+    ensures inverse { IfOk result (λ found. bytes_of (point_in found) ≡ bytes.now) }
     ensures bad { IfErr result (λ fault. (at : ℕ) → fault ≡ Bad at → LeavesAt bytes.now at) }
 {
     if let Some(at) = first_wrong(bytes) {
@@ -67,9 +126,9 @@ pub fn load(alloc: Global, bytes: &[u8]) -> Result<Point, LoadFault>
         });
     }
     match point_of(alloc, winner_of(bytes[8]), bytes[9] == 1, &bytes[HEAD..]) {
-        Ok((point, rest)) => {
+        Ok((found, rest)) => {
             if rest.is_empty() {
-                Ok(point)
+                Ok(found)
             } else {
                 Err(LoadFault::Bad {
                     at: (bytes.len() - rest.len()) as u32,
@@ -121,12 +180,12 @@ fn point_of(
     winner: Winner,
     ended: bool,
     bytes: &[u8],
-) -> Result<(Point, &[u8]), Stop>
-    ensures point { IfOk result (λ read. IsCounted read.0) }
-    ensures words { IfOk result (λ read. HasWords read.0) }
+) -> Result<(Found, &[u8]), Stop>
+    ensures point { IfOk result (λ read. IsCounted (point_in read.0)) }
+    ensures words { IfOk result (λ read. HasWords (point_in read.0)) }
     ensures winner { IfOk result (λ read. read.0.winner ≡ winner) }
     ensures ended { IfOk result (λ read. read.0.ended ≡ ended) }
-    ensures read { IfOk result (λ read. bytes.now ≡ body_of read.0 ++ read.1.now) }
+    ensures read { IfOk result (λ read. bytes.now ≡ body_of (point_in read.0) ++ read.1.now) }
     ensures short { IfErr result (λ stop. stop ≡ Short → (point : Point) (rest : List ℕ) → IsCounted point
         → bytes.now ≡ body_of point ++ rest → ⊥) }
 {
@@ -134,8 +193,8 @@ fn point_of(
     let (regs, rest) = numbers_of(alloc, rest)?;
     let (returns, rest) = numbers_of(alloc, rest)?;
     let (listing, rest) = word_of(alloc, rest)?;
-    let (bits, rest) = word_of(alloc, rest)?;
-    let point = Point {
+    let (bits, rest) = measured_of(rest)?;
+    let found = Found {
         winner,
         ended,
         at,
@@ -144,7 +203,7 @@ fn point_of(
         listing,
         bits,
     };
-    Ok((point, rest))
+    Ok((found, rest))
 }
 
 /// The list of numbers that these bytes begin with, behind its count, and the bytes behind.
@@ -165,10 +224,21 @@ fn numbers_of(alloc: Global, bytes: &[u8]) -> Result<(Numbers, &[u8]), Stop>
     Ok((Numbers::of(list), rest))
 }
 
-/// The bytes that these begin with, behind their length, and the bytes behind.
+/// A copy of the bytes that these begin with, behind their length, and the bytes behind.
 fn word_of(alloc: Global, bytes: &[u8]) -> Result<(Word, &[u8]), Stop>
     ensures length { IfOk result (λ read. length read.0 < 2 ^ 64) }
     ensures read { IfOk result (λ read. bytes.now ≡ measured read.0 ++ read.1.now) }
+    ensures short { IfErr result (λ stop. stop ≡ Short → (word rest : List ℕ) → length word < 2 ^ 64
+        → bytes.now ≡ measured word ++ rest → ⊥) }
+{
+    let (word, rest) = measured_of(bytes)?;
+    Ok((Word::of(Vec::from_slice(alloc, word)?), rest))
+}
+
+/// The bytes that these begin with, behind their length, and the bytes behind.
+fn measured_of(bytes: &[u8]) -> Result<(&[u8], &[u8]), Stop>
+    ensures length { IfOk result (λ read. length read.0.now < 2 ^ 64) }
+    ensures read { IfOk result (λ read. bytes.now ≡ measured read.0.now ++ read.1.now) }
     ensures short { IfErr result (λ stop. stop ≡ Short → (word rest : List ℕ) → length word < 2 ^ 64
         → bytes.now ≡ measured word ++ rest → ⊥) }
 {
@@ -176,8 +246,7 @@ fn word_of(alloc: Global, bytes: &[u8]) -> Result<(Word, &[u8]), Stop>
     if (rest.len() as u64) < count {
         return Err(Stop::Short);
     }
-    let (word, rest) = rest.split_at(count as usize);
-    Ok((Word::of(Vec::from_slice(alloc, word)?), rest))
+    Ok(rest.split_at(count as usize))
 }
 
 /// The number of 32 bits that these bytes begin with, and the bytes behind.

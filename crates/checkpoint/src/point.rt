@@ -1,3 +1,4 @@
+use crate::bits::Bits;
 use cstar_base::{Numbers, Winner, Word};
 
 /// A run that was stopped: what it needs to run on.
@@ -16,5 +17,5 @@ pub struct Point {
     /// The listing of the image that runs.
     pub listing: Word,
     /// The bits of the sets, one set behind the other, eight to a byte.
-    pub bits: Word,
+    pub bits: Bits,
 }

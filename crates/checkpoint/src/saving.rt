@@ -10,14 +10,26 @@ use std::alloc::Global;
 /// What the bytes of every point begin with.
 pub const MARK: &[u8; 8] = b"PARISCP1";
 
-/// The bytes of a point.
+/// The bytes of a point. Its bits stay in their memory: what stands before them is put there.
+pub fn save(alloc: Global, point: Point) -> Result<Vec<u8>, Memory>
+    requires regs { length point.regs < 2 ^ 32 }
+    requires returns { length point.returns < 2 ^ 32 }
+    ensures { IfOk result (λ bytes. bytes.items ≡ bytes_of point) }
+{
+    let front = front(alloc, &point)?;
+    let mut bytes = point.bits.into_bytes();
+    put_before(front.as_slice(), &mut bytes)?;
+    Ok(bytes)
+}
+
+/// What stands before the bits of a point.
 #[tactic(auto, using(crate::proofs::Lists::all_parts))]
-pub fn save(alloc: Global, point: &Point) -> Result<Vec<u8>, Memory>
+fn front(alloc: Global, point: &Point) -> Result<Vec<u8>, Memory>
     requires regs { length point.now.regs < 2 ^ 32 }
     requires returns { length point.now.returns < 2 ^ 32 }
-    ensures { IfOk result (λ bytes. bytes.items ≡ bytes_of point.now) }
+    ensures { IfOk result (λ front. front.items ++ point.now.bits ≡ bytes_of point.now) }
 {
-    let mut bytes = Vec::with_capacity(alloc, size(point))?;
+    let mut bytes = Vec::new(alloc);
     bytes.extend_from_slice(MARK)?;
     bytes.push(winner_byte(point.winner))?;
     bytes.push(flag_byte(point.ended))?;
@@ -25,26 +37,18 @@ pub fn save(alloc: Global, point: &Point) -> Result<Vec<u8>, Memory>
     push_numbers(&mut bytes, &point.regs)?;
     push_numbers(&mut bytes, &point.returns)?;
     push_word(&mut bytes, &point.listing)?;
-    push_word(&mut bytes, &point.bits)?;
+    push_length(&mut bytes, point.bits.bytes())?;
     Ok(bytes)
 }
 
-/// How many bytes a point takes, so that the room for them is taken at once.
-fn size(point: &Point) -> usize {
-    let numbers = point
-        .regs
-        .list()
-        .len()
-        .saturating_add(point.returns.list().len());
-    let bytes = point
-        .listing
-        .bytes()
-        .len()
-        .saturating_add(point.bits.bytes().len());
-    numbers
-        .saturating_mul(4)
-        .saturating_add(bytes)
-        .saturating_add(38)
+/// Puts bytes before others, in the memory of these.
+fn put_before(front: &[u8], bytes: &mut Vec<u8>) -> Result<(), Memory>
+    ensures { OnOk result (bytes.new.items ≡ front.now ++ bytes.old.items) }
+{
+    bytes.reserve_exact(front.len())?;
+    bytes.extend_from_slice(front)?;
+    bytes.rotate_right(front.len());
+    Ok(())
 }
 
 fn winner_byte(winner: Winner) -> u8
@@ -86,12 +90,20 @@ fn push_numbers(bytes: &mut Vec<u8>, numbers: &Numbers) -> Result<(), Memory>
 }
 
 /// Bytes behind their length.
-#[tactic(auto, unfolding(crate::specs::Bytes::measured, crate::specs::Bytes::eight_bytes))]
+#[tactic(auto, unfolding(crate::specs::Bytes::measured))]
 fn push_word(bytes: &mut Vec<u8>, word: &Word) -> Result<(), Memory>
     ensures { OnOk result (bytes.new.items ≡ bytes.old.items ++ measured word.now) }
 {
-    let list = word.bytes();
+    push_length(bytes, word.bytes())?;
+    bytes.extend_from_slice(word.bytes())?;
+    Ok(())
+}
+
+/// The length of bytes, a number of 64 bits.
+#[tactic(auto, unfolding(crate::specs::Bytes::eight_bytes))]
+fn push_length(bytes: &mut Vec<u8>, list: &[u8]) -> Result<(), Memory>
+    ensures { OnOk result (bytes.new.items ≡ bytes.old.items ++ eight_bytes (length list.now)) }
+{
     bytes.extend_from_slice(&(list.len() as u64).to_le_bytes())?;
-    bytes.extend_from_slice(list)?;
     Ok(())
 }

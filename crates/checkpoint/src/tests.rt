@@ -16,7 +16,7 @@ fn point(alloc: Global) -> Result<Point, Fail> {
         regs: Numbers::of(vec![in alloc; 0x0102_0304]?),
         returns: Numbers::of(vec![in alloc; 9]?),
         listing: Word::of(vec![in alloc; b'x']?),
-        bits: Word::of(vec![in alloc; 255, 1]?),
+        bits: Bits::of(vec![in alloc; 255, 1]?),
     })
 }
 
@@ -25,7 +25,8 @@ fn left_at(alloc: Global, bytes: &[u8]) -> Option<u32> {
     if bytes.len() > 100 {
         return None;
     }
-    match load(alloc, bytes) {
+    let copy = bytes.to_vec(alloc).ok()?;
+    match load(alloc, copy) {
         Err(LoadFault::Bad { at }) => Some(at),
         Ok(_) | Err(LoadFault::Memory) => None,
     }
@@ -36,14 +37,14 @@ fn saves(rt: HostRuntime) -> Result<(), Fail> {
     let point = point(rt.alloc())?;
     assert_eq!(rt; point.regs.list().len(), 1);
     assert_eq!(rt; point.returns.list().len(), 1);
-    let saved = save(rt.alloc(), &point)?;
+    let saved = save(rt.alloc(), point)?;
     assert_eq!(rt; saved.as_slice(), BYTES.as_slice());
     Ok(())
 }
 
 #[test]
 fn loads(rt: HostRuntime) -> Result<(), Fail> {
-    let Ok(loaded) = load(rt.alloc(), &BYTES) else {
+    let Ok(loaded) = load(rt.alloc(), BYTES.to_vec(rt.alloc())?) else {
         return Err("these bytes are a point's".into());
     };
     assert_eq!(rt; loaded.winner, Winner::Low);

@@ -25,8 +25,8 @@ ghost use Rattle.point_runs.specs.Starts.{CanStart, memory_from, origin_of};
 
 use crate::answer::Answer;
 use crate::saved::keep_point;
-use checkpoint::Point;
-use cstar_base::{Memory, RunFault, Winner, Word};
+use checkpoint::{Bits, Point};
+use cstar_base::{Memory, RunFault, Winner};
 use cstar_io::{Failed, Gate, Shelf, ShelfErr, Sink, Source};
 use cstar_words::Options;
 use final_values::put_finals;
@@ -86,7 +86,7 @@ pub fn run_image<R: Threads + Sync, S: Shelf, I: Source, O: Sink, G: Gate + Sync
     let Some(name) = options.save else {
         return answer;
     };
-    match keep_point(alloc, name, &point, shelf) {
+    match keep_point(alloc, name, point, shelf) {
         Ok(()) => answer,
         Err(ShelfErr::Failed) => Answer::CannotSave,
         Err(ShelfErr::Memory) => Answer::Memory,
@@ -149,7 +149,7 @@ fn run_on_phases<R: Threads + Sync, I: Source, O: Sink, G: Gate + Sync>(
 }
 
 /// Puts the bits of a point back to new phases, and lets them go.
-fn put_bits<P: Phases>(sound: &Sound, bits: Option<Word>, phases: &mut P)
+fn put_bits<P: Phases>(sound: &Sound, bits: Option<Bits>, phases: &mut P)
     requires shapes { P.shapes phases.old ≡ shapes_of sound.now }
     requires settled { P.settled phases.old }
     requires fresh { SameBits (shapes_of sound.now) (P.memory phases.old) (fresh_memory (shapes_of sound.now)) }

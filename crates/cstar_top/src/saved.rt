@@ -14,11 +14,11 @@ use std::alloc::Global;
 pub fn keep_point<S: Shelf>(
     alloc: Global,
     name: &str,
-    point: &Point,
+    point: Point,
     shelf: &mut S,
 ) -> Result<(), ShelfErr>
-    requires { IsHeld point.now }
-    ensures kept { OnOk result (IsTrue (S.tells shelf.old) → S.file shelf.new name.now ≡ Some (bytes_of point.now)) }
+    requires { IsHeld point }
+    ensures kept { OnOk result (IsTrue (S.tells shelf.old) → S.file shelf.new name.now ≡ Some (bytes_of point)) }
     ensures others { OthersStay S.file shelf.old shelf.new name.now }
     ensures failed { IsTrue (has_failed result) → CannotKeep S.faults S.last_failed shelf.old shelf.new name.now }
     ensures other { has_failed result ≡ false → S.faults shelf.new ≡ S.faults shelf.old }

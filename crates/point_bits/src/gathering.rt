@@ -5,7 +5,7 @@ ghost use Rattle.paris_code.specs.Shapes.{shapes_of};
 ghost use Rattle.point_bits.specs.Strings.{IsString, IsStringOf, bits_bytes, set_bytes, set_size, total_size};
 
 use crate::strings::{SetString, string_of};
-use cstar_base::{Memory, Word};
+use cstar_base::Memory;
 use image_check::Sound;
 use phase_gate::Phases;
 use std::alloc::Global;
@@ -22,14 +22,14 @@ pub(crate) fn total_size(sound: &Sound) -> usize
 }
 
 /// The bits of all sets of an image, set behind set. The room for them is taken at once.
-pub fn gather<P: Phases>(alloc: Global, sound: &Sound, phases: &P) -> Result<Word, Memory>
+pub fn gather<P: Phases>(alloc: Global, sound: &Sound, phases: &P) -> Result<Vec<u8>, Memory>
     requires shapes { P.shapes phases.now ≡ shapes_of sound.now }
     requires settled { P.settled phases.now }
-    ensures { IfOk result (λ bytes. bytes ≡ bits_bytes (shapes_of sound.now) (P.memory phases.now)) }
+    ensures { IfOk result (λ bytes. bytes.items ≡ bits_bytes (shapes_of sound.now) (P.memory phases.now)) }
 {
     let mut bytes = vec![in alloc; 0; total_size(sound)]?;
     put_sets(sound, phases, bytes.as_mut_slice());
-    Ok(Word::of(bytes))
+    Ok(bytes)
 }
 
 /// Makes zeros the bytes of all sets.

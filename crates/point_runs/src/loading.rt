@@ -33,7 +33,7 @@ pub fn resumed(alloc: Global, text: Vec<u8>) -> Result<Start, NoImage>
     }
 }
 
-/// The point whose bytes these are. The bytes are let go.
+/// The point whose bytes these are; its bits stay in their memory.
 fn loaded(alloc: Global, text: Vec<u8>) -> Result<Point, NoImage>
     ensures point { IfOk result (IsPointOf text.items) }
     ensures too_long { POINT_LIMIT < length text.items → result ≡ Err (N.Refused F.TooLong file_start) }
@@ -42,7 +42,7 @@ fn loaded(alloc: Global, text: Vec<u8>) -> Result<Point, NoImage>
     if text.len() > POINT_LIMIT as usize {
         return Err(too_long());
     }
-    match load(alloc, text.as_slice()) {
+    match load(alloc, text) {
         Ok(point) => Ok(point),
         Err(LoadFault::Bad { at }) => {
             let place = Place {

@@ -8,7 +8,7 @@ ghost use Rattle.paris_code.specs.Shapes.{shapes_of};
 ghost use Rattle.point_runs.specs.Points.{point_with};
 
 use crate::text_sink::TextSink;
-use checkpoint::Point;
+use checkpoint::{Bits, Point};
 use cstar_base::{Memory, Winner, Word};
 use front_end::Kept;
 use image_check::Sound;
@@ -37,7 +37,7 @@ pub fn point_of<P: Phases>(
     let _depth = depth(image);
     are_words(kept.regs.list());
     are_words(kept.returns.list());
-    let bits = gather(alloc, sound, phases)?;
+    let bits = Bits::of(gather(alloc, sound, phases)?);
     let listing = listing_of(alloc, sound)?;
     Ok(Point {
         winner,

@@ -4,7 +4,8 @@ ghost use Rattle.std.specs.Prelude.{◌≡◌, IfOk};
 ghost use Rattle.paris_code.specs.Sound.{IsSound};
 ghost use Rattle.point_runs.specs.Starts.{CanStart, new_start, origin_of};
 
-use cstar_base::{Memory, Winner, Word};
+use checkpoint::Bits;
+use cstar_base::{Memory, Winner};
 use front_end::Kept;
 use image_check::Sound;
 use std::alloc::Global;
@@ -19,7 +20,7 @@ pub struct Start {
     /// Which sender of a colliding send without a combiner wins.
     pub winner: Winner,
     /// The bits of the sets, as a point has them; none are those of new phases.
-    pub bits: Option<Word>,
+    pub bits: Option<Bits>,
 }
 
 impl Start {

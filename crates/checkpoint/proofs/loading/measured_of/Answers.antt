@@ -1,7 +1,6 @@
-use Rattle.std.proofs.Common.{◌≡◌, ◌∙◌}
 use Rattle.std.proofs.lemmas.Result.{err_from_is_err_and}
 use Rattle.checkpoint.proofs.Reading.{no_length, word_short, word_cut, word_length, word_read}
-use Rattle.checkpoint.proofs.loading.word_of.Goals as goal
+use Rattle.checkpoint.proofs.loading.measured_of.Goals as goal
 
 pub returns-in_err-count-clause-short : goal.returns-in_err-count-clause-short
 returns-in_err-count-clause-short c =
@@ -14,7 +13,6 @@ returns-then-rest-count-clause-short c is word rest few e =
 
 pub returns-clause-read : goal.returns-clause-read
 returns-clause-read c =
-    let word : c.of.result ≡ c.split_at.result.0.now = c.of.ensures ∙ c.in_ok-from_slice.ensures.items in
     word_read _ _ _ _ _ c.in_ok-count.ensures.read
-    (word_cut c.in_ok-count.count _ _ _ _ word c.split_at.ensures.front c.split_at.ensures.back)
-    (word_length c.in_ok-count.count _ _ _ word c.split_at.ensures.front c.if-rest-count.false)
+    (word_cut c.in_ok-count.count _ _ _ c.split_at.ensures.front c.split_at.ensures.back)
+    (word_length c.in_ok-count.count _ _ c.split_at.ensures.front c.if-rest-count.false)
