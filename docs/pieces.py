@@ -13,7 +13,7 @@ import sys
 import tempfile
 
 HERE = pathlib.Path(__file__).resolve().parent
-PAGES = ["language.md", "tutorial.md", "pictures.md", "fixed-point.md", "porting.md", "usage.md", "../README.md"]
+PAGES = ["language.md", "tutorial.md", "pictures.md", "fixed-point.md", "porting.md", "usage.md", "performance.md", "../README.md"]
 MANUAL = "cstar.1"
 EXAMPLES = HERE.parent / "examples"
 FINAL = re.compile(r"\w+(\[\d+\])?:( -?\d+)+")
