@@ -9,7 +9,6 @@ use Rattle.paris_code.specs.declared.operands.Field.{Field}
 use Rattle.paris_code.specs.Memory.{BitMemory, SameBits, processors, run_number}
 use Rattle.paris_code.specs.Shapes.{SetShape, bits_at, extents_at}
 use Rattle.paris_code.specs.Writes.{covers, written}
-use Rattle.phase_gate.specs.Blocks.{at_block}
 use Rattle.point_bits.specs.declared.strings.SetString.{SetString}
 use Rattle.point_bits.specs.Strings.{IsStringOf, RunPut, bit_count, byte_bit, set_bytes, set_size, string_at, string_bit, string_byte, width_of}
 use Rattle.point_bits.proofs.Copies.{Copied, Moved, copied_all}
@@ -34,56 +33,13 @@ behind_kept positions width run block words old new wide put n behind =
     ∙ put.outside (n / width) (n % width) (mod_below n width wide) (inr (inl (le-div positions n width wide behind)))
     ∙ ap (byte_bit old) whole
 
-and_false : (t : Bool) → (t && false) ≡ false
-and_false true = refl
-and_false false = refl
-
--- a run is put into the memory
-module _ (shapes : List SetShape) (run : Field) (block : ℕ) (words : List ℕ) (old new : BitMemory) (step : SameBits shapes new (written (at_block run block words) old)) (exists : run.set < length shapes) where
-  pub written_moved : (source : ℕ → ℕ → ℕ) → ((p j : ℕ) → p / 512 ≡ block → p < processors shapes run.set → j < run.len → bit_at (get_or words (p % 512) 0) j ≡ source p (run.offset + j))
-      → run.offset + run.len ≤ bits_at shapes run.set + 2 → Moved (processors shapes run.set) (bits_at shapes run.set + 2) run.offset run.len block source (old.bit run.set) (new.bit run.set)
-  unfolding written covers
-  written_moved source hold fits = record {
-    inside = λ p i here within l h.
-        let value : ℕ = bit_at (get_or words (p % 512) 0) (i - run.offset) in
-        let was : ℕ = old.bit run.set p i in
-        step.bits run.set p i exists within (omega arith)
-        ∙ ap (λ t. cond ((t && (leb run.offset i && ltb i (run.offset + run.len))) && eqb (p / 512) block) value was) (eq-eqb run.set run.set refl)
-        ∙ ap (λ t. cond ((t && ltb i (run.offset + run.len)) && eqb (p / 512) block) value was) (le-leb run.offset i l)
-        ∙ ap (λ t. cond (t && eqb (p / 512) block) value was) (lt-ltb i (run.offset + run.len) h)
-        ∙ ap (λ t. cond t value was) (eq-eqb (p / 512) block here)
-        ∙ hold p (i - run.offset) here within (omega arith) ∙ ap (source p) (let e : run.offset + (i - run.offset) ≡ i = omega arith in e);
-    outside = λ p i within b apart.
-        let value : ℕ = bit_at (get_or words (p % 512) 0) (i - run.offset) in
-        let was : ℕ = old.bit run.set p i in
-        let own : Bool = eqb run.set run.set && (leb run.offset i && ltb i (run.offset + run.len)) in
-        step.bits run.set p i exists within b ∙ elim apart [
-          | inl away ↦ ap (λ t. cond (own && t) value was) (ne_eqb (p / 512) block away) ∙ ap (λ t. cond t value was) (and_false own)
-          | inr out ↦ elim out [
-            | inl l ↦
-                ap (λ t. cond ((eqb run.set run.set && (t && ltb i (run.offset + run.len))) && eqb (p / 512) block) value was) (lt-leb run.offset i l)
-                ∙ ap (λ t. cond (t && eqb (p / 512) block) value was) (and_false (eqb run.set run.set))
-            | inr g ↦
-                ap (λ t. cond ((eqb run.set run.set && (leb run.offset i && t)) && eqb (p / 512) block) value was) (le-ltb i (run.offset + run.len) g)
-                ∙ ap (λ t. cond ((eqb run.set run.set && t) && eqb (p / 512) block) value was) (and_false (leb run.offset i))
-                ∙ ap (λ t. cond (t && eqb (p / 512) block) value was) (and_false (eqb run.set run.set))
-          ]
-        ];
-  }
-
-  pub others_kept : (set p i : ℕ) → set ≢ run.set → set < length shapes → p < processors shapes set → i < bits_at shapes set + 2 → new.bit set p i ≡ old.bit set p i
-  unfolding written covers
-  others_kept set p i other there within b =
-      step.bits set p i there within b
-      ∙ ap (λ t. cond ((t && (leb run.offset i && ltb i (run.offset + run.len))) && eqb (p / 512) block) (bit_at (get_or words (p % 512) 0) (i - run.offset)) (old.bit set p i)) (ne_eqb set run.set other)
-
 -- a bit that is 0 or 1 is whether it is 1
-bit_again : (x : ℕ) → x < 2 → from_bool (eqb x 1) ≡ x
+pub bit_again : (x : ℕ) → x < 2 → from_bool (eqb x 1) ≡ x
 bit_again zero h = refl
 bit_again (suc zero) h = refl
 bit_again (suc (suc x)) h = absurd (omega arith)
 
-byte_bit_small : (bytes : List ℕ) (n : ℕ) → byte_bit bytes n < 2
+pub byte_bit_small : (bytes : List ℕ) (n : ℕ) → byte_bit bytes n < 2
 unfolding byte_bit
 byte_bit_small bytes n = omega arith
 
