@@ -28,19 +28,6 @@ run_more positions width block index len end source old new far before step = re
   ];
 }
 
-pub block_more : (positions width block index : ℕ) (source copy : ℕ → ℕ → ℕ) → width ≤ index → Copied positions width block index source copy → Copied positions width (block + 1) 0 source copy
-block_more positions width block index source copy all before = record {
-  blocks = λ p i b w h. elim (cases_eq (p / 512) block) [
-    | inl e ↦ before.here p i b w e (omega arith)
-    | inr n ↦ before.blocks p i b w (omega arith)
-  ];
-  here = λ p i b w e h. absurd (omega arith);
-}
-
-pub copied_all : (positions width block index : ℕ) (source copy : ℕ → ℕ → ℕ) → positions ≤ 512 * block → Copied positions width block index source copy
-    → (p i : ℕ) → p < positions → i < width → copy p i ≡ source p i
-copied_all positions width block index source copy all before p i b w = before.blocks p i b w (omega arith)
-
 -- the same by equal numbers
 pub moved_as : (positions width offset positions' width' offset' len block : ℕ) (source old new : ℕ → ℕ → ℕ) → positions ≡ positions' → width ≡ width' → offset ≡ offset' → Moved positions width offset len block source old new
     → Moved positions' width' offset' len block source old new

@@ -1,7 +1,6 @@
 -- The bytes of a block's positions among those of their set.
-use Rattle.std.proofs.Common.{◌≡◌, ℕ, ◌+◌, ◌-◌, ◌*◌, ◌/◌, ◌%◌, ◌^◌, ◌<◌, ◌≤◌, min, List, [], ◌++◌, cond, eqb, length, get_or, map, take, drop, refl, sym, ◌∙◌, ap, inl, inr, arith}
+use Rattle.std.proofs.Common.{◌≡◌, ℕ, ◌+◌, ◌-◌, ◌*◌, ◌/◌, ◌%◌, ◌<◌, ◌≤◌, min, List, [], ◌++◌, cond, eqb, length, get_or, take, drop, sym, ◌∙◌, ap, inl, inr, arith}
 use Rattle.std.specs.Int.{bit_at, from_bool}
-use Rattle.std.specs.List.{range_with_len}
 use Rattle.std.proofs.Math.ListN.{length-drop, length-take}
 use Rattle.std.proofs.Math.Seq.{drop-drop, get_or-drop, get_or-take}
 use Rattle.std.proofs.lemmas.Bool.{cases_lt, lt-ltb, le-ltb}
@@ -12,16 +11,16 @@ use Rattle.std.proofs.lemmas.Nat.{div-add-mod', div-mul-add, mod-mul-add, mod_be
 use Rattle.bit_planes.specs.declared.plane.Plane.{Plane}
 use Rattle.bit_planes.specs.Bits.{bit}
 use Rattle.bit_planes.specs.Planes.{plane_at}
-use Rattle.paris_code.specs.Memory.{BitMemory, run_number}
+use Rattle.paris_code.specs.Memory.{BitMemory}
 use Rattle.paris_code.specs.Shapes.{SetShape}
 use Rattle.phase_meaning.proofs.RunBits.{run_number_is}
 use Rattle.point_bits.specs.declared.strings.SetString.{SetString}
-use Rattle.point_bits.specs.Strings.{IsPart, IsStringOf, bit_count, byte_bit, set_bytes, set_size, string_at, string_bit, string_byte, width_of}
+use Rattle.point_bits.specs.Strings.{IsPart, IsStringOf, bit_count, byte_bit, set_bytes, set_size, string_bit, string_byte, width_of}
 use Rattle.point_bits.proofs.Sizes.{count_is, size_is}
 use Rattle.point_bits.proofs.Steps.{bit_again, byte_bit_small}
 
 -- the bit of a position in its block and in its set
-in_set : (k p i w : ℕ) → 8 * (k * (64 * w)) + (p * w + i) ≡ (512 * k + p) * w + i
+pub in_set : (k p i w : ℕ) → 8 * (k * (64 * w)) + (p * w + i) ≡ (512 * k + p) * w + i
 in_set k p i w = omega arith
 
 module _ (shapes : List SetShape) (m : BitMemory) (s part : SetString) (k : ℕ) (planes : List Plane) (bytes : List ℕ) (is : IsStringOf shapes s) (wide : 0 < s.width) (exists : 512 * k < s.positions)

@@ -1,5 +1,6 @@
 pub mod Copies
 pub mod Cuts
+pub mod Fillings
 pub mod Packed
 pub mod Runs
 pub mod Shapes

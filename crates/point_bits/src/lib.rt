@@ -9,4 +9,4 @@ mod putting_back;
 mod strings;
 
 pub use gathering::gather;
-pub use putting_back::are_bits;
+pub use putting_back::{are_bits, restored};

@@ -1,11 +1,12 @@
-//! The bits of a block as bytes of their own.
+//! The bits of a block as bytes of their own, and a block from these.
 
 ghost use Rattle.std.specs.Prelude.{◌≡◌, ℕ, ◌+◌, ◌*◌, ◌/◌, ◌≤◌, IfOk, length, slice_index};
-ghost use Rattle.point_bits.specs.Strings.{IsPart, IsString};
+ghost use Rattle.point_bits.specs.Strings.{IsBlockOf, IsPart, IsString};
 
 use crate::strings::SetString;
 use bit_planes::Block;
-use block_store::words_of;
+use bit_planes::plane::first_lanes;
+use block_store::{put_words, words_of};
 use cstar_base::Memory;
 use std::alloc::Global;
 
@@ -35,4 +36,21 @@ fn put_block(string: SetString, block: &Block, bytes: &mut [u8])
         let words = words_of(block, run.offset, run.len);
         string.put(run, 0, &words, bytes);
     }
+}
+
+/// The block whose positions have these bits; a lane behind the last one has 0 everywhere.
+pub(crate) fn block_of(alloc: Global, string: SetString, bytes: &[u8]) -> Result<Block, Memory>
+    requires string { IsString string }
+    requires few { string.positions ≤ 512 }
+    requires bytes { string.positions * string.width ≤ 8 * length bytes.now }
+    ensures { IfOk result (λ block. IsBlockOf string bytes.now block.planes.items) }
+{
+    let mut block = Block::new(alloc, string.width)?;
+    let lanes = first_lanes(string.positions);
+    'runs: for number in 0..string.runs() {
+        let run = string.run(number);
+        let words = string.numbers(run, 0, bytes);
+        put_words(&mut block, run.offset, run.len, lanes, &words);
+    }
+    Ok(block)
 }

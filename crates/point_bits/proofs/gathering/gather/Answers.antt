@@ -1,9 +1,8 @@
-use Rattle.std.proofs.Common.{◌≡◌, [], ℕ, ◌+◌, ◌-◌, ◌*◌, ◌/◌, ◌<◌, ◌≤◌, ◌++◌, List, length, map, ap, sym, subst, ◌∙◌, arith}
+use Rattle.std.proofs.Common.{◌≡◌, [], ℕ, ◌+◌, ◌-◌, ◌/◌, ◌++◌, List, length, map, ap, sym, subst, ◌∙◌, arith}
 use Rattle.std.specs.List.{concat, range_with_len}
 use Rattle.std.specs.Prelude.{reverse}
 use Rattle.std.proofs.lemmas.List.{length-append}
 use Rattle.bit_planes.specs.declared.block.Block.{Block}
-use Rattle.block_store.specs.declared.set.BlockSet.{BlockSet}
 use Rattle.block_store.specs.Planes.{HasPlanes, block_bit}
 use Rattle.block_store.specs.Stored.{blocks_at, blocks_in, stored}
 use Rattle.paris_code.specs.Shapes.{bits_at, extents_at, shapes_of}

@@ -1,4 +1,4 @@
-use Rattle.std.proofs.Common.{◌≡◌, ℕ, ◌+◌, ◌*◌, ◌<◌, ◌≤◌, ◌++◌, List, length, take, drop}
+use Rattle.std.proofs.Common.{◌≡◌, ℕ, ◌*◌, ◌<◌, ◌++◌, List, length, take, drop}
 use Rattle.std.specs.Prelude.{reverse}
 use Rattle.block_store.specs.Planes.{block_bit}
 use Rattle.paris_code.specs.Memory.{BitMemory}
