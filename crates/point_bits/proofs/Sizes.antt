@@ -1,23 +1,19 @@
 -- How many bytes sets take, and where those of each stand.
-use Rattle.std.proofs.Common.{◌≡◌, ℕ, zero, suc, ◌+◌, ◌-◌, ◌*◌, ◌/◌, ◌%◌, ◌^◌, ◌<◌, ◌≤◌, List, [], ◌∷◌, ◌++◌, length, map, get_or, take, drop, true, false, Bool, nat_eq, inl, inr, refl, sym, ◌∙◌, ap, append-nil, length-append, arith}
+use Rattle.std.proofs.Common.{◌≡◌, ℕ, zero, suc, ◌+◌, ◌-◌, ◌*◌, ◌/◌, ◌%◌, ◌^◌, ◌<◌, ◌≤◌, List, length, map, get_or, take, drop, true, false, Bool, nat_eq, inl, inr, refl, sym, ◌∙◌, ap, arith}
 use Rattle.std.specs.Int.{bit_at}
-use Rattle.std.specs.List.{concat, range_with_len}
+use Rattle.std.specs.List.{range_with_len}
 use Rattle.std.specs.Prelude.{MatchBool, sum}
 use Rattle.std.proofs.Math.ListN.{length-take, length-drop}
-use Rattle.std.proofs.Math.Seq.{drop-drop, get_or-append_right, get_or-drop, get_or-take, take-append_seam, take-append-add}
+use Rattle.std.proofs.Math.Seq.{drop-drop, get_or-drop, get_or-take}
 use Rattle.std.proofs.lemmas.Bool.{cases_lt, eqb-true, eqb-false}
-use Rattle.std.proofs.lemmas.List.{get_or_past, length-map}
-use Rattle.std.proofs.lemmas.List.Folds.{concat-append}
-use Rattle.std.proofs.lemmas.List.FromFn.{fill_by_all, length-range_with_len, map-range_with_len_more}
+use Rattle.std.proofs.lemmas.List.FromFn.{map-range_with_len_more}
 use Rattle.std.proofs.lemmas.List.Sums.{sum_by_push}
 use Rattle.std.proofs.lemmas.Nat.{div_below, mul-le, pow_pos}
 use Rattle.std.proofs.lemmas.Nat.Bits.{bit_at-zero, bit_at_above, same_from_bits_below}
 use Rattle.cstar_base.proofs.BitCuts.{bit_at-shr}
-use Rattle.paris_code.specs.Memory.{BitMemory, run_number}
 use Rattle.paris_code.specs.Shapes.{SetShape}
-use Rattle.phase_meaning.proofs.RunBits.{run_number_is}
 use Rattle.point_bits.specs.declared.strings.SetString.{SetString}
-use Rattle.point_bits.specs.Strings.{IsString, IsStringOf, bit_count, byte_bit, set_bytes, set_size, start_of, string_byte}
+use Rattle.point_bits.specs.Strings.{IsString, IsStringOf, bit_count, byte_bit, set_size, start_of}
 
 -- the bits and the bytes of a set
 pub count_is : (shapes : List SetShape) (s : SetString) → IsStringOf shapes s → bit_count shapes s.set ≡ s.positions * s.width

@@ -1,15 +1,10 @@
 -- Runs of a block that are moved between the memory and the string of a set.
-use Rattle.std.proofs.Common.{◌≡◌, ℕ, zero, suc, ◌+◌, ◌-◌, ◌*◌, ◌/◌, ◌%◌, ◌<◌, ◌≤◌, cond, eqb, List, length, get_or, refl, sym, ◌∙◌, ap, inl, inr, arith}
+use Rattle.std.proofs.Common.{◌≡◌, ℕ, zero, suc, ◌+◌, ◌-◌, ◌*◌, ◌/◌, ◌%◌, ◌<◌, ◌≤◌, eqb, List, get_or, refl, sym, ◌∙◌, ap, inl, inr, arith}
 use Rattle.std.specs.Int.{bit_at, from_bool}
-use Rattle.std.proofs.lemmas.Bool.{cases_lt, lt-ltb, le-ltb}
-use Rattle.std.proofs.lemmas.Nat.{div-add-mod', le-div, mod_below, div_below}
+use Rattle.std.proofs.lemmas.Nat.{div-add-mod', le-div, mod_below}
 use Rattle.paris_code.specs.declared.operands.Field.{Field}
-use Rattle.paris_code.specs.Memory.{BitMemory}
-use Rattle.paris_code.specs.Shapes.{SetShape}
-use Rattle.point_bits.specs.declared.strings.SetString.{SetString}
-use Rattle.point_bits.specs.Strings.{IsStringOf, RunPut, bit_count, byte_bit, set_bytes, set_size, string_at, string_bit, string_byte, width_of}
-use Rattle.point_bits.proofs.Copies.{Copied, Moved, copied_all}
-use Rattle.point_bits.proofs.Sizes.{bytes_by_bits, count_is}
+use Rattle.point_bits.specs.Strings.{RunPut, byte_bit, string_at}
+use Rattle.point_bits.proofs.Copies.{Moved}
 
 -- a run is put into a string
 pub put_moved : (positions width : ℕ) (run : Field) (block : ℕ) (words old new : List ℕ) (source : ℕ → ℕ → ℕ) → RunPut positions width run block words old new
