@@ -1,6 +1,6 @@
 //! From bytes to the bits of the sets.
 
-ghost use Rattle.std.specs.Prelude.{◌≡◌, ℕ, ◌*◌, ◌+◌, ◌-◌, ◌/◌, ◌<◌, ◌≤◌, IfOk, MatchBool, OnOk, drop, length, take};
+ghost use Rattle.std.specs.Prelude.{◌≡◌, ℕ, ◌*◌, ◌+◌, ◌/◌, ◌<◌, ◌≤◌, IfOk, MatchBool, OnOk, drop, length, reverse, take};
 ghost use Rattle.block_store.specs.Stored.{AreWhole, stored};
 ghost use Rattle.cstar_base.specs.declared.operators.Winner.{Winner};
 ghost use Rattle.paris_code.specs.Memory.{SameBits};
@@ -47,41 +47,48 @@ fn is_filled(string: SetString, bytes: &[u8]) -> bool
     used == 0 || bytes[bytes.len() - 1] >> used == 0
 }
 
-/// The sets whose bytes these are. Their bytes are let go as the blocks come to be, from the last one
-/// on, so that the system has the memory of the ones back while the others become more.
+/// The sets whose bytes these are. Their bytes are turned and let go from the end on as the blocks come
+/// to be, so that the system has the memory of the ones back while the others become more.
 pub fn restored(alloc: Global, sound: &Sound, mut bytes: Vec<u8>) -> Result<Vec<BlockSet>, Memory>
     requires { AreBits (shapes_of sound.now) bytes.items }
     ensures whole { IfOk result (λ sets. AreWhole (shapes_of sound.now) sets.items) }
     ensures memory { IfOk result (λ sets. (w : Winner) → SameBits (shapes_of sound.now) (stored sets.items w) (restored (shapes_of sound.now) bytes.items w)) }
 {
-    let mut left = sound.image().shapes.len();
-    let mut sets = Vec::with_capacity(alloc, left)?;
-    'each: while left > 0 {
-        left -= 1;
-        sets.push(set_of(alloc, string_of(sound, left as u16), &mut bytes)?)?;
+    bytes.reverse();
+    let mut sets = Vec::new(alloc);
+    'each: for set in 0..sound.image().shapes.len() {
+        sets.push(set_of(alloc, string_of(sound, set as u16), &mut bytes)?)?;
     }
-    sets.reverse();
     Ok(sets)
 }
 
-/// The set whose bytes are the last of these, which are let go.
-fn set_of(alloc: Global, string: SetString, bytes: &mut Vec<u8>) -> Result<BlockSet, Memory>
+/// The set whose bytes are the last of these, the last byte first. They are let go.
+fn set_of(alloc: Global, string: SetString, backward: &mut Vec<u8>) -> Result<BlockSet, Memory>
     requires string { IsString string }
-    requires long { (string.positions * string.width + 7) / 8 ≤ length bytes.old.items }
-    ensures rest { OnOk result (bytes.new.items ≡ take (length bytes.old.items - (string.positions * string.width + 7) / 8) bytes.old.items) }
-    ensures set { IfOk result (λ set. IsSetOf string (drop (length bytes.old.items - (string.positions * string.width + 7) / 8) bytes.old.items) set.blocks.items) }
+    requires long { (string.positions * string.width + 7) / 8 ≤ length backward.old.items }
+    ensures rest { OnOk result (reverse backward.new.items ≡ drop ((string.positions * string.width + 7) / 8) (reverse backward.old.items)) }
+    ensures set { IfOk result (λ set. IsSetOf string (reverse backward.old.items) set.blocks.items) }
 {
-    let start = bytes.len() - string.size();
-    let mut left = string.blocks();
-    let mut blocks = Vec::with_capacity(alloc, left as usize)?;
-    'each: while left > 0 {
-        left -= 1;
-        let at = start + string.before(left);
-        let (_, own) = bytes.split_at(at);
-        blocks.push(block_of(alloc, string.part(left), own)?)?;
-        bytes.truncate(at);
-        bytes.shrink_to_fit();
+    let mut blocks = Vec::with_capacity(alloc, string.blocks() as usize)?;
+    'each: for block in 0..string.blocks() {
+        let part = string.part(block);
+        let own = taken(alloc, part.size(), backward)?;
+        blocks.push(block_of(alloc, part, own.as_slice())?)?;
     }
-    blocks.reverse();
     Ok(BlockSet { blocks })
+}
+
+/// The last bytes, so many, turned. They are let go.
+fn taken(alloc: Global, count: usize, backward: &mut Vec<u8>) -> Result<Vec<u8>, Memory>
+    requires { count ≤ length backward.old.items }
+    ensures own { IfOk result (λ own. own.items ≡ take count (reverse backward.old.items)) }
+    ensures rest { OnOk result (reverse backward.new.items ≡ drop count (reverse backward.old.items)) }
+{
+    let from = backward.len() - count;
+    let (_, last) = backward.split_at(from);
+    let mut own = Vec::from_slice(alloc, last)?;
+    own.reverse();
+    backward.truncate(from);
+    backward.shrink_to_fit();
+    Ok(own)
 }

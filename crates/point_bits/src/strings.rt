@@ -54,15 +54,6 @@ impl SetString {
         }
     }
 
-    /// How many bytes the blocks before one take.
-    pub(crate) fn before(self, block: u32) -> usize
-        requires string { IsString self }
-        requires block { 512 * block < self.positions }
-        ensures { result ≡ block * (64 * self.width) }
-    {
-        (u64::from(block) * (64 * u64::from(self.width))) as usize
-    }
-
     pub(crate) fn blocks(self) -> u32
         ensures { result ≡ (self.positions + 511) / 512 }
     {

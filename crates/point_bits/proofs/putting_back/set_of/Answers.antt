@@ -1,83 +1,75 @@
-use Rattle.std.proofs.Common.{◌≡◌, ℕ, ◌+◌, ◌-◌, ◌*◌, ◌/◌, ◌<◌, List, [], ◌∷◌, min, refl, length, take, drop, ap, sym, subst, ◌∙◌, arith}
-use Rattle.std.proofs.lemmas.List.{length-append, take_all}
+use Rattle.std.proofs.Common.{◌≡◌, ℕ, ◌+◌, ◌*◌, ◌/◌, ◌<◌, ◌≤◌, List, [], ◌∷◌, length, take, drop, ap, sym, subst, ◌∙◌, arith}
+use Rattle.std.specs.Prelude.{reverse}
+use Rattle.std.proofs.lemmas.List.{length-append, length-reverse, length-take}
 use Rattle.bit_planes.specs.declared.block.Block.{Block}
 use Rattle.block_store.specs.Planes.{planes_at, planes_in}
-use Rattle.point_bits.specs.Strings.{IsSetOf}
-use Rattle.point_bits.proofs.Fillings.{IsBlockFor, all_blocks, at_within, block_for, block_more, end_last, end_of, left_more, part_long}
+use Rattle.point_bits.proofs.Fillings.{IsBlockFor, all_blocks, block_for, block_more, end_last, part_within, rest_of}
 use Rattle.point_bits.proofs.putting_back.set_of.Goals as goal
 
-pub each-init : goal.each-init
-each-init c =
+pub taken-requires : goal.taken-requires
+taken-requires c =
     let s = c.args.string in
-    let all = c.args.bytes.now.items in
-    let last : end_of s c.blocks-left.result ≡ (s.positions * s.width + 7) / 8 = end_last s c.blocks-left.result (omega (arith, c.blocks-left.ensures)) in
-    record {
-      start = omega (arith, c.len.ensures, c.size.ensures, c.args.bytes.now.ok.0);
-      count = omega (arith, ap length c.in_ok-blocks.ensures.items, c.blocks-left.ensures);
-      rest = sym (take_all (c.len.result - c.size.result + end_of s c.blocks-left.result) all (omega (arith, last, c.len.ensures, c.size.ensures, c.args.bytes.now.ok.0)));
-      each = λ j h. absurd (omega (arith, h, ap length c.in_ok-blocks.ensures.items));
-    }
-
-pub split_at-requires : goal.split_at-requires
-split_at-requires c =
-    let s = c.args.string in
-    let all = c.args.bytes.now.items in
-    let k : ℕ = c.each.left - 1 in
-    let start : ℕ = c.len.result - c.size.result in
-    let fits : start + (s.positions * s.width + 7) / 8 ≡ length all = omega (arith, c.len.ensures, c.size.ensures, c.args.bytes.now.ok.0, c.requires.long) in
-    let next : c.each.left ≡ k + 1 = omega (arith, c.each-test.true) in
-    let exists : 512 * k < s.positions = omega (arith, next, c.each.invariant.count) in
-    let is : c.each.bytes.items ≡ take (start + end_of s (k + 1)) all = c.each.invariant.rest ∙ ap (λ n. take (start + end_of s n) all) next in
-    omega (
-      arith,
-      at_within s (record { set = s.set; positions = min (s.positions - 512 * k) 512; width = s.width }) k start all c.each.bytes.items exists refl refl fits is,
-      c.before-in-each.ensures,
-      ap length c.deref.ensures.value,
-    )
+    let all = reverse c.args.backward.now.items in
+    let k : ℕ = c.each.block in
+    let part = c.part-part.result in
+    let left = reverse c.each.backward.items in
+    let few = c.part-part.ensures.positions in
+    let width = c.part-part.ensures.width in
+    let long : (s.positions * s.width + 7) / 8 ≤ length all = omega (arith, c.requires.long, length-reverse c.args.backward.now.items) in
+    let exists : 512 * k < s.positions = omega (arith, c.each-test.true, c.each.auto.block-end, c.blocks-block-end.ensures) in
+    let size : c.size.result ≡ (part.positions * s.width + 7) / 8 = c.size.ensures ∙ ap (λ w. (part.positions * w + 7) / 8) width in
+    omega (arith, size, part_within s part k all left exists few width long c.each.invariant.rest, length-reverse c.each.backward.items)
 
 pub block_of-requires-clause-bytes : goal.block_of-requires-clause-bytes
 block_of-requires-clause-bytes c =
     let s = c.args.string in
-    let all = c.args.bytes.now.items in
-    let k : ℕ = c.each.left - 1 in
-    let start : ℕ = c.len.result - c.size.result in
-    let fits : start + (s.positions * s.width + 7) / 8 ≡ length all = omega (arith, c.len.ensures, c.size.ensures, c.args.bytes.now.ok.0, c.requires.long) in
-    let next : c.each.left ≡ k + 1 = omega (arith, c.each-test.true) in
-    let exists : 512 * k < s.positions = omega (arith, next, c.each.invariant.count) in
-    let is : c.each.bytes.items ≡ take (start + end_of s (k + 1)) all = c.each.invariant.rest ∙ ap (λ n. take (start + end_of s n) all) next in
-    let back : c.split_at.result.1.now ≡ drop (start + k * (64 * s.width)) c.each.bytes.items = c.split_at.ensures.back ∙ ap (λ n. drop (start + n) c.deref.result.now) c.before-in-each.ensures ∙ ap (drop (start + k * (64 * s.width))) c.deref.ensures.value in
-    part_long s c.part.result k start all c.each.bytes.items exists c.part.ensures.positions c.part.ensures.width fits is c.split_at.result.1.now back
+    let all = reverse c.args.backward.now.items in
+    let k : ℕ = c.each.block in
+    let part = c.part-part.result in
+    let left = reverse c.each.backward.items in
+    let few = c.part-part.ensures.positions in
+    let width = c.part-part.ensures.width in
+    let long : (s.positions * s.width + 7) / 8 ≤ length all = omega (arith, c.requires.long, length-reverse c.args.backward.now.items) in
+    let exists : 512 * k < s.positions = omega (arith, c.each-test.true, c.each.auto.block-end, c.blocks-block-end.ensures) in
+    let size : c.size.result ≡ (part.positions * s.width + 7) / 8 = c.size.ensures ∙ ap (λ w. (part.positions * w + 7) / 8) width in
+    omega (
+      arith,
+      size,
+      part_within s part k all left exists few width long c.each.invariant.rest,
+      ap length (c.as_slice.ensures.value ∙ c.in_ok-own.ensures.own),
+      length-take c.size.result left,
+      ap (λ w. part.positions * w) width,
+    )
 
 pub each-preserved : goal.each-preserved
 each-preserved c =
     let s = c.args.string in
-    let all = c.args.bytes.now.items in
-    let k : ℕ = c.each.left - 1 in
-    let start : ℕ = c.len.result - c.size.result in
-    let fits : start + (s.positions * s.width + 7) / 8 ≡ length all = omega (arith, c.len.ensures, c.size.ensures, c.args.bytes.now.ok.0, c.requires.long) in
-    let next : c.each.left ≡ k + 1 = omega (arith, c.each-test.true) in
-    let exists : 512 * k < s.positions = omega (arith, next, c.each.invariant.count) in
-    let is : c.each.bytes.items ≡ take (start + end_of s (k + 1)) all = c.each.invariant.rest ∙ ap (λ n. take (start + end_of s n) all) next in
-    let back : c.split_at.result.1.now ≡ drop (start + k * (64 * s.width)) c.each.bytes.items = c.split_at.ensures.back ∙ ap (λ n. drop (start + n) c.deref.result.now) c.before-in-each.ensures ∙ ap (drop (start + k * (64 * s.width))) c.deref.ensures.value in
+    let all = reverse c.args.backward.now.items in
+    let k : ℕ = c.each.block in
+    let part = c.part-part.result in
+    let left = reverse c.each.backward.items in
+    let few = c.part-part.ensures.positions in
+    let width = c.part-part.ensures.width in
+    let long : (s.positions * s.width + 7) / 8 ≤ length all = omega (arith, c.requires.long, length-reverse c.args.backward.now.items) in
+    let exists : 512 * k < s.positions = omega (arith, c.each-test.true, c.each.auto.block-end, c.blocks-block-end.ensures) in
+    let size : c.size.result ≡ (part.positions * s.width + 7) / 8 = c.size.ensures ∙ ap (λ w. (part.positions * w + 7) / 8) width in
     let block = c.in_ok-block_of.field-0 in
     let items = c.in_ok-push.ensures.items in
     record {
-      start = c.each.invariant.start;
-      count = omega (arith, ap length items, length-append c.each.blocks.items (block ∷ []), c.each.invariant.count, next);
-      rest = c.shrink_to_fit.ensures.items ∙ c.truncate.ensures.items ∙ ap (λ n. take (start + n) c.each.bytes.items) c.before-in-each.ensures
-          ∙ left_more s c.part.result k start all c.each.bytes.items exists c.part.ensures.positions c.part.ensures.width fits is;
+      count = omega (arith, ap length items, length-append c.each.blocks.items (block ∷ []), c.each.invariant.count);
+      rest = rest_of s part k all left exists few width long c.each.invariant.rest (reverse c.taken.new.backward.items) (c.in_ok-own.ensures.rest ∙ ap (λ n. drop n left) size);
       each = λ j h.
-          let new : IsBlockFor s (drop start all) k (planes_in block) =
-          block_for s c.part.result k start all c.each.bytes.items exists c.part.ensures.positions c.part.ensures.width fits is c.split_at.result.1.now (planes_in block) back c.in_ok-block_of.ensures in
-          subst (λ (bs : List Block). IsBlockFor s (drop start all) ((s.positions + 511) / 512 - 1 - j) (planes_at bs j)) (sym items)
-          (block_more s (drop start all) ((s.positions + 511) / 512) k c.each.blocks.items block (omega (arith, c.each.invariant.count, next)) c.each.invariant.each new j (omega (arith, h, ap length items)));
+          let new : IsBlockFor s all k (planes_in block) =
+          block_for s part k all left exists few width long c.each.invariant.rest c.as_slice.result.now (planes_in block) (c.as_slice.ensures.value ∙ c.in_ok-own.ensures.own ∙ ap (λ n. take n left) size) c.in_ok-block_of.ensures in
+          subst (λ (bs : List Block). IsBlockFor s all j (planes_at bs j)) (sym items)
+          (block_more s all c.each.blocks.items block c.each.invariant.each (subst (λ n. IsBlockFor s all n (planes_in block)) (sym c.each.invariant.count) new) j (omega (arith, h, ap length items)));
     }
+
+pub returns-clause-rest : goal.returns-clause-rest
+returns-clause-rest c =
+    let s = c.args.string in
+    c.each.invariant.rest ∙ ap (λ n. drop n (reverse c.args.backward.now.items)) (end_last s c.each.block (omega (arith, c.each-test.false, c.blocks-block-end.ensures)))
 
 pub returns-clause-set : goal.returns-clause-set
 returns-clause-set c =
-    let s = c.args.string in
-    let all = c.args.bytes.now.items in
-    let total : ℕ = (s.positions + 511) / 512 in
-    let none : c.each.left ≡ 0 = omega (arith, c.each-test.false) in
-    subst (λ n. IsSetOf s (drop n all) c.reverse.new.self.items) c.each.invariant.start
-    (all_blocks s (drop (c.len.result - c.size.result) all) total c.each.blocks.items c.reverse.new.self.items refl (omega (arith, c.each.invariant.count, none)) c.reverse.ensures.items c.each.invariant.each)
+    all_blocks c.args.string (reverse c.args.backward.now.items) c.each.blocks.items (omega (arith, c.each.invariant.count, c.each-test.false, c.each.auto.block-end, c.blocks-block-end.ensures)) c.each.invariant.each
