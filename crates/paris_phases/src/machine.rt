@@ -8,8 +8,8 @@ ghost use Rattle.paris_code.specs.Memory.{SameBits, fresh_memory};
 ghost use Rattle.paris_code.specs.Shapes.{shape_of, shapes_of};
 ghost use Rattle.paris_code.specs.Sound.{IsShape};
 
-use block_store::{BlockSet, Cell, Room, SetPlan, Store};
 use bit_planes::Plane;
+use block_store::{BlockSet, Cell, Room, SetPlan, Store};
 use cstar_base::Memory;
 use image_check::Sound;
 use instruction_runs::Batch;
@@ -113,7 +113,11 @@ impl Machine {
     }
 
     /// The machine of an image whose sets these are, on which no instruction waits.
-    pub(crate) fn with_sets(alloc: Global, sound: &Sound, sets: Vec<BlockSet>) -> Result<Machine, Memory>
+    pub(crate) fn with_sets(
+        alloc: Global,
+        sound: &Sound,
+        sets: Vec<BlockSet>,
+    ) -> Result<Machine, Memory>
         requires { AreWhole (shapes_of sound.now) sets.items }
         ensures settled { IfOk result (λ machine. machine.batch.deferred.items ≡ []) }
         ensures ready { IfOk result (λ machine. AreReady (shapes_in machine.store) machine.batch.set machine.batch.deferred.items) }
