@@ -1,6 +1,7 @@
 //! A run of an image, and the listing, the final values and the count that go with it.
 
 ghost use Rattle.std.specs.Prelude.{◌≡◌, ◌≢◌, ◌⊎◌, ℕ, ◌++◌, ◌||◌, IfSome, is_some, true, false, codes, decimal};
+ghost use Rattle.block_store.specs.Stored.{AreWhole, stored};
 ghost use Rattle.checkpoint.specs.Bytes.{IsHeld};
 ghost use Rattle.cstar_base.specs.declared.operators.Winner.{Winner};
 ghost use Rattle.cstar_io.specs.Faults.{RisesBy};
@@ -25,7 +26,8 @@ ghost use Rattle.point_runs.specs.Starts.{CanStart, memory_from, origin_of};
 
 use crate::answer::Answer;
 use crate::saved::keep_point;
-use checkpoint::{Bits, Point};
+use block_store::BlockSet;
+use checkpoint::Point;
 use cstar_base::{Memory, RunFault, Winner};
 use cstar_io::{Failed, Gate, Shelf, ShelfErr, Sink, Source};
 use cstar_words::Options;
@@ -38,7 +40,7 @@ use paris_machine::{End, Outcome, resume};
 use paris_phases::{Crew, ForkPhases, Machine};
 use paris_text::print;
 use phase_gate::Phases;
-use point_bits::put_back;
+use point_bits::restored;
 use point_runs::{Start, point_of};
 use std::alloc::Global;
 use std::thread::Threads;
@@ -128,106 +130,81 @@ fn run_on_phases<R: Threads + Sync, I: Source, O: Sink, G: Gate + Sync>(
         winner,
         bits,
     } = start;
-    let mut phases = match ForkPhases::new(alloc, &sound, phase, settle) {
+    let made = match bits {
+        Some(bits) => match restored(alloc, &sound, bits.into_bytes()) {
+            Ok(sets) => ForkPhases::with_sets(alloc, &sound, sets, phase, settle),
+            Err(Memory) => Err(Memory),
+        },
+        None => ForkPhases::new(alloc, &sound, phase, settle),
+    };
+    let mut phases = match made {
         Ok(phases) => phases,
-        Err(_) => {
+        Err(Memory) => {
             return Ran {
                 answer: Answer::Memory,
                 point: None,
             };
         }
     };
-    put_bits(&sound, bits, &mut phases);
     phases.choose(winner);
-    let code = Start {
-        sound,
-        kept,
-        winner,
-        bits: None,
-    };
-    run_on(alloc, code, options, &mut phases, input, out)
+    let (answer, kept) = run_on(alloc, &sound, kept, options, &mut phases, input, out);
+    with_point(alloc, &sound, kept, winner, options, phases.into_sets(), answer)
 }
 
-/// Puts the bits of a point back to new phases, and lets them go.
-fn put_bits<P: Phases>(sound: &Sound, bits: Option<Bits>, phases: &mut P)
-    requires shapes { P.shapes phases.old ≡ shapes_of sound.now }
-    requires settled { P.settled phases.old }
-    requires fresh { SameBits (shapes_of sound.now) (P.memory phases.old) (fresh_memory (shapes_of sound.now)) }
-    requires bits { IfSome bits (AreBits (shapes_of sound.now)) }
-    ensures able { P.able phases.old → P.able phases.new }
-    ensures settled { P.settled phases.new }
-    ensures shapes { P.shapes phases.new ≡ shapes_of sound.now }
-    ensures memory { (winner : Winner) → SameBits (shapes_of sound.now) (record { bit = (P.memory phases.new).bit; winner = winner }) (memory_from (shapes_of sound.now) winner bits) }
-{
-    if let Some(bits) = bits {
-        put_back(sound, bits.bytes(), phases);
-    }
-}
-
-/// The same on phases that hold the bits with which the run begins.
+/// The same on phases that hold the bits with which the run begins: the answer, and the state in which
+/// the scalar code stopped.
 fn run_on<P: Phases, I: Source, O: Sink>(
     alloc: Global,
-    start: Start,
+    sound: &Sound,
+    kept: Kept,
     options: &Options,
     phases: &mut P,
     input: &mut I,
     out: &mut O,
-) -> Ran
-    requires fits { KeptFits start.sound start.kept }
-    requires shapes { P.shapes phases.old ≡ shapes_of start.sound }
+) -> (Answer, Kept)
+    requires fits { KeptFits sound.now kept }
+    requires shapes { P.shapes phases.old ≡ shapes_of sound.now }
     requires able { P.able phases.old }
-    requires winner { (P.memory phases.old).winner ≡ start.winner }
-    ensures end { IsEndOfRun options.now.turns result.answer }
-    ensures own { status_of result.answer ≢ 9 }
-    ensures write_fault { status_of result.answer ≡ 6 → RisesBy (O.faults out.old) (O.faults out.new) }
-    ensures input_fault { status_of result.answer ≡ 7 → RisesBy (I.faults input.old) (I.faults input.new) }
-    ensures count { status_of result.answer ≢ 6 → O.faults out.new ≡ O.faults out.old }
-    ensures input_count { status_of result.answer ≢ 6 → status_of result.answer ≢ 7 → I.faults input.new ≡ I.faults input.old }
-    ensures report { status_of result.answer ≢ 6 → status_of result.answer ≢ 8 → Reports O.agrees out.old out.new (I.left input.old) (I.left input.new) options.now
-        (record { image = start.sound; kept = start.kept; memory = P.memory phases.old }) result.answer
-        (ComesWith (is_some options.now.save) (record { image = start.sound; kept = start.kept; memory = P.memory phases.old }) result.point) }
+    ensures end { IsEndOfRun options.now.turns result.0 }
+    ensures own { status_of result.0 ≢ 9 }
+    ensures write_fault { status_of result.0 ≡ 6 → RisesBy (O.faults out.old) (O.faults out.new) }
+    ensures input_fault { status_of result.0 ≡ 7 → RisesBy (I.faults input.old) (I.faults input.new) }
+    ensures count { status_of result.0 ≢ 6 → O.faults out.new ≡ O.faults out.old }
+    ensures input_count { status_of result.0 ≢ 6 → status_of result.0 ≢ 7 → I.faults input.new ≡ I.faults input.old }
+    ensures report { status_of result.0 ≢ 6 → status_of result.0 ≢ 8 → Reports O.agrees out.old out.new (I.left input.old) (I.left input.new) options.now
+        (record { image = sound.now; kept = kept; memory = P.memory phases.old }) result.0
+        (λ course. (course.stopped ≡ result.1) × (course.memory ≡ P.memory phases.new)) }
     ensures part { ReportsPart O.agrees out.old out.new (I.left input.old) (I.left input.new) options.now
-        (record { image = start.sound; kept = start.kept; memory = P.memory phases.old }) }
-    ensures saved { IfSome result.point (λ point. IsHeld point × (status_of result.answer ≡ 4)) }
+        (record { image = sound.now; kept = kept; memory = P.memory phases.old }) }
+    ensures fits { status_of result.0 ≢ 6 → KeptFits sound.now result.1 }
+    ensures settled { status_of result.0 ≢ 6 → P.settled phases.new }
+    ensures shapes { P.shapes phases.new ≡ P.shapes phases.old }
 {
-    let Start {
-        sound,
-        kept,
-        winner,
-        ..
-    } = start;
-    match put_listing(&sound, options, out) {
+    match put_listing(sound, options, out) {
         Ok(()) => {}
-        Err(_) => {
-            return Ran {
-                answer: Answer::WriteFault,
-                point: None,
-            };
-        }
+        Err(_) => return (Answer::WriteFault, kept),
     }
-    let (outcome, kept) = resume(alloc, &sound, kept, options.turns, phases, input, out);
+    let (outcome, kept) = resume(alloc, sound, kept, options.turns, phases, input, out);
     phases.settle();
-    let answer = finish(&sound, options, outcome, phases, out);
-    with_point(alloc, &sound, kept, winner, options, phases, answer)
+    (finish(sound, options, outcome, phases, out), kept)
 }
 
 /// The answer of a run, with the point at which it stopped, where it did and is to be saved; want of
 /// memory where there is none for that.
-fn with_point<P: Phases>(
+fn with_point(
     alloc: Global,
     sound: &Sound,
     kept: Kept,
     winner: Winner,
     options: &Options,
-    phases: &P,
+    sets: Vec<BlockSet>,
     answer: Answer,
 ) -> Ran
     requires fits { KeptFits sound.now kept }
-    requires shapes { P.shapes phases.now ≡ shapes_of sound.now }
-    requires settled { P.settled phases.now }
+    requires sets { AreWhole (shapes_of sound.now) sets.items }
     ensures own { (result.answer ≡ answer) ⊎ ((status_of answer ≡ 4) × (result.answer ≡ A.Memory)) }
     ensures point { IfSome result.point (λ point. IsHeld point × (status_of answer ≡ 4) × (result.answer ≡ answer)
-        × (point ≡ point_with sound.now kept winner (P.memory phases.now))) }
+        × ((w : Winner) → point ≡ point_with sound.now kept winner (stored sets.items w))) }
     ensures none { result.answer ≡ answer → status_of answer ≡ 4 → is_some options.now.save ≡ true → is_some result.point ≡ true }
 {
     if answer.status() != STOPPED || options.save.is_none() {
@@ -236,7 +213,7 @@ fn with_point<P: Phases>(
             point: None,
         };
     }
-    match point_of(alloc, sound, kept, winner, phases) {
+    match point_of(alloc, sound, kept, winner, sets) {
         Ok(point) => Ran {
             answer,
             point: Some(point),

@@ -1,5 +1,5 @@
 -- A run of all positions of a block.
-use Rattle.std.proofs.Common.{◌≡◌, ◌≢◌, ℕ, ◌+◌, ◌-◌, ◌*◌, ◌/◌, ◌%◌, ◌^◌, ◌<◌, ◌≤◌, Bool, false, ◌&&◌, cond, eqb, ltb, List, length, get_or, refl, sym, ◌∙◌, ap, subst, inl, inr, arith}
+use Rattle.std.proofs.Common.{◌≡◌, ◌≢◌, ℕ, ◌+◌, ◌-◌, ◌*◌, ◌/◌, ◌%◌, ◌^◌, ◌<◌, Bool, false, ◌&&◌, cond, eqb, ltb, List, length, get_or, refl, sym, ◌∙◌, ap, subst, inl, inr, arith}
 use Rattle.std.specs.Int.{bit_at}
 use Rattle.std.proofs.Math.Nat.{mod-eq_of_lt}
 use Rattle.std.proofs.lemmas.Nat.{mod_below, pow_pos}
@@ -12,7 +12,7 @@ use Rattle.block_store.specs.Phases.{LanesWritten, WrittenInBlock}
 use Rattle.block_store.specs.Planes.{planes_in}
 use Rattle.block_store.proofs.AllBlocks.{in_block}
 use Rattle.paris_code.specs.declared.operands.Field.{Field}
-use Rattle.paris_code.specs.Shapes.{SetShape, bits_at, extents_at}
+use Rattle.paris_code.specs.Shapes.{SetShape, extents_at}
 use Rattle.phase_gate.specs.Blocks.{at_block}
 use Rattle.vp_sets.specs.Positions.{position_count}
 use Rattle.paris_code.specs.Writes.{Write, covers}

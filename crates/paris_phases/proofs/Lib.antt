@@ -1,2 +1,3 @@
 pub mod BlockRuns
+pub mod Cells
 pub mod Waits

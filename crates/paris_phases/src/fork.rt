@@ -1,6 +1,7 @@
 //! The phases over blocks.
 
 ghost use Rattle.std.specs.Prelude.{◌≡◌, ◌==◌, IfOk};
+ghost use Rattle.block_store.specs.Stored.{AreWhole, stored};
 ghost use Rattle.cstar_base.specs.declared.operators.Winner.{Winner};
 ghost use Rattle.paris_code.specs.Memory.{SameBits, fresh_memory};
 ghost use Rattle.paris_code.specs.Shapes.{shapes_of};
@@ -9,6 +10,7 @@ ghost use Rattle.paris_phases.specs.Machines.{AllReady, IsSettled, memory_of, se
 
 use crate::block_runs;
 use crate::machine::Machine;
+use block_store::BlockSet;
 use cstar_base::{Memory, Winner};
 use image_check::Sound;
 use paris_code::{Field, Instr, Reply};
@@ -51,6 +53,44 @@ impl<F: Fn(&mut Machine, &Instr, &[u32], Winner) -> Reply, S: Fn(&mut Machine)> 
             phase,
             settle,
         })
+    }
+
+    /// The phases of an image whose sets these are; of colliding senders the one with the greatest
+    /// number wins.
+    pub fn with_sets(
+        alloc: Global,
+        sound: &Sound,
+        sets: Vec<BlockSet>,
+        phase: F,
+        settle: S,
+    ) -> Result<ForkPhases<F, S>, Memory>
+        requires { AreWhole (shapes_of sound.now) sets.items }
+        ensures phase { IfOk result (λ p. p.phase ≡ phase) }
+        ensures settle { IfOk result (λ p. p.settle ≡ settle) }
+        ensures ready { IfOk result (λ p. AllReady p.machine) }
+        ensures settled { IfOk result (λ p. IsSettled p.machine) }
+        ensures shapes { IfOk result (λ p. sets_of p.machine ≡ shapes_of sound.now) }
+        ensures memory { IfOk result (λ p. (w : Winner) → memory_of p.machine w ≡ stored sets.items w) }
+    {
+        let machine = match Machine::with_sets(alloc, sound, sets) {
+            Ok(machine) => machine,
+            Err(Memory) => return Err(Memory),
+        };
+        Ok(ForkPhases {
+            machine,
+            winner: Winner::High,
+            phase,
+            settle,
+        })
+    }
+
+    /// The sets of settled phases, once all else of them is let go.
+    pub fn into_sets(self) -> Vec<BlockSet>
+        requires { IsSettled self.machine }
+        ensures whole { AreWhole (sets_of self.machine) result.items }
+        ensures memory { stored result.items self.winner ≡ memory_of self.machine self.winner }
+    {
+        self.machine.store.sets
     }
 }
 

@@ -1,6 +1,6 @@
 -- The bits of a set, copied run by run and block by block.
-use Rattle.std.proofs.Common.{◌≡◌, ◌≢◌, ℕ, ◌+◌, ◌*◌, ◌/◌, ◌<◌, ◌≤◌, ◌⊎◌, ◌∙◌, inl, inr, subst, arith}
-use Rattle.std.proofs.lemmas.Bool.{cases_lt, cases_eq}
+use Rattle.std.proofs.Common.{◌≡◌, ◌≢◌, ℕ, ◌+◌, ◌/◌, ◌<◌, ◌≤◌, ◌⊎◌, ◌∙◌, inl, inr, subst, arith}
+use Rattle.std.proofs.lemmas.Bool.{cases_lt}
 
 -- a run of the positions of a block has been copied
 pub record Moved (positions width offset len block : ℕ) (source old new : ℕ → ℕ → ℕ) : Type 0 where
@@ -27,19 +27,6 @@ run_more positions width block index len end source old new far before step = re
     | inr g ↦ step.inside p i e b g (far i w h)
   ];
 }
-
-pub block_more : (positions width block index : ℕ) (source copy : ℕ → ℕ → ℕ) → width ≤ index → Copied positions width block index source copy → Copied positions width (block + 1) 0 source copy
-block_more positions width block index source copy all before = record {
-  blocks = λ p i b w h. elim (cases_eq (p / 512) block) [
-    | inl e ↦ before.here p i b w e (omega arith)
-    | inr n ↦ before.blocks p i b w (omega arith)
-  ];
-  here = λ p i b w e h. absurd (omega arith);
-}
-
-pub copied_all : (positions width block index : ℕ) (source copy : ℕ → ℕ → ℕ) → positions ≤ 512 * block → Copied positions width block index source copy
-    → (p i : ℕ) → p < positions → i < width → copy p i ≡ source p i
-copied_all positions width block index source copy all before p i b w = before.blocks p i b w (omega arith)
 
 -- the same by equal numbers
 pub moved_as : (positions width offset positions' width' offset' len block : ℕ) (source old new : ℕ → ℕ → ℕ) → positions ≡ positions' → width ≡ width' → offset ≡ offset' → Moved positions width offset len block source old new

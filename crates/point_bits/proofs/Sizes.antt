@@ -1,23 +1,19 @@
 -- How many bytes sets take, and where those of each stand.
-use Rattle.std.proofs.Common.{◌≡◌, ℕ, zero, suc, ◌+◌, ◌-◌, ◌*◌, ◌/◌, ◌%◌, ◌^◌, ◌<◌, ◌≤◌, List, [], ◌∷◌, ◌++◌, length, map, get_or, take, drop, true, false, Bool, nat_eq, inl, inr, refl, sym, ◌∙◌, ap, append_assoc, append-nil, length-append, arith}
+use Rattle.std.proofs.Common.{◌≡◌, ℕ, zero, suc, ◌+◌, ◌-◌, ◌*◌, ◌/◌, ◌%◌, ◌^◌, ◌<◌, ◌≤◌, List, length, map, get_or, take, drop, true, false, Bool, nat_eq, inl, inr, refl, sym, ◌∙◌, ap, arith}
 use Rattle.std.specs.Int.{bit_at}
-use Rattle.std.specs.List.{concat, range_with_len}
+use Rattle.std.specs.List.{range_with_len}
 use Rattle.std.specs.Prelude.{MatchBool, sum}
 use Rattle.std.proofs.Math.ListN.{length-take, length-drop}
-use Rattle.std.proofs.Math.Seq.{drop-drop, get_or-append_right, get_or-drop, get_or-take, take-append_seam, take-append-add}
+use Rattle.std.proofs.Math.Seq.{drop-drop, get_or-drop, get_or-take}
 use Rattle.std.proofs.lemmas.Bool.{cases_lt, eqb-true, eqb-false}
-use Rattle.std.proofs.lemmas.List.{get_or_past, length-map}
-use Rattle.std.proofs.lemmas.List.Folds.{concat-append}
-use Rattle.std.proofs.lemmas.List.FromFn.{fill_by_all, length-range_with_len, map-range_with_len_more}
+use Rattle.std.proofs.lemmas.List.FromFn.{map-range_with_len_more}
 use Rattle.std.proofs.lemmas.List.Sums.{sum_by_push}
 use Rattle.std.proofs.lemmas.Nat.{div_below, mul-le, pow_pos}
 use Rattle.std.proofs.lemmas.Nat.Bits.{bit_at-zero, bit_at_above, same_from_bits_below}
 use Rattle.cstar_base.proofs.BitCuts.{bit_at-shr}
-use Rattle.paris_code.specs.Memory.{BitMemory, run_number}
 use Rattle.paris_code.specs.Shapes.{SetShape}
-use Rattle.phase_meaning.proofs.RunBits.{run_number_is}
 use Rattle.point_bits.specs.declared.strings.SetString.{SetString}
-use Rattle.point_bits.specs.Strings.{IsString, IsStringOf, bit_count, byte_bit, set_bytes, set_size, start_of, string_byte}
+use Rattle.point_bits.specs.Strings.{IsString, IsStringOf, bit_count, byte_bit, set_size, start_of}
 
 -- the bits and the bytes of a set
 pub count_is : (shapes : List SetShape) (s : SetString) → IsStringOf shapes s → bit_count shapes s.set ≡ s.positions * s.width
@@ -66,60 +62,10 @@ own_long bytes start size h = omega (arith, length-take size (drop start bytes),
 pub rest_more : (bytes : List ℕ) (start size : ℕ) → drop size (drop start bytes) ≡ drop (start + size) bytes
 rest_more bytes start size = drop-drop size start bytes
 
--- bytes by their bits
-pub bytes_by_bits : (bytes : List ℕ) (size : ℕ) (f : ℕ → ℕ) → length bytes ≡ size → ((k : ℕ) → get_or bytes k 0 < 256) → ((n : ℕ) → n < 8 * size → byte_bit bytes n ≡ f n)
-    → bytes ≡ map (λ k. run_number f (8 * k) 8) (range_with_len 0 size)
-unfolding byte_bit
-bytes_by_bits bytes size f long small are = fill_by_all (λ k. run_number f (8 * k) 8) bytes size 0 long (λ k h.
-    sym (run_number_is f (8 * k) 8 (get_or bytes k 0) (λ j b.
-    sym (are (8 * k + j) (omega arith))
-    ∙ ap (λ q. bit_at (get_or bytes q 0) ((8 * k + j) % 8)) (let e : (8 * k + j) / 8 ≡ k = omega arith in e)
-    ∙ ap (λ i. bit_at (get_or bytes k 0) i) (let e : (8 * k + j) % 8 ≡ j = omega arith in e))
-    ∙ (let e : get_or bytes k 0 % 256 ≡ get_or bytes k 0 = omega (arith, small k) in e)))
-
 -- zeros have no bit
 pub zero_bits : (bytes : List ℕ) → ((k : ℕ) → get_or bytes k 0 ≡ 0) → (n : ℕ) → byte_bit bytes n ≡ 0
 unfolding byte_bit
 zero_bits bytes zeros n = ap (λ x. bit_at x (n % 8)) (zeros (n / 8)) ∙ bit_at-zero (n % 8)
-
-pub part_zeros : (bytes : List ℕ) (from size : ℕ) → ((k : ℕ) → from ≤ k → get_or bytes k 0 ≡ 0) → (k : ℕ) → get_or (take size (drop from bytes)) k 0 ≡ 0
-part_zeros bytes from size zeros k = elim (cases_lt k size) [
-  | inl l ↦ get_or-take size (drop from bytes) k 0 l ∙ get_or-drop from bytes k 0 ∙ zeros (from + k) (omega arith)
-  | inr g ↦ get_or_past (take size (drop from bytes)) k 0 (omega (arith, length-take size (drop from bytes)))
-]
-
--- a part of bytes is replaced
-pub record Replaced (before part old new : List ℕ) (from size : ℕ) : Type 0 where
-  pub long : length new ≡ length old
-  pub done : take (from + size) new ≡ before ++ part
-  pub after : (k : ℕ) → from + size ≤ k → get_or new k 0 ≡ get_or old k 0
-
-pub part_put : (before part old new : List ℕ) (from size count : ℕ) → count ≡ size → from + size ≤ length old → length part ≡ size → take from old ≡ before → new ≡ take from old ++ (part ++ drop count (drop from old))
-    → Replaced before part old new from size
-part_put before part old new from size count same within long done is =
-    let head : length (take from old) ≡ from = omega (arith, length-take from old) in
-    let rest : List ℕ = drop count (drop from old) in
-    record {
-      long = ap length is ∙ omega (arith, length-append (take from old) (part ++ rest), length-append part rest, length-drop count (drop from old), length-drop from old, head);
-      done =
-          ap (take (from + size)) is ∙ ap (λ n. take (n + size) (take from old ++ (part ++ rest))) (sym head)
-          ∙ take-append-add (take from old) (part ++ rest) size
-          ∙ ap (λ n. take from old ++ take n (part ++ rest)) (sym long) ∙ ap (λ xs. take from old ++ xs) (take-append_seam part rest)
-          ∙ ap (λ xs. xs ++ part) done;
-      after = λ k h.
-          ap (λ xs. get_or xs k 0) is
-          ∙ get_or-append_right (take from old) (part ++ rest) k 0 (omega (arith, head))
-          ∙ get_or-append_right part rest (k - length (take from old)) 0 (omega (arith, head))
-          ∙ get_or-drop count (drop from old) (k - length (take from old) - length part) 0
-          ∙ get_or-drop from old (count + (k - length (take from old) - length part)) 0
-          ∙ ap (λ q. get_or old q 0) (let e : from + (count + (k - length (take from old) - length part)) ≡ k = omega (arith, head) in e);
-    }
-
-pub joined : (f : ℕ → List ℕ) (old new : List ℕ) (n : ℕ) → old ≡ concat (map f (range_with_len 0 n)) → new ≡ old ++ f n
-    → new ≡ concat (map f (range_with_len 0 (n + 1)))
-joined f old new n e g =
-    g ∙ (ap (λ (t : List ℕ). t ++ f n) e ∙ (ap (λ (t : List ℕ). concat (map f (range_with_len 0 n)) ++ t) (sym (append-nil (f n)))
-    ∙ (sym (concat-append (map f (range_with_len 0 n)) (f n ∷ [])) ∙ ap concat (sym (map-range_with_len_more f 0 n n (omega arith))))))
 
 -- the last byte has zeros behind the last bit
 module _ (bytes : List ℕ) (count : ℕ) (long : length bytes ≡ (count + 7) / 8) (odd : count % 8 ≡ 0 → ⊥) (small : get_or bytes (length bytes - 1) 0 < 256) where
@@ -154,7 +100,3 @@ module _ (bytes : List ℕ) (count : ℕ) (long : length bytes ≡ (count + 7) /
       go : (b : Bool) → nat_eq (last / 2 ^ (count % 8)) 0 ≡ b → MatchBool b IsFilled (IsFilled → ⊥)
       go true e = high (eqb-true _ 0 e)
       go false e = λ filled. eqb-false _ 0 e (none filled)
-
-pub bytes_long : (shapes : List SetShape) (m : BitMemory) (set : ℕ) → length (set_bytes shapes m set) ≡ set_size shapes set
-unfolding set_bytes
-bytes_long shapes m set = length-map (range_with_len 0 (set_size shapes set)) (string_byte shapes m set) ∙ length-range_with_len 0 (set_size shapes set)

@@ -3,6 +3,11 @@ use Rattle.std.specs.Prelude.{◌≡◌, ◌≢◌, ◌⊎◌, ◌<◌, ◌≤�
 use Rattle.std.specs.Int.{bit_at, from_bool}
 use Rattle.std.specs.List.{concat, range_with_len}
 use Rattle.cstar_base.specs.declared.operators.Winner.{Winner}
+use Rattle.bit_planes.specs.declared.block.Block.{Block}
+use Rattle.bit_planes.specs.declared.plane.Plane.{Plane}
+use Rattle.bit_planes.specs.Bits.{bit}
+use Rattle.bit_planes.specs.Planes.{plane_at}
+use Rattle.block_store.specs.Planes.{HasPlanes, block_bit}
 use Rattle.vp_sets.specs.Positions.{position_count}
 use Rattle.paris_code.specs.Memory.{BitMemory, run_number}
 use Rattle.paris_code.specs.Shapes.{SetShape, bits_at, extents_at}
@@ -87,3 +92,23 @@ pub record RunPut (positions width : ℕ) (run : Field) (block : ℕ) (words old
   pub long : length new ≡ length old
   pub inside : (p i : ℕ) → p / 512 ≡ block → p < positions → run.offset ≤ i → i < run.offset + run.len → string_at width new p i ≡ bit_at (slice_index words (p % 512)) (i - run.offset)
   pub outside : (p i : ℕ) → i < width → (p / 512 ≢ block) ⊎ ((positions ≤ p) ⊎ ((i < run.offset) ⊎ (run.offset + run.len ≤ i))) → string_at width new p i ≡ string_at width old p i
+
+-- bytes are the bits of a block's positions, as its planes hold them
+pub record IsPart (s : SetString) (planes : List Plane) (bytes : List ℕ) : Type 0 where
+  pub long : length bytes ≡ (s.positions * s.width + 7) / 8
+  pub small : (k : ℕ) → slice_index bytes k < 256
+  pub bits : (p i : ℕ) → p < s.positions → i < s.width → string_at s.width bytes p i ≡ bit (plane_at planes i) p
+  pub behind : (n : ℕ) → s.positions * s.width ≤ n → byte_bit bytes n ≡ 0
+
+-- planes are those of a block whose positions have these bits, with zeros behind the last one
+pub record IsBlockOf (s : SetString) (bytes : List ℕ) (planes : List Plane) : Type 0 where
+  pub long : length planes ≡ s.width
+  pub bits : (p i : ℕ) → p < s.positions → i < s.width → bit (plane_at planes i) p ≡ string_at s.width bytes p i
+  pub quiet : (p i : ℕ) → s.positions ≤ p → p < 512 → i < s.width → bit (plane_at planes i) p ≡ 0
+
+-- blocks are those of a set whose positions have these bits, with zeros behind the last one
+pub record IsSetOf (s : SetString) (bytes : List ℕ) (blocks : List Block) : Type 0 where
+  pub count : length blocks ≡ (s.positions + 511) / 512
+  pub planes : HasPlanes s.width blocks
+  pub bits : (p i : ℕ) → p < s.positions → i < s.width → block_bit blocks p i ≡ string_at s.width bytes p i
+  pub padding : (p i : ℕ) → s.positions ≤ p → p < 512 * length blocks → i < s.width → block_bit blocks p i ≡ 0

@@ -4,8 +4,9 @@
 mod bytes;
 mod gathering;
 mod moves;
+mod parts;
 mod putting_back;
 mod strings;
 
 pub use gathering::gather;
-pub use putting_back::{are_bits, put_back};
+pub use putting_back::{are_bits, restored};

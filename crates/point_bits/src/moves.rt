@@ -1,6 +1,6 @@
 //! Runs of bits of a block's positions, to a string and from it.
 
-ghost use Rattle.std.specs.Prelude.{◌≡◌, ℕ, ◌+◌, ◌*◌, ◌/◌, ◌%◌, ◌^◌, ◌<◌, ◌≤◌, length, slice_index};
+ghost use Rattle.std.specs.Prelude.{◌≡◌, ℕ, ◌+◌, ◌-◌, min, ◌*◌, ◌/◌, ◌%◌, ◌^◌, ◌<◌, ◌≤◌, length, slice_index};
 ghost use Rattle.std.specs.Int.{bit_at};
 ghost use Rattle.point_bits.specs.Strings.{HasRun, IsString, RunPut, string_at};
 
@@ -23,8 +23,9 @@ impl SetString {
     }
 
     /// How many positions a block has.
-    fn positions_in(self, block: u32) -> u32
+    pub(crate) fn positions_in(self, block: u32) -> u32
         requires { 512 * block < self.positions }
+        ensures count { result ≡ min (self.positions - 512 * block) 512 }
         ensures few { result ≤ 512 }
         ensures inside { 512 * block + result ≤ self.positions }
         ensures whole { (p : ℕ) → p / 512 ≡ block → p < self.positions → p < 512 * block + result }

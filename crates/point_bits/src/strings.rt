@@ -38,6 +38,22 @@ impl SetString {
         self.bits().div_ceil(8) as usize
     }
 
+    /// How the bits of a block's positions stand in a string of their own.
+    pub(crate) fn part(self, block: u32) -> SetString
+        requires string { IsString self }
+        requires block { 512 * block < self.positions }
+        ensures string { IsString result }
+        ensures set { result.set ≡ self.set }
+        ensures positions { result.positions ≡ min (self.positions - 512 * block) 512 }
+        ensures width { result.width ≡ self.width }
+    {
+        SetString {
+            set: self.set,
+            positions: self.positions_in(block),
+            width: self.width,
+        }
+    }
+
     pub(crate) fn blocks(self) -> u32
         ensures { result ≡ (self.positions + 511) / 512 }
     {

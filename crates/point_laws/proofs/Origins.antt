@@ -1,5 +1,5 @@
 -- Where runs begin, the bits are 0 or 1.
-use Rattle.std.proofs.Common.{◌≡◌, ◌<◌, ℕ, Bool, true, false, List, cond, eqb, lit<, arith, sym, subst, ap}
+use Rattle.std.proofs.Common.{◌<◌, ℕ, Bool, true, false, List, cond, eqb, lit<, arith, sym, subst, ap}
 use Rattle.std.specs.Int.{bit_at}
 use Rattle.cstar_base.specs.declared.operators.Winner.{Winner}
 use Rattle.paris_code.specs.declared.program.Image.{Image}

@@ -1,27 +1,39 @@
 -- The bits of a memory, as bytes, and back.
-use Rattle.std.proofs.Common.{◌≡◌, ◌∙◌, ◌<◌, ◌≤◌, ◌+◌, ◌-◌, ◌*◌, ◌/◌, ◌%◌, ℕ, zero, suc, List, ◌++◌, Bool, cond, eqb, true, false, length, get_or, map, inl, inr, refl, sym, ap, arith, lit<, length-append}
+use Rattle.std.proofs.Common.{◌≡◌, ◌∙◌, ◌<◌, ◌≤◌, ◌+◌, ◌-◌, ◌*◌, ◌/◌, ◌%◌, ℕ, zero, suc, List, [], ◌∷◌, ◌++◌, Bool, cond, eqb, true, false, length, get_or, map, inl, inr, refl, sym, ap, arith, lit<, append-nil, length-append}
 use Rattle.std.specs.Prelude.{nat_lt}
 use Rattle.std.specs.Int.{bit_at, from_bool}
 use Rattle.std.specs.List.{concat, range_with_len}
 use Rattle.std.proofs.Math.ListN.{get_or-append}
 use Rattle.std.proofs.Math.Seq.{get_or-append_right}
 use Rattle.std.proofs.lemmas.Bool.{cases_lt, lt-ltb}
-use Rattle.std.proofs.lemmas.List.FromFn.{get_or-map-range_with_len}
+use Rattle.std.proofs.lemmas.List.{length-map}
+use Rattle.std.proofs.lemmas.List.Folds.{concat-append}
+use Rattle.std.proofs.lemmas.List.FromFn.{get_or-map-range_with_len, length-range_with_len, map-range_with_len_more}
 use Rattle.std.proofs.lemmas.Nat.{div-mul-add, mod-mul-add, mul-add-lt}
 use Rattle.cstar_base.specs.declared.operators.Winner.{Winner}
 use Rattle.paris_code.specs.Memory.{BitMemory, SameBits, processors}
 use Rattle.paris_code.specs.Shapes.{SetShape, bits_at}
 use Rattle.phase_gate.proofs.BlockWrites.{run_bit}
 use Rattle.point_bits.specs.Strings.{bit_count, bits_bytes, byte_bit, restored, set_bytes, set_size, start_of, string_bit, string_byte, width_of}
-use Rattle.point_bits.proofs.Sizes.{bytes_long, joined, start_below, start_more, start_none}
+use Rattle.point_bits.proofs.Sizes.{start_below, start_more, start_none}
 use Rattle.point_laws.specs.Joined.{HasBits}
 
 -- the bytes of the first sets
 abbrev first_sets : List SetShape → BitMemory → ℕ → List ℕ
 first_sets shapes m n = concat (map (set_bytes shapes m) (range_with_len 0 n))
 
+joined : (f : ℕ → List ℕ) (old new : List ℕ) (n : ℕ) → old ≡ concat (map f (range_with_len 0 n)) → new ≡ old ++ f n
+    → new ≡ concat (map f (range_with_len 0 (n + 1)))
+joined f old new n e g =
+    g ∙ (ap (λ (t : List ℕ). t ++ f n) e ∙ (ap (λ (t : List ℕ). concat (map f (range_with_len 0 n)) ++ t) (sym (append-nil (f n)))
+    ∙ (sym (concat-append (map f (range_with_len 0 n)) (f n ∷ [])) ∙ ap concat (sym (map-range_with_len_more f 0 n n (omega arith))))))
+
 one_more : (shapes : List SetShape) (m : BitMemory) (n : ℕ) → first_sets shapes m n ++ set_bytes shapes m n ≡ first_sets shapes m (n + 1)
 one_more shapes m n = joined (set_bytes shapes m) (first_sets shapes m n) (first_sets shapes m n ++ set_bytes shapes m n) n refl refl
+
+bytes_long : (shapes : List SetShape) (m : BitMemory) (set : ℕ) → length (set_bytes shapes m set) ≡ set_size shapes set
+unfolding set_bytes
+bytes_long shapes m set = length-map (range_with_len 0 (set_size shapes set)) (string_byte shapes m set) ∙ length-range_with_len 0 (set_size shapes set)
 
 next : (n : ℕ) → n + 1 ≡ suc n
 next n = omega arith

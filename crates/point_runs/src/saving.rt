@@ -2,34 +2,36 @@
 
 ghost use Rattle.std.specs.Prelude.{◌≡◌, ◌<◌, ◌^◌, IfOk, length};
 ghost use Rattle.checkpoint.specs.Bytes.{AreWords, IsHeld};
+ghost use Rattle.block_store.specs.Stored.{AreWhole, stored};
+ghost use Rattle.cstar_base.specs.declared.operators.Winner.{Winner};
 ghost use Rattle.front_end.specs.Kept.{KeptFits};
 ghost use Rattle.paris_code.specs.Listing.{listing};
 ghost use Rattle.paris_code.specs.Shapes.{shapes_of};
 ghost use Rattle.point_runs.specs.Points.{point_with};
 
 use crate::text_sink::TextSink;
+use block_store::BlockSet;
 use checkpoint::{Bits, Point};
 use cstar_base::{Memory, Winner, Word};
 use front_end::Kept;
 use image_check::Sound;
 use paris_code::Image;
 use paris_text::print;
-use phase_gate::Phases;
 use point_bits::gather;
 use std::alloc::Global;
 
-/// The point of a run of an image that stopped in this state, with these phases.
-pub fn point_of<P: Phases>(
+/// The point of a run of an image that stopped in this state, with these sets. Each block of theirs is
+/// let go as soon as its bits are taken.
+pub fn point_of(
     alloc: Global,
     sound: &Sound,
     kept: Kept,
     winner: Winner,
-    phases: &P,
+    sets: Vec<BlockSet>,
 ) -> Result<Point, Memory>
     requires fits { KeptFits sound.now kept }
-    requires shapes { P.shapes phases.now ≡ shapes_of sound.now }
-    requires settled { P.settled phases.now }
-    ensures point { IfOk result (λ point. point ≡ point_with sound.now kept winner (P.memory phases.now)) }
+    requires sets { AreWhole (shapes_of sound.now) sets.items }
+    ensures point { IfOk result (λ point. (w : Winner) → point ≡ point_with sound.now kept winner (stored sets.items w)) }
     ensures held { IfOk result IsHeld }
 {
     let image = sound.image();
@@ -37,7 +39,7 @@ pub fn point_of<P: Phases>(
     let _depth = depth(image);
     are_words(kept.regs.list());
     are_words(kept.returns.list());
-    let bits = Bits::of(gather(alloc, sound, phases)?);
+    let bits = Bits::of(gather(alloc, sound, sets)?);
     let listing = listing_of(alloc, sound)?;
     Ok(Point {
         winner,

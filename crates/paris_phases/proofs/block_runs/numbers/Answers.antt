@@ -1,4 +1,4 @@
-use Rattle.std.proofs.Common.{◌≡◌, ℕ, ◌+◌, ◌/◌, ◌%◌, ◌<◌, ◌∙◌, List, [], length, sym, ap, arith}
+use Rattle.std.proofs.Common.{◌+◌, ◌/◌, ◌%◌, ◌<◌, ◌∙◌, List, [], length, sym, ap, arith}
 use Rattle.std.specs.Int.{bit_at}
 use Rattle.bit_planes.specs.declared.block.Block.{Block}
 use Rattle.bit_planes.specs.declared.plane.Plane.{Plane}

@@ -1,51 +1,45 @@
-use Rattle.std.proofs.Common.{◌≡◌, ℕ, ◌+◌, ◌-◌, ◌*◌, ◌/◌, ◌<◌, ◌≤◌, ◌∙◌, min, length, ap, refl, arith}
-use Rattle.vp_sets.specs.Blocks.{block_count}
-use Rattle.vp_sets.specs.Positions.{position_count}
-use Rattle.paris_code.specs.Shapes.{extents_at}
-use Rattle.point_bits.specs.Strings.{string_at}
-use Rattle.point_bits.proofs.Copies.{copied_none, moved_as, run_more}
-use Rattle.point_bits.proofs.Sizes.{size_is, zero_bits}
-use Rattle.point_bits.proofs.Steps.{behind_kept, bytes_copied, put_moved}
+use Rattle.std.proofs.Common.{◌≡◌, ℕ, ◌+◌, ◌*◌, ◌≤◌, ◌++◌, List, length, drop, ap, sym, ◌∙◌, append_assoc, arith}
+use Rattle.std.specs.Prelude.{reverse}
+use Rattle.std.proofs.Math.Seq.{take-length}
+use Rattle.std.proofs.lemmas.List.{length-append}
+use Rattle.bit_planes.specs.declared.block.Block.{Block}
+use Rattle.block_store.specs.Planes.{planes_in}
+use Rattle.point_bits.specs.Strings.{set_bytes}
+use Rattle.point_bits.proofs.Cuts.{all_cut, part_cut}
+use Rattle.point_bits.proofs.Takings.{Taken, block_at, put_backward, taken}
 use Rattle.point_bits.proofs.gathering.put_set.Goals as goal
 
-pub in_blocks-init : goal.in_blocks-init
-in_blocks-init g c = record {
-  long = refl;
-  small = λ k. omega (arith, c.type_inv.bytes k);
-  copied = copied_none c.args.string.positions c.args.string.width ((g.P.Phases.memory c.args.phases.now).bit c.args.string.set) (string_at c.args.string.width c.args.bytes.now);
-  rest = λ n _. zero_bits c.args.bytes.now c.requires.zeros n;
+pub each-init : goal.each-init
+each-init c = record {
+  left = sym (take-length c.args.set.blocks.items);
+  done = λ shapes m is holds. sym (ap (λ (t : List ℕ). t ++ reverse c.args.backward.now.items) (all_cut shapes m c.args.string (length c.args.set.blocks.items) is (omega (arith, c.requires.count))));
 }
 
-pub numbers-words-requires-clause-block : goal.numbers-words-requires-clause-block
-unfolding block_count
-numbers-words-requires-clause-block g c =
-    omega (arith, c.in_blocks-test.true, c.in_blocks.auto.block-end, c.blocks-block-end.ensures, c.requires.string.positions, ap (λ s. position_count (extents_at (g.P.Phases.shapes c.args.phases.now) s)) c.run-run.ensures.set)
+pub part_of-requires-clause-planes : goal.part_of-requires-clause-planes
+part_of-requires-clause-planes c =
+    let t : Taken c.args.set.blocks.items c.pop.new.self.items c.in-Some.block = taken c.args.set.blocks.items c.each.blocks.items c.pop.new.self.items c.in-Some.block c.each.invariant.left c.in-Some.ensures.items in
+    omega (arith, c.requires.planes (length c.pop.new.self.items) c.in-Some.block t.within, ap (λ (b : Block). length (planes_in b)) t.is, c.part.ensures.width)
 
-pub put-requires-clause-bytes : goal.put-requires-clause-bytes
-put-requires-clause-bytes g c = omega (arith, c.runs.invariant.long, c.requires.long, size_is (g.P.Phases.shapes c.args.phases.now) c.args.string c.requires.string)
-
-pub runs-preserved : goal.runs-preserved
-runs-preserved g c =
-    let shapes = g.P.Phases.shapes c.args.phases.now in
-    let m = g.P.Phases.memory c.args.phases.now in
+pub each-preserved : goal.each-preserved
+each-preserved c =
     let s = c.args.string in
-    let run = c.run-run.result in
-    let block = c.in_blocks.block in
-    let words = c.numbers-words.result in
-    let n = c.runs.number in
-    let moved = put_moved s.positions s.width run block words c.runs.bytes c.put.new.bytes (m.bit s.set) c.put.ensures (λ p j here within h.
-    c.numbers-words.ensures.bits p j here (omega (arith, within, c.requires.string.positions, ap (λ k. position_count (extents_at shapes k)) c.run-run.ensures.set)) h
-    ∙ ap (λ k. m.bit k p (run.offset + j)) c.run-run.ensures.set) in
+    let blocks = c.args.set.blocks.items in
+    let block = c.in-Some.block in
+    let k : ℕ = length c.pop.new.self.items in
+    let t : Taken blocks c.pop.new.self.items block = taken blocks c.each.blocks.items c.pop.new.self.items block c.each.invariant.left c.in-Some.ensures.items in
+    let part = c.in_ok-part.part.items in
+    let few : c.part.result.positions ≤ 512 = omega (arith, c.part.ensures.positions) in
+    let count : length c.each.blocks.items ≡ k + 1 = ap length c.in-Some.ensures.items ∙ length-append c.pop.new.self.items _ in
+    let back = put_backward c.each.backward.items c.extend_from_slice.new.self.items part _ (c.as_slice.ensures.value ∙ c.reverse.ensures.items) c.in_ok-extend_from_slice.ensures.items in
     record {
-      long = c.put.ensures.long ∙ c.runs.invariant.long;
-      small = λ k. omega (arith, c.type_inv.bytes k);
-      copied = run_more s.positions s.width block (32 * n) run.len (32 * (n + 1)) (m.bit s.set) (string_at s.width c.runs.bytes) (string_at s.width c.put.new.bytes)
-          (λ i w h. omega (arith, c.run-run.ensures.len)) c.runs.invariant.copied
-          (moved_as s.positions s.width run.offset s.positions s.width (32 * n) run.len block (m.bit s.set) (string_at s.width c.runs.bytes) (string_at s.width c.put.new.bytes) refl refl c.run-run.ensures.offset moved);
-      rest = λ k h. behind_kept s.positions s.width run block words c.runs.bytes c.put.new.bytes (omega (arith, c.requires.small.wide)) c.put.ensures k h ∙ c.runs.invariant.rest k h;
+      left = t.left;
+      done = λ shapes m is holds.
+          let all = set_bytes shapes m s.set in
+          let before = reverse c.args.backward.now.items in
+          back
+          ∙ ap (λ (xs : List ℕ). part ++ xs) (c.each.invariant.done shapes m is holds ∙ ap (λ n. drop (n * (64 * s.width)) all ++ before) count)
+          ∙ sym (append_assoc part (drop ((k + 1) * (64 * s.width)) all) before)
+          ∙ ap (λ (xs : List ℕ). xs ++ before)
+          (part_cut shapes m s c.part.result k block.planes.items part is (omega (arith, c.requires.string.wide)) (omega (arith, t.within, c.requires.count)) (omega (arith, c.part.ensures.positions, c.len.ensures, c.pop.new.self.ok.0)) c.part.ensures.width c.in_ok-part.ensures
+          (λ p i low short. holds (512 * k + p) i (omega (arith, low, c.part.ensures.positions, c.len.ensures, c.pop.new.self.ok.0)) short ∙ block_at blocks block k p i t.within t.is (omega (arith, low, few))));
     }
-
-pub returns : goal.returns
-returns g c =
-    bytes_copied (g.P.Phases.shapes c.args.phases.now) (g.P.Phases.memory c.args.phases.now) c.args.string c.in_blocks.block c.in_blocks.bytes c.requires.string (omega (arith, c.requires.small.wide))
-    (c.in_blocks.invariant.long ∙ c.requires.long) c.in_blocks.invariant.small (omega (arith, c.in_blocks-test.false, c.blocks-block-end.ensures)) c.in_blocks.invariant.copied c.in_blocks.invariant.rest

@@ -1,4 +1,4 @@
-use Rattle.std.proofs.Common.{rules, ◌≡◌, ℕ, ◌+◌, ◌*◌, ◌/◌, ◌<◌, ◌≤◌, ◌∙◌, ap, sym, length, arith}
+use Rattle.std.proofs.Common.{◌≡◌, ◌+◌, ◌<◌, ◌∙◌, ap, sym, length, arith}
 use Rattle.std.proofs.lemmas.List.{length-map}
 use Rattle.paris_code.specs.Shapes.{shape_of, shapes_of}
 use Rattle.paris_code.specs.Sound.{IsSound}
@@ -30,8 +30,13 @@ sets-preserved c = record {
   small = omega (arith, c.sets.invariant.small, c.size-size.ensures, size_small c.string_of.result c.string_of.ensures.small);
 }
 
-pub returns : goal.returns
-returns c =
+pub returns-clause-few : goal.returns-clause-few
+returns-clause-few c =
+    let sound : IsSound c.image.result.now = rw c.image.ensures.same c.image.ensures.sound in
+    omega (arith, sound.shapes.0, ap (λ (i : Image). length i.shapes.items) c.image.ensures.same, length-map c.image.result.now.shapes.items shape_of, length-map c.args.sound.now.shapes.items shape_of)
+
+pub returns-clause-size : goal.returns-clause-size
+returns-clause-size c =
     let all : c.sets.set ≡ length (shapes_of c.args.sound.now) =
     let last : c.sets.set ≡ length c.image.result.now.shapes.items =
     omega (arith, c.sets-test.false, c.sets.auto.set-end, c.len-set-end.ensures, c.image.result.now.shapes.ok.0) in

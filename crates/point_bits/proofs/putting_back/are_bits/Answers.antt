@@ -1,4 +1,4 @@
-use Rattle.std.proofs.Common.{◌≡◌, ℕ, ◌+◌, ◌-◌, ◌*◌, ◌/◌, ◌<◌, ◌≤◌, ◌∙◌, List, length, drop, take, ap, sym, subst, inl, inr, arith}
+use Rattle.std.proofs.Common.{◌≡◌, ℕ, ◌+◌, ◌*◌, ◌<◌, ◌∙◌, List, length, drop, take, ap, sym, inl, inr, arith}
 use Rattle.std.proofs.Math.ListN.{length-drop}
 use Rattle.std.proofs.lemmas.Bool.{cases_eq}
 use Rattle.std.proofs.lemmas.List.{length-map}
@@ -20,7 +20,7 @@ split_at-requires c =
     let own : c.size.result ≡ set_size shapes c.sets.set = c.size.ensures ∙ sym (size_is shapes c.string_of-string.result c.string_of-string.ensures.string) ∙ ap (set_size shapes) c.string_of-string.ensures.set in
     let below : c.sets.set < length c.image.result.now.shapes.items = omega (arith, c.sets-test.true, c.sets.auto.set-end, c.len-set-end.ensures, c.image.result.now.shapes.ok.0) in
     let same : length c.image.result.now.shapes.items ≡ length shapes = ap (λ (i : Image). length i.shapes.items) c.image.ensures.same ∙ sym (length-map c.args.sound.now.shapes.items shape_of) in
-    omega (arith, own, set_within shapes c.sets.set (omega (arith, below, same)), ap length c.sets.invariant.rest, length-drop (start_of shapes c.sets.set) c.args.bytes.now, c.if-bytes-total_size.false, c.total_size.ensures)
+    omega (arith, own, set_within shapes c.sets.set (omega (arith, below, same)), ap length c.sets.invariant.rest, length-drop (start_of shapes c.sets.set) c.args.bytes.now, c.if-bytes-total_size.false, c.total_size.ensures.size)
 
 pub returns-then-not-is_filled : goal.returns-then-not-is_filled
 returns-then-not-is_filled c = λ are.

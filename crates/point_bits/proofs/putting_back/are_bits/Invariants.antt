@@ -1,4 +1,4 @@
-use Rattle.std.proofs.Common.{◌≡◌, ℕ, ◌+◌, ◌*◌, ◌<◌, ◌≤◌, length, drop}
+use Rattle.std.proofs.Common.{◌≡◌, ℕ, ◌+◌, ◌*◌, ◌<◌, ◌≤◌, drop}
 use Rattle.paris_code.specs.Shapes.{shapes_of}
 use Rattle.point_bits.specs.Strings.{bit_count, byte_bit, set_size, start_of}
 use Rattle.point_bits.proofs.putting_back.are_bits.Given as goal

@@ -1,4 +1,4 @@
-use Rattle.std.proofs.Common.{◌≡◌, ◌+◌, ◌-◌, ◌*◌, ◌/◌, ◌%◌, ◌^◌, ◌<◌, ◌≤◌, ℕ, length, get_or, subst, sym, nat_eq, arith}
+use Rattle.std.proofs.Common.{◌≡◌, ◌-◌, ◌*◌, ◌/◌, ◌%◌, ◌^◌, ◌<◌, ◌≤◌, ℕ, length, get_or, subst, sym, nat_eq, arith}
 use Rattle.std.specs.Prelude.{MatchBool}
 use Rattle.point_bits.specs.Strings.{byte_bit}
 use Rattle.point_bits.proofs.Sizes.{filled_where}

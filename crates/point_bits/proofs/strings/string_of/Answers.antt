@@ -1,4 +1,4 @@
-use Rattle.std.proofs.Common.{rules, true, ◌≡◌, ◌+◌, ◌<◌, ◌≤◌, ◌^◌, ◌∙◌, ap, sym, length, true≢false, arith}
+use Rattle.std.proofs.Common.{rules, true, ◌≡◌, ◌<◌, ◌≤◌, ◌∙◌, ap, sym, length, true≢false, arith}
 use Rattle.std.proofs.lemmas.List.{length-map}
 use Rattle.vp_sets.specs.Positions.{is_geometry}
 use Rattle.paris_code.specs.Sound.{IsSound}

@@ -1,11 +1,14 @@
-use Rattle.std.proofs.Common.{ℕ, List, length, ap, subst, arith, refl}
+use Rattle.std.proofs.Common.{◌≡◌, ◌∙◌, ℕ, List, length, ap, subst, arith, refl}
+use Rattle.block_store.specs.Stored.{stored}
 use Rattle.checkpoint.specs.Bytes.{AreWords}
 use Rattle.paris_code.specs.declared.program.Image.{Image}
+use Rattle.paris_code.specs.Shapes.{shapes_of}
+use Rattle.point_bits.specs.Strings.{bits_bytes}
 use Rattle.point_runs.proofs.Points.{few_calls}
 use Rattle.point_runs.proofs.saving.point_of.Goals as goal
 
 pub returns-clause-held : goal.returns-clause-held
-returns-clause-held g c =
+returns-clause-held c =
     let h = c.slots-slots in
     let calls = few_calls c.args.sound.now 0 0 c.args.kept.returns c.args.kept.at c.image-image.ensures.sound (omega arith) refl c.requires.fits.0.1 in
     record {
@@ -21,3 +24,8 @@ returns-clause-held g c =
         returns = subst (λ (numbers : List ℕ). AreWords numbers) c.list-2.ensures c.are_words-2.ensures;
       };
     }
+
+pub returns-clause-point : goal.returns-clause-point
+returns-clause-point c = λ w.
+    let bits : c.of-bits.result ≡ bits_bytes (shapes_of c.args.sound.now) (stored c.args.sets.items w) = c.of-bits.ensures ∙ c.in_ok-gather.ensures w in
+    cc (bits, c.in_ok-listing.ensures.listing)

@@ -1,7 +1,7 @@
-use Rattle.std.proofs.Common.{◌≡◌, ℕ, ◌+◌, ◌-◌, ◌*◌, ◌/◌, ◌%◌, ◌<◌, ◌≤◌, ◌∙◌, get_or, ap, subst, inl, inr, arith}
+use Rattle.std.proofs.Common.{◌≡◌, ℕ, ◌+◌, ◌-◌, ◌*◌, ◌%◌, ◌<◌, ◌∙◌, get_or, ap, subst, inl, inr, arith}
 use Rattle.std.specs.Int.{bit_at}
 use Rattle.point_bits.specs.Strings.{RunPut}
-use Rattle.point_bits.proofs.Runs.{put_more, put_all}
+use Rattle.point_bits.proofs.Runs.{put_more}
 use Rattle.point_bits.proofs.strings.SetString.put.Goals as goal
 
 pub lanes-preserved : goal.lanes-preserved
