@@ -1,11 +1,13 @@
 -- What a sink took of a report, and what the end of a run says of its answer.
-use Rattle.std.proofs.Common.{◌≡◌, ◌≢◌, ◌∙◌, ℕ, Bool, true, false, List, [], ◌++◌, Option, Some, inl, inr, ap, sym, subst, refl, append-nil}
+use Rattle.std.proofs.Common.{◌≡◌, ◌≢◌, ◌∙◌, ℕ, Bool, true, false, List, [], ◌++◌, Option, Some, None, Result, Ok, Err, IfOk, inl, inr, ap, sym, subst, refl, append-nil}
+use Rattle.block_store.specs.declared.set.BlockSet.{BlockSet}
+use Rattle.block_store.specs.Stored.{stored}
 use Rattle.cstar_base.specs.declared.operators.Winner.{Winner}
 use Rattle.cstar_io.specs.Output.{Takes, TakesPrefix}
 use Rattle.cstar_words.specs.declared.options.Options.{Options}
 use Rattle.cstar_io.proofs.Taking.{takes_then, prefix_then, prefix_of_first}
 use Rattle.paris_code.specs.Listing.{listing}
-use Rattle.paris_code.specs.Memory.{BitMemory, SameBits}
+use Rattle.paris_code.specs.Memory.{BitMemory, SameBits, fresh_memory}
 use Rattle.paris_code.specs.Code.{CodeState, Rest}
 use Rattle.paris_code.specs.Shapes.{SetShape, shapes_of}
 use Rattle.paris_machine.specs.declared.outcome.End.{End}
@@ -29,6 +31,27 @@ unfolding restored
 put_back_are shapes m found bits bytes w winner is same put =
     subst (λ (o : Option (List ℕ)). SameBits shapes (record { bit = m.bit; winner = winner }) (memory_from shapes winner o)) (sym is)
     (record { bits = λ s p i a b c. put.bits s p i a b c ∙ ap (λ (xs : List ℕ). (restored shapes xs winner).bit s p i) same; winner = refl })
+
+-- and so are those of new phases, where none are given
+pub fresh_are : (shapes : List SetShape) (m : BitMemory) (found : Option (List ℕ)) (winner : Winner) → found ≡ None → SameBits shapes m (fresh_memory shapes) → SameBits shapes (record { bit = m.bit; winner = winner }) (memory_from shapes winner found)
+fresh_are shapes m found winner is fresh =
+    subst (λ (o : Option (List ℕ)). SameBits shapes (record { bit = m.bit; winner = winner }) (memory_from shapes winner o)) (sym is)
+    (record { bits = λ s p i a b c. fresh.bits s p i a b c; winner = refl })
+
+-- phases that were made over sets with the bits that are given
+pub over_sets : {P E : Type 0} (r : Result P E) (memory : P → Winner → BitMemory) (winner : P → Winner) (shapes : List SetShape) (sets : List BlockSet) (found : Option (List ℕ)) (bits bytes : List ℕ) → found ≡ Some bits → bytes ≡ bits
+    → ((w : Winner) → SameBits shapes (stored sets w) (restored shapes bytes w)) → IfOk r (λ p. (w : Winner) → memory p w ≡ stored sets w)
+    → IfOk r (λ p. (w : Winner) → SameBits shapes (record { bit = (memory p (winner p)).bit; winner = w }) (memory_from shapes w found))
+over_sets (Ok p) memory winner shapes sets found bits bytes is same back made = λ w.
+    put_back_are shapes (memory p (winner p)) found bits bytes (winner p) w is same
+    (subst (λ (m : BitMemory). SameBits shapes m (restored shapes bytes (winner p))) (sym (made (winner p))) (back (winner p)))
+over_sets (Err e) memory winner shapes sets found bits bytes is same back made = tt
+
+-- and new ones
+pub over_none : {P E : Type 0} (r : Result P E) (memory : P → BitMemory) (shapes : List SetShape) (found : Option (List ℕ)) → found ≡ None → IfOk r (λ p. SameBits shapes (memory p) (fresh_memory shapes))
+    → IfOk r (λ p. (w : Winner) → SameBits shapes (record { bit = (memory p).bit; winner = w }) (memory_from shapes w found))
+over_none (Ok p) memory shapes found is fresh = λ w. fresh_are shapes (memory p) found w is fresh
+over_none (Err e) memory shapes found is fresh = tt
 
 -- a run from a memory, and then to one with the same bits, is a course to that
 pub settled_course : (from : Origin) (turns : ℕ) (m : BitMemory) (course : Course)

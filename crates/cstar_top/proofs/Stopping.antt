@@ -3,7 +3,10 @@ use Rattle.std.proofs.Common.{◌≡◌, ◌≢◌, ◌∙◌, ℕ, Bool, true, 
 use Rattle.std.specs.Prelude.{IfSome, IsTrue, is_some, option_map}
 use Rattle.checkpoint.specs.declared.point.Point.{Point}
 use Rattle.checkpoint.specs.Bytes.{IsHeld, bytes_of}
+use Rattle.block_store.specs.declared.set.BlockSet.{BlockSet}
+use Rattle.block_store.specs.Stored.{stored}
 use Rattle.cstar_base.specs.declared.operators.Winner.{Winner}
+use Rattle.front_end.specs.declared.kept.Kept.{Kept}
 use Rattle.paris_code.specs.Memory.{BitMemory}
 use Rattle.paris_machine.specs.declared.outcome.End.{End}
 use Rattle.paris_machine.specs.declared.outcome.End.TheVariants as E
@@ -41,6 +44,34 @@ comes_with asked from course (Some point) turns r answer winner chosen own is ma
   stopped_is turns course.end (sym (ap status_of own) ∙ made.1),
   made.3 ∙ ap (λ (w : Winner). point_with from.image course.stopped w course.memory) (sym chosen),
 )
+
+-- the point that was made of sets with these bits is the one of the memory
+made_of : (from : Origin) (kept : Kept) (memory : BitMemory) (course : Course) (point : Option Point) (four same : Type 0) (winner w : Winner) (sets : List BlockSet) → stored sets w ≡ memory → course.stopped ≡ kept → course.memory ≡ memory
+    → IfSome point (λ p. IsHeld p × four × same × ((v : Winner) → p ≡ point_with from.image kept winner (stored sets v)))
+    → IfSome point (λ p. IsHeld p × four × same × (p ≡ point_with from.image course.stopped winner course.memory))
+made_of from kept memory course None four same winner w sets is stopped bits made = tt
+made_of from kept memory course (Some point) four same winner w sets is stopped bits made = (
+  made.0,
+  made.1,
+  made.2,
+  made.3 w ∙ ap (λ (m : BitMemory). point_with from.image kept winner m) (is ∙ sym bits)
+      ∙ ap (λ (k : Kept). point_with from.image k winner course.memory) (sym stopped),
+)
+
+-- a run comes with the point that was made of its sets
+pub comes_of_sets : (asked : Bool) (from : Origin) (kept : Kept) (memory : BitMemory) (point : Option Point) (turns : ℕ) (r answer : Answer) (winner w : Winner) (sets : List BlockSet) → from.memory.winner ≡ winner → r ≡ answer → status_of answer ≢ 9 → stored sets w ≡ memory
+    → IfSome point (λ p. IsHeld p × (status_of answer ≡ 4) × (r ≡ answer) × ((v : Winner) → p ≡ point_with from.image kept winner (stored sets v)))
+    → (r ≡ answer → status_of answer ≡ 4 → asked ≡ true → is_some point ≡ true)
+    → (course : Course) → Answers turns course.end answer → (course.stopped ≡ kept) × (course.memory ≡ memory) → Answers turns course.end r × ComesWith asked from point course
+comes_of_sets asked from kept memory point turns r answer winner w sets chosen is nine bits made none course (inl own) left =
+    (inl (is ∙ own), comes_with asked from course point turns r answer winner chosen own is (made_of from kept memory course point (status_of answer ≡ 4) (r ≡ answer) winner w sets bits left.0 left.1 made) none)
+comes_of_sets asked from kept memory point turns r answer winner w sets chosen is nine bits made none course (inr said) left =
+    absurd (nine (ap status_of said.0))
+
+-- its answer is that of a run that stopped
+pub point_saved : (point : Option Point) (r answer : Answer) (Made : Point → Type 0) → IfSome point (λ p. IsHeld p × (status_of answer ≡ 4) × (r ≡ answer) × Made p) → IfSome point (λ p. IsHeld p × (status_of r ≡ 4))
+point_saved None r answer Made made = tt
+point_saved (Some p) r answer Made made = (made.0, ap status_of made.2 ∙ made.1)
 
 -- the same of a run from the same bits
 pub comes_elsewhere : (asked : Bool) (from : Origin) (m : BitMemory) (point : Option Point) (course : Course) → from.memory.winner ≡ m.winner → ComesWith asked from point course → ComesWith asked (record { image = from.image; kept = from.kept; memory = m }) point course

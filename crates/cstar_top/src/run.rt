@@ -1,6 +1,6 @@
 //! A run of an image, and the listing, the final values and the count that go with it.
 
-ghost use Rattle.std.specs.Prelude.{◌≡◌, ◌≢◌, ◌⊎◌, ℕ, ◌++◌, ◌||◌, IfSome, is_some, true, false, codes, decimal};
+ghost use Rattle.std.specs.Prelude.{◌≡◌, ◌≢◌, ◌⊎◌, ℕ, ◌++◌, ◌||◌, IfOk, IfSome, is_some, true, false, codes, decimal};
 ghost use Rattle.block_store.specs.Stored.{AreWhole, stored};
 ghost use Rattle.checkpoint.specs.Bytes.{IsHeld};
 ghost use Rattle.cstar_base.specs.declared.operators.Winner.{Winner};
@@ -18,7 +18,7 @@ ghost use Rattle.paris_code.specs.Memory.{SameBits, fresh_memory};
 ghost use Rattle.paris_code.specs.Shapes.{shapes_of};
 ghost use Rattle.paris_machine.specs.Ends.{output_broke};
 ghost use Rattle.paris_phases.specs.Doing.{CanDo, Did, Settled};
-ghost use Rattle.paris_phases.specs.Machines.{AllReady};
+ghost use Rattle.paris_phases.specs.Machines.{AllReady, IsSettled, memory_of, sets_of};
 ghost use Rattle.paris_text.specs.Puts.{Puts};
 ghost use Rattle.point_bits.specs.Strings.{AreBits};
 ghost use Rattle.point_runs.specs.Points.{point_with};
@@ -27,7 +27,7 @@ ghost use Rattle.point_runs.specs.Starts.{CanStart, memory_from, origin_of};
 use crate::answer::Answer;
 use crate::saved::keep_point;
 use block_store::BlockSet;
-use checkpoint::Point;
+use checkpoint::{Bits, Point};
 use cstar_base::{Memory, RunFault, Winner};
 use cstar_io::{Failed, Gate, Shelf, ShelfErr, Sink, Source};
 use cstar_words::Options;
@@ -130,14 +130,7 @@ fn run_on_phases<R: Threads + Sync, I: Source, O: Sink, G: Gate + Sync>(
         winner,
         bits,
     } = start;
-    let made = match bits {
-        Some(bits) => match restored(alloc, &sound, bits.into_bytes()) {
-            Ok(sets) => ForkPhases::with_sets(alloc, &sound, sets, phase, settle),
-            Err(Memory) => Err(Memory),
-        },
-        None => ForkPhases::new(alloc, &sound, phase, settle),
-    };
-    let mut phases = match made {
+    let mut phases = match phases_from(alloc, &sound, bits, phase, settle) {
         Ok(phases) => phases,
         Err(Memory) => {
             return Ran {
@@ -148,7 +141,40 @@ fn run_on_phases<R: Threads + Sync, I: Source, O: Sink, G: Gate + Sync>(
     };
     phases.choose(winner);
     let (answer, kept) = run_on(alloc, &sound, kept, options, &mut phases, input, out);
-    with_point(alloc, &sound, kept, winner, options, phases.into_sets(), answer)
+    with_point(
+        alloc,
+        &sound,
+        kept,
+        winner,
+        options,
+        phases.into_sets(),
+        answer,
+    )
+}
+
+/// Phases that hold the bits of a point, or those of new phases where there are none.
+fn phases_from<F: Fn(&mut Machine, &Instr, &[u32], Winner) -> Reply, S: Fn(&mut Machine)>(
+    alloc: Global,
+    sound: &Sound,
+    bits: Option<Bits>,
+    phase: F,
+    settle: S,
+) -> Result<ForkPhases<F, S>, Memory>
+    requires { IfSome bits (AreBits (shapes_of sound.now)) }
+    ensures phase { IfOk result (λ p. p.phase ≡ phase) }
+    ensures settle { IfOk result (λ p. p.settle ≡ settle) }
+    ensures ready { IfOk result (λ p. AllReady p.machine) }
+    ensures settled { IfOk result (λ p. IsSettled p.machine) }
+    ensures shapes { IfOk result (λ p. sets_of p.machine ≡ shapes_of sound.now) }
+    ensures memory { IfOk result (λ p. (winner : Winner) → SameBits (shapes_of sound.now) (record { bit = (memory_of p.machine p.winner).bit; winner = winner }) (memory_from (shapes_of sound.now) winner bits)) }
+{
+    match bits {
+        Some(bits) => match restored(alloc, sound, bits.into_bytes()) {
+            Ok(sets) => ForkPhases::with_sets(alloc, sound, sets, phase, settle),
+            Err(Memory) => Err(Memory),
+        },
+        None => ForkPhases::new(alloc, sound, phase, settle),
+    }
 }
 
 /// The same on phases that hold the bits with which the run begins: the answer, and the state in which
@@ -165,6 +191,7 @@ fn run_on<P: Phases, I: Source, O: Sink>(
     requires fits { KeptFits sound.now kept }
     requires shapes { P.shapes phases.old ≡ shapes_of sound.now }
     requires able { P.able phases.old }
+    requires settled { P.settled phases.old }
     ensures end { IsEndOfRun options.now.turns result.0 }
     ensures own { status_of result.0 ≢ 9 }
     ensures write_fault { status_of result.0 ≡ 6 → RisesBy (O.faults out.old) (O.faults out.new) }
@@ -176,8 +203,8 @@ fn run_on<P: Phases, I: Source, O: Sink>(
         (λ course. (course.stopped ≡ result.1) × (course.memory ≡ P.memory phases.new)) }
     ensures part { ReportsPart O.agrees out.old out.new (I.left input.old) (I.left input.new) options.now
         (record { image = sound.now; kept = kept; memory = P.memory phases.old }) }
-    ensures fits { status_of result.0 ≢ 6 → KeptFits sound.now result.1 }
-    ensures settled { status_of result.0 ≢ 6 → P.settled phases.new }
+    ensures fits { KeptFits sound.now result.1 }
+    ensures settled { P.settled phases.new }
     ensures shapes { P.shapes phases.new ≡ P.shapes phases.old }
 {
     match put_listing(sound, options, out) {
