@@ -78,11 +78,11 @@ one_address (T.LeftIndex' ty place p indexes x of) at s h = by ty.shape s
 one_address _ at s h = absurd h
 
 -- an assignment that is no send stores one value there
-assigned_there : (t : Typed) (l : Layout) (target : TExpr) (op : Option Op) (signed : Bool) (at v : Out) (d : Draft) → Is true at → Grows d 1 (λ (w : Out). InRegister v) (assigned t l target op signed at (v ∷ []) O.Nothing d)
+assigned_there : (t : Typed) (l : Layout) (target : TExpr) (op : Option Op) (value : TExpr) (at v : Out) (d : Draft) → Is true at → Grows d 1 (λ (w : Out). InRegister v) (assigned t l target op value at (v ∷ []) O.Nothing d)
 unfolding assigned
-assigned_there t l target op signed (O.Scalar r) v d h = one_part_stored_grows t l target r v d
-assigned_there t l target op signed (O.Field f) v d h = cc
-assigned_there t l target op signed O.Nothing v d h = absurd h
+assigned_there t l target op value (O.Scalar r) v d h = one_part_stored_grows t l target r v d
+assigned_there t l target op value (O.Field f) v d h = cc
+assigned_there t l target op value O.Nothing v d h = absurd h
 
 abbrev pub StoresThere : Typed → Layout → TExpr → TExpr → Type 0
 StoresThere t l e target = (at v : Out) → Fits (bare target) (S.Indexed at) → (d : Draft) → Grows d 1 (λ (w : Out). Stands (is_none (type_of (bare target)).shape) v) (communicated t l e at (v ∷ []) O.Nothing d)
@@ -93,7 +93,7 @@ unfolding communicated is_send out-TExpr Carrier.out
 assign_there t l ty place op p target q value s at v h d =
     let one = one_address (bare target) at s h in
     weaker (λ (w : Out). InRegister v) _ d 1 _ (λ w g. subst (λ b. Stands b v) (sym one) g)
-    (assigned_there t l target (assign_op_of op) _ at v d (subst (λ b. Is b at) one (address_kind (bare target) at h)))
+    (assigned_there t l target (assign_op_of op) value at v d (subst (λ b. Is b at) one (address_kind (bare target) at h)))
 
 pub step_there : (t : Typed) (l : Layout) (ty : ValueType) (op : StepOp) (order : StepOrder) (p : _) (target : TExpr) → StoresThere t l (T.Step' ty op order p target) target
 unfolding communicated in_register out-TExpr Carrier.out

@@ -145,7 +145,10 @@ pub fn bits_of(kind: Option<Elem>) -> u8
 fn joins_bits(combiner: Reduction) -> bool
     ensures { result ≡ joins_bits combiner }
 {
-    matches!(combiner, Reduction::Logand | Reduction::Logior | Reduction::Logxor)
+    matches!(
+        combiner,
+        Reduction::Logand | Reduction::Logior | Reduction::Logxor
+    )
 }
 
 /// At how many bits the values of a narrow type are folded. A combiner that reads its numbers with a sign

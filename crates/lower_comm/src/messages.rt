@@ -66,9 +66,7 @@ pub fn comm_in(
             target,
             value,
             ..
-        } => {
-            assign(view, target, assign_op(*op), value, at, parts, into, u)
-        }
+        } => { assign(view, target, assign_op(*op), value, at, parts, into, u) }
         TExpr::Step { target, .. } => {
             let processor = at.register()?;
             store(view, target, processor, parts, u)

@@ -17,7 +17,7 @@ use Rattle.phase_meaning.proofs.Widths.{residue_cut}
 use Rattle.short_values.specs.Short.{Agrees}
 
 -- the number of a type that a word is converted to
-pub narrowed : ℕ → ℕ → ℕ
+unfoldable pub narrowed : ℕ → ℕ → ℕ
 narrowed bits word = if bits == 1 then truth_of (number_of 32 true word) else residue bits (number_of 32 true word)
 
 truth_below : (z : ℤ) → truth_of z < 2 ^ 1

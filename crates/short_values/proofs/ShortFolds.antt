@@ -1,5 +1,5 @@
 -- Folds of the numbers of a narrow type, at their own length.
-use Rattle.std.proofs.Common.{◌≡◌, ℕ, zero, suc, ◌+◌, ◌×◌, ◌<◌, ◌≤◌, ◌-◌, ◌^◌, ◌%◌, bit_and, bit_or, bit_xor, Bool, true, false, not, ◌&&◌, cond, Some, None, pos, refl, sym, ◌∙◌, ap, subst, lit<, arith}
+use Rattle.std.proofs.Common.{◌≡◌, ℕ, zero, suc, ◌+◌, ◌<◌, ◌≤◌, ◌-◌, ◌^◌, ◌%◌, bit_and, bit_or, bit_xor, Bool, true, false, not, ◌&&◌, cond, Some, None, refl, sym, ◌∙◌, ap, subst, lit<, arith}
 use Rattle.std.specs.Prelude.{if◌then◌else◌}
 use Rattle.std.proofs.lemmas.Nat.{and_mod, or_mod, xor_mod}
 use Rattle.std.proofs.lemmas.Bool.{ne_eqb}
@@ -122,7 +122,7 @@ Repeating f = (k a b : ℕ) → Repeats k a → Repeats k b → Repeats k (f a b
 step_kept : (f : ℕ → ℕ → ℕ) → Lowest f → Repeating f → (k low word more other : ℕ) → Kept k low word → Kept k more other → Kept k (f low more) (f word other)
 step_kept f lowest repeats k low word more other a b = (
   lowest low more (suc k) ∙ ap (λ x. f x (more % 2 ^ suc k)) a.0 ∙ ap (λ x. f (word % 2 ^ suc k) x) b.0 ∙ sym (lowest word other (suc k)),
-  repeats k word other a.1 b.1
+  repeats k word other a.1 b.1,
 )
 
 -- a number without its sign
@@ -132,11 +132,10 @@ value_kept k n word h has agrees =
     let below = word_below (suc k) true word has in
     let same : residue 32 (number_of 32 false word) ≡ word = residue_of_number 32 false word below in
     let read : residue 32 (number_of (suc k) false n) ≡ n % 2 ^ 32 = ap (residue 32) (number_unsigned (suc k) n) ∙ residue_of_pos 32 n in
-    let most : suc k ≤ 32 = omega arith in
-    (
-    ap (λ x. x % 2 ^ suc k) read ∙ cut_cut n (suc k) 32 most ∙ ap (λ x. x % 2 ^ suc k) agrees ∙ cut_cut word (suc k) (suc k) (omega arith)
-    ∙ sym (ap (λ x. x % 2 ^ suc k) same),
-    subst (Repeats k) (whole (suc k) true word has ∙ sym same) (number_repeats k (narrowed (suc k) word) h (narrowed_below (suc k) word))
+    let most : suc k ≤ 32 = omega arith in (
+      ap (λ x. x % 2 ^ suc k) read ∙ cut_cut n (suc k) 32 most ∙ ap (λ x. x % 2 ^ suc k) agrees ∙ cut_cut word (suc k) (suc k) (omega arith)
+          ∙ sym (ap (λ x. x % 2 ^ suc k) same),
+      subst (Repeats k) (whole (suc k) true word has ∙ sym same) (number_repeats k (narrowed (suc k) word) h (narrowed_below (suc k) word)),
     )
 
 joined_kept : (f : ℕ → ℕ → ℕ) → Lowest f → Repeating f → (start k : ℕ) → (passes : ℕ → Bool) (number word : ℕ → ℕ) (count : ℕ) → k < 31

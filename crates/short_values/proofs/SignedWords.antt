@@ -1,6 +1,6 @@
 -- Words of a type with a sign: their bits from the sign on are all 0 or all 1, and operators that take each
 -- bit by itself keep that.
-use Rattle.std.proofs.Common.{◌≡◌, ℕ, zero, suc, ◌+◌, ◌*◌, ◌/◌, ◌<◌, ◌≤◌, ◌-◌, ◌^◌, ◌%◌, ◌⊎◌, bit_and, bit_or, bit_xor, Bool, true, ℤ, pos, ◌-ℤ◌, refl, sym, ◌∙◌, ap, subst, inl, inr, lit<, arith, add-mul}
+use Rattle.std.proofs.Common.{◌≡◌, ℕ, suc, ◌+◌, ◌*◌, ◌/◌, ◌<◌, ◌≤◌, ◌-◌, ◌^◌, ◌%◌, ◌⊎◌, bit_and, bit_or, bit_xor, true, pos, ◌-ℤ◌, sym, ◌∙◌, ap, inl, inr, lit<, arith, add-mul}
 use Rattle.std.specs.Int.Bits.{and_self, or_self, or_zero_l, or_zero_r, xor_self, xor_zero_l, xor_zero_r}
 use Rattle.std.proofs.lemmas.Int.{ints}
 use Rattle.std.proofs.lemmas.Nat.{pow_pos, mod_below, mod_low, shr_high, shr_split, div_below, and_le_l, and_le_r, and_shr, or_shr, xor_shr}
@@ -61,7 +61,7 @@ half_is k = ap (λ n. 2 ^ n) (let e : suc k - 1 ≡ k = omega arith in e)
 pub sign_extended : (k word : ℕ) → k < 31 → Repeats k word → residue 32 (number_of (suc k) true (word % 2 ^ suc k)) ≡ word
 sign_extended k word h (inl p) =
     let low : word < 2 ^ k = omega (arith, shr_split word k, ap (λ q. q * 2 ^ k) p, mod_below word (2 ^ k) (pow_pos k)) in
-    let twice : 2 ^ suc k ≡ 2 * 2 ^ k = pow-suc 2 k in
+    let twice : 2 ^ suc k ≡ 2 * 2 ^ k = omega (arith, pow-suc 2 k) in
     let most : 2 ^ k ≤ 2 ^ 32 = pow-le-pow_right (lit< tt) (let e : k ≤ 32 = omega arith in e) in
     ap (λ n. residue 32 (number_of (suc k) true n)) (mod-eq_of_lt (omega arith))
     ∙ ap (residue 32) (number_in_lower (suc k) word (omega (arith, half_is k)))
@@ -69,7 +69,7 @@ sign_extended k word h (inl p) =
 sign_extended k word h (inr p) =
     let r : ℕ = word % 2 ^ k in
     let below : r < 2 ^ k = mod_below word (2 ^ k) (pow_pos k) in
-    let twice : 2 ^ suc k ≡ 2 * 2 ^ k = pow-suc 2 k in
+    let twice : 2 ^ suc k ≡ 2 * 2 ^ k = omega (arith, pow-suc 2 k) in
     let is : word ≡ (times k - 1) * 2 ^ k + r = sym (shr_split word k) ∙ ap (λ q. q * 2 ^ k + r) p in
     let whole = tops k (let e : k ≤ 32 = omega arith in e) in
     let wide = tops (suc k) (let e : suc k ≤ 32 = omega arith in e) in
@@ -90,7 +90,7 @@ number_repeats k n h b = elim (cases_lt n (2 ^ k)) [
       let none = div_below n (2 ^ k) 1 (pow_pos k) (omega arith) in
       inl (ap (λ x. x / 2 ^ k) is ∙ omega arith)
   | inr upper ↦
-      let twice : 2 ^ suc k ≡ 2 * 2 ^ k = pow-suc 2 k in
+      let twice : 2 ^ suc k ≡ 2 * 2 ^ k = omega (arith, pow-suc 2 k) in
       let whole = tops k (let e : k ≤ 32 = omega arith in e) in
       let word : ℕ = (times k - 1) * 2 ^ k + (n - 2 ^ k) in
       let is : residue 32 (number_of (suc k) true n) ≡ word =

@@ -14,7 +14,7 @@ use Rattle.paris_code.specs.Operators.{combiner_of}
 use Rattle.paris_code.specs.Scalar.{rounded}
 use Rattle.source_meaning.specs.Reductions.{int_type}
 use Rattle.source_meaning.specs.Values.{unary_of}
-use Rattle.lower_base.specs.Kinds.{has_all}
+use Rattle.lower_base.specs.Kinds.{folded_bits, folded_kind, has_all}
 use Rattle.lower_base.specs.Operators.{relates}
 use Rattle.lower_expr.specs.Kinds.{is_modular, has_number}
 
