@@ -42,6 +42,10 @@ mark_field = record { set = 0; offset = 4; len = 1 }
 abbrev pub marked_line : Winner → BitMemory
 marked_line winner = memory_by (row 1 0 1 ∷ row 2 1 0 ∷ row 3 0 1 ∷ row 4 0 1 ∷ []) winner
 
+-- processors 0 and 1 hold 15 and are active; the others are not
+abbrev pub two_of_ones : BitMemory
+two_of_ones = memory_by (row 15 0 1 ∷ row 15 0 1 ∷ []) W.High
+
 -- all four name processor 2, and processor 2 alone is not active
 abbrev pub colliding : Winner → BitMemory
 colliding winner = memory_by (row 2 0 1 ∷ row 2 0 1 ∷ row 2 0 0 ∷ row 2 0 1 ∷ []) winner
@@ -71,6 +75,10 @@ pub record Communication : Type 0 where
   pub first_wins : winning_sender line (colliding W.Low) number_field 2 ≡ Some 0
   pub nobody_wins : winning_sender line (colliding W.Low) number_field 1 ≡ None
   pub no_processor : of_named line (memory_by (row 4 0 1 ∷ row 0 0 1 ∷ []) W.High) number_field number_field 0 ≡ 0
+  pub sum_with_a_sign : global_fold line two_of_ones F.SAdd number_field ≡ 2 ^ 32 - 2
+  pub greatest_with_a_sign : global_fold line two_of_ones F.SMax number_field ≡ 2 ^ 32 - 1
+  pub greatest_without_a_sign : global_fold line two_of_ones F.UMax number_field ≡ 15
+  pub ones_of_all : global_fold line two_of_ones F.Logand number_field ≡ 15
   pub minimum_of_nothing : global_fold line (memory_by [] W.High) F.SMin number_field ≡ 2 ^ 31 - 1
   pub least_of_two : least_below (λ p. is_active line (marked_line W.High) 0 p) 4 ≡ Some 0
 

@@ -1,5 +1,5 @@
 -- Communication without collisions: NEWS, get, one processor's field, and the global folds.
-use Rattle.std.specs.Prelude.{ℕ, Bool, true, ◌==◌, nat_lt, if◌then◌else◌}
+use Rattle.std.specs.Prelude.{ℕ, Bool, true, not, ◌==◌, nat_lt, if◌then◌else◌}
 use Rattle.vp_sets.specs.Positions.{shifted}
 use Rattle.cstar_base.specs.Folds.{fold_once, identity_of}
 use Rattle.cstar_base.specs.Numbers.{number_of, residue}
@@ -33,10 +33,14 @@ of_named shapes m address a p = number_or_zero shapes m a (field_number m addres
 unfoldable pub word_of_one : List SetShape → BitMemory → Bool → Field → ℕ → ℕ
 word_of_one shapes m signed a processor = if nat_lt processor (processors shapes a.set) then residue 32 (whole_number m signed a processor) else 0
 
+-- a number of a field as the word that a fold takes: read signed where the combiner does
+unfoldable pub folded_word : Reduction → BitMemory → Field → ℕ → ℕ
+folded_word c m a p = residue 32 (whole_number m (not (combiner_of c).1) a p)
+
 -- the fold of a over the active processors in rising order, from the identity
 unfoldable pub global_fold : List SetShape → BitMemory → Reduction → Field → ℕ
 global_fold shapes m c a =
-    fold_below (λ total n. fold_once (combiner_of c).0 (combiner_of c).1 total n) (λ p. is_active shapes m a.set p) (λ p. field_number m a p)
+    fold_below (λ total n. fold_once (combiner_of c).0 (combiner_of c).1 total n) (λ p. is_active shapes m a.set p) (λ p. folded_word c m a p)
     (identity_of (combiner_of c).0 (combiner_of c).1) (processors shapes a.set)
 
 -- one processor's destination becomes a number, active or not; nothing if there is no such one

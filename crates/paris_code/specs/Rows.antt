@@ -88,7 +88,7 @@ row_of (I.GetFromNewsAlways d a axis k) = any d ∷ (like d a ∷ (Axis d.set ax
 row_of (I.Get d address a) = any d ∷ (any address ∷ (like d a ∷ []))
 row_of (I.SendWithOverwrite d kind address a) = Bits d (L.Exactly kind.bits) ∷ (Kind kind ∷ (any address ∷ (like d a ∷ [])))
 row_of (I.SendWithCombiner c d kind address a) = Bits d (L.Exactly kind.bits) ∷ (Kind kind ∷ (any address ∷ (word a ∷ [])))
-row_of (I.Global c r a) = Result r ∷ (word a ∷ [])
+row_of (I.Global c r a) = Result r ∷ (any a ∷ [])
 row_of (I.Scan c d a axis direction mode bit inclusion) =
     word d ∷ (word a ∷ (Axis d.set axis ∷ (Way direction ∷ (Mode mode ∷ (Bit mode bit ∷ (Bound inclusion ∷ []))))))
 row_of (I.ReadFromProcessor signed r processor a) = Result r ∷ (Register processor ∷ (any a ∷ []))

@@ -22,7 +22,7 @@ pub fn wide_shifts()
 {}
 
 /// A segment that begins at an inactive position, a colliding send under both winners, a get without
-/// a processor, a minimum over nothing, the least processor that passes.
+/// a processor, folds of a field with a sign and without one, a minimum over nothing, the least processor that passes.
 pub fn communication()
     ensures { Communication }
 {}

@@ -291,7 +291,7 @@ impl Instr {
             ),
             Instr::Global { dest, source, .. } => Row::two(
                 Operand::Result(*dest),
-                Operand::exactly(32, *source),
+                Operand::any(*source),
             ),
             Instr::Scan {
                 dest,

@@ -28,8 +28,8 @@ const LANES_NS: u32 = 4_000;
 const CHECK_NS: u32 = 10_000;
 /// A get: numbers are lifted and fetched.
 const FETCH_NS: u32 = 10_000;
-/// A reduction to the least or the greatest: the lanes that stay are told plane by plane.
-const EXTREME_NS: u32 = 500;
+/// A bit of each position in a reduction to the least or the greatest: the lanes that stay are told.
+const EXTREME_NS: u32 = 15;
 /// Each of the two passes of a scan upward: numbers are lifted and folded.
 const SCAN_NS: u32 = 1_500;
 /// The two passes of a scan downward in which numbers are lifted and put back. The words are joined
@@ -115,7 +115,7 @@ fn reduction(combiner: Reduction, set: u16, len: u8) -> Pass {
             planes(set, len)
         }
         Reduction::SMin | Reduction::UMin | Reduction::SMax | Reduction::UMax => {
-            lanes(set, EXTREME_NS)
+            lanes(set, INSTRUCTION_NS + EXTREME_NS * u32::from(len))
         }
     }
 }

@@ -107,7 +107,8 @@ impl RowPhases {
         let mut total = identity(combine, unsigned);
         'positions: for position in 0..self.positions(source.set) {
             if self.is_active(source.set, position) {
-                total = fold_step(combine, unsigned, total, self.field(source, position));
+                let word = self.word(!unsigned, source, position);
+                total = fold_step(combine, unsigned, total, word);
             }
         }
         total

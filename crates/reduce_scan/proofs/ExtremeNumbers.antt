@@ -5,23 +5,28 @@ use Rattle.std.proofs.lemmas.Bool.{cases_eq, cases_lt, cases_Bool, eq-eqb, eqb-t
 use Rattle.std.proofs.lemmas.Int.{ints, clamps}
 use Rattle.std.proofs.Math.Nat.{pow-suc}
 use Rattle.std.proofs.Math.Pow.{pow_mono}
+use Rattle.cstar_base.specs.declared.operators.Combiner.{Combiner}
+use Rattle.cstar_base.specs.declared.operators.Combiner.TheVariants as C
 use Rattle.cstar_base.specs.Folds.{fold_once}
-use Rattle.cstar_base.specs.Numbers.{residue}
+use Rattle.cstar_base.specs.Numbers.{number_of, residue}
 use Rattle.cstar_base.specs.Operators.{operand, lesser_of, greater_of}
 use Rattle.cstar_base.specs.Orders.{fold_below}
-use Rattle.cstar_base.proofs.FoldLaws.{residue_of_operand, identity_first, fold_once_comm, fold_once_assoc}
-use Rattle.cstar_base.proofs.NumberLaws.{number_in_upper, number_in_lower, number_unsigned}
+use Rattle.cstar_base.proofs.FoldLaws.{residue_of_operand, fold_once_comm, fold_once_assoc}
+use Rattle.cstar_base.proofs.NumberLaws.{residue_below, number_in_upper, number_in_lower, number_unsigned}
 use Rattle.bit_planes.specs.declared.plane.Plane.{Plane}
 use Rattle.bit_planes.specs.Bits.{bit}
 use Rattle.bit_planes.specs.Planes.{plane_at, number}
 use Rattle.bit_planes.proofs.Planes.{number-lt}
 use Rattle.bit_planes.proofs.Words.{bit-lt}
 use Rattle.lane_kernels.specs.Numbers.{ones_before}
+use Rattle.paris_code.specs.declared.operands.Field.{Field}
 use Rattle.paris_code.specs.declared.operands.Reduction.{Reduction}
 use Rattle.paris_code.specs.Operators.{combiner_of}
-use Rattle.reduce_scan.specs.Blocks.{block_fold}
+use Rattle.reduce_scan.specs.Blocks.{block_fold, lane_word}
 use Rattle.reduce_scan.specs.Extremes.{extreme_of, wants_one}
-use Rattle.reduce_scan.proofs.Parts.{fold_past, fold_fits, not_last, once, none, none_below, none_last}
+use Rattle.phase_meaning.proofs.Runs.{fold_same}
+use Rattle.phase_meaning.proofs.Widths.{number_in_word}
+use Rattle.reduce_scan.proofs.Parts.{fold_fits, not_last, once, none, none_below, none_last}
 use Rattle.reduce_scan.proofs.WithinBlocks.{flag}
 use Rattle.reduce_scan.proofs.WordRuns.{none_before}
 
@@ -105,21 +110,33 @@ rank_signed (suc n) v b =
     let digit = ap (λ t. cond (eqb (v % 2) (flag t)) 0 1) (wants_later false false n) ∙ low_digit (v % 2) (omega arith) in
     (λ l. omega (arith, rest.0 (omega (arith, l, p)), digit, p), λ h. omega (arith, rest.1 (omega (arith, h, p)), digit, p))
 
--- the better of two words
-order : (u : Bool) (a b : ℕ) → a < 2 ^ 32 → b < 2 ^ 32 → rank false u 32 a ≤ rank false u 32 b → operand 32 u a ≤ℤ operand 32 u b
-unfolding operand
-order true a b p q h = omega (arith, ints, number_unsigned 32 a, number_unsigned 32 b, rank_unsigned 32 a p, rank_unsigned 32 b q, h)
-order false a b p q h =
-    let x = rank_signed 31 a p in
-    let y = rank_signed 31 b q in
-    elim (cases_lt a (2 ^ 31)) [
-      | inl la ↦ elim (cases_lt b (2 ^ 31)) [
-        | inl lb ↦ omega (arith, ints, number_in_lower 32 a la, number_in_lower 32 b lb, x.0 la, y.0 lb, h)
-        | inr hb ↦ absurd (omega (arith, x.0 la, y.1 hb, h, q))
+abbrev extreme_combiner : Bool → Combiner
+extreme_combiner false = C.Min
+extreme_combiner true = C.Max
+
+extreme_combines : (g u : Bool) → combiner_of (extreme_of g u) ≡ (extreme_combiner g, u)
+extreme_combines false false = refl
+extreme_combines false true = refl
+extreme_combines true false = refl
+extreme_combines true true = refl
+
+-- the better of two numbers of some bits
+order : (u : Bool) (len a b : ℕ) → 1 ≤ len → a < 2 ^ len → b < 2 ^ len → rank false u len a ≤ rank false u len b → number_of len (not u) a ≤ℤ number_of len (not u) b
+order u zero a b some p q h = absurd (omega (arith, some))
+order true (suc m) a b some p q h = omega (arith, ints, number_unsigned (suc m) a, number_unsigned (suc m) b, rank_unsigned (suc m) a p, rank_unsigned (suc m) b q, h)
+order false (suc m) a b some p q h =
+    let x = rank_signed m a p in
+    let y = rank_signed m b q in
+    let double = pow-suc 2 m in
+    let half : 2 ^ (suc m - 1) ≡ 2 ^ m = ap (λ k. 2 ^ k) (let e : suc m - 1 ≡ m = omega arith in e) in
+    elim (cases_lt a (2 ^ m)) [
+      | inl la ↦ elim (cases_lt b (2 ^ m)) [
+        | inl lb ↦ omega (arith, ints, number_in_lower (suc m) a (omega (arith, la, half)), number_in_lower (suc m) b (omega (arith, lb, half)), x.0 la, y.0 lb, h)
+        | inr hb ↦ absurd (omega (arith, x.0 la, y.1 hb, h, q, double))
       ]
-      | inr ha ↦ elim (cases_lt b (2 ^ 31)) [
-        | inl lb ↦ omega (arith, ints, number_in_upper 32 a ha, number_in_lower 32 b lb, p)
-        | inr hb ↦ omega (arith, ints, number_in_upper 32 a ha, number_in_upper 32 b hb, x.1 ha, y.1 hb, h)
+      | inr ha ↦ elim (cases_lt b (2 ^ m)) [
+        | inl lb ↦ omega (arith, ints, number_in_upper (suc m) a (omega (arith, ha, half)), number_in_lower (suc m) b (omega (arith, lb, half)), p)
+        | inr hb ↦ omega (arith, ints, number_in_upper (suc m) a (omega (arith, ha, half)), number_in_upper (suc m) b (omega (arith, hb, half)), x.1 ha, y.1 hb, h)
       ]
     ]
 
@@ -129,70 +146,81 @@ lesser x y h = omega (arith, ints, clamps)
 greater : (x y : ℤ) → y ≤ℤ x → int_max x y ≡ x
 greater x y h = omega (arith, ints, clamps)
 
-once_best : (g u : Bool) (a b : ℕ) → a < 2 ^ 32 → b < 2 ^ 32 → rank g u 32 a ≤ rank g u 32 b → once (extreme_of g u) a b ≡ a
-unfolding fold_once lesser_of greater_of
-once_best false false a b p q h = ap (residue 32) (lesser (operand 32 false a) (operand 32 false b) (order false a b p q h)) ∙ residue_of_operand false a p
-once_best false true a b p q h = ap (residue 32) (lesser (operand 32 true a) (operand 32 true b) (order true a b p q h)) ∙ residue_of_operand true a p
-once_best true false a b p q h =
-    ap (residue 32) (greater (operand 32 false a) (operand 32 false b) (order false b a q p (omega (arith, h, rank_opposed false 32 a, rank_opposed false 32 b)))) ∙ residue_of_operand false a p
-once_best true true a b p q h =
-    ap (residue 32) (greater (operand 32 true a) (operand 32 true b) (order true b a q p (omega (arith, h, rank_opposed true 32 a, rank_opposed true 32 b)))) ∙ residue_of_operand true a p
+-- the words of numbers of some bits
+module _ (g u : Bool) (len : ℕ) (some : 1 ≤ len) (few : len ≤ 32) where
+  abbrev pub word : ℕ → ℕ
+  word n = residue 32 (number_of len (not u) n)
 
--- a fold of the best is the best one, where it is among them
-module _ (g u : Bool) (f : ℕ → Bool) (x : ℕ → ℕ) (fits : (k : ℕ) → x k < 2 ^ 32) where
-  abbrev r : Reduction
-  r = extreme_of g u
+  word_fits : (n : ℕ) → word n < 2 ^ 32
+  word_fits n = residue_below 32 (number_of len (not u) n)
 
-  abbrev fold_to : ℕ → ℕ
-  fold_to n = fold_below (once r) f x (none r) n
+  ordered_words : (a b : ℕ) → a < 2 ^ len → b < 2 ^ len → rank false u len a ≤ rank false u len b → operand 32 u (word a) ≤ℤ operand 32 u (word b)
+  unfolding operand
+  ordered_words a b p q h = omega (arith, ints, number_in_word len (not u) a some few p, number_in_word len (not u) b some few q, order u len a b some p q h)
 
-  to_fits : (n : ℕ) → fold_to n < 2 ^ 32
-  to_fits n = fold_fits r f x (none r) n (none_below r) fits
+  chosen : (greatest : Bool) (a b : ℕ) → a < 2 ^ len → b < 2 ^ len → rank greatest u len a ≤ rank greatest u len b → fold_once (extreme_combiner greatest) u (word a) (word b) ≡ word a
+  unfolding fold_once lesser_of greater_of
+  chosen false a b p q h = ap (residue 32) (lesser (operand 32 u (word a)) (operand 32 u (word b)) (ordered_words a b p q h)) ∙ residue_of_operand u (word a) (word_fits a)
+  chosen true a b p q h =
+      ap (residue 32) (greater (operand 32 u (word a)) (operand 32 u (word b)) (ordered_words b a q p (omega (arith, h, rank_opposed u len a, rank_opposed u len b)))) ∙ residue_of_operand u (word a) (word_fits a)
 
-  bound : (a n : ℕ) → a < 2 ^ 32 → ((k : ℕ) → k < n → f k ≡ true → once r a (x k) ≡ a) → once r a (fold_to n) ≡ a
-  unfolding fold_below
-  bound a zero b best = none_last r a b
-  bound a (suc n) b best =
-      let rest : once r a (fold_to n) ≡ a = bound a n b (λ k h. best k (omega arith)) in
-      elim (cases_Bool (f n)) [
-        | inl on ↦ ap (λ t. once r a (cond t (once r (fold_to n) (x n)) (fold_to n))) on
-            ∙ sym (fold_once_assoc (combiner_of r).0 (combiner_of r).1 a (fold_to n) (x n) b (to_fits n) (fits n)) ∙ ap (λ y. once r y (x n)) rest ∙ best n (omega arith) on
-        | inr off ↦ ap (λ t. once r a (cond t (once r (fold_to n) (x n)) (fold_to n))) off ∙ rest
-      ]
+  once_best : (a b : ℕ) → a < 2 ^ len → b < 2 ^ len → rank g u len a ≤ rank g u len b → once (extreme_of g u) (word a) (word b) ≡ word a
+  once_best a b p q h = ap (λ r. fold_once r.0 r.1 (word a) (word b)) (extreme_combines g u) ∙ chosen g a b p q h
 
-  reached : (i n : ℕ) → i < n → f i ≡ true → once r (fold_to n) (x i) ≡ fold_to n
-  unfolding fold_below
-  reached i zero b on = absurd (omega arith)
-  reached i (suc n) b on = elim (cases_eq i n) [
-    | inl e ↦
-        let here : f n ≡ true = ap f (sym e) ∙ on in
-        ap (once r (fold_to (suc n))) (ap x e) ∙ ap (λ t. once r (cond t (once r (fold_to n) (x n)) (fold_to n)) (x n)) here
-        ∙ fold_once_assoc (combiner_of r).0 (combiner_of r).1 (fold_to n) (x n) (x n) (to_fits n) (fits n) (fits n)
-        ∙ ap (once r (fold_to n)) (once_best g u (x n) (x n) (fits n) (fits n) (omega arith))
-        ∙ sym (ap (λ t. cond t (once r (fold_to n) (x n)) (fold_to n)) here)
-    | inr apart ↦
-        let rest : once r (fold_to n) (x i) ≡ fold_to n = reached i n (omega (arith, b, apart)) on in
+  -- a fold of the best is the best one, where it is among them
+  module _ (f : ℕ → Bool) (v : ℕ → ℕ) (short : (k : ℕ) → v k < 2 ^ len) where
+    abbrev r : Reduction
+    r = extreme_of g u
+
+    abbrev x : ℕ → ℕ
+    x k = word (v k)
+
+    fits : (k : ℕ) → x k < 2 ^ 32
+    fits k = word_fits (v k)
+
+    abbrev fold_to : ℕ → ℕ
+    fold_to n = fold_below (once r) f x (none r) n
+
+    to_fits : (n : ℕ) → fold_to n < 2 ^ 32
+    to_fits n = fold_fits r f x (none r) n (none_below r) fits
+
+    bound : (a n : ℕ) → a < 2 ^ 32 → ((k : ℕ) → k < n → f k ≡ true → once r a (x k) ≡ a) → once r a (fold_to n) ≡ a
+    unfolding fold_below
+    bound a zero b best = none_last r a b
+    bound a (suc n) b best =
+        let rest : once r a (fold_to n) ≡ a = bound a n b (λ k h. best k (omega arith)) in
         elim (cases_Bool (f n)) [
-          | inl here ↦ ap (λ t. once r (cond t (once r (fold_to n) (x n)) (fold_to n)) (x i)) here
-              ∙ fold_once_assoc (combiner_of r).0 (combiner_of r).1 (fold_to n) (x n) (x i) (to_fits n) (fits n) (fits i)
-              ∙ ap (once r (fold_to n)) (fold_once_comm (combiner_of r).0 (combiner_of r).1 (x n) (x i) (not_last r))
-              ∙ sym (fold_once_assoc (combiner_of r).0 (combiner_of r).1 (fold_to n) (x i) (x n) (to_fits n) (fits i) (fits n))
-              ∙ ap (λ y. once r y (x n)) rest ∙ sym (ap (λ t. cond t (once r (fold_to n) (x n)) (fold_to n)) here)
-          | inr off ↦ ap (λ t. once r (cond t (once r (fold_to n) (x n)) (fold_to n)) (x i)) off ∙ rest ∙ sym (ap (λ t. cond t (once r (fold_to n) (x n)) (fold_to n)) off)
+          | inl on ↦ ap (λ t. once r a (cond t (once r (fold_to n) (x n)) (fold_to n))) on
+              ∙ sym (fold_once_assoc (combiner_of r).0 (combiner_of r).1 a (fold_to n) (x n) b (to_fits n) (fits n)) ∙ ap (λ y. once r y (x n)) rest ∙ best n (omega arith) on
+          | inr off ↦ ap (λ t. once r a (cond t (once r (fold_to n) (x n)) (fold_to n))) off ∙ rest
         ]
-  ]
 
-  best_is : (a n i : ℕ) → a < 2 ^ 32 → ((k : ℕ) → k < n → f k ≡ true → rank g u 32 a ≤ rank g u 32 (x k)) → i < n → f i ≡ true → x i ≡ a → a ≡ fold_to n
-  best_is a n i b best within on is =
-      sym (bound a n b (λ k h t. once_best g u a (x k) b (fits k) (best k h t)))
-      ∙ fold_once_comm (combiner_of r).0 (combiner_of r).1 a (fold_to n) (not_last r) ∙ ap (once r (fold_to n)) (sym is) ∙ reached i n within on
+    reached : (i n : ℕ) → i < n → f i ≡ true → once r (fold_to n) (x i) ≡ fold_to n
+    unfolding fold_below
+    reached i zero b on = absurd (omega arith)
+    reached i (suc n) b on = elim (cases_eq i n) [
+      | inl e ↦
+          let here : f n ≡ true = ap f (sym e) ∙ on in
+          ap (once r (fold_to (suc n))) (ap x e) ∙ ap (λ t. once r (cond t (once r (fold_to n) (x n)) (fold_to n)) (x n)) here
+          ∙ fold_once_assoc (combiner_of r).0 (combiner_of r).1 (fold_to n) (x n) (x n) (to_fits n) (fits n) (fits n)
+          ∙ ap (once r (fold_to n)) (once_best (v n) (v n) (short n) (short n) (omega arith))
+          ∙ sym (ap (λ t. cond t (once r (fold_to n) (x n)) (fold_to n)) here)
+      | inr apart ↦
+          let rest : once r (fold_to n) (x i) ≡ fold_to n = reached i n (omega (arith, b, apart)) on in
+          elim (cases_Bool (f n)) [
+            | inl here ↦ ap (λ t. once r (cond t (once r (fold_to n) (x n)) (fold_to n)) (x i)) here
+                ∙ fold_once_assoc (combiner_of r).0 (combiner_of r).1 (fold_to n) (x n) (x i) (to_fits n) (fits n) (fits i)
+                ∙ ap (once r (fold_to n)) (fold_once_comm (combiner_of r).0 (combiner_of r).1 (x n) (x i) (not_last r))
+                ∙ sym (fold_once_assoc (combiner_of r).0 (combiner_of r).1 (fold_to n) (x i) (x n) (to_fits n) (fits i) (fits n))
+                ∙ ap (λ y. once r y (x n)) rest ∙ sym (ap (λ t. cond t (once r (fold_to n) (x n)) (fold_to n)) here)
+            | inr off ↦ ap (λ t. once r (cond t (once r (fold_to n) (x n)) (fold_to n)) (x i)) off ∙ rest ∙ sym (ap (λ t. cond t (once r (fold_to n) (x n)) (fold_to n)) off)
+          ]
+    ]
 
-  none_is : (a n : ℕ) → a < 2 ^ 32 → rank g u 32 a + 1 ≡ 2 ^ 32 → ((k : ℕ) → k < n → f k ≡ false) → a ≡ fold_to n
-  unfolding fold_below
-  none_is a n b last off =
-      sym (identity_first (combiner_of r).0 (combiner_of r).1 a b)
-      ∙ once_best g u (none r) a (none_below r) b (omega (arith, last, rank_fits g u 32 (none r)))
-      ∙ sym (ap (fold_below (once r) f x (none r)) (let e : n ≡ 0 + n = omega arith in e) ∙ fold_past (once r) f x (none r) 0 n (λ k h l. off k (omega (arith, l))))
+    pub best_is : (a n i : ℕ) → a < 2 ^ len → ((k : ℕ) → k < n → f k ≡ true → rank g u len a ≤ rank g u len (v k)) → i < n → f i ≡ true → v i ≡ a → word a ≡ fold_to n
+    best_is a n i b best within on is =
+        sym (bound (word a) n (word_fits a) (λ k h t. once_best a (v k) b (short k) (best k h t)))
+        ∙ fold_once_comm (combiner_of r).0 (combiner_of r).1 (word a) (fold_to n) (not_last r) ∙ ap (once r (fold_to n)) (ap word (sym is)) ∙ reached i n within on
 
 -- some lane has a 1
 pub some_before : (mask : List ℕ) (n : ℕ) → ones_before mask n ≢ 0 → (i : ℕ) × (i < n) × (bit mask i ≡ 1)
@@ -213,19 +241,19 @@ flag_is true e = refl
 flag_is false e = absurd (omega (arith, e))
 
 -- the lanes that are left after n bits have the best ones
-module _ (g u : Bool) (planes : List Plane) (offset context : ℕ) where
+module _ (g u : Bool) (planes : List Plane) (a : Field) (context : ℕ) where
   pub active : ℕ → Bool
   active i = eqb (bit (plane_at planes context) i) 1
 
   pub top : ℕ → ℕ → ℕ
-  top n i = number planes (offset + (32 - n)) n i
+  top n i = number planes (a.offset + (a.len - n)) n i
 
   pub record Narrowed (n : ℕ) (left : List ℕ) (total : ℕ) : Type 0 where
     pub small : total < 2 ^ n
     pub kept : (i : ℕ) → i < 512 → bit left i ≡ 1 → (active i ≡ true) × (top n i ≡ total)
     pub best : (i : ℕ) → i < 512 → active i ≡ true → rank g u n total ≤ rank g u n (top n i)
     pub tied : (i : ℕ) → i < 512 → active i ≡ true → rank g u n (top n i) ≡ rank g u n total → bit left i ≡ 1
-    pub some : ((i : ℕ) × (i < 512) × (bit left i ≡ 1)) ⊎ (((i : ℕ) → i < 512 → active i ≡ false) × (rank g u n total + 1 ≡ 2 ^ n))
+    pub some : (i : ℕ) × (i < 512) × (bit left i ≡ 1)
 
   -- a number that is read on from its highest bits
   number_below : (o n i : ℕ) → number planes o (suc n) i ≡ bit (plane_at planes o) i + 2 * number planes (suc o) n i
@@ -239,12 +267,12 @@ module _ (g u : Bool) (planes : List Plane) (offset context : ℕ) where
       twice : (p d : ℕ) → 2 * p * d ≡ 2 * (p * d)
       twice p d = omega (arith, mul_assoc 2 p d)
 
-  top_more : (n i : ℕ) → n < 32 → top (suc n) i ≡ bit (plane_at planes (offset + (31 - n))) i + 2 * top n i
+  top_more : (n i : ℕ) → n < a.len → top (suc n) i ≡ bit (plane_at planes (a.offset + (a.len - 1 - n))) i + 2 * top n i
   unfolding top
   top_more n i b =
-      number_below (offset + (32 - suc n)) n i
-      ∙ ap (λ o. bit (plane_at planes o) i + 2 * number planes (suc (offset + (32 - suc n))) n i) (let e : offset + (32 - suc n) ≡ offset + (31 - n) = omega arith in e)
-      ∙ ap (λ o. bit (plane_at planes (offset + (31 - n))) i + 2 * number planes o n i) (let e : suc (offset + (32 - suc n)) ≡ offset + (32 - n) = omega (arith, b) in e)
+      number_below (a.offset + (a.len - suc n)) n i
+      ∙ ap (λ o. bit (plane_at planes o) i + 2 * number planes (suc (a.offset + (a.len - suc n))) n i) (let e : a.offset + (a.len - suc n) ≡ a.offset + (a.len - 1 - n) = omega arith in e)
+      ∙ ap (λ o. bit (plane_at planes (a.offset + (a.len - 1 - n))) i + 2 * number planes o n i) (let e : suc (a.offset + (a.len - suc n)) ≡ a.offset + (a.len - n) = omega (arith, b) in e)
 
   rank_more : (n d t : ℕ) → d < 2 → rank g u (suc n) (d + 2 * t) ≡ 2 * rank g u n t + cond (eqb d (flag (wants_one g u n))) 0 1
   unfolding rank
@@ -252,23 +280,20 @@ module _ (g u : Bool) (planes : List Plane) (offset context : ℕ) where
       ap (λ q. 2 * rank g u n q + cond (eqb ((d + 2 * t) % 2) (flag (wants_one g u n))) 0 1) (let e : (d + 2 * t) / 2 ≡ t = omega (arith, b) in e)
       ∙ ap (λ q. 2 * rank g u n t + cond (eqb q (flag (wants_one g u n))) 0 1) (let e : (d + 2 * t) % 2 ≡ d = omega (arith, b) in e)
 
-  pub narrowed_none : (left : List ℕ) → left ≡ plane_at planes context → Narrowed 0 left 0
+  pub narrowed_none : (left : List ℕ) → left ≡ plane_at planes context → ones_before (plane_at planes context) 512 ≢ 0 → Narrowed 0 left 0
   unfolding rank top number active
-  narrowed_none left is = record {
+  narrowed_none left is there = record {
     small = omega arith;
     kept = λ i b on. (eq-eqb (bit (plane_at planes context) i) 1 (ap (λ l. bit l i) (sym is) ∙ on), refl);
     best = λ i b on. omega arith;
     tied = λ i b on e. ap (λ l. bit l i) is ∙ eqb-true (bit (plane_at planes context) i) 1 on;
-    some = elim (cases_eq (ones_before left 512) 0) [
-      | inl e ↦ inr (λ i b. ne_eqb (bit (plane_at planes context) i) 1 (λ h. absurd (omega (arith, none_before left 512 e i b, ap (λ l. bit l i) is, h))), refl)
-      | inr n ↦ inl (some_before left 512 n)
-    ];
+    some = some_before left 512 (λ e. there (ap (λ l. ones_before l 512) (sym is) ∙ e));
   }
 
-  module _ (n : ℕ) (low : n < 32) (left better : List ℕ) (total : ℕ) (so_far : Narrowed n left total)
-      (is : (i : ℕ) → i < 512 → bit better i ≡ min (bit left i) (flag (eqb (bit (plane_at planes (offset + (31 - n))) i) (flag (wants_one g u n))))) where
+  module _ (n : ℕ) (low : n < a.len) (left better : List ℕ) (total : ℕ) (so_far : Narrowed n left total)
+      (is : (i : ℕ) → i < 512 → bit better i ≡ min (bit left i) (flag (eqb (bit (plane_at planes (a.offset + (a.len - 1 - n))) i) (flag (wants_one g u n))))) where
     abbrev pub one : ℕ → ℕ
-    one i = bit (plane_at planes (offset + (31 - n))) i
+    one i = bit (plane_at planes (a.offset + (a.len - 1 - n))) i
 
     abbrev pub wanted : ℕ
     wanted = flag (wants_one g u n)
@@ -281,7 +306,7 @@ module _ (g u : Bool) (planes : List Plane) (offset context : ℕ) where
         flag_small false = omega arith
 
     rank_top : (i : ℕ) → rank g u (suc n) (top (suc n) i) ≡ 2 * rank g u n (top n i) + miss (eqb (one i) wanted)
-    rank_top i = ap (rank g u (suc n)) (top_more n i low) ∙ rank_more n (one i) (top n i) (bit-lt (plane_at planes (offset + (31 - n))) i)
+    rank_top i = ap (rank g u (suc n)) (top_more n i low) ∙ rank_more n (one i) (top n i) (bit-lt (plane_at planes (a.offset + (a.len - 1 - n))) i)
 
     better_is : (i : ℕ) → i < 512 → bit better i ≡ 1 → (bit left i ≡ 1) × (one i ≡ wanted)
     better_is i b on =
@@ -305,7 +330,7 @@ module _ (g u : Bool) (planes : List Plane) (offset context : ℕ) where
     at_most_one i = digit_small (eqb (one i) wanted)
 
     one_small : (i : ℕ) → one i < 2
-    one_small i = bit-lt (plane_at planes (offset + (31 - n))) i
+    one_small i = bit-lt (plane_at planes (a.offset + (a.len - 1 - n))) i
 
     -- some lane that is left has the better bit
     pub narrowed_found : ones_before better 512 ≢ 0 → Narrowed (suc n) better (wanted + 2 * total)
@@ -325,7 +350,7 @@ module _ (g u : Bool) (planes : List Plane) (offset context : ℕ) where
                 | inl has ↦ better_on i b (so_far.tied i b on same) has
                 | inr hasnt ↦ absurd (omega (arith, e, rank_is, rank_top i, same, hasnt))
               ];
-          some = inl (some_before better 512 found);
+          some = some_before better 512 found;
         }
 
     -- none has it
@@ -348,29 +373,24 @@ module _ (g u : Bool) (planes : List Plane) (offset context : ℕ) where
             | inr more ↦ omega (arith, rank_is, rank_top i, so_far.best i b on, more)
           ];
           tied = λ i b on e. so_far.tied i b on (omega (arith, e, rank_is, rank_top i, at_most_one i));
-          some = elim so_far.some [
-            | inl there ↦ inl there
-            | inr idle ↦ inr (idle.0, omega (arith, rank_is, idle.1, pow-suc 2 n))
-          ];
+          some = so_far.some;
         }
 
-  -- and after all bits the total is the fold
-  pub extreme_is : (left : List ℕ) (total : ℕ) → Narrowed 32 left total → total ≡ block_fold (extreme_of g u) planes offset context 512
-  unfolding top active
-  extreme_is left total all =
-      let value : ℕ → ℕ = λ i. number planes offset 32 i in
-      let at : (i : ℕ) → top 32 i ≡ value i = λ i. ap (λ o. number planes o 32 i) (let e : offset + 0 ≡ offset = omega arith in e) in
-      elim all.some [
-        | inl there ↦
-            let was = all.kept there.0 there.1 there.2 in
-            best_is g u active value (λ k. number-lt planes offset 32 k) total 512 there.0 all.small
-            (λ k h on. subst (λ v. rank g u 32 total ≤ rank g u 32 v) (at k) (all.best k h on)) there.1 was.0 (sym (at there.0) ∙ was.1)
-        | inr idle ↦ none_is g u active value (λ k. number-lt planes offset 32 k) total 512 all.small idle.1 idle.0
-      ]
+  -- and after all bits the word of the total is the fold
+  pub extreme_is : 1 ≤ a.len → a.len ≤ 32 → (left : List ℕ) (total : ℕ) → Narrowed a.len left total → residue 32 (number_of a.len (not u) total) ≡ block_fold (extreme_of g u) planes a context 512
+  unfolding top active lane_word
+  extreme_is some few left total all =
+      let value : ℕ → ℕ = λ i. number planes a.offset a.len i in
+      let at : (i : ℕ) → top a.len i ≡ value i = λ i. ap (λ o. number planes o a.len i) (let e : a.offset + (a.len - a.len) ≡ a.offset = omega arith in e) in
+      let lane : ℕ = all.some.0 in
+      let was = all.kept lane all.some.1 all.some.2 in
+      best_is g u a.len some few active value (λ k. number-lt planes a.offset a.len k) total 512 lane all.small
+      (λ k h on. subst (λ v. rank g u a.len total ≤ rank g u a.len v) (at k) (all.best k h on)) all.some.1 was.0 (sym (at lane) ∙ was.1)
+      ∙ fold_same _ _ _ _ _ _ 512 (λ k b. refl) (λ k b. ap (λ r. residue 32 (number_of a.len (not r.1) (value k))) (sym (extreme_combines g u)))
 
   -- one more bit, as it is found
-  pub narrowed_step : (n : ℕ) → n < 32 → (left better : List ℕ) (total : ℕ) → Narrowed n left total
-      → ((i : ℕ) → i < 512 → bit better i ≡ min (bit left i) (flag (eqb (bit (plane_at planes (offset + (31 - n))) i) (flag (wants_one g u n)))))
+  pub narrowed_step : (n : ℕ) → n < a.len → (left better : List ℕ) (total : ℕ) → Narrowed n left total
+      → ((i : ℕ) → i < 512 → bit better i ≡ min (bit left i) (flag (eqb (bit (plane_at planes (a.offset + (a.len - 1 - n))) i) (flag (wants_one g u n)))))
       → (count : ℕ) → count ≡ ones_before better 512 → (found : Bool) → found ≡ not (eqb count 0) → (stays : List ℕ) → stays ≡ cond found better left
       → (digit : ℕ) → digit ≡ cond found (cond (wants_one g u n) 1 0) (cond (wants_one g u n) 0 1) → Narrowed (n + 1) stays (total * 2 + digit)
   narrowed_step n low left better total so_far is count counted found tells stays stays_is digit picks = subst (λ m. Narrowed m stays (total * 2 + digit)) (sym (add-one n)) (elim (cases_eq count 0) [

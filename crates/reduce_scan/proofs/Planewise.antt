@@ -1,62 +1,74 @@
 -- A fold over lanes, plane by plane.
-use Rattle.std.proofs.Common.{◌≡◌, ℕ, zero, suc, ◌+◌, ◌*◌, ◌%◌, ◌^◌, ◌<◌, ◌≤◌, min, max, Bool, true, false, cond, eqb, List, inl, inr, refl, sym, ◌∙◌, ap, arith}
+use Rattle.std.proofs.Common.{◌≡◌, ℕ, zero, suc, ◌≢◌, ◌+◌, ◌-◌, ◌*◌, ◌%◌, ◌^◌, ◌<◌, ◌≤◌, min, max, Bool, true, false, cond, eqb, List, [], inl, inr, refl, sym, ◌∙◌, ap, arith}
 use Rattle.std.specs.Int.{bit_at}
 use Rattle.std.specs.Int.Bits.{bit_and, bit_or, bit_xor}
-use Rattle.std.proofs.Math.Nat.{mul-add, mul_comm, add-mod-mod, mod-add-mod, mod-eq_of_lt, pow-le-pow_right}
+use Rattle.std.proofs.Math.Nat.{mul-add, mul_comm, add-mod-mod, mod-add-mod, pow-le-pow_right}
+use Rattle.std.proofs.Math.Pow.{pow_mono}
 use Rattle.std.proofs.lemmas.Bool.{cases_eq, eq-eqb, ne_eqb}
 use Rattle.std.proofs.lemmas.Nat.{shl_whole, mod_below, pow_pos}
-use Rattle.std.proofs.lemmas.Nat.Bits.{bit_at_and, bit_at_or, bit_at_xor, bit_at_ones, bit_at-zero}
+use Rattle.std.proofs.lemmas.Nat.Bits.{bit_at_and, bit_at_or, bit_at_xor, bit_at_ones, bit_at-lt, bit_at-zero}
 use Rattle.cstar_base.specs.Folds.{fold_once, identity_of}
 use Rattle.cstar_base.specs.Orders.{fold_below}
 use Rattle.cstar_base.proofs.OperatorLaws.{sum_by_residues}
 use Rattle.bit_planes.specs.declared.plane.Plane.{Plane}
 use Rattle.bit_planes.specs.Bits.{bit}
 use Rattle.bit_planes.specs.Planes.{plane_at, number}
-use Rattle.bit_planes.proofs.Planes.{number-suc, number-none, number-bits, number-lt}
+use Rattle.bit_planes.proofs.Planes.{low_bits, number-none}
 use Rattle.bit_planes.proofs.Words.{bit-lt}
 use Rattle.lane_kernels.specs.Numbers.{ones_before}
 use Rattle.lane_kernels.proofs.Arithmetic.{mod-next}
+use Rattle.paris_code.specs.declared.operands.Field.{Field}
 use Rattle.paris_code.specs.declared.operands.Reduction.TheVariants as R
+use Rattle.paris_code.specs.Operators.{combiner_of}
 use Rattle.reduce_scan.specs.declared.counts.BitFold.{BitFold}
 use Rattle.reduce_scan.specs.declared.counts.BitFold.TheVariants as B
-use Rattle.reduce_scan.specs.Blocks.{block_fold}
+use Rattle.reduce_scan.specs.Blocks.{block_fold, lane_word}
 use Rattle.reduce_scan.specs.Planewise.{folded_bit, reduction_of}
+use Rattle.reduce_scan.proofs.LaneWords.{lane_fits, lane_bit, lane_above}
 use Rattle.reduce_scan.proofs.Parts.{once, none, none_below, fold_fits}
 
--- the sum over the active lanes of the first lanes, of the lowest j bits of each number
-abbrev pub plain_sum : List Plane → ℕ → ℕ → ℕ → ℕ → ℕ
-plain_sum planes offset context j n = fold_below (λ total v. total + v) (λ i. eqb (bit (plane_at planes context) i) 1) (λ i. number planes offset j i) 0 n
+-- the sum over the active lanes of the first lanes
+abbrev pub plain_sum : List ℕ → (ℕ → ℕ) → ℕ → ℕ
+plain_sum active value n = fold_below (λ total v. total + v) (λ i. eqb (bit active i) 1) value 0 n
 
 -- without bits there is nothing to add
-pub sum_none : (planes : List Plane) (offset context n : ℕ) → plain_sum planes offset context 0 n ≡ 0
+pub sum_none : (active : List ℕ) (planes : List Plane) (offset n : ℕ) → plain_sum active (number planes offset 0) n ≡ 0
 unfolding fold_below
-sum_none planes offset context zero = refl
-sum_none planes offset context (suc n) = elim (cases_eq (bit (plane_at planes context) n) 1) [
-  | inl on ↦
-      ap (λ t. cond t (plain_sum planes offset context 0 n + number planes offset 0 n) (plain_sum planes offset context 0 n)) (eq-eqb (bit (plane_at planes context) n) 1 on)
-      ∙ omega (arith, sum_none planes offset context n, number-none planes offset n)
-  | inr off ↦
-      ap (λ t. cond t (plain_sum planes offset context 0 n + number planes offset 0 n) (plain_sum planes offset context 0 n)) (ne_eqb (bit (plane_at planes context) n) 1 off)
-      ∙ sum_none planes offset context n
-]
+sum_none active planes offset zero = refl
+sum_none active planes offset (suc n) =
+    let before : ℕ = plain_sum active (number planes offset 0) n in
+    elim (cases_eq (bit active n) 1) [
+      | inl on ↦ ap (λ t. cond t (before + number planes offset 0 n) before) (eq-eqb (bit active n) 1 on) ∙ omega (arith, sum_none active planes offset n, number-none planes offset n)
+      | inr off ↦ ap (λ t. cond t (before + number planes offset 0 n) before) (ne_eqb (bit active n) 1 off) ∙ sum_none active planes offset n
+    ]
 
 sum_step : (t : Bool) (a v p : ℕ) → a ≡ p % 2 ^ 32 → cond t (once R.SAdd a v) a ≡ cond t (p + v) p % 2 ^ 32
 unfolding fold_once
 sum_step true a v p e = sum_by_residues 32 false a v ∙ ap (λ q. (q + v) % 2 ^ 32) e ∙ mod-add-mod p (2 ^ 32) v
 sum_step false a v p e = e
 
--- the fold is that sum of all bits
-pub sum_is : (planes : List Plane) (offset context n : ℕ) → block_fold R.SAdd planes offset context n ≡ plain_sum planes offset context 32 n % 2 ^ 32
+-- the fold is that sum of the words
+pub sum_is : (planes : List Plane) (a : Field) (context n : ℕ) → block_fold R.SAdd planes a context n ≡ plain_sum (plane_at planes context) (lane_word R.SAdd planes a) n % 2 ^ 32
 unfolding fold_below identity_of
-sum_is planes offset context zero = refl
-sum_is planes offset context (suc n) =
-    sum_step (eqb (bit (plane_at planes context) n) 1) (block_fold R.SAdd planes offset context n) (number planes offset 32 n) (plain_sum planes offset context 32 n) (sum_is planes offset context n)
+sum_is planes a context zero = refl
+sum_is planes a context (suc n) =
+    sum_step (eqb (bit (plane_at planes context) n) 1) (block_fold R.SAdd planes a context n) (lane_word R.SAdd planes a n) (plain_sum (plane_at planes context) (lane_word R.SAdd planes a) n) (sum_is planes a context n)
 
 -- the sum with one more bit, by how many lanes have it
 pub total_more : (total ones sum next j : ℕ) → total ≡ sum % 2 ^ 32 → next ≡ sum + 2 ^ j * ones → (total + ones * 2 ^ j % 2 ^ 32) % 2 ^ 32 ≡ next % 2 ^ 32
 total_more total ones sum next j e is =
     add-mod-mod total (ones * 2 ^ j) (2 ^ 32) ∙ ap (λ t. (t + ones * 2 ^ j) % 2 ^ 32) e ∙ mod-add-mod sum (2 ^ 32) (ones * 2 ^ j)
     ∙ ap (λ x. x % 2 ^ 32) (let f : sum + ones * 2 ^ j ≡ next = omega (arith, is, mul_comm ones (2 ^ j)) in f)
+
+-- and with the sign, by how many lanes have it
+pub total_signed : (total negative sum all sign : ℕ) → sign < 32 → total ≡ sum % 2 ^ 32 → all ≡ sum + (2 ^ 32 - 2 ^ sign) * negative
+    → (total + (2 ^ 32 - negative * 2 ^ sign % 2 ^ 32)) % 2 ^ 32 ≡ all % 2 ^ 32
+total_signed total negative sum all sign small e is =
+    let below = pow_mono {i = sign} {j = 32} (omega (arith, small)) in
+    let taken : ℕ = negative * 2 ^ sign in
+    let whole : (2 ^ 32 - 2 ^ sign) * negative + taken ≡ 2 ^ 32 * negative =
+    omega (arith, below, mul_comm negative (2 ^ sign), mul_comm negative (2 ^ 32 - 2 ^ sign), mul-add negative (2 ^ 32 - 2 ^ sign) (2 ^ sign), ap (λ w. negative * w) (let f : (2 ^ 32 - 2 ^ sign) + 2 ^ sign ≡ 2 ^ 32 = omega (arith, below) in f)) in
+    omega (arith, e, is, whole)
 
 all_step : (o c a b : ℕ) → o ≤ c → a < 2 → b < 2 → cond (eqb a 1) (min (cond (eqb o c) 1 0) b) (cond (eqb o c) 1 0) ≡ cond (eqb (o + min b a) (c + a)) 1 0
 all_step o c zero b h p q = ap (λ t. cond t 1 0) (elim (cases_eq o c) [
@@ -87,41 +99,42 @@ odd_step o zero b p q = omega arith
 odd_step o (suc zero) b p q = omega arith
 odd_step o (suc (suc a)) b p q = absurd (omega arith)
 
-module _ (planes : List Plane) (offset context j : ℕ) (mask : List ℕ)
-    (is : (i : ℕ) → i < 512 → bit mask i ≡ min (bit (plane_at planes (offset + j)) i) (bit (plane_at planes context) i)) where
-  abbrev here : ℕ → ℕ
-  here i = bit (plane_at planes context) i
-
-  pub sum_more : (n : ℕ) → n ≤ 512 → plain_sum planes offset context (j + 1) n ≡ plain_sum planes offset context j n + 2 ^ j * ones_before mask n
+-- each of some numbers has one digit more than another
+module _ (active digits mask : List ℕ) (low high : ℕ → ℕ) (weight : ℕ) (more : (i : ℕ) → high i ≡ low i + weight * bit digits i)
+    (is : (i : ℕ) → i < 512 → bit mask i ≡ min (bit digits i) (bit active i)) where
+  pub sum_more : (n : ℕ) → n ≤ 512 → plain_sum active high n ≡ plain_sum active low n + weight * ones_before mask n
   unfolding fold_below ones_before
   sum_more zero h = omega arith
   sum_more (suc n) h =
-      let low : ℕ = plain_sum planes offset context j n in
-      let high : ℕ = plain_sum planes offset context (j + 1) n in
-      let b : ℕ = bit (plane_at planes (offset + j)) n in
-      let rest : high ≡ low + 2 ^ j * ones_before mask n = sum_more n (omega arith) in
-      let own : bit mask n ≡ min b (here n) = is n (omega arith) in
-      elim (cases_eq (here n) 1) [
+      let below : ℕ = plain_sum active low n in
+      let above : ℕ = plain_sum active high n in
+      let b : ℕ = bit digits n in
+      let rest : above ≡ below + weight * ones_before mask n = sum_more n (omega arith) in
+      let own : bit mask n ≡ min b (bit active n) = is n (omega arith) in
+      elim (cases_eq (bit active n) 1) [
         | inl on ↦
-            let one : bit mask n ≡ b = omega (arith, own, on, bit-lt (plane_at planes (offset + j)) n) in
-            ap (λ t. cond t (high + number planes offset (j + 1) n) high) (eq-eqb (here n) 1 on)
-            ∙ (let e : high + number planes offset (j + 1) n ≡ low + number planes offset j n + 2 ^ j * (ones_before mask n + bit mask n) =
-            omega (arith, rest, number-suc planes offset j n, mul-add (2 ^ j) (ones_before mask n) (bit mask n), ap (λ x. 2 ^ j * x) one) in e)
-            ∙ sym (ap (λ t. cond t (low + number planes offset j n) low + 2 ^ j * (ones_before mask n + bit mask n)) (eq-eqb (here n) 1 on))
+            let one : bit mask n ≡ b = omega (arith, own, on, bit-lt digits n) in
+            ap (λ t. cond t (above + high n) above) (eq-eqb (bit active n) 1 on)
+            ∙ (let e : above + high n ≡ below + low n + weight * (ones_before mask n + bit mask n) =
+            omega (arith, rest, more n, mul-add weight (ones_before mask n) (bit mask n), ap (λ x. weight * x) one) in e)
+            ∙ sym (ap (λ t. cond t (below + low n) below + weight * (ones_before mask n + bit mask n)) (eq-eqb (bit active n) 1 on))
         | inr off ↦
-            let none_here : bit mask n ≡ 0 = omega (arith, own, off, bit-lt (plane_at planes context) n) in
-            ap (λ t. cond t (high + number planes offset (j + 1) n) high) (ne_eqb (here n) 1 off)
-            ∙ rest ∙ ap (λ x. low + 2 ^ j * x) (let e : ones_before mask n ≡ ones_before mask n + bit mask n = omega (arith, none_here) in e)
-            ∙ sym (ap (λ t. cond t (low + number planes offset j n) low + 2 ^ j * (ones_before mask n + bit mask n)) (ne_eqb (here n) 1 off))
+            let none_here : bit mask n ≡ 0 = omega (arith, own, off, bit-lt active n) in
+            ap (λ t. cond t (above + high n) above) (ne_eqb (bit active n) 1 off)
+            ∙ rest ∙ ap (λ x. below + weight * x) (let e : ones_before mask n ≡ ones_before mask n + bit mask n = omega (arith, none_here) in e)
+            ∙ sym (ap (λ t. cond t (below + low n) below + weight * (ones_before mask n + bit mask n)) (ne_eqb (bit active n) 1 off))
       ]
 
-  ones_few : (n : ℕ) → n ≤ 512 → ones_before mask n ≤ ones_before (plane_at planes context) n
+-- the fold of words bit by bit over the active lanes of the first lanes
+abbrev bit_fold : BitFold → List ℕ → (ℕ → ℕ) → ℕ → ℕ
+bit_fold fold active word n = fold_below (once (reduction_of fold)) (λ i. eqb (bit active i) 1) word (none (reduction_of fold)) n
+
+-- the lanes of a mask are the active ones whose word has a 1
+module _ (active : List ℕ) (word : ℕ → ℕ) (j : ℕ) (mask : List ℕ) (is : (i : ℕ) → i < 512 → bit mask i ≡ min (bit_at (word i) j) (bit active i)) where
+  ones_few : (n : ℕ) → n ≤ 512 → ones_before mask n ≤ ones_before active n
   unfolding ones_before
   ones_few zero h = omega arith
   ones_few (suc n) h = omega (arith, ones_few n (omega arith), is n (omega arith))
-
-  abbrev step_of : BitFold → ℕ → ℕ → ℕ
-  step_of fold x y = once (reduction_of fold) x y
 
   chosen : (t : Bool) (x y : ℕ) → bit_at (cond t x y) j ≡ cond t (bit_at x j) (bit_at y j)
   chosen true x y = refl
@@ -129,41 +142,38 @@ module _ (planes : List Plane) (offset context j : ℕ) (mask : List ℕ)
 
   -- the bit of a fold bit by bit
   pub bit_is : (fold : BitFold) → j < 32 → (n : ℕ) → n ≤ 512
-      → bit_at (block_fold (reduction_of fold) planes offset context n) j ≡ folded_bit fold (ones_before mask n) (ones_before (plane_at planes context) n)
+      → bit_at (bit_fold fold active word n) j ≡ folded_bit fold (ones_before mask n) (ones_before active n)
   unfolding fold_below fold_once identity_of ones_before
   bit_is B.All small zero h = bit_at_ones 32 j small
   bit_is B.Any small zero h = bit_at-zero j
   bit_is B.Odd small zero h = bit_at-zero j
   bit_is B.All small (suc n) h =
-      let f : ℕ = block_fold R.Logand planes offset context n in
-      let v : ℕ = number planes offset 32 n in
-      let b : ℕ = bit (plane_at planes (offset + j)) n in
+      let f : ℕ = bit_fold B.All active word n in
+      let v : ℕ = word n in
+      let b : ℕ = bit_at v j in
       let o : ℕ = ones_before mask n in
-      let c : ℕ = ones_before (plane_at planes context) n in
-      chosen (eqb (here n) 1) (bit_and f v) f ∙ ap (λ x. cond (eqb (here n) 1) x (bit_at f j)) (bit_at_and f v j)
-      ∙ ap (λ x. cond (eqb (here n) 1) (min x (bit_at v j)) x) (bit_is B.All small n (omega arith))
-      ∙ ap (λ x. cond (eqb (here n) 1) (min (cond (eqb o c) 1 0) x) (cond (eqb o c) 1 0)) (number-bits planes offset 32 n j small)
-      ∙ all_step o c (here n) b (ones_few n (omega arith)) (bit-lt (plane_at planes context) n) (bit-lt (plane_at planes (offset + j)) n)
-      ∙ ap (λ x. cond (eqb (o + x) (c + here n)) 1 0) (sym (is n (omega arith)))
+      let c : ℕ = ones_before active n in
+      chosen (eqb (bit active n) 1) (bit_and f v) f ∙ ap (λ x. cond (eqb (bit active n) 1) x (bit_at f j)) (bit_at_and f v j)
+      ∙ ap (λ x. cond (eqb (bit active n) 1) (min x (bit_at v j)) x) (bit_is B.All small n (omega arith))
+      ∙ all_step o c (bit active n) b (ones_few n (omega arith)) (bit-lt active n) (bit_at-lt v j)
+      ∙ ap (λ x. cond (eqb (o + x) (c + bit active n)) 1 0) (sym (is n (omega arith)))
   bit_is B.Any small (suc n) h =
-      let f : ℕ = block_fold R.Logior planes offset context n in
-      let v : ℕ = number planes offset 32 n in
-      let b : ℕ = bit (plane_at planes (offset + j)) n in
+      let f : ℕ = bit_fold B.Any active word n in
+      let v : ℕ = word n in
+      let b : ℕ = bit_at v j in
       let o : ℕ = ones_before mask n in
-      chosen (eqb (here n) 1) (bit_or f v) f ∙ ap (λ x. cond (eqb (here n) 1) x (bit_at f j)) (bit_at_or f v j)
-      ∙ ap (λ x. cond (eqb (here n) 1) (max x (bit_at v j)) x) (bit_is B.Any small n (omega arith))
-      ∙ ap (λ x. cond (eqb (here n) 1) (max (cond (eqb o 0) 0 1) x) (cond (eqb o 0) 0 1)) (number-bits planes offset 32 n j small)
-      ∙ any_step o (here n) b (bit-lt (plane_at planes context) n) (bit-lt (plane_at planes (offset + j)) n)
+      chosen (eqb (bit active n) 1) (bit_or f v) f ∙ ap (λ x. cond (eqb (bit active n) 1) x (bit_at f j)) (bit_at_or f v j)
+      ∙ ap (λ x. cond (eqb (bit active n) 1) (max x (bit_at v j)) x) (bit_is B.Any small n (omega arith))
+      ∙ any_step o (bit active n) b (bit-lt active n) (bit_at-lt v j)
       ∙ ap (λ x. cond (eqb (o + x) 0) 0 1) (sym (is n (omega arith)))
   bit_is B.Odd small (suc n) h =
-      let f : ℕ = block_fold R.Logxor planes offset context n in
-      let v : ℕ = number planes offset 32 n in
-      let b : ℕ = bit (plane_at planes (offset + j)) n in
+      let f : ℕ = bit_fold B.Odd active word n in
+      let v : ℕ = word n in
+      let b : ℕ = bit_at v j in
       let o : ℕ = ones_before mask n in
-      chosen (eqb (here n) 1) (bit_xor f v) f ∙ ap (λ x. cond (eqb (here n) 1) x (bit_at f j)) (bit_at_xor f v j)
-      ∙ ap (λ x. cond (eqb (here n) 1) ((x + bit_at v j) % 2) x) (bit_is B.Odd small n (omega arith))
-      ∙ ap (λ x. cond (eqb (here n) 1) ((o % 2 + x) % 2) (o % 2)) (number-bits planes offset 32 n j small)
-      ∙ odd_step o (here n) b (bit-lt (plane_at planes context) n) (bit-lt (plane_at planes (offset + j)) n)
+      chosen (eqb (bit active n) 1) (bit_xor f v) f ∙ ap (λ x. cond (eqb (bit active n) 1) x (bit_at f j)) (bit_at_xor f v j)
+      ∙ ap (λ x. cond (eqb (bit active n) 1) ((x + bit_at v j) % 2) x) (bit_is B.Odd small n (omega arith))
+      ∙ odd_step o (bit active n) b (bit-lt active n) (bit_at-lt v j)
       ∙ ap (λ x. (o + x) % 2) (sym (is n (omega arith)))
 
 -- one more bit of a number that is put together bit by bit
@@ -175,7 +185,48 @@ bit_more x total b j small e is =
     let same : total + b * 2 ^ j % 2 ^ 32 ≡ x % 2 ^ (j + 1) = omega (arith, whole, e, ap (λ d. d * 2 ^ j) is, mod-next x j) in
     (same, omega (arith, same, mod_below x (2 ^ (j + 1)) (pow_pos (j + 1)), top))
 
--- all bits of a fold
-pub all_bits : (fold : BitFold) (planes : List Plane) (offset context : ℕ) → block_fold (reduction_of fold) planes offset context 512 % 2 ^ 32 ≡ block_fold (reduction_of fold) planes offset context 512
-all_bits fold planes offset context =
-    mod-eq_of_lt (fold_fits (reduction_of fold) (λ i. eqb (bit (plane_at planes context) i) 1) (λ i. number planes offset 32 i) (none (reduction_of fold)) 512 (none_below (reduction_of fold)) (λ i. number-lt planes offset 32 i))
+-- a fold bit by bit of a block some of whose lanes are active
+module _ (fold : BitFold) (planes : List Plane) (a : Field) (context : ℕ) (few : a.len ≤ 32) where
+  reads_unsigned : (other : BitFold) → (combiner_of (reduction_of other)).1 ≡ true
+  reads_unsigned B.All = refl
+  reads_unsigned B.Any = refl
+  reads_unsigned B.Odd = refl
+
+  abbrev whole : ℕ
+  whole = block_fold (reduction_of fold) planes a context 512
+
+  -- a bit of the field
+  pub field_bit : (j : ℕ) (mask : List ℕ) → j < a.len → ((i : ℕ) → i < 512 → bit mask i ≡ min (bit (plane_at planes (a.offset + j)) i) (bit (plane_at planes context) i))
+      → bit_at whole j ≡ folded_bit fold (ones_before mask 512) (ones_before (plane_at planes context) 512)
+  field_bit j mask b is =
+      bit_is (plane_at planes context) (lane_word (reduction_of fold) planes a) j mask
+      (λ i h. is i h ∙ ap (λ x. min x (bit (plane_at planes context) i)) (sym (lane_bit (reduction_of fold) planes a i j (reads_unsigned fold) few b)))
+      fold (omega (arith, b, few)) 512 (omega arith)
+
+  empty : (i : ℕ) → bit [] i ≡ 0
+  unfolding bit
+  empty i = bit_at-zero (i % 64)
+
+  no_lane : (n : ℕ) → ones_before [] n ≡ 0
+  unfolding ones_before
+  no_lane zero = refl
+  no_lane (suc n) = omega (arith, no_lane n, empty n)
+
+  none_of : (n : ℕ) → 0 ≡ min 0 n
+  none_of n = omega arith
+
+  not_all : (other : BitFold) (active : ℕ) → active ≢ 0 → folded_bit other 0 active ≡ 0
+  not_all B.All active some = ap (λ t. cond t 1 0) (ne_eqb 0 active (λ e. some (sym e)))
+  not_all B.Any active some = refl
+  not_all B.Odd active some = refl
+
+  -- above the field there is none
+  pub all_bits : ones_before (plane_at planes context) 512 ≢ 0 → whole % 2 ^ a.len ≡ whole
+  all_bits some = low_bits whole a.len 32
+      (fold_fits (reduction_of fold) (λ i. eqb (bit (plane_at planes context) i) 1) (lane_word (reduction_of fold) planes a) (none (reduction_of fold)) 512 (none_below (reduction_of fold)) (lane_fits (reduction_of fold) planes a))
+      (λ j above b.
+      bit_is (plane_at planes context) (lane_word (reduction_of fold) planes a) j []
+      (λ i h. empty i ∙ none_of (bit (plane_at planes context) i) ∙ ap (λ x. min x (bit (plane_at planes context) i)) (sym (lane_above (reduction_of fold) planes a i j (reads_unsigned fold) few above)))
+      fold b 512 (omega arith)
+      ∙ ap (λ o. folded_bit fold o (ones_before (plane_at planes context) 512)) (no_lane 512)
+      ∙ not_all fold (ones_before (plane_at planes context) 512) some)

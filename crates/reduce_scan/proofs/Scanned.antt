@@ -28,7 +28,7 @@ use Rattle.block_store.specs.Phases.{LanesWritten, WrittenInBlock}
 use Rattle.block_store.specs.Planes.{planes_in, planes_at, block_bit}
 use Rattle.block_store.specs.Stored.{blocks_at, stored, words_in, AreWhole}
 use Rattle.block_store.proofs.AllBlocks.{in_block}
-use Rattle.block_store.proofs.Fetches.{some_cell, room_much, field_there}
+use Rattle.block_store.proofs.Fetches.{some_cell, room_much, field_there, number_below}
 use Rattle.reduce_scan.specs.declared.lines.AxisScan.{AxisScan}
 use Rattle.reduce_scan.specs.declared.lines.Lines.{Lines}
 use Rattle.reduce_scan.specs.declared.lines.Scan.{Scan}
@@ -42,7 +42,6 @@ use Rattle.reduce_scan.proofs.Order.{count_split, position_below, straight}
 use Rattle.reduce_scan.proofs.Parts.{once, none, none_below}
 use Rattle.reduce_scan.proofs.Scans.{running_on, running_from, running_fits, running_same}
 use Rattle.reduce_scan.proofs.StraightLines.{fold_is}
-use Rattle.reduce_scan.proofs.Totals.{value_fits}
 
 -- facts of blocks, a scan and its lines hold of those that are the same
 pub moved : (P : List Block → Scan → Lines → Type 0) (b c : List Block) (s t : Scan) (l m : Lines) → b ≡ c → s ≡ t → l ≡ m → P b s l → P c t m
@@ -147,13 +146,16 @@ module _ (shapes : List SetShape) (sets : List BlockSet) (whole : AreWhole shape
         (λ j h. cut_is (512 * k + suc j) (omega arith))
         ∙ sym (running_on along.combiner cuts act val (none along.combiner) (512 * k) i)
 
+    source_fits : (p : ℕ) → field_number (stored sets w) along.source p < 2 ^ 32
+    source_fits p = subst (λ n. field_number (stored sets w) along.source p < 2 ^ n) fits.1 (number_below sets w along.source p)
+
     run_fits : (q : ℕ) → runs_to q < 2 ^ 32
     run_fits q = running_fits along.combiner cuts _ _ (none along.combiner) q (none_below along.combiner)
-        (λ j. value_fits shapes sets whole along.combiner along.source fits.1 fits.0.0 w (ordered (extents_at shapes along.source.set) (scan_of along) j))
+        (λ j. source_fits (ordered (extents_at shapes along.source.set) (scan_of along) j))
 
     pub value_below : (p : ℕ) → value_there blocks_here scan_here p < 2 ^ 32
     unfolding field_number stored
-    value_below p = value_fits shapes sets whole along.combiner along.source fits.1 fits.0.0 w p
+    value_below p = source_fits p
 
     starts_are : (cells : List Cell) → Folded cells blocks_here scan_here lines_here → length blocks_here ≤ length cells → (k : ℕ) → 512 * k < count → starts along.combiner cells k ≡ runs_to (512 * k)
     unfolding starts running

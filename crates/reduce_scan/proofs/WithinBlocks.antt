@@ -21,6 +21,8 @@ use Rattle.reduce_scan.specs.declared.words.Run.{Run}
 use Rattle.reduce_scan.specs.Blocks.{block_fold}
 use Rattle.reduce_scan.specs.Running.{running}
 use Rattle.reduce_scan.specs.WithinBlocks.{run_to, run_word, active_in, value_in, bit_in, cut_in, fold_in, scanned_in}
+use Rattle.phase_meaning.proofs.Runs.{fold_same}
+use Rattle.reduce_scan.proofs.LaneWords.{lane_whole}
 use Rattle.reduce_scan.proofs.Parts.{once, none}
 use Rattle.reduce_scan.proofs.WordRuns.{any_is, none_before, running_alike, running_chosen, running_whole}
 
@@ -124,9 +126,9 @@ module _ (planes : List Plane) (scan : Scan) (extent k : ℕ) (cuts : List ℕ) 
 
   -- a block in which nothing begins has one fold
   pub whole_fold : (start : ℕ) → scan.source.len ≡ 32 → ones_before cuts 512 ≡ 0 → start ≡ none scan.combiner
-      → block_fold scan.combiner planes scan.source.offset scan.context 512 ≡ fold_in planes scan extent k start 512
+      → block_fold scan.combiner planes scan.source scan.context 512 ≡ fold_in planes scan extent k start 512
   whole_fold start word empty e =
-      ap (λ l. fold_below (once scan.combiner) (λ j. active_in planes scan j) (λ j. number planes scan.source.offset l j) (none scan.combiner) 512) (sym word)
+      fold_same _ _ _ _ _ _ 512 (λ j b. refl) (λ j b. lane_whole scan.combiner planes scan.source j word)
       ∙ ap (λ s. fold_below (once scan.combiner) (λ j. active_in planes scan j) (λ j. value_in planes scan j) s 512) (sym e)
       ∙ sym (running_whole scan.combiner (λ j. cut_in planes scan extent k j) (λ j. active_in planes scan j) (λ j. value_in planes scan j) start 512
       (λ j b. sym (same_cuts j b) ∙ ap (λ d. eqb d 1) (none_before cuts 512 empty (suc j % 512) (omega arith))))

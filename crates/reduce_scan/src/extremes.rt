@@ -1,14 +1,18 @@
 //! The least and the greatest number of a field in a block, by its planes.
 
-ghost use Rattle.std.specs.Prelude.{◌≡◌, ℕ, ◌<◌, ◌≤◌, ◌+◌, ◌*◌, ◌==◌, Bool, length, if◌then◌else◌};
+ghost use Rattle.std.specs.Prelude.{◌≡◌, ◌≢◌, ℕ, ◌<◌, ◌==◌, Bool, length, if◌then◌else◌};
 ghost use Rattle.bit_planes.specs.Bits.{bit};
+ghost use Rattle.bit_planes.specs.Planes.{plane_at};
+ghost use Rattle.lane_kernels.specs.Numbers.{ones_before};
 ghost use Rattle.reduce_scan.specs.Blocks.{block_fold};
 ghost use Rattle.reduce_scan.specs.Extremes.{extreme_of, wants_one};
+ghost use Rattle.reduce_scan.specs.Parts.{FitsBelow};
 
 use crate::folds::FieldFold;
 use bit_planes::Block;
 use bit_planes::plane::{both, opposite};
 use lane_kernels::count;
+use phase_meaning::arith::extended;
 use std::simd::prelude::*;
 
 /// The lanes of a plane that have a 1, or those that have a 0.
@@ -54,22 +58,25 @@ fn digit(found: bool, wanted: bool) -> u32
 }
 
 impl FieldFold {
-    /// The least or the greatest number of the field over the active lanes of a block, with a sign or
-    /// without one: from the highest bit down, the lanes stay that have the better bit, where some do.
+    /// The least or the greatest number of the field over the active lanes of a block, of which there
+    /// are some, with a sign or without one: from the highest bit down, the lanes stay that have the
+    /// better bit, where some do.
     pub(crate) fn extreme(&self, block: &Block, greatest: bool, unsigned: bool) -> u32
-        requires field { self.now.offset + 32 ≤ self.now.context }
+        requires field { FitsBelow self.now.context self.now.source }
         requires context { self.now.context < length block.now.planes.items }
-        ensures { result ≡ block_fold (extreme_of greatest unsigned) block.now.planes.items self.now.offset self.now.context 512 }
+        requires some { ones_before (plane_at block.now.planes.items self.now.context) 512 ≢ 0 }
+        ensures { result ≡ block_fold (extreme_of greatest unsigned) block.now.planes.items self.now.source self.now.context 512 }
     {
         let mut left = block.plane(self.context);
+        let highest = self.source.offset + u32::from(self.source.len) - 1;
         let mut total: u32 = 0;
-        for n in 0..32 {
+        for n in 0..u32::from(self.source.len) {
             let wanted = wants_one(greatest, unsigned, n);
-            let better = both(left, having(block.plane(self.offset + (31 - n)), wanted));
+            let better = both(left, having(block.plane(highest - n), wanted));
             let found = count(better) != 0;
             left = staying(found, better, left);
             total = total * 2 + digit(found, wanted);
         }
-        total
+        extended(!unsigned, self.source.len, total)
     }
 }

@@ -10,36 +10,43 @@ ghost use Rattle.cstar_base.specs.Orders.{fold_below};
 ghost use Rattle.block_store.specs.declared.set.Cell.{Cell};
 ghost use Rattle.block_store.specs.Planes.{planes_in, HasPlanes};
 ghost use Rattle.reduce_scan.specs.Blocks.{block_fold};
+ghost use Rattle.reduce_scan.specs.Parts.{FitsBelow};
 
-use crate::counts::{BitFold, bitwise, sum};
+use crate::counts::BitFold;
 use bit_planes::Block;
 use block_store::{BlockSet, Cell, Room};
+use cstar_base::numbers::identity;
 use cstar_io::Gate;
-use paris_code::Reduction;
+use lane_kernels::count;
+use paris_code::{Field, Reduction};
 use std::thread;
 use std::thread::Threads;
 
-/// A fold of a field of 32 bits over the active lanes of blocks, with the places of the field and of
-/// the context flag.
+/// A fold of a field over the active lanes of blocks, with the place of the context flag. Each number
+/// is taken as a word: in two's complement where the combiner reads its numbers so.
 #[derive(Clone, Copy)]
 pub(crate) struct FieldFold {
     pub(crate) combiner: Reduction,
-    pub(crate) offset: u32,
+    pub(crate) source: Field,
     pub(crate) context: u32,
 }
 
 impl FieldFold {
     /// The fold of a block.
     pub(crate) fn of(&self, block: &Block) -> u32
-        requires field { self.now.offset + 32 ≤ self.now.context }
+        requires field { FitsBelow self.now.context self.now.source }
         requires context { self.now.context < length block.now.planes.items }
-        ensures { result ≡ block_fold self.now.combiner block.now.planes.items self.now.offset self.now.context 512 }
+        ensures { result ≡ block_fold self.now.combiner block.now.planes.items self.now.source self.now.context 512 }
     {
+        if count(block.plane(self.context)) == 0 {
+            let (combine, unsigned) = self.combiner.combiner();
+            return identity(combine, unsigned);
+        }
         match self.combiner {
-            Reduction::SAdd => sum(block, self.offset, self.context),
-            Reduction::Logand => bitwise(block, BitFold::All, self.offset, self.context),
-            Reduction::Logior => bitwise(block, BitFold::Any, self.offset, self.context),
-            Reduction::Logxor => bitwise(block, BitFold::Odd, self.offset, self.context),
+            Reduction::SAdd => self.sum(block),
+            Reduction::Logand => self.bitwise(block, BitFold::All),
+            Reduction::Logior => self.bitwise(block, BitFold::Any),
+            Reduction::Logxor => self.bitwise(block, BitFold::Odd),
             Reduction::SMin => self.extreme(block, false, false),
             Reduction::UMin => self.extreme(block, false, true),
             Reduction::SMax => self.extreme(block, true, false),
@@ -57,13 +64,13 @@ pub(crate) fn fold_blocks<R: Threads + Sync, G: Gate + Sync>(
     workers: u32,
     gate: &G,
 )
-    requires field { fold.now.offset + 32 ≤ fold.now.context }
+    requires field { FitsBelow fold.now.context fold.now.source }
     requires planes { HasPlanes (fold.now.context + 1) set.now.blocks.items }
     requires workers { 1 ≤ workers }
     requires few { length set.now.blocks.items < 2 ^ 32 }
     ensures count { length room.new.cells.items ≡ length room.old.cells.items }
     ensures folds { (k : ℕ) (none : Cell) (other : Block) → k < length set.now.blocks.items → k < length room.old.cells.items
-        → slice_index (slice_index_or room.new.cells.items k none).words 0 ≡ block_fold fold.now.combiner (slice_index_or set.now.blocks.items k other).planes.items fold.now.offset fold.now.context 512 }
+        → slice_index (slice_index_or room.new.cells.items k none).words 0 ≡ block_fold fold.now.combiner (slice_index_or set.now.blocks.items k other).planes.items fold.now.source fold.now.context 512 }
 {
     let blocks = set.blocks.as_slice();
     thread::for_each_mut(
@@ -71,9 +78,9 @@ pub(crate) fn fold_blocks<R: Threads + Sync, G: Gate + Sync>(
         room.cells.as_mut_slice(),
         workers as usize,
         &|k: usize, cell: &mut Cell|
-            requires { (fold.now.offset + 32 ≤ fold.now.context) × HasPlanes (fold.now.context + 1) blocks.now × (length blocks.now < 2 ^ 32) }
+            requires { FitsBelow fold.now.context fold.now.source × HasPlanes (fold.now.context + 1) blocks.now × (length blocks.now < 2 ^ 32) }
             ensures { (other : Block) → k < length blocks.entry.now
-                → slice_index cell.exit.now.words 0 ≡ block_fold fold.entry.now.combiner (slice_index_or blocks.entry.now k other).planes.items fold.entry.now.offset fold.entry.now.context 512 }
+                → slice_index cell.exit.now.words 0 ≡ block_fold fold.entry.now.combiner (slice_index_or blocks.entry.now k other).planes.items fold.entry.now.source fold.entry.now.context 512 }
         {
             if k < blocks.len() {
                 gate.at(k as u32);

@@ -94,7 +94,7 @@ pub(crate) fn fold_own(block: &Block, k: u32, scan: &Scan, extent: u32) -> (u32,
     if count(cuts) == 0 {
         let fold = FieldFold {
             combiner: scan.combiner,
-            offset: scan.source.offset,
+            source: scan.source,
             context: scan.context,
         };
         return (fold.of(block), false);

@@ -38,7 +38,7 @@ pub fn reduce<R: Threads + Sync, G: Gate + Sync>(
 ) -> u32
     requires whole { IsWhole store.old }
     requires room { HasRoom store.old }
-    requires source { LiesIn (shapes_in store.old) source × (source.len ≡ 32) }
+    requires source { LiesIn (shapes_in store.old) source }
     requires workers { (1 ≤ workers) × (workers ≤ 64) }
     ensures whole { IsWhole store.new }
     ensures room { HasRoom store.new }
@@ -51,7 +51,7 @@ pub fn reduce<R: Threads + Sync, G: Gate + Sync>(
     let blocks = store.sets[at].blocks.len();
     let fold = FieldFold {
         combiner,
-        offset: source.offset,
+        source,
         context,
     };
     fold_blocks(rt, &store.sets[at], &mut store.room, &fold, workers, gate);

@@ -14,8 +14,8 @@ fold_blocks-requires-clause-few g c κs live =
     let sets = c.args.store.now.sets.items in
     omega (
       arith,
-      ap length (held shapes sets c.args.source.set c.from-at.result c.index-3.result.now c.requires.whole c.requires.source.0.0 c.from-at.ensures c.index-3.ensures),
-      few_blocks shapes sets c.args.source.set c.requires.whole c.requires.source.0.0,
+      ap length (held shapes sets c.args.source.set c.from-at.result c.index-3.result.now c.requires.whole c.requires.source.0 c.from-at.ensures c.index-3.ensures),
+      few_blocks shapes sets c.args.source.set c.requires.whole c.requires.source.0,
     )
 
 pub returns-clause-result : goal.returns-clause-result
@@ -27,20 +27,20 @@ returns-clause-result g c = λ w.
     let r = c.args.combiner in
     let cells = c.fold_blocks.new.room.cells.items in
     let n = c.len-blocks.result in
-    let exists = c.requires.source.0.0 in
+    let exists = c.requires.source.0 in
     let same = held shapes sets source.set c.from-at.result c.index-3.result.now c.requires.whole exists c.from-at.ensures c.index-3.ensures in
     let same_too = held shapes sets source.set c.from-at.result c.index-2.result.now c.requires.whole exists c.from-at.ensures c.index-2.ensures in
     let bits = (bits_of plans source.set c.from-at.result c.index.result.now exists c.from-at.ensures c.index.ensures).0 in
     let all : n ≡ length (blocks_at sets source.set) = omega (arith, c.len-blocks.ensures, ap length same_too) in
     let much : length (blocks_at sets source.set) ≤ length cells =
     omega (arith, c.requires.room source.set (omega (arith, exists, length-map plans shape_of_plan)), c.fold_blocks.ensures.count) in
-    let folds : Folds r cells source.offset (blocks_at sets source.set) (bits_at shapes source.set) =
-    subst (λ (bs : List Block). Folds r cells source.offset bs (bits_at shapes source.set)) same
-    (subst (λ x. Folds r cells source.offset (blocks_in c.index-3.result.now) x) bits
+    let folds : Folds r cells source (blocks_at sets source.set) (bits_at shapes source.set) =
+    subst (λ (bs : List Block). Folds r cells source bs (bits_at shapes source.set)) same
+    (subst (λ x. Folds r cells source (blocks_in c.index-3.result.now) x) bits
     (λ k none other b h. c.fold_blocks.ensures.folds k none other b (omega (arith, c.fold_blocks.ensures.count, h)))) in
     c.join_folds.ensures
-    ∙ joined_is shapes sets c.requires.whole r source c.requires.source.1 exists w cells much folds n (omega (arith, all))
-    ∙ all_blocks shapes sets c.requires.whole r source c.requires.source.1 exists w n all
+    ∙ joined_is shapes sets c.requires.whole r source exists w cells much folds n (omega (arith, all))
+    ∙ all_blocks shapes sets c.requires.whole r source exists w n all
 
 pub returns-clause-room : goal.returns-clause-room
 returns-clause-room g c = λ set b. omega (arith, c.requires.room set b, c.fold_blocks.ensures.count)

@@ -1,4 +1,4 @@
-use Rattle.std.proofs.Common.{◌≡◌, ◌-◌, cond, eqb, List, sym, ap, ◌∙◌, arith}
+use Rattle.std.proofs.Common.{◌≡◌, cond, List, sym, ap, ◌∙◌, arith}
 use Rattle.std.proofs.lemmas.Bool.{eq-eqb}
 use Rattle.bit_planes.specs.declared.plane.Plane.{Plane}
 use Rattle.bit_planes.specs.Bits.{bit}
