@@ -19,7 +19,9 @@ use Rattle.lower_base.specs.declared.emit.Out.TheVariants as O
 use Rattle.lower_base.specs.Drafts.{Draft, Made, in_register}
 use Rattle.lower_base.specs.Layouts.{Layout, elements_of}
 use Rattle.lower_comm.specs.Messages.{communicated, assigned}
+use Rattle.lower_base.specs.Kinds.{fold_length}
 use Rattle.lower_base.specs.Operators.{assign_op_of}
+use Rattle.lower_expr.specs.Kinds.{operator_bits}
 use Rattle.lower_expr.specs.declared.spots.Spot.{Spot}
 use Rattle.lower_expr.specs.declared.spots.Spot.TheVariants as S
 use Rattle.lower_expr.specs.declared.steps.Right.{Right}
@@ -32,7 +34,7 @@ use Rattle.code_lengths.specs.Shaped.{HasNoShape, HasShape}
 use Rattle.code_lengths.specs.Growth.{Grows, Stands, Anything}
 use Rattle.code_lengths.proofs.Drafting.{IsAt, at_stands, field_grows, fresh_at, lowest_grows, as_it_was, and_instr, makes, sized, behind, bind, weaker, in_register_grows, in_field_grows, register_grows, entry_grows}
 use Rattle.code_lengths.proofs.Pieces.{InRegister, InField, fails_grow, word_in_grows, in_place_grows, operated_more}
-use Rattle.code_lengths.proofs.Communication.{Is, nothing_more, one_part_stored_grows, sent_grows, folded_onto_grows}
+use Rattle.code_lengths.proofs.Communication.{Is, nothing_more, one_part_stored_grows, sent_grows, folded_length, folded_onto_grows}
 use Rattle.code_lengths.proofs.SpotPieces.{Fits, loaded_grows, stored_grows, index_checked_grows}
 use Rattle.code_lengths.proofs.ValuePieces.{IsCode, spread_by_grows, IsRight, before_length, after_length, right_by_grows, right_operated_grows, right_together}
 
@@ -76,11 +78,11 @@ one_address (T.LeftIndex' ty place p indexes x of) at s h = by ty.shape s
 one_address _ at s h = absurd h
 
 -- an assignment that is no send stores one value there
-assigned_there : (t : Typed) (l : Layout) (target : TExpr) (op : Option Op) (signed : Bool) (at v : Out) (d : Draft) → Is true at → Grows d 1 (λ (w : Out). InRegister v) (assigned t l target op signed at (v ∷ []) O.Nothing d)
+assigned_there : (t : Typed) (l : Layout) (target : TExpr) (op : Option Op) (value : TExpr) (at v : Out) (d : Draft) → Is true at → Grows d 1 (λ (w : Out). InRegister v) (assigned t l target op value at (v ∷ []) O.Nothing d)
 unfolding assigned
-assigned_there t l target op signed (O.Scalar r) v d h = one_part_stored_grows t l target r v d
-assigned_there t l target op signed (O.Field f) v d h = cc
-assigned_there t l target op signed O.Nothing v d h = absurd h
+assigned_there t l target op value (O.Scalar r) v d h = one_part_stored_grows t l target r v d
+assigned_there t l target op value (O.Field f) v d h = cc
+assigned_there t l target op value O.Nothing v d h = absurd h
 
 abbrev pub StoresThere : Typed → Layout → TExpr → TExpr → Type 0
 StoresThere t l e target = (at v : Out) → Fits (bare target) (S.Indexed at) → (d : Draft) → Grows d 1 (λ (w : Out). Stands (is_none (type_of (bare target)).shape) v) (communicated t l e at (v ∷ []) O.Nothing d)
@@ -91,7 +93,7 @@ unfolding communicated is_send out-TExpr Carrier.out
 assign_there t l ty place op p target q value s at v h d =
     let one = one_address (bare target) at s h in
     weaker (λ (w : Out). InRegister v) _ d 1 _ (λ w g. subst (λ b. Stands b v) (sym one) g)
-    (assigned_there t l target (assign_op_of op) _ at v d (subst (λ b. Is b at) one (address_kind (bare target) at h)))
+    (assigned_there t l target (assign_op_of op) value at v d (subst (λ b. Is b at) one (address_kind (bare target) at h)))
 
 pub step_there : (t : Typed) (l : Layout) (ty : ValueType) (op : StepOp) (order : StepOrder) (p : _) (target : TExpr) → StoresThere t l (T.Step' ty op order p target) target
 unfolding communicated in_register out-TExpr Carrier.out
@@ -158,37 +160,37 @@ register_updated_grows t l e target op signed place k dest there v d sh g h s =
     no : true ≡ false → ⊥
     no e = cc
 
-abbrev pub FoldsThere : Typed → Layout → TExpr → Type 0
-FoldsThere t l e = (parts : List Out) (dest : ℕ) (d : Draft) → Grows d 3 InRegister (communicated t l e O.Nothing parts (O.Scalar dest) d)
+abbrev pub FoldsThere : Typed → Layout → TExpr → ℕ → Type 0
+FoldsThere t l e n = (parts : List Out) (dest : ℕ) (d : Draft) → Grows d n InRegister (communicated t l e O.Nothing parts (O.Scalar dest) d)
 
-pub assign_folds : (t : Typed) (l : Layout) (ty : ValueType) (place : Place) (op : AssignOp) (p : _) (target : TExpr) (q : _) (value : TExpr) → FoldsThere t l (T.Assign' ty place op p target q value)
+pub assign_folds : (t : Typed) (l : Layout) (ty : ValueType) (place : Place) (op : AssignOp) (p : _) (target : TExpr) (q : _) (value : TExpr) → FoldsThere t l (T.Assign' ty place op p target q value) (folded_length (assign_op_of op) value)
 unfolding communicated assigned out-TExpr Carrier.out
-assign_folds t l ty place op p target q value parts dest d = folded_onto_grows true (assign_op_of op) _ (type_of target).elem parts (O.Scalar dest) d refl
+assign_folds t l ty place op p target q value parts dest d = folded_onto_grows true (assign_op_of op) value (type_of target).elem parts (O.Scalar dest) d refl
 
-register_folded_grows : (t : Typed) (l : Layout) (e target : TExpr) (dest : ℕ) (there : Spot) (v : Out) (d : Draft) → HasNoShape (type_of (bare target)) → StoresThere t l e target → FoldsThere t l e → Fits (bare target) there →
-    Grows d (load_length t l 32 target + (3 + store_length t l target)) (Stands (is_none (type_of (bare target)).shape)) (register_folded t l e target dest there v d)
+register_folded_grows : (n : ℕ) (t : Typed) (l : Layout) (e target : TExpr) (dest : ℕ) (there : Spot) (v : Out) (d : Draft) → HasNoShape (type_of (bare target)) → StoresThere t l e target → FoldsThere t l e n → Fits (bare target) there →
+    Grows d (load_length t l 32 target + (n + store_length t l target)) (Stands (is_none (type_of (bare target)).shape)) (register_folded t l e target dest there v d)
 unfolding register_folded
-register_folded_grows t l e target dest there v d sh g f h =
+register_folded_grows n t l e target dest there v d sh g f h =
     sized _ d _ _ _ (nothing_more _) (bind Anything _ d 0 _ _ _ (register_grows d) (λ old begun _. bind InRegister _ begun _ _ _ _ (loaded_grows true 32 t l target there (O.Scalar old) begun h refl) (λ _ between _.
-    bind InRegister _ between 3 _ _ _ (f (v ∷ O.Scalar old ∷ []) dest between) (λ _ after _. store_grows t l e target true there (O.Scalar dest) after h g (λ hs. absurd (no (sym sh ∙ hs))) refl))))
+    bind InRegister _ between n _ _ _ (f (v ∷ O.Scalar old ∷ []) dest between) (λ _ after _. store_grows t l e target true there (O.Scalar dest) after h g (λ hs. absurd (no (sym sh ∙ hs))) refl))))
   where
     no : true ≡ false → ⊥
     no e = cc
 
-scalar_rest : (b : Bool) (t : Typed) (l : Layout) (e target : TExpr) (op : Op) (signed : Bool) (place : Place) (k : Bool) (dest : ℕ) (there : Spot) (v : Out) (d : Draft) → HasNoShape (type_of (bare target)) → StoresThere t l e target → FoldsThere t l e → Fits (bare target) there → Stands k v →
-    Grows d (if b then load_length t l 32 target + (operate_length 32 op true + (conversion_length true (type_of target).elem + store_length t l target)) else load_length t l 32 target + (3 + store_length t l target)) (Stands (is_none (type_of (bare target)).shape))
+scalar_rest : (b : Bool) (n : ℕ) (t : Typed) (l : Layout) (e target : TExpr) (op : Op) (signed : Bool) (place : Place) (k : Bool) (dest : ℕ) (there : Spot) (v : Out) (d : Draft) → HasNoShape (type_of (bare target)) → StoresThere t l e target → FoldsThere t l e n → Fits (bare target) there → Stands k v →
+    Grows d (if b then load_length t l 32 target + (operate_length 32 op true + (conversion_length true (type_of target).elem + store_length t l target)) else load_length t l 32 target + (n + store_length t l target)) (Stands (is_none (type_of (bare target)).shape))
     (if b then register_updated t l e op signed place target dest there v d else register_folded t l e target dest there v d)
-scalar_rest true t l e target op signed place k dest there v d sh g f h s = register_updated_grows t l e target op signed place k dest there v d sh g h s
-scalar_rest false t l e target op signed place k dest there v d sh g f h s = register_folded_grows t l e target dest there v d sh g f h
+scalar_rest true n t l e target op signed place k dest there v d sh g f h s = register_updated_grows t l e target op signed place k dest there v d sh g h s
+scalar_rest false n t l e target op signed place k dest there v d sh g f h s = register_folded_grows n t l e target dest there v d sh g f h
 
-compound_sum : (b : Bool) (n m load store operate conversion : ℕ) →
-    n + (m + (if b then load + (operate + (conversion + store)) else load + (3 + store))) ≡ (if b then (((n + store) + load) + (m + operate)) + conversion else (((n + store) + load) + m) + 3)
-compound_sum true n m load store operate conversion = omega arith
-compound_sum false n m load store operate conversion = omega arith
+compound_sum : (b : Bool) (n m load store operate conversion fold : ℕ) →
+    n + (m + (if b then load + (operate + (conversion + store)) else load + (fold + store))) ≡ (if b then (((n + store) + load) + (m + operate)) + conversion else (((n + store) + load) + m) + fold)
+compound_sum true n m load store operate conversion fold = omega arith
+compound_sum false n m load store operate conversion fold = omega arith
 
-updated_grows : (t : Typed) (l : Layout) (e target value : TExpr) (op : Op) (place : Place) (shape : Option ℕ) (spot : Draft → Made Spot) (code : Code) (n m : ℕ) (d : Draft) → is_none shape ≡ is_none (type_of (bare target)).shape → StoresThere t l e target → FoldsThere t l e → IsSpotCode n (bare target) spot → IsCode m (is_kept value) (operand_by t l 32 code true value) →
+updated_grows : (t : Typed) (l : Layout) (e target value : TExpr) (op : Op) (place : Place) (shape : Option ℕ) (spot : Draft → Made Spot) (code : Code) (n m : ℕ) (d : Draft) → is_none shape ≡ is_none (type_of (bare target)).shape → StoresThere t l e target → FoldsThere t l e (2 + fold_length op value) → IsSpotCode n (bare target) spot → IsCode m (is_kept value) (operand_by t l (operator_bits op shape value) code true value) →
     Grows d (compound_length (is_none shape) (type_of target).elem ((n + store_length t l target) + load_length t l 32 target) op m value) (Stands (is_none (type_of (bare target)).shape)) (updated_by t l e op place target value shape spot code d)
-unfolding updated_by compound_length
+unfolding updated_by compound_length operator_bits
 updated_grows t l e target value op place (Some set) spot code n m d h g f a c =
     sized _ d _ _ _ (sum n (before_length m op value) (load_length t l 32 target) (after_length 32 op value) (conversion_length false (type_of target).elem) (store_length t l target) ∙ ap (λ x. (((n + store_length t l target) + load_length t l 32 target) + x) + conversion_length false (type_of target).elem) (right_together 32 m op value))
     (bind (λ (f : Field). f.len ≡ 32) _ d 0 _ _ _ (field_grows _ _ d) (λ dest begun w. bind Anything _ begun 0 _ _ _ (entry_grows _ _ _ begun) (λ spare next _.
@@ -198,9 +200,9 @@ updated_grows t l e target value op place (Some set) spot code n m d h g f a c =
     sum : (n b load a conversion store : ℕ) → 0 + (0 + (n + (b + (load + (a + (conversion + store)))))) ≡ (((n + store) + load) + (b + a)) + conversion
     sum n b load a conversion store = omega arith
 updated_grows t l e target value op place None spot code n m d h g f a c =
-    sized _ d _ _ _ (nothing_more _ ∙ compound_sum (is_kept value) n m (load_length t l 32 target) (store_length t l target) (operate_length 32 op true) (conversion_length true (type_of target).elem))
+    sized _ d _ _ _ (nothing_more _ ∙ compound_sum (is_kept value) n m (load_length t l 32 target) (store_length t l target) (operate_length 32 op true) (conversion_length true (type_of target).elem) (2 + fold_length op value))
     (bind Anything _ d 0 _ _ _ (register_grows d) (λ dest begun _. bind (Fits (bare target)) _ begun n _ _ _ (a begun) (λ there between fits. bind (Stands (is_kept value)) _ between m _ _ _ (c between) (λ v after s.
-    scalar_rest (is_kept value) t l e target op _ place (is_kept value) dest there v after (sym h) g f fits s))))
+    scalar_rest (is_kept value) _ t l e target op _ place (is_kept value) dest there v after (sym h) g f fits s))))
 
 -- a send
 spot_of_send : (b : TExpr) (spot : Spot) → is_sent b ≡ true → Fits b spot → (f : Field) × (spot ≡ S.Indexed (O.Field f))
@@ -244,20 +246,22 @@ sent_by_grows k t l e target spot code n m i d s g a c =
     sum n m i = omega arith
 
 -- an assignment
-assigned_grows : (o : Option Op) (t : Typed) (l : Layout) (e target : TExpr) (bits : ℕ) (value : TExpr) (place : Place) (shape : Option ℕ) (spot : Draft → Made Spot) (code : Code) (n m i : ℕ) (d : Draft) → is_none shape ≡ is_none (type_of (bare target)).shape → StoresThere t l e target → FoldsThere t l e → IsSpotCode n (bare target) spot → IsCode m (is_kept value) code → IsCode i (is_kept value) (operand_by t l 32 code true value) →
+assigned_grows : (o : Option Op) (t : Typed) (l : Layout) (e target : TExpr) (bits : ℕ) (value : TExpr) (place : Place) (shape : Option ℕ) (spot : Draft → Made Spot) (code : Code) (n m : ℕ) (i : Op → ℕ) (d : Draft) → is_none shape ≡ is_none (type_of (bare target)).shape → StoresThere t l e target → FoldsThere t l e (folded_length o value) → IsSpotCode n (bare target) spot → IsCode m (is_kept value) code →
+    ((act : Op) → IsCode (i act) (is_kept value) (operand_by t l (operator_bits act shape value) code true value)) →
     Grows d (elim o as (λ _. ℕ) [
       | None ↦ set_length (is_none shape) (n + store_length t l target) m value
-      | Some o ↦ compound_length (is_none shape) (type_of target).elem ((n + store_length t l target) + load_length t l 32 target) o i value
+      | Some o ↦ compound_length (is_none shape) (type_of target).elem ((n + store_length t l target) + load_length t l 32 target) o (i o) value
     ]) (Stands (is_none (type_of (bare target)).shape)) (assigned_by t l e bits o place target value shape spot code d)
 unfolding assigned_by
 assigned_grows None t l e target bits value place shape spot code n m i d h g f a c b = plainly_grows t l e target bits value shape spot code n m d h g a c
-assigned_grows (Some o) t l e target bits value place shape spot code n m i d h g f a c b = updated_grows t l e target value o place shape spot code n i d h g f a b
+assigned_grows (Some o) t l e target bits value place shape spot code n m i d h g f a c b = updated_grows t l e target value o place shape spot code n (i o) d h g f a (b o)
 
-assign_rest : (b : Bool) (t : Typed) (l : Layout) (e target : TExpr) (bits taken : ℕ) (value : TExpr) (op : AssignOp) (place : Place) (spot : Draft → Made Spot) (code : Code) (n m o : ℕ) (d : Draft) → is_send target ≡ b → is_none (type_of target).shape ≡ is_none (type_of (bare target)).shape →
-    (is_send target ≡ false → StoresThere t l e target) → FoldsThere t l e → Sends t l e (send_length op) → IsSpotCode n (bare target) spot → IsCode m (is_kept value) code → IsCode o (is_kept value) (operand_by t l 32 code true value) → (set : ℕ) →
+assign_rest : (b : Bool) (t : Typed) (l : Layout) (e target : TExpr) (bits taken : ℕ) (value : TExpr) (op : AssignOp) (place : Place) (spot : Draft → Made Spot) (code : Code) (n m : ℕ) (o : Op → ℕ) (d : Draft) → is_send target ≡ b → is_none (type_of target).shape ≡ is_none (type_of (bare target)).shape →
+    (is_send target ≡ false → StoresThere t l e target) → FoldsThere t l e (folded_length (assign_op_of op) value) → Sends t l e (send_length op) → IsSpotCode n (bare target) spot → IsCode m (is_kept value) code →
+    ((act : Op) → IsCode (o act) (is_kept value) (operand_by t l (operator_bits act (type_of target).shape value) code true value)) → (set : ℕ) →
     Grows d (if b then (n + spread_length m value) + send_length op else elim (assign_op_of op) as (λ _. ℕ) [
       | None ↦ set_length (is_none (type_of target).shape) (n + store_length t l target) m value
-      | Some act ↦ compound_length (is_none (type_of target).shape) (type_of target).elem ((n + store_length t l target) + load_length t l 32 target) act o value
+      | Some act ↦ compound_length (is_none (type_of target).shape) (type_of target).elem ((n + store_length t l target) + load_length t l 32 target) act (o act) value
     ]) (Stands (is_none (type_of (bare target)).shape)) (if b then sent_by t l e spot (spread_by code value set taken) d
     else lowest bits (assigned_by t l e taken (assign_op_of op) place target value (type_of target).shape spot code d))
 assign_rest true t l e target bits taken value op place spot code n m o d s h g f i a c b set =
@@ -265,7 +269,8 @@ assign_rest true t l e target bits taken value op place spot code n m o d s h g 
 assign_rest false t l e target bits taken value op place spot code n m o d s h g f i a c b set =
     lowest_grows _ bits d _ _ (assigned_grows (assign_op_of op) t l e target taken value place (type_of target).shape spot code n m o d h (g s) f a c b)
 
-pub assign_grows : (t : Typed) (l : Layout) (ty : ValueType) (bits : ℕ) (place : Place) (op : AssignOp) (p : _) (target : TExpr) (q : _) (value : TExpr) (spot : Draft → Made Spot) (code : Code) (n m : ℕ) (d : Draft) → type_of (bare target) ≡ type_of target → IsSpotCode n (bare target) spot → IsCode m (is_kept value) code → IsCode (operand_length l 32 m true value) (is_kept value) (operand_by t l 32 code true value) →
+pub assign_grows : (t : Typed) (l : Layout) (ty : ValueType) (bits : ℕ) (place : Place) (op : AssignOp) (p : _) (target : TExpr) (q : _) (value : TExpr) (spot : Draft → Made Spot) (code : Code) (n m : ℕ) (d : Draft) → type_of (bare target) ≡ type_of target → IsSpotCode n (bare target) spot → IsCode m (is_kept value) code →
+    ((act : Op) → IsCode (operand_length l (operator_bits act (type_of target).shape value) m true value) (is_kept value) (operand_by t l (operator_bits act (type_of target).shape value) code true value)) →
     Grows d (assign_length t l op target n m value) (Stands (is_none (type_of (bare target)).shape)) (assign_by t l (T.Assign' ty place op p target q value) bits op place target value spot code d)
 unfolding assign_by assign_length
 assign_grows t l ty bits place op p target q value spot code n m d h a c b =

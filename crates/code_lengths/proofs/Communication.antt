@@ -25,11 +25,12 @@ use Rattle.lower_base.specs.declared.emit.Out.TheVariants as O
 use Rattle.lower_comm.specs.declared.gets.Hop.{Hop}
 use Rattle.lower_comm.specs.declared.news.NewsStep.{NewsStep}
 use Rattle.lower_base.specs.Drafts.{Draft, Made, Makes, then_make, from, in_register, fresh_for, in_field, with_instr, an_entry, first_bits}
+use Rattle.lower_base.specs.Kinds.{fold_kind, fold_length}
 use Rattle.lower_base.specs.Layouts.{Layout, field_of, own_field}
-use Rattle.lower_comm.specs.Messages.{front_located, each_located, located_at, located, checked_part, grid_steps, with_grid_check, hopped, is_extended, moving_part, moving_steps, stepwise, with_hop, gotten_by_steps, read_at, part_register, part_field, folded_onto, negated_by, reduced, indexed_field, stored, sent_value, sent_to, sent, scanned, segment_field, enumerated, communicated}
+use Rattle.lower_comm.specs.Messages.{front_located, each_located, located_at, located, checked_part, grid_steps, with_grid_check, hopped, is_extended, moving_part, moving_steps, stepwise, with_hop, gotten_by_steps, read_at, part_register, part_field, with_sign, with_fold, folded_onto, negated_by, reduced, indexed_field, stored, sent_value, sent_to, sent, scanned, segment_field, enumerated, communicated}
 use Rattle.lower_comm.specs.News.{step_of}
 use Rattle.lower_base.specs.Operators.{assign_op_of}
-use Rattle.lower_expr.specs.Lengths.{load_length_of, reduce_length, send_length, read_length, moves_length, news_move, is_checked, news_moves, news_checked}
+use Rattle.lower_expr.specs.Lengths.{load_length_of, negative_length, reduce_length, send_length, read_length, moves_length, news_move, is_checked, news_moves, news_checked}
 use Rattle.code_lengths.specs.Growth.{Extended, Grows, Stands, Anything}
 use Rattle.code_lengths.proofs.Drafting.{IsAt, at_stands, in_field_at, fresh_at, as_it_was, extended, resized, and_step, and_instr, makes, sized, behind, bind, weaker, in_register_grows, in_field_grows, from_grows, register_grows, entry_grows}
 use Rattle.code_lengths.proofs.Pieces.{InRegister, InField, kind_of_out, stands, fails_grow}
@@ -219,24 +220,45 @@ pub part_field_grows : {B : Type 0} (Q : B → Type 0) (d : Draft) (n : ℕ) (pa
 unfolding part_field
 part_field_grows Q d n parts k next f = from_grows Q d n _ _ (λ out. in_field_grows Q d n (kind_of_out out) out next (stands out) (λ r _. f r))
 
--- folds onto a register, and unary reductions
-pub folded_onto_grows : (k : Bool) (op : Option Op) (signed : Bool) (elem : Elem) (parts : List Out) (into : Out) (d : Draft) → Stands k into → Grows d 3 (Stands k) (folded_onto op signed elem parts into d)
+-- folds, onto a register, and unary reductions
+sign_more : (kind : Option Elem) (dest : ℕ) (d e : Draft) → Extended d 1 e → Extended d (if is_none kind then 1 else 2) (with_sign kind dest e)
+unfolding with_sign
+sign_more None dest d e x = x
+sign_more (Some kind) dest d e x = and_instr _ d e 1 x
+
+fold_more : (op : Op) (e : TExpr) (dest : ℕ) (source : Field) (d : Draft) → Extended d (fold_length op e) (with_fold op e dest source d)
+unfolding with_fold fold_length
+fold_more op e dest source d = sign_more (fold_kind op e) dest d _ (and_instr _ d d 0 (as_it_was d))
+
+-- behind the fold stand the operator and the conversion
+abbrev pub folded_length : Option Op → TExpr → ℕ
+folded_length op value = 2 + fold_length (elim op as (λ _. Op) [ None ↦ P.Add | Some given ↦ given ]) value
+
+pub folded_onto_grows : (k : Bool) (op : Option Op) (value : TExpr) (elem : Elem) (parts : List Out) (into : Out) (d : Draft) → Stands k into →
+    Grows d (folded_length op value) (Stands k) (folded_onto op value elem parts into d)
 unfolding folded_onto
-folded_onto_grows k op signed elem parts into d s =
-    part_field_grows _ d 3 parts 0 _ (λ source. part_register_grows _ d 3 parts 1 _ (λ old. in_register_grows _ d 3 k into _ s (λ dest _.
-    bind Anything (Stands k) d 0 3 _ _ (register_grows d) (λ folded after _.
-    makes (Stands k) into after _ 3 s (and_instr _ after _ 2 (and_instr _ after _ 1 (and_instr _ after after 0 (as_it_was after))))))))
+folded_onto_grows k op value elem parts into d s =
+    part_field_grows _ d _ parts 0 _ (λ source. part_register_grows _ d _ parts 1 _ (λ old. in_register_grows _ d _ k into _ s (λ dest _.
+    sized (Stands k) d _ _ _ (two_behind _) (bind Anything (Stands k) d 0 _ _ _ (register_grows d) (λ folded after _.
+    makes (Stands k) into after _ _ s (and_instr _ after _ _ (and_instr _ after _ _ (fold_more _ value folded source after))))))))
+  where
+    two_behind : (n : ℕ) → 0 + ((n + 1) + 1) ≡ 2 + n
+    two_behind n = omega arith
 
-negated_more : (op : ReduceOp) (dest n : ℕ) (d e : Draft) → Extended d 1 e → Extended d (reduce_length op) (negated_by op dest e)
-unfolding negated_by reduce_length
-negated_more Rd.Sub dest n d e x = and_instr _ d e 1 x
-negated_more _ dest n d e x = x
+negated_more : (op : ReduceOp) (dest n : ℕ) (d e : Draft) → Extended d n e → Extended d (n + negative_length op) (negated_by op dest e)
+unfolding negated_by negative_length
+negated_more Rd.Sub dest n d e x = and_instr _ d e n x
+negated_more _ dest n d e x = resized d e _ _ (and_nothing n) x
+  where
+    and_nothing : (n : ℕ) → n ≡ n + 0
+    and_nothing n = omega arith
 
-pub reduced_grows : (k : Bool) (op : ReduceOp) (elem : Elem) (parts : List Out) (into : Out) (d : Draft) → Stands k into → Grows d (reduce_length op) (Stands k) (reduced op elem parts into d)
-unfolding reduced
-reduced_grows k op elem parts into d s =
+pub reduced_grows : (k : Bool) (op : ReduceOp) (operand : TExpr) (parts : List Out) (into : Out) (d : Draft) → Stands k into →
+    Grows d (reduce_length op operand) (Stands k) (reduced op operand parts into d)
+unfolding reduced reduce_length
+reduced_grows k op operand parts into d s =
     part_field_grows _ d _ parts 0 _ (λ source. in_register_grows _ d _ k into _ s (λ dest _.
-    makes (Stands k) into d _ _ s (negated_more op dest 0 d _ (and_instr _ d d 0 (as_it_was d)))))
+    makes (Stands k) into d _ _ s (negated_more op dest _ d _ (fold_more _ operand dest source d))))
 
 -- stores to one element, and sends
 indexed_field_grows : (t : Typed) (l : Layout) (e : TExpr) (d : Draft) → Grows d 0 Anything (indexed_field t l e d)

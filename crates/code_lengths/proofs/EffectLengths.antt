@@ -20,9 +20,10 @@ use Rattle.lower_base.specs.Drafts.{Draft, Made, Makes, then_make, with_instr, a
 use Rattle.lower_base.specs.Constants.{word_length}
 use Rattle.lower_base.specs.Layouts.{Layout}
 use Rattle.lower_base.specs.Operators.{assign_op_of}
+use Rattle.lower_base.specs.Kinds.{bits_of, kind_of}
 use Rattle.lower_expr.specs.declared.operands.Own.{Own}
 use Rattle.lower_expr.specs.Effects.{bits_for, moved, register_converted, goes_unchanged, cast_to, converted_to, fits_field, field_binary_to, binary_to, gone_to, computed_to, put_to, written_register, with_settled, register_operated, field_operated, variable_operated, variable_stepped, folds, writes_itself, assigned_own, whole_of, variable_assigned, assignment_effect, stepped_own, step_effect, effect_of, length_unchanged, converted_to_length, computed_length, put_length, settled_length, operated_length, own_bits, assigned_length, stepped_length, assignment_length, step_effect_length, effect_length_of}
-use Rattle.lower_expr.specs.Kinds.{bits_of, kind_of, operand_bits, unary_bits}
+use Rattle.lower_expr.specs.Kinds.{operand_bits, unary_bits}
 use Rattle.lower_expr.specs.Lengths.{length_of, used_length_of, test_put_length, spot_length_of, load_length, load_length_of, bare, arm_length_of, choice_length, tested_length, tested_by_length, operate_length, reduce_length, unary_length, right_length, binary_length}
 use Rattle.lower_expr.specs.Operands.{is_plus, is_quiet, own_of, in_place, operand_length}
 use Rattle.lower_expr.specs.Steps.{is_kept, has_truth, has_word, register_word, word_of, word_for, word_put, negated}
@@ -249,8 +250,8 @@ computed_grows k t l dest (T.Element' ty place array p index) d s h u =
 computed_grows k t l dest (T.LeftIndex' ty place p indexes x of) d s h u =
     gone_grows k (Stands k) dest _ _ d s (index_read_to_grows k (bits_for dest) t l ty place p indexes x of _ _ dest d (spot_grows t l (T.LeftIndex' ty place p indexes x of) h) (own_bits_at k dest s))
 computed_grows k t l dest (T.Reduce' ty op p operand) d s h u =
-    gone_grows k (Stands k) dest _ _ d s (message_to_grows k t l (T.Reduce' ty op p operand) _ _ (reduce_length op) (is_kept operand) dest d
-    (next_grows t l 32 true operand h) (is_stands k dest s) (reduce_grows _ t l ty op p operand))
+    gone_grows k (Stands k) dest _ _ d s (message_to_grows k t l (T.Reduce' ty op p operand) _ _ (reduce_length op operand) (is_kept operand) dest d
+    (next_grows t l _ true operand h) (is_stands k dest s) (reduce_grows _ t l ty op p operand))
 computed_grows k t l dest (T.Scan' ty p source axis combiner direction mode bit within) d s h u =
     either_grows (Stands k) (bits_for dest == 32) d _ _ _ _
     (λ _. gone_grows k (Stands k) dest _ _ d s (message_to_grows k t l (T.Scan' ty p source axis combiner direction mode bit within) _ _ 1 (is_kept source) dest d

@@ -17,11 +17,11 @@ use Rattle.lower_base.specs.declared.emit.Out.TheVariants as O
 use Rattle.lower_base.specs.Drafts.{Draft, Made, Makes, then_make, fresh_for}
 use Rattle.lower_base.specs.Constants.{word_in, word_length}
 use Rattle.lower_base.specs.Layouts.{Layout, elements_of}
+use Rattle.lower_base.specs.Kinds.{bits_of, kind_of}
 use Rattle.lower_comm.specs.Messages.{communicated, checked_grid, located}
 use Rattle.lower_comm.specs.News.{goes_by_news}
 use Rattle.lower_expr.specs.declared.spots.Spot.{Spot}
 use Rattle.lower_expr.specs.declared.spots.Spot.TheVariants as S
-use Rattle.lower_expr.specs.Kinds.{bits_of, kind_of}
 use Rattle.lower_expr.specs.Lengths.{cast_length, conversion_length, length_of, truth_length_of, tested_length, tested_by_length, arm_length_of, spot_length_of, lengths_of, call_length, bare, load_length, load_length_of, located_length, moves_length, read_length, reduce_length, news_length, news_moves, news_checked, elements_length, index_check_length}
 use Rattle.lower_expr.specs.Positions.{known_position}
 use Rattle.lower_expr.specs.Spots.{variable_spot}
@@ -192,9 +192,9 @@ printed_value k pieces codes n count d c =
 
 -- a reduction of a value
 pub reduce_grows : (k : Bool) (t : Typed) (l : Layout) (ty : ValueType) (op : ReduceOp) (p : _) (operand : TExpr) (v into : Out) (b : Draft) → Stands k into →
-    Grows b (reduce_length op) (Stands k) (communicated t l (T.Reduce' ty op p operand) O.Nothing (v ∷ []) into b)
+    Grows b (reduce_length op operand) (Stands k) (communicated t l (T.Reduce' ty op p operand) O.Nothing (v ∷ []) into b)
 unfolding communicated out-TExpr Carrier.out
-reduce_grows k t l ty op p operand v into b s = reduced_grows k op _ (v ∷ []) into b s
+reduce_grows k t l ty op p operand v into b s = reduced_grows k op operand (v ∷ []) into b s
 
 -- a scan of a value that stands in a field
 pub scan_grows : (k : Bool) (t : Typed) (l : Layout) (ty : ValueType) (p : _) (source : TExpr) (axis : _) (combiner : _) (direction : _) (mode : _) (bit : _) (within : _) (v into : Out) (b : Draft) → Stands k into →
@@ -237,7 +237,7 @@ mutual
   pub value_grows : (t : Typed) (l : Layout) (bits : ℕ) (e : TExpr) → IsShaped e → (d : Draft) → Grows d (length_of t l bits e) (Stands (is_kept e)) (value_of t l bits e d)
   value_grows t l bits (T.Assign' ty place op p target q value) h d =
       of_kind _ _ d _ _ (ap (λ (y : ValueType). is_none y.shape) (bare_type target h.2) ∙ ap is_none (sym h.0)) (assign_grows t l ty bits place op p target q value _ _ _ _ d (bare_type target h.2) (spot_grows t l target h.2) (value_grows t l _ value h.3)
-      (operand_grows t l 32 true value _ _ h.3 (value_grows t l _ value h.3)))
+      (λ act. operand_grows t l _ true value _ _ h.3 (value_grows t l _ value h.3)))
   value_grows t l bits (T.Choice' ty p test q first r second) h d =
       choice_grows ty bits (is_kept test) _ _ _ _ _ _ d (operand_grows t l _ _ test _ _ h.0 (value_grows t l _ test h.0))
       (arm_grows (is_none ty.shape) (is_kept first) first _ _ (operand_grows t l bits true first _ _ h.1 (value_grows t l bits first h.1)))
@@ -256,7 +256,7 @@ mutual
   value_grows t l bits (T.Step' ty op order p target) h d =
       of_kind _ _ d _ _ (ap is_none (sym h.0)) (step_grows t l ty op order p target bits _ _ d (bare_type target h.1) (spot_grows t l target h.1))
   value_grows t l bits (T.Reduce' ty op p operand) h d =
-      message_grows t l (T.Reduce' ty op p operand) ty bits _ _ _ (is_kept operand) d (operand_grows t l 32 true operand _ _ h (value_grows t l 32 operand h)) (reduce_grows _ t l ty op p operand)
+      message_grows t l (T.Reduce' ty op p operand) ty bits _ _ _ (is_kept operand) d (operand_grows t l _ true operand _ _ h (value_grows t l _ operand h)) (reduce_grows _ t l ty op p operand)
   value_grows t l bits (T.Casts' ty elems p operand) h d =
       bind (Stands (is_kept operand)) _ d _ _ _ _ (value_grows t l bits operand h.1 d) (λ v after s. of_kind true _ after _ _ (sym h.0) (casts_grow (is_kept operand) elems.items v after s))
   value_grows t l bits (T.ParallelCast' ty p operand) h d =

@@ -16,7 +16,7 @@ use Rattle.lower_base.specs.declared.emit.Out.{Out}
 use Rattle.lower_base.specs.declared.emit.Out.TheVariants as O
 use Rattle.lower_base.specs.declared.operators.Machine.{Machine}
 use Rattle.lower_base.specs.declared.operators.Machine.TheVariants as M
-use Rattle.lower_base.specs.Operators.{machine_of}
+use Rattle.lower_base.specs.Operators.{machine_of, relates}
 use Rattle.lower_base.specs.Drafts.{Draft, Made, Makes, Fails, then_make, from, with_instr, in_register, a_field, fresh_for}
 use Rattle.lower_expr.specs.declared.steps.Right.{Right}
 use Rattle.lower_expr.specs.declared.steps.Right.TheVariants as R
@@ -24,7 +24,7 @@ use Rattle.lower_expr.specs.Kinds.{operation_bits, reads_signed, result_bits}
 use Rattle.lower_expr.specs.Lengths.{conversion_length, test_put_length, unary_length, operate_length, logical_length, choice_length, arm_length, compared_length, spread_length, spare_length, right_length, binary_length}
 use Rattle.lower_base.specs.Layouts.{Layout}
 use Rattle.lower_expr.specs.Operands.{is_plus}
-use Rattle.lower_expr.specs.Steps.{is_kept, has_word, register_word, word_for, word_put, word_of, word_taken, relates, put_value, right_operated, in_a_field, negated}
+use Rattle.lower_expr.specs.Steps.{is_kept, has_word, register_word, word_for, word_put, word_of, word_taken, put_value, right_operated, in_a_field, negated}
 use Rattle.lower_expr.specs.Values.{Code, Test, Arm, Condition, spread_into, spread_by, right_given, right_by, coordinate_in, byte_in, casts_put, extended, truth_put, cast_by, register_cast_by, unary_by, registers_by, fields_by, spare_for, parallel_binary_by, binary_by, jump_if_decided, narrowed_by, decided, limited, logical_ended, scalar_logical_by, nonzero_tested, zero_tested, tested_by, compared, relation_by, decided_by, jumped, jumped_over, narrowed_again, limited_by, parallel_logical_by, logical_by, arm_by, scalar_choice_by, turned_over, parallel_choice_by, choice_by}
 use Rattle.code_lengths.specs.Growth.{Extended, Grows, Stands, Anything}
 use Rattle.code_lengths.proofs.Drafting.{IsAt, field_grows, fresh_at, lowest_grows, as_it_was, resized, and_instr, makes, sized, behind, bind, weaker, in_register_grows, in_field_grows, register_grows, entry_grows, fresh_grows}

@@ -1,4 +1,5 @@
 pub mod Constants
 pub mod Drafts
+pub mod Kinds
 pub mod Layouts
 pub mod Operators

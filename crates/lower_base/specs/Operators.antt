@@ -1,5 +1,5 @@
 -- Which operator of the machine does what an operator of the language means.
-use Rattle.std.specs.Prelude.{Bool, ◌||◌, if◌then◌else◌, nat_lt, Option, Some, None}
+use Rattle.std.specs.Prelude.{Bool, true, false, ◌||◌, if◌then◌else◌, nat_lt, Option, Some, None}
 use Rattle.cstar_base.specs.declared.elem.Elem.{Elem}
 use Rattle.cstar_base.specs.declared.operators.Combiner.{Combiner}
 use Rattle.cstar_base.specs.declared.operators.Combiner.TheVariants as C
@@ -8,6 +8,8 @@ use Rattle.cstar_tree.specs.declared.syntax.AssignOp.{AssignOp}
 use Rattle.cstar_tree.specs.declared.syntax.AssignOp.TheVariants as A
 use Rattle.cstar_tree.specs.declared.syntax.ReduceOp.{ReduceOp}
 use Rattle.cstar_tree.specs.declared.syntax.ReduceOp.TheVariants as R
+use Rattle.cstar_tree.specs.declared.typed.UnaryOp.{UnaryOp}
+use Rattle.cstar_tree.specs.declared.typed.UnaryOp.TheVariants as Un
 use Rattle.paris_code.specs.declared.operands.Compare.TheVariants as K
 use Rattle.paris_code.specs.declared.operands.Operation.{Operation}
 use Rattle.paris_code.specs.declared.operands.Operation.TheVariants as N
@@ -43,6 +45,21 @@ machine_of Op.Le signed = M.Compare (if signed then K.SLe else K.ULe)
 machine_of Op.Gt signed = M.Compare (if signed then K.SGt else K.UGt)
 machine_of Op.Ge signed = M.Compare (if signed then K.SGe else K.UGe)
 machine_of op signed = M.Operate (operation_of op signed)
+
+-- the operators whose value is whether a relation holds
+unfoldable pub relates : Op → Bool
+relates Op.Eq = true
+relates Op.Ne = true
+relates Op.Lt = true
+relates Op.Le = true
+relates Op.Gt = true
+relates Op.Ge = true
+relates _ = false
+
+-- the operator whose value is whether its operand is zero
+unfoldable pub negates : UnaryOp → Bool
+negates Un.Not = true
+negates _ = false
 
 -- the operator of a compound assignment
 unfoldable pub assign_op_of : AssignOp → Option Op

@@ -2,10 +2,11 @@
 
 ghost use Rattle.std.specs.Prelude.{◌≡◌};
 ghost use Rattle.cstar_base.specs.Operators.{divides};
-ghost use Rattle.lower_base.specs.Operators.{operation_of, machine_of, assign_op_of, fold_of, reduce_op_of, scan_fold_of, is_signed};
+ghost use Rattle.lower_base.specs.Operators.{operation_of, machine_of, assign_op_of, fold_of, reduce_op_of, scan_fold_of, is_signed, negates, relates};
 
 use cstar_base::{Combiner, Elem, Op};
 use cstar_tree::syntax::{AssignOp, ReduceOp};
+use cstar_tree::typed::UnaryOp;
 use paris_code::{Compare, Operation, Reduction};
 
 /// What a binary operator compiles to: an operation or a relation.
@@ -84,6 +85,22 @@ pub fn divides(op: Op) -> bool
     ensures { result ≡ divides op }
 {
     matches!(op, Op::Div | Op::Rem | Op::Mod)
+}
+
+/// Whether the operator is a relation.
+#[tactic(auto, unfolding(crate::specs::Operators::relates))]
+pub fn is_relation(op: Op) -> bool
+    ensures { result ≡ relates op }
+{
+    matches!(op, Op::Eq | Op::Ne | Op::Lt | Op::Le | Op::Gt | Op::Ge)
+}
+
+/// Whether the operator's value is whether its operand is zero.
+#[tactic(auto, unfolding(crate::specs::Operators::negates))]
+pub fn negates(op: UnaryOp) -> bool
+    ensures { result ≡ negates op }
+{
+    matches!(op, UnaryOp::Not)
 }
 
 /// The operator of a compound assignment.

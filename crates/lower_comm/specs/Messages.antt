@@ -29,6 +29,7 @@ use Rattle.lower_comm.specs.declared.messages.Line.{Line}
 use Rattle.lower_comm.specs.declared.news.NewsStep.{NewsStep}
 use Rattle.lower_base.specs.Drafts.{Draft, Made, Makes, Fails, then_make, from, with_instr, with_step, a_register, a_field, an_entry, first_bits, fresh_for, in_register, in_field, ChecksGrid, ChecksTarget, MakesAddress, FrontChecksTarget, FrontMakesAddress}
 use Rattle.lower_base.specs.Layouts.{Layout, field_of, first_named, layout_of}
+use Rattle.lower_base.specs.Kinds.{fold_by, fold_kind}
 use Rattle.lower_comm.specs.News.{step_of}
 use Rattle.lower_base.specs.Operators.{operation_of, assign_op_of, fold_of, reduce_op_of, scan_fold_of, is_signed}
 
@@ -163,14 +164,23 @@ part_register parts k next = from (slice_get parts k) (λ out. in_register out n
 unfoldable pub part_field : {B : Type 0} → List Out → ℕ → (Field → Made B) → Made B
 part_field parts k next = from (slice_get parts k) (λ out. in_field out next)
 
+-- the fold of the values of an expression, at their own length: where a type with a sign was folded
+-- without it, that is put back
+unfoldable pub with_sign : Option Elem → ℕ → Draft → Draft
+with_sign None dest d = d
+with_sign (Some kind) dest d = with_instr (I.FrontConvert dest dest kind) d
+
+unfoldable pub with_fold : Op → TExpr → ℕ → Field → Draft → Draft
+with_fold op e dest source d = with_sign (fold_kind op e) dest (with_instr (I.Global (fold_by op e) dest source) d)
+
 -- `s op= p`: the fold of the elements, then the operator on the old value and it, and then the
 -- conversion to the type of `s`
-unfoldable pub folded_onto : Option Op → Bool → Elem → List Out → Out → Draft → Made Out
-folded_onto op signed elem parts into d =
+unfoldable pub folded_onto : Option Op → TExpr → Elem → List Out → Out → Draft → Made Out
+folded_onto op value elem parts into d =
     let o : Op = elim op [ None ↦ Op.Add | Some given ↦ given ] in
     part_field parts 0 (λ source. part_register parts 1 (λ old. in_register into (λ dest. then_make (a_register d) (λ folded after.
-    Makes into (with_instr (I.FrontConvert dest dest elem) (with_instr (I.FrontOperate (operation_of o signed) dest old folded)
-    (with_instr (I.Global (fold_of o signed) folded source) after)))))))
+    Makes into (with_instr (I.FrontConvert dest dest elem)
+    (with_instr (I.FrontOperate (operation_of o (is_signed (type_of value).elem)) dest old folded) (with_fold o value folded source after)))))))
 
 -- the negative of a register, behind `-=`
 unfoldable pub negated_by : ReduceOp → ℕ → Draft → Draft
@@ -178,10 +188,10 @@ negated_by R.Sub dest d = with_instr (I.FrontNegate dest dest) d
 negated_by _ dest d = d
 
 -- a unary reduction; with `-=` it is the negative of the sum
-unfoldable pub reduced : ReduceOp → Elem → List Out → Out → Draft → Made Out
-reduced op elem parts into d =
+unfoldable pub reduced : ReduceOp → TExpr → List Out → Out → Draft → Made Out
+reduced op operand parts into d =
     part_field parts 0 (λ source. in_register into (λ dest.
-    Makes into (negated_by op dest (with_instr (I.Global (fold_of (reduce_op_of op) (is_signed elem)) dest source) d))))
+    Makes into (negated_by op dest (with_fold (reduce_op_of op) operand dest source d))))
 
 -- the variable that a left index is before, maybe in brackets, and its field
 unfoldable pub indexed : TExpr → Option Variable
@@ -217,10 +227,10 @@ sent t l target op signed to parts d =
     (λ dest after. part_field parts 0 (λ value. sent_to op signed (type_of target).elem dest to value after))
 
 -- an assignment: a fold onto a scalar, a store to one element, or a send
-unfoldable pub assigned : Typed → Layout → TExpr → Option Op → Bool → Out → List Out → Out → Draft → Made Out
-assigned t l target op signed O.Nothing parts into d = folded_onto op signed (type_of target).elem parts into d
-assigned t l target op signed (O.Scalar processor) parts into d = stored t l target processor parts d
-assigned t l target op signed (O.Field to) parts into d = sent t l target op signed to parts d
+unfoldable pub assigned : Typed → Layout → TExpr → Option Op → TExpr → Out → List Out → Out → Draft → Made Out
+assigned t l target op value O.Nothing parts into d = folded_onto op value (type_of target).elem parts into d
+assigned t l target op value (O.Scalar processor) parts into d = stored t l target processor parts d
+assigned t l target op value (O.Field to) parts into d = sent t l target op (is_signed (type_of value).elem) to parts d
 
 -- a scan along its lines
 unfoldable pub scanned : Reduction → Field → Line → Option Field → Out → Draft → Made Out
@@ -246,9 +256,9 @@ communicated t l e at parts into d =
       | TExpr-F.LeftIndex ty place indexes x of ↦
           then_make (field_of t l x 0 d) (λ source after. read_at of indexes.items ty.elem source at into after)
       | TExpr-F.Assign ty place op target value ↦
-          assigned t l target.value (assign_op_of op) (is_signed (type_of value.value).elem) at parts into d
+          assigned t l target.value (assign_op_of op) value.value at parts into d
       | TExpr-F.Step ty op order target ↦ in_register at (λ processor. stored t l target.value processor parts d)
-      | TExpr-F.Reduce ty op operand ↦ reduced op (type_of operand.value).elem parts into d
+      | TExpr-F.Reduce ty op operand ↦ reduced op operand.value parts into d
       | TExpr-F.Scan ty source axis combiner direction mode bit inclusion ↦
           let line : Line = record { axis = axis; direction = direction; mode = mode; inclusion = inclusion } in
           part_field parts 0 (λ values. then_make (segment_field t l bit d)

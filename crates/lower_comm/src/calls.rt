@@ -76,8 +76,9 @@ pub fn locate(
 ///
 /// - A read through the left index that was located at `at`: no parts.
 /// - An assignment or a step through one: the value that is stored or sent. It has no result.
-/// - `s op= e` with a parallel `e` and a scalar `s`: the operand, then the old value of `s`.
-/// - A reduction or a scan: the operand. An enumeration: no parts.
+/// - `s op= e` with a parallel `e` and a scalar `s`: the operand, at the bits at which it is folded
+///   (`fold_bits`), then the old value of `s`.
+/// - A reduction: the operand, at those bits. A scan: the operand. An enumeration: no parts.
 ///
 /// `at` is `Nothing` for all but the first two, and for a read that goes by NEWS. `Memory` comes
 /// where memory ends, where a number of a register, a field or an axis would be 2^32 or more, and

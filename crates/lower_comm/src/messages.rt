@@ -4,7 +4,7 @@ ghost use Rattle.std.specs.Prelude.{◌≡◌, IfOk, OnOk, Some, slice_get};
 ghost use Rattle.lower_base.specs.declared.emit.Out.TheVariants as O;
 ghost use Rattle.lower_base.specs.Drafts.{Makes, draft, then_make};
 ghost use Rattle.lower_base.specs.Layouts.{layout};
-ghost use Rattle.lower_comm.specs.Messages.{folded_onto, negated_by, part_field, reduced, indexed, indexed_field, stored, sent_value, sent_to, sent, assigned, scanned, segment_field, enumerated, communicated};
+ghost use Rattle.lower_comm.specs.Messages.{folded_onto, with_fold, with_sign, negated_by, part_field, reduced, indexed, indexed_field, stored, sent_value, sent_to, sent, assigned, scanned, segment_field, enumerated, communicated};
 ghost use Rattle.lower_comm.specs.News.{goes_by_news};
 
 use crate::gets::read;
@@ -14,6 +14,7 @@ use cstar_tree::syntax::ReduceOp;
 use cstar_tree::typed::{TExpr, Typed, Variable};
 use lower_base::View;
 use lower_base::emit::{Out, field, put, register};
+use lower_base::kinds::{fold_by, fold_kind};
 use lower_base::operators::{assign_op, fold_of, operation, promoted_signed, reduce_op, scan_fold};
 use paris_code::{Field, Instr, Konst, Reduction, Unit};
 
@@ -65,15 +66,12 @@ pub fn comm_in(
             target,
             value,
             ..
-        } => {
-            let signed = promoted_signed(value.ty().elem);
-            assign(view, target, assign_op(*op), signed, at, parts, into, u)
-        }
+        } => { assign(view, target, assign_op(*op), value, at, parts, into, u) }
         TExpr::Step { target, .. } => {
             let processor = at.register()?;
             store(view, target, processor, parts, u)
         }
-        TExpr::Reduce { op, operand, .. } => reduce(*op, operand.ty().elem, parts, into, u),
+        TExpr::Reduce { op, operand, .. } => reduce(*op, operand, parts, into, u),
         TExpr::Scan {
             source,
             axis,
@@ -137,18 +135,21 @@ fn assign(
     view: &View,
     target: &TExpr,
     op: Option<Op>,
-    signed: bool,
+    value: &TExpr,
     at: Out,
     parts: &[Out],
     into: Out,
     u: &mut Unit,
 ) -> Result<Out, Memory>
-    ensures draft { IfOk result (λ out. assigned view.now.typed.now (layout view.now.names) target.now op signed at parts.now into (draft u.old) ≡ Makes out (draft u.new)) }
+    ensures draft { IfOk result (λ out. assigned view.now.typed.now (layout view.now.names) target.now op value.now at parts.now into (draft u.old) ≡ Makes out (draft u.new)) }
 {
     match at {
-        Out::Nothing => fold_onto(op, signed, target.ty().elem, parts, into, u),
+        Out::Nothing => fold_onto(op, value, target.ty().elem, parts, into, u),
         Out::Scalar(processor) => store(view, target, processor, parts, u),
-        Out::Field(address) => send(view, target, op, signed, address, parts, u),
+        Out::Field(address) => {
+            let signed = promoted_signed(value.ty().elem);
+            send(view, target, op, signed, address, parts, u)
+        }
     }
 }
 
@@ -176,31 +177,24 @@ fn part_field(parts: &[Out], number: usize) -> Result<Field, Memory>
 #[tactic(auto, unfolding(crate::specs::Messages::folded_onto, crate::specs::Messages::part_register, crate::specs::Messages::part_field, lower_base::specs::Drafts::from, lower_base::specs::Drafts::in_register, lower_base::specs::Drafts::in_field, lower_base::specs::Drafts::then_make))]
 fn fold_onto(
     op: Option<Op>,
-    signed: bool,
+    value: &TExpr,
     elem: Elem,
     parts: &[Out],
     into: Out,
     u: &mut Unit,
 ) -> Result<Out, Memory>
-    ensures draft { IfOk result (λ out. folded_onto op signed elem parts.now into (draft u.old) ≡ Makes out (draft u.new)) }
+    ensures draft { IfOk result (λ out. folded_onto op value.now elem parts.now into (draft u.old) ≡ Makes out (draft u.new)) }
 {
     let op = op.unwrap_or(Op::Add);
     let source = part_field(parts, 0)?;
     let old = part_register(parts, 1)?;
     let dest = into.register()?;
     let folded = register(u)?;
-    put(
-        u,
-        Instr::Global {
-            combiner: fold_of(op, signed),
-            dest: folded,
-            source,
-        },
-    )?;
+    fold(op, value, folded, source, u)?;
     put(
         u,
         Instr::FrontOperate {
-            op: operation(op, signed),
+            op: operation(op, promoted_signed(value.ty().elem)),
             dest,
             left: old,
             right: folded,
@@ -217,21 +211,47 @@ fn fold_onto(
     Ok(into)
 }
 
-/// A unary reduction. With `-=` it is the negative of the sum.
-#[tactic(auto, unfolding(crate::specs::Messages::reduced, crate::specs::Messages::part_register, crate::specs::Messages::part_field, lower_base::specs::Drafts::from, lower_base::specs::Drafts::in_register, lower_base::specs::Drafts::in_field, lower_base::specs::Drafts::then_make))]
-fn reduce(op: ReduceOp, elem: Elem, parts: &[Out], into: Out, u: &mut Unit) -> Result<Out, Memory>
-    ensures draft { IfOk result (λ out. reduced op elem parts.now into (draft u.old) ≡ Makes out (draft u.new)) }
+/// The fold of the values of an expression, at their own length. Where a type with a sign was folded
+/// without it, that is put back.
+#[tactic(auto, unfolding(crate::specs::Messages::with_fold, crate::specs::Messages::with_sign))]
+fn fold(op: Op, e: &TExpr, dest: u32, source: Field, u: &mut Unit) -> Result<(), Memory>
+    ensures draft { OnOk result (with_fold op e.now dest source (draft u.old) ≡ draft u.new) }
 {
-    let source = part_field(parts, 0)?;
-    let dest = into.register()?;
     put(
         u,
         Instr::Global {
-            combiner: fold_of(reduce_op(op), promoted_signed(elem)),
+            combiner: fold_by(op, e),
             dest,
             source,
         },
     )?;
+    match fold_kind(op, e) {
+        Some(kind) => put(
+            u,
+            Instr::FrontConvert {
+                dest,
+                source: dest,
+                kind,
+            },
+        ),
+        None => Ok(()),
+    }
+}
+
+/// A unary reduction. With `-=` it is the negative of the sum.
+#[tactic(auto, unfolding(crate::specs::Messages::reduced, crate::specs::Messages::part_register, crate::specs::Messages::part_field, lower_base::specs::Drafts::from, lower_base::specs::Drafts::in_register, lower_base::specs::Drafts::in_field, lower_base::specs::Drafts::then_make))]
+fn reduce(
+    op: ReduceOp,
+    operand: &TExpr,
+    parts: &[Out],
+    into: Out,
+    u: &mut Unit,
+) -> Result<Out, Memory>
+    ensures draft { IfOk result (λ out. reduced op operand.now parts.now into (draft u.old) ≡ Makes out (draft u.new)) }
+{
+    let source = part_field(parts, 0)?;
+    let dest = into.register()?;
+    fold(reduce_op(op), operand, dest, source, u)?;
     negate_by(op, dest, u)?;
     Ok(into)
 }

@@ -15,13 +15,14 @@ use Rattle.lower_base.specs.declared.emit.Out.TheVariants as O
 use Rattle.lower_base.specs.Constants.{word_in}
 use Rattle.lower_base.specs.Drafts.{Draft, Made, Makes, Fails, then_make, fresh_for}
 use Rattle.lower_base.specs.Layouts.{Layout}
+use Rattle.lower_base.specs.Kinds.{bits_of, kind_of}
 use Rattle.lower_comm.specs.Messages.{located}
 use Rattle.lower_comm.specs.News.{goes_by_news}
 use Rattle.lower_expr.specs.declared.spots.Spot.{Spot}
 use Rattle.lower_expr.specs.declared.spots.Spot.TheVariants as S
 use Rattle.lower_expr.specs.Effects.{computed_to, gone_to}
 use Rattle.lower_expr.specs.Frames.{called}
-use Rattle.lower_expr.specs.Kinds.{bits_of, kind_of, list_bits}
+use Rattle.lower_expr.specs.Kinds.{list_bits}
 use Rattle.lower_expr.specs.Lengths.{cast_length, conversion_length, logical_length, tested_length, length_of, truth_length_of, used_length_of, spot_length_of, lengths_of, lengths_in, call_length, located_length, news_length, read_length}
 use Rattle.lower_expr.specs.Positions.{known_position}
 use Rattle.lower_expr.specs.Operands.{is_quiet, are_quiet, all_quiet, operand_by, operand_length}

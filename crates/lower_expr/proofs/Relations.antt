@@ -4,8 +4,7 @@ use Rattle.cstar_base.specs.declared.operators.Op.{Op}
 use Rattle.paris_code.specs.declared.operands.Compare.{Compare}
 use Rattle.paris_code.specs.declared.operands.Operation.{Operation}
 use Rattle.lower_base.specs.declared.operators.Machine.TheVariants as M
-use Rattle.lower_base.specs.Operators.{machine_of}
-use Rattle.lower_expr.specs.Steps.{relates}
+use Rattle.lower_base.specs.Operators.{machine_of, relates}
 
 pub compares : (op : Op) (signed : Bool) (relation : Compare) → machine_of op signed ≡ M.Compare relation → relates op ≡ true
 unfolding machine_of relates

@@ -1,6 +1,6 @@
 -- The code of an expression whose value goes to a variable, decides where a context is narrowed, or
 -- is not used. The last instruction of a value writes the variable itself.
-use Rattle.std.specs.Prelude.{ℕ, ◌+◌, Bool, true, ◌==◌, ◌&&◌, ◌||◌, not, nat_lt, nat_le, if◌then◌else◌, Option, Some, None, is_none}
+use Rattle.std.specs.Prelude.{ℕ, ◌+◌, Bool, true, ◌==◌, ◌&&◌, ◌||◌, not, nat_le, if◌then◌else◌, Option, Some, None, is_none}
 use Rattle.cstar_base.specs.declared.elem.Elem.{Elem}
 use Rattle.cstar_base.specs.declared.operators.Op.{Op}
 use Rattle.cstar_base.specs.declared.operators.Place.{Place}
@@ -18,12 +18,12 @@ use Rattle.lower_base.specs.declared.emit.Out.TheVariants as O
 use Rattle.lower_base.specs.Drafts.{Draft, Made, Makes, Fails, then_make, with_instr, a_register, a_field, in_register, in_field}
 use Rattle.lower_base.specs.Constants.{word_in, word_length}
 use Rattle.lower_base.specs.Layouts.{Layout}
-use Rattle.lower_base.specs.Operators.{assign_op_of}
+use Rattle.lower_base.specs.Operators.{assign_op_of, relates}
 use Rattle.lower_expr.specs.declared.operands.Own.{Own}
-use Rattle.lower_expr.specs.Kinds.{operand_bits, operation_bits, unary_bits, works_within}
+use Rattle.lower_expr.specs.Kinds.{operand_bits, operation_bits, reduced_bits, unary_bits, works_within}
 use Rattle.lower_expr.specs.Lengths.{length_of, operate_length, right_length, test_put_length, tested_length, used_length_of}
 use Rattle.lower_expr.specs.Operands.{are_quiet, is_plus, own_of, standing}
-use Rattle.lower_expr.specs.Steps.{is_kept, has_word, relates, word_for, word_put, put_value, operated, right_operated, negated, assigned_signed}
+use Rattle.lower_expr.specs.Steps.{is_kept, has_word, word_for, word_put, put_value, operated, right_operated, negated, assigned_signed}
 use Rattle.lower_expr.specs.Values.{Code, value_of, values_of, spot_of, next_of, tested, truth_put, extended, right_by, step_operation, register_binary_of, field_binary_of, scalar_choice_of, read_to, index_read_to, message_to, call_to}
 
 -- how many bits of a value go to a register or a field
@@ -97,7 +97,7 @@ computed_to t l dest (T.Element' ty place array p index) d = read_to t l (T.Elem
 computed_to t l dest (T.LeftIndex' ty place p indexes x of) d =
     gone_to dest (index_read_to t l (T.LeftIndex' ty place p indexes x of) (spot_of t l (T.LeftIndex' ty place p indexes x of)) dest d)
 computed_to t l dest (T.Reduce' ty op p operand) d =
-    gone_to dest (message_to t l (T.Reduce' ty op p operand) (next_of t l 32 true operand) dest d)
+    gone_to dest (message_to t l (T.Reduce' ty op p operand) (next_of t l (reduced_bits op operand) true operand) dest d)
 computed_to t l dest (T.Scan' ty p source axis combiner direction mode bit within) d =
     if bits_for dest == 32 then gone_to dest (message_to t l (T.Scan' ty p source axis combiner direction mode bit within) (next_of t l 32 true source) dest d)
     else moved t l dest (T.Scan' ty p source axis combiner direction mode bit within) d

@@ -1,6 +1,6 @@
 -- How many instructions an expression compiles to. Jumps are written once, since the lengths of
 -- what they pass over are known beforehand.
-use Rattle.std.specs.Prelude.{ℕ, zero, suc, ◌+◌, ◌-◌, Bool, true, false, not, ◌==◌, ◌&&◌, ◌||◌, nat_le, nat_lt, if◌then◌else◌, List, [], ◌∷◌, length, slice_get, Option, Some, None, is_none, is_some}
+use Rattle.std.specs.Prelude.{ℕ, zero, suc, ◌+◌, ◌-◌, Bool, true, false, not, ◌==◌, ◌&&◌, ◌||◌, nat_lt, if◌then◌else◌, List, [], ◌∷◌, length, slice_get, Option, Some, None, is_none, is_some}
 use Rattle.cstar_base.specs.declared.elem.Elem.{Elem}
 use Rattle.cstar_base.specs.declared.operators.Op.{Op}
 use Rattle.cstar_base.specs.Operators.{divides}
@@ -17,15 +17,16 @@ use Rattle.cstar_tree.specs.declared.typed.UnaryOp.TheVariants as Un
 use Rattle.cstar_tree.specs.declared.typed.ValueType.{ValueType}
 use Rattle.cstar_tree.specs.declared.typed.VarInfo.{VarInfo}
 use Rattle.cstar_tree.specs.Typed.{type_of}
+use Rattle.lower_base.specs.Kinds.{bits_of, fold_length, kind_of}
 use Rattle.lower_comm.specs.declared.news.NewsStep.{NewsStep}
 use Rattle.lower_base.specs.Constants.{word_length}
 use Rattle.lower_base.specs.Layouts.{Layout, elements_of}
 use Rattle.lower_comm.specs.News.{step_of, goes_by_news}
-use Rattle.lower_base.specs.Operators.{assign_op_of}
-use Rattle.lower_expr.specs.Kinds.{assigned_bits, bits_of, kind_of, list_bits, operand_bits, relation_kind, unary_bits}
+use Rattle.lower_base.specs.Operators.{assign_op_of, reduce_op_of, relates}
+use Rattle.lower_expr.specs.Kinds.{assigned_bits, list_bits, operand_bits, operator_bits, reduced_bits, relation_kind, unary_bits}
 use Rattle.lower_expr.specs.Operands.{is_plus, is_quiet, are_quiet, operand_length}
 use Rattle.lower_expr.specs.Positions.{known_position}
-use Rattle.lower_expr.specs.Steps.{is_kept, has_truth, has_word, word_of, relates, word_taken}
+use Rattle.lower_expr.specs.Steps.{is_kept, has_truth, has_word, word_of, word_taken}
 
 -- a conversion in place
 unfoldable pub conversion_length : Bool → Elem → ℕ
@@ -163,7 +164,7 @@ set_length scalar stored n e = stored + (if scalar then n else spread_length n e
 
 unfoldable pub compound_length : Bool → Elem → ℕ → Op → ℕ → TExpr → ℕ
 compound_length true elem both op n e =
-    if is_kept e then (both + (n + operate_length 32 op true)) + conversion_length true elem else (both + n) + 3
+    if is_kept e then (both + (n + operate_length 32 op true)) + conversion_length true elem else (both + n) + (2 + fold_length op e)
 compound_length false elem both op n e = (both + right_length 32 n op e) + conversion_length false elem
 
 unfoldable pub assign_length : Typed → Layout → AssignOp → TExpr → ℕ → ℕ → TExpr → ℕ
@@ -172,7 +173,7 @@ assign_length t l op target there n e =
     else elim (assign_op_of op) [
       | None ↦ set_length (is_none (type_of target).shape) (there + store_length t l target) n e
       | Some o ↦ compound_length (is_none (type_of target).shape) (type_of target).elem
-          ((there + store_length t l target) + load_length t l 32 target) o (operand_length l 32 n true e) e
+          ((there + store_length t l target) + load_length t l 32 target) o (operand_length l (operator_bits o (type_of target).shape e) n true e) e
     ]
 
 unfoldable pub step_once_length : Layout → Bool → ℕ
@@ -185,10 +186,13 @@ step_length t l target there =
     + conversion_length (is_none (type_of target).shape) (type_of target).elem))
     + (load_length t l 32 target + store_length t l target)
 
--- a unary reduction beside its operand
-unfoldable pub reduce_length : ReduceOp → ℕ
-reduce_length Rd.Sub = 2
-reduce_length _ = 1
+-- a unary reduction beside its operand: the fold, and its negative behind `-=`
+unfoldable pub negative_length : ReduceOp → ℕ
+negative_length Rd.Sub = 1
+negative_length _ = 0
+
+unfoldable pub reduce_length : ReduceOp → TExpr → ℕ
+reduce_length op operand = fold_length (reduce_op_of op) operand + negative_length op
 
 -- a call beside its arguments: zeroing and copying, the turn, the call, and the result
 unfoldable pub params_length : List VarInfo → ℕ → ℕ → ℕ
@@ -220,7 +224,7 @@ unfoldable mutual
   -- so many bits of the value of an expression
   pub length_of : Typed → Layout → ℕ → TExpr → ℕ
   length_of t l bits (T.Assign' ty place op p target q value) =
-      assign_length t l op target (spot_length_of t l target) (length_of t l (assigned_bits bits op (is_send target) (type_of target).elem) value) value
+      assign_length t l op target (spot_length_of t l target) (length_of t l (assigned_bits bits op (is_send target) (type_of target) value) value) value
   length_of t l bits (T.Choice' ty p test q first r second) =
       (operand_length l (bits_of (kind_of test)) (length_of t l (bits_of (kind_of test)) test) (is_kept test || is_quiet first) test
       + (arm_length (is_none ty.shape) (operand_length l bits (length_of t l bits first) true first) first
@@ -247,7 +251,8 @@ unfoldable mutual
       else operand_length l (unary_bits bits op operand) (length_of t l (unary_bits bits op operand) operand) true operand)
       + unary_length l bits op (is_kept operand)
   length_of t l bits (T.Step' ty op order p target) = step_length t l target (spot_length_of t l target)
-  length_of t l bits (T.Reduce' ty op p operand) = operand_length l 32 (length_of t l 32 operand) true operand + reduce_length op
+  length_of t l bits (T.Reduce' ty op p operand) =
+      operand_length l (reduced_bits op operand) (length_of t l (reduced_bits op operand) operand) true operand + reduce_length op operand
   length_of t l bits (T.Casts' ty elems p operand) = length_of t l bits operand + length elems.items
   length_of t l bits (T.ParallelCast' ty p operand) =
       cast_length l bits ty.elem operand (truth_length_of t l operand) (λ n. length_of t l n operand)

@@ -29,7 +29,7 @@ use Rattle.lower_base.specs.declared.operators.Machine.TheVariants as M
 use Rattle.lower_base.specs.Constants.{word_in}
 use Rattle.lower_base.specs.Layouts.{Layout}
 use Rattle.lower_base.specs.Drafts.{Draft, Made, Makes, Fails, then_make, with_instr, a_register, a_flag, in_register, in_field}
-use Rattle.lower_base.specs.Operators.{machine_of, is_signed}
+use Rattle.lower_base.specs.Operators.{is_signed, machine_of, negates, relates}
 use Rattle.lower_expr.specs.declared.steps.Right.{Right}
 use Rattle.lower_expr.specs.declared.steps.Right.TheVariants as R
 
@@ -63,21 +63,6 @@ word_put O.Nothing word d = Fails
 
 unfoldable pub has_word : Bool → TExpr → Bool
 has_word scalar e = not (is_none (if scalar then register_word e else word_of e))
-
--- the operators whose value is whether a relation holds
-unfoldable pub relates : Op → Bool
-relates P.Eq = true
-relates P.Ne = true
-relates P.Lt = true
-relates P.Le = true
-relates P.Gt = true
-relates P.Ge = true
-relates _ = false
-
--- the operator whose value is whether its operand is zero
-unfoldable pub negates : UnaryOp → Bool
-negates Un.Not = true
-negates _ = false
 
 -- does the test flag tell whether the value is not zero, without the value itself: that of a relation,
 -- of a negation, and of a variable

@@ -30,22 +30,23 @@ use Rattle.lower_base.specs.declared.emit.Out.TheVariants as O
 use Rattle.lower_base.specs.Drafts.{Draft, Made, Makes, Fails, then_make, from, here, with_instr, a_register, a_field, a_flag, fresh_for, shortened, in_register, in_field}
 use Rattle.lower_base.specs.Constants.{word_in}
 use Rattle.lower_base.specs.Layouts.{Layout, field_of, first_named, layout_of}
+use Rattle.lower_base.specs.Kinds.{bits_of, kind_of}
 use Rattle.lower_comm.specs.Messages.{located, checked_grid, communicated}
 use Rattle.lower_comm.specs.News.{goes_by_news}
 use Rattle.lower_base.specs.declared.operators.Machine.{Machine}
 use Rattle.lower_base.specs.declared.operators.Machine.TheVariants as M
-use Rattle.lower_base.specs.Operators.{assign_op_of, is_signed, machine_of}
+use Rattle.lower_base.specs.Operators.{assign_op_of, is_signed, machine_of, relates}
 use Rattle.lower_expr.specs.declared.spots.Spot.{Spot}
 use Rattle.lower_expr.specs.declared.spots.Spot.TheVariants as S
 use Rattle.lower_expr.specs.declared.steps.Right.{Right}
 use Rattle.lower_expr.specs.declared.steps.Right.TheVariants as R
 use Rattle.lower_expr.specs.Frames.{called}
-use Rattle.lower_expr.specs.Kinds.{assigned_bits, bits_of, kind_of, list_bits, operand_bits, reads_signed, relation_kind, result_bits, unary_bits}
+use Rattle.lower_expr.specs.Kinds.{assigned_bits, list_bits, operand_bits, operator_bits, reads_signed, reduced_bits, relation_kind, result_bits, unary_bits}
 use Rattle.lower_expr.specs.Lengths.{is_send, length_of, arm_length_of, test_put_length, tested_length}
 use Rattle.lower_expr.specs.Operands.{is_plus, is_quiet, are_quiet, all_quiet, operand_by, operand_length}
 use Rattle.lower_expr.specs.Positions.{known_position}
 use Rattle.lower_expr.specs.Spots.{variable_spot, index_checked, loaded, stored}
-use Rattle.lower_expr.specs.Steps.{is_kept, has_truth, relates, word_for, word_put, word_of, word_taken, constant_in, put_test, converted_in_place, put_value, operated, right_operated, in_a_field, negated, pieces_printed, assigned_signed}
+use Rattle.lower_expr.specs.Steps.{is_kept, has_truth, word_for, word_put, word_of, word_taken, constant_in, put_test, converted_in_place, put_value, operated, right_operated, in_a_field, negated, pieces_printed, assigned_signed}
 
 -- the code of a value, and that of a list of values
 abbrev pub Code : Type 0
@@ -344,7 +345,7 @@ updated_by t l e op place target value (Some set) spot code d =
     field_updated t l e op (assigned_signed op (type_of target).elem (type_of value).elem) place target dest spare there v after))))
 updated_by t l e op place target value None spot code d =
     then_make (a_register d) (λ dest begun. then_make (spot begun) (λ there between.
-    then_make (operand_by t l 32 code true value between) (λ v after.
+    then_make (operand_by t l (operator_bits op None value) code true value between) (λ v after.
     if is_kept value then register_updated t l e op (assigned_signed op (type_of target).elem (type_of value).elem) place target dest there v after
     else register_folded t l e target dest there v after)))
 
@@ -358,13 +359,13 @@ assigned_by t l e bits None place target value shape spot code d = plainly_set_b
 assigned_by t l e bits (Some op) place target value shape spot code d = updated_by t l e op place target value shape spot code d
 
 -- so many bits of the value are computed
-abbrev pub taken_bits : ℕ → AssignOp → TExpr → ℕ
-taken_bits bits op target = assigned_bits bits op (is_send target) (type_of target).elem
+abbrev pub taken_bits : ℕ → AssignOp → TExpr → TExpr → ℕ
+taken_bits bits op target value = assigned_bits bits op (is_send target) (type_of target) value
 
 unfoldable pub assign_by : Typed → Layout → TExpr → ℕ → AssignOp → Place → TExpr → TExpr → (Draft → Made Spot) → Code → Draft → Made Out
 assign_by t l e bits op place target value spot code d =
-    if is_send target then sent_by t l e spot (spread_by code value (unwrap_or (type_of target).shape 0) (taken_bits bits op target)) d
-    else lowest bits (assigned_by t l e (taken_bits bits op target) (assign_op_of op) place target value (type_of target).shape spot code d)
+    if is_send target then sent_by t l e spot (spread_by code value (unwrap_or (type_of target).shape 0) (taken_bits bits op target value)) d
+    else lowest bits (assigned_by t l e (taken_bits bits op target value) (assign_op_of op) place target value (type_of target).shape spot code d)
 
 -- one more, or one less
 unfoldable pub step_operation : StepOp → Operation
@@ -432,7 +433,7 @@ unfoldable mutual
   pub value_of : Typed → Layout → ℕ → TExpr → Draft → Made Out
   value_of t l bits (T.Assign' ty place op p target q value) d =
       assign_by t l (T.Assign' ty place op p target q value) bits op place target value (spot_of t l target)
-      (value_of t l (taken_bits bits op target) value) d
+      (value_of t l (taken_bits bits op target value) value) d
   value_of t l bits (T.Choice' ty p test q first r second) d =
       choice_by ty bits (is_kept test)
       (operand_by t l (bits_of (kind_of test)) (value_of t l (bits_of (kind_of test)) test) (is_kept test || is_quiet first) test)
@@ -454,7 +455,8 @@ unfoldable mutual
   value_of t l bits (T.Step' ty op order p target) d =
       step_by t l (T.Step' ty op order p target) bits op order target (spot_of t l target) d
   value_of t l bits (T.Reduce' ty op p operand) d =
-      message_by t l (T.Reduce' ty op p operand) ty bits (operand_by t l 32 (value_of t l 32 operand) true operand) d
+      message_by t l (T.Reduce' ty op p operand) ty bits
+      (operand_by t l (reduced_bits op operand) (value_of t l (reduced_bits op operand) operand) true operand) d
   value_of t l bits (T.Casts' ty elems p operand) d =
       then_make (value_of t l bits operand d) (λ v after. in_register v (λ r. Makes v (casts_put elems.items r after)))
   value_of t l bits (T.ParallelCast' ty p operand) d =

@@ -5,7 +5,8 @@ ghost use Rattle.lower_base.specs.Drafts.{Makes, draft};
 ghost use Rattle.lower_base.specs.Layouts.{first_named};
 ghost use Rattle.lower_expr.specs.Values.{expression_of};
 
-use crate::value::{spread, value};
+use crate::conversions::spread;
+use crate::value::value;
 use cstar_base::Memory;
 use cstar_tree::typed::{TExpr, Typed};
 use lower_base::names::named;

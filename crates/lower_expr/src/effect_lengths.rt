@@ -8,10 +8,9 @@ ghost use Rattle.lower_expr.specs.Effects.{assigned_length, assignment_length, c
 ghost use Rattle.lower_expr.specs.Lengths.{used_length_of};
 
 use crate::effects::{assigned_own, fits_field, stepped_own};
-use crate::length::{
-    length, operate_length, right_length, test_length, test_put_length, used_length,
-};
+use crate::length::{length, test_length, used_length};
 use crate::operands::{Own, is_plus};
+use crate::operator_lengths::{operate_length, right_length, test_put_length};
 use crate::steps::{has_word, stays_scalar};
 use cstar_base::{Elem, Memory, Op};
 use cstar_tree::syntax::AssignOp;

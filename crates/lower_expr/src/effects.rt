@@ -9,22 +9,22 @@ ghost use Rattle.lower_expr.specs.Effects.{assigned_own, assignment_effect, bina
 ghost use Rattle.lower_expr.specs.Values.{step_operation, value_of};
 
 use crate::assign::step_operation;
-use crate::kinds::{operation_bits, unary_bits, works_within};
+use crate::conditions::{scalar_choice, test};
+use crate::conversions::{operand, right_operand};
+use crate::kinds::{operation_bits, reduced_bits, unary_bits, works_within};
 use crate::operands::{Own, is_plus, own_of, standing};
 use crate::parts::{Assignment, Binary, Choice, Operator};
+use crate::places::{read_indexed_to, read_to};
 use crate::steps::{
-    assign_signed, extend, is_relation, operate, operate_right, put_word, set, stays_scalar,
-    test_value, unary, word_for,
+    assign_signed, extend, operate, operate_right, put_word, set, stays_scalar, test_value, unary,
+    word_for,
 };
-use crate::value::{
-    binary_in_field, binary_in_register, call_to, message_to, operand, read_indexed_to, read_to,
-    right_operand, scalar_choice, test, value,
-};
+use crate::value::{binary_in_field, binary_in_register, call_to, message_to, value};
 use cstar_base::{Elem, Memory, Op};
 use cstar_tree::syntax::{AssignOp, StepOp};
 use cstar_tree::typed::TExpr;
 use lower_base::emit::{field, put, register};
-use lower_base::operators::assign_op;
+use lower_base::operators::{assign_op, is_relation};
 use lower_base::{Operand, Out, View};
 use paris_code::{Field, Instr, Konst, Unit};
 
@@ -240,18 +240,16 @@ fn compute_to(view: &View, dest: Operand, e: &TExpr, u: &mut Unit) -> Result<(),
             read_indexed_to(view, e, dest, u)?;
             Ok(())
         }
-        TExpr::Reduce {
-            operand: source,
-            ..
-        } => {
-            message_to(view, e, source, dest, u)?;
+        TExpr::Reduce { op, operand, .. } => {
+            let bits = reduced_bits(*op, operand);
+            message_to(view, e, bits, operand, dest, u)?;
             Ok(())
         }
         TExpr::Scan { source, .. } => {
             if bits_for(dest) != 32 {
                 return move_to(view, dest, e, u);
             }
-            message_to(view, e, source, dest, u)?;
+            message_to(view, e, 32, source, dest, u)?;
             Ok(())
         }
         TExpr::Call {

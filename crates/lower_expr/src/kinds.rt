@@ -4,144 +4,15 @@
 
 ghost use Rattle.std.specs.Prelude.{◌≡◌, Some, true};
 ghost use Rattle.cstar_tree.specs.Typed.{type_of};
-ghost use Rattle.lower_expr.specs.Kinds.{assigned_bits, binary_kind, bits_of, common_kind, converted_kind, has_all, has_number, is_bitwise, is_modular, is_unchanged, kind_of, kind_with, list_bits, longer, narrow, operand_bits, operation_bits, reads_signed, relation_kind, result_bits, shifts_within, truth_type, unary_bits, works_within};
+ghost use Rattle.lower_base.specs.Kinds.{bits_of, kind_of};
+ghost use Rattle.lower_expr.specs.Kinds.{assigned_bits, has_number, is_modular, is_unchanged, kind_with, list_bits, longer, operand_bits, operation_bits, operator_bits, reads_signed, reduced_bits, relation_kind, result_bits, shifts_within, unary_bits, works_within};
 
-use crate::steps::{constant_word, is_relation, negates};
+use crate::steps::{constant_word, stays_scalar};
 use cstar_base::{Elem, Op, numbers};
-use cstar_tree::syntax::AssignOp;
-use cstar_tree::typed::{TExpr, UnaryOp};
-use lower_base::operators::{assign_op, promoted_signed};
-
-/// Whether a type has all numbers of another one.
-#[tactic(auto, unfolding(crate::specs::Kinds::has_all))]
-fn has_all(elem: Elem, other: Elem) -> bool
-    ensures { result ≡ has_all elem other }
-{
-    if other.signed {
-        elem.signed && other.bits <= elem.bits
-    } else if elem.signed {
-        other.bits < elem.bits
-    } else {
-        other.bits <= elem.bits
-    }
-}
-
-/// A type of fewer than 32 bits.
-#[tactic(auto, unfolding(crate::specs::Kinds::narrow))]
-fn narrow(elem: Elem) -> Option<Elem>
-    ensures { result ≡ narrow elem }
-{
-    if elem.bits == 32 { None } else { Some(elem) }
-}
-
-/// The narrow type that has the numbers of two.
-#[tactic(auto, unfolding(crate::specs::Kinds::common_kind))]
-fn common_kind(one: Option<Elem>, other: Option<Elem>) -> Option<Elem>
-    ensures { result ≡ common_kind one other }
-{
-    let a = one?;
-    let b = other?;
-    if has_all(a, b) {
-        Some(a)
-    } else if has_all(b, a) {
-        Some(b)
-    } else {
-        None
-    }
-}
-
-/// The narrow type of what is converted to a type, by that of the value.
-#[tactic(auto, unfolding(crate::specs::Kinds::converted_kind))]
-fn converted_kind(elem: Elem, value: Option<Elem>) -> Option<Elem>
-    ensures { result ≡ converted_kind elem value }
-{
-    match value {
-        Some(kind) if has_all(elem, kind) => Some(kind),
-        Some(_) | None => narrow(elem),
-    }
-}
-
-/// The narrow type of truth values.
-fn truth_kind() -> Option<Elem>
-    ensures { result ≡ Some truth_type }
-{
-    Some(Elem::BOOL)
-}
-
-#[tactic(auto, unfolding(crate::specs::Kinds::is_bitwise))]
-fn is_bitwise(op: Op) -> bool
-    ensures { result ≡ is_bitwise op }
-{
-    matches!(op, Op::And | Op::Or | Op::Xor)
-}
-
-#[tactic(auto, unfolding(crate::specs::Kinds::binary_kind))]
-fn binary_kind(op: Op, left: Option<Elem>, right: Option<Elem>) -> Option<Elem>
-    ensures { result ≡ binary_kind op left right }
-{
-    if is_relation(op) {
-        truth_kind()
-    } else if is_bitwise(op) {
-        common_kind(left, right)
-    } else {
-        None
-    }
-}
-
-/// The narrow type that has the value of an expression, if one is known.
-#[tactic(auto, unfolding(crate::specs::Kinds::kind_of))]
-pub fn kind_of(e: &TExpr) -> Option<Elem>
-    ensures { result ≡ kind_of e.now }
-{
-    match e {
-        TExpr::Brackets { inner: operand, .. } | TExpr::Promote { operand, .. } => kind_of(operand),
-        TExpr::Convert { ty, operand } | TExpr::ParallelCast { ty, operand } => {
-            converted_kind(ty.elem, kind_of(operand))
-        }
-        TExpr::Choice {
-            then,
-            otherwise,
-            ..
-        } => common_kind(kind_of(then), kind_of(otherwise)),
-        TExpr::LogicalOr { .. } | TExpr::LogicalAnd { .. } => truth_kind(),
-        TExpr::Binary {
-            op,
-            left,
-            right,
-            ..
-        } => binary_kind(*op, kind_of(left), kind_of(right)),
-        TExpr::Unary { op, .. } => if negates(*op) { truth_kind() } else { None },
-        TExpr::Variable { ty, .. } | TExpr::Element { ty, .. } | TExpr::LeftIndex { ty, .. } => {
-            narrow(ty.elem)
-        }
-        TExpr::Assign { .. }
-        | TExpr::Step { .. }
-        | TExpr::Reduce { .. }
-        | TExpr::Casts { .. }
-        | TExpr::Number { .. }
-        | TExpr::Dot { .. }
-        | TExpr::Call { .. }
-        | TExpr::Pcoord { .. }
-        | TExpr::PositionsOf { .. }
-        | TExpr::RankOf { .. }
-        | TExpr::DimOf { .. }
-        | TExpr::Scan { .. }
-        | TExpr::Enumerate { .. }
-        | TExpr::Printf { .. }
-        | TExpr::GetChar { .. } => None,
-    }
-}
-
-/// The bits of a narrow type, or 32.
-#[tactic(auto, unfolding(crate::specs::Kinds::bits_of))]
-fn bits_of(kind: Option<Elem>) -> u8
-    ensures { result ≡ bits_of kind }
-{
-    match kind {
-        Some(kind) => kind.bits,
-        None => 32,
-    }
-}
+use cstar_tree::syntax::{AssignOp, ReduceOp};
+use cstar_tree::typed::{TExpr, UnaryOp, ValueType};
+use lower_base::kinds::{bits_of, common_kind, fold_bits, is_bitwise, kind_of};
+use lower_base::operators::{assign_op, is_relation, negates, promoted_signed, reduce_op};
 
 /// How many bits of a value its narrow type has, or 32: a test needs no others.
 pub fn test_bits(e: &TExpr) -> u8
@@ -192,7 +63,7 @@ pub fn relation_bits(left: &TExpr, right: &TExpr) -> u8
 }
 
 /// Whether the lowest bits of the result depend on the lowest bits of the operands alone.
-#[tactic(auto, unfolding(crate::specs::Kinds::is_modular, crate::specs::Kinds::is_bitwise))]
+#[tactic(auto, unfolding(crate::specs::Kinds::is_modular, lower_base::specs::Kinds::is_bitwise))]
 fn is_modular(op: Op) -> bool
     ensures { result ≡ is_modular op }
 {
@@ -293,18 +164,39 @@ fn longer(bits: u8, other: u8) -> u8
     if bits < other { other } else { bits }
 }
 
-/// How many bits a value has that is assigned: those of the target, and what is wanted of the
-/// assignment, but all where an operator or a combiner takes it.
-#[tactic(auto, unfolding(crate::specs::Kinds::assigned_bits))]
-pub fn assigned_bits(bits: u8, op: AssignOp, sends: bool, elem: Elem) -> u8
-    ensures { result ≡ assigned_bits bits op sends elem }
+/// How many bits the operand of a unary reduction has.
+pub fn reduced_bits(op: ReduceOp, operand: &TExpr) -> u8
+    ensures { result ≡ reduced_bits op operand.now }
 {
-    if assign_op(op).is_some() {
+    fold_bits(reduce_op(op), operand)
+}
+
+/// How many bits an operator takes of the value that it assigns to a target of the shape: all, but for a
+/// parallel value that is folded onto a scalar.
+#[tactic(auto, unfolding(crate::specs::Kinds::operator_bits))]
+pub fn operator_bits(op: Op, shape: Option<u16>, value: &TExpr) -> u8
+    ensures { result ≡ operator_bits op shape value.now }
+{
+    if shape.is_some() || stays_scalar(value) {
         32
-    } else if sends {
-        elem.bits
     } else {
-        longer(bits, elem.bits)
+        fold_bits(op, value)
+    }
+}
+
+/// How many bits a value has that is assigned: those of the target, and what is wanted of the
+/// assignment, but as many as an operator or a combiner takes.
+#[tactic(auto, unfolding(crate::specs::Kinds::assigned_bits))]
+pub fn assigned_bits(bits: u8, op: AssignOp, sends: bool, ty: ValueType, value: &TExpr) -> u8
+    ensures { result ≡ assigned_bits bits op sends ty value.now }
+{
+    match assign_op(op) {
+        Some(op) => operator_bits(op, ty.shape, value),
+        None => if sends {
+            ty.elem.bits
+        } else {
+            longer(bits, ty.elem.bits)
+        },
     }
 }
 

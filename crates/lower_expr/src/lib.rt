@@ -3,6 +3,8 @@
 
 mod assign;
 mod calls;
+pub mod conditions;
+pub mod conversions;
 pub mod effect_lengths;
 pub mod effects;
 mod frames;
@@ -11,10 +13,13 @@ mod leaves;
 pub mod length;
 mod logical;
 pub mod operands;
+mod operator_lengths;
 pub mod parts;
+mod place_lengths;
+mod places;
 mod positions;
 mod spots;
 pub mod steps;
-pub mod value;
+mod value;
 
 pub use calls::expr;

@@ -84,8 +84,14 @@ pub struct Assignment<'a> {
 impl Assignment<'_> {
     /// How many bits of the value are computed where so many of the assignment's are wanted.
     pub fn taken_bits(&self, bits: u8) -> u8
-        ensures { result ≡ taken_bits bits self.now.op self.now.target.now }
+        ensures { result ≡ taken_bits bits self.now.op self.now.target.now self.now.value.now }
     {
-        assigned_bits(bits, self.op, is_send(self.target), self.target.ty().elem)
+        assigned_bits(
+            bits,
+            self.op,
+            is_send(self.target),
+            self.target.ty(),
+            self.value,
+        )
     }
 }

@@ -8,14 +8,14 @@ ghost use Rattle.paris_code.specs.declared.instr.Instr.TheVariants as I;
 ghost use Rattle.paris_code.specs.declared.operands.Konst.TheVariants as K;
 ghost use Rattle.lower_base.specs.Layouts.{layout};
 ghost use Rattle.lower_expr.specs.Operands.{is_plus};
-ghost use Rattle.lower_expr.specs.Steps.{is_kept, negates, has_truth, has_word, word_for, word_put, register_word, word_of, relates, word_taken, constant_in, put_test, field_converted, converted_in_place, put_in_field, put_value, operated, fields_operated, right_operated, takes_word, in_a_field, register_negated, field_negated, negated, pieces_printed, assigned_signed};
+ghost use Rattle.lower_expr.specs.Steps.{is_kept, has_truth, has_word, word_for, word_put, register_word, word_of, word_taken, constant_in, put_test, field_converted, converted_in_place, put_in_field, put_value, operated, fields_operated, right_operated, takes_word, in_a_field, register_negated, field_negated, negated, pieces_printed, assigned_signed};
 ghost use Rattle.lower_expr.specs.Values.{compared};
 
 use crate::parts::Operator;
 use cstar_base::{Elem, Memory, Op, numbers};
 use cstar_tree::typed::{Piece, TExpr, UnaryOp};
 use lower_base::emit::{flag, put};
-use lower_base::operators::{Machine, divides, machine_op, promoted_signed};
+use lower_base::operators::{Machine, divides, is_relation, machine_op, negates, promoted_signed};
 use lower_base::{Operand, Out, View};
 use paris_code::{Compare, Field, Instr, Konst, Operation, Unit};
 use source_meaning::constant as constant_value;
@@ -114,14 +114,6 @@ pub fn has_word(scalar: bool, e: &TExpr) -> bool
     }
 }
 
-/// Whether the operator's value is whether its operand is zero.
-#[tactic(auto, unfolding(crate::specs::Steps::negates))]
-pub fn negates(op: UnaryOp) -> bool
-    ensures { result ≡ negates op }
-{
-    matches!(op, UnaryOp::Not)
-}
-
 /// Whether the test flag tells if the value is not zero, without the value itself: that of a
 /// relation, of a negation, and of a variable.
 #[tactic(auto, unfolding(crate::specs::Steps::has_truth))]
@@ -135,14 +127,6 @@ pub fn has_truth(e: &TExpr) -> bool
         TExpr::Unary { op, .. } => negates(*op),
         _ => false,
     }
-}
-
-/// Whether the operator is a relation.
-#[tactic(auto, unfolding(crate::specs::Steps::relates))]
-pub fn is_relation(op: Op) -> bool
-    ensures { result ≡ relates op }
-{
-    matches!(op, Op::Eq | Op::Ne | Op::Lt | Op::Le | Op::Gt | Op::Ge)
 }
 
 /// A number in a fresh register.

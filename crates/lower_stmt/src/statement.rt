@@ -20,10 +20,11 @@ use cstar_tree::typed::{TExpr, TStmt};
 use lower_base::emit::{flag, here, plus, put};
 use lower_base::names::own_entry;
 use lower_base::{Operand, View};
+use lower_expr::conditions::test;
+use lower_expr::conversions::operand;
 use lower_expr::effects::effect;
 use lower_expr::length::used_length;
 use lower_expr::steps::set;
-use lower_expr::value::{operand, test};
 use paris_code::{Field, Instr, Unit};
 
 /// What a function gives back.

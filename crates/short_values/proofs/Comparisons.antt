@@ -11,7 +11,7 @@ use Rattle.cstar_base.specs.Numbers.{converted, residue, number_of}
 use Rattle.cstar_base.specs.Operators.{operand, outcome, is_below, is_at_most}
 use Rattle.cstar_base.proofs.NumberLaws.{kind_bits, number_in_lower, number_unsigned, residue_of_number, residue_of_pos}
 use Rattle.source_meaning.specs.Reductions.{int_type}
-use Rattle.lower_expr.specs.Steps.{relates}
+use Rattle.lower_base.specs.Operators.{relates}
 use Rattle.phase_meaning.proofs.Operations.{word}
 use Rattle.phase_meaning.proofs.Widths.{number_in_word}
 

@@ -1,5 +1,5 @@
 -- The lowest bits of what operators give.
-use Rattle.std.proofs.Common.{◌≡◌, ℕ, ◌+◌, ◌*◌, ◌/◌, ◌<◌, ◌≤◌, ◌-◌, ◌^◌, ◌%◌, bit_and, bit_or, bit_xor, cond, Bool, true, not, pos, neg_ℤ, ◌*ℤ◌, sym, ◌∙◌, ap, subst, inl, inr, arith, add-mul}
+use Rattle.std.proofs.Common.{◌≡◌, ℕ, ◌+◌, ◌*◌, ◌/◌, ◌<◌, ◌≤◌, ◌-◌, ◌^◌, ◌%◌, bit_and, bit_or, bit_xor, cond, Bool, true, not, pos, neg_ℤ, ◌*ℤ◌, ◌-ℤ◌, sym, ◌∙◌, ap, subst, inl, inr, arith, add-mul}
 use Rattle.std.proofs.lemmas.Int.{ints}
 use Rattle.std.proofs.lemmas.Nat.{pow_pos, pow-add, mod_below, mul-mod, mul-mod_first, and_mod, or_mod, xor_mod, div_below, div-add-mod'}
 use Rattle.std.proofs.lemmas.Bool.{cases_lt, lt-ltb}
@@ -8,11 +8,12 @@ use Rattle.cstar_base.specs.declared.operators.Op.{Op}
 use Rattle.cstar_base.specs.declared.operators.Op.TheVariants as P
 use Rattle.cstar_base.specs.Numbers.{residue, number_of}
 use Rattle.cstar_base.specs.Operators.{operand, outcome, product_of, difference_of, shifted_left}
-use Rattle.cstar_base.proofs.NumberLaws.{number_unsigned, residue_below, residue_of_number}
+use Rattle.cstar_base.proofs.NumberLaws.{number_in_lower, number_in_upper, number_unsigned, residue_below, residue_is, residue_of_number, residue_of_pos}
 use Rattle.cstar_base.proofs.OperatorLaws.{sum_by_residues, difference_by_residues, product_by_residues}
 use Rattle.cstar_tree.specs.declared.typed.UnaryOp.TheVariants as Un
 use Rattle.source_meaning.specs.Values.{unary_of}
-use Rattle.lower_expr.specs.Kinds.{is_modular, is_bitwise}
+use Rattle.lower_base.specs.Kinds.{is_bitwise}
+use Rattle.lower_expr.specs.Kinds.{is_modular}
 use Rattle.phase_meaning.proofs.Operations.{word}
 use Rattle.phase_meaning.proofs.Widths.{cut_cut, residue_cut, number_in_word}
 use Rattle.short_values.specs.Short.{Agrees}
@@ -29,10 +30,10 @@ rest : (bits x : ℕ) → x / 2 ^ bits * 2 ^ bits + x % 2 ^ bits ≡ x
 rest bits x = div-add-mod' x (2 ^ bits)
 
 -- 2 ^ 32 is some times the modulus
-abbrev times : ℕ → ℕ
+abbrev pub times : ℕ → ℕ
 times bits = 2 ^ (32 - bits)
 
-whole_word : (bits : ℕ) → bits ≤ 32 → times bits * 2 ^ bits ≡ 2 ^ 32
+pub whole_word : (bits : ℕ) → bits ≤ 32 → times bits * 2 ^ bits ≡ 2 ^ 32
 whole_word bits h = sym (pow-add 2 (32 - bits) bits) ∙ ap (λ k. 2 ^ k) (let e : 32 - bits + bits ≡ 32 = omega arith in e)
 
 sum : (bits : ℕ) (u w : Bool) (m n x y : ℕ) → bits ≤ 32 → Agrees bits m x → Agrees bits n y → Agrees bits (outcome P.Add bits u m n) (outcome P.Add 32 w x y)
@@ -65,6 +66,13 @@ difference bits u w m n x y h b p q =
     ∙ ap (λ k. k % 2 ^ bits) (let e : x + (2 ^ 32 - y) ≡ x % 2 ^ bits + (2 ^ bits - y % 2 ^ bits) + (x / 2 ^ bits * 2 ^ bits + less * 2 ^ bits) = omega (arith, rest bits x, lacking bits y h b) in e)
     ∙ ap (λ k. (x % 2 ^ bits + (2 ^ bits - y % 2 ^ bits) + k) % 2 ^ bits) (sym (add-mul (x / 2 ^ bits) less (2 ^ bits)))
     ∙ add-mul-mod_self_right (x % 2 ^ bits + (2 ^ bits - y % 2 ^ bits)) (x / 2 ^ bits + less) (2 ^ bits))
+
+-- the lowest bits of a word that is read with a sign
+pub low_bits_of_word : (bits x : ℕ) → bits ≤ 32 → residue bits (number_of 32 true x) ≡ x % 2 ^ bits
+low_bits_of_word bits x h = elim (cases_lt x (2 ^ 31)) [
+  | inl low ↦ ap (residue bits) (number_in_lower 32 x low) ∙ residue_of_pos bits x
+  | inr high ↦ ap (residue bits) (number_in_upper 32 x high) ∙ residue_is bits (pos x -ℤ pos (2 ^ 32)) (times bits) x (omega (arith, ints, whole_word bits h))
+]
 
 -- a field's number is the lowest bits of its word
 lowest_of_word : (bits : ℕ) (signed : Bool) (n : ℕ) → bits ≤ 32 → n < 2 ^ bits → word bits signed n % 2 ^ bits ≡ n

@@ -11,12 +11,13 @@ use Rattle.cstar_base.specs.Kinds.{is_kind}
 use Rattle.cstar_base.specs.Numbers.{converted, residue, number_of, truth_of, least_of, greatest_of}
 use Rattle.cstar_base.proofs.NumberLaws.{kind_bits, number_in_lower, number_in_upper, number_unsigned, number_at_least, number_at_most, residue_below, residue_is, residue_of_number, residue_of_pos, two_halves}
 use Rattle.source_meaning.specs.Reductions.{int_type}
-use Rattle.lower_expr.specs.Kinds.{has_number, has_all}
+use Rattle.lower_base.specs.Kinds.{has_all}
+use Rattle.lower_expr.specs.Kinds.{has_number}
 use Rattle.phase_meaning.proofs.Widths.{residue_cut}
 use Rattle.short_values.specs.Short.{Agrees}
 
 -- the number of a type that a word is converted to
-narrowed : ℕ → ℕ → ℕ
+unfoldable pub narrowed : ℕ → ℕ → ℕ
 narrowed bits word = if bits == 1 then truth_of (number_of 32 true word) else residue bits (number_of 32 true word)
 
 truth_below : (z : ℤ) → truth_of z < 2 ^ 1
@@ -25,7 +26,7 @@ truth_below (pos zero) = lit< tt
 truth_below (pos (suc n)) = lit< tt
 truth_below (negsuc n) = lit< tt
 
-narrowed_below : (bits word : ℕ) → narrowed bits word < 2 ^ bits
+pub narrowed_below : (bits word : ℕ) → narrowed bits word < 2 ^ bits
 unfolding narrowed
 narrowed_below bits word = elim (cases_eq bits 1) [
   | inl e ↦ subst (λ (b : ℕ). narrowed b word < 2 ^ b) (sym e) (truth_below (number_of 32 true word))
@@ -34,18 +35,18 @@ narrowed_below bits word = elim (cases_eq bits 1) [
 ]
 
 -- has a type a word: is that what the type's number is converted to
-holds : (bits : ℕ) (signed : Bool) (word : ℕ) → Bool
+pub holds : (bits : ℕ) (signed : Bool) (word : ℕ) → Bool
 holds bits signed word = residue 32 (number_of bits signed (narrowed bits word)) == word
 
 -- by the bits and the sign of the type alone
-by_parts : (kind : Elem) (word : ℕ) → has_number kind word ≡ holds kind.bits kind.signed word
+pub by_parts : (kind : Elem) (word : ℕ) → has_number kind word ≡ holds kind.bits kind.signed word
 unfolding has_number holds narrowed converted
 by_parts kind word = refl
 
 same_number : (a b : ℕ) → (a == b) ≡ true → a ≡ b
 same_number a b h = grind (arith, nat_tests)
 
-whole : (bits : ℕ) (signed : Bool) (word : ℕ) → holds bits signed word ≡ true → residue 32 (number_of bits signed (narrowed bits word)) ≡ word
+pub whole : (bits : ℕ) (signed : Bool) (word : ℕ) → holds bits signed word ≡ true → residue 32 (number_of bits signed (narrowed bits word)) ≡ word
 unfolding holds
 whole bits signed word h = same_number (residue 32 (number_of bits signed (narrowed bits word))) word h
 
@@ -56,7 +57,7 @@ lowest bits signed word most h =
     ∙ residue_of_number bits signed (narrowed bits word) (narrowed_below bits word)
 
 -- so a field that agrees with the word is the word
-read_word : (bits : ℕ) (signed : Bool) (n word : ℕ) → bits ≤ 32 → holds bits signed word ≡ true → Agrees bits n word → residue 32 (number_of bits signed n) ≡ word
+pub read_word : (bits : ℕ) (signed : Bool) (n word : ℕ) → bits ≤ 32 → holds bits signed word ≡ true → Agrees bits n word → residue 32 (number_of bits signed n) ≡ word
 read_word bits signed n word most h agrees =
     ap (λ k. residue 32 (number_of bits signed k)) (agrees ∙ lowest bits signed word most h) ∙ whole bits signed word h
 
@@ -153,7 +154,7 @@ wider bits signed k other word some most positive large all h =
     eq-eqb (residue 32 (number_of bits signed (narrowed bits word))) word (ap (λ x. residue 32 (number_of bits signed x)) m ∙ ap (residue 32) r ∙ w)
 
 -- `bool` has all numbers of itself alone
-bool_unsigned : (bits : ℕ) (signed : Bool) → is_kind bits signed ≡ true → bits ≡ 1 → signed ≡ false
+pub bool_unsigned : (bits : ℕ) (signed : Bool) → is_kind bits signed ≡ true → bits ≡ 1 → signed ≡ false
 bool_unsigned bits false h e = refl
 bool_unsigned bits true h e = let none : false ≡ true = subst (λ (b : ℕ). is_kind b true ≡ true) e h in cc
 

@@ -1,16 +1,22 @@
--- What a field of few bits has of a word, what operators and comparisons give on such fields, and which
--- words a narrow type has.
-use Rattle.std.specs.Prelude.{◌≡◌, ℕ, Bool, true, false, not, ◌<◌, ◌≤◌, ◌-◌, ◌^◌, ◌%◌, ◌==◌, pos, neg_ℤ}
+-- What a field of few bits has of a word, what operators, comparisons and folds give on such fields, and
+-- which words a narrow type has.
+use Rattle.std.specs.Prelude.{◌≡◌, ℕ, Bool, true, false, not, ◌<◌, ◌≤◌, ◌-◌, ◌^◌, ◌%◌, ◌==◌, Option, Some, None, pos, neg_ℤ}
 use Rattle.cstar_base.specs.declared.elem.Elem.{Elem}
 use Rattle.cstar_base.specs.declared.operators.Op.{Op}
 use Rattle.cstar_base.specs.declared.operators.Op.TheVariants as P
+use Rattle.cstar_base.specs.Folds.{fold_once, identity_of}
 use Rattle.cstar_base.specs.Numbers.{converted, residue, number_of}
 use Rattle.cstar_base.specs.Operators.{outcome}
+use Rattle.cstar_base.specs.Orders.{fold_below}
 use Rattle.cstar_tree.specs.declared.typed.UnaryOp.TheVariants as Un
+use Rattle.paris_code.specs.declared.operands.Reduction.{Reduction}
+use Rattle.paris_code.specs.Operators.{combiner_of}
+use Rattle.paris_code.specs.Scalar.{rounded}
 use Rattle.source_meaning.specs.Reductions.{int_type}
 use Rattle.source_meaning.specs.Values.{unary_of}
-use Rattle.lower_expr.specs.Kinds.{is_modular, has_number, has_all}
-use Rattle.lower_expr.specs.Steps.{relates}
+use Rattle.lower_base.specs.Kinds.{folded_bits, folded_kind, has_all}
+use Rattle.lower_base.specs.Operators.{relates}
+use Rattle.lower_expr.specs.Kinds.{is_modular, has_number}
 
 -- The number of a field of so many bits agrees with a word: it is the lowest bits of the word. That is
 -- all that a field has of a value.
@@ -71,3 +77,30 @@ ExtendedNumbersAgree =
 abbrev pub WiderTypesHaveWords : Type 0
 WiderTypesHaveWords =
     (elem kind : Elem) (word : ℕ) → has_all elem kind ≡ true → has_number kind word ≡ true → has_number elem word ≡ true
+
+-- what holds at each place below a number that passes
+abbrev pub Each : (ℕ → Bool) → ℕ → (ℕ → Type 0) → Type 0
+Each passes count P = (p : ℕ) → p < count → passes p ≡ true → P p
+
+-- the word that a fold takes of a number of a field, which is read with a sign where the combiner does so
+abbrev pub taken_word : Reduction → ℕ → ℕ → ℕ
+taken_word c bits n = residue 32 (number_of bits (not (combiner_of c).1) n)
+
+-- the fold of the numbers of a field that pass, in rising order
+abbrev pub field_fold : Reduction → ℕ → (ℕ → Bool) → (ℕ → ℕ) → ℕ → ℕ
+field_fold c bits passes number count =
+    fold_below (λ total n. fold_once (combiner_of c).0 (combiner_of c).1 total n) passes (λ p. taken_word c bits (number p))
+    (identity_of (combiner_of c).0 (combiner_of c).1) count
+
+-- a fold converted to a type, where that is to be done
+unfoldable pub put_back : Option Elem → ℕ → ℕ
+put_back None fold = fold
+put_back (Some kind) fold = rounded kind fold
+
+-- The fold of values of a narrow type at their own length, over any places, and none too: converted where that
+-- is to be done, it is the fold of their words.
+abbrev pub ShortFoldsAgree : Type 0
+ShortFoldsAgree =
+    (c : Reduction) (kind : Elem) (passes : ℕ → Bool) (number word : ℕ → ℕ) (count : ℕ) → kind.bits < 32
+    → Each passes count (λ p. has_number kind (word p) ≡ true) → Each passes count (λ p. Agrees (folded_bits c (Some kind)) (number p) (word p))
+    → put_back (folded_kind c (Some kind)) (field_fold c (folded_bits c (Some kind)) passes number count) ≡ field_fold c 32 passes word count

@@ -1,8 +1,9 @@
 //! A field of few bits has the lowest bits of a word. Readers find here by name what that is, which
-//! operators keep it, and when a narrow type has the whole word.
+//! operators keep it, when a narrow type has the whole word, and that folds of such fields are folds of the
+//! words.
 #![tactic(auto)]
 
-ghost use Rattle.short_values.specs.Short.{FewerBitsAgree, ModularOperatorsAgree, LeftShiftsAgree, NegativesAgree, ComplementsAgree, NarrowComparisonsAreWide, NarrowNumbersAreWords, ZeroTestsAgree, ExtendedNumbersAgree, WiderTypesHaveWords};
+ghost use Rattle.short_values.specs.Short.{FewerBitsAgree, ModularOperatorsAgree, LeftShiftsAgree, NegativesAgree, ComplementsAgree, NarrowComparisonsAreWide, NarrowNumbersAreWords, ZeroTestsAgree, ExtendedNumbersAgree, ShortFoldsAgree, WiderTypesHaveWords};
 
 /// The lowest bits of a field that agrees with a word agree with it.
 pub fn fewer_bits_agree()
@@ -52,4 +53,9 @@ pub fn negatives_agree()
 /// They give those of the complement.
 pub fn complements_agree()
     ensures { ComplementsAgree }
+{}
+
+/// A fold of values of a narrow type at their own length is the fold of their words.
+pub fn short_folds_agree()
+    ensures { ShortFoldsAgree }
 {}

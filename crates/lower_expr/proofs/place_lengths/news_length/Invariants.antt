@@ -1,6 +1,6 @@
 use Rattle.std.proofs.Common.{◌≡◌, ◌+◌, ◌||◌, drop}
 use Rattle.lower_expr.specs.Lengths.{news_moves, news_checked}
-use Rattle.lower_expr.proofs.length.news_length.Given as goal
+use Rattle.lower_expr.proofs.place_lengths.news_length.Given as goal
 
 abbrev pub invariant-loop-axis : goal.invariant-loop-axis
 invariant-loop-axis l =

@@ -2,7 +2,7 @@ use Rattle.std.proofs.Common.{◌≡◌, true, false, ap, Some}
 use Rattle.std.proofs.Math.Bool.{Bool-set}
 use Rattle.cstar_base.specs.Kinds.{is_kind}
 use Rattle.cstar_base.specs.declared.elem.Elem.{Elem}
-use Rattle.lower_expr.proofs.kinds.truth_kind.Goals as goal
+use Rattle.lower_base.proofs.kinds.truth_kind.Goals as goal
 
 -- any two proofs that a type is one are the same
 abbrev with_proof : is_kind 1 false ≡ true → Elem

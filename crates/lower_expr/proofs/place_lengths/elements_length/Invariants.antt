@@ -1,7 +1,7 @@
 use Rattle.std.proofs.Common.{◌≡◌, ◌+◌, ◌-◌}
 use Rattle.lower_base.specs.Layouts.{layout}
 use Rattle.lower_expr.specs.Lengths.{elements_length}
-use Rattle.lower_expr.proofs.length.elements_length.Given as goal
+use Rattle.lower_expr.proofs.place_lengths.elements_length.Given as goal
 
 -- what was counted so far, and the elements that are left, are the whole
 abbrev pub invariant-loop-element : goal.invariant-loop-element
