@@ -74,8 +74,9 @@ joins_bits F.Logior = true
 joins_bits F.Logxor = true
 joins_bits _ = false
 
--- At how many bits the values of a narrow type are folded. A combiner that reads its numbers with a sign
--- has an unsigned type's without one where that has one bit more.
+-- At how many bits the values of a narrow type are folded, so that each is read as its word. Where numbers
+-- are read with a sign, one of an unsigned type has a bit more, which is 0; where they are read without,
+-- one of a type with a sign has all 32.
 unfoldable pub folded_bits : Reduction → Option Elem → ℕ
 folded_bits combiner None = 32
 folded_bits combiner (Some kind) =
@@ -83,7 +84,7 @@ folded_bits combiner (Some kind) =
     else if (combiner_of combiner).1 then (if kind.signed then 32 else kind.bits)
     else (if kind.signed then kind.bits else kind.bits + 1)
 
--- the type to which the fold is then converted: one with a sign, whose bits were joined without it
+-- the type to which the fold is then converted: bits of a type with a sign are joined without it
 unfoldable pub folded_kind : Reduction → Option Elem → Option Elem
 folded_kind combiner None = None
 folded_kind combiner (Some kind) = if joins_bits combiner && kind.signed then Some kind else None

@@ -151,8 +151,9 @@ fn joins_bits(combiner: Reduction) -> bool
     )
 }
 
-/// At how many bits the values of a narrow type are folded. A combiner that reads its numbers with a sign
-/// has an unsigned type's without one where that has one bit more.
+/// At how many bits the values of a narrow type are folded, so that each is read as its word. Where
+/// numbers are read with a sign, one of an unsigned type has a bit more, which is 0; where they are read
+/// without, one of a type with a sign has all 32.
 #[tactic(auto, using(cstar_base::proofs::NumberLaws::kind_bits), unfolding(crate::specs::Kinds::folded_bits))]
 fn folded_bits(combiner: Reduction, kind: Option<Elem>) -> u8
     ensures { result ≡ folded_bits combiner kind }
@@ -172,7 +173,7 @@ fn folded_bits(combiner: Reduction, kind: Option<Elem>) -> u8
     }
 }
 
-/// The type to which the fold is then converted: one with a sign, whose bits were joined without it.
+/// The type to which the fold is then converted: bits of a type with a sign are joined without it.
 #[tactic(auto, unfolding(crate::specs::Kinds::folded_kind))]
 fn folded_kind(combiner: Reduction, kind: Option<Elem>) -> Option<Elem>
     ensures { result ≡ folded_kind combiner kind }
