@@ -1,8 +1,7 @@
 -- Moves to another length, and operations with constants.
-use Rattle.std.proofs.Common.{◌≡◌, ℕ, ◌+◌, ◌-◌, ◌%◌, ◌^◌, ◌<◌, ◌≤◌, Bool, true, false, List, length, Some, refl, sym, ◌∙◌, ap, subst, arith}
-use Rattle.std.specs.Prelude.{not, bit_and}
+use Rattle.std.proofs.Common.{◌≡◌, ℕ, ◌+◌, ◌-◌, ◌%◌, ◌^◌, ◌<◌, ◌≤◌, true, false, List, length, Some, refl, sym, ◌∙◌, ap, subst, arith}
+use Rattle.std.specs.Prelude.{bit_and}
 use Rattle.std.proofs.Math.Nat.{mod-mod}
-use Rattle.cstar_base.specs.Numbers.{residue, number_of}
 use Rattle.cstar_base.specs.Operators.{outcome, quotient_of}
 use Rattle.bit_planes.specs.declared.plane.Plane.{Plane}
 use Rattle.bit_planes.specs.Planes.{number}
@@ -16,7 +15,7 @@ use Rattle.paris_code.specs.declared.operands.Konst.{Konst}
 use Rattle.paris_code.specs.declared.operands.Operation.{Operation}
 use Rattle.paris_code.specs.declared.operands.Operation.TheVariants as P
 use Rattle.paris_code.specs.Arguments.{konst_number}
-use Rattle.paris_code.specs.Memory.{field_number, whole_number}
+use Rattle.paris_code.specs.Memory.{field_number}
 use Rattle.paris_code.specs.Operators.{operator_of}
 use Rattle.paris_code.specs.Shapes.{SetShape, bits_at}
 use Rattle.phase_meaning.specs.Apply.{CanApply}
@@ -32,18 +31,8 @@ use Rattle.elementwise.specs.Moved.{moved_number, IsMovedWithin, IsMovedFor}
 use Rattle.elementwise.specs.Planar.{operation_of}
 use Rattle.elementwise.specs.Ways.{by_kernel, by_mask, IsWayOf, IsWayOfConstant}
 use Rattle.elementwise.proofs.Kernels.{field_number_is, fits_with, kernel_is, of_field, of_constant, operation_is}
-use Rattle.elementwise.proofs.Moves.{resized_is, left_is, right_is}
+use Rattle.elementwise.proofs.Moves.{left_is, right_is}
 use Rattle.elementwise.proofs.Powers.{product_is, unsigned_quotient, unsigned_remainder, modulus_is, mask_is}
-
-pub resizes : (shapes : List SetShape) (args : List ℕ) (signed : Bool) (d a : Field) → CanApply shapes (I.Move signed d a) args
-    → IsMovedFor shapes (I.Move signed d a) args (M.Resized a.offset a.len (not signed))
-unfolding whole_number
-resizes shapes args signed d a can = record {
-  within = λ planes h. ((can.field.1 can.set.1).0, omega (arith, h, fits_with shapes d a can.field.1 can.set.0 can.set.1 can.operands));
-  same = λ planes p.
-      ap (λ k. k % 2 ^ d.len) (resized_is d.len a.len signed (number planes a.offset a.len (p % 512)) (number-lt planes a.offset a.len (p % 512)))
-      ∙ ap (λ k. residue d.len (number_of a.len signed k) % 2 ^ d.len) (field_number_is planes a p);
-}
 
 -- an operation with a constant that is a function of the field's number
 pub of_shift : (shapes : List SetShape) (args : List ℕ) (op : Operation) (d a : Field) (k : Konst) (moved : Moved) (f : ℕ → ℕ) → CanApply shapes (I.OperateConstant op d a k) args

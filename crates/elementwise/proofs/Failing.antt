@@ -1,11 +1,18 @@
 -- The least position that fails is the first lane of the first block that has one.
-use Rattle.std.proofs.Common.{◌≡◌, ℕ, ◌+◌, ◌*◌, ◌/◌, ◌%◌, ◌<◌, ◌≤◌, Bool, true, false, ◌&&◌, List, [], map, length, get_or, refl, None, Some, sym, ◌∙◌, ap, subst, inl, inr, arith}
+use Rattle.std.proofs.Common.{◌≡◌, ℕ, ◌+◌, ◌*◌, ◌/◌, ◌%◌, ◌^◌, ◌<◌, ◌≤◌, Bool, true, false, ◌&&◌, cond, eqb, ltb, min, List, [], map, length, get_or, refl, None, Some, sym, ◌∙◌, ap, subst, inl, inr, w64, arith}
 use Rattle.std.specs.Prelude.{slice_index}
-use Rattle.std.proofs.lemmas.Bool.{cases_lt}
+use Rattle.std.specs.Int.{trailing_zeros}
+use Rattle.std.proofs.lemmas.Bool.{cases_lt, lt-ltb, le-ltb}
+use Rattle.std.proofs.lemmas.Nat.{pow_pos}
+use Rattle.std.proofs.lemmas.Nat.Bits.{bit_at-trailing_zeros}
+use Rattle.std.proofs.Math.Nat.{div-eq_of_lt}
 use Rattle.vp_sets.specs.Blocks.{block_count}
 use Rattle.cstar_base.specs.declared.operators.Winner.{Winner}
 use Rattle.bit_planes.specs.declared.block.Block.{Block}
 use Rattle.bit_planes.specs.declared.plane.Plane.{Plane}
+use Rattle.bit_planes.specs.Bits.{bit}
+use Rattle.bit_planes.specs.Planes.{plane_at}
+use Rattle.bit_planes.proofs.Words.{bit-lt}
 use Rattle.paris_code.specs.declared.instr.Instr.{Instr}
 use Rattle.paris_code.specs.declared.instr.Instr.TheVariants as I
 use Rattle.paris_code.specs.Checking.{checked_set, fails, least_failing}
@@ -63,27 +70,75 @@ first_word cells k none b =
     ∙ ap (λ r. slice_index (get_or cells (512 * k / 512) none).words r) (let e : 0 ≡ 512 * k % 512 = omega arith in e)
     ∙ word_read cells (512 * k) none (omega arith)
 
--- whether an active processor fails, by what was read of it
-pub failing_at : (shapes : List SetShape) (instr : Instr) (args : List ℕ) (m : BitMemory) (set p : ℕ) (a f : Bool) → set ≡ checked_set instr → a ≡ is_active shapes m set p → f ≡ fails shapes instr args m p
-    → (a && f) ≡ active_fails shapes instr args m p
-failing_at shapes instr args m set p a f e at is =
-    ap (λ t. t && f) (at ∙ ap (λ s. is_active shapes m s p) e) ∙ ap (λ t. is_active shapes m (checked_set instr) p && t) is
+-- whether a lane holds an active processor that fails, by three planes
+lane_fails : (used context failing n count : ℕ) (bad : Bool) → context < 2 → used ≡ cond (ltb n count) 1 0 → failing ≡ cond bad 1 0
+    → (min (min used context) failing ≡ 0 → n < count → (eqb context 1 && bad) ≡ false) × (min (min used context) failing ≡ 1 → (n < count) × ((eqb context 1 && bad) ≡ true))
+lane_fails used context failing n count true small is_used is_failing = elim (cases_lt n count) [
+  | inl l ↦
+      let u : used ≡ 1 = is_used ∙ ap (λ t. cond t 1 0) (lt-ltb n count l) in (
+        λ e h. ap (λ c. eqb c 1 && true) (let q : context ≡ 0 = omega (arith, e, u, is_failing, small) in q),
+        λ e. (l, ap (λ c. eqb c 1 && true) (let q : context ≡ 1 = omega (arith, e, u, is_failing, small) in q)),
+      )
+  | inr g ↦
+      let u : used ≡ 0 = is_used ∙ ap (λ t. cond t 1 0) (le-ltb n count g) in
+      (λ e h. absurd (omega (arith, g, h)), λ e. absurd (omega (arith, e, u)))
+]
+lane_fails used context failing n count false small is_used is_failing =
+    (λ e h. and_false (eqb context 1), λ e. absurd (omega (arith, e, is_failing)))
+  where
+    and_false : (t : Bool) → (t && false) ≡ false
+    and_false true = refl
+    and_false false = refl
 
--- what a look along the lanes of a block finds
-pub first_is : (shapes : List SetShape) (instr : Instr) (args : List ℕ) (k start i : ℕ) (planes : List Plane) → start ≡ 512 * k → start + i < processors shapes (checked_set instr)
-    → ((j : ℕ) → j < i → active_fails shapes instr args (block_memory planes) (start + j) ≡ false) → active_fails shapes instr args (block_memory planes) (start + i) ≡ true → IsFirstFailing shapes instr args k planes i
-first_is shapes instr args k start i planes e inside before here =
-    let bad : ℕ → Bool = λ p. active_fails shapes instr args (block_memory planes) p in record {
-      before = λ j b h w. ap (λ s. bad (s + j)) (sym e) ∙ before j h;
-      here = λ h. (omega (arith, inside, e), ap (λ s. bad (s + i)) (sym e) ∙ here);
+-- the first lane of a block that has one
+pub first_is : (shapes : List SetShape) (instr : Instr) (args : List ℕ) (k first : ℕ) (used active failing bad : List ℕ) (planes : List Plane) (bits : ℕ)
+    → bits ≡ bits_at shapes (checked_set instr)
+    → ((i : ℕ) → i < 512 → bit used i ≡ cond (ltb (512 * k + i) (processors shapes (checked_set instr))) 1 0)
+    → ((i : ℕ) → i < 512 → bit active i ≡ min (bit used i) (bit (plane_at planes bits) i))
+    → ((i : ℕ) → i < 512 → bit failing i ≡ cond (fails shapes instr args (block_memory planes) (512 * k + i)) 1 0)
+    → ((i : ℕ) → i < 512 → bit bad i ≡ min (bit active i) (bit failing i))
+    → ((i : ℕ) → i < 512 → i < first → bit bad i ≡ 0) → (first < 512 → bit bad first ≡ 1) → IsFirstFailing shapes instr args k planes first
+unfolding is_active block_memory
+first_is shapes instr args k first used active failing bad planes bits e is_used is_active is_failing is_bad before here =
+    let lane : (i : ℕ) → i < 512 → bit bad i ≡ min (min (bit used i) (bit (plane_at planes (bits_at shapes (checked_set instr))) ((512 * k + i) % 512))) (bit failing i) = λ i b.
+    is_bad i b ∙ ap (λ n. min n (bit failing i)) (is_active i b ∙ ap (λ n. min (bit used i) n) (ap (λ j. bit (plane_at planes j) i) e
+    ∙ ap (bit (plane_at planes (bits_at shapes (checked_set instr)))) (let q : i ≡ (512 * k + i) % 512 = omega (arith, b) in q))) in
+    let known = λ (i : ℕ) (b : i < 512). lane_fails (bit used i) (bit (plane_at planes (bits_at shapes (checked_set instr))) ((512 * k + i) % 512)) (bit failing i) (512 * k + i) (processors shapes (checked_set instr))
+    (fails shapes instr args (block_memory planes) (512 * k + i)) (bit-lt _ _) (is_used i b) (is_failing i b) in record {
+      before = λ i b h w. (known i b).0 (sym (lane i b) ∙ before i b h) w;
+      here = λ h. (known first h).1 (sym (lane first h) ∙ here h);
     }
 
-pub none_is : (shapes : List SetShape) (instr : Instr) (args : List ℕ) (k start til : ℕ) (planes : List Plane) → start ≡ 512 * k → ((i : ℕ) → i < 512 → 512 * k + i < processors shapes (checked_set instr) → i < til)
-    → ((j : ℕ) → j < til → active_fails shapes instr args (block_memory planes) (start + j) ≡ false) → IsFirstFailing shapes instr args k planes 512
-none_is shapes instr args k start til planes e inside before = record {
-  before = λ j b h w. ap (λ s. active_fails shapes instr args (block_memory planes) (s + j)) (sym e) ∙ before j (inside j b w);
-  here = λ h. absurd (omega (arith, h));
-}
+-- ---- the first lane in which a plane is 1
+
+-- the lanes of a word that is 0
+pub word_none : (plane : List ℕ) (j : ℕ) → slice_index plane j ≡ 0 → ((i : ℕ) → i < 64 * j → bit plane i ≡ 0) → (i : ℕ) → i < 64 * (j + 1) → bit plane i ≡ 0
+unfolding bit
+word_none plane j none before i h = elim (cases_lt i (64 * j)) [
+  | inl l ↦ before i l
+  | inr g ↦ ap (λ w. slice_index plane w / 2 ^ (i % 64) % 2) (let q : i / 64 ≡ j = omega (arith, g, h) in q) ∙ ap (λ w. w / 2 ^ (i % 64) % 2) none ∙ zero_digit (2 ^ (i % 64)) (pow_pos (i % 64))
+]
+  where
+    zero_digit : (s : ℕ) → 0 < s → 0 / s % 2 ≡ 0
+    zero_digit s h = ap (λ n. n % 2) (div-eq_of_lt h)
+
+-- the lowest 1 of a word that is not 0
+pub word_first : (plane : List ℕ) (j word t : ℕ) → word ≡ slice_index plane j → 0 < word → word < 2 ^ 64 → t ≡ trailing_zeros w64 word → ((i : ℕ) → i < 64 * j → bit plane i ≡ 0)
+    → (t < 64) × ((i : ℕ) → i < 64 * j + t → bit plane i ≡ 0) × (bit plane (64 * j + t) ≡ 1)
+unfolding bit
+word_first plane j word t is some few zeros before =
+    let low = bit_at-trailing_zeros w64 word some few in
+    let small : t < 64 = subst (λ n. n < 64) (sym zeros) low.0 in (
+      small,
+      λ i h. elim (cases_lt i (64 * j)) [
+        | inl l ↦ before i l
+        | inr g ↦
+            ap (λ w. slice_index plane w / 2 ^ (i % 64) % 2) (let q : i / 64 ≡ j = omega (arith, g, h, small) in q) ∙ ap (λ w. w / 2 ^ (i % 64) % 2) (sym is)
+            ∙ low.2 (i % 64) (subst (λ n. i % 64 < n) zeros (omega (arith, g, h, small)))
+      ],
+      ap (λ w. slice_index plane w / 2 ^ ((64 * j + t) % 64) % 2) (let q : (64 * j + t) / 64 ≡ j = omega (arith, small) in q) ∙ ap (λ w. w / 2 ^ ((64 * j + t) % 64) % 2) (sym is)
+          ∙ ap (λ n. word / 2 ^ n % 2) ((let q : (64 * j + t) % 64 ≡ t = omega (arith, small) in q) ∙ zeros) ∙ low.1,
+    )
 
 module _ (shapes : List SetShape) (instr : Instr) (args : List ℕ) (sets : List BlockSet) (set : BlockSet) (own : ℕ) (cells : List Cell) (v : Winner)
     (can : CanApply shapes instr args) (is : is_check instr ≡ true) (whole : AreWhole shapes sets) (e : own ≡ checked_set instr) (at : set ≡ get_or sets own set) (fits : length (blocks_in set) ≤ length cells)

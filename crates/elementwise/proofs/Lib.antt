@@ -1,9 +1,12 @@
 pub mod Constants
+pub mod Coordinates
+pub mod Copies
 pub mod Division
 pub mod Failing
 pub mod Kernels
 pub mod Moves
 pub mod Orders
+pub mod Outside
 pub mod Powers
-pub mod Written
 pub mod Products
+pub mod Written

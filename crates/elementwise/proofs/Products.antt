@@ -1,5 +1,5 @@
 -- The product of two numbers is the same whether they are read signed or not.
-use Rattle.std.proofs.Common.{◌≡◌, ℕ, suc, ◌+◌, ◌-◌, ◌*◌, ◌%◌, ◌^◌, ◌<◌, ◌≤◌, true, false, pos, negsuc, neg_ℤ, ◌*ℤ◌, sym, ◌∙◌, ap, inl, inr, arith, add-mul}
+use Rattle.std.proofs.Common.{◌≡◌, ℕ, suc, ◌+◌, ◌-◌, ◌*◌, ◌^◌, ◌<◌, true, false, pos, negsuc, neg_ℤ, ◌*ℤ◌, sym, ◌∙◌, ap, inl, inr, arith, add-mul}
 use Rattle.std.proofs.lemmas.Int.{ints}
 use Rattle.std.proofs.lemmas.Bool.{cases_lt}
 use Rattle.std.proofs.Math.Nat.{add-mul-mod_self_right, mul_comm}

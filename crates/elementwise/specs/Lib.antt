@@ -1,4 +1,5 @@
 pub mod Blocks
+pub mod Columns
 pub mod Failing
 pub mod Moved
 pub mod Planar

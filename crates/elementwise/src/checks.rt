@@ -2,6 +2,7 @@
 
 ghost use Rattle.std.specs.Prelude.{◌≡◌, ℕ, ◌+◌, ◌*◌, ◌/◌, ◌%◌, ◌<◌, ◌≤◌, ◌^◌, true, map, length, slice_index, slice_index_or, MatchOption};
 ghost use Rattle.vp_sets.specs.Blocks.{block_count};
+ghost use Rattle.bit_planes.specs.Bits.{bit};
 ghost use Rattle.bit_planes.specs.declared.block.Block.{Block};
 ghost use Rattle.cstar_base.specs.declared.operators.Winner.{Winner};
 ghost use Rattle.paris_code.specs.Checking.{checked_set};
@@ -13,15 +14,32 @@ ghost use Rattle.block_store.specs.Planes.{HasPlanes};
 ghost use Rattle.block_store.specs.Stored.{shape_of_plan, shapes_in, memory_in, word_at, IsWhole, HasRoom};
 ghost use Rattle.elementwise.specs.Failing.{IsFirstFailing};
 
-use crate::lanes::InBlock;
+use crate::failures::failing_lanes;
 use crate::writes::plan_of;
 use bit_planes::Block;
-use block_store::{BlockSet, Cell, Room, SetPlan, Store};
+use bit_planes::plane::both;
+use block_store::{BlockSet, Cell, Room, SetPlan, Store, used_lanes};
 use cstar_io::Gate;
 use paris_code::{Instr, Reply};
-use phase_elements::{Readable, checked_set, fails};
+use phase_elements::checked_set;
+use std::simd::prelude::*;
 use std::thread;
 use std::thread::Threads;
+
+/// The first lane in which a plane is 1; 512 where there is none.
+fn first_lane(plane: u64x8) -> u32
+    ensures before { (i : ℕ) → i < 512 → i < result → bit plane i ≡ 0 }
+    ensures here { result < 512 → bit plane result ≡ 1 }
+{
+    let words = plane.to_array();
+    'words: for j in 0..8u32 {
+        let word = words[j as usize];
+        if word != 0 {
+            return 64 * j + word.trailing_zeros();
+        }
+    }
+    512
+}
 
 /// The first lane of block `k` at which an active processor fails; 512 where there is none.
 fn first_failing(plans: &[SetPlan], block: &Block, instr: &Instr, args: &[u32], k: u32) -> u32
@@ -29,18 +47,14 @@ fn first_failing(plans: &[SetPlan], block: &Block, instr: &Instr, args: &[u32], 
     requires exists { checked_set instr.now < length plans.now }
     requires planes { bits_at (map shape_of_plan plans.now) (checked_set instr.now) + 2 ≤ length block.now.planes.items }
     requires block { k < block_count (extents_at (map shape_of_plan plans.now) (checked_set instr.now)) }
+    requires few { k < 2048 }
     ensures { IsFirstFailing (map shape_of_plan plans.now) instr.now args.now k block.now.planes.items result }
 {
-    let m = InBlock { plans, block };
-    let set = checked_set(instr);
-    let (start, end) = plan_of(plans, set).geometry.block_range(k);
-    'lanes: for i in 0..end - start {
-        let failing = fails(&m, instr, args, start + i);
-        if m.context(set, start + i) & failing {
-            return i;
-        }
-    }
-    512
+    let plan = plan_of(plans, checked_set(instr));
+    let used = used_lanes(&plan.geometry, k);
+    let active = both(used, block.plane(plan.bits));
+    let failing = failing_lanes(plans, &block.planes, instr, args, k);
+    first_lane(both(active, failing))
 }
 
 /// Holds in the first word of each block's cell what a check finds there, with a call of the gate
@@ -58,7 +72,7 @@ fn look_in_blocks<R: Threads + Sync, G: Gate + Sync>(
     requires can { CanApply (map shape_of_plan plans.now) instr.now args.now }
     requires exists { checked_set instr.now < length plans.now }
     requires workers { 1 ≤ workers }
-    requires few { length set.now.blocks.items < 2 ^ 32 }
+    requires few { length set.now.blocks.items ≤ 2048 }
     requires count { length set.now.blocks.items ≡ block_count (extents_at (map shape_of_plan plans.now) (checked_set instr.now)) }
     requires planes { HasPlanes (bits_at (map shape_of_plan plans.now) (checked_set instr.now) + 2) set.now.blocks.items }
     ensures count { length room.new.cells.items ≡ length room.old.cells.items }
@@ -72,7 +86,7 @@ fn look_in_blocks<R: Threads + Sync, G: Gate + Sync>(
         workers as usize,
         &|k: usize, cell: &mut Cell|
             requires { CanApply (map shape_of_plan plans.now) instr.now args.now × (checked_set instr.now < length plans.now)
-                × (length blocks.now < 2 ^ 32) × (length blocks.now ≡ block_count (extents_at (map shape_of_plan plans.now) (checked_set instr.now)))
+                × (length blocks.now ≤ 2048) × (length blocks.now ≡ block_count (extents_at (map shape_of_plan plans.now) (checked_set instr.now)))
                 × HasPlanes (bits_at (map shape_of_plan plans.now) (checked_set instr.now) + 2) blocks.now }
             ensures { (other : Block) → k < length blocks.entry.now
                 → IsFirstFailing (map shape_of_plan plans.entry.now) instr.entry.now args.entry.now k (slice_index_or blocks.entry.now k other).planes.items (slice_index cell.exit.now.words 0) }

@@ -16,6 +16,7 @@ ghost use Rattle.elementwise.specs.Moved.{moved_number, IsMovable};
 ghost use Rattle.elementwise.specs.Planar.{gives, kernel_number};
 ghost use Rattle.elementwise.specs.Ways.{IsWayOf};
 
+use crate::columns::all_lanes;
 use crate::lanes::words_given;
 use crate::moved::Moved;
 use crate::planar::{Kernel, Planar, Work, can_work_in_place, operate_in_place};
@@ -52,17 +53,6 @@ fn by_planes(block: &mut Block, op: Planar, a: &Operand, b: &Operand, to: &Targe
     ensures { LanesWritten to.now.offset to.now.len to.now.lanes (λ i. gives op to.now.len (operand_of a.now block.old.planes.items to.now.len i) (operand_of b.now block.old.planes.items to.now.len i)) block.old.planes.items block.new.planes.items }
 {
     operate_in_place(&mut block.planes, op, a, b, to);
-}
-
-/// The same number for each lane.
-fn all_lanes(number: u32) -> [u32; 512]
-    ensures { (i : ℕ) → i < 512 → slice_index result i ≡ number }
-{
-    let mut words = [0; 512];
-    'lanes: for i in 0..512 {
-        words[i] = number;
-    }
-    words
 }
 
 /// The numbers of an operand.

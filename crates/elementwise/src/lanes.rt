@@ -9,6 +9,7 @@ ghost use Rattle.phase_meaning.specs.Apply.{CanApply, active_set};
 ghost use Rattle.block_store.specs.Stored.{shape_of_plan};
 ghost use Rattle.elementwise.specs.Blocks.{block_memory};
 
+use crate::columns::{addresses, all_lanes, own_coordinates};
 use crate::writes::plan_of;
 use bit_planes::Block;
 use bit_planes::plane::lane;
@@ -50,8 +51,9 @@ impl<'a> Readable for InBlock<'a> {
     }
 }
 
-/// What an elementwise instruction gives the lanes of block `k` that hold a position.
-pub(crate) fn words_given(
+/// What an elementwise instruction gives the lanes of block `k` that hold a position, one after
+/// another.
+fn lane_by_lane(
     plans: &[SetPlan],
     block: &Block,
     instr: &Instr,
@@ -75,4 +77,38 @@ pub(crate) fn words_given(
         words[i as usize] = element(&m, instr, args, start + i);
     }
     words
+}
+
+/// The same, by columns where it is made of coordinates.
+pub(crate) fn words_given(
+    plans: &[SetPlan],
+    block: &Block,
+    instr: &Instr,
+    args: &[u32],
+    set: u16,
+    k: u32,
+) -> [u32; 512]
+    requires can { CanApply (map shape_of_plan plans.now) instr.now args.now }
+    requires set { set ≡ active_set instr.now }
+    requires exists { set < length plans.now }
+    requires planes { bits_at (map shape_of_plan plans.now) set + 2 ≤ length block.now.planes.items }
+    requires block { k < block_count (extents_at (map shape_of_plan plans.now) set) }
+    ensures { (i : ℕ) → i < 512 → 512 * k + i < processors (map shape_of_plan plans.now) set
+        → let len = (destination (map shape_of_plan plans.now) instr.now).len in
+        slice_index result i % 2 ^ len ≡ element (map shape_of_plan plans.now) instr.now args.now (block_memory block.now.planes.items) (512 * k + i) % 2 ^ len }
+{
+    match instr {
+        Instr::MyNewsCoordinate { axis, .. } => {
+            own_coordinates(&plan_of(plans, set).geometry, *axis, k)
+        }
+        Instr::MakeAddress {
+            set: grid,
+            coordinates,
+            ..
+        } => {
+            let extents = plan_of(plans, *grid).geometry.extents();
+            addresses(block, extents, coordinates.as_slice(), args, all_lanes(0))
+        }
+        _ => lane_by_lane(plans, block, instr, args, set, k),
+    }
 }

@@ -3,7 +3,9 @@
 #![tactic(auto)]
 
 mod checks;
+mod columns;
 mod everywhere;
+mod failures;
 mod in_block;
 mod lanes;
 mod moved;

@@ -5,7 +5,7 @@ ghost use Rattle.paris_code.specs.Shapes.{SetShape};
 ghost use Rattle.paris_code.specs.Sound.{IsShape};
 ghost use Rattle.phase_meaning.specs.Apply.{CanApply};
 ghost use Rattle.block_store.specs.Stored.{shape_of_plan};
-ghost use Rattle.elementwise.specs.Ways.{IsWayOf, IsWayOfConstant, IsWayOfMove, by_kernel, by_mask, by_one, by_relation};
+ghost use Rattle.elementwise.specs.Ways.{IsWayOf, IsWayOfAddress, IsWayOfConstant, IsWayOfMove, by_kernel, by_mask, by_one, by_relation};
 
 use crate::moved::Moved;
 use crate::planar::{Kernel, Planar, Work, work_of};
@@ -13,8 +13,8 @@ use crate::relations::Relation;
 use crate::writes::plan_of;
 use block_store::SetPlan;
 use lane_kernels::Operand;
-use paris_code::{Compare, Field, Instr, Operation};
-use phase_elements::konst;
+use paris_code::{Compare, Coordinate, Field, Instr, Operation};
+use phase_elements::{konst, next};
 use phase_meaning::arith::mask;
 
 /// A kernel, a relation, a field whose bits are moved, or the meaning at each lane.
@@ -64,6 +64,19 @@ fn of_move(signed: bool, dest: Field, source: Field) -> Way
             len: source.len,
             unsigned: !signed,
         })
+    }
+}
+
+/// An address of one coordinate is the coordinate, cut or extended by 0; a register's is the argument.
+fn of_address(dest: Field, coordinates: &[Coordinate], args: &[u32]) -> Way
+    ensures { IsWayOfAddress args.now dest coordinates.now result }
+{
+    match coordinates.split_first() {
+        Some((first, rest)) if rest.is_empty() => match *first {
+            Coordinate::Field(f) => of_move(false, dest, f),
+            Coordinate::Reg(_) => of_one(Planar::Same, Operand::Constant(next(args))),
+        },
+        _ => Way::Elements,
     }
 }
 
@@ -189,6 +202,11 @@ pub(crate) fn way_of(plans: &[SetPlan], instr: &Instr, args: &[u32]) -> Way
             dest,
             source,
         } => of_move(*signed, *dest, *source),
+        Instr::MakeAddress {
+            dest,
+            coordinates,
+            ..
+        } => of_address(*dest, coordinates.as_slice(), args),
         Instr::MoveConstant { value, .. } => {
             of_one(Planar::Same, Operand::Constant(konst(*value, args)))
         }
@@ -262,7 +280,6 @@ pub(crate) fn way_of(plans: &[SetPlan], instr: &Instr, args: &[u32]) -> Way
             of_relation(Compare::ULt, 1, Operand::Field(at + 1), Operand::Field(at))
         }
         Instr::MyNewsCoordinate { .. }
-        | Instr::MakeAddress { .. }
         | Instr::CheckTarget { .. }
         | Instr::CheckGrid { .. }
         | Instr::CheckDivisor { .. }

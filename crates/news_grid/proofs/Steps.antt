@@ -1,5 +1,5 @@
 -- Where a step along an axis leads, by the numbers of positions; and the lanes from which it crosses the end of a turn.
-use Rattle.std.proofs.Common.{◌≡◌, ℕ, suc, ◌+◌, ◌-◌, ◌*◌, ◌%◌, ◌<◌, ◌≤◌, true, cond, eqb, ltb, max, min, List, drop, refl, sym, ◌∙◌, ap, inl, inr, zero-add, arith}
+use Rattle.std.proofs.Common.{◌≡◌, ℕ, suc, ◌+◌, ◌-◌, ◌*◌, ◌%◌, ◌<◌, ◌≤◌, true, cond, eqb, ltb, max, min, List, drop, refl, sym, ◌∙◌, ap, inl, inr, zero-add, add-mul, arith}
 use Rattle.std.specs.Prelude.{ℤ, pos, negsuc, ◌+ℤ◌, unsigned_abs, slice_index, length}
 use Rattle.std.proofs.lemmas.Int.{int_rem_euclid_is, ints}
 use Rattle.std.proofs.Math.Arith.{mod-mul}
@@ -277,3 +277,36 @@ known_twice first count known lanes none behind new few before is_none is_behind
       above = λ i ib g. is_new i ib
           ∙ (let q : max (bit lanes i) (bit behind i) ≡ 0 = omega (arith, before.above i ib (omega (arith, g)), late i ib (omega (arith, g)), before.above (i - known) (omega (arith, ib)) (omega (arith, g))) in q);
     }
+
+-- ---- the lanes from a coordinate on
+
+-- a step from a coordinate above 0 to the end of its axis leads past it from those that are not below the coordinate
+pub step_to_end : (xs : List ℕ) (axis from turn ahead p : ℕ) → are_positive xs ≡ true → axis < length xs → 0 < from → from ≤ slice_index xs axis
+    → turn ≡ slice_index xs axis * position_count (drop (suc axis) xs) → ahead ≡ (slice_index xs axis - from) * position_count (drop (suc axis) xs)
+    → (ahead < turn) × (◌≡◌ {A = ℕ} (cond (ltb (p % turn + ahead) turn) 0 1) (cond (ltb (coordinate xs p axis) from) 0 1))
+step_to_end xs axis from turn ahead p positive there some few is_turn is_ahead =
+    let extent : ℕ = slice_index xs axis in
+    let stride : ℕ = position_count (drop (suc axis) xs) in
+    let own : ℕ = coordinate xs p axis in
+    let stride_is : 0 < stride = count_positive (drop (suc axis) xs) (later_positive (suc axis) xs positive) in
+    let extent_is : 0 < extent = extent_positive xs axis positive there in
+    let digits : p % (extent * stride) ≡ own * stride + p % stride = mod-mul p extent_is stride_is ∙ ap (λ c. c * stride + p % stride) (sym (coordinate_by_stride xs p axis there)) in
+    let place : p % turn ≡ own * stride + p % stride = ap (λ t. p % t) is_turn ∙ digits in
+    let rest : p % stride < stride = mod-lt p stride_is in
+    let cut : (extent - from) * stride + from * stride ≡ extent * stride = sym (add-mul (extent - from) from stride) ∙ ap (λ n. n * stride) (let q : extent - from + from ≡ extent = omega (arith, few) in q) in
+    let one : 1 * stride ≤ from * stride = mul-le-mul_right stride some in (
+      omega (arith, is_turn, is_ahead, cut, one, stride_is),
+      elim (cases_lt own from) [
+        | inl l ↦
+            let room : (own + 1) * stride ≤ from * stride = mul-le-mul_right stride (omega (arith, l)) in
+            let more : (own + 1) * stride ≡ own * stride + stride = grind arith in
+            sym (less (p % turn + ahead) turn 0 1 (omega (arith, is_turn, is_ahead, cut, place, rest, room, more))) ∙ less own from 0 1 l
+        | inr g ↦
+            let over : from * stride ≤ own * stride = mul-le-mul_right stride g in
+            sym (not_less (p % turn + ahead) turn 0 1 (omega (arith, is_turn, is_ahead, cut, place, over))) ∙ not_less own from 0 1 g
+      ],
+    )
+
+-- and from 0 on there are all
+pub all_from_none : (own from : ℕ) → from ≡ 0 → ◌≡◌ {A = ℕ} 1 (cond (ltb own from) 0 1)
+all_from_none own from e = not_less own from 0 1 (omega (arith, e))

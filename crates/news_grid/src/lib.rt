@@ -12,4 +12,4 @@ mod window;
 pub use get::{Get, gather};
 pub use instruction::run;
 pub use news::{News, Taking, hold, shift, step_block};
-pub use step::Step;
+pub use step::{Step, lanes_from};

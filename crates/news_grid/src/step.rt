@@ -1,8 +1,8 @@
 //! A step along an axis, in position numbers.
 
-ghost use Rattle.std.specs.Prelude.{◌≡◌, ℕ, ◌<◌, ◌≤◌, ◌+◌, ◌-◌, ◌*◌, ◌%◌, ◌^◌, length, nat_lt, if◌then◌else◌};
+ghost use Rattle.std.specs.Prelude.{◌≡◌, ℕ, ◌<◌, ◌≤◌, ◌+◌, ◌-◌, ◌*◌, ◌%◌, ◌^◌, length, nat_lt, if◌then◌else◌, slice_index};
 ghost use Rattle.bit_planes.specs.Bits.{bit};
-ghost use Rattle.vp_sets.specs.Positions.{position_count};
+ghost use Rattle.vp_sets.specs.Positions.{position_count, coordinate};
 ghost use Rattle.news_grid.specs.Steps.{Leads, Views};
 
 use crate::window::{Window, lanes_beside};
@@ -75,6 +75,26 @@ impl Step {
         let back = blocks * BLOCK_SIZE - self.turn;
         (Window::at(lane, blocks), Window::at(lane + back, blocks))
     }
+}
+
+/// The lanes of block `k` whose coordinate along an axis is not below this one: a step from it to the
+/// end of the axis leads past the end from them.
+pub fn lanes_from(geometry: &Geometry, axis: u32, from: u32, k: u32) -> u64x8
+    requires axis { axis < length geometry.now }
+    requires from { from ≤ slice_index geometry.now axis }
+    requires block { k < 2 ^ 16 }
+    ensures { (i : ℕ) → i < 512 → bit result i ≡ (if nat_lt (coordinate geometry.now (512 * k + i) axis) from then 0 else 1) }
+{
+    if from == 0 {
+        return repeated(true);
+    }
+    let stride = geometry.stride(axis);
+    let extent = geometry.extent(axis);
+    let to_end = Step {
+        turn: extent * stride,
+        ahead: (extent - from) * stride,
+    };
+    to_end.crossing_lanes(k)
 }
 
 /// The plane that repeats its first `count` lanes, where 0 stands in all others.

@@ -1,5 +1,5 @@
-//! What one processor gives its destination in an elementwise instruction, and whether a check fails
-//! there, on any machine whose bits can be read.
+//! What one processor gives its destination in an elementwise instruction, on any machine whose bits
+//! can be read, the registers among operands, and the processors that checks are about.
 #![tactic(auto)]
 
 mod checks;
@@ -7,7 +7,7 @@ mod elements;
 mod operands;
 mod reading;
 
-pub use checks::{checked_set, fails};
+pub use checks::checked_set;
 pub use elements::element;
-pub use operands::konst;
+pub use operands::{behind, behind_step, konst, next};
 pub use reading::Readable;

@@ -18,7 +18,7 @@ pub fn konst(k: Konst, args: &[u32]) -> u32
 }
 
 /// The next argument, for an operand that is a register.
-pub(crate) fn next(args: &[u32]) -> u32
+pub fn next(args: &[u32]) -> u32
     ensures { result ≡ slice_index args.now 0 }
 {
     args.first().copied().unwrap_or(0)
@@ -35,7 +35,7 @@ fn behind_next(args: &[u32]) -> &[u32]
 }
 
 /// The arguments behind those that a coordinate takes.
-pub(crate) fn behind(coordinate: Coordinate, args: &[u32]) -> &[u32]
+pub fn behind(coordinate: Coordinate, args: &[u32]) -> &[u32]
     ensures { result.now ≡ behind_coordinate coordinate args.now }
 {
     match coordinate {
@@ -45,7 +45,7 @@ pub(crate) fn behind(coordinate: Coordinate, args: &[u32]) -> &[u32]
 }
 
 /// The arguments behind those that a step takes.
-pub(crate) fn behind_step(step: Konst, args: &[u32]) -> &[u32]
+pub fn behind_step(step: Konst, args: &[u32]) -> &[u32]
     ensures { result.now ≡ behind_konst step args.now }
 {
     match step {

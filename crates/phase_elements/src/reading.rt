@@ -1,7 +1,7 @@
 //! The processors of a machine, as what is held of them can be read.
 
 ghost use Rattle.std.specs.Prelude.{◌≡◌, ◌<◌, ◌^◌, ℕ, List, length};
-ghost use Rattle.cstar_base.specs.Numbers.{residue, number_of};
+ghost use Rattle.cstar_base.specs.Numbers.{residue};
 ghost use Rattle.paris_code.specs.Memory.{BitMemory, field_number, whole_number, is_active, is_tested};
 ghost use Rattle.paris_code.specs.Shapes.{SetShape, extents_at};
 ghost use Rattle.phase_meaning.specs.Apply.{IsRun, LiesIn};
@@ -60,8 +60,7 @@ pub(crate) fn field<M: Readable>(m: &M, f: Field, position: u32) -> u32
 pub(crate) fn word<M: Readable>(m: &M, signed: bool, f: Field, position: u32) -> u32
     requires field { LiesIn (M.shapes m.now) f }
     requires reads { M.reads m.now position f.set }
-    ensures value { result ≡ residue 32 (whole_number (M.memory m.now) signed f position) }
-    ensures whole { number_of 32 signed result ≡ whole_number (M.memory m.now) signed f position }
+    ensures { result ≡ residue 32 (whole_number (M.memory m.now) signed f position) }
 {
     extended(signed, f.len, field(m, f, position))
 }

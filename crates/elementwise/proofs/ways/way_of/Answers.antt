@@ -13,6 +13,7 @@ use Rattle.elementwise.specs.declared.planar.Planar.TheVariants as L
 use Rattle.elementwise.specs.declared.planar.Work.TheVariants as K
 use Rattle.elementwise.specs.Blocks.{block_memory}
 use Rattle.elementwise.specs.Ways.{by_kernel, by_one, by_relation}
+use Rattle.elementwise.proofs.Copies.{is_move}
 use Rattle.elementwise.proofs.Kernels.{of, of_field, of_constant, fits_with, kernel_is, negative_is, operation_is, flag_is, flags_are, compares, equals_zero, differs_from_zero, context_alone, width_of}
 use Rattle.elementwise.proofs.ways.way_of.Goals as goal
 
@@ -147,7 +148,16 @@ returns-in-Move c =
     let shapes = map shape_of_plan c.args.plans.now in
     let args = c.args.args.now in
     let i = c.in-Move in
-    of shapes args c.of_move.result c.of_move.result c.args.instr.now (I.Move i.signed i.dest i.source) refl i.is c.requires.can (c.of_move.ensures shapes args)
+    let instr = I.Move i.signed i.dest i.source in
+    of shapes args c.of_move.result c.of_move.result c.args.instr.now instr refl i.is c.requires.can (λ can. c.of_move.ensures shapes args instr (is_move shapes args i.signed i.dest i.source can))
+
+pub returns-in-MakeAddress : goal.returns-in-MakeAddress
+returns-in-MakeAddress c =
+    let shapes = map shape_of_plan c.args.plans.now in
+    let args = c.args.args.now in
+    let i = c.in-MakeAddress in
+    let instr = I.MakeAddress i.dest i.set i.coordinates in
+    of shapes args c.of_address.result c.of_address.result c.args.instr.now instr refl i.is c.requires.can (λ can. c.of_address.ensures shapes instr can (refl, sym c.as_slice.ensures.value))
 
 pub returns-in-Compare : goal.returns-in-Compare
 returns-in-Compare c =

@@ -33,7 +33,7 @@ returns-in-Move g c =
     let a = c.args in
     let d = c.in-Move.dest in
     of (g.M.Readable.shapes a.m.now) (g.M.Readable.memory a.m.now) a.args.now a.position c.word.result a.instr.now (I.Move c.in-Move.signed d c.in-Move.source) c.in-Move.is c.requires.can (λ can.
-    ap (λ n. n % 2 ^ d.len) c.word.ensures.value ∙ residue_within d.len _ (lies (g.M.Readable.shapes a.m.now) d can.field.0 can.set.0).2)
+    ap (λ n. n % 2 ^ d.len) c.word.ensures ∙ residue_within d.len _ (lies (g.M.Readable.shapes a.m.now) d can.field.0 can.set.0).2)
 
 pub returns-in-MakeAddress : goal.returns-in-MakeAddress
 returns-in-MakeAddress g c =

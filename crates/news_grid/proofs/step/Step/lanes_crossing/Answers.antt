@@ -1,4 +1,4 @@
-use Rattle.std.proofs.Common.{ℕ, ◌+◌, ◌-◌, ◌*◌, ◌%◌, ◌<◌, cond, ltb, ap, ◌∙◌, arith}
+use Rattle.std.proofs.Common.{ℕ, ◌+◌, ◌-◌, ◌%◌, ◌<◌, cond, ltb, ap, ◌∙◌, arith}
 use Rattle.std.proofs.Math.Nat.{mod-lt, mod-le}
 use Rattle.news_grid.proofs.Steps.{lanes_between, first_lanes_cross, turns_alike}
 use Rattle.news_grid.proofs.step.Step.lanes_crossing.Goals as goal
