@@ -6,6 +6,7 @@ mod calls;
 pub mod effect_lengths;
 pub mod effects;
 mod frames;
+pub mod joined;
 mod kinds;
 mod leaves;
 pub mod length;

@@ -9,14 +9,16 @@ ghost use Rattle.lower_base.specs.declared.emit.Out.TheVariants as O;
 ghost use Rattle.lower_base.specs.Drafts.{Makes, draft, out_of};
 ghost use Rattle.lower_base.specs.Layouts.{layout};
 ghost use Rattle.lower_comm.specs.Messages.{is_left_index};
+ghost use Rattle.lower_expr.specs.Joined.{flag_by, is_flag};
 ghost use Rattle.lower_expr.specs.Kinds.{bits_of, kind_of, relation_kind, unary_bits};
 ghost use Rattle.lower_expr.specs.Lengths.{tested_length, used_length_of};
 ghost use Rattle.lower_expr.specs.Operands.{all_quiet, is_quiet};
 ghost use Rattle.lower_expr.specs.Steps.{has_truth, is_kept, relates};
-ghost use Rattle.lower_expr.specs.Values.{arm_of, assign_by, binary_of, call_of, cast_of, choice_of, condition_of, decided_by, field_binary_of, index_read_to, indexed_spot, jumped_over, limited_by, logical_by, message_to, narrowed_again, next_of, parallel_choice_of, parallel_logical_by, print_of, read_to, register_binary_of, relation_by, right_by, scalar_choice_of, scalar_logical_by, spare_for, spot_of, spread_by, spread_into, spread_of, step_by, taken_bits, tested, tested_by, truth_of, unary_by, updated_by, value_of, values_in};
+ghost use Rattle.lower_expr.specs.Values.{arm_of, assign_by, binary_of, call_of, cast_of, choice_of, condition_of, decided_by, field_binary_of, index_read_to, indexed_spot, joined_of, jumped_over, limited_by, logical_by, message_to, narrowed_again, narrowing_by, next_of, parallel_choice_of, parallel_logical_by, print_of, read_to, register_binary_of, relation_by, right_by, scalar_choice_of, scalar_logical_by, spare_for, spot_of, spread_by, spread_into, spread_of, step_by, taken_bits, tested, tested_by, truth_of, unary_by, updated_by, value_of, values_in};
 
 use crate::assign::{Located, fold_into_register, is_send, step_in, update_field, update_register};
 use crate::frames::enter;
+use crate::joined::{is_flag, join, joins, keep_test};
 use crate::kinds::{list_bits, relation_bits, result_bits, test_bits, unary_bits};
 use crate::leaves::{cast_all, coordinate, news_to, next_byte, right_value};
 use crate::length::{arm_length, test_length, test_put_length, used_length};
@@ -422,7 +424,7 @@ pub fn binary_in_field(
 
 /// `||`, or else `&&`.
 #[cycle(value)]
-#[tactic(auto, unfolding(crate::specs::Values::logical_by, crate::specs::Values::condition_by))]
+#[tactic(auto, unfolding(crate::specs::Values::logical_by, crate::specs::Values::condition_by, lower_base::specs::Drafts::then_make))]
 fn logical(
     view: &View,
     is_or: bool,
@@ -436,7 +438,10 @@ fn logical(
 {
     match shape {
         None => scalar_logical(view, is_or, left, right, u),
-        Some(set) => parallel_logical(view, is_or, bits, left, right, set, u),
+        Some(set) => {
+            let dest = field(u, set, bits)?;
+            parallel_logical(view, is_or, left, right, dest, u)
+        }
     }
 }
 
@@ -527,22 +532,72 @@ fn test_relation(view: &View, set: u16, binary: &Binary, u: &mut Unit) -> Result
     }
 }
 
-/// `||`, or else `&&`, with a parallel operand. The result begins as what a decided left operand gives.
+/// `||`, or else `&&`, with a parallel operand.
 #[cycle(value)]
-#[tactic(auto, unfolding(crate::specs::Values::parallel_logical_by, crate::specs::Values::condition_by, lower_base::specs::Drafts::then_make))]
+#[tactic(auto, unfolding(crate::specs::Values::parallel_logical_by, crate::specs::Values::joined_of, crate::specs::Values::condition_by, lower_base::specs::Drafts::then_make))]
 fn parallel_logical(
     view: &View,
     is_or: bool,
-    bits: u8,
     left: &TExpr,
     right: &TExpr,
-    set: u16,
+    dest: Field,
     u: &mut Unit,
 ) -> Result<Out, Memory>
-    ensures draft { IfOk result (λ out. parallel_logical_by is_or set bits (condition_of view.now.typed.now (layout view.now.names) left.now) (condition_of view.now.typed.now (layout view.now.names) right.now) (draft u.old) ≡ Makes out (draft u.new)) }
+    ensures draft { IfOk result (λ out. parallel_logical_by is_or dest (condition_of view.now.typed.now (layout view.now.names) left.now) (condition_of view.now.typed.now (layout view.now.names) right.now) (draft u.old) ≡ Makes out (draft u.new)) }
 {
-    let dest = field(u, set, bits)?;
-    let saved = flag(u, set)?;
+    if joins(left, right) {
+        join_to(view, is_or, left, right, dest, u)?;
+        Ok(Out::Field(dest))
+    } else {
+        decide_or_narrow(view, is_or, left, right, dest, u)
+    }
+}
+
+/// `||`, or else `&&`, of two fields of one bit becomes the value of a field.
+#[cycle(value)]
+#[tactic(auto, unfolding(crate::specs::Values::joined_of, crate::specs::Values::joined_by, crate::specs::Values::flag_of, crate::specs::Values::condition_by, lower_base::specs::Drafts::then_make))]
+pub fn join_to(
+    view: &View,
+    is_or: bool,
+    left: &TExpr,
+    right: &TExpr,
+    dest: Field,
+    u: &mut Unit,
+) -> Result<(), Memory>
+    ensures draft { OnOk result (joined_of view.now.typed.now (layout view.now.names) is_or dest left.now right.now (draft u.old) ≡ Makes (O.Field dest) (draft u.new)) }
+{
+    let a = flag_operand(view, left, dest.set, u)?;
+    let b = flag_operand(view, right, dest.set, u)?;
+    join(is_or, dest, a, b, u)
+}
+
+/// An operand of `&&` or `||` as a field of one bit: its value, if that has one, and else its test.
+#[cycle(value)]
+#[tactic(auto, unfolding(crate::specs::Joined::flag_by, lower_base::specs::Drafts::then_make, lower_base::specs::Drafts::in_field))]
+fn flag_operand(view: &View, e: &TExpr, set: u16, u: &mut Unit) -> Result<Field, Memory>
+    ensures draft { IfOk result (λ f. flag_by (is_flag e.now) set (next_of view.now.typed.now (layout view.now.names) (bits_of (kind_of e.now)) true e.now) (tested view.now.typed.now (layout view.now.names) e.now) (draft u.old) ≡ Makes f (draft u.new)) }
+{
+    if is_flag(e) {
+        return operand(view, test_bits(e), true, e, u)?.field();
+    }
+    test(view, e, u)?;
+    keep_test(set, u)
+}
+
+/// The result of `||`, or else `&&`, begins as what a decided left operand gives.
+#[cycle(value)]
+#[tactic(auto, unfolding(crate::specs::Values::narrowing_by, crate::specs::Values::condition_by, lower_base::specs::Drafts::then_make))]
+fn decide_or_narrow(
+    view: &View,
+    is_or: bool,
+    left: &TExpr,
+    right: &TExpr,
+    dest: Field,
+    u: &mut Unit,
+) -> Result<Out, Memory>
+    ensures draft { IfOk result (λ out. narrowing_by is_or dest (condition_of view.now.typed.now (layout view.now.names) left.now) (condition_of view.now.typed.now (layout view.now.names) right.now) (draft u.old) ≡ Makes out (draft u.new)) }
+{
+    let saved = flag(u, dest.set)?;
     let value = Konst::Imm(u32::from(is_or));
     put(u, Instr::MoveConstant { dest, value })?;
     if stays_scalar(left) {

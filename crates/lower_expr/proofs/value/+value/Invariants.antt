@@ -54,10 +54,19 @@ abbrev pub decreases-scalar_logical : goal.decreases-scalar_logical
 decreases-scalar_logical l = 16 * max (size-TExpr l.left.now) (size-TExpr l.right.now) + 7
 
 abbrev pub decreases-parallel_logical : goal.decreases-parallel_logical
-decreases-parallel_logical l = 16 * max (size-TExpr l.left.now) (size-TExpr l.right.now) + 7
+decreases-parallel_logical l = 16 * max (size-TExpr l.left.now) (size-TExpr l.right.now) + 8
+
+abbrev pub decreases-flag_operand : goal.decreases-flag_operand
+decreases-flag_operand l = 16 * size-TExpr l.e.now + 6
+
+abbrev pub decreases-join_to : goal.decreases-join_to
+decreases-join_to l = 16 * max (size-TExpr l.left.now) (size-TExpr l.right.now) + 7
+
+abbrev pub decreases-decide_or_narrow : goal.decreases-decide_or_narrow
+decreases-decide_or_narrow l = 16 * max (size-TExpr l.left.now) (size-TExpr l.right.now) + 7
 
 abbrev pub decreases-logical : goal.decreases-logical
-decreases-logical l = 16 * max (size-TExpr l.left.now) (size-TExpr l.right.now) + 8
+decreases-logical l = 16 * max (size-TExpr l.left.now) (size-TExpr l.right.now) + 9
 
 abbrev pub decreases-scalar_choice : goal.decreases-scalar_choice
 decreases-scalar_choice l = 16 * max (size-TExpr l.choice.now.test.now) (max (size-TExpr l.choice.now.then.now) (size-TExpr l.choice.now.otherwise.now)) + 7
