@@ -14,7 +14,7 @@ import tempfile
 TOP = os.path.dirname(os.path.dirname(os.path.abspath(__file__)))
 
 FRAME = """shape [8]S;
-int:S a, b, d; bool:S g; char:S c;
+int:S a, b, d; bool:S e, f, g, h; char:S c;
 int s, i, n, x; char k;
 main() { with (S) { %s } }
 """
@@ -37,7 +37,7 @@ COUNTS = {
     "where (a < b) d = a; else d = b;": 10,
     "where (a < 3) d += 1;": 6,
     "where (g) d = a;": 5,
-    "where (a < b && g) d = a;": 13,
+    "where (a < b && g) d = a;": 8,
     "s = s * 5 + i;": 3,
     "s += i;": 1,
     "i++;": 2,
@@ -67,6 +67,11 @@ COUNTS = {
     "s = |= c;": 2,
     "s = >?= g;": 2,
     "s += c;": 5,
+    "g = e && !f || g && h;": 5,
+    "g = e & f;": 1,
+    "where (a && b) d += 1;": 10,
+    "where (e && f) d += 1;": 6,
+    "g = b && a / b;": 11,
 }
 
 

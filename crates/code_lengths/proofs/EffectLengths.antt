@@ -22,21 +22,22 @@ use Rattle.lower_base.specs.Layouts.{Layout}
 use Rattle.lower_base.specs.Operators.{assign_op_of}
 use Rattle.lower_base.specs.Kinds.{bits_of, kind_of}
 use Rattle.lower_expr.specs.declared.operands.Own.{Own}
-use Rattle.lower_expr.specs.Effects.{bits_for, moved, register_converted, goes_unchanged, cast_to, converted_to, fits_field, field_binary_to, binary_to, gone_to, computed_to, put_to, written_register, with_settled, register_operated, field_operated, variable_operated, variable_stepped, folds, writes_itself, assigned_own, whole_of, variable_assigned, assignment_effect, stepped_own, step_effect, effect_of, length_unchanged, converted_to_length, computed_length, put_length, settled_length, operated_length, own_bits, assigned_length, stepped_length, assignment_length, step_effect_length, effect_length_of}
+use Rattle.lower_expr.specs.Effects.{bits_for, moved, register_converted, goes_unchanged, cast_to, converted_to, fits_field, field_binary_to, binary_to, logical_to, gone_to, computed_to, put_to, written_register, with_settled, register_operated, field_operated, variable_operated, variable_stepped, folds, writes_itself, assigned_own, whole_of, variable_assigned, assignment_effect, stepped_own, step_effect, effect_of, length_unchanged, converted_to_length, logical_to_length, computed_length, put_length, settled_length, operated_length, own_bits, assigned_length, stepped_length, assignment_length, step_effect_length, effect_length_of}
 use Rattle.lower_expr.specs.Kinds.{operand_bits, unary_bits}
-use Rattle.lower_expr.specs.Lengths.{length_of, used_length_of, test_put_length, spot_length_of, load_length, load_length_of, bare, arm_length_of, choice_length, tested_length, tested_by_length, operate_length, reduce_length, unary_length, right_length, binary_length}
+use Rattle.lower_expr.specs.Joined.{joins}
+use Rattle.lower_expr.specs.Lengths.{joined_length_of, length_of, used_length_of, test_put_length, spot_length_of, load_length, load_length_of, bare, arm_length_of, choice_length, tested_length, tested_by_length, operate_length, reduce_length, unary_length, right_length, binary_length}
 use Rattle.lower_expr.specs.Operands.{is_plus, is_quiet, own_of, in_place, operand_length}
 use Rattle.lower_expr.specs.Steps.{is_kept, has_truth, has_word, register_word, word_of, word_for, word_put, negated}
-use Rattle.lower_expr.specs.Values.{Code, value_of, next_of, tested, truth_put, extended, register_binary_of, field_binary_of, arm_of, scalar_choice_of}
+use Rattle.lower_expr.specs.Values.{Code, value_of, next_of, tested, truth_put, extended, register_binary_of, field_binary_of, condition_by, joined_of, arm_of, scalar_choice_of}
 use Rattle.code_lengths.specs.Growth.{Extended, Grows, Stands, Anything}
 use Rattle.code_lengths.specs.Shaped.{HasNoShape, HasShape, IsShaped}
 use Rattle.code_lengths.proofs.Drafting.{IsAt, as_it_was, resized, and_instr, makes, sized, bind, weaker, in_register_grows, in_field_grows, register_grows, entry_grows}
 use Rattle.code_lengths.proofs.Pieces.{InRegister, InField, word_in_grows, put_value_grows, operated_more, negated_grows}
 use Rattle.code_lengths.proofs.Communication.{Is, is_stands, at_is, nothing_more}
-use Rattle.code_lengths.proofs.ValuePieces.{IsCode, IsRight, Known, truth_put_grows, extended_grows, right_by_grows, right_operated_grows, right_together, registers_grow, fields_grow, word_put_grows, arm_grows, scalar_choice_grows, tested_by_grows}
+use Rattle.code_lengths.proofs.ValuePieces.{IsCode, IsRight, Known, truth_put_grows, extended_grows, right_by_grows, right_operated_grows, right_together, registers_grow, fields_grow, word_put_grows, arm_grows, scalar_choice_grows, tested_by_grows, joined_by_grows}
 use Rattle.code_lengths.proofs.OperandPieces.{OwnFits, choice_kept, not_held, own_target_fits, standing_grows, operand_grows}
 use Rattle.code_lengths.proofs.AssignPieces.{read_to_grows}
-use Rattle.code_lengths.proofs.ExpressionLengths.{value_grows, truth_grows, values_grow, spot_grows, message_to_grows, reduce_grows, scan_grows, call_to_grows, index_read_to_grows}
+use Rattle.code_lengths.proofs.ExpressionLengths.{condition_grows, value_grows, truth_grows, values_grow, spot_grows, message_to_grows, reduce_grows, scan_grows, call_to_grows, index_read_to_grows}
 
 -- the operand of an instruction that is next
 pub next_grows : (t : Typed) (l : Layout) (bits : ℕ) (quiet : Bool) (e : TExpr) → IsShaped e → IsCode (used_length_of t l bits quiet e) (is_kept e) (next_of t l bits quiet e)
@@ -119,13 +120,31 @@ converted_to_grows true t l (O.Field f) e elem operand d s h g = cc
 converted_to_grows false t l (O.Scalar r) e elem operand d s h g = cc
 converted_to_grows k t l O.Nothing e elem operand d s h g = absurd s
 
-unchanged_so : (k : Bool) (dest : Out) (elem : Elem) → Is k dest → goes_unchanged dest elem ≡ length_unchanged k (bits_for dest) elem
+unchanged_so : (k : Bool) (dest : Out) (elem : Elem) (operand : TExpr) → Is k dest → goes_unchanged dest elem operand ≡ length_unchanged k (bits_for dest) elem operand
 unfolding goes_unchanged length_unchanged bits_for
-unchanged_so true (O.Scalar r) elem s = refl
-unchanged_so false (O.Field f) elem s = refl
-unchanged_so true (O.Field f) elem s = cc
-unchanged_so false (O.Scalar r) elem s = cc
-unchanged_so k O.Nothing elem s = absurd s
+unchanged_so true (O.Scalar r) elem operand s = refl
+unchanged_so false (O.Field f) elem operand s = refl
+unchanged_so true (O.Field f) elem operand s = cc
+unchanged_so false (O.Scalar r) elem operand s = cc
+unchanged_so k O.Nothing elem operand s = absurd s
+
+-- `&&` and `||`
+joined_of_grows : (t : Typed) (l : Layout) (is_or : Bool) (f : Field) (left right : TExpr) (d : Draft) → IsShaped left → IsShaped right →
+    Grows d (joined_length_of t l f.len left right) InField (joined_of t l is_or f left right d)
+unfolding joined_of joined_length_of condition_by
+joined_of_grows t l is_or f left right d a b =
+    joined_by_grows is_or f _ _ d (condition_grows t l left _ _ a (value_grows t l _ left a) (truth_grows t l left a))
+    (condition_grows t l right _ _ b (value_grows t l _ right b) (truth_grows t l right b))
+
+logical_to_grows : (k : Bool) (t : Typed) (l : Layout) (dest : Out) (e : TExpr) (is_or : Bool) (left right : TExpr) (d : Draft) → Is k dest → IsShaped e → IsShaped left → IsShaped right →
+    Grows d (logical_to_length t l k (bits_for dest) e left right) (Stands k) (logical_to t l dest e is_or left right d)
+unfolding logical_to logical_to_length bits_for
+logical_to_grows true t l (O.Scalar r) e is_or left right d s h a b = moved_grows true t l (O.Scalar r) e d refl h
+logical_to_grows false t l (O.Field f) e is_or left right d s h a b =
+    either_grows InField (joins left right) d _ _ _ _ (λ _. joined_of_grows t l is_or f left right d a b) (λ _. moved_grows false t l (O.Field f) e d refl h)
+logical_to_grows true t l (O.Field f) e is_or left right d s h a b = cc
+logical_to_grows false t l (O.Scalar r) e is_or left right d s h a b = cc
+logical_to_grows k t l O.Nothing e is_or left right d s h a b = absurd s
 
 -- a binary operator
 operands_length : Typed → Layout → Bool → ℕ → Op → TExpr → TExpr → ℕ
@@ -222,8 +241,8 @@ unfolding computed_to computed_length length_of operands_length arm_length_of op
 computed_grows k t l dest (T.Brackets' ty p inner) d s h u =
     computed_grows k t l dest inner d s h.1 (through k (T.Brackets' ty p inner) inner refl h.0 u)
 computed_grows k t l dest (T.Convert' ty p operand) d s h u =
-    sized (Stands k) d _ _ _ (ap (λ (b : Bool). if b then computed_length t l k (bits_for dest) operand else converted_to_length t l k (bits_for dest) (T.Convert' ty p operand) ty.elem operand) (unchanged_so k dest ty.elem s))
-    (either_grows (Stands k) (goes_unchanged dest ty.elem) d _ _ _ _ (λ _. computed_grows k t l dest operand d s h.1 (through k (T.Convert' ty p operand) operand refl h.0 u))
+    sized (Stands k) d _ _ _ (ap (λ (b : Bool). if b then computed_length t l k (bits_for dest) operand else converted_to_length t l k (bits_for dest) (T.Convert' ty p operand) ty.elem operand) (unchanged_so k dest ty.elem operand s))
+    (either_grows (Stands k) (goes_unchanged dest ty.elem operand) d _ _ _ _ (λ _. computed_grows k t l dest operand d s h.1 (through k (T.Convert' ty p operand) operand refl h.0 u))
     (λ _. converted_to_grows k t l dest (T.Convert' ty p operand) ty.elem operand d s h h.1))
 computed_grows k t l dest (T.Unary' ty op p operand) d s h u =
     let a = unary_sides k ty op p operand u in
@@ -234,6 +253,10 @@ computed_grows k t l dest (T.Binary' ty place op p left q right) d s h u =
     sized (Stands k) d _ _ _
     (ap (λ (b : Bool). if k || fits_field (bits_for dest) op right then operands_length t l b (bits_for dest) op left right else used_length_of t l (bits_for dest) true (T.Binary' ty place op p left q right) + 1) (binary_suits k ty place op p left q right u))
     (binary_to_grows k t l dest (T.Binary' ty place op p left q right) op place left right d s h h.0 h.1)
+computed_grows k t l dest (T.LogicalOr' ty p left q right) d s h u =
+    logical_to_grows k t l dest (T.LogicalOr' ty p left q right) true left right d s h h.0 h.1
+computed_grows k t l dest (T.LogicalAnd' ty p left q right) d s h u =
+    logical_to_grows k t l dest (T.LogicalAnd' ty p left q right) false left right d s h h.0 h.1
 computed_grows k t l dest (T.Pcoord ty axis) d s h u =
     in_field_grows _ d 1 k dest _ (is_stands k dest s) (λ f _. makes (Stands k) dest d _ 1 (is_stands k dest s) (and_instr _ d d 0 (as_it_was d)))
 computed_grows k t l dest (T.Variable ty x) d s h u =

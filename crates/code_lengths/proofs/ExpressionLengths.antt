@@ -204,7 +204,7 @@ scan_grows k t l ty p source axis combiner direction mode bit within v into b s 
     part_field_grows _ b 1 (v ∷ []) 0 _ (λ values. bind (λ (f : Option Field). Unit {0}) _ b 0 1 _ _ (segment_field_grows t l bit b) (λ bits after _. scanned_grows _ _ values _ bits into after s))
 
 -- an operand of `&&` or `||`
-condition_grows : (t : Typed) (l : Layout) (e : TExpr) (code : Code) (truth : Test) → IsShaped e → IsCode (length_of t l (bits_of (kind_of e)) e) (is_kept e) code → (has_truth e ≡ true → IsTest (truth_length_of t l e) truth) →
+pub condition_grows : (t : Typed) (l : Layout) (e : TExpr) (code : Code) (truth : Test) → IsShaped e → IsCode (length_of t l (bits_of (kind_of e)) e) (is_kept e) code → (has_truth e ≡ true → IsTest (truth_length_of t l e) truth) →
     IsCondition (condition_by t l code truth e)
 unfolding condition_by tested_length tested_by_length
 condition_grows t l e code truth h c f =

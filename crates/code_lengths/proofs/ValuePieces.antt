@@ -17,15 +17,16 @@ use Rattle.lower_base.specs.declared.emit.Out.TheVariants as O
 use Rattle.lower_base.specs.declared.operators.Machine.{Machine}
 use Rattle.lower_base.specs.declared.operators.Machine.TheVariants as M
 use Rattle.lower_base.specs.Operators.{machine_of, relates}
-use Rattle.lower_base.specs.Drafts.{Draft, Made, Makes, Fails, then_make, from, with_instr, in_register, a_field, fresh_for}
+use Rattle.lower_base.specs.Drafts.{Draft, Made, Makes, Fails, then_make, from, with_instr, in_register, in_field, a_field, a_flag, first_bits, fresh_for}
 use Rattle.lower_expr.specs.declared.steps.Right.{Right}
 use Rattle.lower_expr.specs.declared.steps.Right.TheVariants as R
+use Rattle.lower_expr.specs.Joined.{joins, is_flag, flag_by, flag_length, operation_of, cleared, joined}
 use Rattle.lower_expr.specs.Kinds.{operation_bits, reads_signed, result_bits}
-use Rattle.lower_expr.specs.Lengths.{conversion_length, test_put_length, unary_length, operate_length, logical_length, choice_length, arm_length, compared_length, spread_length, spare_length, right_length, binary_length}
+use Rattle.lower_expr.specs.Lengths.{conversion_length, test_put_length, unary_length, operate_length, joined_length, parallel_logical_length, logical_length, choice_length, arm_length, compared_length, spread_length, spare_length, right_length, binary_length}
 use Rattle.lower_base.specs.Layouts.{Layout}
 use Rattle.lower_expr.specs.Operands.{is_plus}
 use Rattle.lower_expr.specs.Steps.{is_kept, has_word, register_word, word_for, word_put, word_of, word_taken, put_value, right_operated, in_a_field, negated}
-use Rattle.lower_expr.specs.Values.{Code, Test, Arm, Condition, spread_into, spread_by, right_given, right_by, coordinate_in, byte_in, casts_put, extended, truth_put, cast_by, register_cast_by, unary_by, registers_by, fields_by, spare_for, parallel_binary_by, binary_by, jump_if_decided, narrowed_by, decided, limited, logical_ended, scalar_logical_by, nonzero_tested, zero_tested, tested_by, compared, relation_by, decided_by, jumped, jumped_over, narrowed_again, limited_by, parallel_logical_by, logical_by, arm_by, scalar_choice_by, turned_over, parallel_choice_by, choice_by}
+use Rattle.lower_expr.specs.Values.{Code, Test, Arm, Condition, spread_into, spread_by, right_given, right_by, coordinate_in, byte_in, casts_put, extended, truth_put, cast_by, register_cast_by, unary_by, registers_by, fields_by, spare_for, parallel_binary_by, binary_by, jump_if_decided, narrowed_by, decided, limited, logical_ended, scalar_logical_by, nonzero_tested, zero_tested, tested_by, compared, relation_by, decided_by, jumped, jumped_over, narrowed_again, limited_by, flag_of, joined_by, narrowing_by, parallel_logical_by, logical_by, arm_by, scalar_choice_by, turned_over, parallel_choice_by, choice_by}
 use Rattle.code_lengths.specs.Growth.{Extended, Grows, Stands, Anything}
 use Rattle.code_lengths.proofs.Drafting.{IsAt, field_grows, fresh_at, lowest_grows, as_it_was, resized, and_instr, makes, sized, behind, bind, weaker, in_register_grows, in_field_grows, register_grows, entry_grows, fresh_grows}
 use Rattle.code_lengths.proofs.Pieces.{InRegister, InField, fails_grow, constant_grows, test_grows, put_value_grows, operated_more, register_in_place_grows, fields_operated_grows, word_grows, number_grows, in_a_field_grows, negated_grows}
@@ -367,30 +368,80 @@ logical_rest is_or false rk dest saved first second first_test second_test n nt 
     sum false n m t = omega arith
 
 pub record IsCondition (c : Condition) : Type 0 where
-  pub code : IsCode c.long c.kept c.code
+  pub code : IsCode c.long (is_kept c.operand) c.code
   pub test : IsTest c.tested_long c.test
 
-parallel_logical_grows : (is_or : Bool) (set bits : ℕ) (left right : Condition) (d : Draft) → IsCondition left → IsCondition right →
-    Grows d (if left.kept then (left.long + right.tested_long) + (2 + test_put_length bits) else (left.tested_long + (if right.kept then right.long else right.tested_long)) + 6) InField
-    (parallel_logical_by is_or set bits left right d)
-unfolding parallel_logical_by
-parallel_logical_grows is_or set bits left right d a b =
-    sized InField d _ _ _ (sum left.kept right.kept left.long left.tested_long right.long right.tested_long (test_put_length bits))
-    (bind (λ (f : Field). f.len ≡ bits) InField d 0 _ _ _ (field_grows _ _ d) (λ dest begun h. bind Anything InField begun 0 _ _ _ (entry_grows _ _ _ begun) (λ saved next _.
+narrowing_grows : (is_or : Bool) (dest : Field) (left right : Condition) (d : Draft) → IsCondition left → IsCondition right →
+    Grows d (if is_kept left.operand then (left.long + right.tested_long) + (2 + test_put_length dest.len) else (left.tested_long + (if is_kept right.operand then right.long else right.tested_long)) + 6) InField
+    (narrowing_by is_or dest left right d)
+unfolding narrowing_by
+narrowing_grows is_or dest left right d a b =
+    sized InField d _ _ _ (sum (is_kept left.operand) (is_kept right.operand) left.long left.tested_long right.long right.tested_long (test_put_length dest.len))
+    (bind Anything InField d 0 _ _ _ (entry_grows _ _ _ d) (λ saved next _.
     behind InField next _ 1 _ _ (and_instr _ next next 0 (as_it_was next))
-    (sized InField _ _ _ _ (ap (λ (k : ℕ). if left.kept then (left.long + right.tested_long) + (1 + test_put_length k) else (left.tested_long + (if right.kept then right.long else right.tested_long)) + 5) h)
-    (logical_rest is_or left.kept right.kept dest saved left.code right.code left.test right.test left.long left.tested_long right.long right.tested_long _ a.code a.test b.code b.test)))))
+    (logical_rest is_or (is_kept left.operand) (is_kept right.operand) dest saved left.code right.code left.test right.test left.long left.tested_long right.long right.tested_long _ a.code a.test b.code b.test)))
   where
-    sum : (lk rk : Bool) (n nt m mt put : ℕ) → 0 + (0 + (1 + (if lk then (n + mt) + (1 + put) else (nt + (if rk then m else mt)) + 5))) ≡ (if lk then (n + mt) + (2 + put) else (nt + (if rk then m else mt)) + 6)
+    sum : (lk rk : Bool) (n nt m mt put : ℕ) → 0 + (1 + (if lk then (n + mt) + (1 + put) else (nt + (if rk then m else mt)) + 5)) ≡ (if lk then (n + mt) + (2 + put) else (nt + (if rk then m else mt)) + 6)
     sum true rk n nt m mt put = omega arith
     sum false true n nt m mt put = omega arith
     sum false false n nt m mt put = omega arith
 
+-- an operand as a field of one bit, and the operation on two
+flag_grows : (set : ℕ) (c : Condition) (d : Draft) → IsCondition c → Grows d (flag_length c.long c.tested_long c.operand) Anything (flag_of set c d)
+unfolding flag_of flag_by flag_length
+flag_grows set c d h = by (is_flag c.operand)
+  where
+    and_nothing : (n : ℕ) → n + 0 ≡ n
+    and_nothing n = omega arith
+
+    by : (one : Bool) → Grows d (if one then c.long else c.tested_long + 1) Anything
+        (if one then then_make (c.code d) (λ v after. in_field v (λ f. Makes f after))
+        else then_make (c.test d) (λ _ between. then_make (a_flag set between) (λ f after. Makes f (with_instr (I.StoreTest f) after))))
+    by true = sized Anything d _ _ _ (and_nothing c.long) (bind (Stands (is_kept c.operand)) Anything d c.long 0 _ _ (h.code d) (λ v after s.
+        in_field_grows Anything after 0 (is_kept c.operand) v _ s (λ f _. makes Anything f after after 0 tt (as_it_was after))))
+    by false = bind Known Anything d c.tested_long 1 _ _ (h.test d) (λ _ between _. bind Anything Anything between 0 1 _ _ (entry_grows _ _ _ between) (λ f after _.
+        makes Anything f after _ 1 tt (and_instr _ after after 0 (as_it_was after))))
+
+joined_grows : (is_or : Bool) (dest f g : Field) (d : Draft) → Grows d (test_put_length dest.len) InField (joined is_or dest f g d)
+unfolding joined cleared test_put_length
+joined_grows is_or dest f g d = by (dest.len == 1)
+  where
+    by : (one : Bool) → Grows d (if one then 1 else 2) InField
+        (Makes (O.Field dest) (with_instr (I.Operate (operation_of is_or) (first_bits 1 dest) f g) (if one then d else with_instr (I.MoveConstant dest (K.Imm 0)) d)))
+    by true = makes InField (O.Field dest) d _ 1 refl (and_instr _ d d 0 (as_it_was d))
+    by false = makes InField (O.Field dest) d _ 2 refl (and_instr _ d _ 1 (and_instr _ d d 0 (as_it_was d)))
+
+pub joined_by_grows : (is_or : Bool) (dest : Field) (left right : Condition) (d : Draft) → IsCondition left → IsCondition right →
+    Grows d (joined_length dest.len left.operand right.operand left.long right.long left.tested_long right.tested_long) InField (joined_by is_or dest left right d)
+unfolding joined_by joined_length
+joined_by_grows is_or dest left right d a b =
+    sized InField d _ _ _ (sum (flag_length left.long left.tested_long left.operand) (flag_length right.long right.tested_long right.operand) (test_put_length dest.len))
+    (bind Anything InField d _ _ _ _ (flag_grows dest.set left d a) (λ f between _. bind Anything InField between _ _ _ _ (flag_grows dest.set right between b) (λ g after _.
+    joined_grows is_or dest f g after)))
+  where
+    sum : (n m put : ℕ) → n + (m + put) ≡ (n + m) + put
+    sum n m put = omega arith
+
+parallel_logical_grows : (is_or : Bool) (dest : Field) (left right : Condition) (d : Draft) → IsCondition left → IsCondition right →
+    Grows d (parallel_logical_length dest.len left.operand right.operand left.long right.long left.tested_long right.tested_long) InField (parallel_logical_by is_or dest left right d)
+unfolding parallel_logical_by parallel_logical_length
+parallel_logical_grows is_or dest left right d a b = by (joins left.operand right.operand)
+  where
+    by : (j : Bool) → Grows d (if j then joined_length dest.len left.operand right.operand left.long right.long left.tested_long right.tested_long
+        else (if is_kept left.operand then (left.long + right.tested_long) + (2 + test_put_length dest.len) else (left.tested_long + (if is_kept right.operand then right.long else right.tested_long)) + 6)) InField
+        (if j then joined_by is_or dest left right d else narrowing_by is_or dest left right d)
+    by true = joined_by_grows is_or dest left right d a b
+    by false = narrowing_grows is_or dest left right d a b
+
 pub logical_grows : (is_or : Bool) (shape : Option ℕ) (bits : ℕ) (left right : Condition) (d : Draft) → IsCondition left → IsCondition right →
-    Grows d (logical_length (is_none shape) bits left.kept right.kept left.long right.long left.tested_long right.tested_long) (Stands (is_none shape)) (logical_by is_or shape bits left right d)
+    Grows d (logical_length (is_none shape) bits left.operand right.operand left.long right.long left.tested_long right.tested_long) (Stands (is_none shape)) (logical_by is_or shape bits left right d)
 unfolding logical_by logical_length
-logical_grows is_or None bits left right d a b = scalar_logical_grows is_or left.kept right.kept left.code right.code left.long right.long d a.code b.code
-logical_grows is_or (Some set) bits left right d a b = parallel_logical_grows is_or set bits left right d a b
+logical_grows is_or None bits left right d a b =
+    scalar_logical_grows is_or (is_kept left.operand) (is_kept right.operand) left.code right.code left.long right.long d a.code b.code
+logical_grows is_or (Some set) bits left right d a b =
+    sized InField d _ _ _ (nothing_more _) (bind (λ (f : Field). f.len ≡ bits) InField d 0 _ _ _ (field_grows _ _ d) (λ dest begun h.
+    sized InField begun _ _ _ (ap (λ (n : ℕ). parallel_logical_length n left.operand right.operand left.long right.long left.tested_long right.tested_long) h)
+    (parallel_logical_grows is_or dest left right begun a b)))
 
 -- arms of `?:`
 abbrev pub IsArm : ℕ → Bool → Arm → Type 0

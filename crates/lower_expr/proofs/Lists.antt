@@ -74,14 +74,14 @@ length_of_call t l bits ty instance arguments =
 
 pub length_of_or : (t : Typed) (l : Layout) (bits : ℕ) (ty : ValueType) (left right : Box TExpr Global) →
     length_of t l bits (T.LogicalOr ty left right)
-    ≡ logical_length (is_none ty.shape) bits (is_kept left.value) (is_kept right.value) (used_length_of t l (bits_of (kind_of left.value)) true left.value)
+    ≡ logical_length (is_none ty.shape) bits left.value right.value (used_length_of t l (bits_of (kind_of left.value)) true left.value)
     (used_length_of t l (bits_of (kind_of right.value)) true right.value) (tested_length t l left.value) (tested_length t l right.value)
 unfolding length_of tested_length
 length_of_or t l bits ty left right = refl
 
 pub length_of_and : (t : Typed) (l : Layout) (bits : ℕ) (ty : ValueType) (left right : Box TExpr Global) →
     length_of t l bits (T.LogicalAnd ty left right)
-    ≡ logical_length (is_none ty.shape) bits (is_kept left.value) (is_kept right.value) (used_length_of t l (bits_of (kind_of left.value)) true left.value)
+    ≡ logical_length (is_none ty.shape) bits left.value right.value (used_length_of t l (bits_of (kind_of left.value)) true left.value)
     (used_length_of t l (bits_of (kind_of right.value)) true right.value) (tested_length t l left.value) (tested_length t l right.value)
 unfolding length_of tested_length
 length_of_and t l bits ty left right = refl

@@ -1,6 +1,6 @@
 -- The code of an expression whose value goes to a variable, decides where a context is narrowed, or
 -- is not used. The last instruction of a value writes the variable itself.
-use Rattle.std.specs.Prelude.{ℕ, ◌+◌, Bool, true, ◌==◌, ◌&&◌, ◌||◌, not, nat_le, if◌then◌else◌, Option, Some, None, is_none}
+use Rattle.std.specs.Prelude.{ℕ, ◌+◌, Bool, true, false, ◌==◌, ◌&&◌, ◌||◌, not, nat_le, if◌then◌else◌, Option, Some, None, is_none}
 use Rattle.cstar_base.specs.declared.elem.Elem.{Elem}
 use Rattle.cstar_base.specs.declared.operators.Op.{Op}
 use Rattle.cstar_base.specs.declared.operators.Place.{Place}
@@ -20,16 +20,21 @@ use Rattle.lower_base.specs.Constants.{word_in, word_length}
 use Rattle.lower_base.specs.Layouts.{Layout}
 use Rattle.lower_base.specs.Operators.{assign_op_of, relates}
 use Rattle.lower_expr.specs.declared.operands.Own.{Own}
+use Rattle.lower_expr.specs.Joined.{is_flag, joins}
 use Rattle.lower_expr.specs.Kinds.{operand_bits, operation_bits, reduced_bits, unary_bits, works_within}
-use Rattle.lower_expr.specs.Lengths.{length_of, operate_length, right_length, test_put_length, tested_length, used_length_of}
+use Rattle.lower_expr.specs.Lengths.{joined_length_of, length_of, operate_length, right_length, test_put_length, tested_length, used_length_of}
 use Rattle.lower_expr.specs.Operands.{are_quiet, is_plus, own_of, standing}
 use Rattle.lower_expr.specs.Steps.{is_kept, has_word, word_for, word_put, put_value, operated, right_operated, negated, assigned_signed}
-use Rattle.lower_expr.specs.Values.{Code, value_of, values_of, spot_of, next_of, tested, truth_put, extended, right_by, step_operation, register_binary_of, field_binary_of, scalar_choice_of, read_to, index_read_to, message_to, call_to}
+use Rattle.lower_expr.specs.Values.{Code, value_of, values_of, spot_of, next_of, tested, truth_put, extended, right_by, step_operation, register_binary_of, field_binary_of, joined_of, scalar_choice_of, read_to, index_read_to, message_to, call_to}
 
 -- how many bits of a value go to a register or a field
 unfoldable pub bits_for : Out → ℕ
 bits_for (O.Field f) = f.len
 bits_for _ = 32
+
+-- are so many bits of a converted value those of the value itself: one of one bit is a truth value already
+unfoldable pub keeps_bits : ℕ → Elem → TExpr → Bool
+keeps_bits bits elem operand = nat_le bits elem.bits && (not (elem.bits == 1) || is_flag operand)
 
 -- a value moved to a register or a field, and one converted into a register
 unfoldable pub moved : Typed → Layout → Out → TExpr → Draft → Made Out
@@ -41,9 +46,9 @@ register_converted t l r elem e d =
     Makes (O.Scalar r) (with_instr (I.FrontConvert r source elem) after)))
 
 -- is what goes there of a converted value that of the value itself
-unfoldable pub goes_unchanged : Out → Elem → Bool
-goes_unchanged (O.Field f) elem = nat_le f.len elem.bits && not (elem.bits == 1)
-goes_unchanged _ elem = elem.bits == 32
+unfoldable pub goes_unchanged : Out → Elem → TExpr → Bool
+goes_unchanged (O.Field f) elem operand = keeps_bits f.len elem operand
+goes_unchanged _ elem operand = elem.bits == 32
 
 -- another value `e`, which is the operand converted to a type: to a field by its test, or extended from
 -- its bits of the type
@@ -74,6 +79,12 @@ binary_to t l (O.Scalar r) e op place left right d = register_binary_of t l 32 o
 binary_to t l (O.Field f) e op place left right d = field_binary_to t l f e op place left right d
 binary_to t l O.Nothing e op place left right d = Fails
 
+-- `&&` or `||`, the expression `e`: to a field by its operation, where it is one of two fields of one bit
+unfoldable pub logical_to : Typed → Layout → Out → TExpr → Bool → TExpr → TExpr → Draft → Made Out
+logical_to t l (O.Field f) e is_or left right d =
+    if joins left right then joined_of t l is_or f left right d else moved t l (O.Field f) e d
+logical_to t l dest e is_or left right d = moved t l dest e d
+
 -- what was put there is there
 unfoldable pub gone_to : Out → Made Out → Made Out
 gone_to dest made = then_make made (λ _ after. Makes dest after)
@@ -82,12 +93,14 @@ gone_to dest made = then_make made (λ _ after. Makes dest after)
 unfoldable pub computed_to : Typed → Layout → Out → TExpr → Draft → Made Out
 computed_to t l dest (T.Brackets' ty p inner) d = computed_to t l dest inner d
 computed_to t l dest (T.Convert' ty p operand) d =
-    if goes_unchanged dest ty.elem then computed_to t l dest operand d
+    if goes_unchanged dest ty.elem operand then computed_to t l dest operand d
     else converted_to t l dest (T.Convert' ty p operand) ty.elem operand d
 computed_to t l dest (T.Unary' ty op p operand) d =
     if is_plus op then computed_to t l dest operand d
     else then_make (next_of t l (unary_bits (bits_for dest) op operand) true operand d) (λ v after. negated l op dest v after)
 computed_to t l dest (T.Binary' ty place op p left q right) d = binary_to t l dest (T.Binary' ty place op p left q right) op place left right d
+computed_to t l dest (T.LogicalOr' ty p left q right) d = logical_to t l dest (T.LogicalOr' ty p left q right) true left right d
+computed_to t l dest (T.LogicalAnd' ty p left q right) d = logical_to t l dest (T.LogicalAnd' ty p left q right) false left right d
 computed_to t l dest (T.Pcoord ty axis) d = in_field dest (λ f. Makes dest (with_instr (I.MyNewsCoordinate f axis) d))
 computed_to t l dest (T.Variable ty x) d = read_to t l (T.Variable ty x) (spot_of t l (T.Variable ty x)) dest d
 computed_to t l dest (T.GetChar ty) d = in_register dest (λ r. Makes dest (with_instr (I.FrontGetByte r) d))
@@ -200,8 +213,8 @@ effect_of t l (T.Step' ty op order p target) d = step_effect t l op target (valu
 effect_of t l e d = value_of t l (type_of e).elem.bits e d
 
 -- how many instructions these have
-unfoldable pub length_unchanged : Bool → ℕ → Elem → Bool
-length_unchanged scalar bits elem = if scalar then elem.bits == 32 else nat_le bits elem.bits && not (elem.bits == 1)
+unfoldable pub length_unchanged : Bool → ℕ → Elem → TExpr → Bool
+length_unchanged scalar bits elem operand = if scalar then elem.bits == 32 else keeps_bits bits elem operand
 
 unfoldable pub converted_to_length : Typed → Layout → Bool → ℕ → TExpr → Elem → TExpr → ℕ
 converted_to_length t l scalar bits e elem operand =
@@ -210,16 +223,22 @@ converted_to_length t l scalar bits e elem operand =
     else if elem.bits == 1 then tested_length t l operand + test_put_length bits
     else used_length_of t l elem.bits true operand + 1
 
+unfoldable pub logical_to_length : Typed → Layout → Bool → ℕ → TExpr → TExpr → TExpr → ℕ
+logical_to_length t l scalar bits e left right =
+    if not scalar && joins left right then joined_length_of t l bits left right else used_length_of t l bits true e + 1
+
 unfoldable pub computed_length : Typed → Layout → Bool → ℕ → TExpr → ℕ
 computed_length t l scalar bits (T.Brackets' ty p inner) = computed_length t l scalar bits inner
 computed_length t l scalar bits (T.Convert' ty p operand) =
-    if length_unchanged scalar bits ty.elem then computed_length t l scalar bits operand
+    if length_unchanged scalar bits ty.elem operand then computed_length t l scalar bits operand
     else converted_to_length t l scalar bits (T.Convert' ty p operand) ty.elem operand
 computed_length t l scalar bits (T.Unary' ty op p operand) =
     if is_plus op then computed_length t l scalar bits operand else length_of t l bits (T.Unary' ty op p operand)
 computed_length t l scalar bits (T.Binary' ty place op p left q right) =
     if scalar || fits_field bits op right then length_of t l bits (T.Binary' ty place op p left q right)
     else used_length_of t l bits true (T.Binary' ty place op p left q right) + 1
+computed_length t l scalar bits (T.LogicalOr' ty p left q right) = logical_to_length t l scalar bits (T.LogicalOr' ty p left q right) left right
+computed_length t l scalar bits (T.LogicalAnd' ty p left q right) = logical_to_length t l scalar bits (T.LogicalAnd' ty p left q right) left right
 computed_length t l scalar bits (T.Pcoord ty axis) = 1
 computed_length t l scalar bits (T.Variable ty x) = 1
 computed_length t l scalar bits (T.GetChar ty) = 1

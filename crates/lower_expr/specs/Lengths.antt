@@ -23,6 +23,7 @@ use Rattle.lower_base.specs.Constants.{word_length}
 use Rattle.lower_base.specs.Layouts.{Layout, elements_of}
 use Rattle.lower_comm.specs.News.{step_of, goes_by_news}
 use Rattle.lower_base.specs.Operators.{assign_op_of, reduce_op_of, relates}
+use Rattle.lower_expr.specs.Joined.{joins, flag_length}
 use Rattle.lower_expr.specs.Kinds.{assigned_bits, list_bits, operand_bits, operator_bits, reduced_bits, relation_kind, unary_bits}
 use Rattle.lower_expr.specs.Operands.{is_plus, is_quiet, are_quiet, operand_length}
 use Rattle.lower_expr.specs.Positions.{known_position}
@@ -50,10 +51,19 @@ operate_length bits op scalar =
     if divides op then 2 else (if scalar then 1 else (if relates op then 1 + test_put_length bits else 1))
 
 -- `&&` or `||`, by the lengths of its operands' codes and of their tests
-unfoldable pub logical_length : Bool → ℕ → Bool → Bool → ℕ → ℕ → ℕ → ℕ → ℕ
-logical_length scalar bits left_kept right_kept n m left_tested right_tested =
-    if scalar then (n + m) + 4 else (if left_kept then (n + right_tested) + (2 + test_put_length bits)
-    else (left_tested + (if right_kept then m else right_tested)) + 6)
+unfoldable pub joined_length : ℕ → TExpr → TExpr → ℕ → ℕ → ℕ → ℕ → ℕ
+joined_length bits left right n m left_tested right_tested =
+    (flag_length n left_tested left + flag_length m right_tested right) + test_put_length bits
+
+unfoldable pub parallel_logical_length : ℕ → TExpr → TExpr → ℕ → ℕ → ℕ → ℕ → ℕ
+parallel_logical_length bits left right n m left_tested right_tested =
+    if joins left right then joined_length bits left right n m left_tested right_tested
+    else (if is_kept left then (n + right_tested) + (2 + test_put_length bits)
+    else (left_tested + (if is_kept right then m else right_tested)) + 6)
+
+unfoldable pub logical_length : Bool → ℕ → TExpr → TExpr → ℕ → ℕ → ℕ → ℕ → ℕ
+logical_length scalar bits left right n m left_tested right_tested =
+    if scalar then (n + m) + 4 else parallel_logical_length bits left right n m left_tested right_tested
 
 -- an arm of `?:`, by the length of its value's code, and `?:` beside its condition and its arms
 unfoldable pub arm_length : Bool → ℕ → TExpr → ℕ
@@ -231,13 +241,13 @@ unfoldable mutual
       + arm_length (is_none ty.shape) (operand_length l bits (length_of t l bits second) true second) second))
       + choice_length (is_kept test)
   length_of t l bits (T.LogicalOr' ty p left q right) =
-      logical_length (is_none ty.shape) bits (is_kept left) (is_kept right)
+      logical_length (is_none ty.shape) bits left right
       (operand_length l (bits_of (kind_of left)) (length_of t l (bits_of (kind_of left)) left) true left)
       (operand_length l (bits_of (kind_of right)) (length_of t l (bits_of (kind_of right)) right) true right)
       (tested_by_length (truth_length_of t l left) (operand_length l (bits_of (kind_of left)) (length_of t l (bits_of (kind_of left)) left) true left) left)
       (tested_by_length (truth_length_of t l right) (operand_length l (bits_of (kind_of right)) (length_of t l (bits_of (kind_of right)) right) true right) right)
   length_of t l bits (T.LogicalAnd' ty p left q right) =
-      logical_length (is_none ty.shape) bits (is_kept left) (is_kept right)
+      logical_length (is_none ty.shape) bits left right
       (operand_length l (bits_of (kind_of left)) (length_of t l (bits_of (kind_of left)) left) true left)
       (operand_length l (bits_of (kind_of right)) (length_of t l (bits_of (kind_of right)) right) true right)
       (tested_by_length (truth_length_of t l left) (operand_length l (bits_of (kind_of left)) (length_of t l (bits_of (kind_of left)) left) true left) left)
@@ -316,9 +326,14 @@ lengths_in t l own quiet (e ∷ rest) =
 abbrev pub used_length_of : Typed → Layout → ℕ → Bool → TExpr → ℕ
 used_length_of t l bits quiet e = operand_length l bits (length_of t l bits e) quiet e
 
--- a parallel value as the test flags, and an arm of `?:`
+-- a parallel value as the test flags, `&&` or `||` of two fields of one bit, and an arm of `?:`
 unfoldable pub tested_length : Typed → Layout → TExpr → ℕ
 tested_length t l e = tested_by_length (truth_length_of t l e) (used_length_of t l (bits_of (kind_of e)) true e) e
+
+unfoldable pub joined_length_of : Typed → Layout → ℕ → TExpr → TExpr → ℕ
+joined_length_of t l bits left right =
+    joined_length bits left right (used_length_of t l (bits_of (kind_of left)) true left) (used_length_of t l (bits_of (kind_of right)) true right)
+    (tested_length t l left) (tested_length t l right)
 
 unfoldable pub arm_length_of : Typed → Layout → ValueType → ℕ → TExpr → ℕ
 arm_length_of t l ty bits e = arm_length (is_none ty.shape) (used_length_of t l bits true e) e

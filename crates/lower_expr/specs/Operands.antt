@@ -1,6 +1,7 @@
 -- Operands that stand in a register or a field already, that of a constant or a variable's own, and when
 -- they may be used there.
-use Rattle.std.specs.Prelude.{ℕ, Bool, true, false, ◌&&◌, ◌||◌, nat_le, if◌then◌else◌, List, [], ◌∷◌, Option, Some, None, is_none}
+use Rattle.std.specs.Prelude.{ℕ, Bool, true, false, not, ◌&&◌, ◌||◌, nat_le, if◌then◌else◌, List, [], ◌∷◌, Option, Some, None, is_none}
+use Rattle.cstar_base.specs.Operators.{divides}
 use Rattle.source_meaning.specs.Constants.{then_value}
 use Rattle.cstar_tree.specs.declared.typed.TExpr.{TExpr, Row_of-TExpr, end_of-TExpr, more_of-TExpr}
 use Rattle.cstar_tree.specs.declared.typed.TExpr as T
@@ -52,6 +53,28 @@ unfoldable mutual
 unfoldable pub all_quiet : List TExpr → Bool
 all_quiet [] = true
 all_quiet (e ∷ rest) = is_quiet e && all_quiet rest
+
+-- Does the expression have the same value under every context, with nothing changed and no fault? A
+-- quotient may fault, as a checked index may, and what goes between positions depends on which are active.
+unfoldable pub ignores_context : TExpr → Bool
+ignores_context (T.Choice' ty p test q first r second) = ignores_context test && ignores_context first && ignores_context second
+ignores_context (T.LogicalOr' ty p left q right) = ignores_context left && ignores_context right
+ignores_context (T.LogicalAnd' ty p left q right) = ignores_context left && ignores_context right
+ignores_context (T.Binary' ty place op p left q right) = not (divides op) && ignores_context left && ignores_context right
+ignores_context (T.Unary' ty op p operand) = ignores_context operand
+ignores_context (T.Casts' ty elems p operand) = ignores_context operand
+ignores_context (T.ParallelCast' ty p operand) = ignores_context operand
+ignores_context (T.Convert' ty p operand) = ignores_context operand
+ignores_context (T.Promote' ty p operand) = ignores_context operand
+ignores_context (T.Brackets' ty p inner) = ignores_context inner
+ignores_context (T.Variable ty x) = true
+ignores_context (T.Number ty value) = true
+ignores_context (T.Dot ty axis) = true
+ignores_context (T.Pcoord ty axis) = true
+ignores_context (T.PositionsOf ty shape value) = true
+ignores_context (T.RankOf ty shape value) = true
+ignores_context (T.DimOf ty shape axis value) = true
+ignores_context _ = false
 
 -- The variable in whose own register or field so many bits of the value stand: a scalar one, or a
 -- parallel one that is as long; a conversion that leaves these bits as they are has no code.

@@ -41,6 +41,7 @@ use Rattle.lower_expr.specs.declared.spots.Spot.TheVariants as S
 use Rattle.lower_expr.specs.declared.steps.Right.{Right}
 use Rattle.lower_expr.specs.declared.steps.Right.TheVariants as R
 use Rattle.lower_expr.specs.Frames.{called}
+use Rattle.lower_expr.specs.Joined.{joins, is_flag, flag_by, joined}
 use Rattle.lower_expr.specs.Kinds.{assigned_bits, list_bits, operand_bits, operator_bits, reads_signed, reduced_bits, relation_kind, result_bits, unary_bits}
 use Rattle.lower_expr.specs.Lengths.{is_send, length_of, arm_length_of, test_put_length, tested_length}
 use Rattle.lower_expr.specs.Operands.{is_plus, is_quiet, are_quiet, all_quiet, operand_by, operand_length}
@@ -228,24 +229,36 @@ limited_by is_or dest saved first next d =
     (λ _ after. Makes (O.Field dest) (with_instr (I.LoadContext saved)
     (with_instr (I.MoveConstant dest (K.Imm (from_bool (not is_or)))) after))))
 
--- an operand of `&&` or `||`: its code, and what tests it, with their lengths; does it stand in a register
+-- an operand of `&&` or `||`: its code, and what tests it, with their lengths
 pub record Condition : Type 0 where
-  pub kept : Bool
+  pub operand : TExpr
   pub code : Code
   pub long : ℕ
   pub test : Test
   pub tested_long : ℕ
 
-unfoldable pub parallel_logical_by : Bool → ℕ → ℕ → Condition → Condition → Draft → Made Out
-parallel_logical_by is_or set bits left right d =
-    then_make (a_field set bits d) (λ dest begun. then_make (a_flag set begun) (λ saved next.
+unfoldable pub flag_of : ℕ → Condition → Draft → Made Field
+flag_of set c d = flag_by (is_flag c.operand) set c.code c.test d
+
+unfoldable pub joined_by : Bool → Field → Condition → Condition → Draft → Made Out
+joined_by is_or dest left right d =
+    then_make (flag_of dest.set left d) (λ f between. then_make (flag_of dest.set right between) (λ g after. joined is_or dest f g after))
+
+unfoldable pub narrowing_by : Bool → Field → Condition → Condition → Draft → Made Out
+narrowing_by is_or dest left right d =
+    then_make (a_flag dest.set d) (λ saved next.
     let ready = with_instr (I.MoveConstant dest (K.Imm (from_bool is_or))) next in
-    if left.kept then decided_by is_or dest left.code right.test right.tested_long ready
-    else limited_by is_or dest saved left.test (if right.kept then jumped_over is_or right.code else narrowed_again is_or dest.set right.test) ready))
+    if is_kept left.operand then decided_by is_or dest left.code right.test right.tested_long ready
+    else limited_by is_or dest saved left.test (if is_kept right.operand then jumped_over is_or right.code else narrowed_again is_or dest.set right.test) ready)
+
+unfoldable pub parallel_logical_by : Bool → Field → Condition → Condition → Draft → Made Out
+parallel_logical_by is_or dest left right d =
+    if joins left.operand right.operand then joined_by is_or dest left right d else narrowing_by is_or dest left right d
 
 unfoldable pub logical_by : Bool → Option ℕ → ℕ → Condition → Condition → Draft → Made Out
 logical_by is_or None bits left right d = scalar_logical_by is_or left.code right.code right.long d
-logical_by is_or (Some set) bits left right d = parallel_logical_by is_or set bits left right d
+logical_by is_or (Some set) bits left right d =
+    then_make (a_field set bits d) (λ dest begun. parallel_logical_by is_or dest left right begun)
 
 -- an arm of `?:`, which becomes the value of a register or a field: a constant in one instruction
 abbrev pub Arm : Type 0
@@ -412,7 +425,7 @@ call_to t l instance arguments dest d = then_make (arguments [] d) (λ given aft
 -- an operand of `&&` or `||`, by the codes of its value and of its truth
 unfoldable pub condition_by : Typed → Layout → Code → Test → TExpr → Condition
 condition_by t l code truth e = record {
-  kept = is_kept e;
+  operand = e;
   code = operand_by t l (bits_of (kind_of e)) code true e;
   long = operand_length l (bits_of (kind_of e)) (length_of t l (bits_of (kind_of e)) e) true e;
   test = tested_by (has_truth e) truth (operand_by t l (bits_of (kind_of e)) code true e);
@@ -535,6 +548,10 @@ condition_of t l e = condition_by t l (value_of t l (bits_of (kind_of e)) e) (tr
 
 abbrev pub tested : Typed → Layout → TExpr → Test
 tested t l e = tested_by (has_truth e) (truth_of t l e) (next_of t l (bits_of (kind_of e)) true e)
+
+-- `&&` or `||` of two fields of one bit
+unfoldable pub joined_of : Typed → Layout → Bool → Field → TExpr → TExpr → Draft → Made Out
+joined_of t l is_or dest left right d = joined_by is_or dest (condition_of t l left) (condition_of t l right) d
 
 -- a conversion to a type
 unfoldable pub cast_of : Typed → Layout → ℕ → ValueType → TExpr → Draft → Made Out

@@ -1,17 +1,20 @@
 //! The test flags of a value, `&&`, `||` and `?:`.
 
 ghost use Rattle.std.specs.Prelude.{◌≡◌, true, if◌then◌else◌, IfOk, OnOk};
+ghost use Rattle.lower_base.specs.declared.emit.Out.TheVariants as O;
 ghost use Rattle.lower_base.specs.Drafts.{Makes, draft, out_of};
 ghost use Rattle.lower_base.specs.Kinds.{bits_of, kind_of};
 ghost use Rattle.lower_base.specs.Layouts.{layout};
 ghost use Rattle.lower_base.specs.Operators.{relates};
+ghost use Rattle.lower_expr.specs.Joined.{flag_by, is_flag};
 ghost use Rattle.lower_expr.specs.Kinds.{relation_kind};
 ghost use Rattle.lower_expr.specs.Lengths.{tested_length, used_length_of};
 ghost use Rattle.lower_expr.specs.Operands.{is_quiet};
 ghost use Rattle.lower_expr.specs.Steps.{has_truth, is_kept};
-ghost use Rattle.lower_expr.specs.Values.{arm_of, choice_of, condition_of, decided_by, jumped_over, limited_by, logical_by, narrowed_again, next_of, parallel_choice_of, parallel_logical_by, relation_by, scalar_choice_of, scalar_logical_by, tested, truth_of};
+ghost use Rattle.lower_expr.specs.Values.{arm_of, choice_of, condition_of, decided_by, joined_of, jumped_over, limited_by, logical_by, narrowed_again, narrowing_by, next_of, parallel_choice_of, parallel_logical_by, relation_by, scalar_choice_of, scalar_logical_by, tested, truth_of};
 
 use crate::conversions::{operand, right_operand, spread_to};
+use crate::joined::{is_flag, join, joins, keep_test};
 use crate::kinds::{relation_bits, test_bits};
 use crate::length::{arm_length, test_length, used_length};
 use crate::logical::{decide, end_logical, jump_to_end, limit, narrow, turn_over};
@@ -30,7 +33,7 @@ use paris_code::{Field, Instr, Konst, Unit};
 
 /// `||`, or else `&&`.
 #[cycle(value)]
-#[tactic(auto, unfolding(crate::specs::Values::logical_by, crate::specs::Values::condition_by))]
+#[tactic(auto, unfolding(crate::specs::Values::logical_by, crate::specs::Values::condition_by, lower_base::specs::Drafts::then_make))]
 pub fn logical(
     view: &View,
     is_or: bool,
@@ -44,7 +47,10 @@ pub fn logical(
 {
     match shape {
         None => scalar_logical(view, is_or, left, right, u),
-        Some(set) => parallel_logical(view, is_or, bits, left, right, set, u),
+        Some(set) => {
+            let dest = field(u, set, bits)?;
+            parallel_logical(view, is_or, left, right, dest, u)
+        }
     }
 }
 
@@ -135,22 +141,72 @@ fn test_relation(view: &View, set: u16, binary: &Binary, u: &mut Unit) -> Result
     }
 }
 
-/// `||`, or else `&&`, with a parallel operand. The result begins as what a decided left operand gives.
+/// `||`, or else `&&`, with a parallel operand.
 #[cycle(value)]
-#[tactic(auto, unfolding(crate::specs::Values::parallel_logical_by, crate::specs::Values::condition_by, lower_base::specs::Drafts::then_make))]
+#[tactic(auto, unfolding(crate::specs::Values::parallel_logical_by, crate::specs::Values::joined_of, crate::specs::Values::condition_by, lower_base::specs::Drafts::then_make))]
 fn parallel_logical(
     view: &View,
     is_or: bool,
-    bits: u8,
     left: &TExpr,
     right: &TExpr,
-    set: u16,
+    dest: Field,
     u: &mut Unit,
 ) -> Result<Out, Memory>
-    ensures draft { IfOk result (λ out. parallel_logical_by is_or set bits (condition_of view.now.typed.now (layout view.now.names) left.now) (condition_of view.now.typed.now (layout view.now.names) right.now) (draft u.old) ≡ Makes out (draft u.new)) }
+    ensures draft { IfOk result (λ out. parallel_logical_by is_or dest (condition_of view.now.typed.now (layout view.now.names) left.now) (condition_of view.now.typed.now (layout view.now.names) right.now) (draft u.old) ≡ Makes out (draft u.new)) }
 {
-    let dest = field(u, set, bits)?;
-    let saved = flag(u, set)?;
+    if joins(left, right) {
+        join_to(view, is_or, left, right, dest, u)?;
+        Ok(Out::Field(dest))
+    } else {
+        decide_or_narrow(view, is_or, left, right, dest, u)
+    }
+}
+
+/// `||`, or else `&&`, of two fields of one bit becomes the value of a field.
+#[cycle(value)]
+#[tactic(auto, unfolding(crate::specs::Values::joined_of, crate::specs::Values::joined_by, crate::specs::Values::flag_of, crate::specs::Values::condition_by, lower_base::specs::Drafts::then_make))]
+pub fn join_to(
+    view: &View,
+    is_or: bool,
+    left: &TExpr,
+    right: &TExpr,
+    dest: Field,
+    u: &mut Unit,
+) -> Result<(), Memory>
+    ensures draft { OnOk result (joined_of view.now.typed.now (layout view.now.names) is_or dest left.now right.now (draft u.old) ≡ Makes (O.Field dest) (draft u.new)) }
+{
+    let a = flag_operand(view, left, dest.set, u)?;
+    let b = flag_operand(view, right, dest.set, u)?;
+    join(is_or, dest, a, b, u)
+}
+
+/// An operand of `&&` or `||` as a field of one bit: its value, if that has one, and else its test.
+#[cycle(value)]
+#[tactic(auto, unfolding(crate::specs::Joined::flag_by, lower_base::specs::Drafts::then_make, lower_base::specs::Drafts::in_field))]
+fn flag_operand(view: &View, e: &TExpr, set: u16, u: &mut Unit) -> Result<Field, Memory>
+    ensures draft { IfOk result (λ f. flag_by (is_flag e.now) set (next_of view.now.typed.now (layout view.now.names) (bits_of (kind_of e.now)) true e.now) (tested view.now.typed.now (layout view.now.names) e.now) (draft u.old) ≡ Makes f (draft u.new)) }
+{
+    if is_flag(e) {
+        return operand(view, test_bits(e), true, e, u)?.field();
+    }
+    test(view, e, u)?;
+    keep_test(set, u)
+}
+
+/// The result of `||`, or else `&&`, begins as what a decided left operand gives.
+#[cycle(value)]
+#[tactic(auto, unfolding(crate::specs::Values::narrowing_by, crate::specs::Values::condition_by, lower_base::specs::Drafts::then_make))]
+fn decide_or_narrow(
+    view: &View,
+    is_or: bool,
+    left: &TExpr,
+    right: &TExpr,
+    dest: Field,
+    u: &mut Unit,
+) -> Result<Out, Memory>
+    ensures draft { IfOk result (λ out. narrowing_by is_or dest (condition_of view.now.typed.now (layout view.now.names) left.now) (condition_of view.now.typed.now (layout view.now.names) right.now) (draft u.old) ≡ Makes out (draft u.new)) }
+{
+    let saved = flag(u, dest.set)?;
     let value = Konst::Imm(u32::from(is_or));
     put(u, Instr::MoveConstant { dest, value })?;
     if stays_scalar(left) {

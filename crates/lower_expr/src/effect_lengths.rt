@@ -4,11 +4,12 @@
 ghost use Rattle.std.specs.Prelude.{◌≡◌, ◌+◌, true, is_none, IfOk};
 ghost use Rattle.cstar_tree.specs.Typed.{type_of};
 ghost use Rattle.lower_base.specs.Layouts.{layout};
-ghost use Rattle.lower_expr.specs.Effects.{assigned_length, assignment_length, computed_length, converted_to_length, effect_length_of, length_unchanged, operated_length, own_bits, put_length, settled_length, stepped_length};
+ghost use Rattle.lower_expr.specs.Effects.{assigned_length, assignment_length, computed_length, converted_to_length, effect_length_of, length_unchanged, logical_to_length, operated_length, own_bits, put_length, settled_length, stepped_length};
 ghost use Rattle.lower_expr.specs.Lengths.{used_length_of};
 
-use crate::effects::{assigned_own, fits_field, stepped_own};
-use crate::length::{length, test_length, used_length};
+use crate::effects::{assigned_own, fits_field, keeps_bits, stepped_own};
+use crate::joined::joins;
+use crate::length::{joined_length, length, test_length, used_length};
 use crate::operands::{Own, is_plus};
 use crate::operator_lengths::{operate_length, right_length, test_put_length};
 use crate::steps::{has_word, stays_scalar};
@@ -133,7 +134,7 @@ fn computed_length(view: &View, scalar: bool, bits: u8, e: &TExpr) -> Result<u32
     match e {
         TExpr::Brackets { inner, .. } => computed_length(view, scalar, bits, inner),
         TExpr::Convert { ty, operand } => {
-            if goes_unchanged(scalar, bits, ty.elem) {
+            if goes_unchanged(scalar, bits, ty.elem, operand) {
                 computed_length(view, scalar, bits, operand)
             } else {
                 converted_length(view, scalar, bits, e, ty.elem, operand)
@@ -152,6 +153,9 @@ fn computed_length(view: &View, scalar: bool, bits: u8, e: &TExpr) -> Result<u32
             } else {
                 moved_length(view, bits, e)
             }
+        }
+        TExpr::LogicalOr { left, right, .. } | TExpr::LogicalAnd { left, right, .. } => {
+            logical_to_length(view, scalar, bits, e, left, right)
         }
         TExpr::Scan { .. } => {
             if bits == 32 {
@@ -175,6 +179,25 @@ fn computed_length(view: &View, scalar: bool, bits: u8, e: &TExpr) -> Result<u32
     }
 }
 
+/// `&&` or `||`, the value `e`.
+#[tactic(auto, unfolding(crate::specs::Effects::logical_to_length))]
+fn logical_to_length(
+    view: &View,
+    scalar: bool,
+    bits: u8,
+    e: &TExpr,
+    left: &TExpr,
+    right: &TExpr,
+) -> Result<u32, Memory>
+    ensures { IfOk result (λ n. n ≡ logical_to_length view.now.typed.now (layout view.now.names) scalar bits e.now left.now right.now) }
+{
+    if !scalar && joins(left, right) {
+        joined_length(view, bits, left, right)
+    } else {
+        moved_length(view, bits, e)
+    }
+}
+
 /// A value that is moved.
 fn moved_length(view: &View, bits: u8, e: &TExpr) -> Result<u32, Memory>
     ensures { IfOk result (λ n. n ≡ used_length_of view.now.typed.now (layout view.now.names) bits true e.now + 1) }
@@ -184,13 +207,13 @@ fn moved_length(view: &View, bits: u8, e: &TExpr) -> Result<u32, Memory>
 
 /// Whether so many bits of a converted value are those of the value itself.
 #[tactic(auto, unfolding(crate::specs::Effects::length_unchanged))]
-fn goes_unchanged(scalar: bool, bits: u8, elem: Elem) -> bool
-    ensures { result ≡ length_unchanged scalar bits elem }
+fn goes_unchanged(scalar: bool, bits: u8, elem: Elem, inner: &TExpr) -> bool
+    ensures { result ≡ length_unchanged scalar bits elem inner.now }
 {
     if scalar {
         elem.bits == 32
     } else {
-        bits <= elem.bits && elem.bits != 1
+        keeps_bits(bits, elem, inner)
     }
 }
 

@@ -5,12 +5,13 @@ ghost use Rattle.std.specs.Prelude.{◌≡◌, IfOk, OnOk};
 ghost use Rattle.lower_base.specs.declared.emit.Out.TheVariants as O;
 ghost use Rattle.lower_base.specs.Drafts.{Makes, draft, out_of};
 ghost use Rattle.lower_base.specs.Layouts.{layout};
-ghost use Rattle.lower_expr.specs.Effects.{assigned_own, assignment_effect, binary_to, bits_for, cast_to, computed_to, converted_to, effect_of, field_binary_to, field_operated, fits_field, folds, goes_unchanged, moved, put_to, register_converted, register_operated, stepped_own, variable_assigned, variable_operated, variable_stepped, whole_of, with_settled, writes_itself, written_register};
+ghost use Rattle.lower_expr.specs.Effects.{assigned_own, assignment_effect, binary_to, bits_for, cast_to, computed_to, converted_to, effect_of, field_binary_to, field_operated, fits_field, folds, goes_unchanged, keeps_bits, logical_to, moved, put_to, register_converted, register_operated, stepped_own, variable_assigned, variable_operated, variable_stepped, whole_of, with_settled, writes_itself, written_register};
 ghost use Rattle.lower_expr.specs.Values.{step_operation, value_of};
 
 use crate::assign::step_operation;
-use crate::conditions::{scalar_choice, test};
+use crate::conditions::{join_to, scalar_choice, test};
 use crate::conversions::{operand, right_operand};
+use crate::joined::{is_flag, joins};
 use crate::kinds::{operation_bits, reduced_bits, unary_bits, works_within};
 use crate::operands::{Own, is_plus, own_of, standing};
 use crate::parts::{Assignment, Binary, Choice, Operator};
@@ -173,7 +174,7 @@ fn compute_to(view: &View, dest: Operand, e: &TExpr, u: &mut Unit) -> Result<(),
     match e {
         TExpr::Brackets { inner, .. } => compute_to(view, dest, inner, u),
         TExpr::Convert { ty, operand } => {
-            if goes_unchanged(dest, ty.elem) {
+            if goes_unchanged(dest, ty.elem, operand) {
                 return compute_to(view, dest, operand, u);
             }
             convert_to(view, dest, e, ty.elem, operand, u)
@@ -205,6 +206,8 @@ fn compute_to(view: &View, dest: Operand, e: &TExpr, u: &mut Unit) -> Result<(),
             };
             binary_to(view, dest, e, &binary, u)
         }
+        TExpr::LogicalOr { left, right, .. } => logical_to(view, dest, e, true, left, right, u),
+        TExpr::LogicalAnd { left, right, .. } => logical_to(view, dest, e, false, left, right, u),
         TExpr::Pcoord { axis, .. } => {
             let field = dest.field()?;
             put(
@@ -264,6 +267,28 @@ fn compute_to(view: &View, dest: Operand, e: &TExpr, u: &mut Unit) -> Result<(),
     }
 }
 
+/// `||`, or else `&&`, the value `e`, whose result goes to a register or a field: by its operation
+/// where it is one of two fields of one bit.
+#[tactic(auto, unfolding(crate::specs::Effects::logical_to))]
+fn logical_to(
+    view: &View,
+    dest: Operand,
+    e: &TExpr,
+    is_or: bool,
+    left: &TExpr,
+    right: &TExpr,
+    u: &mut Unit,
+) -> Result<(), Memory>
+    ensures draft { OnOk result (logical_to view.now.typed.now (layout view.now.names) (out_of dest) e.now is_or left.now right.now (draft u.old) ≡ Makes (out_of dest) (draft u.new)) }
+{
+    match dest {
+        Operand::Field(field) if joins(left, right) => {
+            join_to(view, is_or, left, right, field, u)
+        }
+        _ => move_to(view, dest, e, u),
+    }
+}
+
 /// How many bits of a value go to a register or a field.
 #[tactic(auto, unfolding(crate::specs::Effects::bits_for))]
 fn bits_for(dest: Operand) -> u8
@@ -277,13 +302,22 @@ fn bits_for(dest: Operand) -> u8
 
 /// Whether what goes there of a converted value is that of the value itself.
 #[tactic(auto, unfolding(crate::specs::Effects::goes_unchanged))]
-fn goes_unchanged(dest: Operand, elem: Elem) -> bool
-    ensures { result ≡ goes_unchanged (out_of dest) elem }
+fn goes_unchanged(dest: Operand, elem: Elem, inner: &TExpr) -> bool
+    ensures { result ≡ goes_unchanged (out_of dest) elem inner.now }
 {
     match dest {
         Operand::Register(_) => elem.bits == 32,
-        Operand::Field(field) => field.len <= elem.bits && elem.bits != 1,
+        Operand::Field(field) => keeps_bits(field.len, elem, inner),
     }
+}
+
+/// Whether so many bits of a converted value are those of the value itself: a value of one bit is a
+/// truth value already.
+#[tactic(auto, unfolding(crate::specs::Effects::keeps_bits))]
+pub fn keeps_bits(bits: u8, elem: Elem, inner: &TExpr) -> bool
+    ensures { result ≡ keeps_bits bits elem inner.now }
+{
+    bits <= elem.bits && (elem.bits != 1 || is_flag(inner))
 }
 
 /// A value moved to a register or a field.

@@ -4,11 +4,13 @@
 ghost use Rattle.std.specs.Prelude.{◌≡◌, true, false, IfOk};
 ghost use Rattle.lower_base.specs.Kinds.{bits_of, kind_of};
 ghost use Rattle.lower_base.specs.Layouts.{layout};
-ghost use Rattle.lower_expr.specs.Lengths.{arm_length_of, cast_length, tested_length, truth_length_of, used_length_of, logical_length, located_length, length_of, spot_length_of, lengths_in};
+ghost use Rattle.lower_expr.specs.Joined.{flag_length};
+ghost use Rattle.lower_expr.specs.Lengths.{arm_length_of, cast_length, joined_length_of, tested_length, truth_length_of, used_length_of, logical_length, located_length, length_of, spot_length_of, lengths_in};
 ghost use Rattle.lower_expr.specs.Operands.{all_quiet};
 ghost use Rattle.lower_expr.specs.Steps.{has_truth, is_kept};
 
 use crate::assign::is_send;
+use crate::joined::{is_flag, joins};
 use crate::kinds::{
     assigned_bits, list_bits, operand_bits, reduced_bits, relation_bits, test_bits, unary_bits,
 };
@@ -194,9 +196,9 @@ fn cast_length(view: &View, bits: u8, elem: Elem, e: &TExpr) -> Result<u32, Memo
     }
 }
 
-/// `&&` or `||`: a scalar operand by its value, a parallel one by its test.
+/// `&&` or `||`: a scalar operand by its value, a parallel one by its test or as a field of one bit.
 #[cycle(length)]
-#[tactic(auto, unfolding(crate::specs::Lengths::logical_length, crate::specs::Lengths::tested_length))]
+#[tactic(auto, unfolding(crate::specs::Lengths::logical_length, crate::specs::Lengths::parallel_logical_length, crate::specs::Lengths::joined_length_of, crate::specs::Lengths::tested_length))]
 fn logical_length(
     view: &View,
     scalar: bool,
@@ -204,12 +206,14 @@ fn logical_length(
     left: &TExpr,
     right: &TExpr,
 ) -> Result<u32, Memory>
-    ensures { IfOk result (λ n. n ≡ logical_length scalar bits (is_kept left.now) (is_kept right.now) (used_length_of view.now.typed.now (layout view.now.names) (bits_of (kind_of left.now)) true left.now) (used_length_of view.now.typed.now (layout view.now.names) (bits_of (kind_of right.now)) true right.now) (tested_length view.now.typed.now (layout view.now.names) left.now) (tested_length view.now.typed.now (layout view.now.names) right.now)) }
+    ensures { IfOk result (λ n. n ≡ logical_length scalar bits left.now right.now (used_length_of view.now.typed.now (layout view.now.names) (bits_of (kind_of left.now)) true left.now) (used_length_of view.now.typed.now (layout view.now.names) (bits_of (kind_of right.now)) true right.now) (tested_length view.now.typed.now (layout view.now.names) left.now) (tested_length view.now.typed.now (layout view.now.names) right.now)) }
 {
     if scalar {
         let first = used_length(view, test_bits(left), true, left)?;
         let second = used_length(view, test_bits(right), true, right)?;
         plus(plus(first, second)?, 4)
+    } else if joins(left, right) {
+        joined_length(view, bits, left, right)
     } else if stays_scalar(left) {
         let first = used_length(view, test_bits(left), true, left)?;
         let own = plus(2, test_put_length(bits))?;
@@ -221,6 +225,30 @@ fn logical_length(
             test_length(view, right)?
         };
         plus(plus(test_length(view, left)?, second)?, 6)
+    }
+}
+
+/// `&&` or `||` of two fields of one bit.
+#[cycle(length)]
+#[tactic(auto, unfolding(crate::specs::Lengths::joined_length_of, crate::specs::Lengths::joined_length))]
+pub fn joined_length(view: &View, bits: u8, left: &TExpr, right: &TExpr) -> Result<u32, Memory>
+    ensures { IfOk result (λ n. n ≡ joined_length_of view.now.typed.now (layout view.now.names) bits left.now right.now) }
+{
+    let first = flag_length(view, left)?;
+    let second = flag_length(view, right)?;
+    plus(plus(first, second)?, test_put_length(bits))
+}
+
+/// An operand of `&&` or `||` as a field of one bit.
+#[cycle(length)]
+#[tactic(auto, unfolding(crate::specs::Joined::flag_length))]
+fn flag_length(view: &View, e: &TExpr) -> Result<u32, Memory>
+    ensures { IfOk result (λ n. n ≡ flag_length (used_length_of view.now.typed.now (layout view.now.names) (bits_of (kind_of e.now)) true e.now) (tested_length view.now.typed.now (layout view.now.names) e.now) e.now) }
+{
+    if is_flag(e) {
+        used_length(view, test_bits(e), true, e)
+    } else {
+        plus(test_length(view, e)?, 1)
     }
 }
 

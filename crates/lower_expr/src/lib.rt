@@ -8,6 +8,7 @@ pub mod conversions;
 pub mod effect_lengths;
 pub mod effects;
 mod frames;
+pub mod joined;
 mod kinds;
 mod leaves;
 pub mod length;

@@ -4,13 +4,14 @@
 ghost use Rattle.std.specs.Prelude.{◌≡◌, IfOk};
 ghost use Rattle.lower_base.specs.Drafts.{Makes, draft, out_of};
 ghost use Rattle.lower_base.specs.Layouts.{layout};
-ghost use Rattle.lower_expr.specs.Operands.{all_quiet, held, in_place, is_plus, is_quiet, own_of, standing};
+ghost use Rattle.lower_expr.specs.Operands.{all_quiet, held, ignores_context, in_place, is_plus, is_quiet, own_of, standing};
 
 use crate::kinds::is_unchanged;
 use crate::steps::{register_word, stays_scalar};
 use cstar_base::Memory;
 use cstar_tree::typed::{TExpr, UnaryOp, Variable};
 use lower_base::emit::first_bits;
+use lower_base::operators::divides;
 use lower_base::{Operand, View};
 use paris_code::Unit;
 
@@ -79,6 +80,44 @@ pub fn are_quiet(es: &[TExpr]) -> bool
         }
     }
     true
+}
+
+/// Whether the expression has the same value under every context, with nothing changed and no fault.
+#[tactic(auto, unfolding(crate::specs::Operands::ignores_context))]
+pub fn ignores_context(e: &TExpr) -> bool
+    ensures { result ≡ ignores_context e.now }
+{
+    match e {
+        TExpr::Variable { .. }
+        | TExpr::Number { .. }
+        | TExpr::Dot { .. }
+        | TExpr::Pcoord { .. }
+        | TExpr::PositionsOf { .. }
+        | TExpr::RankOf { .. }
+        | TExpr::DimOf { .. } => true,
+        TExpr::Unary { operand, .. }
+        | TExpr::Casts { operand, .. }
+        | TExpr::ParallelCast { operand, .. }
+        | TExpr::Convert { operand, .. }
+        | TExpr::Promote { operand, .. }
+        | TExpr::Brackets { inner: operand, .. } => ignores_context(operand),
+        TExpr::Binary {
+            op,
+            left,
+            right,
+            ..
+        } => !divides(*op) && ignores_context(left) && ignores_context(right),
+        TExpr::LogicalOr { left, right, .. } | TExpr::LogicalAnd { left, right, .. } => {
+            ignores_context(left) && ignores_context(right)
+        }
+        TExpr::Choice {
+            test,
+            then,
+            otherwise,
+            ..
+        } => ignores_context(test) && ignores_context(then) && ignores_context(otherwise),
+        _ => false,
+    }
 }
 
 /// The variable in whose own register or field the value stands: a scalar one, or a parallel one of

@@ -1,1 +1,2 @@
+mod Contexts
 mod Unchanged

@@ -36,7 +36,7 @@ abbrev Unchanging : State → Operand → Type 0
 Unchanging st code = (active : Active) → Leaves st (code active st)
 
 -- both halves of a condition
-both : (a b : Bool) → (a && b) ≡ true → (a ≡ true) × (b ≡ true)
+pub both : (a b : Bool) → (a && b) ≡ true → (a ≡ true) × (b ≡ true)
 both true b h = (refl, h)
 both false b h = cc
 

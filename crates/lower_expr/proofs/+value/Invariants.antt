@@ -54,10 +54,19 @@ abbrev pub decreases-conditions::scalar_logical : goal.decreases-conditions::sca
 decreases-conditions::scalar_logical l = 16 * max (size-TExpr l.left.now) (size-TExpr l.right.now) + 7
 
 abbrev pub decreases-conditions::parallel_logical : goal.decreases-conditions::parallel_logical
-decreases-conditions::parallel_logical l = 16 * max (size-TExpr l.left.now) (size-TExpr l.right.now) + 7
+decreases-conditions::parallel_logical l = 16 * max (size-TExpr l.left.now) (size-TExpr l.right.now) + 8
+
+abbrev pub decreases-conditions::flag_operand : goal.decreases-conditions::flag_operand
+decreases-conditions::flag_operand l = 16 * size-TExpr l.e.now + 6
+
+abbrev pub decreases-conditions::join_to : goal.decreases-conditions::join_to
+decreases-conditions::join_to l = 16 * max (size-TExpr l.left.now) (size-TExpr l.right.now) + 7
+
+abbrev pub decreases-conditions::decide_or_narrow : goal.decreases-conditions::decide_or_narrow
+decreases-conditions::decide_or_narrow l = 16 * max (size-TExpr l.left.now) (size-TExpr l.right.now) + 7
 
 abbrev pub decreases-conditions::logical : goal.decreases-conditions::logical
-decreases-conditions::logical l = 16 * max (size-TExpr l.left.now) (size-TExpr l.right.now) + 8
+decreases-conditions::logical l = 16 * max (size-TExpr l.left.now) (size-TExpr l.right.now) + 9
 
 abbrev pub decreases-conditions::scalar_choice : goal.decreases-conditions::scalar_choice
 decreases-conditions::scalar_choice l = 16 * max (size-TExpr l.choice.now.test.now) (max (size-TExpr l.choice.now.then.now) (size-TExpr l.choice.now.otherwise.now)) + 7

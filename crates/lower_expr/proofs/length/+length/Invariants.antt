@@ -28,8 +28,14 @@ decreases-test_length l = 16 * size-TExpr l.e.now + 2
 abbrev pub decreases-arm_length : goal.decreases-arm_length
 decreases-arm_length l = 16 * size-TExpr l.e.now + 2
 
+abbrev pub decreases-flag_length : goal.decreases-flag_length
+decreases-flag_length l = 16 * size-TExpr l.e.now + 3
+
+abbrev pub decreases-joined_length : goal.decreases-joined_length
+decreases-joined_length l = 16 * max (size-TExpr l.left.now) (size-TExpr l.right.now) + 4
+
 abbrev pub decreases-logical_length : goal.decreases-logical_length
-decreases-logical_length l = 16 * max (size-TExpr l.left.now) (size-TExpr l.right.now) + 3
+decreases-logical_length l = 16 * max (size-TExpr l.left.now) (size-TExpr l.right.now) + 5
 
 abbrev pub decreases-lengths : goal.decreases-lengths
 decreases-lengths l = 16 * goal.size-lengths l + 3
