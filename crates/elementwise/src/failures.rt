@@ -36,8 +36,8 @@ fn is_outside(extent: u32, number: i64) -> bool
     (number < 0) | (i64::from(extent) <= number)
 }
 
-/// 1 in the lanes in which the field's number is no coordinate of an axis with this extent. Where it
-/// is read signed, its top bit makes it 2 to the `len - 1` or more if it is taken unsigned, and below 0.
+/// 1 in the lanes in which the field's number is no coordinate of an axis with this extent. One that is
+/// below 0 is not below 2 to the `len - 1` where it is taken as unsigned.
 fn field_outside(planes: &[Plane], extent: u32, f: Field, signed: bool) -> u64x8
     requires len { (1 ≤ f.len) × (f.len ≤ 32) }
     requires within { f.offset + f.len ≤ length planes.now }

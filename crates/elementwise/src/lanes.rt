@@ -53,7 +53,7 @@ impl<'a> Readable for InBlock<'a> {
 
 /// What an elementwise instruction gives the lanes of block `k` that hold a position, one after
 /// another.
-fn lane_by_lane(
+fn words_by_lane(
     plans: &[SetPlan],
     block: &Block,
     instr: &Instr,
@@ -109,6 +109,6 @@ pub(crate) fn words_given(
             let extents = plan_of(plans, *grid).geometry.extents();
             addresses(block, extents, coordinates.as_slice(), args, all_lanes(0))
         }
-        _ => lane_by_lane(plans, block, instr, args, set, k),
+        _ => words_by_lane(plans, block, instr, args, set, k),
     }
 }

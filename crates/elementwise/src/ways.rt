@@ -17,7 +17,7 @@ use paris_code::{Compare, Coordinate, Field, Instr, Operation};
 use phase_elements::{konst, next};
 use phase_meaning::arith::mask;
 
-/// A kernel, a relation, a field whose bits are moved, or the meaning at each lane.
+/// A kernel, a relation, a field whose bits are moved, or what the instruction gives each lane.
 #[derive(Drop)]
 pub(crate) enum Way {
     Kernel(Kernel),

@@ -7,7 +7,7 @@ use block_store::Store;
 use combine_send::are_few;
 use cstar_base::Direction;
 use instruction_runs::Batch;
-use paris_code::{Instr, Konst, Operation, Reduction};
+use paris_code::{Field, Instr, Konst, Operation, Reduction};
 use phase_elements::checked_set;
 
 // How long a block keeps one worker, in nanoseconds.
@@ -24,8 +24,10 @@ const NEWS_NS: u32 = 13;
 const PRODUCT_NS: u32 = 1_400;
 /// A number of each position, one after the other.
 const LANES_NS: u32 = 4_000;
-/// A check of each position.
-const CHECK_NS: u32 = 10_000;
+/// The coordinates of all positions: they are counted, and put into planes.
+const COORDINATE_NS: u32 = 1_400;
+/// A check: the planes that it asks about are compared with a number.
+const CHECK_NS: u32 = 300;
 /// A get: numbers are lifted and fetched.
 const FETCH_NS: u32 = 10_000;
 /// A bit of each position in a reduction to the least or the greatest: the lanes that stay are told.
@@ -107,6 +109,15 @@ fn operation_with(op: Operation, set: u16, len: u8, constant: Konst) -> Pass {
     }
 }
 
+/// The pass of an address of so many coordinates: a single one is moved.
+fn address(dest: Field, coordinates: usize) -> Pass {
+    if coordinates == 1 {
+        planes(dest.set, dest.len)
+    } else {
+        lanes(dest.set, LANES_NS)
+    }
+}
+
 /// The pass of a reduction of a field of so many bits: sums and bitwise ones count the ones of each
 /// plane.
 fn reduction(combiner: Reduction, set: u16, len: u8) -> Pass {
@@ -153,9 +164,12 @@ fn pass_of(instr: &Instr) -> Option<Pass> {
             right,
             ..
         } => operation_with(*op, dest.set, dest.len, *right),
-        Instr::MyNewsCoordinate { dest, .. } | Instr::MakeAddress { dest, .. } => {
-            lanes(dest.set, LANES_NS)
-        }
+        Instr::MyNewsCoordinate { dest, .. } => lanes(dest.set, COORDINATE_NS),
+        Instr::MakeAddress {
+            dest,
+            coordinates,
+            ..
+        } => address(*dest, coordinates.len()),
         Instr::CheckTarget { .. } | Instr::CheckGrid { .. } | Instr::CheckDivisor { .. } => {
             lanes(checked_set(instr), CHECK_NS)
         }

@@ -3,7 +3,7 @@ use Rattle.std.specs.Prelude.{slice_index}
 use Rattle.paris_code.specs.Elementwise.{element, destination}
 use Rattle.block_store.specs.Stored.{shape_of_plan}
 use Rattle.elementwise.specs.Blocks.{block_memory}
-use Rattle.elementwise.proofs.lanes.lane_by_lane.Given as goal
+use Rattle.elementwise.proofs.lanes.words_by_lane.Given as goal
 
 -- the lanes so far have their words
 abbrev pub invariant-lanes : goal.invariant-lanes

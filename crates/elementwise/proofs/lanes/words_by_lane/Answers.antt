@@ -8,7 +8,7 @@ use Rattle.paris_code.specs.Shapes.{extents_at}
 use Rattle.block_store.specs.Stored.{shape_of_plan}
 use Rattle.elementwise.specs.Blocks.{block_memory}
 use Rattle.elementwise.proofs.Written.{one_word, range_is}
-use Rattle.elementwise.proofs.lanes.lane_by_lane.Goals as goal
+use Rattle.elementwise.proofs.lanes.words_by_lane.Goals as goal
 
 pub element-requires-clause-position : goal.element-requires-clause-position
 element-requires-clause-position c =
