@@ -18,8 +18,8 @@ use crate::steps::{
     test_value, unary, word_for,
 };
 use crate::value::{
-    binary_in_field, binary_in_register, call_to, join_to, message_to, operand, read_indexed_to, read_to,
-    right_operand, scalar_choice, test, value,
+    binary_in_field, binary_in_register, call_to, join_to, message_to, operand, read_indexed_to,
+    read_to, right_operand, scalar_choice, test, value,
 };
 use cstar_base::{Elem, Memory, Op};
 use cstar_tree::syntax::{AssignOp, StepOp};
