@@ -237,6 +237,7 @@ pub record Condition : Type 0 where
   pub test : Test
   pub tested_long : ℕ
 
+-- both operands as fields of one bit, which one operation joins
 unfoldable pub flag_of : ℕ → Condition → Draft → Made Field
 flag_of set c d = flag_by (is_flag c.operand) set c.code c.test d
 
@@ -244,6 +245,7 @@ unfoldable pub joined_by : Bool → Field → Condition → Condition → Draft 
 joined_by is_or dest left right d =
     then_make (flag_of dest.set left d) (λ f between. then_make (flag_of dest.set right between) (λ g after. joined is_or dest f g after))
 
+-- the left operand decides: by a jump, or by a narrower context
 unfoldable pub narrowing_by : Bool → Field → Condition → Condition → Draft → Made Out
 narrowing_by is_or dest left right d =
     then_make (a_flag dest.set d) (λ saved next.

@@ -41,17 +41,15 @@ pub fn keep_test(set: u16, u: &mut Unit) -> Result<Field, Memory>
 
 /// Two fields of one bit become the value of a field, by `||` or else `&&`.
 #[tactic(auto, unfolding(crate::specs::Joined::joined, crate::specs::Joined::operation_of))]
-pub fn join(
-    is_or: bool,
-    dest: Field,
-    left: Field,
-    right: Field,
-    u: &mut Unit,
-) -> Result<(), Memory>
+pub fn join(is_or: bool, dest: Field, left: Field, right: Field, u: &mut Unit) -> Result<(), Memory>
     ensures draft { OnOk result (joined is_or dest left right (draft u.old) ≡ Makes (O.Field dest) (draft u.new)) }
 {
     clear(dest, u)?;
-    let op = if is_or { Operation::Logior } else { Operation::Logand };
+    let op = if is_or {
+        Operation::Logior
+    } else {
+        Operation::Logand
+    };
     put(
         u,
         Instr::Operate {
