@@ -2,6 +2,8 @@
 """Measures kernels in C* against plain C loops, and against NumPy where it is there.
 
 Each kernel is one statement of C*, done round after round by the command as it compiles and runs it.
+The stencil stands there twice: with neighbours round the ends, and with neighbours that have to be in
+the grid, which is checked.
 One run prints three tables, or those that --tables names:
 
   large    one, two and four workers over 32,768 and 1,048,576 positions. A line has the least time of
@@ -63,6 +65,8 @@ class Kernel:
 WORDS = "int:G a, b, d;"
 START = "a = pcoord(0) * dimof(G, 1) + pcoord(1); b = a ^ 21845; a *= 40503;"
 SCATTERED = "t = (pcoord(0) * dimof(G, 1) + pcoord(1)) * 2654435769u;"
+INNER = """d = (pcoord(0) * 7919 + pcoord(1) * 104) & 65535;
+    inner = pcoord(0) > 0 && pcoord(0) < dimof(G, 0) - 1 && pcoord(1) > 0 && pcoord(1) < dimof(G, 1) - 1;"""
 KERNELS = {
     "chain": Kernel(WORDS, START, "where (a & 64) d = d + (a ^ b); else d -= b;"),
     "logic": Kernel(
@@ -77,9 +81,11 @@ KERNELS = {
         d = n == 3 || n == 4 && d;"""),
     "multiply": Kernel(WORDS, START, "where (a & 4096) d = d * a + b;"),
     "stencil": Kernel(
-        "int:G d; bool:G inner;",
-        """d = (pcoord(0) * 7919 + pcoord(1) * 104) & 65535;
-    inner = pcoord(0) > 0 && pcoord(0) < dimof(G, 0) - 1 && pcoord(1) > 0 && pcoord(1) < dimof(G, 1) - 1;""",
+        "int:G d; bool:G inner;", INNER,
+        """where (inner) d = ([(. - 1) %% dimof(G, 0)][.]d + [(. + 1) %% dimof(G, 0)][.]d
+            + [.][(. - 1) %% dimof(G, 1)]d + [.][(. + 1) %% dimof(G, 1)]d) / 4;"""),
+    "bordered": Kernel(
+        "int:G d; bool:G inner;", INNER,
         "where (inner) d = ([. - 1][.]d + [. + 1][.]d + [.][. - 1]d + [.][. + 1]d) / 4;"),
     "scan": Kernel(
         "int:L a, d;", "a = pcoord(0) * 40503; d = a;",
@@ -146,7 +152,7 @@ ONE_ROUND send(void) {
 
 int main(int count, char **words) {
     static const struct { const char *name; void (*round)(void); } kernels[] = {
-        {"chain", chain}, {"logic", logic}, {"life", life}, {"multiply", multiply}, {"stencil", stencil}, {"scan", scan}, {"send", send}};
+        {"chain", chain}, {"logic", logic}, {"life", life}, {"multiply", multiply}, {"stencil", stencil}, {"bordered", stencil}, {"scan", scan}, {"send", send}};
     uint32_t rounds = count > 2 ? (uint32_t)strtoul(words[2], 0, 10) : 0;
     for (unsigned k = 0; count > 2 && k < sizeof kernels / sizeof *kernels; k++) {
         if (strcmp(words[1], kernels[k].name)) continue;
@@ -200,6 +206,7 @@ def multiply():
 def stencil():
     s = grid[:-2, 1:-1] + grid[2:, 1:-1] + grid[1:-1, :-2] + grid[1:-1, 2:]
     grid[1:-1, 1:-1] = (s + ((s >> 31) & 3)) >> 2
+bordered = stencil
 def scan():
     global line
     line = np.cumsum(line ^ a, dtype=np.uint32)
@@ -210,7 +217,7 @@ began = time.perf_counter()
 for _ in range(rounds):
     globals()[name]()
 took = time.perf_counter() - began
-result = {"logic": lambda: bd, "life": lambda: world, "stencil": lambda: grid.astype(np.uint32), "scan": lambda: line, "send": lambda: target}.get(name, lambda: d)()
+result = {"logic": lambda: bd, "life": lambda: world, "stencil": lambda: grid.astype(np.uint32), "bordered": lambda: grid.astype(np.uint32), "scan": lambda: line, "send": lambda: target}.get(name, lambda: d)()
 print(int(result.sum(dtype=np.uint64)) % 2**32)
 print(took)
 """
