@@ -8,12 +8,11 @@ import argparse
 import os
 import shutil
 import subprocess
-import sys
 import tempfile
-import time
+
+from kernels import least
 
 TOP = os.path.dirname(os.path.dirname(os.path.abspath(__file__)))
-LIMIT = 120  # seconds that one run may take
 RUNS = 5
 ROUNDS = 20_000_000
 BYTES = 1 << 20
@@ -49,22 +48,6 @@ print(s)
 """
 
 
-def run(command, folder):
-    """The output and the wall clock time of a command that has to end well."""
-    began = time.perf_counter()
-    done = subprocess.run(command, cwd=folder, capture_output=True, text=True, timeout=LIMIT)
-    took = time.perf_counter() - began
-    if done.returncode != 0:
-        sys.exit(f"{' '.join(command)}: status {done.returncode}\n{done.stdout[:200]}{done.stderr[:200]}")
-    return done.stdout, took
-
-
-def least(command, folder):
-    """The output of a command, and its least time over several runs."""
-    done = [run(command, folder) for _ in range(RUNS)]
-    return done[0][0], min(took for _, took in done)
-
-
 def write(folder, name, text):
     with open(os.path.join(folder, name), "w", encoding="ascii") as out:
         out.write(text)
@@ -96,11 +79,11 @@ def scalar(binary, folder):
 
     def ours(rounds):
         write(folder, "loop.cs", LOOP % rounds)
-        return least([binary, "--turns", "4294967295", "loop.cs"], folder)
+        return least([binary, "--turns", "4294967295", "loop.cs"], folder, RUNS)
 
     def beside(other, command):
-        text, took = least([*command, str(ROUNDS)], folder)
-        took -= least([*command, "0"], folder)[1]
+        text, took = least([*command, str(ROUNDS)], folder, RUNS)
+        took -= least([*command, "0"], folder, RUNS)[1]
         show("scalar", whole - start, other, took, "" if text == wanted else f"   WRONG: {wanted.strip()} where it has {text.strip()}")
 
     (wanted, whole), (_, start) = ours(ROUNDS), ours(0)
@@ -117,8 +100,8 @@ def front(binary, folder):
     text = ordinary_text(BYTES)
     write(folder, "front.cs", text)
     write(folder, "front.c", text)
-    _, took = least([binary, "--mode", "check", "front.cs"], folder)
-    _, gcc = least(["gcc", "-fsyntax-only", "front.c"], folder)
+    _, took = least([binary, "--mode", "check", "front.cs"], folder, RUNS)
+    _, gcc = least(["gcc", "-fsyntax-only", "front.c"], folder, RUNS)
     show("front", took, "gcc -fsyntax-only", gcc, f", {len(text)} bytes")
 
 
