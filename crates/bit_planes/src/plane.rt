@@ -97,6 +97,9 @@ fn first_of_word(count: u32, word: u32) -> u64
 pub fn first_lanes(count: u32) -> u64x8
     ensures { (i : ℕ) → i < 512 → bit result i ≡ (if nat_lt i count then 1 else 0) }
 {
+    if count >= 512 {
+        return repeated(true);
+    }
     u64x8::from_array([
         first_of_word(count, 0),
         first_of_word(count, 1),

@@ -70,11 +70,7 @@ impl Bench {
     fn target(&self) -> Target
         ensures { (result.offset ≡ 64) × (result.len ≡ 32) }
     {
-        Target {
-            offset: RESULT,
-            len: 32,
-            lanes: self.block.plane(TAKING_PART),
-        }
+        Target::at(RESULT, 32, self.block.plane(TAKING_PART))
     }
 
     /// The first field as values, and back into the third.
@@ -100,11 +96,8 @@ impl Bench {
     fn add_product(&mut self, j: u8, len: u8)
         requires { (j < len) × (len ≤ 32) }
     {
-        let to = Target {
-            offset: RESULT + u32::from(j),
-            len: len - j,
-            lanes: self.block.plane(32 + u32::from(j)),
-        };
+        let lanes = self.block.plane(32 + u32::from(j));
+        let to = Target::at(RESULT + u32::from(j), len - j, lanes);
         let sum = Operand::Field(RESULT + u32::from(j));
         in_place::add(&mut self.block.planes, &to, &sum, &FIRST);
     }
@@ -113,11 +106,7 @@ impl Bench {
     fn multiply_planes(&mut self, len: u8)
         requires { (1 ≤ len) × (len ≤ 32) }
     {
-        let to = Target {
-            offset: RESULT,
-            len,
-            lanes: repeated(true),
-        };
+        let to = Target::at(RESULT, len, repeated(true));
         in_place::assign(&mut self.block.planes, &to, &Operand::Constant(0));
         for j in 0..len {
             self.add_product(j, len);

@@ -10,3 +10,7 @@ pub record Writes (at : ℕ) (value lanes : List ℕ) (old new : List Plane) : T
   pub written : (i : ℕ) → i < 512 → bit lanes i ≡ 1 → bit (plane_at new at) i ≡ bit value i
   pub kept : (i : ℕ) → i < 512 → bit lanes i ≡ 0 → bit (plane_at new at) i ≡ bit (plane_at old at) i
   pub others : (j : ℕ) → j ≢ at → plane_at new j ≡ plane_at old j
+
+-- every lane is 1
+abbrev pub HasAllLanes : List ℕ → Type 0
+HasAllLanes lanes = (i : ℕ) → i < 512 → bit lanes i ≡ 1

@@ -32,11 +32,7 @@ fn whole(len: u8) -> Target
     requires { (1 ≤ len) × (len ≤ 32) }
     ensures { IsWhole len result }
 {
-    Target {
-        offset: 0,
-        len,
-        lanes: repeated(true),
-    }
+    Target::at(0, len, repeated(true))
 }
 
 /// The column of the first `len` planes.

@@ -11,7 +11,7 @@ ghost use Rattle.lane_kernels.specs.Gates.{gate_of};
 
 use crate::compare::less;
 use crate::gates::{Gate, carry_bit, choose, sum_bit};
-use crate::target::{Operand, Target, write};
+use crate::target::{Operand, Target};
 use bit_planes::plane::{differ, opposite, repeated};
 use bit_planes::{Lanes, Plane, Rows};
 use std::simd::prelude::*;
@@ -31,7 +31,7 @@ fn ripple(planes: &mut [Plane], to: &Target, a: &Operand, b: &Operand, inverted:
         let y = differ(b.plane(planes, j), flip);
         let sum = sum_bit(x, y, carry);
         carry = carry_bit(x, y, carry);
-        write(planes, to.offset as usize + j, sum, to.lanes);
+        to.write(planes, j, sum);
     }
 }
 
@@ -74,7 +74,7 @@ fn bitwise(planes: &mut [Plane], to: &Target, a: &Operand, b: &Operand, gate: Ga
 {
     for j in 0..to.len as usize {
         let value = gate.through(a.plane(planes, j), b.plane(planes, j));
-        write(planes, to.offset as usize + j, value, to.lanes);
+        to.write(planes, j, value);
     }
 }
 
@@ -125,7 +125,7 @@ pub fn not(planes: &mut [Plane], to: &Target, a: &Operand)
 {
     for j in 0..to.len as usize {
         let value = opposite(a.plane(planes, j));
-        write(planes, to.offset as usize + j, value, to.lanes);
+        to.write(planes, j, value);
     }
 }
 
@@ -138,7 +138,7 @@ pub fn select(planes: &mut [Plane], to: &Target, first: u64x8, a: &Operand, b: &
 {
     for j in 0..to.len as usize {
         let value = choose(first, a.plane(planes, j), b.plane(planes, j));
-        write(planes, to.offset as usize + j, value, to.lanes);
+        to.write(planes, j, value);
     }
 }
 
@@ -202,7 +202,7 @@ fn from_bit(planes: &mut [Plane], to: &Target, offset: u32, len: u8, k: u32, uns
     let sign = above(planes, offset, len, unsigned);
     for j in 0..to.len as usize {
         let value = plane_or(planes, offset, len, j + k as usize, sign);
-        write(planes, to.offset as usize + j, value, to.lanes);
+        to.write(planes, j, value);
     }
 }
 
@@ -246,7 +246,7 @@ pub fn shift_left(planes: &mut [Plane], to: &Target, offset: u32, k: u32)
 {
     for j in (0..to.len as usize).rev() {
         let value = plane_before(planes, offset, j, k);
-        write(planes, to.offset as usize + j, value, to.lanes);
+        to.write(planes, j, value);
     }
 }
 
@@ -257,7 +257,7 @@ fn put_planes(planes: &mut [Plane], to: &Target, column: &[Plane])
     ensures { Becomes to.now (λ i. number column.now 0 to.now.len i) planes.old planes.new }
 {
     for j in 0..to.len as usize {
-        write(planes, to.offset as usize + j, column[j].bits, to.lanes);
+        to.write(planes, j, column[j].bits);
     }
 }
 

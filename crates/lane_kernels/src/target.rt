@@ -1,20 +1,36 @@
 //! Where kernels read and write.
-ghost use Rattle.std.specs.Prelude.{◌≡◌, ℕ, ◌<◌, ◌≤◌, ◌+◌, length};
+ghost use Rattle.std.specs.Prelude.{◌≡◌, ℕ, ◌<◌, ◌≤◌, ◌+◌, length, IsTrue};
 ghost use Rattle.bit_planes.specs.Bits.{bit};
-ghost use Rattle.lane_kernels.specs.Changes.{Writes};
+ghost use Rattle.lane_kernels.specs.Changes.{HasAllLanes, Writes};
 
 use crate::gates::choose;
 use bit_planes::Plane;
 use bit_planes::plane::repeated;
 use std::simd::prelude::*;
 
-/// Where a kernel puts its results: a field of the planes, and the lanes in which it is written.
+/// Where a kernel puts its results: a field of the planes, and the lanes in which it is written. Where
+/// all lanes are seen to be written, a plane is put down whole.
 #[derive(Drop)]
 pub struct Target {
     pub offset: u32,
     pub len: u8,
     pub lanes: u64x8,
+    all: bool,
     pub ghost in_range: { (1 ≤ len) × (len ≤ 32) },
+    ghost all_lanes: { IsTrue all → HasAllLanes lanes },
+}
+
+/// Whether every lane is 1.
+fn are_all(lanes: u64x8) -> bool
+    ensures { IsTrue result → HasAllLanes lanes }
+{
+    let words = lanes.to_array();
+    'words: for j in 0..8 {
+        if words[j] != u64::MAX {
+            return false;
+        }
+    }
+    true
 }
 
 impl Target {
@@ -25,7 +41,28 @@ impl Target {
         ensures len { result.len ≡ len }
         ensures lanes { result.lanes ≡ lanes }
     {
-        Target { offset, len, lanes }
+        // A single plane is written sooner than its lanes are looked at.
+        let all = len > 1 && are_all(lanes);
+        Target {
+            offset,
+            len,
+            lanes,
+            all,
+        }
+    }
+
+    /// Writes the plane of bit `j` of the field, in the target's lanes.
+    #[inline(always)]
+    pub fn write(&self, planes: &mut [Plane], j: usize, value: u64x8)
+        requires { self.now.offset + j < length planes.old }
+        ensures { Writes (self.now.offset + j) value self.now.lanes planes.old planes.new }
+    {
+        let at = self.offset as usize + j;
+        if self.all {
+            planes[at] = Plane { bits: value };
+        } else {
+            write(planes, at, value, self.lanes);
+        }
     }
 }
 

@@ -50,11 +50,7 @@ fn kernels_in_place(rt: HostRuntime) -> Result<(), Fail> {
     block.set_number(301, 0, 8, 200);
     // Row 301 takes no part.
     block.set_number(300, 24, 1, 1);
-    let to = Target {
-        offset: 0,
-        len: 8,
-        lanes: block.plane(24),
-    };
+    let to = Target::at(0, 8, block.plane(24));
     in_place::add(
         &mut block.planes,
         &to,
