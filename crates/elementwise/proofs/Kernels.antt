@@ -167,6 +167,22 @@ lanes_done shapes instr args k numbers run always extents bits to mask old new i
     (taken shapes k run (destination shapes instr) always extents bits mask old is ge be takes)
     (λ i b within. ap (λ j. numbers n j % 2 ^ n) (let e : i ≡ (512 * k + i) % 512 = omega (arith, b) in e) ∙ same (512 * k + i))
 
+-- a block in whose lanes nothing is written
+pub none_done : (shapes : List SetShape) (instr : Instr) (args : List ℕ) (k : ℕ) (run : Field) (always : Bool) (extents : List ℕ) (bits : ℕ) (mask : List ℕ) (old : List Plane)
+    → run ≡ destination shapes instr → always ≡ writes_always instr → extents ≡ extents_at shapes run.set → bits ≡ bits_at shapes run.set
+    → ((i : ℕ) → i < 512 → bit mask i ≡ 0) → TakesLanes extents k always (plane_at old bits) mask
+    → DoneInBlock shapes instr args k old old
+none_done shapes instr args k run always extents bits mask old is at ge be none takes =
+    given_lanes shapes instr args k always mask (λ i. element shapes instr args (block_memory old) (512 * k + i)) old old at
+    (record {
+      long = refl;
+      inside = λ j i ib on l h. absurd (omega (arith, on, none i ib));
+      kept = λ j i ib off. refl;
+      outside = λ j o. refl;
+    })
+    (taken shapes k run (destination shapes instr) always extents bits mask old is ge be takes)
+    (λ i b within. refl)
+
 bit_at_itself : (b : ℕ) → b < 2 → bit_at b 0 ≡ b
 bit_at_itself b h = omega arith
 

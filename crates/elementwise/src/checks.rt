@@ -27,7 +27,7 @@ use std::thread;
 use std::thread::Threads;
 
 /// The first lane in which a plane is 1; 512 where there is none.
-fn first_lane(plane: u64x8) -> u32
+pub(crate) fn first_lane(plane: u64x8) -> u32
     ensures before { (i : ℕ) → i < 512 → i < result → bit plane i ≡ 0 }
     ensures here { result < 512 → bit plane result ≡ 1 }
 {

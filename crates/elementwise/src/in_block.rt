@@ -16,6 +16,7 @@ ghost use Rattle.elementwise.specs.Moved.{moved_number, IsMovable};
 ghost use Rattle.elementwise.specs.Planar.{gives, kernel_number};
 ghost use Rattle.elementwise.specs.Ways.{IsWayOf};
 
+use crate::checks::first_lane;
 use crate::columns::all_lanes;
 use crate::lanes::words_given;
 use crate::moved::Moved;
@@ -156,7 +157,8 @@ fn put_plane(block: &mut Block, at: u32, lanes: u64x8, value: u64x8)
 }
 
 /// Does an elementwise instruction in block `k` of its set: by its kernel or moved field, where no
-/// plane is read after it is written, by its relation, and else by what it gives each lane.
+/// plane is read after it is written, by its relation, and else by what it gives each lane. Where it
+/// writes in no lane, nothing is to be done.
 pub(crate) fn do_in_block(
     plans: &[SetPlan],
     block: &mut Block,
@@ -176,6 +178,9 @@ pub(crate) fn do_in_block(
     ensures { DoneInBlock (map shape_of_plan plans.now) instr.now args.now k block.old.planes.items block.new.planes.items }
 {
     let lanes = taking_lanes(plan_of(plans, to.run.set), block, k, to.always);
+    if first_lane(lanes) == 512 {
+        return;
+    }
     let target = Target::at(to.run.offset, to.run.len, lanes);
     match way {
         Way::Kernel(kernel) => {
