@@ -268,6 +268,18 @@ join_sums s a b = omega arith
 add_cut : (s a b : ℕ) → a % 2 ^ 32 ≡ b % 2 ^ 32 → (s + a) % 2 ^ 32 ≡ (s + b) % 2 ^ 32
 add_cut s a b e = omega (arith, e)
 
+module _ (old : List Plane) (totals : List ℕ) (start : ℕ) (whole : (i : ℕ) → i < 512 → half totals i ≡ sum_from (held old) (row_start i) 32 % 2 ^ 32) where
+  -- the sum before 32 lanes is that of all numbers before them
+  pub groups_before : (n : ℕ) → n ≤ 16 → before_of totals start n ≡ (start + sum_from (held old) 0 (32 * n)) % 2 ^ 32
+  groups_before n most =
+      let f : ℕ → ℕ = held old in
+      let each : sum_from (λ g. half totals (32 * g)) 0 n ≡ sum_from (λ g. sum_from f (32 * g) 32 % 2 ^ 32) 0 n =
+      sum_same (λ g. half totals (32 * g)) (λ g. sum_from f (32 * g) 32 % 2 ^ 32) 0 n
+      (λ g b. whole (32 * (0 + g)) (omega (arith, b, most)) ∙ ap (λ k. sum_from f k 32 % 2 ^ 32) (let e : row_start (32 * (0 + g)) ≡ 32 * (0 + g) = omega arith in e)) in
+      let groups : sum_from (λ g. sum_from f (32 * g) 32 % 2 ^ 32) 0 n % 2 ^ 32 ≡ sum_from f 0 (32 * n) % 2 ^ 32 =
+      sum_cut (λ g. sum_from f (32 * g) 32) 0 n ∙ ap (λ s. s % 2 ^ 32) (sum_groups f n) in
+      ap (λ s. (start + s) % 2 ^ 32) each ∙ add_cut start (sum_from (λ g. sum_from f (32 * g) 32 % 2 ^ 32) 0 n) (sum_from f 0 (32 * n)) groups
+
 pub all_summed : (old new : List Plane) (inclusion : Inclusion) (totals before : List ℕ) (start : ℕ) → ((i : ℕ) → i < 512 → half totals i ≡ sum_from (held old) (row_start i) 32 % 2 ^ 32)
     → ((i : ℕ) → i < 512 → half before i ≡ before_of totals start (i / 32))
     → ((i : ℕ) → i < 512 → held new i ≡ (half before i + sum_from (held old) (row_start i) (i % 32 + owns inclusion)) % 2 ^ 32)
@@ -275,13 +287,7 @@ pub all_summed : (old new : List Plane) (inclusion : Inclusion) (totals before :
 all_summed old new inclusion totals before start whole earlier added i ib =
     let f : ℕ → ℕ = held old in
     let n : ℕ = i % 32 + owns inclusion in
-    let each : sum_from (λ g. half totals (32 * g)) 0 (i / 32) ≡ sum_from (λ g. sum_from f (32 * g) 32 % 2 ^ 32) 0 (i / 32) =
-    sum_same (λ g. half totals (32 * g)) (λ g. sum_from f (32 * g) 32 % 2 ^ 32) 0 (i / 32)
-    (λ g b. whole (32 * (0 + g)) (omega (arith, b, ib)) ∙ ap (λ k. sum_from f k 32 % 2 ^ 32) (let e : row_start (32 * (0 + g)) ≡ 32 * (0 + g) = omega arith in e)) in
-    let groups : sum_from (λ g. sum_from f (32 * g) 32 % 2 ^ 32) 0 (i / 32) % 2 ^ 32 ≡ sum_from f 0 (row_start i) % 2 ^ 32 =
-    sum_cut (λ g. sum_from f (32 * g) 32) 0 (i / 32) ∙ ap (λ s. s % 2 ^ 32) (sum_groups f (i / 32)) in
-    let start_is : before_of totals start (i / 32) ≡ (start + sum_from f 0 (row_start i)) % 2 ^ 32 =
-    ap (λ s. (start + s) % 2 ^ 32) each ∙ add_cut start (sum_from (λ g. sum_from f (32 * g) 32 % 2 ^ 32) 0 (i / 32)) (sum_from f 0 (row_start i)) groups in
+    let start_is : before_of totals start (i / 32) ≡ (start + sum_from f 0 (row_start i)) % 2 ^ 32 = groups_before old totals start whole (i / 32) (omega (arith, ib)) in
     added i ib ∙ ap (λ x. (x + sum_from f (row_start i) n) % 2 ^ 32) (earlier i ib ∙ start_is)
     ∙ join_sums start (sum_from f (row_start i) n) (sum_from f 0 (row_start i))
     ∙ ap (λ s. (start + s) % 2 ^ 32)
@@ -331,12 +337,16 @@ owns_few N.Inclusive = omega arith
 owns_few N.Exclusive = omega arith
 
 pub run_is_sum : (run : Run) (old new : List Plane) → run.combiner ≡ R.SAdd → ((i : ℕ) → i < 512 → bit run.cuts i ≡ 0) → run.start < 2 ^ 32
-    → ((i : ℕ) → i < 512 → held new i ≡ (run.start + sum_from (held old) 0 (i + owns run.inclusion)) % 2 ^ 32) → HasRun run old new
-run_is_sum run old new adds steady small is = record {
+    → ((i : ℕ) → i < 512 → held new i ≡ (run.start + sum_from (held old) 0 (i + owns run.inclusion)) % 2 ^ 32)
+    → (total : ℕ) → total ≡ (run.start + sum_from (held old) 0 512) % 2 ^ 32 → HasRun run old new total
+run_is_sum run old new adds steady small is total ends = record {
   words = held_list old;
   are = held_here old;
   given = λ i ib.
       is i ib
       ∙ ap (λ s. (run.start + s) % 2 ^ 32) (sym (sum_same (λ j. slice_index (held_list old) j) (held old) 0 (i + owns run.inclusion) (λ j b. held_here old (0 + j) (omega (arith, b, ib, owns_few run.inclusion)))))
       ∙ sym (word_is run (held_list old) i adds steady small);
+  ends =
+      ends ∙ ap (λ s. (run.start + s) % 2 ^ 32) (sym (sum_same (λ j. slice_index (held_list old) j) (held old) 0 512 (λ j b. held_here old (0 + j) (omega (arith, b)))))
+      ∙ sym (sum_to run (held_list old) 512 adds steady small);
 }

@@ -3,6 +3,7 @@ use Rattle.std.proofs.Common.{◌≡◌, ℕ, zero, suc, ◌+◌, ◌-◌, ◌*�
 use Rattle.std.specs.Prelude.{◌||◌, slice_index, IfSome}
 use Rattle.std.proofs.lemmas.Bool.{lt-ltb}
 use Rattle.std.proofs.lemmas.List.{get_or-map}
+use Rattle.vp_sets.specs.Blocks.{block_count}
 use Rattle.vp_sets.specs.Positions.{position_count, are_positive}
 use Rattle.vp_sets.proofs.PositionLaws.{extent_positive, count_positive, later_positive, geometry_parts}
 use Rattle.cstar_base.specs.declared.operators.Direction.{Direction}
@@ -24,7 +25,7 @@ use Rattle.phase_meaning.specs.Scans.{before_at}
 use Rattle.phase_meaning.proofs.Widths.{cut_cut}
 use Rattle.block_store.specs.declared.set.BlockSet.{BlockSet}
 use Rattle.block_store.specs.declared.set.Cell.{Cell}
-use Rattle.block_store.specs.Phases.{LanesWritten, WrittenInBlock}
+use Rattle.block_store.specs.Phases.{WrittenInBlock}
 use Rattle.block_store.specs.Planes.{planes_in, planes_at, block_bit}
 use Rattle.block_store.specs.Stored.{blocks_at, stored, words_in, AreWhole}
 use Rattle.block_store.proofs.AllBlocks.{in_block}
@@ -34,14 +35,14 @@ use Rattle.reduce_scan.specs.declared.lines.Lines.{Lines}
 use Rattle.reduce_scan.specs.declared.lines.Scan.{Scan}
 use Rattle.reduce_scan.specs.Along.{scan_of, scan_over, lines_of, ScanFits}
 use Rattle.reduce_scan.specs.Order.{ordered}
-use Rattle.reduce_scan.specs.Parts.{AreLines, CanScan, FieldsFit, FitsBelow, IsFolded, ordered_at, active_there, value_there, bit_there, cut_there, part_fold, part_begins, part_size, word_of_cell, starts}
+use Rattle.reduce_scan.specs.Parts.{AreLines, CanScan, FieldsFit, FitsBelow, IsFolded, ordered_at, active_there, value_there, bit_there, cut_there, part_fold, part_begins, part_size, fold_there, word_of_cell, starts}
 use Rattle.reduce_scan.specs.Running.{running, handed_on}
 use Rattle.reduce_scan.specs.WithinBlocks.{fold_in, scanned_in}
 use Rattle.reduce_scan.proofs.LineOrder.{cut_at, run_to, run_is}
 use Rattle.reduce_scan.proofs.Order.{count_split, position_below, straight}
 use Rattle.reduce_scan.proofs.Parts.{once, none, none_below}
 use Rattle.reduce_scan.proofs.Scans.{running_on, running_from, running_fits, running_same}
-use Rattle.reduce_scan.proofs.StraightLines.{fold_is}
+use Rattle.reduce_scan.proofs.StraightLines.{ScannedFrom, fold_is}
 
 -- facts of blocks, a scan and its lines hold of those that are the same
 pub moved : (P : List Block → Scan → Lines → Type 0) (b c : List Block) (s t : Scan) (l m : Lines) → b ≡ c → s ≡ t → l ≡ m → P b s l → P c t m
@@ -50,11 +51,6 @@ moved P b c s t l m e f g h = subst (λ (x : Lines). P c t x) g (subst (λ (x : 
 -- what the passes leave in the cells
 abbrev pub Folded : List Cell → List Block → Scan → Lines → Type 0
 Folded cells blocks scan lines = (k : ℕ) (none : Cell) → 512 * (k + 1) < lines.positions → k < length blocks → k < length cells → IsFolded blocks scan lines k (get_or cells k none).words
-
--- a block has been scanned from its start
-abbrev pub ScannedFrom : List Cell → Field → ℕ → List Plane → List Plane → List Block → Scan → Lines → Type 0
-ScannedFrom cells d k old new blocks scan lines =
-    LanesWritten d.offset d.len (plane_at old scan.context) (λ i. scanned_in old scan lines.extent k (word_of_cell cells k 0) i % 2 ^ d.len) old new
 
 module _ (shapes : List SetShape) (sets : List BlockSet) (whole : AreWhole shapes sets) (along : AxisScan) (fits : ScanFits shapes along) where
   abbrev pub blocks_here : List Block
@@ -99,6 +95,11 @@ module _ (shapes : List SetShape) (sets : List BlockSet) (whole : AreWhole shape
     planes = λ k none b. omega (arith, (whole.each along.source.set fits.0.0).planes k none b);
     fields = fields_fit;
   }
+
+  -- each block holds a position
+  pub full : (k : ℕ) → k < length blocks_here → 512 * k < count
+  unfolding block_count
+  full k b = omega (arith, b, (whole.each along.source.set fits.0.0).count)
 
   pub inside : (q : ℕ) → q < count → ordered (extents_at shapes along.source.set) (scan_of along) q < count
   inside q b =
@@ -179,16 +180,21 @@ module _ (shapes : List SetShape) (sets : List BlockSet) (whole : AreWhole shape
         (λ j. value_there blocks_here scan_here (ordered_at lines_here (512 * k + j))) (runs_to (512 * k)) 512 (run_fits (512 * k)) (λ j. value_below (ordered_at lines_here (512 * k + j))))
         ∙ part_is k 512 (omega arith) ∙ ap runs_to (let e : 512 * k + 512 ≡ 512 * suc k = omega arith in e)
 
-    -- a block that was scanned from its start, where each place is its position, is as the scan has it
-    pub straight_in_block : (d : Field) → d.set ≡ along.source.set → along.direction ≡ D.Upward → lines_here.apart ≡ 1 → (first second : List Cell) → Folded first blocks_here scan_here lines_here
-        → ((k : ℕ) → k < length blocks_here → word_of_cell second k 0 ≡ starts along.combiner first k) → length blocks_here ≤ length first
-        → (blocks : List Block) → blocks ≡ blocks_here → (k : ℕ) (e : Block) (new : List Plane) → k < length blocks
-        → ScannedFrom second d k (planes_in (get_or blocks k e)) new blocks scan_here lines_here
+    fold_there_is : (q : ℕ) → q < count → fold_there blocks_here scan_here lines_here q ≡ runs_to q
+    unfolding is_active field_number stored
+    fold_there_is q b =
+        let x : List ℕ = extents_at shapes along.source.set in
+        running_same along.combiner (λ j. cut_there blocks_here scan_here lines_here j) cuts (λ j. is_active shapes (stored sets w) along.source.set (ordered x (scan_of along) j))
+        (λ j. field_number (stored sets w) along.source (ordered x (scan_of along) j)) (none along.combiner) q (λ j h. cut_is (suc j) (omega arith))
+
+    -- a block that was scanned from the fold before it, where each place is its position, is as the scan has it
+    straight_from : (d : Field) → d.set ≡ along.source.set → along.direction ≡ D.Upward → lines_here.apart ≡ 1
+        → (blocks : List Block) → blocks ≡ blocks_here → (k : ℕ) (e : Block) (new : List Plane) → k < length blocks → (start : ℕ) → (512 * k < count → start ≡ runs_to (512 * k))
+        → ScannedFrom start d k (planes_in (get_or blocks k e)) new blocks scan_here lines_here
         → WrittenInBlock shapes (at_active shapes (stored sets w) d (λ p. scanned shapes (stored sets w) (scan_of along) p)) k (planes_in (get_or blocks k e)) new
     unfolding is_active scanned stored block_bit
-    straight_in_block d together up one first second folded begin much blocks same k e new b done =
+    straight_from d together up one blocks same k e new b start begin done =
         let old : List Plane = planes_in (get_or blocks k e) in
-        let start : ℕ = word_of_cell second k 0 in
         let here : old ≡ planes_at blocks_here k = sym (get_or-map planes_in blocks k e [] b) ∙ ap (λ bs. planes_at bs k) same in
         let near : (p : ℕ) → p / 512 ≡ k → old ≡ planes_at blocks_here (p / 512) = λ p h. here ∙ ap (planes_at blocks_here) (sym h) in
         let own : ℕ → ℕ → ℕ = λ v t. with_own along.inclusion (λ s. once along.combiner s v) t in
@@ -206,9 +212,27 @@ module _ (shapes : List SetShape) (sets : List BlockSet) (whole : AreWhole shape
         ap (λ ps. number ps along.source.offset along.source.len i) (near p h) ∙ field_there sets w along.source p in
         let total : fold_in old scan_here lines_here.extent k start i ≡ before_at shapes (stored sets w) (scan_of along) p =
         fold_is blocks_here scan_here lines_here up one k old here start i (omega arith) (omega (arith, at, low))
-        ∙ ap (λ s. part_fold blocks_here scan_here lines_here k s i) (begin k (omega (arith, b, ap length same)) ∙ starts_are first folded much k (omega (arith, at, low)))
+        ∙ ap (λ s. part_fold blocks_here scan_here lines_here k s i) (begin (omega (arith, at, low)))
         ∙ part_is k i (omega (arith, at, low)) ∙ ap runs_to at ∙ run_is shapes (stored sets w) (scan_of along) positive fits.2 inside p low
         ∙ ap (before_at shapes (stored sets w) (scan_of along)) (straight lines_here p up one) in
         cut_cut (scanned_in old scan_here lines_here.extent k start i) d.len d.len (omega arith)
         ∙ ap (λ v. own v (fold_in old scan_here lines_here.extent k start i) % 2 ^ d.len) value
         ∙ ap (λ t. own (field_number (stored sets w) along.source p) t % 2 ^ d.len) total)
+
+    -- the same from the starts that the cells hold
+    pub straight_in_block : (d : Field) → d.set ≡ along.source.set → along.direction ≡ D.Upward → lines_here.apart ≡ 1 → (first second : List Cell) → Folded first blocks_here scan_here lines_here
+        → ((k : ℕ) → k < length blocks_here → word_of_cell second k 0 ≡ starts along.combiner first k) → length blocks_here ≤ length first
+        → (blocks : List Block) → blocks ≡ blocks_here → (k : ℕ) (e : Block) (new : List Plane) → k < length blocks
+        → ScannedFrom (word_of_cell second k 0) d k (planes_in (get_or blocks k e)) new blocks scan_here lines_here
+        → WrittenInBlock shapes (at_active shapes (stored sets w) d (λ p. scanned shapes (stored sets w) (scan_of along) p)) k (planes_in (get_or blocks k e)) new
+    straight_in_block d together up one first second folded begin much blocks same k e new b done =
+        straight_from d together up one blocks same k e new b (word_of_cell second k 0)
+        (λ within. begin k (omega (arith, b, ap length same)) ∙ starts_are first folded much k within) done
+
+    -- the same in the blocks' order
+    pub in_order_in_block : (d : Field) → d.set ≡ along.source.set → along.direction ≡ D.Upward → lines_here.apart ≡ 1
+        → (blocks : List Block) → blocks ≡ blocks_here → (k : ℕ) (e : Block) (new : List Plane) → k < length blocks
+        → ScannedFrom (fold_there blocks_here scan_here lines_here (512 * k)) d k (planes_in (get_or blocks k e)) new blocks scan_here lines_here
+        → WrittenInBlock shapes (at_active shapes (stored sets w) d (λ p. scanned shapes (stored sets w) (scan_of along) p)) k (planes_in (get_or blocks k e)) new
+    in_order_in_block d together up one blocks same k e new b done =
+        straight_from d together up one blocks same k e new b (fold_there blocks_here scan_here lines_here (512 * k)) (λ within. fold_there_is (512 * k) within) done

@@ -1,7 +1,7 @@
 -- Where each place is its position, a part of a scan is a block.
-use Rattle.std.proofs.Common.{◌≡◌, ℕ, zero, suc, ◌+◌, ◌-◌, ◌*◌, ◌/◌, ◌%◌, ◌<◌, ◌≤◌, Bool, true, false, ◌&&◌, cond, eqb, List, Option, Some, None, inl, inr, refl, sym, ◌∙◌, ap, arith}
+use Rattle.std.proofs.Common.{◌≡◌, ℕ, zero, suc, ◌+◌, ◌-◌, ◌*◌, ◌/◌, ◌%◌, ◌^◌, ◌<◌, ◌≤◌, Bool, true, false, ◌&&◌, cond, eqb, List, Option, Some, None, inl, inr, refl, sym, ◌∙◌, ap, subst, arith}
 use Rattle.std.specs.Prelude.{◌||◌}
-use Rattle.std.proofs.lemmas.Bool.{cases_eq, lt-ltb, or_right}
+use Rattle.std.proofs.lemmas.Bool.{cases_eq, cases_Bool, lt-ltb, or_right}
 use Rattle.cstar_base.specs.declared.operators.SegmentMode.{SegmentMode}
 use Rattle.cstar_base.specs.declared.operators.SegmentMode.TheVariants as M
 use Rattle.cstar_base.specs.declared.operators.Direction.TheVariants as D
@@ -13,15 +13,17 @@ use Rattle.bit_planes.specs.Planes.{plane_at, number}
 use Rattle.paris_code.specs.declared.operands.Field.{Field}
 use Rattle.paris_code.specs.Memory.{run_number}
 use Rattle.paris_code.specs.Scanning.{parts}
+use Rattle.block_store.specs.Phases.{LanesWritten}
 use Rattle.block_store.specs.Planes.{planes_at, block_bit}
 use Rattle.block_store.proofs.Lanes.{run_is}
 use Rattle.reduce_scan.specs.declared.lines.Lines.{Lines}
 use Rattle.reduce_scan.specs.declared.lines.Scan.{Scan}
-use Rattle.reduce_scan.specs.Parts.{ordered_at, active_there, value_there, bit_there, begins_there, cut_there, part_fold, part_begins}
+use Rattle.reduce_scan.specs.Parts.{ordered_at, active_there, value_there, bit_there, begins_there, cut_there, part_fold, part_begins, fold_there}
 use Rattle.reduce_scan.specs.Running.{running}
-use Rattle.reduce_scan.specs.WithinBlocks.{active_in, value_in, bit_in, begins_in, cut_in, fold_in}
+use Rattle.reduce_scan.specs.WithinBlocks.{active_in, value_in, bit_in, begins_in, cut_in, fold_in, scanned_in, start_in}
 use Rattle.reduce_scan.proofs.Order.{straight}
 use Rattle.reduce_scan.proofs.Parts.{once, none}
+use Rattle.reduce_scan.proofs.Scans.{running_on}
 use Rattle.reduce_scan.proofs.WordRuns.{running_alike}
 
 -- upward, a segment begins by what its first position holds
@@ -36,6 +38,21 @@ any_alike f g zero same = refl
 any_alike f g (suc n) same =
     ap (λ t. t || f (1 + n)) (any_alike f g n (λ j b. same j (omega arith)))
     ∙ ap (λ t. any_of g 1 n || t) (ap f (let e : 1 + n ≡ suc n = omega arith in e) ∙ same n (omega arith) ∙ ap g (let e : suc n ≡ 1 + n = omega arith in e))
+
+-- a number is the fold before part k, where nothing begins there
+abbrev pub CarriedTo : List Block → Scan → Lines → ℕ → ℕ → Type 0
+CarriedTo blocks scan lines k before = 512 * k < lines.positions → cond (cut_there blocks scan lines (512 * k)) (none scan.combiner) before ≡ fold_there blocks scan lines (512 * k)
+
+-- block k has been scanned from a start
+abbrev pub ScannedFrom : ℕ → Field → ℕ → List Plane → List Plane → List Block → Scan → Lines → Type 0
+ScannedFrom start d k old new blocks scan lines =
+    LanesWritten d.offset d.len (plane_at old scan.context) (λ i. scanned_in old scan lines.extent k start i % 2 ^ d.len) old new
+
+pub scanned_same : (start begin : ℕ) (d : Field) (k : ℕ) (old was new is : List Plane) (blocks : List Block) (scan : Scan) (lines : Lines) → start ≡ begin → old ≡ was → new ≡ is
+    → ScannedFrom start d k old new blocks scan lines → ScannedFrom begin d k was is blocks scan lines
+scanned_same start begin d k old was new is blocks scan lines e f g done =
+    subst (λ (n : List Plane). ScannedFrom begin d k was n blocks scan lines) g
+    (subst (λ (o : List Plane). ScannedFrom begin d k o new blocks scan lines) f (subst (λ (s : ℕ). ScannedFrom s d k old new blocks scan lines) e done))
 
 module _ (blocks : List Block) (scan : Scan) (lines : Lines) (up : lines.direction ≡ D.Upward) (one : lines.apart ≡ 1) (k : ℕ) (planes : List Plane) (here : planes ≡ planes_at blocks k) where
   active_is : (i : ℕ) → i < 512 → active_there blocks scan (ordered_at lines (512 * k + i)) ≡ active_in planes scan i
@@ -79,6 +96,13 @@ module _ (blocks : List Block) (scan : Scan) (lines : Lines) (up : lines.directi
       ∙ ap (λ t. line || t) (begins_is (ordered_at lines (q - 1)) i b)
       ∙ sym (ap (λ t. t && (line || begins_in planes scan i)) (lt-ltb i 512 b))
 
+  -- the fold before the first lane of a block
+  pub start_is : 512 * k < lines.positions → (before : ℕ) → CarriedTo blocks scan lines k before → start_in planes scan lines.extent k before ≡ fold_there blocks scan lines (512 * k)
+  start_is within before carried =
+      ap (λ t. cond t (none scan.combiner) before)
+      (sym (cut_is 0 (omega arith) (omega (arith, within))) ∙ ap (cut_there blocks scan lines) (let e : 512 * k + 0 ≡ 512 * k = omega arith in e))
+      ∙ carried within
+
   alike : (start n : ℕ) → n ≤ 512 → ((j : ℕ) → j < n → cut_in planes scan lines.extent k (suc j) ≡ cut_there blocks scan lines (512 * k + suc j))
       → fold_in planes scan lines.extent k start n ≡ part_fold blocks scan lines k start n
   alike start n b same =
@@ -113,3 +137,28 @@ cut_tail blocks scan lines k start cut =
 pub cut_begins : (blocks : List Block) (scan : Scan) (lines : Lines) (k : ℕ) → cut_there blocks scan lines (512 * k + 512) ≡ true → part_begins blocks scan lines k 512 ≡ true
 unfolding any_of
 cut_begins blocks scan lines k cut = or_right (part_begins blocks scan lines k 511) (cut_there blocks scan lines (512 * k + 512)) cut
+
+-- the fold before the first part, and before the next one
+pub carried_first : (blocks : List Block) (scan : Scan) (lines : Lines) (before : ℕ) → before ≡ none scan.combiner → CarriedTo blocks scan lines 0 before
+unfolding running
+carried_first blocks scan lines before is within = ap (λ s. cond (cut_there blocks scan lines 0) (none scan.combiner) s) is ∙ either (cut_there blocks scan lines 0)
+  where
+    either : (t : Bool) → cond t (none scan.combiner) (none scan.combiner) ≡ none scan.combiner
+    either true = refl
+    either false = refl
+
+pub carried_on : (blocks : List Block) (scan : Scan) (lines : Lines) (up : lines.direction ≡ D.Upward) (one : lines.apart ≡ 1) (k : ℕ) (planes : List Plane) (here : planes ≡ planes_at blocks k)
+    (total : ℕ) → total ≡ fold_in planes scan lines.extent k (fold_there blocks scan lines (512 * k)) 512 → CarriedTo blocks scan lines (k + 1) total
+carried_on blocks scan lines up one k planes here total is more =
+    let c = scan.combiner in
+    let q : ℕ = 512 * k + 512 in
+    let start : ℕ = fold_there blocks scan lines (512 * k) in
+    let next : 512 * (k + 1) ≡ q = omega arith in
+    let part : part_fold blocks scan lines k start 512 ≡ fold_there blocks scan lines (512 * (k + 1)) =
+    sym (running_on c (λ j. cut_there blocks scan lines j) (λ j. active_there blocks scan (ordered_at lines j)) (λ j. value_there blocks scan (ordered_at lines j)) (none c) (512 * k) 512)
+    ∙ ap (fold_there blocks scan lines) (sym next) in
+    ap (λ p. cond (cut_there blocks scan lines p) (none c) total) next
+    ∙ elim (cases_Bool (cut_there blocks scan lines q)) [
+      | inl on ↦ ap (λ t. cond t (none c) total) on ∙ sym (cut_tail blocks scan lines k start on) ∙ part
+      | inr off ↦ ap (λ t. cond t (none c) total) off ∙ is ∙ whole_is blocks scan lines up one k planes here more off start ∙ part
+    ]

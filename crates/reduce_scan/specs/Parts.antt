@@ -71,6 +71,12 @@ part_fold blocks scan lines k start i =
     running scan.combiner (λ j. cut_there blocks scan lines (512 * k + j)) (λ j. active_there blocks scan (ordered_at lines (512 * k + j)))
     (λ j. value_there blocks scan (ordered_at lines (512 * k + j))) start i
 
+-- the fold before place q from the first place on
+abbrev pub fold_there : List Block → Scan → Lines → ℕ → ℕ
+fold_there blocks scan lines q =
+    running scan.combiner (λ j. cut_there blocks scan lines j) (λ j. active_there blocks scan (ordered_at lines j))
+    (λ j. value_there blocks scan (ordered_at lines j)) (identity_of (combiner_of scan.combiner).0 (combiner_of scan.combiner).1) q
+
 abbrev pub part_begins : List Block → Scan → Lines → ℕ → ℕ → Bool
 part_begins blocks scan lines k i = any_of (λ j. cut_there blocks scan lines (512 * k + j)) 1 i
 

@@ -5,7 +5,7 @@ use Rattle.cstar_base.specs.declared.operators.Inclusion.TheVariants as N
 use Rattle.bit_planes.specs.declared.plane.Plane.{Plane}
 use Rattle.bit_planes.specs.Rows.{held}
 use Rattle.reduce_scan.specs.declared.words.Run.{Run}
-use Rattle.reduce_scan.specs.WithinBlocks.{run_word}
+use Rattle.reduce_scan.specs.WithinBlocks.{run_to, run_word}
 
 -- the sum of so many numbers, from one on
 abbrev pub sum_from : (ℕ → ℕ) → ℕ → ℕ → ℕ
@@ -26,8 +26,9 @@ own_of N.Exclusive before behind = before
 abbrev pub row_start : ℕ → ℕ
 row_start i = 32 * (i / 32)
 
--- a run goes over the numbers of the old rows, and the new ones hold what it gives them
-pub record HasRun (run : Run) (old new : List Plane) : Type 0 where
+-- a run goes over the numbers of the old rows, the new ones hold what it gives them, and it ends with a total
+pub record HasRun (run : Run) (old new : List Plane) (total : ℕ) : Type 0 where
   pub words : List ℕ
   pub are : (i : ℕ) → i < 512 → slice_index words i ≡ held old i
   pub given : (i : ℕ) → i < 512 → held new i ≡ run_word run words i
+  pub ends : total ≡ run_to run words 512

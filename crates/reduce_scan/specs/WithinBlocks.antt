@@ -1,6 +1,6 @@
 -- A scan along lines on which each place is its position, by the planes of one block.
-use Rattle.std.specs.Prelude.{ℕ, ◌+◌, ◌*◌, ◌%◌, ◌==◌, ◌&&◌, ◌||◌, nat_lt, Bool, true, false, List, Option, Some, None, slice_index}
-use Rattle.cstar_base.specs.Folds.{fold_once}
+use Rattle.std.specs.Prelude.{ℕ, ◌+◌, ◌*◌, ◌%◌, ◌==◌, ◌&&◌, ◌||◌, nat_lt, Bool, true, false, List, Option, Some, None, slice_index, if◌then◌else◌}
+use Rattle.cstar_base.specs.Folds.{fold_once, identity_of}
 use Rattle.cstar_base.specs.declared.operators.Direction.TheVariants as D
 use Rattle.bit_planes.specs.declared.plane.Plane.{Plane}
 use Rattle.bit_planes.specs.Bits.{bit}
@@ -37,6 +37,10 @@ begins_in planes scan i = parts scan.mode D.Upward false (bit_in planes scan.bit
 
 abbrev pub cut_in : List Plane → Scan → ℕ → ℕ → ℕ → Bool
 cut_in planes scan extent k i = nat_lt i 512 && ((512 * k + i) % extent == 0 || begins_in planes scan i)
+
+-- the fold before the first lane of block k, from the one behind the block before it
+abbrev pub start_in : List Plane → Scan → ℕ → ℕ → ℕ → ℕ
+start_in planes scan extent k before = if cut_in planes scan extent k 0 then identity_of (combiner_of scan.combiner).0 (combiner_of scan.combiner).1 else before
 
 -- the fold before lane i of block k, from the one before its first lane, and the scan there
 abbrev pub fold_in : List Plane → Scan → ℕ → ℕ → ℕ → ℕ → ℕ

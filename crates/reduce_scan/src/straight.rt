@@ -5,19 +5,20 @@ ghost use Rattle.bit_planes.specs.Bits.{bit};
 ghost use Rattle.bit_planes.specs.Planes.{plane_at};
 ghost use Rattle.bit_planes.specs.Rows.{held};
 ghost use Rattle.cstar_base.specs.Folds.{identity_of};
+ghost use Rattle.cstar_base.specs.declared.operators.Direction.TheVariants as D;
 ghost use Rattle.cstar_base.specs.Orders.{any_of};
 ghost use Rattle.paris_code.specs.Operators.{combiner_of};
 ghost use Rattle.phase_meaning.specs.Apply.{looked_at};
 ghost use Rattle.block_store.specs.Phases.{LanesWritten};
 ghost use Rattle.block_store.specs.Planes.{HasPlanes};
 ghost use Rattle.bit_planes.specs.declared.block.Block.{Block};
-ghost use Rattle.reduce_scan.specs.Parts.{FieldsFit, FitsBelow, word_of_cell};
-ghost use Rattle.reduce_scan.specs.WithinBlocks.{begins_in, bit_in, cut_in, fold_in, scanned_in};
+ghost use Rattle.reduce_scan.specs.Parts.{CanScan, FieldsFit, FitsBelow, fold_there, word_of_cell};
+ghost use Rattle.reduce_scan.specs.WithinBlocks.{begins_in, bit_in, cut_in, fold_in, scanned_in, start_in};
 
 use crate::folds::FieldFold;
 use crate::lines::{LineScan, Scan};
 use crate::words::{Run, rows_or};
-use bit_planes::plane::{both, either, repeated, with_lane};
+use bit_planes::plane::{both, either, lane, repeated, with_lane};
 use bit_planes::{Block, Rows};
 use block_store::{BlockSet, Cell, Room};
 use cstar_base::numbers::identity;
@@ -121,16 +122,19 @@ fn put_rows(block: &mut Block, dest: Field, lanes: u64x8, rows: Rows)
     in_place::put(&mut block.planes, &to, &rows.column(dest.len));
 }
 
-/// Gives the active lanes of block `k` the scan, from the fold before its first lane.
-fn scan_block(block: &mut Block, k: u32, dest: Field, scan: &Scan, extent: u32, start: u32)
+/// Gives the active lanes of block `k` the scan, from the fold before its first lane, and gives the
+/// fold behind its last one.
+fn scan_block(block: &mut Block, k: u32, task: &LineScan, start: u32) -> u32
     requires block { k < 2 ^ 16 }
-    requires extent { 0 < extent }
-    requires dest { FitsBelow scan.now.context dest }
-    requires fields { FieldsFit scan.now }
-    requires planes { scan.now.context < length block.old.planes.items }
-    ensures { LanesWritten dest.offset dest.len (plane_at block.old.planes.items scan.now.context)
-        (λ i. scanned_in block.old.planes.items scan.now extent k start i % 2 ^ dest.len) block.old.planes.items block.new.planes.items }
+    requires extent { 0 < task.now.lines.extent }
+    requires dest { FitsBelow task.now.scan.context task.now.dest }
+    requires fields { FieldsFit task.now.scan }
+    requires planes { task.now.scan.context < length block.old.planes.items }
+    ensures written { LanesWritten task.now.dest.offset task.now.dest.len (plane_at block.old.planes.items task.now.scan.context)
+        (λ i. scanned_in block.old.planes.items task.now.scan task.now.lines.extent k start i % 2 ^ task.now.dest.len) block.old.planes.items block.new.planes.items }
+    ensures total { result ≡ fold_in block.old.planes.items task.now.scan task.now.lines.extent k start 512 }
 {
+    let scan = &task.scan;
     let (combine, unsigned) = scan.combiner.combiner();
     let none = identity(combine, unsigned);
     let mut rows = rows_or(block, scan.source.offset, scan.context, none);
@@ -138,11 +142,12 @@ fn scan_block(block: &mut Block, k: u32, dest: Field, scan: &Scan, extent: u32, 
         combiner: scan.combiner,
         inclusion: scan.inclusion,
         start,
-        cuts: inner_cuts(block, k, scan, extent),
+        cuts: inner_cuts(block, k, scan, task.lines.extent),
     };
-    run.over_rows(&mut rows);
+    let total = run.over_rows(&mut rows);
     let active = block.plane(scan.context);
-    put_rows(block, dest, active, rows);
+    put_rows(block, task.dest, active, rows);
+    total
 }
 
 /// The fold before the first lane of block `k`, as its cell holds it.
@@ -189,14 +194,75 @@ pub(crate) fn scan_blocks<R: Threads + Sync, G: Gate + Sync>(
                 block.entry.now.planes.items block.exit.now.planes.items }
         {
             gate.at(k as u32);
-            scan_block(
-                block,
-                k as u32,
-                task.dest,
-                &task.scan,
-                task.lines.extent,
-                start_of(cells, k),
-            );
+            scan_block(block, k as u32, task, start_of(cells, k));
         },
     );
+}
+
+/// Whether a line or a segment begins at the first lane of block `k`.
+fn begins_first(block: &Block, k: u32, scan: &Scan, extent: u32) -> bool
+    requires block { k < 2 ^ 16 }
+    requires extent { 0 < extent }
+    requires fields { FieldsFit scan.now }
+    requires planes { scan.now.context < length block.now.planes.items }
+    ensures { result ≡ cut_in block.now.planes.items scan.now extent k 0 }
+{
+    if k * 512 % extent == 0 {
+        return true;
+    }
+    lane(segment_starts(block, scan), 0) == 1
+}
+
+/// The fold before the first lane of block `k`, from the one behind the block before it.
+fn start_from(block: &Block, k: u32, scan: &Scan, extent: u32, before: u32) -> u32
+    requires block { k < 2 ^ 16 }
+    requires extent { 0 < extent }
+    requires fields { FieldsFit scan.now }
+    requires planes { scan.now.context < length block.now.planes.items }
+    ensures { result ≡ start_in block.now.planes.items scan.now extent k before }
+{
+    if begins_first(block, k, scan, extent) {
+        let (combine, unsigned) = scan.combiner.combiner();
+        return identity(combine, unsigned);
+    }
+    before
+}
+
+/// Gives the active lanes of block `k` the scan, from the fold behind the block before it, and gives
+/// the fold behind its own last lane.
+fn scan_next(block: &mut Block, k: u32, task: &LineScan, before: u32) -> u32
+    requires block { k < 2 ^ 16 }
+    requires extent { 0 < task.now.lines.extent }
+    requires dest { FitsBelow task.now.scan.context task.now.dest }
+    requires fields { FieldsFit task.now.scan }
+    requires planes { task.now.scan.context < length block.old.planes.items }
+    ensures written { LanesWritten task.now.dest.offset task.now.dest.len (plane_at block.old.planes.items task.now.scan.context)
+        (λ i. scanned_in block.old.planes.items task.now.scan task.now.lines.extent k (start_in block.old.planes.items task.now.scan task.now.lines.extent k before) i % 2 ^ task.now.dest.len)
+        block.old.planes.items block.new.planes.items }
+    ensures total { result ≡ fold_in block.old.planes.items task.now.scan task.now.lines.extent k (start_in block.old.planes.items task.now.scan task.now.lines.extent k before) 512 }
+{
+    let start = start_from(block, k, &task.scan, task.lines.extent, before);
+    scan_block(block, k, task, start)
+}
+
+/// Gives the active positions of a set the scan, block after block, each from the fold that the one
+/// before it leaves, with a call of the gate for each.
+pub(crate) fn scan_in_order<G: Gate>(set: &mut BlockSet, task: &LineScan, gate: &G)
+    requires can { CanScan set.old.blocks.items task.now.scan task.now.lines }
+    requires straight { (task.now.lines.direction ≡ D.Upward) × (task.now.lines.apart ≡ 1) }
+    requires full { (k : ℕ) → k < length set.old.blocks.items → 512 * k < task.now.lines.positions }
+    requires few { length set.old.blocks.items < 2 ^ 16 }
+    requires dest { FitsBelow task.now.scan.context task.now.dest }
+    ensures count { length set.new.blocks.items ≡ length set.old.blocks.items }
+    ensures each { (k : ℕ) (none : Block) → k < length set.old.blocks.items
+        → LanesWritten task.now.dest.offset task.now.dest.len (plane_at (slice_index_or set.old.blocks.items k none).planes.items task.now.scan.context)
+        (λ i. scanned_in (slice_index_or set.old.blocks.items k none).planes.items task.now.scan task.now.lines.extent k (fold_there set.old.blocks.items task.now.scan task.now.lines (512 * k)) i % 2 ^ task.now.dest.len)
+        (slice_index_or set.old.blocks.items k none).planes.items (slice_index_or set.new.blocks.items k none).planes.items }
+{
+    let (combine, unsigned) = task.scan.combiner.combiner();
+    let mut total = identity(combine, unsigned);
+    for k in 0..set.blocks.len() {
+        gate.at(k as u32);
+        total = scan_next(&mut set.blocks[k], k as u32, task, total);
+    }
 }

@@ -73,9 +73,10 @@ fn paired(low: u32, high: u32) -> u64
     (u64::from(high) << 32) + u64::from(low)
 }
 
-/// The sum of a start and the 16 sums before each, in its place.
-fn sums_before(totals: u64x8, start: u32) -> u64x8
-    ensures { (i : ℕ) → i < 512 → half result i ≡ (start + sum_from (λ g. half totals (32 * g)) 0 (i / 32)) % 2 ^ 32 }
+/// The sum of a start and the 16 sums before each, in its place, and of the start and all of them.
+fn sums_before(totals: u64x8, start: u32) -> (u64x8, u32)
+    ensures before { (i : ℕ) → i < 512 → half result.0 i ≡ (start + sum_from (λ g. half totals (32 * g)) 0 (i / 32)) % 2 ^ 32 }
+    ensures all { result.1 ≡ (start + sum_from (λ g. half totals (32 * g)) 0 16) % 2 ^ 32 }
 {
     let words = totals.to_array();
     let mut before = [0; 8];
@@ -85,7 +86,7 @@ fn sums_before(totals: u64x8, start: u32) -> u64x8
         before[word] = paired(sum, middle);
         sum = middle.wrapping_add((words[word] >> 32) as u32);
     }
-    u64x8::from_array(before)
+    (u64x8::from_array(before), sum)
 }
 
 /// Each number becomes the sum of what stands before its 32 lanes and of the numbers before it in
@@ -105,13 +106,16 @@ fn sum_within(rows: &mut [Plane], inclusion: Inclusion, before: u64x8)
     }
 }
 
-/// Each number becomes the sum of a start and the numbers before it, its own among them or not.
-pub(crate) fn sum_all(rows: &mut [Plane], inclusion: Inclusion, start: u32)
+/// Each number becomes the sum of a start and the numbers before it, its own among them or not. Gives
+/// the sum of the start and all numbers.
+pub(crate) fn sum_all(rows: &mut [Plane], inclusion: Inclusion, start: u32) -> u32
     requires { length rows.old ≡ 32 }
     ensures long { length rows.new ≡ 32 }
     ensures fits { start < 2 ^ 32 }
     ensures numbers { (i : ℕ) → i < 512 → held rows.new i ≡ (start + sum_from (held rows.old) 0 (i + owns inclusion)) % 2 ^ 32 }
+    ensures total { result ≡ (start + sum_from (held rows.old) 0 512) % 2 ^ 32 }
 {
-    let before = sums_before(totals(rows), start);
+    let (before, total) = sums_before(totals(rows), start);
     sum_within(rows, inclusion, before);
+    total
 }

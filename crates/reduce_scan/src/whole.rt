@@ -13,7 +13,7 @@ ghost use Rattle.reduce_scan.specs.Along.{scan_of, ScanFits};
 use crate::across::{hold_blocks, join_words, take_words};
 use crate::lines::{AxisScan, LineScan, Lines};
 use crate::runs::{fold_parts, hand_on};
-use crate::straight::scan_blocks;
+use crate::straight::{scan_blocks, scan_in_order};
 use block_store::Store;
 use cstar_io::Gate;
 use paris_code::Field;
@@ -49,6 +49,10 @@ pub fn scan<R: Threads + Sync, G: Gate + Sync>(
         dest,
     };
     if task.lines.are_straight() {
+        if workers == 1 {
+            scan_in_order(&mut store.sets[at], &task, gate);
+            return;
+        }
         let parts = store.sets[at].blocks.len();
         fold_parts(rt, &store.sets[at], &mut store.room, &task, workers);
         hand_on(&mut store.room, along.combiner, parts);

@@ -73,18 +73,18 @@ pub(crate) struct Run {
 }
 
 impl Run {
-    /// Runs over the numbers that rows hold: sums without a cut as they stand there, and all else over
-    /// their words.
-    pub(crate) fn over_rows(&self, rows: &mut Rows)
-        ensures { HasRun self.now rows.old.planes rows.new.planes }
+    /// Runs over the numbers that rows hold, and gives the fold behind the last one: sums without a cut
+    /// as they stand there, and all else over their words.
+    pub(crate) fn over_rows(&self, rows: &mut Rows) -> u32
+        ensures { HasRun self.now rows.old.planes rows.new.planes result }
     {
         if self.is_plain_sum() {
-            sum_all(&mut rows.planes, self.inclusion, self.start);
-            return;
+            return sum_all(&mut rows.planes, self.inclusion, self.start);
         }
         let mut words = rows.values();
-        self.over(&mut words);
+        let total = self.over(&mut words);
         *rows = Rows::from_values(&words);
+        total
     }
 
     /// Whether it adds, and begins nowhere anew.

@@ -17,12 +17,82 @@ use Rattle.block_store.proofs.Stores.{held, few_blocks}
 use Rattle.reduce_scan.specs.declared.lines.Lines.{Lines}
 use Rattle.reduce_scan.specs.declared.lines.Scan.{Scan}
 use Rattle.reduce_scan.specs.Along.{scan_of, scan_over, lines_of}
-use Rattle.reduce_scan.specs.Parts.{CanScan, starts, word_of_cell}
-use Rattle.reduce_scan.proofs.Scanned.{moved, ScannedFrom, Folded, can_scan, scan_here, lines_here, straight_in_block}
+use Rattle.reduce_scan.specs.Parts.{CanScan, fold_there, starts, word_of_cell}
+use Rattle.reduce_scan.proofs.Scanned.{moved, Folded, can_scan, full, scan_here, lines_here, straight_in_block, in_order_in_block}
+use Rattle.reduce_scan.proofs.StraightLines.{ScannedFrom}
 use Rattle.reduce_scan.proofs.JoinedWords.{AllHold, TakenFrom, back_held, held_at, taken_in_block}
 use Rattle.reduce_scan.proofs.LineSteps.{back_of}
 use Rattle.reduce_scan.specs.Across.{Joined}
 use Rattle.reduce_scan.proofs.whole.scan.Goals as goal
+
+pub scan_in_order-requires-clause-can : goal.scan_in_order-requires-clause-can
+scan_in_order-requires-clause-can g c =
+    let shapes = shapes_in c.args.store.now in
+    let sets = c.args.store.now.sets.items in
+    let along = c.args.along.now in
+    let s = along.source.set in
+    let at = c.from-at.ensures ∙ c.requires.together in
+    let plan = bits_of c.args.store.now.plans.items s c.from-at.result c.index-plan.result.now c.requires.along.0.0 at c.index-plan.ensures in
+    let same = held shapes sets s c.from-at.result c.index_mut.result.now c.requires.whole c.requires.along.0.0 at c.index_mut.ensures.value in
+    moved CanScan _ _ _ _ _ _ (sym same) (sym (c.over.ensures ∙ ap (scan_over along) plan.0))
+    (sym (c.of.ensures.value ∙ ap (λ xs. lines_of xs along.axis along.direction) plan.1)) (can_scan shapes sets c.requires.whole along c.requires.along)
+
+pub scan_in_order-requires-clause-full : goal.scan_in_order-requires-clause-full
+scan_in_order-requires-clause-full g c =
+    let shapes = shapes_in c.args.store.now in
+    let sets = c.args.store.now.sets.items in
+    let along = c.args.along.now in
+    let s = along.source.set in
+    let at = c.from-at.ensures ∙ c.requires.together in
+    let plan = bits_of c.args.store.now.plans.items s c.from-at.result c.index-plan.result.now c.requires.along.0.0 at c.index-plan.ensures in
+    let same = held shapes sets s c.from-at.result c.index_mut.result.now c.requires.whole c.requires.along.0.0 at c.index_mut.ensures.value in
+    moved (λ bs _ l. (k : ℕ) → k < length bs → 512 * k < l.positions) _ _ _ _ _ _ (sym same) (sym (c.over.ensures ∙ ap (scan_over along) plan.0))
+    (sym (c.of.ensures.value ∙ ap (λ xs. lines_of xs along.axis along.direction) plan.1)) (full shapes sets c.requires.whole along c.requires.along)
+
+pub scan_in_order-requires-clause-few : goal.scan_in_order-requires-clause-few
+scan_in_order-requires-clause-few g c =
+    let shapes = shapes_in c.args.store.now in
+    let sets = c.args.store.now.sets.items in
+    omega (
+      arith,
+      ap length (held shapes sets c.args.dest.set c.from-at.result c.index_mut.result.now c.requires.whole c.requires.dest.0 c.from-at.ensures c.index_mut.ensures.value),
+      few_blocks shapes sets c.args.dest.set c.requires.whole c.requires.dest.0,
+    )
+
+pub returns-then-workers-eq1 : goal.returns-then-workers-eq1
+returns-then-workers-eq1 g c =
+    let shapes = shapes_in c.args.store.now in
+    let sets = c.args.store.now.sets.items in
+    let plans = c.args.store.now.plans.items in
+    let along = c.args.along.now in
+    let d = c.args.dest in
+    let s = along.source.set in
+    let whole = c.requires.whole in
+    let fits = c.requires.along in
+    let exists = fits.0.0 in
+    let at = c.from-at.ensures ∙ c.requires.together in
+    let plan = bits_of plans s c.from-at.result c.index-plan.result.now exists at c.index-plan.ensures in
+    let to = c.index_mut.result.now in
+    let scan_is : c.over.result ≡ scan_here shapes sets whole along fits = c.over.ensures ∙ ap (scan_over along) plan.0 in
+    let lines_is : c.of.result ≡ lines_here shapes sets whole along fits = c.of.ensures.value ∙ ap (λ xs. lines_of xs along.axis along.direction) plan.1 in
+    let straight = c.if-are_straight.ensures refl in
+    let up : along.direction ≡ D.Upward = sym (ap (λ (l : Lines). l.direction) lines_is) ∙ straight.0 in
+    let one : (lines_here shapes sets whole along fits).apart ≡ 1 = sym (ap (λ (l : Lines). l.apart) lines_is) ∙ straight.1 in
+    let home = held shapes sets s c.from-at.result to whole exists at c.index_mut.ensures.value in
+    let each = λ (w : Winner) (k : ℕ) (e : Block) (b : k < length (blocks_in to)).
+    in_order_in_block shapes sets whole along fits w d c.requires.together up one (blocks_in to) home k e _ b
+    (moved (λ bs x l. ScannedFrom (fold_there bs x l (512 * k)) d k (planes_in (get_or (blocks_in to) k e)) (planes_in (get_or (blocks_in c.scan_in_order.new.set) k e)) bs x l)
+    _ _ _ _ _ _ home scan_is lines_is (c.scan_in_order.ensures.each k e b)) in
+    let write = λ (w : Winner). at_active shapes (memory_in c.args.store.now w) d (λ p. scanned shapes (memory_in c.args.store.now w) (scan_of along) p) in
+    let kept = blocks_whole shapes sets to c.scan_in_order.new.set c.from-at.result (write W.High) whole c.requires.dest.0 c.from-at.ensures c.index_mut.ensures.value c.scan_in_order.ensures.count (each W.High) in
+    record {
+      whole = kept;
+      room = λ set b.
+          let known : set < length shapes = omega (arith, length-map plans shape_of_plan) in
+          omega (arith, (kept.each set known).count, (whole.each set known).count, c.requires.room set b);
+      shapes = refl;
+      memory = λ w. blocks_written shapes sets to c.scan_in_order.new.set c.from-at.result (write w) whole c.requires.dest.0 c.from-at.ensures c.index_mut.ensures.value c.scan_in_order.ensures.count (each w) w;
+    }
 
 pub fold_parts-requires-clause-can : goal.fold_parts-requires-clause-can
 fold_parts-requires-clause-can g c κs live =
@@ -52,7 +122,7 @@ scan_blocks-requires-clause-few g c κs live =
     let sets = c.args.store.now.sets.items in
     omega (
       arith,
-      ap length (held shapes sets c.args.dest.set c.from-at.result c.index_mut.result.now c.requires.whole c.requires.dest.0 c.from-at.ensures c.index_mut.ensures.value),
+      ap length (held shapes sets c.args.dest.set c.from-at.result c.index_mut-then-are_straight.result.now c.requires.whole c.requires.dest.0 c.from-at.ensures c.index_mut-then-are_straight.ensures.value),
       few_blocks shapes sets c.args.dest.set c.requires.whole c.requires.dest.0,
     )
 
@@ -69,14 +139,14 @@ returns-then-are_straight g c =
     let exists = fits.0.0 in
     let at = c.from-at.ensures ∙ c.requires.together in
     let plan = bits_of plans s c.from-at.result c.index-plan.result.now exists at c.index-plan.ensures in
-    let to = c.index_mut.result.now in
+    let to = c.index_mut-then-are_straight.result.now in
     let scan_is : c.over.result ≡ scan_here shapes sets whole along fits = c.over.ensures ∙ ap (scan_over along) plan.0 in
     let lines_is : c.of.result ≡ lines_here shapes sets whole along fits = c.of.ensures.value ∙ ap (λ xs. lines_of xs along.axis along.direction) plan.1 in
     let straight = c.if-are_straight.ensures refl in
     let up : along.direction ≡ D.Upward = sym (ap (λ (l : Lines). l.direction) lines_is) ∙ straight.0 in
     let one : (lines_here shapes sets whole along fits).apart ≡ 1 = sym (ap (λ (l : Lines). l.apart) lines_is) ∙ straight.1 in
     let first_is = held shapes sets s c.from-at.result c.index-then-are_straight.result.now whole exists at c.index-then-are_straight.ensures in
-    let home = held shapes sets s c.from-at.result to whole exists at c.index_mut.ensures.value in
+    let home = held shapes sets s c.from-at.result to whole exists at c.index_mut-then-are_straight.ensures.value in
     let much : length (blocks_at sets s) ≤ length c.args.store.now.room.cells.items = c.requires.room s (omega (arith, exists, length-map plans shape_of_plan)) in
     let first = c.fold_parts.new.room.cells.items in
     let second = c.hand_on.new.room.cells.items in
@@ -89,16 +159,16 @@ returns-then-are_straight g c =
     ∙ c.hand_on.ensures.starts k e (omega (arith, b, all))) in
     let each = λ (w : Winner) (k : ℕ) (e : Block) (b : k < length (blocks_in to)).
     straight_in_block shapes sets whole along fits w d c.requires.together up one first second folded begin (omega (arith, much, c.fold_parts.ensures.count)) (blocks_in to) home k e _ b
-    (moved (ScannedFrom second d k (planes_in (get_or (blocks_in to) k e)) (planes_in (get_or (blocks_in c.scan_blocks.new.set) k e))) (blocks_in to) (blocks_in to) _ _ _ _ refl scan_is lines_is (c.scan_blocks.ensures.each k e b)) in
+    (moved (ScannedFrom (word_of_cell second k 0) d k (planes_in (get_or (blocks_in to) k e)) (planes_in (get_or (blocks_in c.scan_blocks.new.set) k e))) (blocks_in to) (blocks_in to) _ _ _ _ refl scan_is lines_is (c.scan_blocks.ensures.each k e b)) in
     let write = λ (w : Winner). at_active shapes (memory_in c.args.store.now w) d (λ p. scanned shapes (memory_in c.args.store.now w) (scan_of along) p) in
-    let kept = blocks_whole shapes sets to c.scan_blocks.new.set c.from-at.result (write W.High) whole c.requires.dest.0 c.from-at.ensures c.index_mut.ensures.value c.scan_blocks.ensures.count (each W.High) in
+    let kept = blocks_whole shapes sets to c.scan_blocks.new.set c.from-at.result (write W.High) whole c.requires.dest.0 c.from-at.ensures c.index_mut-then-are_straight.ensures.value c.scan_blocks.ensures.count (each W.High) in
     record {
       whole = kept;
       room = λ set b.
           let known : set < length shapes = omega (arith, length-map plans shape_of_plan) in
           omega (arith, (kept.each set known).count, (whole.each set known).count, c.requires.room set b, c.fold_parts.ensures.count, c.hand_on.ensures.count);
       shapes = refl;
-      memory = λ w. blocks_written shapes sets to c.scan_blocks.new.set c.from-at.result (write w) whole c.requires.dest.0 c.from-at.ensures c.index_mut.ensures.value c.scan_blocks.ensures.count (each w) w;
+      memory = λ w. blocks_written shapes sets to c.scan_blocks.new.set c.from-at.result (write w) whole c.requires.dest.0 c.from-at.ensures c.index_mut-then-are_straight.ensures.value c.scan_blocks.ensures.count (each w) w;
     }
 
 pub hold_blocks-requires-clause-can : goal.hold_blocks-requires-clause-can
