@@ -14,18 +14,18 @@ writes_context (I.LogandContextWithTest set) = true
 writes_context (I.LogandcContextWithTest set) = true
 writes_context _ = false
 
--- where such a field is written, if one is, all fields stay that a check reads: one of the grid reads none, one of a divisor
--- reads that. No other instruction passes: behind a check of targets comes their address, which cannot wait.
+-- what is written leaves the fields that a check reads: one of the grid reads none. No other instruction passes; a check of
+-- targets does not, since the address that follows it cannot wait.
 abbrev pub leaves_read : Option Field → Instr → Bool
 leaves_read writes (I.CheckGrid set place steps) = true
 leaves_read writes (I.CheckDivisor place a) = leaves writes a
 leaves_read writes _ = false
 
--- an instruction that waits writes nothing that a check reads, neither a field nor a context flag
+-- a check can pass one that waits and writes nothing that the check reads, neither a field nor a context flag
 abbrev pub lets_pass : Deferred → Instr → Bool
 lets_pass d instr = not (writes_context d.instr) && leaves_read d.writes instr
 
--- so a check can be answered before all that wait; and where none waits, any instruction can be done
+-- and so it can pass all; where none waits, any instruction can be done
 abbrev pub can_pass : List Deferred → Instr → Bool
 can_pass [] instr = true
 can_pass (d ∷ rest) instr = lets_pass d instr && can_pass rest instr

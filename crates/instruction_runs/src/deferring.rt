@@ -74,7 +74,8 @@ impl Deferred {
         leaves(self.writes, source) && shares(self.source(), source)
     }
 
-    /// Whether this instruction writes nothing that a check reads, neither a field nor a context flag.
+    /// Whether the instruction is a check that can pass this one, which writes no context flag and no
+    /// field that the check reads.
     pub(crate) fn lets_pass(&self, instr: &Instr) -> bool
         ensures { result ≡ lets_pass self.now instr.now }
     {
@@ -95,8 +96,8 @@ fn writes_context(instr: &Instr) -> bool
     )
 }
 
-/// Whether what is written, if a field is, leaves all fields that a check of the grid or of a divisor
-/// reads. Not where the instruction is another one.
+/// Whether the instruction is a check of the grid or of a divisor, and what is written, if a field is,
+/// leaves the fields that it reads.
 fn leaves_read(writes: Option<Field>, instr: &Instr) -> bool
     ensures { result ≡ leaves_read writes instr.now }
 {
