@@ -1,5 +1,5 @@
 -- A machine means the same whether its instructions wait or are done.
-use Rattle.std.proofs.Common.{◌≡◌, ℕ, ◌<◌, ◌+◌, true, List, [], ◌∷◌, All, refl, sym, ◌∙◌, ap, subst, inl, inr, arith}
+use Rattle.std.proofs.Common.{◌≡◌, ℕ, true, List, [], ◌∷◌, All, refl, sym, ◌∙◌, ap, subst, inl, inr, arith}
 use Rattle.std.proofs.lemmas.Bool.{cases_eq}
 use Rattle.std.proofs.lemmas.Grind.{not_there}
 use Rattle.cstar_base.specs.declared.operators.Winner.{Winner}
@@ -8,8 +8,8 @@ use Rattle.paris_code.specs.declared.instr.Instr.{Instr}
 use Rattle.paris_code.specs.declared.program.Reply.{Reply}
 use Rattle.paris_code.specs.declared.program.Reply.TheVariants as R
 use Rattle.paris_code.specs.Meaning.{after, Means}
-use Rattle.paris_code.specs.Memory.{BitMemory, SameBits, processors}
-use Rattle.paris_code.specs.Shapes.{SetShape, bits_at}
+use Rattle.paris_code.specs.Memory.{BitMemory, SameBits}
+use Rattle.paris_code.specs.Shapes.{SetShape}
 use Rattle.paris_code.specs.Sound.{IsShape}
 use Rattle.phase_meaning.specs.Apply.{CanApply, ReplyFits}
 use Rattle.phase_meaning.proofs.Alike.{alike}
