@@ -1,8 +1,8 @@
 -- What is done in each block, one instruction after another, is done.
-use Rattle.std.proofs.Common.{◌≡◌, ◌≢◌, ℕ, zero, suc, ◌+◌, ◌-◌, ◌*◌, ◌/◌, ◌%◌, ◌^◌, ◌<◌, ◌≤◌, ◌⊎◌, Bool, true, false, ◌&&◌, cond, eqb, leb, ltb, Option, Some, None, List, [], ◌∷◌, ◌++◌, All, get_or, refl, sym, ◌∙◌, ap, subst, inl, inr, arith}
+use Rattle.std.proofs.Common.{◌≡◌, ◌≢◌, ℕ, zero, suc, ◌+◌, ◌-◌, ◌*◌, ◌/◌, ◌%◌, ◌^◌, ◌<◌, ◌≤◌, ◌⊎◌, Bool, true, false, ◌&&◌, cond, eqb, leb, ltb, Option, Some, None, List, [], ◌∷◌, ◌++◌, All, get_or, length, refl, sym, ◌∙◌, ap, subst, inl, inr, arith}
 use Rattle.std.specs.Prelude.{◌||◌}
 use Rattle.std.specs.Int.{bit_at}
-use Rattle.std.proofs.lemmas.Bool.{ne_eqb, lt-leb, le-ltb, leb-true, and_parts, or_cases}
+use Rattle.std.proofs.lemmas.Bool.{cases_eq, ne_eqb, lt-leb, le-ltb, leb-true, and_parts, or_cases}
 use Rattle.std.proofs.lemmas.List.Elements.{All-head, All-tail}
 use Rattle.vp_sets.specs.Positions.{shifted}
 use Rattle.cstar_base.specs.Numbers.{number_of}
@@ -11,7 +11,7 @@ use Rattle.bit_planes.specs.Bits.{bit}
 use Rattle.bit_planes.specs.Planes.{plane_at}
 use Rattle.paris_code.specs.declared.operands.Field.{Field}
 use Rattle.paris_code.specs.declared.instr.Instr.{Instr}
-use Rattle.paris_code.specs.Elementwise.{destination, writes_always, elementwise}
+use Rattle.paris_code.specs.Elementwise.{destination, writes_always}
 use Rattle.paris_code.specs.Fetching.{of_neighbour}
 use Rattle.paris_code.specs.Meaning.{after}
 use Rattle.paris_code.specs.Memory.{BitMemory, field_number, run_number, processors}
@@ -58,7 +58,7 @@ unfolding of_neighbour
 work_written shapes instr m (W.Elementwise prepared) is = (plain shapes instr [] m is.elementwise).3
 work_written shapes instr m (W.Shift news step) is = is.means m
 
-as_written : (shapes : List SetShape) (d : Deferred) (m : BitMemory) → IsReady shapes d → after shapes d.instr [] m ≡ written (write_from shapes (numbers_in m) d m) m
+pub as_written : (shapes : List SetShape) (d : Deferred) (m : BitMemory) → IsReady shapes d → after shapes d.instr [] m ≡ written (write_from shapes (numbers_in m) d m) m
 as_written shapes d m ready = work_written shapes d.instr m d.work ready.work
 
 -- writes that are the same at a position, to memories that agree there
@@ -146,10 +146,18 @@ same_run f g offset zero same = refl
 same_run f g offset (suc n) same =
     ap (λ x. x + 2 ^ n * f (offset + n)) (same_run f g offset n (λ j b. same j (omega arith))) ∙ ap (λ b. run_number g offset n + 2 ^ n * b) (same n (omega arith))
 
-pub field_stays : (w : Write) (m : BitMemory) (f : Field) (q : ℕ) → ((i : ℕ) → f.offset ≤ i → i < f.offset + f.len → (i < w.run.offset) ⊎ (w.run.offset + w.run.len ≤ i)) → field_number (written w m) f q ≡ field_number m f q
-unfolding field_number written
+-- a bit stays that is of another set, or outside what is written
+pub bit_stays : (w : Write) (m : BitMemory) (s p i : ℕ) → (s ≡ w.run.set → (i < w.run.offset) ⊎ (w.run.offset + w.run.len ≤ i)) → (written w m).bit s p i ≡ m.bit s p i
+unfolding written covers
+bit_stays w m s p i apart = elim (cases_eq s w.run.set) [
+  | inl own ↦ off_bit w.run s i (w.writes p) (bit_at (w.value p) (i - w.run.offset)) (m.bit s p i) (apart own)
+  | inr other ↦ ap (λ t. cond ((t && (leb w.run.offset i && ltb i (w.run.offset + w.run.len))) && w.writes p) (bit_at (w.value p) (i - w.run.offset)) (m.bit s p i)) (ne_eqb s w.run.set other)
+]
+
+field_stays : (w : Write) (m : BitMemory) (f : Field) (q : ℕ) → (f.set ≡ w.run.set → (i : ℕ) → f.offset ≤ i → i < f.offset + f.len → (i < w.run.offset) ⊎ (w.run.offset + w.run.len ≤ i)) → field_number (written w m) f q ≡ field_number m f q
+unfolding field_number
 field_stays w m f q apart = same_run ((written w m).bit f.set q) (m.bit f.set q) f.offset f.len
-    (λ j b. off_bit w.run f.set (f.offset + j) (w.writes q) (bit_at (w.value q) (f.offset + j - w.run.offset)) (m.bit f.set q (f.offset + j)) (apart (f.offset + j) (omega arith) (omega (arith, b))))
+    (λ j b. bit_stays w m f.set q (f.offset + j) (λ e. apart e (f.offset + j) (omega arith) (omega (arith, b))))
 
 -- the source of a shift lies in the fields of the set
 abbrev pub SourceLies : List SetShape → ℕ → Option Field → Type 0
@@ -161,10 +169,10 @@ source_lies shapes set instr (W.Elementwise prepared) is e = tt
 source_lies shapes set instr (W.Shift news step) is e = (sym is.together ∙ e, is.source)
 
 -- what leaves a field as it is writes none of its bits
-apart_by : (shapes : List SetShape) (set : ℕ) (writes : Option Field) (run source : Field) → Where shapes writes run → run.set ≡ set → leaves writes source ≡ true → source.offset + source.len ≤ bits_at shapes set
+apart_by : (shapes : List SetShape) (writes : Option Field) (run source : Field) → Where shapes writes run → leaves writes source ≡ true → source.offset + source.len ≤ bits_at shapes run.set
     → (i : ℕ) → source.offset ≤ i → i < source.offset + source.len → (i < run.offset) ⊎ (run.offset + run.len ≤ i)
-apart_by shapes set None run source there e free within = λ i l h. inl (let low : bits_at shapes set ≤ run.offset = subst (λ s. bits_at shapes s ≤ run.offset) e there in omega (arith, low, within, h))
-apart_by shapes set (Some f) run source there e free within = λ i l h.
+apart_by shapes None run source there free within = λ i l h. inl (omega (arith, there, within, h))
+apart_by shapes (Some f) run source there free within = λ i l h.
     elim (or_cases (leb (f.offset + f.len) source.offset) (leb (source.offset + source.len) f.offset) free) [
       | inl before ↦ inr (omega (arith, leb-true (f.offset + f.len) source.offset before, ap (λ (r : Field). r.offset) there, ap (λ (r : Field). r.len) there, l))
       | inr behind ↦ inl (omega (arith, leb-true (source.offset + source.len) f.offset behind, ap (λ (r : Field). r.offset) there, h))
@@ -174,16 +182,19 @@ work_where : (shapes : List SetShape) (held : Field → ℕ → ℕ) (instr : In
 work_where shapes held instr m (W.Elementwise prepared) is = field_is shapes instr is.elementwise
 work_where shapes held instr m (W.Shift news step) is = subst (λ o. Where shapes o news.dest) (sym is.writes) refl
 
+pub left_field : (shapes : List SetShape) (d : Deferred) (m : BitMemory) (f : Field) → IsReady shapes d → LiesIn shapes f → leaves d.writes f ≡ true → (q : ℕ) → field_number (after shapes d.instr [] m) f q ≡ field_number m f q
+left_field shapes d m f ready within free q =
+    let w : Write = write_from shapes (numbers_in m) d m in
+    let there : Where shapes d.writes w.run = subst (λ o. Where shapes o w.run) (sym ready.writes) (work_where shapes (numbers_in m) d.instr m d.work ready.work) in
+    ap (λ (x : BitMemory). field_number x f q) (as_written shapes d m ready)
+    ∙ field_stays w m f q (λ e. apart_by shapes d.writes w.run f there free (subst (λ s. f.offset + f.len ≤ bits_at shapes s) e within.3))
+
 -- so what is held of the source of a shift is what the memory has behind each instruction that lets it wait
 still_sourced : (shapes : List SetShape) (set : ℕ) (held : Field → ℕ → ℕ) (d : Deferred) (m : BitMemory) (source : Option Field) → IsOf shapes set d → SourceLies shapes set source → lets d source ≡ true
     → IsSourced shapes set held m source → IsSourced shapes set held (after shapes d.instr [] m) source
 still_sourced shapes set held d m None is lies free sourced = tt
 still_sourced shapes set held d m (Some f) is lies free sourced = λ q b.
-    let w : Write = write_from shapes (numbers_in m) d m in
-    let there : Where shapes d.writes w.run = subst (λ o. Where shapes o w.run) (sym is.0.writes) (work_where shapes (numbers_in m) d.instr m d.work is.0.work) in
-    sourced q b
-    ∙ sym (ap (λ (x : BitMemory). field_number x f q) (as_written shapes d m is.0)
-    ∙ field_stays w m f q (apart_by shapes set d.writes w.run f there (destined shapes set (numbers_in m) d m is) (and_parts (leaves d.writes f) (shares (source_of d) f) free).0 (subst (λ s. f.offset + f.len ≤ bits_at shapes s) lies.0 lies.1.3)))
+    sourced q b ∙ sym (left_field shapes d m f is.0 lies.1 (and_parts (leaves d.writes f) (shares (source_of d) f) free).0 q)
 
 pub lies_of : (shapes : List SetShape) (set : ℕ) (d : Deferred) → IsOf shapes set d → SourceLies shapes set (source_of d)
 lies_of shapes set d is = source_lies shapes set d.instr d.work is.0.work is.1
@@ -221,25 +232,32 @@ all_agree shapes set (d ∷ rest) m n all agree =
     all_agree shapes set rest (after shapes d.instr [] m) (after shapes d.instr [] n) (rest_ready shapes set d rest all) (after_agree shapes set d m n (first_ready shapes set d rest all) agree)
 
 -- another set stays as it is
-off_run : (t a b : Bool) (x y : ℕ) → t ≡ false → cond ((t && a) && b) x y ≡ y
-off_run t a b x y e = ap (λ s. cond ((s && a) && b) x y) e
-
 pub others_stay : (shapes : List SetShape) (set : ℕ) (ds : List Deferred) (m : BitMemory) → AreReady shapes set ds → (s p i : ℕ) → s ≢ set → (done_all shapes ds m).bit s p i ≡ m.bit s p i
-unfolding written covers
 others_stay shapes set [] m all s p i n = refl
 others_stay shapes set (d ∷ rest) m all s p i n =
     let is : IsOf shapes set d = first_ready shapes set d rest all in
-    let w : Write = write_from shapes (numbers_in m) d m in
     others_stay shapes set rest (after shapes d.instr [] m) (rest_ready shapes set d rest all) s p i n
     ∙ ap (λ (x : BitMemory). x.bit s p i) (as_written shapes d m is.0)
-    ∙ off_run (eqb s w.run.set) (leb w.run.offset i && ltb i (w.run.offset + w.run.len)) (w.writes p) (bit_at (w.value p) (i - w.run.offset)) (m.bit s p i)
-    (ne_eqb s w.run.set (λ e. n (e ∙ destined shapes set (numbers_in m) d m is)))
+    ∙ bit_stays (write_from shapes (numbers_in m) d m) m s p i (λ e. absurd (n (e ∙ destined shapes set (numbers_in m) d m is)))
 
 pub winner_stays : (shapes : List SetShape) (set : ℕ) (ds : List Deferred) (m : BitMemory) → AreReady shapes set ds → (done_all shapes ds m).winner ≡ m.winner
 unfolding written
 winner_stays shapes set [] m all = refl
 winner_stays shapes set (d ∷ rest) m all =
     winner_stays shapes set rest (after shapes d.instr [] m) (rest_ready shapes set d rest all) ∙ ap (λ (x : BitMemory). x.winner) (as_written shapes d m (first_ready shapes set d rest all).0)
+
+-- so where two memories agree at each bit, those behind the instructions do
+abbrev pub BitsAgree : List SetShape → BitMemory → BitMemory → Type 0
+BitsAgree shapes m n = (s p i : ℕ) → s < length shapes → p < processors shapes s → i < bits_at shapes s + 2 → m.bit s p i ≡ n.bit s p i
+
+pub bits_alike : (shapes : List SetShape) (set : ℕ) (ds : List Deferred) (m n : BitMemory) → AreReady shapes set ds → BitsAgree shapes m n → BitsAgree shapes (done_all shapes ds m) (done_all shapes ds n)
+bits_alike shapes set ds m n ready agree = λ s p i a b c. elim (cases_eq s set) [
+  | inr apart ↦ others_stay shapes set ds m ready s p i apart ∙ agree s p i a b c ∙ sym (others_stay shapes set ds n ready s p i apart)
+  | inl e ↦
+      ap (λ j. (done_all shapes ds m).bit j p i) e
+      ∙ all_agree shapes set ds m n ready (λ q d k h. agree set q k (subst (λ j. j < length shapes) e a) d h) p (subst (λ j. p < processors shapes j) e b) i (subst (λ j. i < bits_at shapes j + 2) e c)
+      ∙ ap (λ j. (done_all shapes ds n).bit j p i) (sym e)
+]
 
 -- one more is done behind the others
 from_more : (shapes : List SetShape) (held : Field → ℕ → ℕ) (ds : List Deferred) (d : Deferred) (m : BitMemory)

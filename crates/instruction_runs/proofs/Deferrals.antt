@@ -29,6 +29,7 @@ use Rattle.instruction_runs.specs.declared.batches.TheConstants.{MOST}
 use Rattle.instruction_runs.specs.declared.deferring.Deferred.{Deferred}
 use Rattle.instruction_runs.specs.declared.deferring.Work.{Work}
 use Rattle.instruction_runs.specs.declared.deferring.Work.TheVariants as W
+use Rattle.instruction_runs.specs.Passing.{can_pass, lets_pass}
 use Rattle.instruction_runs.specs.Waiting.{all_let, can_wait, done_all, field_written, lets, news_of, or_source, set_of, set_of_work, source_of, source_of_all, takes, with_arguments, working_set, AreInTurn, AreReady, IsDeferral, IsReady, IsShiftOf, IsWorkOf}
 
 -- where an instruction writes: a field, or a flag behind the fields of its set
@@ -254,6 +255,9 @@ from_one ds j d b e = (let q : drop j ds ≡ get_or ds j d ∷ drop (j + 1) ds =
 
 pub let_from : (ds : List Deferred) (j : ℕ) (d : Deferred) (source : Option Field) → j < length ds → d ≡ get_or ds j d → all_let (drop j ds) source ≡ (lets d source && all_let (drop (j + 1) ds) source)
 let_from ds j d source b e = ap (λ (xs : List Deferred). all_let xs source) (from_one ds j d b e)
+
+pub pass_from : (ds : List Deferred) (j : ℕ) (d : Deferred) (instr : Instr) → j < length ds → d ≡ get_or ds j d → can_pass (drop j ds) instr ≡ (lets_pass d instr && can_pass (drop (j + 1) ds) instr)
+pass_from ds j d instr b e = ap (λ (xs : List Deferred). can_pass xs instr) (from_one ds j d b e)
 
 pub source_from : (ds : List Deferred) (j : ℕ) (d : Deferred) → j < length ds → d ≡ get_or ds j d → source_of_all (drop j ds) ≡ or_source (source_of d) (source_of_all (drop (j + 1) ds))
 source_from ds j d b e = ap source_of_all (from_one ds j d b e)

@@ -1,4 +1,5 @@
 pub mod Composed
 pub mod Deferrals
+pub mod Passing
 pub mod Settled
 pub mod Sources

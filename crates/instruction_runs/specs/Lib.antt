@@ -1,2 +1,3 @@
 pub mod Passes
+pub mod Passing
 pub mod Waiting

@@ -5,11 +5,12 @@ ghost use Rattle.paris_code.specs.Meaning.{after};
 ghost use Rattle.paris_code.specs.Memory.{BitMemory};
 ghost use Rattle.paris_code.specs.Shapes.{SetShape};
 ghost use Rattle.instruction_runs.specs.declared.batches.TheConstants.{MOST};
+ghost use Rattle.instruction_runs.specs.Passing.{can_pass};
 ghost use Rattle.instruction_runs.specs.Waiting.{all_let, done_all, source_of_all, takes, AreReady, IsReady};
 
 use crate::deferring::Deferred;
 use cstar_base::Memory;
-use paris_code::Field;
+use paris_code::{Field, Instr};
 use std::alloc::Global;
 
 /// At most how many instructions a batch holds.
@@ -75,6 +76,19 @@ impl Batch {
         };
         'waiting: for d in self.as_slice() {
             if !d.lets(source) {
+                return false;
+            }
+        }
+        true
+    }
+
+    /// Whether the instruction can be done before those that wait: none waits, or it is a check of the
+    /// grid or of a divisor, and none of them writes a field or a context flag that it reads.
+    pub fn lets_pass(&self, instr: &Instr) -> bool
+        ensures { result ≡ can_pass self.now.deferred.items instr.now }
+    {
+        'waiting: for d in self.as_slice() {
+            if !d.lets_pass(instr) {
                 return false;
             }
         }

@@ -10,6 +10,7 @@ ghost use Rattle.paris_code.specs.Sound.{IsShape};
 ghost use Rattle.phase_meaning.specs.Apply.{CanApply};
 ghost use Rattle.block_store.specs.Stored.{shape_of_plan};
 ghost use Rattle.news_grid.specs.Steps.{Leads};
+ghost use Rattle.instruction_runs.specs.Passing.{leaves_read, lets_pass, writes_context};
 ghost use Rattle.instruction_runs.specs.Waiting.{can_wait, field_written, leaves, lets, news_of, set_of, shares, source_of, with_arguments, IsDeferral, IsWorkOf};
 
 use block_store::SetPlan;
@@ -71,6 +72,39 @@ impl Deferred {
             return true;
         };
         leaves(self.writes, source) && shares(self.source(), source)
+    }
+
+    /// Whether the instruction is a check that can pass this one, which writes no context flag and no
+    /// field that the check reads.
+    pub(crate) fn lets_pass(&self, instr: &Instr) -> bool
+        ensures { result ≡ lets_pass self.now instr.now }
+    {
+        !writes_context(&self.instr) && leaves_read(self.writes, instr)
+    }
+}
+
+/// Whether an instruction writes the context flags of its set.
+fn writes_context(instr: &Instr) -> bool
+    ensures { result ≡ writes_context instr.now }
+{
+    matches!(
+        instr,
+        Instr::LoadContext { .. }
+            | Instr::SetContext { .. }
+            | Instr::LogandContextWithTest { .. }
+            | Instr::LogandcContextWithTest { .. }
+    )
+}
+
+/// Whether the instruction is a check of the grid or of a divisor, and what is written, if a field is,
+/// leaves the fields that it reads.
+fn leaves_read(writes: Option<Field>, instr: &Instr) -> bool
+    ensures { result ≡ leaves_read writes instr.now }
+{
+    match instr {
+        Instr::CheckGrid { .. } => true,
+        Instr::CheckDivisor { source, .. } => leaves(writes, *source),
+        _ => false,
     }
 }
 

@@ -1,5 +1,5 @@
 -- A machine means the same whether its instructions wait or are done.
-use Rattle.std.proofs.Common.{◌≡◌, ℕ, ◌<◌, ◌+◌, true, List, [], ◌∷◌, All, refl, sym, ◌∙◌, ap, subst, inl, inr, arith}
+use Rattle.std.proofs.Common.{◌≡◌, ℕ, true, List, [], ◌∷◌, All, refl, sym, ◌∙◌, ap, subst, inl, inr, arith}
 use Rattle.std.proofs.lemmas.Bool.{cases_eq}
 use Rattle.std.proofs.lemmas.Grind.{not_there}
 use Rattle.cstar_base.specs.declared.operators.Winner.{Winner}
@@ -8,15 +8,17 @@ use Rattle.paris_code.specs.declared.instr.Instr.{Instr}
 use Rattle.paris_code.specs.declared.program.Reply.{Reply}
 use Rattle.paris_code.specs.declared.program.Reply.TheVariants as R
 use Rattle.paris_code.specs.Meaning.{after, Means}
-use Rattle.paris_code.specs.Memory.{BitMemory, SameBits, processors}
-use Rattle.paris_code.specs.Shapes.{SetShape, bits_at}
+use Rattle.paris_code.specs.Memory.{BitMemory, SameBits}
+use Rattle.paris_code.specs.Shapes.{SetShape}
 use Rattle.paris_code.specs.Sound.{IsShape}
 use Rattle.phase_meaning.specs.Apply.{CanApply, ReplyFits}
 use Rattle.phase_meaning.proofs.Alike.{alike}
 use Rattle.instruction_runs.specs.declared.deferring.Deferred.{Deferred}
+use Rattle.instruction_runs.specs.Passing.{can_pass}
 use Rattle.instruction_runs.specs.Waiting.{can_wait, done_all, takes, AreReady, IsDeferral}
-use Rattle.instruction_runs.proofs.Composed.{all_agree, others_stay, winner_stays}
+use Rattle.instruction_runs.proofs.Composed.{bits_alike, winner_stays}
 use Rattle.instruction_runs.proofs.Deferrals.{stands_for}
+use Rattle.instruction_runs.proofs.Passing.{means_behind}
 
 -- the same bits, by way of a third memory
 pub by_way : (shapes : List SetShape) (l m n : BitMemory) → SameBits shapes l m → SameBits shapes m n → SameBits shapes l n
@@ -52,16 +54,7 @@ none_take set (x ∷ ds) d e = cc
 -- which sender is to win makes no difference to those that wait
 pub chosen : (shapes : List SetShape) (set : ℕ) (ds : List Deferred) (m n : BitMemory) → AreReady shapes set ds → ((s p i : ℕ) → m.bit s p i ≡ n.bit s p i)
     → SameBits shapes (done_all shapes ds n) (record { bit = (done_all shapes ds m).bit; winner = n.winner })
-chosen shapes set ds m n ready same = record {
-  bits = λ s p i a b c. elim (cases_eq s set) [
-    | inr apart ↦ others_stay shapes set ds n ready s p i apart ∙ sym (same s p i) ∙ sym (others_stay shapes set ds m ready s p i apart)
-    | inl e ↦
-        ap (λ j. (done_all shapes ds n).bit j p i) e
-        ∙ all_agree shapes set ds n m ready (λ q _ k _. sym (same set q k)) p (subst (λ j. p < processors shapes j) e b) i (subst (λ j. i < bits_at shapes j + 2) e c)
-        ∙ ap (λ j. (done_all shapes ds m).bit j p i) (sym e)
-  ];
-  winner = winner_stays shapes set ds n ready;
-}
+chosen shapes set ds m n ready same = record { bits = bits_alike shapes set ds n m ready (λ s p i _ _ _. sym (same s p i)); winner = winner_stays shapes set ds n ready }
 
 winner_is : (v w : Winner) → ¬ (¬ (v ≡ w)) → v ≡ w
 winner_is W.High W.High h = refl
@@ -103,9 +96,11 @@ waits_more shapes now instr args d m n new kept grids can is same e =
 pub nothing_fits : (shapes : List SetShape) (instr : Instr) (args : List ℕ) (m : BitMemory) → CanApply shapes instr args → can_wait instr ≡ true → ReplyFits instr R.Nothing
 nothing_fits shapes instr args m can waits = ((stands_for shapes instr args can waits).answers m).0
 
--- an instruction is done where none wait any more
-pub done_settled : (shapes now later : List SetShape) (instr : Instr) (args : List ℕ) (ds : List Deferred) (before settled new : BitMemory) (reply : Reply) → ds ≡ [] → now ≡ shapes
-    → All IsShape shapes → CanApply shapes instr args → SameBits shapes (done_all now ds settled) before → Means now instr args settled new reply → Means shapes instr args before (done_all later ds new) reply
-done_settled shapes now later instr args [] before settled new reply e kept grids can same means =
-    means_from shapes instr args settled before new reply grids can same (subst (λ s. Means s instr args settled new reply) kept means)
-done_settled shapes now later instr args (d ∷ ds) before settled new reply e kept grids can same means = cc
+-- an instruction is done that passes those that wait
+pub done_ahead : (shapes now later : List SetShape) (set : ℕ) (instr : Instr) (args : List ℕ) (ds : List Deferred) (before old new : BitMemory) (reply : Reply) → now ≡ shapes → later ≡ shapes
+    → AreReady now set ds → can_pass ds instr ≡ true → All IsShape shapes → CanApply shapes instr args
+    → SameBits shapes (done_all now ds old) before → Means now instr args old new reply → Means shapes instr args before (done_all later ds new) reply
+done_ahead shapes now later set instr args ds before old new reply kept still ready passes grids can same means =
+    subst (λ s. Means shapes instr args before (done_all s ds new) reply) (sym still)
+    (means_from shapes instr args (done_all shapes ds old) before (done_all shapes ds new) reply grids can (subst (λ s. SameBits shapes (done_all s ds old) before) kept same)
+    (means_behind shapes set ds instr args old new reply (subst (λ s. AreReady s set ds) kept ready) can passes (subst (λ s. Means s instr args old new reply) kept means)))

@@ -2,6 +2,7 @@
 
 ghost use Rattle.std.specs.Prelude.{◌≡◌, ◌≤◌, true};
 ghost use Rattle.cstar_base.specs.declared.operators.Winner.{Winner};
+ghost use Rattle.instruction_runs.specs.Passing.{can_pass};
 ghost use Rattle.instruction_runs.specs.Waiting.{takes};
 ghost use Rattle.paris_code.specs.Memory.{SameBits};
 ghost use Rattle.paris_phases.specs.Doing.{CanDo, CanDoNow, Did, DidNow, Settled};
@@ -48,7 +49,9 @@ impl<'a, R: Threads + Sync, G: Gate + Sync> Crew<'a, R, G> {
     /// Does an instruction on a machine, by as many of the workers as pay; or lets it wait, where it
     /// answers nothing and is elementwise or a NEWS shift. What waits is done first where one comes
     /// that cannot, or that is of another set, or a shift whose source is written by one that waits or
-    /// is not that of the shifts that wait, or where no room is left. `Memory` at a send alone.
+    /// is not that of the shifts that wait, or where no room is left. A check of the grid or of a
+    /// divisor is answered before those that wait, where none of them writes what it reads. `Memory`
+    /// at a send alone.
     pub fn apply(&self, machine: &mut Machine, instr: &Instr, args: &[u32], winner: Winner) -> Reply
         requires { CanDo machine.old instr.now args.now }
         ensures { Did machine.old instr.now args.now winner machine.new result }
@@ -60,7 +63,7 @@ impl<'a, R: Threads + Sync, G: Gate + Sync> Crew<'a, R, G> {
                 Reply::Nothing
             }
             None => {
-                self.settle(machine);
+                self.make_way(machine, instr);
                 self.do_now(&mut machine.store, instr, args, winner)
             }
         }
@@ -90,6 +93,19 @@ impl<'a, R: Threads + Sync, G: Gate + Sync> Crew<'a, R, G> {
         ensures memory { (winner : Winner) → SameBits (sets_of machine.old) (memory_of machine.new winner) (memory_of machine.old winner) }
     {
         if !machine.batch.takes(deferred) {
+            self.settle(machine);
+        }
+    }
+
+    /// Settles where the instruction cannot be done before those that wait.
+    fn make_way(&self, machine: &mut Machine, instr: &Instr)
+        requires { AllReady machine.old }
+        ensures passes { can_pass machine.new.batch.deferred.items instr.now ≡ true }
+        ensures ready { AllReady machine.new }
+        ensures shapes { sets_of machine.new ≡ sets_of machine.old }
+        ensures memory { (winner : Winner) → SameBits (sets_of machine.old) (memory_of machine.new winner) (memory_of machine.old winner) }
+    {
+        if !machine.batch.lets_pass(instr) {
             self.settle(machine);
         }
     }

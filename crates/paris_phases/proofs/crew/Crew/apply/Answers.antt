@@ -2,9 +2,9 @@ use Rattle.std.proofs.Common.{List, map, sym, ◌∙◌, subst}
 use Rattle.std.proofs.lemmas.Grind.{merely}
 use Rattle.block_store.specs.declared.set.SetPlan.{SetPlan}
 use Rattle.block_store.specs.Stored.{memory_in, shape_of_plan, shapes_in}
-use Rattle.instruction_runs.specs.Waiting.{IsDeferral, IsReady}
+use Rattle.instruction_runs.specs.Waiting.{AreReady, IsDeferral, IsReady}
 use Rattle.paris_phases.specs.Machines.{memory_of, sets_of}
-use Rattle.paris_phases.proofs.Waits.{done_settled, none_ready, nothing_fits, waits_more}
+use Rattle.paris_phases.proofs.Waits.{done_ahead, nothing_fits, waits_more}
 use Rattle.paris_phases.proofs.crew.Crew.apply.Goals as goal
 
 pub invariant_of-machine : goal.invariant_of-machine
@@ -36,13 +36,13 @@ returns-in-Some g c =
 pub returns-in-None : goal.returns-in-None
 returns-in-None g c =
     let old = c.args.machine.now in
-    let settled = c.settle.new.machine in
+    let way = c.make_way.new.machine in
     let w = c.args.winner in
     let did = c.do_now.ensures in
     record {
-      ready = none_ready (shapes_in c.do_now.new.store) settled.batch.set settled.batch.deferred.items c.settle.ensures.settled;
-      shapes = did.shapes ∙ c.settle.ensures.shapes;
+      ready = subst (λ shapes. AreReady shapes way.batch.set way.batch.deferred.items) (sym did.shapes) c.make_way.ensures.ready;
+      shapes = did.shapes ∙ c.make_way.ensures.shapes;
       fits = did.fits;
-      meaning = done_settled (sets_of old) (sets_of settled) (shapes_in c.do_now.new.store) c.args.instr.now c.args.args.now settled.batch.deferred.items (memory_of old w) (memory_in settled.store w) (memory_in c.do_now.new.store w) c.do_now.result
-          c.settle.ensures.settled c.settle.ensures.shapes old.whole.grids c.requires.can (c.settle.ensures.memory w) did.meaning;
+      meaning = done_ahead (sets_of old) (sets_of way) (shapes_in c.do_now.new.store) way.batch.set c.args.instr.now c.args.args.now way.batch.deferred.items (memory_of old w) (memory_in way.store w) (memory_in c.do_now.new.store w) c.do_now.result
+          c.make_way.ensures.shapes (did.shapes ∙ c.make_way.ensures.shapes) c.make_way.ensures.ready c.make_way.ensures.passes old.whole.grids c.requires.can (c.make_way.ensures.memory w) did.meaning;
     }
