@@ -107,13 +107,13 @@ fn reduced(
 
 /// A chain of casts to scalar types. A parallel operand is a fault of the innermost one.
 pub fn casts(alloc: Global, casts: &[Cast], operand: Box<TExpr>) -> Result<TExpr, Untyped> {
-    let (Some(first), Some(last)) = (casts.first(), casts.last()) else {
+    let Some(last) = casts.last() else {
         return Err(Untyped::Faulty);
     };
     if operand.ty().shape.is_some() {
         return Err(fault(Fault::ScalarWanted, last.place));
     }
-    Ok(cast_chain(alloc, *first, casts, operand)?)
+    Ok(cast_chain(alloc, casts, operand)?)
 }
 
 /// A pair of brackets, which has a value if what stands in it has one.

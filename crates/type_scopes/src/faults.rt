@@ -1,8 +1,10 @@
 //! The faults of typing. Typing goes on after a fault; the least of all that stand is kept.
 
-ghost use Rattle.std.specs.Prelude.{◌≡◌, true, IsNone, MatchOption};
+ghost use Rattle.std.specs.Prelude.{◌≡◌, Some, true, IsNone, MatchOption};
+ghost use Rattle.type_scopes.specs.Answers.{told_by};
 ghost use Rattle.type_scopes.specs.Faults.{lesser, told};
 ghost use Rattle.type_scopes.specs.TypingFaults.{is_of_typing};
+ghost use Rattle.type_scopes.specs.declared.faults.Untyped.TheVariants as Untypeds;
 
 use crate::standing::Standing;
 use cstar_base::{Fault, Memory, Place};
@@ -65,18 +67,24 @@ pub enum Untyped {
 }
 
 impl From<Memory> for Untyped {
+    ghost from_gives = { λ _ e. e ≡ Untypeds.Memory };
+
     fn from(_memory: Memory) -> Untyped {
         Untyped::Memory
     }
 }
 
 impl From<AllocError> for Untyped {
+    ghost from_gives = { λ _ e. e ≡ Untypeds.Memory };
+
     fn from(_error: AllocError) -> Untyped {
         Untyped::Memory
     }
 }
 
 impl<T: Drop> From<AllocFailed<T>> for Untyped {
+    ghost from_gives = { λ _ e. e ≡ Untypeds.Memory };
+
     fn from(_error: AllocFailed<T>) -> Untyped {
         Untyped::Memory
     }
@@ -85,6 +93,7 @@ impl<T: Drop> From<AllocFailed<T>> for Untyped {
 /// The answer where the fault stands at the place.
 pub fn fault(fault: Fault, place: Place) -> Untyped
     requires { is_of_typing fault ≡ true }
+    ensures { told_by result ≡ Some (fault, place) }
 {
     Untyped::Fault(Standing { fault, place })
 }

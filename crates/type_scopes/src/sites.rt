@@ -1,5 +1,10 @@
 //! Where an expression or a statement stands.
 
+ghost use Rattle.cstar_base.specs.declared.faults.Fault.TheVariants as Faults;
+ghost use Rattle.cstar_tree.specs.Scopes.{IsAtHand};
+ghost use Rattle.std.specs.Prelude.{◌≡◌, MatchResult, None, Some};
+ghost use Rattle.type_scopes.specs.Answers.{TellsAway, told_by};
+
 use crate::faults::{Untyped, fault};
 use cstar_base::{Fault, Place};
 use cstar_tree::typed::ValueType;
@@ -68,7 +73,9 @@ impl Site {
     }
 
     /// The current shape. If there is none, that is a fault at the place.
-    pub fn shape(self, place: Place) -> Result<u16, Untyped> {
+    pub fn shape(self, place: Place) -> Result<u16, Untyped>
+        ensures { MatchResult result (λ shape. self.current ≡ Some shape) (λ u. (self.current ≡ None) × (told_by u ≡ Some (Faults.NoShape, place))) }
+    {
         match self.current {
             Some(shape) => Ok(shape),
             None => Err(fault(Fault::NoShape, place)),
@@ -77,14 +84,16 @@ impl Site {
 
     /// A value of the shape, or a scalar one, stands at the place. A shape that is not the current
     /// one is a fault there.
-    pub fn holds(self, place: Place, shape: Option<u16>) -> Result<(), Untyped> {
-        match (shape, self.current) {
-            (Some(_), None) => Err(fault(Fault::NoShape, place)),
-            (Some(shape), Some(current)) if shape != current => Err(fault(
-                Fault::OtherShape,
-                place,
-            )),
-            _ => Ok(()),
+    pub fn holds(self, place: Place, shape: Option<u16>) -> Result<(), Untyped>
+        ensures { MatchResult result (λ _. IsAtHand self.current shape) (TellsAway self.current shape place) }
+    {
+        let Some(shape) = shape else {
+            return Ok(());
+        };
+        match self.current {
+            None => Err(fault(Fault::NoShape, place)),
+            Some(current) if current == shape => Ok(()),
+            Some(_) => Err(fault(Fault::OtherShape, place)),
         }
     }
 }

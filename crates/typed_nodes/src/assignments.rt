@@ -1,5 +1,13 @@
 //! Assignments, `++` and `--`.
 
+ghost use Rattle.cstar_tree.specs.Operations as X;
+ghost use Rattle.cstar_tree.specs.Typed.{type_of};
+ghost use Rattle.cstar_tree.specs.declared.typed.TExpr as Nodes;
+ghost use Rattle.std.specs.Option.{option_map};
+ghost use Rattle.std.specs.Prelude.{◌≡◌, IfOk};
+ghost use Rattle.typed_nodes.specs.Operators.{IsAssignment};
+ghost use Rattle.typed_nodes.specs.Targets.{meant};
+
 use crate::conversions::{common, fitted, promoted};
 use cstar_base::{Elem, Memory, Place};
 use cstar_tree::syntax::{AssignOp, StepOp};
@@ -15,7 +23,10 @@ pub enum Target {
 }
 
 /// What the expression is as a target, maybe in brackets. None if it is none.
-pub fn target_of(e: &TExpr) -> Option<Target> {
+#[tactic(auto, unfolding(cstar_tree::specs::Operations::target_of))]
+pub fn target_of(e: &TExpr) -> Option<Target>
+    ensures { option_map meant result ≡ X.target_of e.now }
+{
     match e {
         TExpr::Brackets { inner, .. } => target_of(inner),
         TExpr::Variable { .. } | TExpr::Element { .. } => Some(Target::Variable),
@@ -28,7 +39,9 @@ pub fn target_of(e: &TExpr) -> Option<Target> {
 }
 
 /// Does the assignment fold a parallel value into a scalar target?
-pub fn folds(op: AssignOp) -> bool {
+pub fn folds(op: AssignOp) -> bool
+    ensures { result ≡ X.folds op }
+{
     matches!(
         op,
         AssignOp::Add
@@ -42,7 +55,10 @@ pub fn folds(op: AssignOp) -> bool {
 }
 
 /// The element type that the value of an assignment is brought to.
-fn value_elem(op: AssignOp, target: Elem, value: Elem) -> Elem {
+#[tactic(auto, unfolding(cstar_tree::specs::Operations::assigned_elem))]
+fn value_elem(op: AssignOp, target: Elem, value: Elem) -> Elem
+    ensures { result ≡ X.assigned_elem op target value }
+{
     match op {
         AssignOp::Set => target,
         AssignOp::Shl | AssignOp::Shr => promoted(value),
@@ -58,7 +74,9 @@ pub fn assignment(
     op: AssignOp,
     target: Box<TExpr>,
     value: Box<TExpr>,
-) -> Result<TExpr, Memory> {
+) -> Result<TExpr, Memory>
+    ensures { IfOk result (IsAssignment place op target value.value) }
+{
     let ty = target.ty();
     let wanted = ValueType {
         elem: value_elem(op, ty.elem, value.ty().elem),
@@ -75,7 +93,9 @@ pub fn assignment(
 }
 
 /// `++` or `--` on its target.
-pub fn step(op: StepOp, order: StepOrder, target: Box<TExpr>) -> TExpr {
+pub fn step(op: StepOp, order: StepOrder, target: Box<TExpr>) -> TExpr
+    ensures { result ≡ Nodes.Step (type_of target.value) op order target }
+{
     TExpr::Step {
         ty: target.ty(),
         op,
