@@ -1,5 +1,5 @@
 -- Lanes of planes side by side, and of windows on the planes that are held.
-use Rattle.std.proofs.Common.{◌≡◌, ℕ, zero, suc, eqb, ◌⊎◌, ◌+◌, ◌-◌, ◌*◌, ◌/◌, ◌%◌, ◌^◌, ◌<◌, ◌≤◌, cond, ltb, max, min, List, [], ◌∷◌, length, get_or, sym, ◌∙◌, ap, subst, inl, inr, zero-add, arith}
+use Rattle.std.proofs.Common.{◌≡◌, ℕ, zero, suc, eqb, ◌⊎◌, ◌+◌, ◌-◌, ◌*◌, ◌/◌, ◌%◌, ◌^◌, ◌<◌, ◌≤◌, Bool, true, false, cond, ltb, max, min, List, [], ◌∷◌, length, get_or, sym, ◌∙◌, ap, subst, inl, inr, zero-add, arith}
 use Rattle.std.specs.Int.{bit_at}
 use Rattle.std.proofs.Math.Nat.{mod-eq_of_lt, add-mul-mod_self_right}
 use Rattle.std.proofs.lemmas.Bool.{cases_lt, cases_eq, eq-eqb, ne_eqb}
@@ -11,12 +11,11 @@ use Rattle.bit_planes.specs.Bits.{bit}
 use Rattle.bit_planes.specs.Planes.{plane_at, number}
 use Rattle.lane_kernels.specs.declared.target.Target.{Target}
 use Rattle.lane_kernels.specs.Kernels.{Becomes}
-use Rattle.lane_kernels.specs.Numbers.{ones_before}
 use Rattle.phase_meaning.proofs.Tests.{less, not_less}
 use Rattle.block_store.specs.declared.set.Cell.{Cell}
 use Rattle.news_grid.specs.declared.window.Turn.{Turn}
 use Rattle.news_grid.specs.declared.window.Window.{Window}
-use Rattle.news_grid.specs.Steps.{number_taken, planes_in_cell, planes_held, number_held, number_seen, beside, Views}
+use Rattle.news_grid.specs.Steps.{number_taken, planes_in_cell, planes_held, number_held, number_seen, seen_through, beside, Views}
 
 -- a word of the first plane, or of the second
 pub word_low : (low high : List ℕ) (at : ℕ) → at < 8 → (i : ℕ) → i < 64 → bit_at (get_or low at 0) i ≡ beside low high (64 * at + i)
@@ -159,16 +158,32 @@ both_put cells turn to staying round old mid new so sl ro rl stays rounds first 
       ∙ first.outside j (subst (λ o. (j < o) ⊎ (o + staying.len ≤ j)) (sym so) (subst (λ n. (j < to.offset) ⊎ (to.offset + n ≤ j)) (sym sl) far));
 }
 
--- where none is 1, each is 0
-pub no_lane : (mask : List ℕ) (n i : ℕ) → 0 ≡ ones_before mask n → i < n → bit mask i ≡ 0
-unfolding ones_before
-no_lane mask zero i e b = absurd (omega arith)
-no_lane mask (suc n) i e b = elim (cases_eq i n) [
-  | inl q ↦ ap (bit mask) q ∙ (let z : bit mask n ≡ 0 = omega (arith, e) in z)
-  | inr q ↦ no_lane mask n i (omega (arith, e)) (omega (arith, b, q))
+-- the one of two bits that a third chooses
+pub chosen : (c r s a d b x : ℕ) → c < 2 → r < 2 → s < 2 → a ≡ min c r → d ≡ 1 - c → b ≡ min d s → x ≡ max a b → x ≡ cond (eqb c 1) r s
+chosen c r s a d b x cb rb sb is_a is_d is_b is = elim (cases_eq c 1) [
+  | inl e ↦ (let q : x ≡ r = omega arith in q) ∙ sym (ap (λ t. cond t r s) (eq-eqb c 1 e))
+  | inr n ↦ (let q : x ≡ s = omega arith in q) ∙ sym (ap (λ t. cond t r s) (ne_eqb c 1 n))
 ]
 
--- and the one window shows what all lanes take
-pub taken_staying : (cells : List Cell) (turn : Turn) (len i : ℕ) → 0 ≡ ones_before turn.crossing 512 → i < 512 → number_seen cells turn.staying len i ≡ number_taken cells turn len i
-taken_staying cells turn len i none ib =
-    sym (ap (λ b. cond (eqb b 1) (number_seen cells turn.round len i) (number_seen cells turn.staying len i)) (no_lane turn.crossing 512 i none ib))
+-- what a lane takes that stays in its turn, and one that crosses its end
+pub taken_staying : (cells : List Cell) (turn : Turn) (len i : ℕ) → bit turn.crossing i ≡ 0 → number_seen cells turn.staying len i ≡ number_taken cells turn len i
+taken_staying cells turn len i off = sym (ap (λ b. cond (eqb b 1) (number_seen cells turn.round len i) (number_seen cells turn.staying len i)) off)
+
+pub taken_round : (cells : List Cell) (turn : Turn) (len i : ℕ) → bit turn.crossing i ≡ 1 → number_seen cells turn.round len i ≡ number_taken cells turn len i
+taken_round cells turn len i on = sym (ap (λ b. cond (eqb b 1) (number_seen cells turn.round len i) (number_seen cells turn.staying len i)) on)
+
+-- a bit of it, and how large it is
+pub taken_bit : (cells : List Cell) (turn : Turn) (len i j : ℕ) → j < len
+    → bit_at (number_taken cells turn len i) j ≡ cond (eqb (bit turn.crossing i) 1) (seen_through turn.round cells j i) (seen_through turn.staying cells j i)
+taken_bit cells turn len i j jb = by_test (eqb (bit turn.crossing i) 1)
+  where
+    by_test : (t : Bool) → bit_at (cond t (number_seen cells turn.round len i) (number_seen cells turn.staying len i)) j ≡ cond t (seen_through turn.round cells j i) (seen_through turn.staying cells j i)
+    by_test true = seen_bit cells turn.round len i j jb
+    by_test false = seen_bit cells turn.staying len i j jb
+
+pub taken-lt : (cells : List Cell) (turn : Turn) (len i : ℕ) → number_taken cells turn len i < 2 ^ len
+taken-lt cells turn len i = by_test (eqb (bit turn.crossing i) 1)
+  where
+    by_test : (t : Bool) → cond t (number_seen cells turn.round len i) (number_seen cells turn.staying len i) < 2 ^ len
+    by_test true = seen-lt cells turn.round len i
+    by_test false = seen-lt cells turn.staying len i

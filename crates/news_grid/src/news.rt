@@ -19,12 +19,12 @@ ghost use Rattle.news_grid.specs.Steps.{HasCells, number_seen, number_taken};
 ghost use Rattle.news_grid.specs.Takings.{TakingFits, Stepped};
 
 use crate::step::Step;
-use crate::window::{Turn, Window};
+use crate::window::{Turn, Window, are_all};
 use bit_planes::plane::{both, opposite};
 use bit_planes::{Block, Plane};
 use block_store::{BlockSet, Cell, Room, SetPlan, Store, taking_lanes};
 use cstar_io::Gate;
-use lane_kernels::{Target, count, write};
+use lane_kernels::{Target, write};
 use paris_code::Field;
 use phase_meaning::arith::signed;
 use std::simd::prelude::*;
@@ -128,8 +128,48 @@ fn put_window(planes: &mut [Plane], to: &Target, cells: &[Cell], window: &Window
     }
 }
 
-/// The same of the two windows of a turn, one after the other.
+/// The target becomes, in its lanes, what a turn takes of the planes that the cells hold; both of its
+/// windows begin in this word of their first blocks.
+#[inline(always)]
+fn put_both_from(planes: &mut [Plane], to: &Target, cells: &[Cell], turn: &Turn, word: usize)
+    requires target { HasTarget to.now planes.old }
+    requires staying { HasCells turn.now.staying cells.now }
+    requires round { HasCells turn.now.round cells.now }
+    requires words { (word ≡ turn.now.staying.from / 64) × (word ≡ turn.now.round.from / 64) }
+    ensures { Becomes to.now (λ i. number_taken cells.now turn.now to.now.len i) planes.old planes.new }
+{
+    for j in 0..to.len as usize {
+        write(
+            planes,
+            to.offset as usize + j,
+            turn.plane(cells, j, word),
+            to.lanes,
+        );
+    }
+}
+
+/// The same by a loop of its own for each word in which the windows may begin.
 fn put_both(planes: &mut [Plane], to: &Target, cells: &[Cell], turn: &Turn)
+    requires target { HasTarget to.now planes.old }
+    requires staying { HasCells turn.now.staying cells.now }
+    requires round { HasCells turn.now.round cells.now }
+    requires words { turn.now.staying.from / 64 ≡ turn.now.round.from / 64 }
+    ensures { Becomes to.now (λ i. number_taken cells.now turn.now to.now.len i) planes.old planes.new }
+{
+    match turn.staying.word() {
+        0 => put_both_from(planes, to, cells, turn, 0),
+        1 => put_both_from(planes, to, cells, turn, 1),
+        2 => put_both_from(planes, to, cells, turn, 2),
+        3 => put_both_from(planes, to, cells, turn, 3),
+        4 => put_both_from(planes, to, cells, turn, 4),
+        5 => put_both_from(planes, to, cells, turn, 5),
+        6 => put_both_from(planes, to, cells, turn, 6),
+        _ => put_both_from(planes, to, cells, turn, 7),
+    }
+}
+
+/// The same of windows that begin in different words, through one after the other.
+fn put_apart(planes: &mut [Plane], to: &Target, cells: &[Cell], turn: &Turn)
     requires target { HasTarget to.now planes.old }
     requires staying { HasCells turn.now.staying cells.now }
     requires round { HasCells turn.now.round cells.now }
@@ -142,17 +182,21 @@ fn put_both(planes: &mut [Plane], to: &Target, cells: &[Cell], turn: &Turn)
     put_window(planes, &round, cells, &turn.round);
 }
 
-/// The same, and where no lane crosses the end of its turn, through the one window alone.
+/// The same, and where no lane crosses the end of its turn, or each does, through the one window alone.
 fn put_turn(planes: &mut [Plane], to: &Target, cells: &[Cell], turn: &Turn)
     requires target { HasTarget to.now planes.old }
     requires staying { HasCells turn.now.staying cells.now }
     requires round { HasCells turn.now.round cells.now }
     ensures { Becomes to.now (λ i. number_taken cells.now turn.now to.now.len i) planes.old planes.new }
 {
-    if count(turn.crossing) == 0 {
+    if are_all(turn.crossing, false) {
         put_window(planes, to, cells, &turn.staying);
-    } else {
+    } else if are_all(turn.crossing, true) {
+        put_window(planes, to, cells, &turn.round);
+    } else if turn.staying.word() == turn.round.word() {
         put_both(planes, to, cells, turn);
+    } else {
+        put_apart(planes, to, cells, turn);
     }
 }
 

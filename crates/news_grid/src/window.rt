@@ -1,12 +1,12 @@
 //! Windows of 512 lanes on the planes that the room holds, from any lane on.
 
-ghost use Rattle.std.specs.Prelude.{◌≡◌, ℕ, ◌<◌, ◌≤◌, ◌+◌, ◌*◌, ◌/◌, ◌%◌};
+ghost use Rattle.std.specs.Prelude.{◌≡◌, ◌↔◌, ℕ, ◌<◌, ◌≤◌, ◌+◌, ◌*◌, ◌/◌, ◌%◌, ◌==◌, if◌then◌else◌, slice_index, EachIndex, IsTrue};
 ghost use Rattle.std.specs.Int.{bit_at};
 ghost use Rattle.bit_planes.specs.Bits.{bit};
 ghost use Rattle.bit_planes.specs.Planes.{plane_at};
 ghost use Rattle.news_grid.specs.Steps.{beside, planes_held, seen_through, HasCells, Views};
 
-use bit_planes::plane::{either, moved_down, moved_up};
+use bit_planes::plane::{both, either, moved_down, moved_up, opposite};
 use block_store::Cell;
 use std::simd::prelude::*;
 use vp_sets::BLOCK_SIZE;
@@ -120,4 +120,39 @@ pub(crate) struct Turn {
     pub(crate) staying: Window,
     pub(crate) round: Window,
     pub(crate) crossing: u64x8,
+}
+
+impl Turn {
+    /// What its lanes take on a plane that the cells hold, where both of its windows begin in this word.
+    #[inline(always)]
+    pub(crate) fn plane(&self, cells: &[Cell], j: usize, word: usize) -> u64x8
+        requires plane { j < 32 }
+        requires staying { HasCells self.now.staying cells.now }
+        requires round { HasCells self.now.round cells.now }
+        requires words { (word ≡ self.now.staying.from / 64) × (word ≡ self.now.round.from / 64) }
+        ensures { (i : ℕ) → i < 512 → bit result i ≡ (if bit self.now.crossing i == 1 then seen_through self.now.round cells.now j i else seen_through self.now.staying cells.now j i) }
+    {
+        let round = self.round.plane(cells, j, word);
+        let staying = self.staying.plane(cells, j, word);
+        either(
+            both(self.crossing, round),
+            both(opposite(self.crossing), staying),
+        )
+    }
+}
+
+/// Whether each of the words is this one.
+#[inline(always)]
+fn are_each(words: &[u64], word: u64) -> bool
+    ensures { IsTrue result ↔ EachIndex words.now (λ k. slice_index words.now k ≡ word) }
+{
+    words.iter().all(|w| *w == word)
+}
+
+/// Whether each lane has this bit.
+pub(crate) fn are_all(lanes: u64x8, one: bool) -> bool
+    ensures { IsTrue result → (i : ℕ) → i < 512 → bit lanes i ≡ (if one then 1 else 0) }
+{
+    let word = if one { u64::MAX } else { 0 };
+    are_each(&lanes.to_array(), word)
 }

@@ -1,7 +1,7 @@
 use Rattle.std.proofs.Common.{◌∙◌, ap, min}
 use Rattle.bit_planes.specs.Bits.{bit}
 use Rattle.news_grid.proofs.Windows.{both_put}
-use Rattle.news_grid.proofs.news.put_both.Goals as goal
+use Rattle.news_grid.proofs.news.put_apart.Goals as goal
 
 pub returns : goal.returns
 returns c =
