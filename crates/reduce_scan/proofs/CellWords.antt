@@ -98,7 +98,7 @@ module _ (c : Reduction) (lines : Lines) (some : 0 < lines.apart) (n : ℕ) (old
   own_step : steps_before lines.direction lines.positions at ≡ n
   own_step = (steps_back lines.direction lines.positions n low).1
 
-  at_below : at < lines.positions
+  pub at_below : at < lines.positions
   at_below = (steps_back lines.direction lines.positions n low).0
 
   -- where something begins
