@@ -1,6 +1,6 @@
 //! The blocks of one set.
 
-ghost use Rattle.std.specs.Prelude.{ℕ, ◌≡◌, ◌≢◌, ◌⊎◌, ◌<◌, ◌≤◌, ◌+◌, ◌-◌, ◌*◌, ◌/◌, ◌^◌, All, IfOk, length, vec_len, nat_lt, if◌then◌else◌};
+ghost use Rattle.std.specs.Prelude.{ℕ, ◌≡◌, ◌≢◌, ◌⊎◌, ◌<◌, ◌≤◌, ◌+◌, ◌-◌, ◌*◌, ◌/◌, ◌^◌, All, IfOk, length, nat_lt, if◌then◌else◌};
 ghost use Rattle.std.specs.Int.{bit_at};
 ghost use Rattle.paris_code.specs.Memory.{run_number};
 ghost use Rattle.bit_planes.specs.Bits.{bit};
@@ -55,31 +55,11 @@ pub fn taking_lanes(plan: &SetPlan, block: &Block, k: u32, always: bool) -> u64x
     block.plane(plan.bits)
 }
 
-/// Room for one word of each position of a block, and for the planes of one of its fields.
+/// Room for one word of each position of a block, and for the lanes at which lines or segments begin.
 #[derive(Clone, Copy)]
 pub struct Cell {
     pub words: [u32; 512],
-    pub planes: [Plane; 32],
-}
-
-/// A cell for each block of the largest set.
-#[derive(Drop)]
-pub struct Room {
-    pub cells: Vec<Cell>,
-}
-
-impl Room {
-    /// So many cells. Their content means nothing.
-    pub(crate) fn new(alloc: Global, cells: u32) -> Result<Room, Memory>
-        ensures { IfOk result (λ room. vec_len room.cells ≡ cells) }
-    {
-        let empty = Cell {
-            words: [0; 512],
-            planes: [Plane::zero(); 32],
-        };
-        let cells = vec![in alloc; empty; cells as usize]?;
-        Ok(Room { cells })
-    }
+    pub cuts: Plane,
 }
 
 /// Block `k` of a new set.

@@ -11,7 +11,8 @@ ghost use Rattle.paris_code.specs.Writes.{written};
 ghost use Rattle.phase_meaning.specs.Apply.{IsPosition, IsRun};
 ghost use Rattle.vp_sets.specs.Blocks.{block_count};
 
-use crate::set::{BlockSet, Room, SetPlan};
+use crate::room::Room;
+use crate::set::{BlockSet, SetPlan};
 use cstar_base::Memory;
 use paris_code::Field;
 use std::alloc::Global;

@@ -8,7 +8,8 @@ ghost use Rattle.block_store.specs.Phases.{LanesWritten};
 ghost use Rattle.block_store.specs.Planes.{HasPlanes};
 ghost use Rattle.block_store.specs.Stored.{word_or_zero};
 
-use crate::set::{BlockSet, Cell, Room};
+use crate::room::Room;
+use crate::set::{BlockSet, Cell};
 use bit_planes::{Block, Rows};
 use lane_kernels::{Target, in_place};
 use std::simd::prelude::*;

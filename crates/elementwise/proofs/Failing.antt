@@ -165,8 +165,8 @@ module _ (shapes : List SetShape) (instr : Instr) (args : List ℕ) (sets : List
   found_in : (k : ℕ) → k < length (blocks_in set) → Found k (word_at cells (512 * k))
   unfolding Found count
   found_in k b = some_block (Found k (word_at cells (512 * k))) (blocks_in set) k b (λ other.
-      subst (Found k) (first_word cells k (record { words = []; planes = [] }) (omega (arith, fits)))
-      (let first = each k (record { words = []; planes = [] }) other b (omega (arith, fits)) in (
+      subst (Found k) (first_word cells k (record { words = []; cuts = record { bits = [] } }) (omega (arith, fits)))
+      (let first = each k (record { words = []; cuts = record { bits = [] } }) other b (omega (arith, fits)) in (
         λ i ib h w. sym (same_here k i other b ib) ∙ first.before i ib h w,
         λ h. (let here = first.here h in (here.0, sym (same_here k _ other b h) ∙ here.1)),
       )))

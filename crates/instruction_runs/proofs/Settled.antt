@@ -6,6 +6,7 @@ use Rattle.std.proofs.lemmas.List.{get_or-map}
 use Rattle.vp_sets.specs.Blocks.{block_count}
 use Rattle.cstar_base.specs.declared.operators.Winner.{Winner}
 use Rattle.bit_planes.specs.declared.block.Block.{Block}
+use Rattle.bit_planes.specs.declared.plane.Plane.{Plane}
 use Rattle.paris_code.specs.Memory.{SameBits, processors}
 use Rattle.paris_code.specs.Shapes.{SetShape, bits_at, extents_at}
 use Rattle.phase_meaning.proofs.FieldLemmas.{destination_runs}
@@ -17,7 +18,6 @@ use Rattle.block_store.specs.Stored.{shape_of_plan, blocks_in, blocks_at, stored
 use Rattle.block_store.proofs.Fetches.{some_block}
 use Rattle.block_store.proofs.Stores.{blocks_old, blocks_new, blocks_other, block_exists, few_blocks, held, whole_kept, set_kept}
 use Rattle.elementwise.specs.Blocks.{block_memory}
-use Rattle.block_store.specs.declared.set.Cell.{Cell}
 use Rattle.instruction_runs.specs.declared.deferring.Deferred.{Deferred}
 use Rattle.instruction_runs.specs.declared.deferring.Work.{Work}
 use Rattle.instruction_runs.specs.declared.deferring.Work.TheVariants as W
@@ -48,16 +48,16 @@ set_blocks shapes sets old k own whole exists e at =
     (omega (arith, ap length same, few_blocks shapes sets own whole exists), ap length same ∙ is_whole.count, subst (λ (bs : List Block). HasPlanes (bits_at shapes own + 2) bs) (sym same) is_whole.planes)
 
 -- and there is room for a pass over them
-pub pass_fits : (shapes : List SetShape) (sets : List BlockSet) (set : ℕ) (cells : List Cell) → AreWhole shapes sets → set < length shapes → length (blocks_at sets set) ≤ length cells → PassFits shapes set cells
-pass_fits shapes sets set cells whole exists much = record {
+pub pass_fits : (shapes : List SetShape) (sets : List BlockSet) (set : ℕ) (held : List Plane) → AreWhole shapes sets → set < length shapes → 32 * length (blocks_at sets set) ≤ length held → PassFits shapes set held
+pass_fits shapes sets set held whole exists much = record {
   few = omega (arith, few_blocks shapes sets set whole exists, (whole.each set exists).count);
-  held = omega (arith, much, (whole.each set exists).count);
+  enough = omega (arith, much, (whole.each set exists).count);
 }
 
 -- what was done in each block of a set
-abbrev pub DidAll : List SetPlan → List Cell → ℕ → List Deferred → BlockSet → BlockSet → Type 0
-DidAll plans cells set ds old new = (j : ℕ) (none : Block) → j < length (blocks_in old)
-    → AllDoneInBlock (map shape_of_plan plans) (held_in cells) set ds j (planes_in (get_or (blocks_in old) j none)) (planes_in (get_or (blocks_in new) j none))
+abbrev pub DidAll : List SetPlan → List Plane → ℕ → List Deferred → BlockSet → BlockSet → Type 0
+DidAll plans held set ds old new = (j : ℕ) (none : Block) → j < length (blocks_in old)
+    → AllDoneInBlock (map shape_of_plan plans) (held_in held) set ds j (planes_in (get_or (blocks_in old) j none)) (planes_in (get_or (blocks_in new) j none))
 
 module _ (shapes : List SetShape) (sets : List BlockSet) (old new : BlockSet) (k own : ℕ) (ds : List Deferred) (held : Field → ℕ → ℕ)
     (whole : AreWhole shapes sets) (exists : own < length shapes) (e : k ≡ own) (at : old ≡ get_or sets k old) (ready : AreReady shapes own ds)

@@ -22,7 +22,6 @@ use Rattle.news_grid.specs.Steps.{number_held}
 use Rattle.news_grid.specs.Takings.{Stepped}
 use Rattle.instruction_runs.specs.declared.deferring.Work.TheVariants as W
 use Rattle.block_store.specs.declared.set.BlockSet.{BlockSet}
-use Rattle.block_store.specs.declared.set.Cell.{Cell}
 use Rattle.block_store.specs.Planes.{HasPlanes}
 use Rattle.block_store.specs.Stored.{blocks_in, blocks_at, stored, AreWhole}
 use Rattle.news_grid.proofs.Fetches.{held_number, taken_steps}
@@ -55,26 +54,26 @@ all_shared : (ds : List Deferred) (f : Field) → AreInTurn ds → source_of_all
 all_shared [] f turns e = cc
 all_shared (d ∷ rest) f turns e = shared_first f d rest (source_of d) refl (all_shared rest f turns.1) turns.0 e
 
-held_shared : (f : Field) (o : Option Field) (blocks : List Block) (cells : List Cell) → IsHeldOf (Some f) blocks cells → Shared f o → IsHeldOf o blocks cells
-held_shared f None blocks cells held same = tt
-held_shared f (Some g) blocks cells held same = λ k i none other b c.
-    ap (λ l. number (get_or cells k none).planes 0 l i) same.1 ∙ held k i none other b c
+held_shared : (f : Field) (o : Option Field) (blocks : List Block) (held : List Plane) → IsHeldOf (Some f) blocks held → Shared f o → IsHeldOf o blocks held
+held_shared f None blocks held is same = tt
+held_shared f (Some g) blocks held is same = λ k i other b.
+    ap (λ l. number held (k * l) l i) same.1 ∙ is k i other b
     ∙ sym (ap (λ l. number (get_or blocks k other).planes.items g.offset l i) same.1 ∙ ap (λ o. number (get_or blocks k other).planes.items o f.len i) same.0)
 
 -- the room holds the source of each shift, where it holds the one
-pub all_held : (ds : List Deferred) (f : Field) (blocks : List Block) (cells : List Cell) → AreInTurn ds → source_of_all ds ≡ Some f → IsHeldOf (Some f) blocks cells → All (λ d. IsHeldOf (source_of d) blocks cells) ds
-all_held ds f blocks cells turns e held = λ k none b. held_shared f (source_of (get_or ds k none)) blocks cells held (all_shared ds f turns e k none b)
+pub all_held : (ds : List Deferred) (f : Field) (blocks : List Block) (held : List Plane) → AreInTurn ds → source_of_all ds ≡ Some f → IsHeldOf (Some f) blocks held → All (λ d. IsHeldOf (source_of d) blocks held) ds
+all_held ds f blocks held turns e is = λ k none b. held_shared f (source_of (get_or ds k none)) blocks held is (all_shared ds f turns e k none b)
 
 none_first : (o later : Option Field) → or_source o later ≡ None → (o ≡ None) × (later ≡ None)
 none_first None later e = (refl, e)
 none_first (Some f) later e = cc
 
 -- and there is none to be held, where none takes from a field
-pub none_held : (ds : List Deferred) (blocks : List Block) (cells : List Cell) → source_of_all ds ≡ None → All (λ d. IsHeldOf (source_of d) blocks cells) ds
-none_held [] blocks cells e = λ k d b. absurd (omega (arith, b))
-none_held (d ∷ rest) blocks cells e =
+pub none_held : (ds : List Deferred) (blocks : List Block) (held : List Plane) → source_of_all ds ≡ None → All (λ d. IsHeldOf (source_of d) blocks held) ds
+none_held [] blocks held e = λ k d b. absurd (omega (arith, b))
+none_held (d ∷ rest) blocks held e =
     let parts = none_first (source_of d) (source_of_all rest) e in
-    All-cons (λ x. IsHeldOf (source_of x) blocks cells) d rest (subst (λ o. IsHeldOf o blocks cells) (sym parts.0) tt) (none_held rest blocks cells parts.1)
+    All-cons (λ x. IsHeldOf (source_of x) blocks held) d rest (subst (λ o. IsHeldOf o blocks held) (sym parts.0) tt) (none_held rest blocks held parts.1)
 
 -- what is true of the sources of all is true of the one
 one_first : (P : Option Field → Type 0) (f : Field) (o later : Option Field) → or_source o later ≡ Some f → P o → (later ≡ Some f → P (Some f)) → P (Some f)
@@ -95,25 +94,25 @@ field_in shapes set (Some f) blocks lies has =
 pub fields_in : (shapes : List SetShape) (set : ℕ) (ds : List Deferred) (blocks : List Block) → AreReady shapes set ds → HasPlanes (bits_at shapes set + 2) blocks → All (λ d. IsFieldIn (source_of d) blocks) ds
 fields_in shapes set ds blocks ready has = λ k none b. field_in shapes set (source_of (get_or ds k none)) blocks (lies_of shapes set (get_or ds k none) (ready.each k none b)) has
 
--- what the room holds of the sources is what the memory has
-module _ (shapes : List SetShape) (sets : List BlockSet) (whole : AreWhole shapes sets) (set : ℕ) (from : BlockSet) (is : blocks_in from ≡ blocks_at sets set) (cells : List Cell) (much : length (blocks_in from) ≤ length cells) (v : Winner) where
-  sourced : (o : Option Field) → SourceLies shapes set o → IsHeldOf o (blocks_in from) cells → IsSourced shapes set (held_in cells) (stored sets v) o
-  sourced None lies held = tt
-  sourced (Some f) lies held = λ q b.
-      held_number shapes sets whole f lies.1 from (is ∙ ap (blocks_at sets) (sym lies.0)) cells much held v q (subst (λ s. q < processors shapes s) (sym lies.0) b)
+-- what is held of the sources is what the memory has
+module _ (shapes : List SetShape) (sets : List BlockSet) (whole : AreWhole shapes sets) (set : ℕ) (from : BlockSet) (is : blocks_in from ≡ blocks_at sets set) (held : List Plane) (v : Winner) where
+  sourced : (o : Option Field) → SourceLies shapes set o → IsHeldOf o (blocks_in from) held → IsSourced shapes set (held_in held) (stored sets v) o
+  sourced None lies same = tt
+  sourced (Some f) lies same = λ q b.
+      held_number shapes sets whole f lies.1 from (is ∙ ap (blocks_at sets) (sym lies.0)) held same v q (subst (λ s. q < processors shapes s) (sym lies.0) b)
 
-  pub all_sourced : (ds : List Deferred) → AreReady shapes set ds → All (λ d. IsHeldOf (source_of d) (blocks_in from) cells) ds → All (λ d. IsSourced shapes set (held_in cells) (stored sets v) (source_of d)) ds
-  all_sourced ds ready held = λ k none b. sourced (source_of (get_or ds k none)) (lies_of shapes set (get_or ds k none) (ready.each k none b)) (held k none b)
+  pub all_sourced : (ds : List Deferred) → AreReady shapes set ds → All (λ d. IsHeldOf (source_of d) (blocks_in from) held) ds → All (λ d. IsSourced shapes set (held_in held) (stored sets v) (source_of d)) ds
+  all_sourced ds ready same = λ k none b. sourced (source_of (get_or ds k none)) (lies_of shapes set (get_or ds k none) (ready.each k none b)) (same k none b)
 
 -- a shift that has taken what is held a step away has written what is held
 pub held_steps : {taking : Taking} (shapes : List SetShape) (instr : Instr) (step : Step) (k : ℕ) (old new : List Plane) → Stepped taking k old new
     → taking.plan.now.geometry ≡ extents_at shapes taking.shift.dest.set → taking.plan.now.bits ≡ bits_at shapes taking.shift.dest.set → taking.shift.source.len ≡ taking.shift.dest.len → taking.shift.dest.set ≡ taking.shift.source.set
-    → WrittenInBlock shapes (write_of_work shapes (held_in taking.cells.now) instr (block_memory old) (W.Shift taking.shift step)) k old new
+    → WrittenInBlock shapes (write_of_work shapes (held_in taking.held.now) instr (block_memory old) (W.Shift taking.shift step)) k old new
 unfolding is_active block_memory
 held_steps {taking} shapes instr step k old new done grid at lens together =
     let news : News = taking.shift in
     let by : ℤ = number_of 32 true news.by in
-    taken_steps shapes (block_memory old) taking k old new grid at (λ p e. refl) (λ p. held_in taking.cells.now news.source (shifted (extents_at shapes news.source.set) p news.axis by))
-    (λ p e b. ap (λ l. number_held taking.cells.now l (shifted (extents_at shapes news.dest.set) p news.axis by)) (sym lens)
-    ∙ ap (λ s. number_held taking.cells.now news.source.len (shifted (extents_at shapes s) p news.axis by)) together)
+    taken_steps shapes (block_memory old) taking k old new grid at (λ p e. refl) (λ p. held_in taking.held.now news.source (shifted (extents_at shapes news.source.set) p news.axis by))
+    (λ p e b. ap (λ l. number_held taking.held.now l (shifted (extents_at shapes news.dest.set) p news.axis by)) (sym lens)
+    ∙ ap (λ s. number_held taking.held.now news.source.len (shifted (extents_at shapes s) p news.axis by)) together)
     done

@@ -1,5 +1,5 @@
 -- What a batch does to one block.
-use Rattle.std.specs.Prelude.{◌≡◌, ℕ, true, ◌+◌, ◌/◌, ◌%◌, ◌^◌, ◌<◌, ◌≤◌, Option, Some, None, List, [], ◌∷◌, length, slice_index_or}
+use Rattle.std.specs.Prelude.{◌≡◌, ℕ, true, ◌+◌, ◌*◌, ◌/◌, ◌%◌, ◌^◌, ◌<◌, ◌≤◌, Option, Some, None, List, [], ◌∷◌, length, slice_index_or}
 use Rattle.vp_sets.specs.Blocks.{block_count}
 use Rattle.vp_sets.specs.Positions.{shifted}
 use Rattle.cstar_base.specs.Numbers.{number_of}
@@ -14,7 +14,6 @@ use Rattle.paris_code.specs.Memory.{BitMemory, processors}
 use Rattle.paris_code.specs.Shapes.{SetShape, bits_at, extents_at}
 use Rattle.paris_code.specs.Writes.{Write, written}
 use Rattle.phase_meaning.specs.Gathered.{gathered}
-use Rattle.block_store.specs.declared.set.Cell.{Cell}
 use Rattle.block_store.specs.Planes.{HasPlanes}
 use Rattle.elementwise.specs.Blocks.{block_memory}
 use Rattle.news_grid.specs.Steps.{number_held}
@@ -23,24 +22,24 @@ use Rattle.instruction_runs.specs.declared.deferring.Work.{Work}
 use Rattle.instruction_runs.specs.declared.deferring.Work.TheVariants as W
 
 -- the numbers of a field that the room holds
-abbrev pub held_in : List Cell → Field → ℕ → ℕ
-held_in cells f p = number_held cells f.len p
+abbrev pub held_in : List Plane → Field → ℕ → ℕ
+held_in held f p = number_held held f.len p
 
--- the sets have room for a pass over the blocks of one: there are few blocks, and a cell for each
-pub record PassFits (shapes : List SetShape) (set : ℕ) (cells : List Cell) : Type 0 where
+-- the sets have room for a pass over the blocks of one: there are few blocks, and 32 held planes for each
+pub record PassFits (shapes : List SetShape) (set : ℕ) (held : List Plane) : Type 0 where
   pub few : block_count (extents_at shapes set) < 2 ^ 16
-  pub held : block_count (extents_at shapes set) ≤ length cells
+  pub enough : 32 * block_count (extents_at shapes set) ≤ length held
 
 -- a field lies in the planes of each block
 abbrev pub IsFieldIn : Option Field → List Block → Type 0
 IsFieldIn None blocks = Unit {0}
 IsFieldIn (Some f) blocks = ((1 ≤ f.len) × (f.len ≤ 32)) × HasPlanes (f.offset + f.len) blocks
 
--- and the cells hold its planes
-abbrev pub IsHeldOf : Option Field → List Block → List Cell → Type 0
-IsHeldOf None blocks cells = Unit {0}
-IsHeldOf (Some f) blocks cells = (k i : ℕ) (none : Cell) (other : Block) → k < length blocks → k < length cells
-    → number (slice_index_or cells k none).planes 0 f.len i ≡ number (slice_index_or blocks k other).planes.items f.offset f.len i
+-- and its planes are held, those of a block side by side
+abbrev pub IsHeldOf : Option Field → List Block → List Plane → Type 0
+IsHeldOf None blocks held = Unit {0}
+IsHeldOf (Some f) blocks held = (k i : ℕ) (other : Block) → k < length blocks
+    → number held (k * f.len) f.len i ≡ number (slice_index_or blocks k other).planes.items f.offset f.len i
 
 -- what an instruction writes, where a shift takes the numbers that are held of its source
 abbrev pub write_of_work : List SetShape → (Field → ℕ → ℕ) → Instr → BitMemory → Work → Write

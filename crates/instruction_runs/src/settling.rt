@@ -20,8 +20,8 @@ ghost use Rattle.instruction_runs.specs.Waiting.{done_all, set_of, source_of, Ar
 
 use crate::batches::Batch;
 use crate::deferring::{Deferred, Work};
-use bit_planes::Block;
-use block_store::{BlockSet, Cell, Room, SetPlan, Store};
+use bit_planes::{Block, Plane};
+use block_store::{BlockSet, Room, SetPlan, Store};
 use cstar_io::Gate;
 use news_grid::{News, Step, Taking, hold, step_block};
 use paris_code::Field;
@@ -29,12 +29,12 @@ use std::thread;
 use std::thread::Threads;
 
 /// What a pass over the blocks of a batch's set needs: the sets, the instructions, and the planes
-/// that the cells hold of each block's field from which shifts take.
+/// that are held of each block's field from which shifts take.
 #[derive(Clone, Copy)]
 struct Pass<'a> {
     plans: &'a [SetPlan],
     batch: &'a Batch,
-    cells: &'a [Cell],
+    held: &'a [Plane],
 }
 
 impl Pass<'_> {
@@ -44,10 +44,10 @@ impl Pass<'_> {
         requires together { news.dest.set ≡ news.source.set }
         requires lens { news.source.len ≡ news.dest.len }
         requires leads { Leads (extents_at (map shape_of_plan self.now.plans.now) news.dest.set) news.axis (number_of 32 true news.by) step }
-        requires fits { PassFits (map shape_of_plan self.now.plans.now) news.dest.set self.now.cells.now }
+        requires fits { PassFits (map shape_of_plan self.now.plans.now) news.dest.set self.now.held.now }
         requires planes { bits_at (map shape_of_plan self.now.plans.now) news.dest.set + 2 ≤ length block.old.planes.items }
         requires block { k < block_count (extents_at (map shape_of_plan self.now.plans.now) news.dest.set) }
-        ensures { (instr : Instr) → WrittenInBlock (map shape_of_plan self.now.plans.now) (write_of_work (map shape_of_plan self.now.plans.now) (held_in self.now.cells.now) instr (block_memory block.old.planes.items) (W.Shift news step)) k
+        ensures { (instr : Instr) → WrittenInBlock (map shape_of_plan self.now.plans.now) (write_of_work (map shape_of_plan self.now.plans.now) (held_in self.now.held.now) instr (block_memory block.old.planes.items) (W.Shift news step)) k
             block.old.planes.items block.new.planes.items }
     {
         let plans = self.plans;
@@ -55,7 +55,7 @@ impl Pass<'_> {
         let taking = Taking {
             plan,
             blocks: plan.geometry.block_count(),
-            cells: self.cells,
+            held: self.held,
             shift: news,
             step,
         };
@@ -90,8 +90,10 @@ fn hold_source<R: Threads + Sync>(
     requires workers { 1 ≤ workers }
     requires sources { All (λ d. IsFieldIn (source_of d) set.now.blocks.items) batch.now.deferred.items }
     requires turns { AreInTurn batch.now.deferred.items }
+    requires few { length set.now.blocks.items < 2 ^ 16 }
+    requires room { length set.now.blocks.items ≤ length room.old.cells.items }
     ensures count { length room.new.cells.items ≡ length room.old.cells.items }
-    ensures held { All (λ d. IsHeldOf (source_of d) set.now.blocks.items room.new.cells.items) batch.now.deferred.items }
+    ensures held { All (λ d. IsHeldOf (source_of d) set.now.blocks.items room.new.held.items) batch.now.deferred.items }
 {
     let Some(source) = batch.source() else {
         return;
@@ -103,10 +105,10 @@ fn hold_source<R: Threads + Sync>(
 /// Does an instruction in block `k` of its set.
 fn do_in_block(block: &mut Block, d: &Deferred, pass: &Pass, k: u32)
     requires ready { IsReady (map shape_of_plan pass.now.plans.now) d.now }
-    requires fits { PassFits (map shape_of_plan pass.now.plans.now) (set_of d.now) pass.now.cells.now }
+    requires fits { PassFits (map shape_of_plan pass.now.plans.now) (set_of d.now) pass.now.held.now }
     requires planes { bits_at (map shape_of_plan pass.now.plans.now) (set_of d.now) + 2 ≤ length block.old.planes.items }
     requires block { k < block_count (extents_at (map shape_of_plan pass.now.plans.now) (set_of d.now)) }
-    ensures { WrittenInBlock (map shape_of_plan pass.now.plans.now) (write_from (map shape_of_plan pass.now.plans.now) (held_in pass.now.cells.now) d.now (block_memory block.old.planes.items)) k
+    ensures { WrittenInBlock (map shape_of_plan pass.now.plans.now) (write_from (map shape_of_plan pass.now.plans.now) (held_in pass.now.held.now) d.now (block_memory block.old.planes.items)) k
         block.old.planes.items block.new.planes.items }
 {
     match &d.work {
@@ -118,10 +120,10 @@ fn do_in_block(block: &mut Block, d: &Deferred, pass: &Pass, k: u32)
 /// Does the instructions in block `k` of their set.
 fn do_all_in_block(block: &mut Block, pass: &Pass, k: u32)
     requires ready { AreReady (map shape_of_plan pass.now.plans.now) pass.now.batch.now.set pass.now.batch.now.deferred.items }
-    requires fits { PassFits (map shape_of_plan pass.now.plans.now) pass.now.batch.now.set pass.now.cells.now }
+    requires fits { PassFits (map shape_of_plan pass.now.plans.now) pass.now.batch.now.set pass.now.held.now }
     requires planes { bits_at (map shape_of_plan pass.now.plans.now) pass.now.batch.now.set + 2 ≤ length block.old.planes.items }
     requires block { k < block_count (extents_at (map shape_of_plan pass.now.plans.now) pass.now.batch.now.set) }
-    ensures { AllDoneInBlock (map shape_of_plan pass.now.plans.now) (held_in pass.now.cells.now) pass.now.batch.now.set pass.now.batch.now.deferred.items k block.old.planes.items block.new.planes.items }
+    ensures { AllDoneInBlock (map shape_of_plan pass.now.plans.now) (held_in pass.now.held.now) pass.now.batch.now.set pass.now.batch.now.deferred.items k block.old.planes.items block.new.planes.items }
 {
     'deferred: for d in pass.batch.as_slice() {
         do_in_block(block, d, pass, k);
@@ -137,14 +139,14 @@ fn do_all_in_set<R: Threads + Sync, G: Gate + Sync>(
     gate: &G,
 )
     requires ready { AreReady (map shape_of_plan pass.now.plans.now) pass.now.batch.now.set pass.now.batch.now.deferred.items }
-    requires fits { PassFits (map shape_of_plan pass.now.plans.now) pass.now.batch.now.set pass.now.cells.now }
+    requires fits { PassFits (map shape_of_plan pass.now.plans.now) pass.now.batch.now.set pass.now.held.now }
     requires workers { 1 ≤ workers }
     requires few { length set.old.blocks.items < 2 ^ 32 }
     requires count { length set.old.blocks.items ≡ block_count (extents_at (map shape_of_plan pass.now.plans.now) pass.now.batch.now.set) }
     requires planes { HasPlanes (bits_at (map shape_of_plan pass.now.plans.now) pass.now.batch.now.set + 2) set.old.blocks.items }
     ensures count { length set.new.blocks.items ≡ length set.old.blocks.items }
     ensures each { (k : ℕ) (none : Block) → k < length set.old.blocks.items
-        → AllDoneInBlock (map shape_of_plan pass.now.plans.now) (held_in pass.now.cells.now) pass.now.batch.now.set pass.now.batch.now.deferred.items k
+        → AllDoneInBlock (map shape_of_plan pass.now.plans.now) (held_in pass.now.held.now) pass.now.batch.now.set pass.now.batch.now.deferred.items k
         (slice_index_or set.old.blocks.items k none).planes.items (slice_index_or set.new.blocks.items k none).planes.items }
 {
     thread::for_each_mut(
@@ -153,10 +155,10 @@ fn do_all_in_set<R: Threads + Sync, G: Gate + Sync>(
         workers as usize,
         &|k: usize, block: &mut Block|
             requires { (k < 2 ^ 32) × AreReady (map shape_of_plan pass.now.plans.now) pass.now.batch.now.set pass.now.batch.now.deferred.items
-                × PassFits (map shape_of_plan pass.now.plans.now) pass.now.batch.now.set pass.now.cells.now
+                × PassFits (map shape_of_plan pass.now.plans.now) pass.now.batch.now.set pass.now.held.now
                 × (bits_at (map shape_of_plan pass.now.plans.now) pass.now.batch.now.set + 2 ≤ length block.now.planes.items)
                 × (k < block_count (extents_at (map shape_of_plan pass.now.plans.now) pass.now.batch.now.set)) }
-            ensures { AllDoneInBlock (map shape_of_plan pass.entry.now.plans.now) (held_in pass.entry.now.cells.now) pass.entry.now.batch.now.set pass.entry.now.batch.now.deferred.items k
+            ensures { AllDoneInBlock (map shape_of_plan pass.entry.now.plans.now) (held_in pass.entry.now.held.now) pass.entry.now.batch.now.set pass.entry.now.batch.now.deferred.items k
                 block.entry.now.planes.items block.exit.now.planes.items }
         {
             gate.at(k as u32);
@@ -192,7 +194,7 @@ pub fn settle<R: Threads + Sync, G: Gate + Sync>(
     let pass = Pass {
         plans: store.plans.as_slice(),
         batch,
-        cells: store.room.cells.as_slice(),
+        held: store.room.held.as_slice(),
     };
     do_all_in_set(rt, &mut store.sets[own], &pass, workers, gate);
     batch.clear();

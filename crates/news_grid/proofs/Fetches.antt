@@ -24,20 +24,20 @@ use Rattle.block_store.specs.Planes.{planes_in, planes_at, block_bit}
 use Rattle.block_store.specs.Phases.{WrittenInBlock}
 use Rattle.block_store.specs.Stored.{blocks_in, blocks_at, stored, word_or_zero, AreWhole}
 use Rattle.block_store.proofs.AllBlocks.{in_block}
-use Rattle.block_store.proofs.Fetches.{Lifted, field_there, fetched_is, some_cell, some_block}
+use Rattle.block_store.proofs.Fetches.{Lifted, field_there, fetched_is, some_block}
 use Rattle.block_store.proofs.Stores.{block_exists}
 use Rattle.news_grid.specs.declared.news.News.{News}
 use Rattle.news_grid.specs.declared.news.Taking.{Taking}
 use Rattle.news_grid.specs.declared.spread.Fetching.{Fetching}
 use Rattle.news_grid.specs.Places.{place, Taken}
-use Rattle.news_grid.specs.Steps.{planes_in_cell, number_held}
+use Rattle.news_grid.specs.Steps.{number_held}
 use Rattle.news_grid.specs.Takings.{Stepped}
 
 -- a block that has taken the numbers of a NEWS shift is as the write of what is held a step away has it, in a memory in which its lanes are as active
 pub taken_steps : (shapes : List SetShape) (m : BitMemory) (taking : Taking) (k : ℕ) (old new : List Plane) → let d : Field = taking.shift.dest in
     taking.plan.now.geometry ≡ extents_at shapes d.set → taking.plan.now.bits ≡ bits_at shapes d.set
     → ((p : ℕ) → p / 512 ≡ k → is_active shapes m d.set p ≡ eqb (bit (plane_at old (bits_at shapes d.set)) (p % 512)) 1)
-    → (word : ℕ → ℕ) → ((p : ℕ) → p / 512 ≡ k → p < processors shapes d.set → number_held taking.cells.now d.len (shifted (extents_at shapes d.set) p taking.shift.axis (number_of 32 true taking.shift.by)) ≡ word p)
+    → (word : ℕ → ℕ) → ((p : ℕ) → p / 512 ≡ k → p < processors shapes d.set → number_held taking.held.now d.len (shifted (extents_at shapes d.set) p taking.shift.axis (number_of 32 true taking.shift.by)) ≡ word p)
     → Stepped taking k old new → WrittenInBlock shapes (gathered shapes m d taking.shift.always word) k old new
 taken_steps shapes m taking k old new grid at active word same done =
     let d : Field = taking.shift.dest in
@@ -49,8 +49,8 @@ taken_steps shapes m taking k old new grid at active word same done =
     ∙ ap (λ c. always || eqb (bit (plane_at old c) (p % 512)) 1) at ∙ ap (λ t. always || t) (sym (active p e)))
     (λ p e past off. done.lanes.quiet (p % 512) (omega arith) (omega (arith, inside p e, past, ap position_count grid)) (ap (λ c. bit (plane_at old c) (p % 512)) at ∙ off))
     (λ p e b. ap (λ x. x % 2 ^ d.len) (done.there (p % 512) (omega arith) (omega (arith, inside p e, b, ap position_count grid))
-    ∙ ap (λ n. number_held taking.cells.now d.len (shifted taking.plan.now.geometry n taking.shift.axis by)) (inside p e)
-    ∙ ap (λ xs. number_held taking.cells.now d.len (shifted xs p taking.shift.axis by)) grid
+    ∙ ap (λ n. number_held taking.held.now d.len (shifted taking.plan.now.geometry n taking.shift.axis by)) (inside p e)
+    ∙ ap (λ xs. number_held taking.held.now d.len (shifted xs p taking.shift.axis by)) grid
     ∙ same p e b))
 
 module _ (shapes : List SetShape) (sets : List BlockSet) (whole : AreWhole shapes sets) (source : Field) (within : LiesIn shapes source)
@@ -79,29 +79,32 @@ module _ (shapes : List SetShape) (sets : List BlockSet) (whole : AreWhole shape
       cut_cut (word_or_zero taking.cells.now taking.count n) d.len d.len (omega arith)
       ∙ ap (λ x. x % 2 ^ d.len) (ap (λ cs. word_or_zero cs taking.count n) (sym same_cells) ∙ fetched_is shapes sets whole source within from is cells much lifted v taking.count n all ∙ ap (number_or_zero shapes (stored sets v) source) named))
 
+-- the planes of a field of each block, side by side
+abbrev pub HeldOf : List Block → Field → List Plane → Type 0
+HeldOf blocks f planes = (k i : ℕ) (other : Block) → k < length blocks → number planes (k * f.len) f.len i ≡ number (planes_in (get_or blocks k other)) f.offset f.len i
+
+module _ (shapes : List SetShape) (sets : List BlockSet) (whole : AreWhole shapes sets) (source : Field) (within : LiesIn shapes source)
+    (from : BlockSet) (is : blocks_in from ≡ blocks_at sets source.set) (planes : List Plane) (held : HeldOf (blocks_in from) source planes) where
   -- what is held of the source is what the positions have
-  pub held_number : ((k i : ℕ) (none : Cell) (other : Block) → k < length (blocks_in from) → k < length cells → number (get_or cells k none).planes 0 source.len i ≡ number (planes_in (get_or (blocks_in from) k other)) source.offset source.len i)
-      → (v : Winner) (p : ℕ) → p < processors shapes source.set → number_held cells source.len p ≡ field_number (stored sets v) source p
-  held_number held v p b =
+  pub held_number : (v : Winner) (p : ℕ) → p < processors shapes source.set → number_held planes source.len p ≡ field_number (stored sets v) source p
+  held_number v p b =
       let k : ℕ = p / 512 in
       let there : k < length (blocks_in from) = omega (arith, ap length is, (whole.each source.set within.0).count, block_exists (extents_at shapes source.set) p b) in
-      some_cell _ cells k (omega (arith, much, there)) (λ none. some_block _ (blocks_in from) k there (λ other.
-      ap (λ ps. number ps 0 source.len (p % 512)) (get_or-map planes_in_cell cells k none [] (omega (arith, much, there)))
-      ∙ held k (p % 512) none other there (omega (arith, much, there))
+      some_block _ (blocks_in from) k there (λ other.
+      held k (p % 512) other there
       ∙ ap (λ ps. number ps source.offset source.len (p % 512)) (sym (get_or-map planes_in (blocks_in from) k other [] there))
       ∙ ap (λ bs. number (planes_at bs k) source.offset source.len (p % 512)) is
-      ∙ field_there sets v source p))
+      ∙ field_there sets v source p)
 
   -- a block that has taken the numbers of a NEWS shift is as the write has it
   pub stepped : (taking : Taking) → source ≡ taking.shift.source
-      → ((k i : ℕ) (none : Cell) (other : Block) → k < length (blocks_in from) → k < length cells → number (get_or cells k none).planes 0 source.len i ≡ number (planes_in (get_or (blocks_in from) k other)) source.offset source.len i)
-      → cells ≡ taking.cells.now → source.len ≡ taking.shift.dest.len → taking.shift.dest.set ≡ source.set → taking.shift.axis < rank_at shapes taking.shift.dest.set
+      → planes ≡ taking.held.now → source.len ≡ taking.shift.dest.len → taking.shift.dest.set ≡ source.set → taking.shift.axis < rank_at shapes taking.shift.dest.set
       → taking.plan.now.geometry ≡ extents_at shapes taking.shift.dest.set → taking.plan.now.bits ≡ bits_at shapes taking.shift.dest.set
       → (v : Winner) (blocks : List Block) → blocks ≡ blocks_at sets taking.shift.dest.set → (k : ℕ) (none : Block) (new : List Plane) → k < length blocks
       → Stepped taking k (planes_in (get_or blocks k none)) new
       → WrittenInBlock shapes (gathered shapes (stored sets v) taking.shift.dest taking.shift.always (of_neighbour shapes (stored sets v) taking.shift.source taking.shift.axis taking.shift.by)) k (planes_in (get_or blocks k none)) new
   unfolding is_active of_neighbour stored block_bit
-  stepped taking own held same_cells lens home axis grid at v blocks same k none new b done =
+  stepped taking own same_held lens home axis grid at v blocks same k none new b done =
       let shift : News = taking.shift in
       let d : Field = shift.dest in
       let by : ℤ = number_of 32 true shift.by in
@@ -115,8 +118,8 @@ module _ (shapes : List SetShape) (sets : List BlockSet) (whole : AreWhole shape
       let q : ℕ = shifted (extents_at shapes d.set) p shift.axis by in
       let q_there : q < processors shapes source.set =
       subst (λ s. q < processors shapes s) home (shifted_below (extents_at shapes d.set) p shift.axis by (geometry_parts (extents_at shapes d.set) (whole.grids d.set no_shape (omega (arith, within.0, home))).0).2 b axis) in
-      ap (λ cs. number_held cs d.len q) (sym same_cells) ∙ ap (λ l. number_held cells l q) (sym lens)
-      ∙ held_number held v q q_there
+      ap (λ ps. number_held ps d.len q) (sym same_held) ∙ ap (λ l. number_held planes l q) (sym lens)
+      ∙ held_number v q q_there
       ∙ ap (λ s. field_number (stored sets v) source (shifted (extents_at shapes s) p shift.axis by)) home
       ∙ ap (λ (f : Field). field_number (stored sets v) f (shifted (extents_at shapes f.set) p shift.axis by)) own)
       done

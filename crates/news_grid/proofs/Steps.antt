@@ -8,8 +8,8 @@ use Rattle.std.proofs.lemmas.Bool.{cases_lt}
 use Rattle.vp_sets.specs.Positions.{position_count, are_positive, coordinate, moved, shifted}
 use Rattle.vp_sets.proofs.PositionLaws.{Step, step_of, axis_count, extent_positive, later_positive, count_positive, coordinate_by_stride}
 use Rattle.vp_sets.specs.Blocks.{block_count}
+use Rattle.bit_planes.specs.declared.plane.Plane.{Plane}
 use Rattle.bit_planes.specs.Bits.{bit}
-use Rattle.block_store.specs.declared.set.Cell.{Cell}
 use Rattle.phase_meaning.proofs.Alike.{shifted_below}
 use Rattle.phase_meaning.proofs.Tests.{less, not_less}
 use Rattle.news_grid.specs.declared.step.Step.{Step as Lead}
@@ -123,12 +123,12 @@ module _ (xs : List ℕ) (axis : ℕ) (by : ℤ) (positive : are_positive xs ≡
       }
 
 -- what a lane of block k takes: what is held for the position to which the step leads
-pub lane_taken : (extents : List ℕ) (axis : ℕ) (by : ℤ) (step : Lead) (cells : List Cell) (k blocks len i : ℕ) (crossing : List ℕ) (staying round : Window) → Leads extents axis by step → blocks ≡ block_count extents
+pub lane_taken : (extents : List ℕ) (axis : ℕ) (by : ℤ) (step : Lead) (held : List Plane) (k blocks len i : ℕ) (crossing : List ℕ) (staying round : Window) → Leads extents axis by step → blocks ≡ block_count extents
     → bit crossing i ≡ cond (ltb ((512 * k + i) % step.turn + step.ahead) step.turn) 0 1
     → Views staying (512 * k + step.ahead) blocks → Views round (512 * k + step.ahead + (512 * blocks - step.turn)) blocks → i < 512 → 512 * k + i < position_count extents
-    → cond (eqb (bit crossing i) 1) (number_seen cells round len i) (number_seen cells staying len i) ≡ number_held cells len (shifted extents (512 * k + i) axis by)
+    → cond (eqb (bit crossing i) 1) (number_seen held round len i) (number_seen held staying len i) ≡ number_held held len (shifted extents (512 * k + i) axis by)
 unfolding block_count
-lane_taken extents axis by step cells k blocks len i crossing staying round leads all crosses is_staying is_round ib within =
+lane_taken extents axis by step held k blocks len i crossing staying round leads all crosses is_staying is_round ib within =
     let n : ℕ = 512 * k + i in
     let there : shifted extents n axis by ≡ led step n = leads.there n within in
     let inside : shifted extents n axis by < position_count extents = leads.inside n within in
@@ -137,16 +137,16 @@ lane_taken extents axis by step cells k blocks len i crossing staying round lead
       | inl l ↦
           let p : led step n ≡ n + step.ahead = sym (less (n % step.turn + step.ahead) step.turn (n + step.ahead) (n + step.ahead - step.turn) l) in
           let off : bit crossing i ≡ 0 = crosses ∙ sym (less (n % step.turn + step.ahead) step.turn 0 1 l) in
-          ap (λ b. cond (eqb b 1) (number_seen cells round len i) (number_seen cells staying len i)) off
-          ∙ seen_there cells staying (512 * k + step.ahead) blocks len i (n + step.ahead) 0 is_staying ib (omega (arith, much, inside, there, p)) (omega arith)
-          ∙ ap (number_held cells len) (sym (there ∙ p))
+          ap (λ b. cond (eqb b 1) (number_seen held round len i) (number_seen held staying len i)) off
+          ∙ seen_there held staying (512 * k + step.ahead) blocks len i (n + step.ahead) 0 is_staying ib (omega (arith, much, inside, there, p)) (omega arith)
+          ∙ ap (number_held held len) (sym (there ∙ p))
       | inr g ↦
           let p : led step n ≡ n + step.ahead - step.turn = sym (not_less (n % step.turn + step.ahead) step.turn (n + step.ahead) (n + step.ahead - step.turn) g) in
           let on : bit crossing i ≡ 1 = crosses ∙ sym (not_less (n % step.turn + step.ahead) step.turn 0 1 g) in
           let far : step.turn ≤ n + step.ahead = omega (arith, g, mod-le n step.turn) in
-          ap (λ b. cond (eqb b 1) (number_seen cells round len i) (number_seen cells staying len i)) on
-          ∙ seen_there cells round (512 * k + step.ahead + (512 * blocks - step.turn)) blocks len i (n + step.ahead - step.turn) 1 is_round ib (omega (arith, much, inside, there, p)) (omega (arith, far, leads.within, much))
-          ∙ ap (number_held cells len) (sym (there ∙ p))
+          ap (λ b. cond (eqb b 1) (number_seen held round len i) (number_seen held staying len i)) on
+          ∙ seen_there held round (512 * k + step.ahead + (512 * blocks - step.turn)) blocks len i (n + step.ahead - step.turn) 1 is_round ib (omega (arith, much, inside, there, p)) (omega (arith, far, leads.within, much))
+          ∙ ap (number_held held len) (sym (there ∙ p))
     ]
 
 -- how far into its turn a lane is, by how far the first one is

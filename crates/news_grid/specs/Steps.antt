@@ -1,10 +1,9 @@
 -- A step along an axis, by the planes that the room holds.
-use Rattle.std.specs.Prelude.{◌≡◌, ℕ, ℤ, ◌+◌, ◌-◌, ◌/◌, ◌%◌, ◌<◌, ◌≤◌, ◌==◌, List, [], map, length, slice_index_or, nat_lt, if◌then◌else◌}
+use Rattle.std.specs.Prelude.{◌≡◌, ℕ, ℤ, ◌+◌, ◌-◌, ◌*◌, ◌/◌, ◌%◌, ◌<◌, ◌≤◌, ◌==◌, List, length, nat_lt, if◌then◌else◌}
 use Rattle.vp_sets.specs.Positions.{position_count, shifted}
 use Rattle.bit_planes.specs.declared.plane.Plane.{Plane}
 use Rattle.bit_planes.specs.Bits.{bit}
 use Rattle.bit_planes.specs.Planes.{plane_at, number}
-use Rattle.block_store.specs.declared.set.Cell.{Cell}
 use Rattle.news_grid.specs.declared.step.Step.{Step}
 use Rattle.news_grid.specs.declared.window.Turn.{Turn}
 use Rattle.news_grid.specs.declared.window.Window.{Window}
@@ -20,24 +19,17 @@ pub record Leads (extents : List ℕ) (axis : ℕ) (by : ℤ) (step : Step) : Ty
   pub there : (n : ℕ) → n < position_count extents → shifted extents n axis by ≡ led step n
   pub inside : (n : ℕ) → n < position_count extents → shifted extents n axis by < position_count extents
 
-abbrev pub planes_in_cell : Cell → List Plane
-planes_in_cell cell = cell.planes
-
--- the planes that are held of block k
-abbrev pub planes_held : List Cell → ℕ → List Plane
-planes_held cells k = slice_index_or (map planes_in_cell cells) k []
-
--- the number of so many bits that they hold for position p
-abbrev pub number_held : List Cell → ℕ → ℕ → ℕ
-number_held cells len p = number (planes_held cells (p / 512)) 0 len (p % 512)
+-- the number of so many bits that the held planes have for position p: those of a block lie side by side, behind those of the block before it
+abbrev pub number_held : List Plane → ℕ → ℕ → ℕ
+number_held held len p = number held (p / 512 * len) len (p % 512)
 
 -- lane n of two planes side by side
 abbrev pub beside : List ℕ → List ℕ → ℕ → ℕ
 beside low high n = if nat_lt n 512 then bit low n else bit high (n - 512)
 
--- lane i of a window on plane j of those that are held
-abbrev pub seen_through : Window → List Cell → ℕ → ℕ → ℕ
-seen_through window cells j i = beside (plane_at (planes_held cells window.first) j) (plane_at (planes_held cells window.next) j) (window.from + i)
+-- lane i of a window on plane j of a field of len bits that is held
+abbrev pub seen_through : Window → List Plane → ℕ → ℕ → ℕ → ℕ
+seen_through window held len j i = beside (plane_at held (window.first * len + j)) (plane_at held (window.next * len + j)) (window.from + i)
 
 -- a window that begins at a lane of a set of so many blocks
 pub record Views (window : Window) (lane blocks : ℕ) : Type 0 where
@@ -45,15 +37,15 @@ pub record Views (window : Window) (lane blocks : ℕ) : Type 0 where
   pub next : window.next ≡ (lane / 512 + 1) % blocks
   pub from : window.from ≡ lane % 512
 
--- a window that ends in the blocks that are held
-abbrev pub HasCells : Window → List Cell → Type 0
-HasCells window cells = (window.first < length cells) × (window.next < length cells) × (window.from < 512)
+-- the planes of a field of len bits are held of both blocks of a window
+abbrev pub HasHeld : Window → ℕ → List Plane → Type 0
+HasHeld window len held = (window.first * len + len ≤ length held) × (window.next * len + len ≤ length held) × (window.from < 512)
 
 -- the number of so many bits in lane i of a window
-abbrev pub number_seen : List Cell → Window → ℕ → ℕ → ℕ
-number_seen cells window len i =
-    if nat_lt (window.from + i) 512 then number (planes_held cells window.first) 0 len (window.from + i) else number (planes_held cells window.next) 0 len (window.from + i - 512)
+abbrev pub number_seen : List Plane → Window → ℕ → ℕ → ℕ
+number_seen held window len i =
+    if nat_lt (window.from + i) 512 then number held (window.first * len) len (window.from + i) else number held (window.next * len) len (window.from + i - 512)
 
 -- the number of so many bits that lane i takes in a turn
-abbrev pub number_taken : List Cell → Turn → ℕ → ℕ → ℕ
-number_taken cells turn len i = if bit turn.crossing i == 1 then number_seen cells turn.round len i else number_seen cells turn.staying len i
+abbrev pub number_taken : List Plane → Turn → ℕ → ℕ → ℕ
+number_taken held turn len i = if bit turn.crossing i == 1 then number_seen held turn.round len i else number_seen held turn.staying len i

@@ -9,13 +9,13 @@ use Rattle.block_store.specs.Phases.{LanesWritten, TakesLanes}
 use Rattle.news_grid.specs.declared.news.Taking.{Taking}
 use Rattle.news_grid.specs.Steps.{Leads, number_held}
 
--- the destination lies in the bits of a position, the planes of each block are held, and the step is that of the shift
+-- the destination lies in the bits of a position, there are held planes for each block, and the step is that of the shift
 pub record TakingFits (taking : Taking) : Type 0 where
   pub len : (1 ≤ taking.shift.dest.len) × (taking.shift.dest.len ≤ 32)
   pub dest : taking.shift.dest.offset + taking.shift.dest.len ≤ taking.plan.now.bits
   pub blocks : taking.blocks ≡ block_count taking.plan.now.geometry
   pub few : taking.blocks < 2 ^ 16
-  pub held : taking.blocks ≤ length taking.cells.now
+  pub held : 32 * taking.blocks ≤ length taking.held.now
   pub leads : Leads taking.plan.now.geometry taking.shift.axis (number_of 32 true taking.shift.by) taking.step
 
 -- the lanes of block k have taken the numbers that are held for the positions to which the steps along the axis lead
@@ -25,4 +25,4 @@ pub record Stepped (taking : Taking) (k : ℕ) (old new : List Plane) : Type 0 w
   pub numbers : ℕ → ℕ
   pub written : LanesWritten taking.shift.dest.offset taking.shift.dest.len mask numbers old new
   pub there : (i : ℕ) → i < 512 → 512 * k + i < position_count taking.plan.now.geometry
-      → numbers i ≡ number_held taking.cells.now taking.shift.dest.len (shifted taking.plan.now.geometry (512 * k + i) taking.shift.axis (number_of 32 true taking.shift.by))
+      → numbers i ≡ number_held taking.held.now taking.shift.dest.len (shifted taking.plan.now.geometry (512 * k + i) taking.shift.axis (number_of 32 true taking.shift.by))

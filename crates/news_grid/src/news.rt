@@ -1,9 +1,9 @@
 //! A NEWS shift over all blocks of a set, by planes.
 
-ghost use Rattle.std.specs.Prelude.{◌≡◌, ℕ, ◌<◌, ◌≤◌, ◌+◌, ◌*◌, ◌/◌, ◌^◌, length, slice_index_or};
+ghost use Rattle.std.specs.Prelude.{◌≡◌, ℕ, ◌<◌, ◌≤◌, ◌+◌, ◌*◌, ◌/◌, ◌%◌, ◌^◌, length, slice_index_or};
 ghost use Rattle.cstar_base.specs.declared.operators.Winner.{Winner};
 ghost use Rattle.bit_planes.specs.declared.block.Block.{Block};
-ghost use Rattle.bit_planes.specs.Planes.{number};
+ghost use Rattle.bit_planes.specs.Planes.{number, plane_at};
 ghost use Rattle.lane_kernels.specs.Kernels.{HasTarget, Becomes};
 ghost use Rattle.paris_code.specs.Fetching.{of_neighbour};
 ghost use Rattle.paris_code.specs.Memory.{SameBits};
@@ -11,18 +11,17 @@ ghost use Rattle.paris_code.specs.Shapes.{rank_at};
 ghost use Rattle.paris_code.specs.Writes.{written};
 ghost use Rattle.phase_meaning.specs.Apply.{LiesIn};
 ghost use Rattle.phase_meaning.specs.Gathered.{gathered};
-ghost use Rattle.block_store.specs.declared.set.Cell.{Cell};
 ghost use Rattle.block_store.specs.Phases.{LanesWritten};
-ghost use Rattle.block_store.specs.Planes.{HasPlanes};
+ghost use Rattle.block_store.specs.Planes.{planes_at, HasPlanes};
 ghost use Rattle.block_store.specs.Stored.{shapes_in, memory_in, IsWhole, HasRoom};
-ghost use Rattle.news_grid.specs.Steps.{HasCells, number_seen, number_taken};
+ghost use Rattle.news_grid.specs.Steps.{HasHeld, number_seen, number_taken};
 ghost use Rattle.news_grid.specs.Takings.{TakingFits, Stepped};
 
 use crate::step::Step;
 use crate::window::{Turn, Window, are_all};
 use bit_planes::plane::{both, opposite};
 use bit_planes::{Block, Plane};
-use block_store::{BlockSet, Cell, Room, SetPlan, Store, taking_lanes};
+use block_store::{BlockSet, Room, SetPlan, Store, taking_lanes};
 use cstar_io::Gate;
 use lane_kernels::{Target, write};
 use paris_code::Field;
@@ -42,174 +41,199 @@ pub struct News {
     pub always: bool,
 }
 
-/// What a pass over the blocks of a set needs for a shift: the planes that the cells hold of each of
-/// its blocks, and how far the step leads.
+/// What a pass over the blocks of a set needs for a shift: the planes that are held of each of its
+/// blocks, and how far the step leads.
 #[derive(Clone, Copy)]
 pub struct Taking<'a> {
     pub plan: &'a SetPlan,
     pub blocks: u32,
-    pub cells: &'a [Cell],
+    pub held: &'a [Plane],
     pub shift: News,
     pub step: Step,
 }
 
-/// Copies the planes of a field of a block, from its lowest bit on.
-fn copy_field(planes: &mut [Plane; 32], block: &Block, field: Field)
+/// The plane at place `n` where the planes of a field of each block lie side by side.
+#[inline(always)]
+fn plane_of(blocks: &[Block], field: Field, n: u32) -> Plane
     requires len { (1 ≤ field.len) × (field.len ≤ 32) }
-    requires within { field.offset + field.len ≤ length block.now.planes.items }
-    ensures { (i : ℕ) → number planes.new 0 field.len i ≡ number block.now.planes.items field.offset field.len i }
+    requires planes { HasPlanes (field.offset + field.len) blocks.now }
+    requires place { n < length blocks.now * field.len }
+    ensures { result.bits ≡ plane_at (planes_at blocks.now (n / field.len)) (field.offset + n % field.len) }
 {
-    for j in 0..field.len as usize {
-        planes[j] = block.planes[field.offset as usize + j];
-    }
+    let len = u32::from(field.len);
+    blocks[(n / len) as usize].planes[field.offset as usize + (n % len) as usize]
 }
 
-/// Holds the planes of a field of each block in its cell.
-pub fn hold<R: Threads + Sync>(rt: &R, set: &BlockSet, room: &mut Room, field: Field, workers: u32)
+/// Copies the planes of a field of each block to the first planes that are held, side by side.
+fn copy_fields<R: Threads + Sync>(
+    rt: &R,
+    blocks: &[Block],
+    held: &mut [Plane],
+    field: Field,
+    workers: u32,
+)
     requires len { (1 ≤ field.len) × (field.len ≤ 32) }
-    requires planes { HasPlanes (field.offset + field.len) set.now.blocks.items }
+    requires planes { HasPlanes (field.offset + field.len) blocks.now }
+    requires few { length blocks.now < 2 ^ 16 }
+    requires room { length blocks.now * field.len ≤ length held.old }
     requires workers { 1 ≤ workers }
-    ensures count { length room.new.cells.items ≡ length room.old.cells.items }
-    ensures planes { (k i : ℕ) (none : Cell) (other : Block) → k < length set.now.blocks.items → k < length room.old.cells.items
-        → number (slice_index_or room.new.cells.items k none).planes 0 field.len i ≡ number (slice_index_or set.now.blocks.items k other).planes.items field.offset field.len i }
+    ensures long { length held.new ≡ length held.old }
+    ensures planes { (n : ℕ) → n < length blocks.now * field.len → plane_at held.new n ≡ plane_at (planes_at blocks.now (n / field.len)) (field.offset + n % field.len) }
 {
-    let blocks = set.blocks.as_slice();
+    let count = blocks.len() * field.len as usize;
     thread::for_each_mut(
         rt,
-        room.cells.as_mut_slice(),
+        &mut held[..count],
         workers as usize,
-        &|k: usize, cell: &mut Cell|
-            requires { (1 ≤ field.len) × (field.len ≤ 32) × HasPlanes (field.offset + field.len) blocks.now }
-            ensures { (i : ℕ) (other : Block) → k < length blocks.entry.now
-                → number cell.exit.now.planes 0 field.len i ≡ number (slice_index_or blocks.entry.now k other).planes.items field.offset field.len i }
+        &|n: usize, plane: &mut Plane|
+            requires { (1 ≤ field.len) × (field.len ≤ 32) × HasPlanes (field.offset + field.len) blocks.now × (n < length blocks.now * field.len) × (n < 2 ^ 32) }
+            ensures { plane.exit.now.bits ≡ plane_at (planes_at blocks.entry.now (n / field.len)) (field.offset + n % field.len) }
         {
-            if k < blocks.len() {
-                copy_field(&mut cell.planes, &blocks[k], field);
-            }
+            *plane = plane_of(blocks, field, n as u32);
         },
     );
 }
 
-/// The target becomes, in its lanes, what a window shows of the planes that the cells hold; the window
+/// Holds the planes of a field of each block, side by side.
+pub fn hold<R: Threads + Sync>(rt: &R, set: &BlockSet, room: &mut Room, field: Field, workers: u32)
+    requires len { (1 ≤ field.len) × (field.len ≤ 32) }
+    requires planes { HasPlanes (field.offset + field.len) set.now.blocks.items }
+    requires few { length set.now.blocks.items < 2 ^ 16 }
+    requires room { length set.now.blocks.items ≤ length room.old.cells.items }
+    requires workers { 1 ≤ workers }
+    ensures count { length room.new.cells.items ≡ length room.old.cells.items }
+    ensures planes { (k i : ℕ) (other : Block) → k < length set.now.blocks.items
+        → number room.new.held.items (k * field.len) field.len i ≡ number (slice_index_or set.now.blocks.items k other).planes.items field.offset field.len i }
+{
+    copy_fields(
+        rt,
+        set.blocks.as_slice(),
+        room.held.as_mut_slice(),
+        field,
+        workers,
+    );
+}
+
+/// The target becomes, in its lanes, what a window shows of the planes that are held; the window
 /// begins in this word of its first block.
 #[inline(always)]
-fn put_from(planes: &mut [Plane], to: &Target, cells: &[Cell], window: &Window, word: usize)
+fn put_from(planes: &mut [Plane], to: &Target, held: &[Plane], window: &Window, word: usize)
     requires target { HasTarget to.now planes.old }
-    requires cells { HasCells window.now cells.now }
+    requires held { HasHeld window.now to.now.len held.now }
     requires word { word ≡ window.now.from / 64 }
-    ensures { Becomes to.now (λ i. number_seen cells.now window.now to.now.len i) planes.old planes.new }
+    ensures { Becomes to.now (λ i. number_seen held.now window.now to.now.len i) planes.old planes.new }
 {
     for j in 0..to.len as usize {
         write(
             planes,
             to.offset as usize + j,
-            window.plane(cells, j, word),
+            window.plane(held, to.len, j, word),
             to.lanes,
         );
     }
 }
 
-/// The target becomes, in its lanes, what a window shows of the planes that the cells hold: by a loop
+/// The target becomes, in its lanes, what a window shows of the planes that are held: by a loop
 /// of its own for each word in which the window may begin.
-fn put_window(planes: &mut [Plane], to: &Target, cells: &[Cell], window: &Window)
+fn put_window(planes: &mut [Plane], to: &Target, held: &[Plane], window: &Window)
     requires target { HasTarget to.now planes.old }
-    requires cells { HasCells window.now cells.now }
-    ensures { Becomes to.now (λ i. number_seen cells.now window.now to.now.len i) planes.old planes.new }
+    requires held { HasHeld window.now to.now.len held.now }
+    ensures { Becomes to.now (λ i. number_seen held.now window.now to.now.len i) planes.old planes.new }
 {
     match window.word() {
-        0 => put_from(planes, to, cells, window, 0),
-        1 => put_from(planes, to, cells, window, 1),
-        2 => put_from(planes, to, cells, window, 2),
-        3 => put_from(planes, to, cells, window, 3),
-        4 => put_from(planes, to, cells, window, 4),
-        5 => put_from(planes, to, cells, window, 5),
-        6 => put_from(planes, to, cells, window, 6),
-        _ => put_from(planes, to, cells, window, 7),
+        0 => put_from(planes, to, held, window, 0),
+        1 => put_from(planes, to, held, window, 1),
+        2 => put_from(planes, to, held, window, 2),
+        3 => put_from(planes, to, held, window, 3),
+        4 => put_from(planes, to, held, window, 4),
+        5 => put_from(planes, to, held, window, 5),
+        6 => put_from(planes, to, held, window, 6),
+        _ => put_from(planes, to, held, window, 7),
     }
 }
 
-/// The target becomes, in its lanes, what a turn takes of the planes that the cells hold; both of its
+/// The target becomes, in its lanes, what a turn takes of the planes that are held; both of its
 /// windows begin in this word of their first blocks.
 #[inline(always)]
-fn put_both_from(planes: &mut [Plane], to: &Target, cells: &[Cell], turn: &Turn, word: usize)
+fn put_both_from(planes: &mut [Plane], to: &Target, held: &[Plane], turn: &Turn, word: usize)
     requires target { HasTarget to.now planes.old }
-    requires staying { HasCells turn.now.staying cells.now }
-    requires round { HasCells turn.now.round cells.now }
+    requires staying { HasHeld turn.now.staying to.now.len held.now }
+    requires round { HasHeld turn.now.round to.now.len held.now }
     requires words { (word ≡ turn.now.staying.from / 64) × (word ≡ turn.now.round.from / 64) }
-    ensures { Becomes to.now (λ i. number_taken cells.now turn.now to.now.len i) planes.old planes.new }
+    ensures { Becomes to.now (λ i. number_taken held.now turn.now to.now.len i) planes.old planes.new }
 {
     for j in 0..to.len as usize {
         write(
             planes,
             to.offset as usize + j,
-            turn.plane(cells, j, word),
+            turn.plane(held, to.len, j, word),
             to.lanes,
         );
     }
 }
 
 /// The same by a loop of its own for each word in which the windows may begin.
-fn put_both(planes: &mut [Plane], to: &Target, cells: &[Cell], turn: &Turn)
+fn put_both(planes: &mut [Plane], to: &Target, held: &[Plane], turn: &Turn)
     requires target { HasTarget to.now planes.old }
-    requires staying { HasCells turn.now.staying cells.now }
-    requires round { HasCells turn.now.round cells.now }
+    requires staying { HasHeld turn.now.staying to.now.len held.now }
+    requires round { HasHeld turn.now.round to.now.len held.now }
     requires words { turn.now.staying.from / 64 ≡ turn.now.round.from / 64 }
-    ensures { Becomes to.now (λ i. number_taken cells.now turn.now to.now.len i) planes.old planes.new }
+    ensures { Becomes to.now (λ i. number_taken held.now turn.now to.now.len i) planes.old planes.new }
 {
     match turn.staying.word() {
-        0 => put_both_from(planes, to, cells, turn, 0),
-        1 => put_both_from(planes, to, cells, turn, 1),
-        2 => put_both_from(planes, to, cells, turn, 2),
-        3 => put_both_from(planes, to, cells, turn, 3),
-        4 => put_both_from(planes, to, cells, turn, 4),
-        5 => put_both_from(planes, to, cells, turn, 5),
-        6 => put_both_from(planes, to, cells, turn, 6),
-        _ => put_both_from(planes, to, cells, turn, 7),
+        0 => put_both_from(planes, to, held, turn, 0),
+        1 => put_both_from(planes, to, held, turn, 1),
+        2 => put_both_from(planes, to, held, turn, 2),
+        3 => put_both_from(planes, to, held, turn, 3),
+        4 => put_both_from(planes, to, held, turn, 4),
+        5 => put_both_from(planes, to, held, turn, 5),
+        6 => put_both_from(planes, to, held, turn, 6),
+        _ => put_both_from(planes, to, held, turn, 7),
     }
 }
 
 /// The same of windows that begin in different words, through one after the other.
-fn put_apart(planes: &mut [Plane], to: &Target, cells: &[Cell], turn: &Turn)
+fn put_apart(planes: &mut [Plane], to: &Target, held: &[Plane], turn: &Turn)
     requires target { HasTarget to.now planes.old }
-    requires staying { HasCells turn.now.staying cells.now }
-    requires round { HasCells turn.now.round cells.now }
-    ensures { Becomes to.now (λ i. number_taken cells.now turn.now to.now.len i) planes.old planes.new }
+    requires staying { HasHeld turn.now.staying to.now.len held.now }
+    requires round { HasHeld turn.now.round to.now.len held.now }
+    ensures { Becomes to.now (λ i. number_taken held.now turn.now to.now.len i) planes.old planes.new }
 {
     let staying = both(to.lanes, opposite(turn.crossing));
     let staying = Target::at(to.offset, to.len, staying);
-    put_window(planes, &staying, cells, &turn.staying);
+    put_window(planes, &staying, held, &turn.staying);
     let round = Target::at(to.offset, to.len, both(to.lanes, turn.crossing));
-    put_window(planes, &round, cells, &turn.round);
+    put_window(planes, &round, held, &turn.round);
 }
 
 /// The same, and where no lane crosses the end of its turn, or each does, through the one window alone.
-fn put_turn(planes: &mut [Plane], to: &Target, cells: &[Cell], turn: &Turn)
+fn put_turn(planes: &mut [Plane], to: &Target, held: &[Plane], turn: &Turn)
     requires target { HasTarget to.now planes.old }
-    requires staying { HasCells turn.now.staying cells.now }
-    requires round { HasCells turn.now.round cells.now }
-    ensures { Becomes to.now (λ i. number_taken cells.now turn.now to.now.len i) planes.old planes.new }
+    requires staying { HasHeld turn.now.staying to.now.len held.now }
+    requires round { HasHeld turn.now.round to.now.len held.now }
+    ensures { Becomes to.now (λ i. number_taken held.now turn.now to.now.len i) planes.old planes.new }
 {
     if are_all(turn.crossing, false) {
-        put_window(planes, to, cells, &turn.staying);
+        put_window(planes, to, held, &turn.staying);
     } else if are_all(turn.crossing, true) {
-        put_window(planes, to, cells, &turn.round);
+        put_window(planes, to, held, &turn.round);
     } else if turn.staying.word() == turn.round.word() {
-        put_both(planes, to, cells, turn);
+        put_both(planes, to, held, turn);
     } else {
-        put_apart(planes, to, cells, turn);
+        put_apart(planes, to, held, turn);
     }
 }
 
 /// The same for a field of a block, in these lanes.
-fn take_turn(block: &mut Block, dest: Field, lanes: u64x8, cells: &[Cell], turn: &Turn)
+fn take_turn(block: &mut Block, dest: Field, lanes: u64x8, held: &[Plane], turn: &Turn)
     requires len { (1 ≤ dest.len) × (dest.len ≤ 32) }
     requires within { dest.offset + dest.len ≤ length block.old.planes.items }
-    requires staying { HasCells turn.now.staying cells.now }
-    requires round { HasCells turn.now.round cells.now }
-    ensures { LanesWritten dest.offset dest.len lanes (λ i. number_taken cells.now turn.now dest.len i) block.old.planes.items block.new.planes.items }
+    requires staying { HasHeld turn.now.staying dest.len held.now }
+    requires round { HasHeld turn.now.round dest.len held.now }
+    ensures { LanesWritten dest.offset dest.len lanes (λ i. number_taken held.now turn.now dest.len i) block.old.planes.items block.new.planes.items }
 {
     let to = Target::at(dest.offset, dest.len, lanes);
-    put_turn(&mut block.planes, &to, cells, turn);
+    put_turn(&mut block.planes, &to, held, turn);
 }
 
 /// Block `k` takes what is held a step away: through one window in the lanes whose step stays in its
@@ -228,7 +252,7 @@ pub fn step_block(block: &mut Block, k: u32, taking: &Taking)
         round,
         crossing: taking.step.crossing_lanes(k),
     };
-    take_turn(block, shift.dest, lanes, taking.cells, &turn);
+    take_turn(block, shift.dest, lanes, taking.held, &turn);
 }
 
 /// The same in all blocks of the set, with a call of the gate for each.
@@ -289,7 +313,7 @@ pub fn shift<R: Threads + Sync, G: Gate + Sync>(
     let taking = Taking {
         plan,
         blocks: plan.geometry.block_count(),
-        cells: store.room.cells.as_slice(),
+        held: store.room.held.as_slice(),
         shift,
         step: Step::along(&plan.geometry, shift.axis, signed(shift.by)),
     };

@@ -4,10 +4,10 @@ ghost use Rattle.std.specs.Prelude.{◌≡◌, ◌↔◌, ℕ, ◌<◌, ◌≤�
 ghost use Rattle.std.specs.Int.{bit_at};
 ghost use Rattle.bit_planes.specs.Bits.{bit};
 ghost use Rattle.bit_planes.specs.Planes.{plane_at};
-ghost use Rattle.news_grid.specs.Steps.{beside, planes_held, seen_through, HasCells, Views};
+ghost use Rattle.news_grid.specs.Steps.{beside, seen_through, HasHeld, Views};
 
+use bit_planes::Plane;
 use bit_planes::plane::{both, either, moved_down, moved_up, opposite};
-use block_store::Cell;
 use std::simd::prelude::*;
 use vp_sets::BLOCK_SIZE;
 
@@ -95,18 +95,20 @@ impl Window {
         self.from as usize / 64
     }
 
-    /// Its lanes on a plane that the cells hold, where it begins in this word. In a loop over planes the
-    /// word is to be a constant: then the words of a plane are picked without a look at where.
+    /// Its lanes on plane `j` of a field of `len` bits that is held, where it begins in this word. In a
+    /// loop over planes the word is to be a constant: then the words of a plane are picked without a look
+    /// at where.
     #[inline(always)]
-    pub(crate) fn plane(&self, cells: &[Cell], j: usize, word: usize) -> u64x8
-        requires plane { j < 32 }
-        requires cells { HasCells self.now cells.now }
+    pub(crate) fn plane(&self, held: &[Plane], len: u8, j: usize, word: usize) -> u64x8
+        requires plane { j < len }
+        requires held { HasHeld self.now len held.now }
         requires word { word ≡ self.now.from / 64 }
-        ensures { (i : ℕ) → i < 512 → bit result i ≡ seen_through self.now cells.now j i }
+        ensures { (i : ℕ) → i < 512 → bit result i ≡ seen_through self.now held.now len j i }
     {
+        let len = len as usize;
         lanes_behind(
-            cells[self.first].planes[j].bits,
-            cells[self.next].planes[j].bits,
+            held[self.first * len + j].bits,
+            held[self.next * len + j].bits,
             word,
             self.from % 64,
         )
@@ -123,17 +125,18 @@ pub(crate) struct Turn {
 }
 
 impl Turn {
-    /// What its lanes take on a plane that the cells hold, where both of its windows begin in this word.
+    /// What its lanes take on plane `j` of a field of `len` bits that is held, where both of its windows
+    /// begin in this word.
     #[inline(always)]
-    pub(crate) fn plane(&self, cells: &[Cell], j: usize, word: usize) -> u64x8
-        requires plane { j < 32 }
-        requires staying { HasCells self.now.staying cells.now }
-        requires round { HasCells self.now.round cells.now }
+    pub(crate) fn plane(&self, held: &[Plane], len: u8, j: usize, word: usize) -> u64x8
+        requires plane { j < len }
+        requires staying { HasHeld self.now.staying len held.now }
+        requires round { HasHeld self.now.round len held.now }
         requires words { (word ≡ self.now.staying.from / 64) × (word ≡ self.now.round.from / 64) }
-        ensures { (i : ℕ) → i < 512 → bit result i ≡ (if bit self.now.crossing i == 1 then seen_through self.now.round cells.now j i else seen_through self.now.staying cells.now j i) }
+        ensures { (i : ℕ) → i < 512 → bit result i ≡ (if bit self.now.crossing i == 1 then seen_through self.now.round held.now len j i else seen_through self.now.staying held.now len j i) }
     {
-        let round = self.round.plane(cells, j, word);
-        let staying = self.staying.plane(cells, j, word);
+        let round = self.round.plane(held, len, j, word);
+        let staying = self.staying.plane(held, len, j, word);
         either(
             both(self.crossing, round),
             both(opposite(self.crossing), staying),

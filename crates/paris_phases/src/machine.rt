@@ -8,8 +8,7 @@ ghost use Rattle.paris_code.specs.Memory.{SameBits, fresh_memory};
 ghost use Rattle.paris_code.specs.Shapes.{shape_of, shapes_of};
 ghost use Rattle.paris_code.specs.Sound.{IsShape};
 
-use bit_planes::Plane;
-use block_store::{BlockSet, Cell, Room, SetPlan, Store};
+use block_store::{BlockSet, Room, SetPlan, Store};
 use cstar_base::Memory;
 use image_check::Sound;
 use instruction_runs::Batch;
@@ -56,20 +55,16 @@ fn plans_for(alloc: Global, sound: &Sound) -> Result<Vec<SetPlan>, Memory>
     Ok(plans)
 }
 
-/// A cell for each block of the largest of these sets.
+/// The room for phases over these sets: a cell for each block of the largest.
 fn room_for(alloc: Global, sets: &[BlockSet]) -> Result<Room, Memory>
+    requires few { All (λ set. length set.blocks.items ≤ 2048) sets.now }
     ensures { IfOk result (λ room. All (λ set. length set.blocks.items ≤ length room.cells.items) sets.now) }
 {
     let mut most = 0;
     'sets: for set in sets {
         most = most.max(set.blocks.len());
     }
-    let empty = Cell {
-        words: [0; 512],
-        planes: [Plane::zero(); 32],
-    };
-    let cells = vec![in alloc; empty; most]?;
-    Ok(Room { cells })
+    Room::new(alloc, most as u32)
 }
 
 /// The store of an image whose sets these are.

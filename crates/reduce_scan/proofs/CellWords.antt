@@ -9,20 +9,20 @@ use Rattle.cstar_base.specs.declared.operators.Direction.{Direction}
 use Rattle.cstar_base.specs.declared.operators.Direction.TheVariants as D
 use Rattle.cstar_base.specs.declared.operators.Inclusion.TheVariants as N
 use Rattle.bit_planes.specs.Bits.{bit}
-use Rattle.bit_planes.specs.Planes.{plane_at}
+use Rattle.bit_planes.specs.declared.plane.Plane.{Plane}
 use Rattle.paris_code.specs.declared.operands.Reduction.{Reduction}
 use Rattle.phase_meaning.proofs.Entries.{entry, entry_new, entry_other}
 use Rattle.block_store.specs.declared.set.Cell.{Cell}
 use Rattle.block_store.specs.Stored.{words_in, word_at}
 use Rattle.reduce_scan.specs.declared.lines.Lines.{Lines}
-use Rattle.reduce_scan.specs.Across.{previous, HasPrevious, planes_of, is_held_cut, taken_at, WordSet}
+use Rattle.reduce_scan.specs.Across.{previous, HasPrevious, cuts_of, is_held_cut, taken_at, WordSet}
 use Rattle.reduce_scan.proofs.LineSteps.{previous_earlier}
 use Rattle.reduce_scan.proofs.Parts.{once, none}
 
 pub word_set : (cells : List Cell) (p number : ℕ) (cell new : Cell) → p / 512 < length cells → cell ≡ get_or cells (p / 512) cell → slice_index new.words (p % 512) ≡ number
-    → ((i : ℕ) → i ≢ p % 512 → slice_index new.words i ≡ slice_index cell.words i) → new.planes ≡ cell.planes → WordSet p number cells (set cells (p / 512) new)
+    → ((i : ℕ) → i ≢ p % 512 → slice_index new.words i ≡ slice_index cell.words i) → new.cuts ≡ cell.cuts → WordSet p number cells (set cells (p / 512) new)
 unfolding word_at is_held_cut
-word_set cells p number cell new within is here others planes =
+word_set cells p number cell new within is here others cuts =
     let k : ℕ = p / 512 in
     let news : List Cell = set cells k new in
     record {
@@ -38,7 +38,7 @@ word_set cells p number cell new within is here others planes =
             ∙ ap (λ j. slice_index (get_or (map words_in cells) j []) (q % 512)) (sym same)
         | inr other ↦ ap (λ ws. slice_index ws (q % 512)) (entry_other words_in cells k new [] (q / 512) other)
       ];
-      cuts = λ q. ap (λ ps. eqb (bit (plane_at (get_or ps (q / 512) []) 0) (q % 512)) 1) (map-set_same planes_of cells k new cell (planes ∙ ap planes_of is));
+      cuts = λ q. ap (λ ps. eqb (bit (get_or ps (q / 512) []) (q % 512)) 1) (map-set_same cuts_of cells k new cell (ap (λ (l : Plane). l.bits) cuts ∙ ap cuts_of is));
     }
 
 -- the word of a lane
@@ -98,7 +98,7 @@ module _ (c : Reduction) (lines : Lines) (some : 0 < lines.apart) (n : ℕ) (old
   own_step : steps_before lines.direction lines.positions at ≡ n
   own_step = (steps_back lines.direction lines.positions n low).1
 
-  at_below : at < lines.positions
+  pub at_below : at < lines.positions
   at_below = (steps_back lines.direction lines.positions n low).0
 
   -- where something begins

@@ -33,7 +33,7 @@ use Rattle.block_store.proofs.Fetches.{some_cell, word_read}
 use Rattle.reduce_scan.specs.declared.lines.AxisScan.{AxisScan}
 use Rattle.reduce_scan.specs.declared.lines.Lines.{Lines}
 use Rattle.reduce_scan.specs.declared.lines.Scan.{Scan}
-use Rattle.reduce_scan.specs.Across.{begins_line, previous, HasPrevious, stops_there, own_there, Holds, planes_of, is_held_cut, Joined, taken_at}
+use Rattle.reduce_scan.specs.Across.{begins_line, previous, HasPrevious, stops_there, own_there, Holds, cuts_of, is_held_cut, Joined, taken_at}
 use Rattle.reduce_scan.specs.Along.{scan_of, ScanFits}
 use Rattle.reduce_scan.specs.Parts.{begins_there, active_there}
 use Rattle.reduce_scan.proofs.LineSteps.{back_of, previous_below, previous_earlier, first_of_line, line_before}
@@ -65,7 +65,7 @@ held_at blocks scan lines cells much room all p b =
     let is : 512 * k + p % 512 ≡ p = omega arith in
     some_cell _ cells k within (λ e. record {
       word = sym (word_read cells p e within) ∙ (all k e there within).words (p % 512) (omega arith) ∙ ap (own_there blocks scan) is;
-      cut = ap (λ ps. eqb (bit (plane_at ps 0) (p % 512)) 1) (get_or-map planes_of cells k e [] within)
+      cut = ap (λ q. eqb (bit q (p % 512)) 1) (get_or-map cuts_of cells k e [] within)
           ∙ (all k e there within).cuts (p % 512) (omega arith) (omega (arith, is, b)) ∙ ap (stops_there blocks scan lines) is;
     })
 

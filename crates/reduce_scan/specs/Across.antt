@@ -2,9 +2,7 @@
 use Rattle.std.specs.Prelude.{◌≡◌, ◌≢◌, ℕ, ◌+◌, ◌-◌, ◌*◌, ◌/◌, ◌%◌, ◌<◌, ◌≤◌, ◌==◌, ◌||◌, ◌&&◌, not, nat_lt, Bool, true, false, List, [], map, length, slice_index, slice_index_or, if◌then◌else◌}
 use Rattle.vp_sets.specs.Lines.{steps_before}
 use Rattle.bit_planes.specs.declared.block.Block.{Block}
-use Rattle.bit_planes.specs.declared.plane.Plane.{Plane}
 use Rattle.bit_planes.specs.Bits.{bit}
-use Rattle.bit_planes.specs.Planes.{plane_at}
 use Rattle.block_store.specs.declared.set.Cell.{Cell}
 use Rattle.block_store.specs.Stored.{word_at}
 use Rattle.cstar_base.specs.Folds.{fold_once, identity_of}
@@ -51,17 +49,17 @@ stops_there blocks scan lines p = begins_line lines p || begins_there blocks sca
 abbrev pub own_there : List Block → Scan → ℕ → ℕ
 own_there blocks scan p = if active_there blocks scan p then value_there blocks scan p else identity_of (combiner_of scan.combiner).0 (combiner_of scan.combiner).1
 
--- a cell holds the numbers of block k, and in its first plane where a line or a segment begins
+-- a cell holds the numbers of block k, and where a line or a segment begins
 pub record Holds (blocks : List Block) (scan : Scan) (lines : Lines) (k : ℕ) (cell : Cell) : Type 0 where
   pub words : (i : ℕ) → i < 512 → slice_index cell.words i ≡ own_there blocks scan (512 * k + i)
-  pub cuts : (i : ℕ) → i < 512 → 512 * k + i < lines.positions → (bit (plane_at cell.planes 0) i == 1) ≡ stops_there blocks scan lines (512 * k + i)
+  pub cuts : (i : ℕ) → i < 512 → 512 * k + i < lines.positions → (bit cell.cuts.bits i == 1) ≡ stops_there blocks scan lines (512 * k + i)
 
 -- whether a line or a segment begins at a position, as its cell holds it
-abbrev pub planes_of : Cell → List Plane
-planes_of cell = cell.planes
+abbrev pub cuts_of : Cell → List ℕ
+cuts_of cell = cell.cuts.bits
 
 unfoldable pub is_held_cut : List Cell → ℕ → Bool
-is_held_cut cells p = bit (plane_at (slice_index_or (map planes_of cells) (p / 512) []) 0) (p % 512) == 1
+is_held_cut cells p = bit (slice_index_or (map cuts_of cells) (p / 512) []) (p % 512) == 1
 
 -- the word of one position has become a number, and all else is as it was
 pub record WordSet (at number : ℕ) (old new : List Cell) : Type 0 where

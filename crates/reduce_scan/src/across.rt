@@ -27,17 +27,17 @@ use std::simd::prelude::*;
 use std::thread;
 use std::thread::Threads;
 
-/// Holds words, and lanes in the first plane.
+/// Holds words, and the lanes at which something begins.
 fn keep(cell: &mut Cell, words: [u32; 512], lanes: u64x8)
     ensures words { cell.new.words ≡ words }
-    ensures cuts { plane_at cell.new.planes 0 ≡ lanes }
+    ensures cuts { cell.new.cuts.bits ≡ lanes }
 {
     cell.words = words;
-    cell.planes[0] = Plane { bits: lanes };
+    cell.cuts = Plane { bits: lanes };
 }
 
 /// Holds the words of block `k`: the number of each active position, and the identity for each other
-/// one. The first plane has a 1 where a line or a segment begins.
+/// one; and the lanes at which a line or a segment begins.
 fn hold_block(set: &BlockSet, scan: &Scan, lines: &Lines, k: u32, cell: &mut Cell)
     requires can { CanScan set.now.blocks.items scan.now lines.now }
     requires block { k < length set.now.blocks.items }
@@ -98,7 +98,7 @@ fn is_held_cut(room: &Room, position: u32) -> bool
     ensures { result ≡ is_held_cut room.now.cells.items position }
 {
     let cell = &room.cells[(position / 512) as usize];
-    lane(cell.planes[0].bits, position % 512) == 1
+    lane(cell.cuts.bits, position % 512) == 1
 }
 
 /// Makes one word of a cell a number.
@@ -107,7 +107,7 @@ fn put(cell: &mut Cell, lane: u32, number: u32)
     requires { lane < 512 }
     ensures here { slice_index cell.new.words lane ≡ number }
     ensures others { (i : ℕ) → i ≢ lane → slice_index cell.new.words i ≡ slice_index cell.old.words i }
-    ensures planes { cell.new.planes ≡ cell.old.planes }
+    ensures cuts { cell.new.cuts ≡ cell.old.cuts }
 {
     cell.words[lane as usize] = number;
 }

@@ -9,13 +9,13 @@ use Rattle.instruction_runs.proofs.settling.do_all_in_block.Goals as goal
 pub deferred-init : goal.deferred-init
 deferred-init c =
     let pass = c.args.pass.now in
-    none_done (map shape_of_plan pass.plans.now) (held_in pass.cells.now) pass.batch.now.set c.args.k c.args.block.now.planes.items
+    none_done (map shape_of_plan pass.plans.now) (held_in pass.held.now) pass.batch.now.set c.args.k c.args.block.now.planes.items
 
 pub deferred-preserved : goal.deferred-preserved
 deferred-preserved c =
     let pass = c.args.pass.now in
     let shapes = map shape_of_plan pass.plans.now in
-    let held = held_in pass.cells.now in
+    let held = held_in pass.held.now in
     let set = pass.batch.now.set in
     let ds = pass.batch.now.deferred.items in
     let j = c.deferred.d-index in

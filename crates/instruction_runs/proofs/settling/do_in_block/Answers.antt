@@ -32,7 +32,7 @@ pub returns-in-Elementwise : goal.returns-in-Elementwise
 returns-in-Elementwise c =
     let shapes = map shape_of_plan c.args.pass.now.plans.now in
     let old = c.args.block.now.planes.items in
-    subst (λ (w : Work). WrittenInBlock shapes (write_of_work shapes (held_in c.args.pass.now.cells.now) c.args.d.now.instr (block_memory old) w) c.args.k old c.do_in_block.new.block.planes.items) (sym c.in-Elementwise.is) c.do_in_block.ensures
+    subst (λ (w : Work). WrittenInBlock shapes (write_of_work shapes (held_in c.args.pass.now.held.now) c.args.d.now.instr (block_memory old) w) c.args.k old c.do_in_block.new.block.planes.items) (sym c.in-Elementwise.is) c.do_in_block.ensures
 
 pub shift-requires-clause-dest : goal.shift-requires-clause-dest
 shift-requires-clause-dest c =
@@ -61,7 +61,7 @@ shift-requires-clause-leads c =
 pub shift-requires-clause-fits : goal.shift-requires-clause-fits
 shift-requires-clause-fits c =
     let pass = c.args.pass.now in
-    subst (λ s. PassFits (map shape_of_plan pass.plans.now) s pass.cells.now) (ap set_of_work c.in-Shift.is) c.requires.fits
+    subst (λ s. PassFits (map shape_of_plan pass.plans.now) s pass.held.now) (ap set_of_work c.in-Shift.is) c.requires.fits
 
 pub shift-requires-clause-planes : goal.shift-requires-clause-planes
 shift-requires-clause-planes c =
@@ -75,4 +75,4 @@ pub returns-in-Shift : goal.returns-in-Shift
 returns-in-Shift c =
     let shapes = map shape_of_plan c.args.pass.now.plans.now in
     let old = c.args.block.now.planes.items in
-    subst (λ (w : Work). WrittenInBlock shapes (write_of_work shapes (held_in c.args.pass.now.cells.now) c.args.d.now.instr (block_memory old) w) c.args.k old c.shift.new.block.planes.items) (sym c.in-Shift.is) (c.shift.ensures c.args.d.now.instr)
+    subst (λ (w : Work). WrittenInBlock shapes (write_of_work shapes (held_in c.args.pass.now.held.now) c.args.d.now.instr (block_memory old) w) c.args.k old c.shift.new.block.planes.items) (sym c.in-Shift.is) (c.shift.ensures c.args.d.now.instr)

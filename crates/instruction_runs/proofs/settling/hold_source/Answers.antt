@@ -13,9 +13,7 @@ hold-requires-clause-planes g c κs live =
     (of_the_one (λ (o : Option Field). IsFieldIn o c.args.set.now.blocks.items) c.args.batch.now.deferred.items c.in-Some.source (sym c.in-Some.ensures) c.requires.sources).1
 
 pub returns-clause-held : goal.returns-clause-held
-returns-clause-held g c =
-    all_held c.args.batch.now.deferred.items c.in-Some.source c.args.set.now.blocks.items c.hold.new.room.cells.items c.requires.turns (sym c.in-Some.ensures)
-    (λ k i none other b inside. c.hold.ensures.planes k i none other b (omega (arith, c.hold.ensures.count, inside)))
+returns-clause-held g c = all_held c.args.batch.now.deferred.items c.in-Some.source c.args.set.now.blocks.items c.hold.new.room.held.items c.requires.turns (sym c.in-Some.ensures) c.hold.ensures.planes
 
 pub returns-in_default-clause-held : goal.returns-in_default-clause-held
-returns-in_default-clause-held g c = none_held c.args.batch.now.deferred.items c.args.set.now.blocks.items c.args.room.now.cells.items (sym c.source.ensures ∙ c.in_default.is)
+returns-in_default-clause-held g c = none_held c.args.batch.now.deferred.items c.args.set.now.blocks.items c.args.room.now.held.items (sym c.source.ensures ∙ c.in_default.is)

@@ -3,4 +3,4 @@ use Rattle.news_grid.specs.Steps.{number_seen}
 use Rattle.news_grid.proofs.news.put_from.Given as goal
 
 abbrev pub invariant-loop-j : goal.invariant-loop-j
-invariant-loop-j l = Becoming l.to 0 l.j (λ i. number_seen l.cells l.window l.to.len i) l.initial.planes l.planes
+invariant-loop-j l = Becoming l.to 0 l.j (λ i. number_seen l.held l.window l.to.len i) l.initial.planes l.planes

@@ -16,6 +16,22 @@ use Rattle.news_grid.specs.Steps.{Leads}
 use Rattle.news_grid.proofs.Fetches.{stepped}
 use Rattle.news_grid.proofs.news.shift.Goals as goal
 
+pub hold-requires-clause-few : goal.hold-requires-clause-few
+hold-requires-clause-few g c κs live =
+    let shapes = shapes_in c.args.store.now in
+    let sets = c.args.store.now.sets.items in
+    let source = c.args.shift.source in
+    let there = held shapes sets source.set c.from-set.result c.index.result.now c.requires.whole c.requires.source.0 (c.from-set.ensures ∙ c.requires.together) c.index.ensures in
+    omega (arith, ap length there, few_blocks shapes sets source.set c.requires.whole c.requires.source.0)
+
+pub hold-requires-clause-room : goal.hold-requires-clause-room
+hold-requires-clause-room g c κs live =
+    let shapes = shapes_in c.args.store.now in
+    let sets = c.args.store.now.sets.items in
+    let source = c.args.shift.source in
+    let there = held shapes sets source.set c.from-set.result c.index.result.now c.requires.whole c.requires.source.0 (c.from-set.ensures ∙ c.requires.together) c.index.ensures in
+    omega (arith, ap length there, c.requires.room source.set (omega (arith, c.requires.source.0, length-map c.args.store.now.plans.items shape_of_plan)))
+
 pub step_blocks-requires-clause-taking : goal.step_blocks-requires-clause-taking
 step_blocks-requires-clause-taking g c κs live =
     let shapes = shapes_in c.args.store.now in
@@ -39,6 +55,7 @@ step_blocks-requires-clause-taking g c κs live =
         all,
         c.requires.room dest.set (omega (arith, exists, length-map plans shape_of_plan)),
         c.hold.ensures.count,
+        c.hold.new.room.enough,
         ap length c.as_slice.ensures.value,
       );
       leads = subst (λ (by : ℤ). Leads c.index-plan.result.now.geometry c.args.shift.axis by c.along.result) (to_z-of_z w32 c.signed.result fits ∙ c.signed.ensures) c.along.ensures;
@@ -59,13 +76,10 @@ returns g c =
     let home = held shapes sets d c.from-set.result to whole exists c.from-set.ensures c.index_mut.ensures.value in
     let there = held shapes sets source.set c.from-set.result from whole c.requires.source.0 (c.from-set.ensures ∙ c.requires.together) c.index.ensures in
     let plan = bits_of plans d c.from-set.result c.index-plan.result.now exists c.from-set.ensures c.index-plan.ensures in
-    let room : length (blocks_in from) ≤ length c.hold.new.room.cells.items =
-    omega (arith, ap length there, c.hold.ensures.count, c.requires.room source.set (omega (arith, c.requires.source.0, length-map plans shape_of_plan))) in
     let each =
     λ (w : Winner) (j : ℕ) (none : Block) (b : j < length (blocks_in to)).
-    stepped shapes sets whole source c.requires.source from there c.hold.new.room.cells.items room
-    (record { plan = c.index-plan.result; blocks = c.block_count.result; cells = c.as_slice.result; shift = shift; step = c.along.result }) refl
-    (λ k i n other kb h. c.hold.ensures.planes k i n other kb (omega (arith, c.hold.ensures.count, h)))
+    stepped shapes sets whole source c.requires.source from there c.hold.new.room.held.items c.hold.ensures.planes
+    (record { plan = c.index-plan.result; blocks = c.block_count.result; held = c.as_slice.result; shift = shift; step = c.along.result }) refl
     (sym c.as_slice.ensures.value) c.requires.lens c.requires.together c.requires.axis plan.1 plan.0
     w (blocks_in to) home j none _ b (c.step_blocks.ensures.each j none b) in
     let kept = blocks_whole shapes sets to c.step_blocks.new.set c.from-set.result

@@ -1,10 +1,14 @@
-use Rattle.std.proofs.Common.{List, All, ◌≤◌, ap, length, subst, arith}
+use Rattle.std.proofs.Common.{List, All, ◌≤◌, ap, length, subst, sym, arith}
 use Rattle.std.proofs.lemmas.List.{length-map}
 use Rattle.block_store.specs.declared.set.BlockSet.{BlockSet}
 use Rattle.block_store.specs.Stored.{shape_of_plan}
-use Rattle.paris_code.specs.Shapes.{SetShape}
-use Rattle.paris_phases.proofs.Cells.{few_at}
+use Rattle.paris_code.specs.Shapes.{SetShape, shapes_of}
+use Rattle.paris_phases.proofs.Cells.{few_at, few_each}
 use Rattle.paris_phases.proofs.machine.store_of.Goals as goal
+
+pub room_for-requires : goal.room_for-requires
+room_for-requires c =
+    subst (λ (sets : List BlockSet). All (λ set. length set.blocks.items ≤ 2048) sets) (sym c.as_slice.ensures.value) (few_each (shapes_of c.args.sound.now) c.args.sets.items c.requires)
 
 pub returns-clause-room : goal.returns-clause-room
 returns-clause-room c = λ set b.

@@ -5,4 +5,4 @@ use Rattle.block_store.specs.Stored.{words_in}
 use Rattle.reduce_scan.proofs.straight.start_of.Goals as goal
 
 pub returns : goal.returns
-returns c = ap (λ ws. slice_index ws 0) (sym (get_or-map words_in c.args.cells.now c.args.k (record { words = []; planes = [] }) [] c.requires))
+returns c = ap (λ ws. slice_index ws 0) (sym (get_or-map words_in c.args.cells.now c.args.k (record { words = []; cuts = record { bits = [] } }) [] c.requires))

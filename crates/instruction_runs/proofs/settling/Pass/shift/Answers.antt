@@ -19,7 +19,7 @@ step_block-requires-clause-taking c =
       dest = omega (arith, dest.3, plan.0);
       blocks = c.block_count.ensures.value;
       few = omega (arith, c.block_count.ensures.value, ap block_count plan.1, fits.few);
-      held = omega (arith, c.block_count.ensures.value, ap block_count plan.1, fits.held);
+      held = omega (arith, c.block_count.ensures.value, ap block_count plan.1, fits.enough);
       leads = subst (λ (xs : List ℕ). Leads xs news.axis (number_of 32 true news.by) c.args.step) (sym plan.1) c.requires.leads;
     }
 
