@@ -23,7 +23,7 @@ use bit_planes::plane::{both, opposite};
 use bit_planes::{Block, Plane};
 use block_store::{BlockSet, Room, SetPlan, Store, taking_lanes};
 use cstar_io::Gate;
-use lane_kernels::{Target, write};
+use lane_kernels::Target;
 use paris_code::Field;
 use phase_meaning::arith::signed;
 use std::simd::prelude::*;
@@ -124,12 +124,7 @@ fn put_from(planes: &mut [Plane], to: &Target, held: &[Plane], window: &Window, 
     ensures { Becomes to.now (λ i. number_seen held.now window.now to.now.len i) planes.old planes.new }
 {
     for j in 0..to.len as usize {
-        write(
-            planes,
-            to.offset as usize + j,
-            window.plane(held, to.len, j, word),
-            to.lanes,
-        );
+        to.write(planes, j, window.plane(held, to.len, j, word));
     }
 }
 
@@ -163,12 +158,7 @@ fn put_both_from(planes: &mut [Plane], to: &Target, held: &[Plane], turn: &Turn,
     ensures { Becomes to.now (λ i. number_taken held.now turn.now to.now.len i) planes.old planes.new }
 {
     for j in 0..to.len as usize {
-        write(
-            planes,
-            to.offset as usize + j,
-            turn.plane(held, to.len, j, word),
-            to.lanes,
-        );
+        to.write(planes, j, turn.plane(held, to.len, j, word));
     }
 }
 
