@@ -1,5 +1,19 @@
 //! Operators, assignments, casts and brackets on typed operands, with their faults.
 
+ghost use Rattle.cstar_tree.specs.ExpressionFaults.{last_place};
+ghost use Rattle.cstar_tree.specs.ExpressionTypes.{Types};
+ghost use Rattle.cstar_tree.specs.Headers.{Program};
+ghost use Rattle.cstar_tree.specs.Scopes.{Here, part};
+ghost use Rattle.cstar_tree.specs.Syntax.{place_of};
+ghost use Rattle.cstar_base.specs.declared.operators.Place.{Place};
+ghost use Rattle.cstar_tree.specs.declared.syntax.Cast.{Cast};
+ghost use Rattle.cstar_tree.specs.declared.syntax.Expr as E;
+ghost use Rattle.cstar_tree.specs.declared.syntax.Expr.{Expr};
+ghost use Rattle.cstar_tree.specs.declared.syntax.PrefixOp.TheVariants as P;
+ghost use Rattle.std.specs.Prelude.{◌≡◌, true, Box, Vec, IfOk};
+ghost use Rattle.std.specs.declared.alloc.Global.{Global};
+ghost use Rattle.type_expressions.specs.Answers.{AreBrackets, IsAnswer, WithOperand, step_of, written_as};
+
 use crate::found::{TypedExpr, Typing};
 use cstar_base::{Fault, Place};
 use cstar_tree::syntax::{AssignOp, Cast, PrefixOp, ReduceOp, StepOp};
@@ -8,7 +22,6 @@ use std::alloc::Global;
 use type_scopes::faults::{Untyped, fault};
 use type_scopes::sites::Site;
 use typed_nodes::assignments::{Target, assignment, folds, step, target_of};
-use typed_nodes::conversions::INT;
 use typed_nodes::operators::{cast_chain, reduction, unary};
 
 /// The target of an assignment. A parallel left index under an operator that cannot send is a fault
@@ -66,7 +79,9 @@ pub fn stepped(
     op: StepOp,
     order: StepOrder,
     target: Box<TExpr>,
-) -> Result<TExpr, Untyped> {
+) -> Result<TExpr, Untyped>
+    ensures { WithOperand target.value (step_of order place op) result }
+{
     match target_of(&target) {
         None => Err(fault(Fault::NotAPlace, place)),
         Some(Target::Send(place)) => Err(fault(Fault::SendOperator, place)),
@@ -80,48 +95,71 @@ pub fn prefix(
     place: Place,
     op: PrefixOp,
     operand: Box<TExpr>,
-) -> Result<TExpr, Untyped> {
-    let op = match op {
-        PrefixOp::Plus => UnaryOp::Plus,
-        PrefixOp::Minus => UnaryOp::Minus,
-        PrefixOp::Complement => UnaryOp::Complement,
-        PrefixOp::Not => UnaryOp::Not,
-        PrefixOp::Step(op) => return stepped(place, op, StepOrder::Prefix, operand),
-        PrefixOp::Reduce(op) => return reduced(alloc, place, op, operand),
-    };
+) -> Result<TExpr, Untyped>
+    ensures { WithOperand operand.value (E.Prefix place op) result }
+{
+    match op {
+        PrefixOp::Plus => signed(alloc, UnaryOp::Plus, operand),
+        PrefixOp::Minus => signed(alloc, UnaryOp::Minus, operand),
+        PrefixOp::Complement => signed(alloc, UnaryOp::Complement, operand),
+        PrefixOp::Not => signed(alloc, UnaryOp::Not, operand),
+        PrefixOp::Step(op) => stepped(place, op, StepOrder::Prefix, operand),
+        PrefixOp::Reduce(op) => reduced(alloc, place, op, operand),
+    }
+}
+
+/// An operator on a value alone, wherever it stands.
+fn signed(alloc: Global, op: UnaryOp, operand: Box<TExpr>) -> Result<TExpr, Untyped>
+    ensures { (place : Place) → WithOperand operand.value (E.Prefix place (written_as op)) result }
+{
     Ok(unary(alloc, op, operand)?)
 }
 
 /// A reduction, whose operand has to be parallel.
-fn reduced(
-    alloc: Global,
-    place: Place,
-    op: ReduceOp,
-    operand: Box<TExpr>,
-) -> Result<TExpr, Untyped> {
-    if operand.ty().shape.is_none() {
-        return Err(fault(Fault::ParallelWanted, place));
+fn reduced(alloc: Global, place: Place, op: ReduceOp, operand: Box<TExpr>) -> Result<TExpr, Untyped>
+    ensures { WithOperand operand.value (E.Prefix place (P.Reduce op)) result }
+{
+    match operand.ty().shape {
+        None => Err(fault(Fault::ParallelWanted, place)),
+        Some(_) => Ok(reduction(alloc, op, operand)?),
     }
-    Ok(reduction(alloc, op, operand)?)
 }
 
-/// A chain of casts to scalar types. A parallel operand is a fault of the innermost one.
-pub fn casts(alloc: Global, casts: &[Cast], operand: Box<TExpr>) -> Result<TExpr, Untyped> {
-    let Some(last) = casts.last() else {
-        return Err(Untyped::Faulty);
-    };
-    if operand.ty().shape.is_some() {
-        return Err(fault(Fault::ScalarWanted, last.place));
+/// A chain of casts to scalar types over an operand at the place. A parallel operand is a fault of
+/// the innermost one.
+pub fn casts(
+    alloc: Global,
+    casts: &[Cast],
+    place: Place,
+    operand: Box<TExpr>,
+) -> Result<TExpr, Untyped>
+    ensures { (program : Program) (here : Here) (chain : Vec Cast Global) (e : Box Expr Global) → chain.items ≡ casts.now → place_of e.value ≡ place → Types program (part here) e.value operand.value true → IsAnswer program here (E.Casts chain e) result }
+{
+    match operand.ty().shape {
+        Some(_) => Err(fault(Fault::ScalarWanted, innermost(casts, place))),
+        None => Ok(cast_chain(alloc, casts, operand)?),
     }
-    Ok(cast_chain(alloc, casts, operand)?)
+}
+
+/// The place of the innermost of the casts, or else the given one.
+fn innermost(casts: &[Cast], otherwise: Place) -> Place
+    ensures { result ≡ last_place casts.now otherwise }
+{
+    let mut place = otherwise;
+    for cast in casts {
+        place = cast.place;
+    }
+    place
 }
 
 /// A pair of brackets, which has a value if what stands in it has one.
-pub fn bracketed(alloc: Global, inner: Option<TypedExpr>) -> Typing {
+pub fn bracketed(alloc: Global, inner: Option<TypedExpr>) -> Typing
+    ensures { IfOk result (AreBrackets inner) }
+{
     let Some(TypedExpr { expr, has_value }) = inner else {
         return Ok(None);
     };
-    let ty = if has_value { expr.ty() } else { INT };
+    let ty = expr.ty();
     let expr = TExpr::Brackets { ty, inner: expr };
     Ok(Some(TypedExpr {
         expr: Box::new(alloc, expr)?,

@@ -286,7 +286,10 @@ fn with_operand(
 fn on_operand(alloc: Global, e: &Expr, operand: Box<TExpr>) -> Result<TExpr, Untyped> {
     match e {
         Expr::Prefix { place, op, .. } => prefix(alloc, *place, *op, operand),
-        Expr::Casts { casts: chain, .. } => casts(alloc, chain.as_slice(), operand),
+        Expr::Casts {
+            casts: chain,
+            operand: inner,
+        } => { casts(alloc, chain.as_slice(), inner.place(), operand) }
         Expr::Postfix { place, op, .. } => { stepped(*place, *op, StepOrder::Postfix, operand) }
         _ => Err(Untyped::Faulty),
     }
