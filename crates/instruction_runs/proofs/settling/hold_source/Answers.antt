@@ -1,4 +1,4 @@
-use Rattle.std.proofs.Common.{Option, sym, ◌∙◌, arith}
+use Rattle.std.proofs.Common.{Option, sym, ◌∙◌}
 use Rattle.paris_code.specs.declared.operands.Field.{Field}
 use Rattle.instruction_runs.specs.Passes.{IsFieldIn}
 use Rattle.instruction_runs.proofs.Sources.{all_held, none_held, of_the_one}

@@ -1,11 +1,11 @@
-use Rattle.std.proofs.Common.{◌≡◌, ◌+◌, ◌≤◌, List, length, map, refl, sym, ◌∙◌, ap, subst, arith}
+use Rattle.std.proofs.Common.{◌≡◌, ◌+◌, List, length, map, refl, sym, ◌∙◌, ap, subst, arith}
 use Rattle.std.proofs.lemmas.List.{length-map}
 use Rattle.vp_sets.specs.Blocks.{block_count}
 use Rattle.paris_code.specs.Shapes.{bits_at, extents_at}
 use Rattle.bit_planes.specs.declared.plane.Plane.{Plane}
 use Rattle.block_store.specs.declared.set.SetPlan.{SetPlan}
 use Rattle.block_store.specs.Planes.{HasPlanes}
-use Rattle.block_store.specs.Stored.{blocks_in, shape_of_plan, shapes_in}
+use Rattle.block_store.specs.Stored.{shape_of_plan, shapes_in}
 use Rattle.block_store.proofs.Stores.{held}
 use Rattle.instruction_runs.specs.Passes.{held_in, PassFits}
 use Rattle.instruction_runs.specs.Waiting.{AreReady}
