@@ -5,7 +5,7 @@ ghost use Rattle.paris_phases.specs.Workers.{Pays};
 
 /// What one more worker costs a pass, in nanoseconds: the start of its thread, and the planes that move
 /// to the processor on which it runs.
-const WORKER_NS: u64 = 100_000;
+const WORKER_NS: u64 = 60_000;
 
 /// How many workers to give a pass over so many blocks, of which each keeps one worker for so many
 /// nanoseconds: as many as are given, at least 1 and at most 64, but fewer where starting them takes

@@ -7,8 +7,9 @@ use Rattle.paris_phases.proofs.Cells.{few_at, few_each}
 use Rattle.paris_phases.proofs.machine.store_of.Goals as goal
 
 pub room_for-requires : goal.room_for-requires
-room_for-requires c =
-    subst (λ (sets : List BlockSet). All (λ set. length set.blocks.items ≤ 2048) sets) (sym c.as_slice.ensures.value) (few_each (shapes_of c.args.sound.now) c.args.sets.items c.requires)
+room_for-requires c = record {
+  few = subst (λ (sets : List BlockSet). All (λ set. length set.blocks.items ≤ 2048) sets) (sym c.as_slice.ensures.value) (few_each (shapes_of c.args.sound.now) c.args.sets.items c.requires);
+}
 
 pub returns-clause-room : goal.returns-clause-room
 returns-clause-room c = λ set b.
