@@ -17,7 +17,8 @@ pub struct Room {
 }
 
 impl Room {
-    /// So many cells, and 32 planes for each. Their content means nothing.
+    /// So many cells, and 32 planes for each. Their content means nothing. `Memory` where there is not
+    /// memory for them.
     pub fn new(alloc: Global, cells: u32) -> Result<Room, Memory>
         ensures { IfOk result (λ room. vec_len room.cells ≡ cells) }
     {

@@ -16,4 +16,4 @@ pub use columns::{
     subtract, xor,
 };
 pub use counting::count;
-pub use target::{Operand, Target, write};
+pub use target::{Operand, Target, are_all, write};

@@ -1,5 +1,5 @@
 //! Where kernels read and write.
-ghost use Rattle.std.specs.Prelude.{◌≡◌, ℕ, ◌<◌, ◌≤◌, ◌+◌, length, IsTrue};
+ghost use Rattle.std.specs.Prelude.{◌≡◌, ◌↔◌, ℕ, ◌<◌, ◌≤◌, ◌+◌, ◌==◌, if◌then◌else◌, length, slice_index, EachIndex, IsTrue};
 ghost use Rattle.bit_planes.specs.Bits.{bit};
 ghost use Rattle.lane_kernels.specs.Changes.{HasAllLanes, Writes};
 
@@ -20,17 +20,20 @@ pub struct Target {
     ghost all_lanes: { IsTrue all → HasAllLanes lanes },
 }
 
-/// Whether every lane is 1.
-fn are_all(lanes: u64x8) -> bool
-    ensures { IsTrue result → HasAllLanes lanes }
+/// Whether each of the words is this one.
+#[inline(always)]
+fn are_each(words: &[u64], word: u64) -> bool
+    ensures { IsTrue result ↔ EachIndex words.now (λ k. slice_index words.now k ≡ word) }
 {
-    let words = lanes.to_array();
-    'words: for j in 0..8 {
-        if words[j] != u64::MAX {
-            return false;
-        }
-    }
-    true
+    words.iter().all(|w| *w == word)
+}
+
+/// Whether each lane has this bit.
+pub fn are_all(lanes: u64x8, one: bool) -> bool
+    ensures { IsTrue result → (i : ℕ) → i < 512 → bit lanes i ≡ (if one then 1 else 0) }
+{
+    let word = if one { u64::MAX } else { 0 };
+    are_each(&lanes.to_array(), word)
 }
 
 impl Target {
@@ -42,7 +45,7 @@ impl Target {
         ensures lanes { result.lanes ≡ lanes }
     {
         // A single plane is written sooner than its lanes are looked at.
-        let all = len > 1 && are_all(lanes);
+        let all = len > 1 && are_all(lanes, true);
         Target {
             offset,
             len,

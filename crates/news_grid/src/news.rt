@@ -18,12 +18,12 @@ ghost use Rattle.news_grid.specs.Steps.{HasHeld, number_seen, number_taken};
 ghost use Rattle.news_grid.specs.Takings.{TakingFits, Stepped};
 
 use crate::step::Step;
-use crate::window::{Turn, Window, are_all};
+use crate::window::{Turn, Window};
 use bit_planes::plane::{both, opposite};
 use bit_planes::{Block, Plane};
 use block_store::{BlockSet, Room, SetPlan, Store, taking_lanes};
 use cstar_io::Gate;
-use lane_kernels::Target;
+use lane_kernels::{Target, are_all};
 use paris_code::Field;
 use phase_meaning::arith::signed;
 use std::simd::prelude::*;

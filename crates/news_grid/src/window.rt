@@ -1,6 +1,6 @@
 //! Windows of 512 lanes on the planes that the room holds, from any lane on.
 
-ghost use Rattle.std.specs.Prelude.{◌≡◌, ◌↔◌, ℕ, ◌<◌, ◌≤◌, ◌+◌, ◌*◌, ◌/◌, ◌%◌, ◌==◌, if◌then◌else◌, slice_index, EachIndex, IsTrue};
+ghost use Rattle.std.specs.Prelude.{◌≡◌, ℕ, ◌<◌, ◌≤◌, ◌+◌, ◌*◌, ◌/◌, ◌%◌, ◌==◌, if◌then◌else◌};
 ghost use Rattle.std.specs.Int.{bit_at};
 ghost use Rattle.bit_planes.specs.Bits.{bit};
 ghost use Rattle.bit_planes.specs.Planes.{plane_at};
@@ -142,20 +142,4 @@ impl Turn {
             both(opposite(self.crossing), staying),
         )
     }
-}
-
-/// Whether each of the words is this one.
-#[inline(always)]
-fn are_each(words: &[u64], word: u64) -> bool
-    ensures { IsTrue result ↔ EachIndex words.now (λ k. slice_index words.now k ≡ word) }
-{
-    words.iter().all(|w| *w == word)
-}
-
-/// Whether each lane has this bit.
-pub(crate) fn are_all(lanes: u64x8, one: bool) -> bool
-    ensures { IsTrue result → (i : ℕ) → i < 512 → bit lanes i ≡ (if one then 1 else 0) }
-{
-    let word = if one { u64::MAX } else { 0 };
-    are_each(&lanes.to_array(), word)
 }

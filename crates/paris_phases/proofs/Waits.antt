@@ -46,11 +46,6 @@ pub none_ready : (shapes : List SetShape) (set : ℕ) (ds : List Deferred) → d
 none_ready shapes set [] e = record { each = λ k d b. absurd (omega (arith, b)); turns = tt }
 none_ready shapes set (d ∷ ds) e = cc
 
--- and any instruction can wait behind none
-pub none_take : (set : ℕ) (ds : List Deferred) (d : Deferred) → ds ≡ [] → takes set ds d ≡ true
-none_take set [] d e = refl
-none_take set (x ∷ ds) d e = cc
-
 -- which sender is to win makes no difference to those that wait
 pub chosen : (shapes : List SetShape) (set : ℕ) (ds : List Deferred) (m n : BitMemory) → AreReady shapes set ds → ((s p i : ℕ) → m.bit s p i ≡ n.bit s p i)
     → SameBits shapes (done_all shapes ds n) (record { bit = (done_all shapes ds m).bit; winner = n.winner })
