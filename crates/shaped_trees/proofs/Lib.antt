@@ -1,0 +1,4 @@
+pub mod Bringing
+pub mod ExpressionShapes
+pub mod Known
+pub mod StatementShapes

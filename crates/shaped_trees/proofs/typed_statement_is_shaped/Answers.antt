@@ -1,0 +1,5 @@
+use Rattle.shaped_trees.proofs.StatementShapes.{statement_shaped}
+use Rattle.shaped_trees.proofs.typed_statement_is_shaped.Goals as goal
+
+pub returns : goal.returns
+returns c program gives here stmt t s w typed = statement_shaped program gives typed s w
