@@ -93,3 +93,12 @@ pub plain_is_parallel : (known : Option ValueType) (ty : ValueType) (length : �
 unfolding type_or
 plain_is_parallel None ty length is = elim (none-some _ is) [ ]
 plain_is_parallel (Some given) ty length is = elim (none-some length (ap (λ (o : Option VariableType). (type_or (record { value = given; array = None }) o).array) is)) [ ]
+
+-- a shape and a function are no arrays
+pub shape_is_parallel : (number : ℕ) → MeansParallel (a_shape number)
+unfolding type_meant
+shape_is_parallel number v ty length is = elim (none-some _ (ap type_meant is)) [ ]
+
+pub function_is_parallel : (number : ℕ) → MeansParallel (a_function number)
+unfolding type_meant
+function_is_parallel number v ty length is = elim (none-some _ (ap type_meant is)) [ ]

@@ -32,52 +32,20 @@ use Rattle.shaped_trees.specs.ShapedStatements.{AreShapedLocals, AreShapedStatem
 use Rattle.shaped_trees.proofs.Bringing.{fitted, fitted_shape}
 use Rattle.shaped_trees.proofs.ExpressionShapes.{given}
 use Rattle.shaped_trees.proofs.Known.{behind_it, behind_name, declarable, in_block, in_body, in_shape, in_whole, of_type}
-
--- ---- rows of lists
-
-abbrev row_of : TStmt → (n : Count) × Row_of-TStmt n
-row_of (T.Block' _ _ row) = (_, row)
-row_of _ = (_, end_of-TStmt)
-
-row_by : (n : Count) (row : Row_of-TStmt n) → All IsShapedStatement (items-the_row-TStmt n row) → AreShapedStatements row
-unfolding AreShapedStatements
-row_by n end_of-TStmt all = tt
-row_by n (more_of-TStmt s rest) all = (All-head IsShapedStatement s _ all, row_by _ rest (All-tail IsShapedStatement s _ all))
-
--- a block of shaped parts
-pub block_shaped : (locals : Vec LocalVar Global) (statements : Vec TStmt Global) → AreShapedLocals locals.items → All IsShapedStatement statements.items → IsShapedStatement (T.Block locals statements)
-unfolding IsShapedStatement
-block_shaped locals statements ls ss =
-    let row = row_of (T.Block locals statements) in
-    (ls, row_by row.0 row.1 (subst (All IsShapedStatement) (sym (items_hidden-the_row-TStmt-0 statements)) ss))
-
-abbrev syntax_row : Stmt → (n : Count) × Row_of-Stmt n
-syntax_row (S.Block' _ _ _ row) = (_, row)
-syntax_row _ = (_, end_of-Stmt)
-
-all_by : (n : Count) (row : Row_of-Stmt n) → StatementsNameShapes row → All StatementNamesShapes (items-the_row-Stmt n row)
-unfolding StatementsNameShapes
-all_by n end_of-Stmt w = All-nil StatementNamesShapes
-all_by n (more_of-Stmt s rest) w = All-cons StatementNamesShapes s _ w.0 (all_by _ rest w.1)
-
-block_names : (block : Block) → StatementNamesShapes (S.Block block) → BlockNamesShapes block
-unfolding StatementNamesShapes BlockNamesShapes
-block_names block w =
-    let row = syntax_row (S.Block block) in
-    (w.0, subst (All StatementNamesShapes) (items_hidden-the_row-Stmt-0 block.statements) (all_by row.0 row.1 w.1))
+use Rattle.shaped_trees.proofs.Rows.{block_of_statement, block_shaped}
 
 module _ (program : Program) where
   -- ---- declarations
 
   shaped : {here : Here} {e : Expr} {t : TExpr} {has_value : Bool} → Types program here e t has_value → IsSound here → ExpressionNamesShapes e → IsShaped t
-  shaped typed s w = let g = given program typed s w in g.plain.shaped
+  shaped typed s w = let g = given program typed s w in g.shaped
 
   initial_shaped : {here : Here} {ty : ValueType} {i : Option Initializer} {f : Option TExpr} → TypesInitial program here ty i f → IsSound here → IfSome i (λ (i : Initializer). ExpressionNamesShapes i.value) → (info : VarInfo) → info.shape ≡ ty.shape → IsShapedInitial info f
   unfolding IsShapedInitial
   initial_shaped Y.no_initial s w info same = tt
   initial_shaped {ty = ty} (Y.initial typed at_hand takes fit) s w info same =
       let g = given program typed s w in
-      (ap is_none same ∙ fitted_shape ty fit takes, fitted fit g.plain)
+      (ap is_none same ∙ fitted_shape ty fit takes, fitted fit g)
 
   pub record Declares (behind_them : Here) (locals : List LocalVar) : Type 0 where
     pub sound : IsSound behind_them
@@ -132,7 +100,7 @@ module _ (program : Program) where
   test_if_shaped (Y.TypesTestIf.present test) s w = test_shaped test s w
 
   returned_shaped : {here : Here} {e : Expr} {returns : Returns} {t f : TExpr} → IsReturned here returns t f → Types program here e t true → IsSound here → ExpressionNamesShapes e → IsShaped f
-  returned_shaped (Y.returned at_hand takes fit) typed s w = let g = given program typed s w in fitted fit g.plain
+  returned_shaped (Y.returned at_hand takes fit) typed s w = let g = given program typed s w in fitted fit g
 
   module _ (returns : Returns) where
     mutual
@@ -140,7 +108,7 @@ module _ (program : Program) where
 
       pub statement_shaped : {here : Here} {stmt : Stmt} {t : TStmt} → TypesStatement program returns here stmt t → IsSound here → StatementNamesShapes stmt → IsShapedStatement t
       statement_shaped (Y.block_is {here = here} {block = block} locals statements typed) s w =
-          let parts = parts_shaped typed (in_block here s) (block_names block w) in
+          let parts = parts_shaped typed (in_block here s) (block_of_statement block w) in
           block_shaped locals statements parts.0 parts.1
       statement_shaped (Y.expression {here = here} typed) s w = shaped typed (in_whole here s) w
       statement_shaped Y.empty s w = tt

@@ -70,8 +70,11 @@ unfoldable mutual
 unfoldable pub BlockNamesShapes : Block → Type 0
 BlockNamesShapes block = All DeclarationNamesShapes block.declarations.items × All StatementNamesShapes block.statements.items
 
+unfoldable pub ShapeNamesShapes : ShapeDefinition → Type 0
+ShapeNamesShapes s = All ExpressionNamesShapes s.extents.items
+
 unfoldable pub ItemNamesShapes : Item → Type 0
-ItemNamesShapes (I.Shapes p shapes) = All (λ (s : ShapeDefinition). All ExpressionNamesShapes s.extents.items) shapes.items
+ItemNamesShapes (I.Shapes p shapes) = All ShapeNamesShapes shapes.items
 ItemNamesShapes (I.Variables d) = DeclarationNamesShapes d
 ItemNamesShapes (I.Function f) = BlockNamesShapes f.body
 
