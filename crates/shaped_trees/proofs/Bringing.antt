@@ -1,5 +1,5 @@
 -- What a value is brought to is shaped where the value is.
-use Rattle.std.proofs.Common.{◌≡◌, ℕ, Bool, true, false, is_none, List, [], ◌∷◌, Option, Some, None, refl, ap, ◌∙◌, sym, subst}
+use Rattle.std.proofs.Common.{◌≡◌, ℕ, true, false, is_none, List, [], ◌∷◌, Option, Some, None, refl, ap, ◌∙◌, sym, subst}
 use Rattle.std.specs.List.{All}
 use Rattle.std.proofs.lemmas.List.Elements.{All-nil, All-cons, All-head, All-tail}
 use Rattle.std.proofs.lemmas.Option.{none-some}
@@ -8,11 +8,11 @@ use Rattle.cstar_tree.specs.declared.typed.TExpr.{TExpr}
 use Rattle.cstar_tree.specs.declared.typed.ValueType.{ValueType}
 use Rattle.cstar_tree.specs.Conversions.{AreFitted, ArePromoted, AreSpread, IsConverted, IsFitted, IsSpread}
 use Rattle.cstar_tree.specs.Conversions as C
-use Rattle.cstar_tree.specs.Operations.{Target, target_of}
+use Rattle.cstar_tree.specs.Operations.{target_of}
 use Rattle.cstar_tree.specs.Typed.{type_of}
 use Rattle.shaped_trees.specs.Kept.{is_kept}
 use Rattle.shaped_trees.specs.Laws.{IsShapedValue}
-use Rattle.shaped_trees.specs.Shaped.{HasShape, IsShaped, IsTarget}
+use Rattle.shaped_trees.specs.Shaped.{HasShape, IsShaped}
 
 -- what is no target
 pub no_target : {t : TExpr} → IsShaped t → is_kept t ≡ is_none (type_of t).shape → target_of t ≡ None → IsShapedValue t

@@ -1,10 +1,8 @@
 -- What the rules of typing give an expression is shaped.
-use Rattle.std.proofs.Common.{◌≡◌, ℕ, Bool, true, false, is_none, IsSome, List, [], ◌∷◌, ◌++◌, Option, Some, None, Vec, refl, ap, ◌∙◌, sym, subst}
-use Rattle.std.specs.declared.alloc.Global.{Global}
+use Rattle.std.proofs.Common.{◌≡◌, ℕ, Bool, is_none, IsSome, List, Option, Some, None, refl, ap, sym}
 use Rattle.std.specs.List.{All}
 use Rattle.std.proofs.lemmas.List.Elements.{All-nil, All-cons, All-head, All-tail}
 use Rattle.std.proofs.lemmas.Option.{none-some}
-use mathlib.Core.Former.{Count}
 use Rattle.cstar_tree.specs.declared.syntax.AssignOp.{AssignOp}
 use Rattle.cstar_tree.specs.declared.syntax.Expr.{Expr, Row_of-Expr, end_of-Expr, more_of-Expr, items-the_row-Expr, items_hidden-the_row-Expr-0}
 use Rattle.cstar_tree.specs.declared.syntax.Expr as E
@@ -19,14 +17,13 @@ use Rattle.cstar_tree.specs.Conversions.{int, scalar, shape_among}
 use Rattle.cstar_tree.specs.ExpressionTypes.{IsPlaceOf, IsVariable, Types, TypesEach, TypesIndexes}
 use Rattle.cstar_tree.specs.ExpressionTypes as X
 use Rattle.cstar_tree.specs.Headers.{Program}
-use Rattle.cstar_tree.specs.Operations.{Target, many, one, target_of}
-use Rattle.cstar_tree.specs.Scopes.{Here, meaning, of_shape, of_written, part, shape_of, written_type}
-use Rattle.cstar_tree.specs.Typed.{type_of}
-use Rattle.shaped_trees.specs.Casts.{ExpressionNamesShapes, ExpressionsNameShapes}
+use Rattle.cstar_tree.specs.Operations.{many, one, target_of}
+use Rattle.cstar_tree.specs.Scopes.{Here, meaning, of_shape, of_written, shape_of, written_type}
+use Rattle.shaped_trees.specs.Casts.{ExpressionNamesShapes}
 use Rattle.shaped_trees.specs.Kept.{is_kept}
 use Rattle.shaped_trees.specs.Laws.{IsShapedValue}
 use Rattle.shaped_trees.specs.Places.{IsSound}
-use Rattle.shaped_trees.specs.Shaped.{AreShaped, HasShape, IsShaped, IsTarget}
+use Rattle.shaped_trees.specs.Shaped.{HasShape, IsShaped, IsTarget}
 use Rattle.shaped_trees.proofs.Bringing.{all_fitted, all_promoted, all_shaped, all_spread, converted, fitted, no_target, spread, spread_parallel}
 use Rattle.shaped_trees.proofs.Known.{in_index, in_part}
 use Rattle.shaped_trees.proofs.Rows.{list_shaped, names_each}

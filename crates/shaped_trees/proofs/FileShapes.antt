@@ -1,8 +1,7 @@
 -- The instances of a typed file have shaped bodies.
-use Rattle.std.proofs.Common.{◌≡◌, ℕ, ◌+◌, Bool, true, false, is_none, is_some, if◌then◌else◌, List, [], ◌∷◌, ◌++◌, length, get_or, slice_get, Option, Some, None, Vec, refl, ap, ◌∙◌, sym, subst}
-use Rattle.std.specs.declared.alloc.Global.{Global}
+use Rattle.std.proofs.Common.{◌≡◌, ℕ, ◌+◌, Bool, true, false, is_some, if◌then◌else◌, List, [], ◌∷◌, ◌++◌, length, slice_get, Option, Some, None, refl, ◌∙◌, sym, subst}
 use Rattle.std.specs.List.{All}
-use Rattle.std.proofs.lemmas.List.Elements.{All-nil, All-cons, All-head, All-tail, All-append, All-get_or}
+use Rattle.std.proofs.lemmas.List.Elements.{All-nil, All-cons, All-head, All-tail, All-get_or}
 use Rattle.std.proofs.lemmas.Option.{get_or_from_slice_get, none-some, slice_get_within}
 use Rattle.cstar_tree.specs.declared.syntax.Declarator.{Declarator}
 use Rattle.cstar_tree.specs.declared.syntax.Function.{Function}
@@ -20,9 +19,8 @@ use Rattle.cstar_tree.specs.declared.typed.ValueType.{ValueType}
 use Rattle.cstar_tree.specs.declared.typed.VarInfo.{VarInfo}
 use Rattle.cstar_tree.specs.declared.typed.Variable.TheVariants as V
 use Rattle.cstar_tree.specs.BlockScopes.{declared_type}
-use Rattle.cstar_tree.specs.FileScopes.{Known, behind_function, behind_item, behind_shape, behind_shapes, behind_variable, behind_variables, file_functions, file_known, file_place, function_binding, function_names, function_word, functions_named, is_among, nothing_known, placed_from, words_of}
+use Rattle.cstar_tree.specs.FileScopes.{Known, behind_function, behind_item, behind_shape, behind_shapes, behind_variable, behind_variables, file_place, function_binding, function_names, function_word, is_among, placed_from, words_of}
 use Rattle.cstar_tree.specs.Headers.{Placed, Program, Reached, behind_parameter, behind_parameters, body_place, header_place, plain_type}
-use Rattle.cstar_tree.specs.Instances.{program_of}
 use Rattle.cstar_tree.specs.ProgramTypes.{IsBody, TypesFile, TypesInstance, TypesInstances, TypesItems, TypesVariables}
 use Rattle.cstar_tree.specs.ProgramTypes as Y
 use Rattle.cstar_tree.specs.Scopes.{Binding, Here, Meaning, a_function, a_shape, a_variable, find, written_type}

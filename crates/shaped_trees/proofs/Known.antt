@@ -1,10 +1,10 @@
 -- Places at which arrays are parallel: around the parts of an expression, and behind names that are no
 -- arrays without a shape.
-use Rattle.std.proofs.Common.{◌≡◌, ℕ, Bool, true, false, if◌then◌else◌, is_none, is_some, List, [], ◌∷◌, ◌++◌, Option, Some, None, bytes_eq, ◌==◌, refl, ap, ◌∙◌, sym, subst}
+use Rattle.std.proofs.Common.{◌≡◌, ℕ, Bool, true, false, if◌then◌else◌, is_none, is_some, List, ◌∷◌, ◌++◌, Option, Some, None, bytes_eq, refl, ap, ◌∙◌, sym}
 use Rattle.std.proofs.lemmas.Option.{none-some}
 use Rattle.cstar_tree.specs.declared.typed.ValueType.{ValueType}
 use Rattle.cstar_tree.specs.declared.typed.Variable.{Variable}
-use Rattle.cstar_tree.specs.Scopes.{Binding, Here, Meaning, Names, VariableType, a_function, a_shape, a_variable, as_whole, declared, find, index_place, is_shape, meaning, part, stands_under, under}
+use Rattle.cstar_tree.specs.Scopes.{Binding, Here, Meaning, Names, VariableType, a_function, a_shape, a_variable, as_whole, declared, find, index_place, meaning, part, stands_under, under}
 use Rattle.cstar_tree.specs.BlockScopes.{block_place, in_loop}
 use Rattle.cstar_tree.specs.Headers.{plain_type}
 use Rattle.cstar_tree.specs.StatementTypes.{IsDeclarable}

@@ -1,5 +1,5 @@
 -- Lists as they stand in nodes: what is said of the row of a node is said of each thing of its list.
-use Rattle.std.proofs.Common.{◌≡◌, List, Vec, sym, subst}
+use Rattle.std.proofs.Common.{◌≡◌, Vec, sym, subst}
 use Rattle.std.specs.declared.alloc.Global.{Global}
 use Rattle.std.specs.List.{All}
 use Rattle.std.proofs.lemmas.List.Elements.{All-nil, All-cons, All-head, All-tail}

@@ -1,9 +1,7 @@
 -- In what the grammar spells each parallel cast names a shape.
-use Rattle.std.proofs.Common.{◌≡◌, ℕ, IfSome, IsSome, List, [], ◌∷◌, ◌++◌, Option, Some, None, Vec, sym, subst}
-use Rattle.std.specs.declared.alloc.Global.{Global}
+use Rattle.std.proofs.Common.{ℕ, IfSome, List, [], Option}
 use Rattle.std.specs.List.{All}
-use Rattle.std.proofs.lemmas.List.Elements.{All-nil, All-cons, All-head, All-tail, All-push}
-use mathlib.Core.Former.{Count}
+use Rattle.std.proofs.lemmas.List.Elements.{All-nil, All-cons, All-push}
 use Rattle.cstar_base.specs.declared.operators.Place.{Place}
 use Rattle.cstar_tree.specs.declared.token.Mark.{Mark}
 use Rattle.cstar_tree.specs.declared.token.Token.{Token}
@@ -17,8 +15,7 @@ use Rattle.cstar_tree.specs.declared.syntax.Function.{Function}
 use Rattle.cstar_tree.specs.declared.syntax.Initializer.{Initializer}
 use Rattle.cstar_tree.specs.declared.syntax.Item.{Item}
 use Rattle.cstar_tree.specs.declared.syntax.ShapeDefinition.{ShapeDefinition}
-use Rattle.cstar_tree.specs.declared.syntax.Stmt.{Stmt, Row_of-Stmt, end_of-Stmt, more_of-Stmt, items-the_row-Stmt, items_hidden-the_row-Stmt-0}
-use Rattle.cstar_tree.specs.declared.syntax.Stmt as S
+use Rattle.cstar_tree.specs.declared.syntax.Stmt.{Stmt}
 use Rattle.cstar_tree.specs.declared.syntax.Tree.{Tree}
 use Rattle.cstar_tree.specs.Declarations.{IsLength, IsInitial, IsDeclarator, AreDeclarators, IsDeclaration, AreDeclarations}
 use Rattle.cstar_tree.specs.Declarations as D
@@ -28,7 +25,7 @@ use Rattle.cstar_tree.specs.Items.{IsShapeDefinition, AreShapeDefinitions, IsFun
 use Rattle.cstar_tree.specs.Items as Z
 use Rattle.cstar_tree.specs.Statements.{IsPart, IsTest, IsStmt, AreStmts, IsBlock}
 use Rattle.cstar_tree.specs.Statements as Y
-use Rattle.shaped_trees.specs.Casts.{BlockNamesShapes, DeclarationNamesShapes, DeclaratorNamesShapes, ElseNamesShapes, ExpressionNamesShapes, ExpressionsNameShapes, ItemNamesShapes, NamesShapes, ShapeNamesShapes, StatementNamesShapes, StatementsNameShapes}
+use Rattle.shaped_trees.specs.Casts.{BlockNamesShapes, DeclarationNamesShapes, DeclaratorNamesShapes, ElseNamesShapes, ExpressionNamesShapes, ItemNamesShapes, NamesShapes, ShapeNamesShapes, StatementNamesShapes, StatementsNameShapes}
 use Rattle.shaped_trees.proofs.Rows.{list_names, statement_of_block}
 
 module _ (tokens : List Token) where

@@ -1,34 +1,29 @@
 -- What the rules of typing give statements and declarations is shaped.
-use Rattle.std.proofs.Common.{◌≡◌, ℕ, ◌+◌, Bool, true, false, is_none, IfSome, List, [], ◌∷◌, ◌++◌, Option, Some, None, Vec, refl, ap, ◌∙◌, sym, subst}
-use Rattle.std.specs.declared.alloc.Global.{Global}
+use Rattle.std.proofs.Common.{◌≡◌, ◌+◌, Bool, true, is_none, IfSome, List, [], ◌∷◌, ◌++◌, Option, Some, ap, ◌∙◌, sym, subst}
 use Rattle.std.specs.List.{All}
 use Rattle.std.proofs.lemmas.List.Elements.{All-nil, All-cons, All-head, All-tail}
-use mathlib.Core.Former.{Count}
 use Rattle.cstar_tree.specs.declared.syntax.Block.{Block}
 use Rattle.cstar_tree.specs.declared.syntax.Declaration.{Declaration}
 use Rattle.cstar_tree.specs.declared.syntax.Declarator.{Declarator}
 use Rattle.cstar_tree.specs.declared.syntax.Expr.{Expr}
 use Rattle.cstar_tree.specs.declared.syntax.Initializer.{Initializer}
-use Rattle.cstar_tree.specs.declared.syntax.Stmt.{Stmt, Row_of-Stmt, end_of-Stmt, more_of-Stmt, items-the_row-Stmt, items_hidden-the_row-Stmt-0}
-use Rattle.cstar_tree.specs.declared.syntax.Stmt as S
+use Rattle.cstar_tree.specs.declared.syntax.Stmt.{Stmt}
 use Rattle.cstar_tree.specs.declared.typed.LocalVar.{LocalVar}
 use Rattle.cstar_tree.specs.declared.typed.TExpr.{TExpr}
-use Rattle.cstar_tree.specs.declared.typed.TStmt.{TStmt, Row_of-TStmt, end_of-TStmt, more_of-TStmt, items-the_row-TStmt, items_hidden-the_row-TStmt-0}
-use Rattle.cstar_tree.specs.declared.typed.TStmt as T
+use Rattle.cstar_tree.specs.declared.typed.TStmt.{TStmt}
 use Rattle.cstar_tree.specs.declared.typed.ValueType.{ValueType}
 use Rattle.cstar_tree.specs.declared.typed.VarInfo.{VarInfo}
 use Rattle.cstar_tree.specs.declared.typed.Variable.TheVariants as V
-use Rattle.cstar_tree.specs.BlockScopes.{behind, behind_declarations, behind_declarator, behind_declarators, block_place, declared_type, in_loop}
+use Rattle.cstar_tree.specs.BlockScopes.{behind_declarations, behind_declarator, behind_declarators, declared_type}
 use Rattle.cstar_tree.specs.ExpressionTypes.{Types}
 use Rattle.cstar_tree.specs.Headers.{Program, Returns}
-use Rattle.cstar_tree.specs.Scopes.{Here, VariableType, a_variable, written_type}
+use Rattle.cstar_tree.specs.Scopes.{Here, a_variable}
 use Rattle.cstar_tree.specs.StatementTypes.{IsReturned, TypesBlock, TypesDeclarations, TypesEffectIf, TypesInitial, TypesLocal, TypesLocals, TypesStatement, TypesStatements, TypesTest, TypesTestIf, TypesValueIf}
 use Rattle.cstar_tree.specs.StatementTypes as Y
-use Rattle.cstar_tree.specs.Typed.{type_of}
-use Rattle.shaped_trees.specs.Casts.{BlockNamesShapes, DeclarationNamesShapes, DeclaratorNamesShapes, ElseNamesShapes, ExpressionNamesShapes, StatementNamesShapes, StatementsNameShapes}
+use Rattle.shaped_trees.specs.Casts.{BlockNamesShapes, DeclarationNamesShapes, DeclaratorNamesShapes, ElseNamesShapes, ExpressionNamesShapes, StatementNamesShapes}
 use Rattle.shaped_trees.specs.Places.{IsSound}
 use Rattle.shaped_trees.specs.Shaped.{IsShaped}
-use Rattle.shaped_trees.specs.ShapedStatements.{AreShapedLocals, AreShapedStatements, IsShapedElse, IsShapedInitial, IsShapedPart, IsShapedStatement}
+use Rattle.shaped_trees.specs.ShapedStatements.{AreShapedLocals, IsShapedElse, IsShapedInitial, IsShapedPart, IsShapedStatement}
 use Rattle.shaped_trees.proofs.Bringing.{fitted, fitted_shape}
 use Rattle.shaped_trees.proofs.ExpressionShapes.{given}
 use Rattle.shaped_trees.proofs.Known.{behind_it, behind_name, declarable, in_block, in_body, in_shape, in_whole, of_type}
