@@ -10,9 +10,9 @@ use Rattle.cstar_tree.specs.Conversions.{AreFitted, ArePromoted, AreSpread, IsCo
 use Rattle.cstar_tree.specs.Conversions as C
 use Rattle.cstar_tree.specs.Operations.{target_of}
 use Rattle.cstar_tree.specs.Typed.{type_of}
-use Rattle.shaped_trees.specs.Kept.{is_kept}
+use Rattle.lower_expr.specs.Steps.{is_kept}
+use Rattle.code_lengths.specs.Shaped.{HasShape, IsShaped}
 use Rattle.shaped_trees.specs.Laws.{IsShapedValue}
-use Rattle.shaped_trees.specs.Shaped.{HasShape, IsShaped}
 
 -- what is no target
 pub no_target : {t : TExpr} → IsShaped t → is_kept t ≡ is_none (type_of t).shape → target_of t ≡ None → IsShapedValue t

@@ -19,11 +19,11 @@ use Rattle.cstar_tree.specs.ExpressionTypes as X
 use Rattle.cstar_tree.specs.Headers.{Program}
 use Rattle.cstar_tree.specs.Operations.{many, one, target_of}
 use Rattle.cstar_tree.specs.Scopes.{Here, meaning, of_shape, of_written, shape_of, written_type}
+use Rattle.lower_expr.specs.Steps.{is_kept}
+use Rattle.code_lengths.specs.Shaped.{HasShape, IsShaped, IsTarget}
 use Rattle.shaped_trees.specs.Casts.{ExpressionNamesShapes}
-use Rattle.shaped_trees.specs.Kept.{is_kept}
 use Rattle.shaped_trees.specs.Laws.{IsShapedValue}
 use Rattle.shaped_trees.specs.Places.{IsSound}
-use Rattle.shaped_trees.specs.Shaped.{HasShape, IsShaped, IsTarget}
 use Rattle.shaped_trees.proofs.Bringing.{all_fitted, all_promoted, all_shaped, all_spread, converted, fitted, no_target, spread, spread_parallel}
 use Rattle.shaped_trees.proofs.Known.{in_index, in_part}
 use Rattle.shaped_trees.proofs.Rows.{list_shaped, names_each}

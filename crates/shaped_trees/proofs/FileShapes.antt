@@ -24,10 +24,10 @@ use Rattle.cstar_tree.specs.Headers.{Placed, Program, Reached, behind_parameter,
 use Rattle.cstar_tree.specs.ProgramTypes.{IsBody, TypesFile, TypesInstance, TypesInstances, TypesItems, TypesVariables}
 use Rattle.cstar_tree.specs.ProgramTypes as Y
 use Rattle.cstar_tree.specs.Scopes.{Binding, Here, Meaning, a_function, a_shape, a_variable, find, written_type}
+use Rattle.code_lengths.specs.ShapedStatements.{AreShapedLocals, IsShapedStatement}
 use Rattle.shaped_trees.specs.Casts.{BlockNamesShapes, ItemNamesShapes, NamesShapes}
 use Rattle.shaped_trees.specs.Laws.{HasShapedBody}
 use Rattle.shaped_trees.specs.Places.{ArraysAreParallel, IsSound}
-use Rattle.shaped_trees.specs.ShapedStatements.{AreShapedLocals, IsShapedStatement}
 use Rattle.shaped_trees.proofs.Known.{MeansParallel, behind_name, declarable, of_type, plain_is_parallel, shape_is_parallel, function_is_parallel, with_name}
 use Rattle.shaped_trees.proofs.Rows.{block_shaped}
 use Rattle.shaped_trees.proofs.StatementShapes.{parts_shaped}

@@ -10,8 +10,8 @@ use Rattle.cstar_tree.specs.Headers.{plain_type}
 use Rattle.cstar_tree.specs.StatementTypes.{IsDeclarable}
 use Rattle.cstar_tree.specs.StatementTypes as S
 use Rattle.cstar_tree.specs.declared.syntax.Initializer.{Initializer}
+use Rattle.code_lengths.specs.Shaped.{HasShape}
 use Rattle.shaped_trees.specs.Places.{ArraysAreParallel, IsSound}
-use Rattle.shaped_trees.specs.Shaped.{HasShape}
 
 -- a name that means this means no array, or a parallel one
 abbrev pub MeansParallel : Meaning → Type 0

@@ -14,9 +14,9 @@ use Rattle.cstar_tree.specs.declared.typed.TExpr.{TExpr, Row_of-TExpr, end_of-TE
 use Rattle.cstar_tree.specs.declared.typed.TExpr as T
 use Rattle.cstar_tree.specs.declared.typed.TStmt.{TStmt, Row_of-TStmt, end_of-TStmt, more_of-TStmt, items-the_row-TStmt, items_hidden-the_row-TStmt-0}
 use Rattle.cstar_tree.specs.declared.typed.TStmt as R
+use Rattle.code_lengths.specs.Shaped.{AreShaped, IsShaped}
+use Rattle.code_lengths.specs.ShapedStatements.{AreShapedLocals, AreShapedStatements, IsShapedStatement}
 use Rattle.shaped_trees.specs.Casts.{BlockNamesShapes, ExpressionNamesShapes, ExpressionsNameShapes, StatementNamesShapes, StatementsNameShapes}
-use Rattle.shaped_trees.specs.Shaped.{AreShaped, IsShaped}
-use Rattle.shaped_trees.specs.ShapedStatements.{AreShapedLocals, AreShapedStatements, IsShapedStatement}
 
 -- ---- typed expressions
 

@@ -20,10 +20,10 @@ use Rattle.cstar_tree.specs.Headers.{Program, Returns}
 use Rattle.cstar_tree.specs.Scopes.{Here, a_variable}
 use Rattle.cstar_tree.specs.StatementTypes.{IsReturned, TypesBlock, TypesDeclarations, TypesEffectIf, TypesInitial, TypesLocal, TypesLocals, TypesStatement, TypesStatements, TypesTest, TypesTestIf, TypesValueIf}
 use Rattle.cstar_tree.specs.StatementTypes as Y
+use Rattle.code_lengths.specs.Shaped.{IsShaped}
+use Rattle.code_lengths.specs.ShapedStatements.{AreShapedLocals, IsShapedElse, IsShapedInitial, IsShapedPart, IsShapedStatement}
 use Rattle.shaped_trees.specs.Casts.{BlockNamesShapes, DeclarationNamesShapes, DeclaratorNamesShapes, ElseNamesShapes, ExpressionNamesShapes, StatementNamesShapes}
 use Rattle.shaped_trees.specs.Places.{IsSound}
-use Rattle.shaped_trees.specs.Shaped.{IsShaped}
-use Rattle.shaped_trees.specs.ShapedStatements.{AreShapedLocals, IsShapedElse, IsShapedInitial, IsShapedPart, IsShapedStatement}
 use Rattle.shaped_trees.proofs.Bringing.{fitted, fitted_shape}
 use Rattle.shaped_trees.proofs.ExpressionShapes.{given}
 use Rattle.shaped_trees.proofs.Known.{behind_it, behind_name, declarable, in_block, in_body, in_shape, in_whole, of_type}

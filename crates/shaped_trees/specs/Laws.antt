@@ -20,11 +20,11 @@ use Rattle.cstar_tree.specs.ProgramTypes.{TypesFile}
 use Rattle.cstar_tree.specs.Scopes.{Here}
 use Rattle.cstar_tree.specs.StatementTypes.{TypesDeclarations, TypesStatement}
 use Rattle.cstar_tree.specs.Typed.{type_of}
+use Rattle.lower_expr.specs.Steps.{is_kept}
+use Rattle.code_lengths.specs.Shaped.{IsShaped, IsTarget}
+use Rattle.code_lengths.specs.ShapedStatements.{AreShapedLocals, IsShapedStatement}
 use Rattle.shaped_trees.specs.Casts.{DeclarationNamesShapes, ExpressionNamesShapes, NamesShapes, StatementNamesShapes}
-use Rattle.shaped_trees.specs.Kept.{is_kept}
 use Rattle.shaped_trees.specs.Places.{IsSound}
-use Rattle.shaped_trees.specs.Shaped.{IsShaped, IsTarget}
-use Rattle.shaped_trees.specs.ShapedStatements.{AreShapedLocals, IsShapedStatement}
 
 -- What an expression becomes: shaped, a target where typing takes it as one, and before it is brought to
 -- a type kept in a register exactly where it has no shape.

@@ -3,7 +3,7 @@ use Rattle.std.specs.Prelude.{◌≡◌, ℕ, List, ◌++◌, Some, is_none, fal
 use Rattle.cstar_tree.specs.declared.typed.ValueType.{ValueType}
 use Rattle.cstar_tree.specs.declared.typed.Variable.{Variable}
 use Rattle.cstar_tree.specs.Scopes.{Binding, Here, a_variable, find}
-use Rattle.shaped_trees.specs.Shaped.{HasShape}
+use Rattle.code_lengths.specs.Shaped.{HasShape}
 
 -- a name that stands for an array stands for a parallel one
 abbrev pub ArraysAreParallel : List Binding → Type 0
