@@ -2,14 +2,14 @@
 -- arrays without a shape.
 use Rattle.std.proofs.Common.{◌≡◌, ℕ, Bool, true, false, if◌then◌else◌, is_none, is_some, List, ◌∷◌, ◌++◌, Option, Some, None, bytes_eq, refl, ap, ◌∙◌, sym}
 use Rattle.std.proofs.lemmas.Option.{none-some}
+use Rattle.cstar_tree.specs.declared.syntax.Initializer.{Initializer}
 use Rattle.cstar_tree.specs.declared.typed.ValueType.{ValueType}
 use Rattle.cstar_tree.specs.declared.typed.Variable.{Variable}
-use Rattle.cstar_tree.specs.Scopes.{Binding, Here, Meaning, Names, VariableType, a_function, a_shape, a_variable, as_whole, declared, find, index_place, meaning, part, stands_under, under}
 use Rattle.cstar_tree.specs.BlockScopes.{block_place, in_loop}
 use Rattle.cstar_tree.specs.Headers.{plain_type}
+use Rattle.cstar_tree.specs.Scopes.{Binding, Here, Meaning, Names, VariableType, a_function, a_shape, a_variable, as_whole, declared, find, index_place, meaning, part, stands_under, under}
 use Rattle.cstar_tree.specs.StatementTypes.{IsDeclarable}
 use Rattle.cstar_tree.specs.StatementTypes as S
-use Rattle.cstar_tree.specs.declared.syntax.Initializer.{Initializer}
 use Rattle.code_lengths.specs.Shaped.{HasShape}
 use Rattle.shaped_trees.specs.Places.{ArraysAreParallel, IsSound}
 

@@ -26,8 +26,8 @@ use Rattle.code_lengths.specs.ShapedStatements.{AreShapedLocals, IsShapedStateme
 use Rattle.shaped_trees.specs.Casts.{DeclarationNamesShapes, ExpressionNamesShapes, NamesShapes, StatementNamesShapes}
 use Rattle.shaped_trees.specs.Places.{IsSound}
 
--- What an expression becomes: shaped, a target where typing takes it as one, and before it is brought to
--- a type kept in a register exactly where it has no shape.
+-- What an expression becomes, before it is brought to another type or shape: it is shaped, can be
+-- assigned to where typing takes it as a target, and is kept in a register exactly where it has no shape.
 pub record IsShapedValue (t : TExpr) : Type 0 where
   pub shaped : IsShaped t
   pub target : (which : Target) → target_of t ≡ Some which → IsTarget t
