@@ -1,1 +1,9 @@
+pub mod AlongAxes
+pub mod Assigned
+pub mod AtSites
+pub mod Combined
+pub mod Indexed
+pub mod OfShapes
 pub mod OnOperands
+pub mod Printed
+pub mod Told

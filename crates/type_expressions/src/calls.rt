@@ -1,5 +1,16 @@
 //! Calls of functions, and `printf`.
 
+ghost use Rattle.cstar_tree.specs.Conversions.{ArePromoted};
+ghost use Rattle.cstar_tree.specs.ExpressionTypes.{Types, TypesEach};
+ghost use Rattle.cstar_tree.specs.Headers.{Program};
+ghost use Rattle.cstar_tree.specs.Scopes.{Here, part};
+ghost use Rattle.cstar_tree.specs.declared.syntax.Expr as E;
+ghost use Rattle.cstar_tree.specs.declared.syntax.Expr.{Expr};
+ghost use Rattle.std.specs.Prelude.{◌≡◌, IfOk, MatchResult, Vec};
+ghost use Rattle.std.specs.List.{list_any};
+ghost use Rattle.std.specs.declared.alloc.Global.{Global};
+ghost use Rattle.type_expressions.specs.Answers.{IsFault, is_parallel, trees};
+
 use crate::found::{Found, TypedExpr, Typing};
 use cstar_base::{Fault, Memory, Place, Word};
 use cstar_tree::syntax::Name;
@@ -159,8 +170,10 @@ pub fn printf(
     place: Place,
     text: &Word,
     arguments: Vec<Box<TExpr>>,
-) -> Result<TypedExpr, Untyped> {
-    if arguments.iter().any(|e| e.ty().shape.is_some()) {
+) -> Result<TypedExpr, Untyped>
+    ensures { (program : Program) (here : Here) (given : Vec Expr Global) → TypesEach program (part here) given.items (trees arguments.items) → MatchResult result (λ t. Types program here (E.Printf place text.now given) t.expr.value t.has_value) (IsFault program here (E.Printf place text.now given)) }
+{
+    if has_parallel(arguments.as_slice()) {
         return Err(fault(Fault::ScalarWanted, place));
     }
     let Some(cut) = cut(alloc, text.bytes())? else {
@@ -180,7 +193,16 @@ pub fn printf(
     })
 }
 
-fn promoted_arguments(alloc: Global, arguments: Vec<Box<TExpr>>) -> Result<Vec<TExpr>, Memory> {
+/// Is any of the values parallel?
+fn has_parallel(values: &[Box<TExpr>]) -> bool
+    ensures { result ≡ list_any is_parallel values.now }
+{
+    values.iter().any(|value| value.ty().shape.is_some())
+}
+
+fn promoted_arguments(alloc: Global, arguments: Vec<Box<TExpr>>) -> Result<Vec<TExpr>, Memory>
+    ensures { IfOk result (λ values. ArePromoted (trees arguments.items) values.items) }
+{
     let mut values = Vec::new(alloc);
     for argument in arguments {
         let elem = promoted(argument.ty().elem);

@@ -1,5 +1,8 @@
 //! What typing has found so far: faults, instances, and the number of nodes.
 
+ghost use Rattle.std.specs.Prelude.{IfOk};
+ghost use Rattle.type_expressions.specs.Answers.{IsOutcome};
+
 use cstar_base::{Fault, Memory, Place};
 use cstar_tree::typed::TExpr;
 use indexmap::{IndexMap, IndexSet};
@@ -124,7 +127,9 @@ impl Found {
 
 /// What an expression with a value comes to. The fault that stands at it is recorded. The expression
 /// is boxed first, so that a pointer is handed on.
-pub fn outcome(faults: &mut Faults, alloc: Global, typed: Result<TExpr, Untyped>) -> Typing {
+pub fn outcome(faults: &mut Faults, alloc: Global, typed: Result<TExpr, Untyped>) -> Typing
+    ensures { IfOk result (IsOutcome typed faults.old.least faults.new.least) }
+{
     let typed = match typed {
         Ok(expr) => Ok(Box::new(alloc, expr)?),
         Err(untyped) => Err(untyped),

@@ -1,5 +1,23 @@
 //! What is asked of shapes, and the scans.
 
+ghost use Rattle.cstar_tree.specs.ExpressionTypes.{Types};
+ghost use Rattle.cstar_tree.specs.Headers.{Program};
+ghost use Rattle.cstar_tree.specs.Scopes.{Here, extents_of, part, shape_of, written_type};
+ghost use Rattle.cstar_tree.specs.Constants.{axis_of};
+ghost use Rattle.cstar_tree.specs.declared.syntax.ShapeRef.{ShapeRef};
+ghost use Rattle.cstar_base.specs.declared.operators.Place.{Place};
+ghost use Rattle.cstar_tree.specs.declared.syntax.Expr as E;
+ghost use Rattle.cstar_tree.specs.declared.syntax.Expr.{Expr};
+ghost use Rattle.cstar_tree.specs.declared.syntax.TypeName.{TypeName};
+ghost use Rattle.cstar_tree.specs.declared.syntax.Name.{Name};
+ghost use Rattle.cstar_tree.specs.ExpressionFaults.{IsReady};
+ghost use Rattle.cstar_tree.specs.Syntax.{place_of};
+ghost use Rattle.std.specs.Prelude.{◌≡◌, ◌<◌, ◌^◌, ℕ, true, Box, List, MatchResult, Option, Some, length, slice_get};
+ghost use Rattle.type_expressions.specs.declared.intrinsics.Axis.TheVariants as A;
+ghost use Rattle.std.specs.declared.alloc.Global.{Global};
+ghost use Rattle.type_expressions.specs.Along.{AreBits, GoesBy, IsAlong, IsAxisOf, axis_in, extent_along, goes_with, number_of_constant};
+ghost use Rattle.type_expressions.specs.Answers.{HasShapes, IsAnswer, IsFault, IsSite};
+
 use cstar_base::{Combiner, Direction, Elem, Fault, Inclusion, Place, SegmentMode, numbers};
 use cstar_tree::syntax::Name;
 use cstar_tree::typed::{TExpr, ValueType, Variable};
@@ -28,7 +46,9 @@ pub struct Walk {
 }
 
 /// An axis of a shape with so many axes, from its typed expression at the place.
-pub fn axis_of(place: Place, axis: &TExpr, rank: Option<u32>) -> Result<Axis, Untyped> {
+pub fn axis_of(place: Place, axis: &TExpr, rank: Option<u32>) -> Result<Axis, Untyped>
+    ensures { IsAxisOf (number_of_constant axis.now) rank place result }
+{
     let Some(word) = constant(axis) else {
         return Err(fault(Fault::Constant, place));
     };
@@ -36,14 +56,26 @@ pub fn axis_of(place: Place, axis: &TExpr, rank: Option<u32>) -> Result<Axis, Un
     let Some(rank) = rank else {
         return Ok(Axis::Unknown);
     };
+    match axis_in(rank, number) {
+        Some(axis) => Ok(Axis::Number(axis)),
+        None => Err(fault(Fault::Axis, place)),
+    }
+}
+
+/// The number as an axis of so many.
+fn axis_in(rank: u32, number: i64) -> Option<u32>
+    ensures { result ≡ axis_in rank number }
+{
     match u32::try_from(number) {
-        Ok(axis) if axis < rank => Ok(Axis::Number(axis)),
-        _ => Err(fault(Fault::Axis, place)),
+        Ok(axis) if axis < rank => Some(axis),
+        _ => None,
     }
 }
 
 /// `pcoord` at its place.
-pub fn pcoord(site: Site, place: Place, axis: Axis) -> Result<TExpr, Untyped> {
+pub fn pcoord(site: Site, place: Place, axis: Axis) -> Result<TExpr, Untyped>
+    ensures { (program : Program) (here : Here) (along : Box Expr Global) → IsSite site here → IsAlong program here along.value axis → IsAnswer program here (E.Pcoord place along) result }
+{
     let shape = site.shape(place)?;
     let axis = known_axis(axis)?;
     Ok(TExpr::Pcoord {
@@ -66,7 +98,9 @@ pub fn positions_of(file: &File<'_>, shape: u16) -> TExpr {
 }
 
 /// `rankof` of the shape.
-pub fn rank_of(file: &File<'_>, shape: u16) -> TExpr {
+pub fn rank_of(file: &File<'_>, shape: u16) -> TExpr
+    ensures { (program : Program) (here : Here) (place : Place) (written : ShapeRef) (extents : List ℕ) → HasShapes file.now.shapes.items here → shape_of here written ≡ Some shape → extents_of here shape ≡ Some extents → length extents < 2 ^ 32 → Types program here (E.RankOf place written) result true }
+{
     TExpr::RankOf {
         ty: INT,
         shape,
@@ -75,18 +109,26 @@ pub fn rank_of(file: &File<'_>, shape: u16) -> TExpr {
 }
 
 /// `dimof` of the shape along the axis.
-pub fn dim_of(file: &File<'_>, shape: u16, axis: Axis) -> Result<TExpr, Untyped> {
+pub fn dim_of(file: &File<'_>, shape: u16, axis: Axis) -> Result<TExpr, Untyped>
+    ensures { (program : Program) (here : Here) (place : Place) (written : ShapeRef) (along : Box Expr Global) (extents : List ℕ) (number : ℕ) → HasShapes file.now.shapes.items here → shape_of here written ≡ Some shape → extents_of here shape ≡ Some extents → axis_of here extents along.value ≡ Some number → axis ≡ A.Number number → IsAnswer program here (E.DimOf place written along) result }
+{
     let axis = known_axis(axis)?;
-    let extent = match file.shapes.get(usize::from(shape)) {
-        Some(info) => info.extents.get(axis as usize).copied(),
-        None => None,
-    };
     Ok(TExpr::DimOf {
         ty: INT,
         shape,
         axis,
-        value: extent.unwrap_or(0),
+        value: extent_along(file, shape, axis),
     })
+}
+
+/// The extent of the shape along the axis, or 0 where there is none.
+fn extent_along(file: &File<'_>, shape: u16, axis: u32) -> u32
+    ensures { result ≡ extent_along (slice_get file.now.shapes.items shape) axis }
+{
+    match file.shapes.get(usize::from(shape)) {
+        Some(info) => info.extents.get(axis as usize).copied().unwrap_or(0),
+        None => 0,
+    }
 }
 
 /// A cast to the type, which may be parallel, at its place.
@@ -96,7 +138,9 @@ pub fn parallel_cast(
     place: Place,
     ty: ValueType,
     operand: Box<TExpr>,
-) -> Result<TExpr, Untyped> {
+) -> Result<TExpr, Untyped>
+    ensures { (program : Program) (here : Here) (written : TypeName) (e : Box Expr Global) → IsSite site here → written_type here written ≡ Some ty → Types program (part here) e.value operand.value true → IsAnswer program here (E.ParallelCast place written e) result }
+{
     site.holds(place, ty.shape)?;
     let operand = spread(alloc, operand, ty.shape)?;
     Ok(TExpr::ParallelCast { ty, operand })
@@ -129,14 +173,29 @@ fn fitting_axis(
     axis: Axis,
     mode: SegmentMode,
     bit: Option<Variable>,
-) -> Result<u32, Untyped> {
-    if (mode == SegmentMode::NoSegments) != bit.is_none() {
-        return Err(fault(Fault::Arguments, place));
+) -> Result<u32, Untyped>
+    ensures { (program : Program) (here : Here) (e along : Expr) (written : Option Name) (shape : ℕ) → IsReady program here e mode written → place_of e ≡ place → here.current ≡ Some shape → IsAlong program here along axis → AreBits here written bit → MatchResult result (GoesBy here along mode written bit shape) (IsFault program here e) }
+{
+    if goes_with(mode, bit) {
+        known_axis(axis)
+    } else {
+        Err(fault(Fault::Arguments, place))
     }
-    known_axis(axis)
 }
 
-fn known_axis(axis: Axis) -> Result<u32, Untyped> {
+/// Does the mode go with the segment bits? Without segments there are none.
+fn goes_with(mode: SegmentMode, bit: Option<Variable>) -> bool
+    ensures { result ≡ goes_with mode bit }
+{
+    match mode {
+        SegmentMode::NoSegments => bit.is_none(),
+        _ => bit.is_some(),
+    }
+}
+
+fn known_axis(axis: Axis) -> Result<u32, Untyped>
+    ensures { MatchResult result (λ number. axis ≡ A.Number number) (λ u. axis ≡ A.Unknown) }
+{
     match axis {
         Axis::Number(axis) => Ok(axis),
         Axis::Unknown => Err(Untyped::Faulty),
@@ -153,7 +212,9 @@ pub fn scan(
     combiner: Combiner,
     walk: Walk,
     bit: Option<Variable>,
-) -> Result<TExpr, Untyped> {
+) -> Result<TExpr, Untyped>
+    ensures { (program : Program) (here : Here) (scanned along : Box Expr Global) (written : Option Name) → IsSite site here → IsAlong program here along.value axis → AreBits here written bit → Types program (part here) scanned.value source.value true → IsAnswer program here (E.Scan place scanned along combiner walk.direction walk.mode written walk.inclusion) result }
+{
     let shape = site.shape(place)?;
     if source.ty().shape.is_none() {
         return Err(fault(Fault::ParallelWanted, place));
@@ -183,7 +244,9 @@ pub fn enumerate(
     axis: Axis,
     walk: Walk,
     bit: Option<Variable>,
-) -> Result<TExpr, Untyped> {
+) -> Result<TExpr, Untyped>
+    ensures { (program : Program) (here : Here) (along : Box Expr Global) (written : Option Name) → IsSite site here → IsAlong program here along.value axis → AreBits here written bit → IsAnswer program here (E.Enumerate place along walk.direction walk.inclusion walk.mode written) result }
+{
     let shape = site.shape(place)?;
     let axis = fitting_axis(place, axis, walk.mode, bit)?;
     Ok(TExpr::Enumerate {

@@ -1,18 +1,21 @@
 //! Operators, assignments, casts and brackets on typed operands, with their faults.
 
 ghost use Rattle.cstar_tree.specs.ExpressionFaults.{last_place};
-ghost use Rattle.cstar_tree.specs.ExpressionTypes.{Types};
+ghost use Rattle.cstar_tree.specs.ExpressionTypes.{IsPlaceOf, IsStorable, Types};
 ghost use Rattle.cstar_tree.specs.Headers.{Program};
 ghost use Rattle.cstar_tree.specs.Scopes.{Here, part};
+ghost use Rattle.cstar_tree.specs.Operations as X;
 ghost use Rattle.cstar_tree.specs.Syntax.{place_of};
+ghost use Rattle.cstar_tree.specs.Typed.{type_of};
 ghost use Rattle.cstar_base.specs.declared.operators.Place.{Place};
+ghost use Rattle.cstar_tree.specs.declared.syntax.AssignOp.{AssignOp};
 ghost use Rattle.cstar_tree.specs.declared.syntax.Cast.{Cast};
 ghost use Rattle.cstar_tree.specs.declared.syntax.Expr as E;
 ghost use Rattle.cstar_tree.specs.declared.syntax.Expr.{Expr};
 ghost use Rattle.cstar_tree.specs.declared.syntax.PrefixOp.TheVariants as P;
-ghost use Rattle.std.specs.Prelude.{◌≡◌, true, Box, Vec, IfOk};
+ghost use Rattle.std.specs.Prelude.{◌≡◌, false, true, Box, Vec, IfOk, MatchResult};
 ghost use Rattle.std.specs.declared.alloc.Global.{Global};
-ghost use Rattle.type_expressions.specs.Answers.{AreBrackets, IsAnswer, WithOperand, step_of, written_as};
+ghost use Rattle.type_expressions.specs.Answers.{AreBrackets, CanSend, IsAnswer, IsFault, IsSending, IsSite, WithOperand, step_of, storable, written_as};
 
 use crate::found::{TypedExpr, Typing};
 use cstar_base::{Fault, Place};
@@ -26,16 +29,27 @@ use typed_nodes::operators::{cast_chain, reduction, unary};
 
 /// The target of an assignment. A parallel left index under an operator that cannot send is a fault
 /// of its own.
-pub fn sending(op: AssignOp, target: Box<TExpr>) -> Result<Box<TExpr>, Untyped> {
-    if op == AssignOp::Set || folds(op) {
+pub fn sending(op: AssignOp, target: Box<TExpr>) -> Result<Box<TExpr>, Untyped>
+    ensures { IsSending op target result }
+{
+    if sends(op) {
         Ok(target)
     } else {
         no_send(target)
     }
 }
 
+/// Can the operator send?
+fn sends(op: AssignOp) -> bool
+    ensures { result ≡ X.sends op }
+{
+    op == AssignOp::Set || folds(op)
+}
+
 /// The target of an operator that cannot send.
-fn no_send(target: Box<TExpr>) -> Result<Box<TExpr>, Untyped> {
+fn no_send(target: Box<TExpr>) -> Result<Box<TExpr>, Untyped>
+    ensures { (op : AssignOp) → X.sends op ≡ false → IsSending op target result }
+{
     match target_of(&target) {
         Some(Target::Send(place)) => Err(fault(Fault::SendOperator, place)),
         _ => Ok(target),
@@ -50,27 +64,57 @@ pub fn assign(
     op: AssignOp,
     target: Box<TExpr>,
     value: Box<TExpr>,
-) -> Result<TExpr, Untyped> {
+) -> Result<TExpr, Untyped>
+    ensures { CanSend op target.value → (program : Program) (here : Here) (t v : Box Expr Global) → IsSite site here → Types program (part here) t.value target.value true → Types program (part here) v.value value.value true → IsAnswer program here (E.Assign place op t v) result }
+{
     is_assignable(site, place, op, &target, &value)?;
     Ok(assignment(alloc, place, op, target, value)?)
 }
 
+/// Can the value be stored in the target, at the assignment's place?
 fn is_assignable(
     site: Site,
     place: Place,
     op: AssignOp,
     target: &TExpr,
     value: &TExpr,
-) -> Result<(), Untyped> {
+) -> Result<(), Untyped>
+    ensures { (program : Program) (here : Here) (t v : Box Expr Global) → CanSend op target.now → IsSite site here → Types program (part here) t.value target.now true → Types program (part here) v.value value.now true → MatchResult result (λ _. IsPlaceOf here op target.now × IsStorable op (type_of target.now).shape (type_of value.now).shape) (IsFault program here (E.Assign place op t v)) }
+{
+    is_place(site, place, target)?;
+    if stores(op, target.ty().shape, value.ty().shape) {
+        Ok(())
+    } else {
+        Err(fault(Fault::ScalarWanted, place))
+    }
+}
+
+/// Is the target of the assignment at the place one there?
+fn is_place(site: Site, place: Place, target: &TExpr) -> Result<(), Untyped>
+    ensures { (program : Program) (here : Here) (op : AssignOp) (t v : Box Expr Global) (x : TExpr) → CanSend op target.now → IsSite site here → Types program (part here) t.value target.now true → Types program (part here) v.value x true → MatchResult result (λ _. IsPlaceOf here op target.now) (IsFault program here (E.Assign place op t v)) }
+{
     match target_of(target) {
-        None => return Err(fault(Fault::NotAPlace, place)),
-        Some(Target::Send(_)) if !site.whole => return Err(fault(Fault::SendValue, place)),
-        Some(Target::Send(_) | Target::Variable) => {}
+        None => Err(fault(Fault::NotAPlace, place)),
+        Some(Target::Variable) => Ok(()),
+        Some(Target::Send(_)) => {
+            if site.whole {
+                Ok(())
+            } else {
+                Err(fault(Fault::SendValue, place))
+            }
+        }
     }
-    if target.ty().shape.is_none() && value.ty().shape.is_some() && !folds(op) {
-        return Err(fault(Fault::ScalarWanted, place));
+}
+
+/// Can a value of a shape be stored in a target of a shape? A parallel one goes into a scalar target
+/// only by a fold.
+fn stores(op: AssignOp, target: Option<u16>, value: Option<u16>) -> bool
+    ensures { result ≡ storable op target value }
+{
+    match (target, value) {
+        (None, Some(_)) => folds(op),
+        _ => true,
     }
-    Ok(())
 }
 
 /// `++` or `--` at its operator.

@@ -1,8 +1,22 @@
 //! References to variables: names, elements of arrays, left indexes and `.`.
 
-use cstar_base::{Elem, Fault, Place};
+ghost use Rattle.cstar_tree.specs.Conversions as C;
+ghost use Rattle.cstar_tree.specs.Conversions.{AreSpread};
+ghost use Rattle.cstar_tree.specs.ExpressionTypes.{IsVariable, Types, TypesIndexes};
+ghost use Rattle.cstar_tree.specs.Headers.{Program};
+ghost use Rattle.cstar_tree.specs.Scopes.{Here, part};
+ghost use Rattle.cstar_tree.specs.declared.syntax.Expr as E;
+ghost use Rattle.cstar_tree.specs.declared.syntax.Expr.{Expr};
+ghost use Rattle.cstar_tree.specs.declared.syntax.Name.{Name};
+ghost use Rattle.std.specs.Prelude.{◌≡◌, ℕ, true, Box, IfOk, Vec};
+ghost use Rattle.std.specs.declared.alloc.Global.{Global};
+ghost use Rattle.type_expressions.specs.Along.{HasExtents, is_rank};
+ghost use Rattle.type_expressions.specs.Answers.{AtSite, HasShapes, IsAnswer, IsSite, meant, trees};
+
+use cstar_base::{Elem, Fault, Memory, Place};
 use cstar_tree::syntax::Name;
 use cstar_tree::typed::{TExpr, ValueType, Variable};
+use std::alloc::Global;
 use type_scopes::faults::{Untyped, fault};
 use type_scopes::file::File;
 use type_scopes::locals::Locals;
@@ -51,13 +65,14 @@ pub fn array(
 /// An element of the array, whose name stands at the place and its `[` at the bracket. With a
 /// scalar index it is a whole parallel variable.
 pub fn element(
-    file: &File<'_>,
     site: Site,
     place: Place,
     bracket: Place,
     array: (Variable, VariableType),
     index: Box<TExpr>,
-) -> Result<TExpr, Untyped> {
+) -> Result<TExpr, Untyped>
+    ensures { (program : Program) (here : Here) (n : Name) (length : ℕ) (i : Box Expr Global) → IsSite site here → n.place ≡ place → IsVariable here n array.0 (meant array.1) → array.1.array ≡ Some length → Types program (part here) i.value index.value true → IsAnswer program here (E.Element n bracket i) result }
+{
     if index.ty().shape.is_some() {
         return Err(fault(Fault::ScalarWanted, bracket));
     }
@@ -72,7 +87,9 @@ pub fn element(
 }
 
 /// `.`, at its place.
-pub fn dot(site: Site, place: Place) -> Result<TExpr, Untyped> {
+pub fn dot(site: Site, place: Place) -> Result<TExpr, Untyped>
+    ensures { AtSite site (E.Dot place) result }
+{
     let Some(axis) = site.dot else {
         return Err(fault(Fault::Dot, place));
     };
@@ -94,35 +111,70 @@ pub fn is_of_current(file: &File<'_>, locals: &Locals, site: Site, name: &Name) 
     }
 }
 
-/// A left index of the variable at its first `[`, with its typed indexes.
+/// A left index of the variable at its first `[`, with its typed indexes. It has the shape of the
+/// parallel ones.
 pub fn left_index(
     file: &File<'_>,
-    site: Site,
     place: Place,
     variable: (Variable, VariableType),
     indexes: Vec<Box<TExpr>>,
-) -> Result<TExpr, Untyped> {
+) -> Result<TExpr, Untyped>
+    ensures { (program : Program) (here : Here) (n : Name) (given : Vec Expr Global) → HasShapes file.now.shapes.items here → HasExtents here variable.1.shape → IsVariable here n variable.0 (meant variable.1) → variable.1.array ≡ None → TypesIndexes program here n 0 given.items (trees indexes.items) → IsAnswer program here (E.LeftIndex place given n) result }
+{
     let (variable, ty) = variable;
     let Some(of) = ty.shape else {
         return Err(fault(Fault::IndexCount, place));
     };
-    if file.rank(of) != u32::try_from(indexes.len()).ok() {
+    if !is_rank(file.rank(of), indexes.len()) {
         return Err(fault(Fault::IndexCount, place));
     }
-    let parallel = indexes.iter().any(|index| index.ty().shape.is_some());
-    let shape = if parallel { site.current } else { None };
-    let mut promoted = Vec::new(file.alloc);
-    for index in indexes {
-        promoted.push(Box::into_inner(spread(file.alloc, index, shape)?))?;
-    }
+    let shape = shape_among(indexes.as_slice());
+    let indexes = spread_each(file.alloc, indexes, shape)?;
     Ok(TExpr::LeftIndex {
         ty: ValueType {
             elem: ty.elem,
             shape,
         },
         place,
-        indexes: promoted,
+        indexes,
         variable,
         of,
     })
+}
+
+/// Is the count that of the axes of a shape?
+fn is_rank(rank: Option<u32>, count: usize) -> bool
+    ensures { result ≡ is_rank rank count }
+{
+    match rank {
+        Some(rank) => rank as usize == count,
+        None => false,
+    }
+}
+
+/// The shape of the first parallel value.
+fn shape_among(values: &[Box<TExpr>]) -> Option<u16>
+    ensures { result ≡ C.shape_among (trees values.now) }
+{
+    for value in values {
+        if let Some(shape) = value.ty().shape {
+            return Some(shape);
+        }
+    }
+    None
+}
+
+/// The values, each at every position of the shape, if one is given.
+fn spread_each(
+    alloc: Global,
+    values: Vec<Box<TExpr>>,
+    shape: Option<u16>,
+) -> Result<Vec<TExpr>, Memory>
+    ensures { IfOk result (λ spread. AreSpread shape (trees values.items) spread.items) }
+{
+    let mut at_positions = Vec::new(alloc);
+    for value in values {
+        at_positions.push(Box::into_inner(spread(alloc, value, shape)?))?;
+    }
+    Ok(at_positions)
 }

@@ -1,6 +1,11 @@
 //! The walk over an expression. It types the parts and hands them to the function of their kind.
 //! The functions of the walk are small, since each level of an expression takes stack for them.
 
+ghost use Rattle.cstar_base.specs.declared.operators.Place.{Place};
+ghost use Rattle.cstar_tree.specs.declared.syntax.Expr as E;
+ghost use Rattle.std.specs.Prelude.{◌≡◌, IfOk, OnOk};
+ghost use Rattle.type_expressions.specs.Answers.{IsAssigned, OnBoth, OnThree};
+
 use crate::calls::{call, printf};
 use crate::found::{Found, TypedExpr, Typing, outcome};
 use crate::intrinsics::{
@@ -191,7 +196,10 @@ fn chosen(
     test: Option<Box<TExpr>>,
     then: Option<Box<TExpr>>,
     otherwise: Option<Box<TExpr>>,
-) -> Typing {
+) -> Typing
+    ensures typed { (place : Place) → IfOk result (OnThree test then otherwise (E.Choice place)) }
+    ensures faults { OnOk result (faults.new.least ≡ faults.old.least) }
+{
     let (Some(test), Some(then), Some(otherwise)) = (test, then, otherwise) else {
         return Ok(None);
     };
@@ -207,7 +215,10 @@ fn combined(
     op: BinaryOp,
     left: Option<Box<TExpr>>,
     right: Option<Box<TExpr>>,
-) -> Typing {
+) -> Typing
+    ensures typed { IfOk result (OnBoth left right (E.Binary place op)) }
+    ensures faults { OnOk result (faults.new.least ≡ faults.old.least) }
+{
     let (Some(left), Some(right)) = (left, right) else {
         return Ok(None);
     };
@@ -224,7 +235,9 @@ fn assigned(
     op: AssignOp,
     target: Option<Box<TExpr>>,
     value: Option<Box<TExpr>>,
-) -> Typing {
+) -> Typing
+    ensures { IfOk result (IsAssigned site place op target value faults.old.least faults.new.least) }
+{
     let Some(target) = target else {
         return Ok(None);
     };
@@ -331,7 +344,7 @@ fn element_of(
     outcome(
         faults,
         file.alloc,
-        element(file, site, name.place, bracket, array, index),
+        element(site, name.place, bracket, array, index),
     )
 }
 
@@ -386,7 +399,7 @@ fn with_list(
             let variable = found
                 .faults
                 .settle(plain_variable(file, locals, site, name))?;
-            indexed(&mut found.faults, file, site, *place, variable, parts)
+            indexed(&mut found.faults, file, *place, variable, parts)
         }
         Expr::Printf { place, text, .. } => match parts {
             Some(parts) => found.faults.settle(printf(file.alloc, *place, text, parts)),
@@ -400,7 +413,6 @@ fn with_list(
 fn indexed(
     faults: &mut Faults,
     file: &File<'_>,
-    site: Site,
     place: Place,
     variable: Option<(Variable, VariableType)>,
     parts: Option<Vec<Box<TExpr>>>,
@@ -408,11 +420,7 @@ fn indexed(
     let (Some(variable), Some(parts)) = (variable, parts) else {
         return Ok(None);
     };
-    outcome(
-        faults,
-        file.alloc,
-        left_index(file, site, place, variable, parts),
-    )
+    outcome(faults, file.alloc, left_index(file, place, variable, parts))
 }
 
 /// What an intrinsic goes along: its axis, the shape that it names, and its segment bit.

@@ -1,7 +1,7 @@
 //! The faults of typing. Typing goes on after a fault; the least of all that stand is kept.
 
-ghost use Rattle.std.specs.Prelude.{◌≡◌, Some, true, IsNone, MatchOption};
-ghost use Rattle.type_scopes.specs.Answers.{told_by};
+ghost use Rattle.std.specs.Prelude.{◌≡◌, Some, true, IfOk, IsNone, MatchOption, OnOk};
+ghost use Rattle.type_scopes.specs.Answers.{IsSettled, part_of, told_by};
 ghost use Rattle.type_scopes.specs.Faults.{lesser, told};
 ghost use Rattle.type_scopes.specs.TypingFaults.{is_of_typing};
 ghost use Rattle.type_scopes.specs.declared.faults.Untyped.TheVariants as Untypeds;
@@ -43,7 +43,10 @@ impl Faults {
     }
 
     /// The part, or nothing where it has no type. The fault that stands at it is recorded.
-    pub fn settle<T: Drop>(&mut self, part: Result<T, Untyped>) -> Result<Option<T>, Memory> {
+    pub fn settle<T: Drop>(&mut self, part: Result<T, Untyped>) -> Result<Option<T>, Memory>
+        ensures part { IfOk result (λ r. r ≡ part_of part) }
+        ensures least { OnOk result (IsSettled self.old.least part self.new.least) }
+    {
         match part {
             Ok(part) => Ok(Some(part)),
             Err(Untyped::Fault(fault)) => {

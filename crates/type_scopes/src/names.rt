@@ -1,5 +1,7 @@
 //! The names that a file declares, and what names stand for.
 
+ghost use Rattle.std.specs.Prelude.{◌≡◌};
+
 use cstar_base::{Elem, Memory, Word};
 use cstar_tree::typed::{ValueType, Variable};
 use indexmap::IndexMap;
@@ -15,7 +17,9 @@ pub struct VariableType {
 
 impl VariableType {
     /// The type of the variable's value, or of an element's.
-    pub fn value(self) -> ValueType {
+    pub fn value(self) -> ValueType
+        ensures { result ≡ record { elem = self.elem; shape = self.shape } }
+    {
         ValueType {
             elem: self.elem,
             shape: self.shape,
