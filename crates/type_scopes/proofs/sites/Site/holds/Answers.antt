@@ -1,4 +1,3 @@
-use Rattle.std.proofs.Common.{◌∙◌, ap, Some}
 use Rattle.cstar_base.specs.declared.faults.Fault.TheVariants as F
 use Rattle.cstar_tree.specs.ExpressionFaults as X
 use Rattle.cstar_tree.specs.Scopes as S
