@@ -1,12 +1,12 @@
 -- The texts fetched so far.
-use Rattle.std.proofs.Common.{◌≡◌, ◌<◌, ◌≤◌, ◌∙◌, ℕ, ◌+◌, Bool, List, [], ◌∷◌, ◌++◌, Option, Some, IsTrue, get_or, length, option_map, take, arith, ap, sym, subst, inl, inr, refl, length-append, Result, IfOk}
+use Rattle.std.proofs.Common.{◌≡◌, ◌<◌, ◌∙◌, ℕ, ◌+◌, Bool, List, [], ◌∷◌, ◌++◌, Option, Some, IsTrue, get_or, length, option_map, take, arith, ap, sym, subst, inl, inr, length-append, Result, IfOk}
 use Rattle.std.proofs.lemmas.Bool.{cases_lt}
 use Rattle.std.proofs.lemmas.List.{get_or_append_left}
 use Rattle.std.proofs.Math.Seq.{get_or-append_seam}
 use Rattle.cstar_base.specs.declared.memory.Memory.{Memory}
 use Rattle.job_board.specs.declared.report.Report.{Report}
 use Rattle.batch_jobs.specs.Answering.{AnswersJob}
-use Rattle.batch_top.specs.Batches.{AnswersNumber, AreTexts, fetched}
+use Rattle.batch_top.specs.Batches.{AnswersNumber, fetched}
 
 -- the first texts are what the shelf holds under the first names
 pub record Fetched {S : Type 0} (tells : S → Bool) (file : S → List ℕ → Option (List ℕ)) (shelf : S) (names texts : List (List ℕ)) (count : ℕ) : Type 0 where
@@ -18,10 +18,6 @@ at_first texts more number inside = get_or_append_left texts more [] number insi
 
 at_end : (texts : List (List ℕ)) (text : List ℕ) → get_or (texts ++ text ∷ []) (length texts) [] ≡ text
 at_end texts text = get_or-append_seam texts text [] []
-
--- no name yet
-pub none_fetched : {S : Type 0} → (tells : S → Bool) (file : S → List ℕ → Option (List ℕ)) (shelf : S) (names texts : List (List ℕ)) → texts ≡ [] → Fetched tells file shelf names texts 0
-none_fetched tells file shelf names texts none = record { many = ap length none; each = λ number below. absurd (omega arith) }
 
 -- what a fetch tells of the next name
 pub told_of : {S : Type 0} → (tells : S → Bool) (file : S → List ℕ → Option (List ℕ)) (old now : S) (names : List (List ℕ)) (count : ℕ) (name asked text word : List ℕ)
@@ -46,12 +42,6 @@ one_more_fetched tells file shelf names texts count text told before = record {
         (told known ∙ ap Some (sym (subst (λ (n : ℕ). get_or (texts ++ text ∷ []) n [] ≡ text) before.many (at_end texts text))))
   ];
 }
-
--- all names
-pub all_fetched : {S : Type 0} → (tells : S → Bool) (file : S → List ℕ → Option (List ℕ)) (shelf : S) (names texts : List (List ℕ)) (count : ℕ) → count ≡ length names
-    → Fetched tells file shelf names texts count → AreTexts tells file shelf names texts
-all_fetched tells file shelf names texts count all is =
-    (is.many ∙ all, λ number below. is.each number (omega (arith, all)))
 
 -- the report on a name and a text answers the job of their number
 pub answers_number : (told : Result Report Memory) (names texts : List (List ℕ)) (number : ℕ) (name text : List ℕ) → get_or names number [] ≡ name → get_or texts number [] ≡ text

@@ -1,9 +1,9 @@
 -- Names by their places, and the words of a batch.
-use Rattle.std.proofs.Common.{◌≡◌, ◌≢◌, ◌<◌, ◌≤◌, ◌∙◌, ℕ, zero, suc, Bool, true, false, ◌&&◌, ◌==◌, nat_le, IfNone, IfSome, List, [], ◌∷◌, Option, Some, None, is_some, length, get_or, map, ap, arith, refl, sym, subst, true≢false}
-use Rattle.std.proofs.lemmas.Bool.{le-leb, leb-true}
+use Rattle.std.proofs.Common.{◌≡◌, ◌≢◌, ◌<◌, ◌≤◌, ◌∙◌, ℕ, zero, suc, Bool, true, false, ◌&&◌, ◌==◌, nat_le, IfNone, IfSome, List, [], ◌∷◌, Option, Some, None, is_some, length, get_or, map, ap, arith, refl, sym, true≢false}
+use Rattle.std.proofs.lemmas.Bool.{le-leb}
 use Rattle.std.proofs.lemmas.List.{length-map}
 use Rattle.std.specs.List.{list_all}
-use Rattle.batch_top.specs.Words.{are_names, callers_in, is_batch, is_name, names_in}
+use Rattle.batch_top.specs.Words.{are_names, callers_in, is_batch, is_name}
 
 -- what an element says stands at its place
 pub said_at : {X : Type 0} → (f : X → List ℕ) (xs : List X) (place : ℕ) (x : X) → place < length xs → x ≡ get_or xs place x → get_or (map f xs) place [] ≡ f x
@@ -48,18 +48,6 @@ batch words callers names count is counted named = ap is_batch is ∙ both (is_s
   where
     both : (a b : Bool) → a ≡ true → b ≡ true → (a && b) ≡ true
     both a b first second = rw (first, second) refl
-
--- there are few of them
-pub few_names : (names : List (List ℕ)) → are_names names ≡ true → length names ≤ 256
-few_names names named = leb-true _ _ (left (nat_le (length names) 256) (list_all is_name names) (right (nat_le 1 (length names)) _ named))
-  where
-    left : (a b : Bool) → (a && b) ≡ true → a ≡ true
-    left true b is = refl
-    left false b is = is
-
-    right : (a b : Bool) → (a && b) ≡ true → b ≡ true
-    right true b is = is
-    right false b is = absurd (true≢false (sym is))
 
 -- the three tests of names
 pub names_tested : {X : Type 0} → (f : X → List ℕ) (xs : List X) (each : Bool) → length xs ≢ 0 → length xs ≤ 256 → each ≡ list_all (λ x. is_name (f x)) xs → each ≡ are_names (map f xs)

@@ -189,50 +189,16 @@ pub record RowsMultiplied (row : ℕ) (by old new : List Plane) : Type 0 where
   pub done : (k : ℕ) → k < 512 → k % 32 < row → held new k ≡ held old k * held by k % 2 ^ 32
   pub rest : (r : ℕ) → row ≤ r → plane_at new r ≡ plane_at old r
 
-pub multiplied_more : (row : ℕ) → row < 32 → (by old mid : List Plane) (x y new : List ℕ) → RowsMultiplied row by old mid → x ≡ plane_at mid row → y ≡ plane_at by row
-    → ((i : ℕ) → i < 512 → half new i ≡ half x i * half y i % 2 ^ 32) → RowsMultiplied (row + 1) by old (set mid row (record { bits = new }))
-multiplied_more row rb by old mid x y new before xs ys is = record {
-  long = length-set mid row (record { bits = new }) ∙ before.long;
-  done = λ k kb h. elim (cases_eq (k % 32) row) [
-    | inl e ↦
-        held-set_same mid row new k before.long rb e ∙ is k kb
-        ∙ ap (λ q. half q k * half y k % 2 ^ 32) (xs ∙ before.rest row (omega arith) ∙ ap (plane_at old) (sym e))
-        ∙ ap (λ q. held old k * half q k % 2 ^ 32) (ys ∙ ap (plane_at by) (sym e))
-    | inr n ↦ held-set_other mid row new k n ∙ before.done k kb (omega arith)
-  ];
-  rest = λ r h. plane-set_other mid row r (record { bits = new }) (λ e. absurd (omega arith)) ∙ before.rest r (omega arith);
-}
-
 -- the planes of a field before j are copied
 pub record Copied (offset j : ℕ) (planes copy : List Plane) : Type 0 where
   pub long : length copy ≡ 32
   pub inside : (k : ℕ) → k < j → plane_at copy k ≡ plane_at planes (offset + k)
-
-pub copied_more : (offset j : ℕ) → j < 32 → (planes copy : List Plane) (next : Plane) → Copied offset j planes copy → next.bits ≡ plane_at planes (offset + j) → Copied offset (j + 1) planes (set copy j next)
-copied_more offset j jb planes copy next before is = record {
-  long = length-set copy j next ∙ before.long;
-  inside = λ k b. elim (cases_eq k j) [
-    | inl e ↦ ap (plane_at (set copy j next)) e ∙ plane-set_same copy j next.bits (omega (arith, before.long)) ∙ is ∙ ap (λ n. plane_at planes (offset + n)) (sym e)
-    | inr n ↦ plane-set_other copy j k next n ∙ before.inside k (omega arith)
-  ];
-}
 
 -- and those from len on are zero, as far as this one
 pub record Cut (offset len j : ℕ) (planes copy : List Plane) : Type 0 where
   pub long : length copy ≡ 32
   pub inside : (k : ℕ) → k < len → plane_at copy k ≡ plane_at planes (offset + k)
   pub above : (k i : ℕ) → len ≤ k → k < j → i < 512 → bit (plane_at copy k) i ≡ 0
-
-pub cut_more : (offset len j : ℕ) → len ≤ j → j < 32 → (planes copy : List Plane) (zeros : List ℕ) → Cut offset len j planes copy → ((i : ℕ) → i < 512 → bit zeros i ≡ 0)
-    → Cut offset len (j + 1) planes (set copy j (record { bits = zeros }))
-cut_more offset len j lb jb planes copy zeros before z = record {
-  long = length-set copy j (record { bits = zeros }) ∙ before.long;
-  inside = λ k kb. plane-set_other copy j k (record { bits = zeros }) (λ e. absurd (omega arith)) ∙ before.inside k kb;
-  above = λ k i l h ib. elim (cases_eq k j) [
-    | inl e ↦ ap (λ n. bit (plane_at (set copy j (record { bits = zeros })) n) i) e ∙ ap (λ q. bit q i) (plane-set_same copy j zeros (omega (arith, before.long))) ∙ z i ib
-    | inr n ↦ ap (λ q. bit q i) (plane-set_other copy j k (record { bits = zeros }) n) ∙ before.above k i l (omega arith) ib
-  ];
-}
 
 -- the bits of a number that is held
 half_bits : (plane : List ℕ) (i j : ℕ) → i < 512 → j < 32 → bit_at (half plane i) j ≡ bit plane (i - i % 32 + j)

@@ -15,18 +15,11 @@ use Rattle.paris_code.specs.Shapes.{SetShape, no_shape, bits_at, extents_at}
 use Rattle.paris_code.specs.Sound.{IsShape}
 use Rattle.phase_meaning.proofs.Entries.{pushed_before, pushed_last}
 use Rattle.block_store.specs.declared.set.BlockSet.{BlockSet}
-use Rattle.block_store.specs.Fresh.{fresh_bit, IsFreshBlock, AreFresh, IsFreshSet, AreFreshSets}
+use Rattle.block_store.specs.Fresh.{fresh_bit, IsFreshBlock, AreFresh, AreFreshSets}
 use Rattle.block_store.specs.Planes.{planes_in, planes_at, block_bit}
 use Rattle.block_store.specs.declared.set.SetPlan.{SetPlan}
-use Rattle.block_store.specs.Stored.{shape_of_plan, blocks_in, blocks_at, stored, AreWhole}
+use Rattle.block_store.specs.Stored.{shape_of_plan, blocks_at, stored, AreWhole}
 use Rattle.block_store.proofs.Stores.{block_exists}
-
--- no block is new
-pub no_blocks : (shape : SetShape) → AreFresh shape []
-no_blocks shape = record {
-  planes = λ k block b. absurd (omega arith);
-  bits = λ p i b h. absurd (omega arith);
-}
 
 -- one more block
 pub one_block : (shape : SetShape) (blocks : List Block) (block : Block) → AreFresh shape blocks → IsFreshBlock shape (length blocks) (planes_in block) → AreFresh shape (blocks ++ block ∷ [])
@@ -46,25 +39,6 @@ one_block shape blocks block before new = record {
         ∙ ap (λ ps. bit (plane_at ps i) (p % 512)) (pushed_last planes_in blocks block [])
         ∙ new.bits i (p % 512) h (omega arith)
         ∙ ap (λ q. fresh_bit shape q i) (let at : 512 * length blocks + p % 512 ≡ p = omega arith in at)
-  ];
-}
-
--- no set is new
-pub no_sets : AreFreshSets [] []
-no_sets = record { count = refl; each = λ set b. absurd (omega arith) }
-
--- one more set
-pub one_set : (shapes : List SetShape) (sets : List BlockSet) (shape : SetShape) (set : BlockSet) → AreFreshSets shapes sets → IsFreshSet shape (blocks_in set) → AreFreshSets (shapes ++ shape ∷ []) (sets ++ set ∷ [])
-one_set shapes sets shape set before new = record {
-  count = length_push sets set ∙ ap (λ n. n + 1) before.count ∙ sym (length_push shapes shape);
-  each = λ k b. elim (cases_lt k (length shapes)) [
-    | inl l ↦
-        subst (λ (s : SetShape). IsFreshSet s (blocks_at (sets ++ set ∷ []) k)) (sym (get_or-append shapes (shape ∷ []) no_shape k l))
-        (subst (λ (bs : List Block). IsFreshSet (get_or shapes k no_shape) bs) (sym (pushed_before blocks_in sets set [] k (omega (arith, before.count)))) (before.each k l))
-    | inr g ↦
-        let e : k ≡ length shapes = omega (arith, length_push shapes shape) in
-        subst (λ (s : SetShape). IsFreshSet s (blocks_at (sets ++ set ∷ []) k)) (sym (ap (λ j. get_or (shapes ++ shape ∷ []) j no_shape) e ∙ get_or-append_seam shapes shape [] no_shape))
-        (subst (λ (bs : List Block). IsFreshSet shape bs) (sym (ap (λ j. blocks_at (sets ++ set ∷ []) j) (e ∙ sym before.count) ∙ pushed_last blocks_in sets set [])) new)
   ];
 }
 

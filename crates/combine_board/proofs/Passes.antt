@@ -18,7 +18,7 @@ use Rattle.combine_core.proofs.Points.{complete_cell, complete_is_folded}
 use Rattle.combine_core.proofs.Folds.{decoded_fits}
 use Rattle.combine_board.specs.declared.view.View.{View}
 use Rattle.combine_board.specs.Values.{Plan, with_last, HoldsEvery}
-use Rattle.combine_board.specs.Rule.{plan_of, view_with, shown, Holds, first_view, claimed_view, kept_view, given_view, both_view, IsTold, IsPass, done_claim, done_in}
+use Rattle.combine_board.specs.Rule.{plan_of, view_with, shown, Holds, first_view, claimed_view, both_view, IsTold, IsPass, done_claim, done_in}
 use Rattle.combine_board.specs.Tree.{AllDone}
 use Rattle.combine_board.proofs.Views.{worker_shown, rest-get}
 
@@ -84,28 +84,6 @@ rest_pass v h r last next number done p is_last same none t =
           let once = done_once next in
           omega arith;
       told = t;
-    }
-
-kept_told : (v : View) → IsTold v → IsTold (kept_view v)
-kept_told v t =
-    record {
-      setting = t.setting;
-      passed = t.passed;
-      once = t.once;
-      within = t.within;
-      fits = (let f = t.fits in omega arith);
-      whole = λ all missed. t.whole (let f = t.fits in omega arith) missed;
-    }
-
-given_told : (v : View) → IsTold v → IsTold (given_view v)
-given_told v t =
-    record {
-      setting = t.setting;
-      passed = t.passed;
-      once = λ g. omega arith;
-      within = t.within;
-      fits = (let f = t.fits in omega arith);
-      whole = λ all missed. absurd (omega arith);
     }
 
 pub both_pass : (v w : View) (last last' : Option Held) (next next' number number' : Option ℕ) (done done' : ℕ) → IsPass v last next number done → IsPass w last' next' number' done' → plan_of w ≡ plan_of v → IsTold (both_view v w)

@@ -1,27 +1,13 @@
 -- Workers of a tree: what a claim, a delivery and a join make of them.
-use Rattle.std.proofs.Common.{◌≡◌, ℕ, zero, suc, ◌+◌, ◌-◌, ◌*◌, ◌^◌, ◌≤◌, true, nat_lt, List, ◌++◌, length, option_map, option_to_list, option_and_then, Option, Some, None, refl, sym, ap, ◌∙◌, subst, append_assoc, length-append, arith}
-use Rattle.std.proofs.lemmas.Bool.{cond-false, le-ltb}
+use Rattle.std.proofs.Common.{◌≡◌, ℕ, zero, suc, ◌+◌, ◌-◌, ◌*◌, ◌^◌, true, List, ◌++◌, length, option_to_list, Option, None, refl, sym, ap, ◌∙◌, subst, append_assoc, length-append, arith}
 use Rattle.std.proofs.Math.Nat.{pow-succ'}
-use Rattle.std.proofs.lemmas.List.Elements.{All-append, All-cons}
+use Rattle.std.proofs.lemmas.List.Elements.{All-append}
 use Rattle.combine_core.specs.declared.message.Message.{Message}
-use Rattle.combine_core.specs.declared.worker.Held.{Held}
 use Rattle.combine_core.specs.declared.worker.Worker.{Worker}
-use Rattle.combine_core.specs.Machine.{held_by, idle, next_in, kept_part, drawn, both_parts, IsComplete}
-use Rattle.combine_core.proofs.Steps.{with_miss}
+use Rattle.combine_core.specs.Machine.{held_by, idle, next_in, kept_part, both_parts, IsComplete}
 use Rattle.combine_board.specs.Values.{WholeHoldsEvery}
 use Rattle.combine_board.specs.Tree.{AllDone, IsFinished}
 use Rattle.combine_board.proofs.Passes.{complete_when_all}
-
-map_length : (f : Held → Held) (o : Option Held) (others : List Held) → length (option_to_list (option_map f o) ++ others) ≡ length (option_to_list o ++ others)
-map_length f None others = refl
-map_length f (Some h) others = refl
-
-all_done : (os : List (Option Message)) (o : Option Held) (others : List Held) → option_and_then (next_in os) o ≡ None → AllDone os others → AllDone os (option_to_list o ++ others)
-all_done os None others e done = done
-all_done os (Some h) others e done = All-cons (λ x. next_in os x ≡ None) h others e done
-
-pub drawn_miss : (claims n : ℕ) (v : Worker) → claims ≤ n → drawn claims n v ≡ with_miss n v
-drawn_miss claims n v h = cond-false (nat_lt n claims) _ _ (le-ltb n claims h)
 
 pub both_finished : (os : List (Option Message)) (d e : ℕ) (v u : Worker) → IsFinished os d v → IsFinished os e u → WholeHoldsEvery os (both_parts v u) → IsFinished os (d + e) (both_parts v u)
 both_finished os d e v u f g whole =

@@ -1,7 +1,7 @@
 -- How what a sink takes in a row of calls adds up.
-use Rattle.std.proofs.Common.{ℕ, ◌+◌, List, [], ◌++◌, length, take, min, sym, ◌∙◌, ap, subst, refl, append_assoc, arith, Result, Ok, Err, OnErr, Option, Some, None, option_map}
+use Rattle.std.proofs.Common.{ℕ, ◌+◌, List, [], ◌++◌, length, take, min, sym, ◌∙◌, subst, refl, append_assoc, arith, Result, Ok, Err, OnErr, Option, Some, None}
 use Rattle.std.specs.Prelude.{⊤}
-use Rattle.std.proofs.Math.Seq.{take-append_seam, take-append-add}
+use Rattle.std.proofs.Math.Seq.{take-append-add}
 use Rattle.std.proofs.lemmas.List.{append-nil, take_min, take-append-le}
 use Rattle.cstar_io.specs.Input.{Took}
 use Rattle.cstar_io.specs.Output.{Takes, TakesPrefix, TakesNothing}
@@ -15,11 +15,6 @@ takes_then agrees s t u xs ys first second before is =
 pub prefix_of_none : {S : Type 0} → (agrees : S → List ℕ → Type 0) (s t : S) (ys : List ℕ) → TakesNothing agrees s t → TakesPrefix agrees s t ys
 prefix_of_none agrees s t ys nothing =
     (0, λ before is. subst (agrees t) (sym (append-nil before)) (nothing before is))
-
--- all of the bytes are a prefix of them and more
-pub prefix_of_all : {S : Type 0} → (agrees : S → List ℕ → Type 0) (s t : S) (xs ys : List ℕ) → Takes agrees s t xs → TakesPrefix agrees s t (xs ++ ys)
-prefix_of_all agrees s t xs ys all =
-    (length xs, λ before is. subst (λ zs. agrees t (before ++ zs)) (sym (take-append_seam xs ys)) (all before is))
 
 -- these bytes, and then a prefix of those
 pub prefix_then : {S : Type 0} → (agrees : S → List ℕ → Type 0) (s t u : S) (xs ys : List ℕ) → Takes agrees s t xs → TakesPrefix agrees t u ys → TakesPrefix agrees s u (xs ++ ys)
@@ -44,12 +39,6 @@ prefix_of_first agrees s t xs ys (count, first) = (
 pub prefix_of_any : {S A E : Type 0} → (r : Result A E) (s t : S) (xs : List ℕ) → OnErr r (TakesPrefix (λ _ _. ⊤) s t xs)
 prefix_of_any (Ok x) s t xs = tt
 prefix_of_any (Err e) s t xs = (0, λ before is. tt)
-
--- what a source gave: these bytes, and then those
-pub took_then : (a b c : Option (List ℕ)) (xs ys : List ℕ) → Took a xs b → Took b ys c → Took a (xs ++ ys) c
-took_then a b None xs ys first second = first ∙ ap (option_map (λ rest. xs ++ rest)) second
-took_then a b (Some rest) xs ys first second =
-    first ∙ ap (option_map (λ more. xs ++ more)) second ∙ ap Some (sym (append_assoc xs ys rest))
 
 -- or none
 pub took_none : (a : Option (List ℕ)) → Took a [] a

@@ -1,6 +1,6 @@
 -- One escape stands at a place.
 use Rattle.std.proofs.Common.{◌≡◌, ℕ, ◌+◌, ◌-◌, ◌<◌, ◌≤◌, ◌^◌, suc, zero, inl, inr, Bool, true, false, List, [], ◌∷◌, length, take, drop, get_or, get_or-drop, arith, refl, sym, ap, ◌∙◌, subst}
-use Rattle.std.specs.Prelude.{min, slice_index, Some, None}
+use Rattle.std.specs.Prelude.{min, slice_index, Some}
 use Rattle.std.specs.List.{prefix_len}
 use Rattle.std.proofs.lemmas.List.Sums.{prefix_len_passes, prefix_len-le-length}
 use Rattle.std.proofs.lemmas.Bool.{cases_lt, cases_order}
@@ -64,18 +64,6 @@ bad_hexadecimal bytes n begins x on_line is nothing = record { begins = begins; 
     none m value (Q.letter a e long) = x_no_letter value (rw x at e)
     none m value (Q.octal a d some f long) = octal_no_x (rw x at (first_octal bytes _ d some))
     none m value (Q.hexadecimal a y d some f long) = omega arith
-
-pub bad_octal : (bytes : List ℕ) (n : ℕ) → slice_index bytes 0 ≡ 92 → (LineEnds bytes 1 → ⊥) → escape_letter (slice_index bytes 1) ≡ None → (slice_index bytes 1 ≡ 120 → ⊥) → n ≡ min 3 (prefix_len (is_digit 8) (drop 1 bytes)) → n ≡ 0 → IsBad bytes
-bad_octal bytes n begins on_line no_letter no_x is nothing = record { begins = begins; goes_on = uncut; none = none }
-  where
-    uncut : IsCut bytes → ⊥
-    uncut (b, inl ends) = on_line ends
-    uncut (b, inr (y, ends)) = no_x y
-
-    none : (m value : ℕ) → IsEscape bytes m value → ⊥
-    none m value (Q.letter a e long) = cc
-    none m value (Q.octal a d some f long) = omega arith
-    none m value (Q.hexadecimal a y d some f long) = no_x y
 
 -- a kept value below 256 is the value
 pub numeric_escape : (escape : Escape) (bytes : List ℕ) (value kept n : ℕ) → kept ≡ min (2 ^ 32) value → IsEscape bytes n value → IsNumeric escape kept n → EscapeIs escape bytes

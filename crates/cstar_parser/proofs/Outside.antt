@@ -193,9 +193,6 @@ turned_outside p first rest more stands is real f = opened_outside p first rest 
 
 -- ---- faults
 
-pub hopeless_outside : {tokens : List Token} {around at mid : ℕ} {parts : List Part} (p : Part) (more : List Part) → act p (token_kind tokens mid) ≡ refuse → Passes tokens around at parts mid (p ∷ more) → Fails tokens around at parts (syntax_at mid)
-hopeless_outside {tokens} {mid = mid} p more is f = record { to = λ outside h. f.on outside h ∙ turns_down tokens mid p (more ++ outside) is }
-
 pub refused_outside : {tokens : List Token} {around at mid : ℕ} {parts : List Part} (fault : ParseFault) (p : Part) (more : List Part) → StopsAt tokens p ⊥ mid fault → Passes tokens around at parts mid (p ∷ more) → Accuses tokens around at parts fault
 refused_outside {tokens} {mid = mid} (Syntax k) p more s f = record { to = λ outside h. f.on outside h ∙ turns_down tokens mid p (more ++ outside) s.1 ∙ ap syntax_at (sym s.0) }
 refused_outside (Depth k) p more s f = absurd s.1

@@ -13,11 +13,11 @@ use Rattle.paris_code.specs.Sound.{IsSound}
 use Rattle.point_runs.specs.declared.refusal.NoImage.{NoImage}
 use Rattle.point_runs.specs.declared.refusal.NoImage.TheVariants as N
 use Rattle.point_runs.specs.declared.start.Start.{Start}
-use Rattle.point_runs.specs.Assembled.{FitsMachine, RefusesListing}
+use Rattle.point_runs.specs.Assembled.{FitsMachine}
 use Rattle.point_runs.specs.Points.{RefusesPoint, Resumes}
 use Rattle.point_runs.specs.Refusals.{TellsWhy}
 use Rattle.point_runs.specs.Starts.{new_start, origin_of}
-use Rattle.cstar_top.specs.Refusals.{CanName, NamesOnly, RefusesRun}
+use Rattle.cstar_top.specs.Refusals.{RefusesRun}
 use Rattle.cstar_top.specs.Reported.{Begins}
 
 -- a new run of the image of a program, and of a listing, and one that goes on from a point
@@ -43,20 +43,6 @@ point_begins mode winner text (Err none) is resumes = tt
 pub only_memory : {A : Type 0} (Why : Fault → Place → Type 0) (r : Result A NoImage) → IfErr r (λ none. none ≡ N.Memory) → IfErr r (TellsWhy Why)
 only_memory Why (Ok start) is = tt
 only_memory Why (Err none) is = subst (λ (e : NoImage). TellsWhy Why e) (sym is) tt
-
-pub program_why : (mode : Mode) (text : List ℕ) (none : NoImage) → mode ≡ M.Run → NamesOnly (CanName M.List) none → TellsWhy (RefusesRun mode text) none
-program_why mode text none is names = subst (λ (m : Mode). TellsWhy (RefusesRun m text) none) (sym is) (go none names)
-  where
-    go : (n : NoImage) → NamesOnly (CanName M.List) n → TellsWhy (RefusesRun M.Run text) n
-    go (N.Refused fault place) why = why
-    go N.Memory why = tt
-
-pub listing_why : (mode : Mode) (text : List ℕ) (none : NoImage) → mode ≡ M.Asm → TellsWhy (RefusesListing text) none → TellsWhy (RefusesRun mode text) none
-listing_why mode text none is why = subst (λ (m : Mode). TellsWhy (RefusesRun m text) none) (sym is) (go none why)
-  where
-    go : (n : NoImage) → TellsWhy (RefusesListing text) n → TellsWhy (RefusesRun M.Asm text) n
-    go (N.Refused fault place) w = w
-    go N.Memory w = tt
 
 pub points_why : {A : Type 0} (mode : Mode) (text : List ℕ) (r : Result A NoImage) → mode ≡ M.Resume → IfErr r (TellsWhy (RefusesPoint text)) → IfErr r (TellsWhy (RefusesRun mode text))
 points_why mode text (Ok start) is why = tt

@@ -1,8 +1,8 @@
 -- Points of runs that stopped.
-use Rattle.std.proofs.Common.{◌≡◌, ◌≢◌, ◌∙◌, ℕ, Bool, true, List, Option, Some, None, ◌⊎◌, inl, inr, ap, sym, subst, refl, arith, true≢false}
-use Rattle.std.specs.Prelude.{IfSome, IsTrue, is_some, option_map}
+use Rattle.std.proofs.Common.{◌≡◌, ◌≢◌, ◌∙◌, ℕ, Bool, true, List, Option, Some, None, ◌⊎◌, inl, inr, ap, sym, refl, arith, true≢false}
+use Rattle.std.specs.Prelude.{IfSome, is_some, option_map}
 use Rattle.checkpoint.specs.declared.point.Point.{Point}
-use Rattle.checkpoint.specs.Bytes.{IsHeld, bytes_of}
+use Rattle.checkpoint.specs.Bytes.{IsHeld}
 use Rattle.block_store.specs.declared.set.BlockSet.{BlockSet}
 use Rattle.block_store.specs.Stored.{stored}
 use Rattle.cstar_base.specs.declared.operators.Winner.{Winner}
@@ -96,26 +96,12 @@ pub none_held : {S : Type 0} (tells : S → Bool) (file : S → List ℕ → Opt
 none_held tells file old new options answer from course said comes = λ four name is.
     absurd (comes (asked_for (λ word. word.now) options.save name is) (stopped_of options.turns course.end answer said four))
 
--- and one that came with a point, which was kept, has that held
-pub point_held : {S : Type 0} (tells : S → Bool) (file : S → List ℕ → Option (List ℕ)) (old new : S) (options : Options) (status : ℕ) (from : Origin) (course : Course) (point : Point) (name : List ℕ) → save_name options ≡ Some name → IsHeld point → ComesWith (is_some options.save) from (Some point) course
-    → (IsTrue (tells old) → file new name ≡ Some (bytes_of point)) → HoldsPoint tells file old new options status from course
-point_held tells file old new options status from course point name named counted comes kept = λ four other is. (
-  subst (λ (p : Point). IsHeld p) comes.1 counted,
-  λ told. ap (file new) (sym (same_name name other (sym named ∙ is))) ∙ kept told ∙ ap (λ (p : Point). Some (bytes_of p)) comes.1,
-)
-
 -- a report, told of another answer to the same end
 pub reports_as : {O : Type 0} (agrees : O → List ℕ → Type 0) (s t : O) (left rest : Option (List ℕ)) (options : Options) (from : Origin) (answer told : Answer) (More Other : Course → Type 0) → ((course : Course) → Answers options.turns course.end answer → More course → Answers options.turns course.end told × Other course)
     → Reports agrees s t left rest options from answer More → Reports agrees s t left rest options from told Other
 reports_as agrees s t left rest options from answer told More Other change said =
     let changed = change said.0 said.3 said.5 in
     (said.0, said.1, said.2, changed.0, said.4, changed.1)
-
--- a run that came with its point stopped, and may be saved
-pub saves_one : {S O : Type 0} (file : S → List ℕ → Option (List ℕ)) (old new : S) (agrees : O → List ℕ → Type 0) (s t : O) (left rest : Option (List ℕ)) (options : Options) (from : Origin) (answer : Answer) (point : Point) (name : List ℕ) → save_name options ≡ Some name → OthersStay file old new name
-    → Reports agrees s t left rest options from answer (ComesWith (is_some options.save) from (Some point)) → SavesOne file old new left rest options from
-saves_one file old new agrees s t left rest options from answer point name named others said =
-    (name, named, others, (said.0, said.1, said.2, said.5.0))
 
 -- where the point was found
 pub saves_from : {S O : Type 0} (file : S → List ℕ → Option (List ℕ)) (old new : S) (agrees : O → List ℕ → Type 0) (s t : O) (left rest : Option (List ℕ)) (options : Options) (from : Origin) (answer : Answer) (found : Option Point) (point : Point) (name : List ℕ) → found ≡ Some point → save_name options ≡ Some name → OthersStay file old new name

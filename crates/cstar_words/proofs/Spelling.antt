@@ -1,13 +1,12 @@
 -- What `parse` reads, in the words of the command's numbers.
-use Rattle.std.proofs.Common.{refl, sym, ap, ◌∙◌, true, false, ◌≡◌, ◌≢◌, ◌≤◌, ◌<◌, ◌^◌, Bool, ℕ, List, [], ◌∷◌, length, Option, Some, None, Result, Ok, Err, nat_eq, nat_lt, nat_le, get_or, true≢false, Bor, arith, rules}
+use Rattle.std.proofs.Common.{refl, sym, ap, ◌∙◌, true, false, ◌≡◌, ◌≢◌, ◌≤◌, ◌<◌, ◌^◌, Bool, ℕ, List, [], ◌∷◌, length, Option, Some, None, Ok, Err, nat_eq, nat_lt, nat_le, get_or, true≢false, Bor, arith}
 use Rattle.std.proofs.lemmas.Bool.{ltb-true, leb-true, lt-ltb, le-leb}
 use Rattle.std.proofs.lemmas.Str.Parse.{IsNumeralModel, numerals_by_value, parse_plain, tells_all_ascii_digits}
 use Rattle.std.specs.Option.{option_copied, option_eq, unwrap_or}
 use Rattle.std.specs.Prelude.{slice_get}
-use Rattle.std.specs.Result.{OkIff}
 use Rattle.std.specs.Str.{all_ascii_digits}
 use Rattle.std.specs.Str.Parse.{ParsesUnsigned, digits_value}
-use Rattle.cstar_words.specs.Numbers.{is_number, number_in}
+use Rattle.cstar_words.specs.Numbers.{number_in}
 
 own : IsNumeralModel (λ ds. all_ascii_digits ds ≡ true) (digits_value 10)
 own = numerals_by_value _ tells_all_ascii_digits
@@ -44,14 +43,6 @@ read_in E low high text value plain parsed above below =
     let is : ((all_ascii_digits text ≡ true) × (0 < length text) × (digits_value 10 text < 2 ^ 32)) × (value ≡ digits_value 10 text) =
     parse_plain own {E = E} 32 text (Ok value) parsed plain in
     here low high text is.0.0 is.0.1 (omega arith) (omega arith) ∙ ap Some (sym is.1)
-
--- a number outside the bounds
-pub read_out : (E : Type 0) (low high : ℕ) (text : List ℕ) (value : ℕ) → get_or text 0 0 ≢ 43 → ParsesUnsigned {E = E} 32 10 text (Ok value) → (low ≤ value → value ≤ high → ⊥)
-    → number_in low high text ≡ None
-read_out E low high text value plain parsed out =
-    let is : ((all_ascii_digits text ≡ true) × (0 < length text) × (digits_value 10 text < 2 ^ 32)) × (value ≡ digits_value 10 text) =
-    parse_plain own {E = E} 32 text (Ok value) parsed plain in
-    nowhere low high text (λ digits some above below. out (omega arith) (omega arith))
 
 -- what `parse` refuses
 pub read_none : (E : Type 0) (low high : ℕ) (text : List ℕ) (e : E) → high < 2 ^ 32 → get_or text 0 0 ≢ 43 → ParsesUnsigned {E = E} 32 10 text (Err e)

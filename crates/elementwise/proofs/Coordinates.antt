@@ -22,9 +22,6 @@ pub within : (shapes : List SetShape) (planes : List Plane) (c : Coordinate) →
 within shapes planes (C.Field f) at = (at.0.1, at.0.2, omega (arith, at.0.3, at.1))
 within shapes planes (C.Reg r) at = tt
 
-pub all_within : (shapes : List SetShape) (planes : List Plane) (cs : List Coordinate) → All (IsCoordinateIn shapes (HasBits shapes planes)) cs → All (IsCoordinateWithin planes) cs
-all_within shapes planes cs at = λ k e b. within shapes planes (get_or cs k e) (at k e b)
-
 pub checked_within : (shapes : List SetShape) (planes : List Plane) (cs : List SignedCoordinate) → All (λ c. IsCoordinateIn shapes (HasBits shapes planes) (coordinate_of c)) cs → All (λ c. IsCoordinateWithin planes (coordinate_of c)) cs
 checked_within shapes planes cs at = λ k e b. within shapes planes (coordinate_of (get_or cs k e)) (at k e b)
 

@@ -56,13 +56,6 @@ unit_begins finals own number (w ∷ us) (suc k) u at =
     let next : (number + 1) + k ≡ number + suc k = omega arith in
     unit_begins finals own (number + 1) us k u at ∙ ap (λ n. entries_from finals own n 0 u.fields.items) next
 
-pub ArePlacedUnits-long : (places : List (List ℕ)) (number : ℕ) (us os : List CodeUnit) → ArePlacedUnits places number us os → length os ≡ length us
-unfolding ArePlacedUnits
-ArePlacedUnits-long places number [] [] h = refl
-ArePlacedUnits-long places number [] (o ∷ os) h = absurd h
-ArePlacedUnits-long places number (u ∷ us) [] h = absurd h
-ArePlacedUnits-long places number (u ∷ us) (o ∷ os) h = ap suc (ArePlacedUnits-long places (number + 1) us os h.1)
-
 pub ArePlacedUnits-snoc : (places : List (List ℕ)) (number : ℕ) (us os : List CodeUnit) (u o : CodeUnit) → ArePlacedUnits places number us os → IsPlacedUnit (slice_index_or places (number + length os) []) u o → ArePlacedUnits places number (us ++ u ∷ []) (os ++ o ∷ [])
 unfolding ArePlacedUnits
 ArePlacedUnits-snoc places number [] [] u o h last =

@@ -88,11 +88,6 @@ opens_as tokens at p q parts inside n outside is real = judged_alike tokens at (
       ends skip r = absurd r
       ends (enter q qs) r = refl
 
--- a part that takes the token and counts no operator
-pub takes_plain : {tokens : List Token} {at next : ℕ} {kind : Kind} {place : Place} {parts : List Part} (p : Part) (inside : List Part) (n : ℕ) (outside : List Part) → Stands tokens at kind place next → act p (Some kind) ≡ take_it 0 parts → levels parts + (levels inside + levels outside) ≤ 100 → n ≤ 1000 → verdict_at tokens at (p ∷ inside) n outside ≡ verdict_at tokens next (parts ++ inside) n outside
-takes_plain {tokens} {at} {next} {parts = parts} p inside n outside s is few most = let same : n + 0 ≡ n = omega arith in
-    takes p inside n outside s is few (omega arith) ∙ ap (λ (i : ℕ). verdict_at tokens next (parts ++ inside) i outside) same
-
 -- more parts beside those that are read
 pub beside : (tokens : List Token) (at n to m open_levels : ℕ) (parts left more : List Part) → Goes tokens (levels more + open_levels) at n parts to m left → Goes tokens open_levels at n (parts ++ more) to m (left ++ more)
 beside tokens at n to m open_levels parts left more g inside outside e =

@@ -97,10 +97,6 @@ reached_marks units calls start clear begun marks made empty size first alone ke
   )),
 )
 
-pub start_behind : (calls : List Call) (start : List Bool) → AreMarks (length start) start (IsBehind calls start 0)
-start_behind calls start =
-    (refl, (λ unit inside. ((λ marked. (unit, marked, refl)), (λ behind. subst (λ (u : ℕ). IsMarked start u) behind.2 behind.1))))
-
 -- the units that marked ones call lie one call further behind
 pub next_behind : (units : ℕ) (calls : List Call) (start marks next : List Bool) (count : ℕ) → AreMadeBy units calls → length next ≡ units →
     AreCalled calls marks next → AreMarks units marks (IsBehind calls start count) →

@@ -12,19 +12,8 @@ use Rattle.paris_code.specs.Sound.{KeepsRules, IsSound}
 use Rattle.image_check.specs.declared.check.Tables.{Tables}
 use Rattle.image_check.specs.declared.fault.Rule.{Rule}
 use Rattle.image_check.specs.declared.fault.Rule.TheVariants as R
-use Rattle.image_check.specs.Faults.{number_of, KeepsRule, PartsKeep, IsFirstFault, IsAnswer}
+use Rattle.image_check.specs.Faults.{KeepsRule, PartsKeep, IsFirstFault, IsAnswer}
 use Rattle.image_check.specs.Tables.{AreTables, TellsStack, AllKeepStack, AllKeepRules, IsFirstUnstacked, IsLeastRule, IsLeastRuleOfParts}
-
--- what holds of the rules below a number
-pub of_lower : (holds : Rule → Type 0) (number : ℕ) → (1 < number → holds R.Target) → (2 < number → holds R.Field) →
-    (3 < number → holds R.Stack) → (4 < number → holds R.BackEdge) → (5 < number → holds R.Set) → (6 < number → holds R.Operands) →
-    (other : Rule) → number_of other < number → holds other
-of_lower holds number one two three four five six R.Target below = one below
-of_lower holds number one two three four five six R.Field below = two below
-of_lower holds number one two three four five six R.Stack below = three below
-of_lower holds number one two three four five six R.BackEdge below = four below
-of_lower holds number one two three four five six R.Set below = five below
-of_lower holds number one two three four five six R.Operands below = six below
 
 pub keeps_rule : (image : Image) (place : ℕ) (instr : Instr) → KeepsRules image place instr → (rule : Rule) → KeepsRule image place instr rule
 keeps_rule image place instr keeps R.Target = keeps.target

@@ -1,9 +1,8 @@
 -- Marks at the targets of jumps.
-use Rattle.std.proofs.Common.{◌≡◌, ◌≢◌, ℕ, ◌+◌, ◌<◌, List, length, replicate, refl, sym, ◌∙◌, subst, inl, inr, ap, arith, below_more, is_some}
+use Rattle.std.proofs.Common.{◌≡◌, ◌≢◌, ℕ, ◌+◌, ◌<◌, List, length, refl, sym, ◌∙◌, subst, inl, inr, ap, arith, below_more, is_some}
 use Rattle.std.specs.Prelude.{Bool, true, false, not, IsTrue, Some, None, unwrap_or, ◌↔◌, ◌⊎◌}
 use Rattle.std.specs.List.{slice_get}
 use Rattle.std.proofs.lemmas.Bool.{false≢true}
-use Rattle.std.proofs.lemmas.List.{get_or-replicate, length-replicate}
 use Rattle.std.proofs.lemmas.Option.{slice_get_within}
 use Rattle.paris_code.specs.declared.instr.Instr.{Instr}
 use Rattle.paris_code.specs.declared.program.Image.{Image}
@@ -33,13 +32,6 @@ mark_told old new target place instr kept marked only inside none = (
     none.1 (λ e. clear (subst (λ (p : ℕ). IsMarked new p) e (marked (omega (arith, e, inside))))),
   )),
   (λ both there. elim (only place there) [ inl h ↦ both.0 h | inr h ↦ none.0 both.1 h ]),
-)
-
-pub targets_none : (code : List Instr) (count : ℕ) → MarksTargets code 0 (replicate count false)
-targets_none code count place inside = (
-  (λ clear from jump below at. absurd (omega (arith, below))),
-  (λ none marked.
-      false≢true (sym (get_or-replicate count place false false (omega (arith, inside, length-replicate count false))) ∙ marked)),
 )
 
 -- one more instruction whose target is marked

@@ -17,13 +17,6 @@ use Rattle.image_check.proofs.Starts.{unit_inside}
 abbrev IsReal : Image → Call → Type 0
 IsReal image call = (place : ℕ) × IsAt image place (I.FrontCall call.to) × (unit_of image place ≡ call.from)
 
-pub calls_none : (image : Image) → AreCalls image 0 []
-calls_none image =
-    record {
-      real = λ call among. absurd (omega (arith, among.1));
-      each = λ place to below. absurd (omega (arith, below));
-    }
-
 -- one more instruction, which is a call
 pub calls_more : (image : Image) (place : ℕ) (calls : List Call) (call : Call) (instr : Instr) → IsAt image place instr → instr ≡ I.FrontCall call.to →
     call.from ≡ unit_of image place → AreCalls image place calls → AreCalls image (place + 1) (calls ++ call ∷ [])
@@ -110,8 +103,3 @@ keeps_at_call image calls place call instr known at is from =
                 keeps.1 count (subst (λ (u : ℕ). Path image count 0 u) from (path_of_chain image calls known count 0 call.from chain))),
           )),
     )
-
--- what is no call keeps the rule
-pub keeps_no_call : (image : Image) (place : ℕ) (instr : Instr) → ((to : ℕ) → instr ≢ I.FrontCall to) → KeepsStack image place instr
-keeps_no_call image place (I.FrontCall to) none = absurd (none to refl)
-keeps_no_call image place _ none = tt

@@ -1,8 +1,5 @@
 -- How many lanes have a 1, by words.
-use Rattle.std.proofs.Common.{◌≡◌, ℕ, suc, zero, ◌+◌, ◌-◌, ◌*◌, ◌/◌, ◌%◌, ◌^◌, ◌<◌, ◌≤◌, List, length, get_or, Fits, w64, refl, sym, ◌∙◌, ap, inl, inr, arith}
-use Rattle.std.specs.Prelude.{slice_index}
-use Rattle.std.proofs.lemmas.Bool.{cases_lt}
-use Rattle.std.proofs.lemmas.Nat.Bits.{bit_at_ones}
+use Rattle.std.proofs.Common.{◌≡◌, ℕ, suc, zero, ◌+◌, ◌-◌, ◌*◌, ◌/◌, ◌%◌, ◌^◌, ◌<◌, ◌≤◌, List, length, get_or, Fits, w64, refl, sym, ◌∙◌, ap, arith}
 use Rattle.std.specs.Simd.Lanes.{Each1}
 use Rattle.std.proofs.lemmas.Simd.{Each1-get_or}
 use Rattle.std.specs.Int.{bit_at}
@@ -54,11 +51,3 @@ counted_more mask long fits w wb total e =
     let all : total + ones (get_or mask w 0) ≡ ones_before mask (64 * (w + 1)) =
     ap (λ n. n + ones (get_or mask w 0)) e ∙ word_counted mask w (Each1-get_or (Fits w64) mask w 0 (omega arith) fits).fits in
     (all, omega (arith, all, ones_before-le mask (64 * (w + 1))))
-
--- the lanes of a word all of whose bits are 1
-pub all_of_words : (plane : List ℕ) (j : ℕ) → slice_index plane j ≡ 2 ^ 64 - 1 → ((i : ℕ) → i < 64 * j → bit plane i ≡ 1) → (i : ℕ) → i < 64 * (j + 1) → bit plane i ≡ 1
-unfolding bit
-all_of_words plane j ones before i h = elim (cases_lt i (64 * j)) [
-  | inl l ↦ before i l
-  | inr g ↦ ap (λ w. slice_index plane w / 2 ^ (i % 64) % 2) (let q : i / 64 ≡ j = omega (arith, g, h) in q) ∙ ap (λ w. w / 2 ^ (i % 64) % 2) ones ∙ bit_at_ones 64 (i % 64) (omega arith)
-]

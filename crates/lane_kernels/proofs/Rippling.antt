@@ -1,5 +1,5 @@
 -- A sum that is made bit by bit.
-use Rattle.std.proofs.Common.{◌≡◌, ℕ, ◌+◌, ◌/◌, ◌%◌, ◌^◌, ◌<◌, cond, Bool, List, sym, ◌∙◌, ap, arith}
+use Rattle.std.proofs.Common.{◌≡◌, ℕ, ◌+◌, ◌/◌, ◌%◌, ◌^◌, ◌<◌, cond, Bool, List, sym, ◌∙◌, ap}
 use Rattle.std.specs.Int.{bit_at}
 use Rattle.bit_planes.specs.declared.plane.Plane.{Plane}
 use Rattle.bit_planes.specs.Bits.{bit}
@@ -44,9 +44,6 @@ rippled to a b inverted j carry flip x raw y sum next old mid new jb ra rb flip_
           ∙ ap (λ n. (bit_at (operand_of a old to.len i) j + bit_at (added inverted to.len (operand_of b old to.len i)) j + n) / 2) (before.carried i ib)
           ∙ sym (carry_is (operand_of a old to.len i) (added inverted to.len (operand_of b old to.len i)) (cond inverted 1 0) j);
     }
-
-pub first_carry : (x y c : ℕ) → c ≡ (x % 2 ^ 0 + y % 2 ^ 0 + c) / 2 ^ 0
-first_carry x y c = omega arith
 
 pub summed : (to : Target) (a b : Operand) (inverted : Bool) (j : ℕ) (carry : List ℕ) (old new : List Plane) → j ≡ to.len → Rippling to a b inverted j carry old new
     → Becomes to (λ i. (operand_of a old to.len i + addend inverted to.len (operand_of b old to.len i)) % 2 ^ to.len) old new

@@ -1,6 +1,6 @@
 -- How one step of the machine follows one instruction of the code.
 use Rattle.std.proofs.Common.{◌≡◌, ℕ, suc, ◌+◌, ◌*◌, ◌≤◌, ◌<◌, Bool, true, false, List, [], ◌++◌, length, take, Option, Some, None, refl, sym, ◌∙◌, ap, subst, arith, zero}
-use Rattle.std.specs.Prelude.{◌-◌, ◌^◌, IsSome, IfSome, IfNone, replicate, slice_set, option_map}
+use Rattle.std.specs.Prelude.{◌-◌, ◌^◌, IfNone, replicate, option_map}
 use Rattle.std.proofs.lemmas.List.{append-nil, append_assoc}
 use Rattle.std.proofs.Math.Seq.{take-append-add}
 use Rattle.cstar_base.specs.declared.operators.Place.{Place}
@@ -10,11 +10,9 @@ use Rattle.paris_code.specs.declared.instr.Instr.{Instr}
 use Rattle.paris_code.specs.declared.program.Image.{Image}
 use Rattle.paris_code.specs.declared.program.Reply.{Reply}
 use Rattle.paris_code.specs.declared.program.Reply.TheVariants as R
-use Rattle.paris_code.specs.Code.{CodeState, Rest, End, Next, Goes, Ends, CodeEnd, Fault, code, step, replied, stored, fault_at, opening}
-use Rattle.paris_code.specs.Kinds.{is_parallel}
-use Rattle.paris_code.specs.Meaning.{Means, after, reply_of}
+use Rattle.paris_code.specs.Code.{CodeState, Rest, End, Next, Goes, Ends, CodeEnd, Fault, code, step, replied, fault_at, opening}
+use Rattle.paris_code.specs.Meaning.{Means, after}
 use Rattle.paris_code.specs.Memory.{BitMemory, SameBits}
-use Rattle.paris_code.specs.Operands.{result_of}
 use Rattle.paris_code.specs.Shapes.{SetShape, shapes_of}
 use Rattle.paris_code.specs.Sound.{IsSound}
 use Rattle.paris_code.specs.Units.{IsAt}
@@ -29,7 +27,7 @@ use Rattle.paris_machine.specs.declared.outcome.End.TheVariants as E
 use Rattle.paris_machine.specs.Bound.{most_left}
 use Rattle.paris_machine.specs.Ends.{IsNumbered, input_broke_in, output_broke_in}
 use Rattle.paris_machine.specs.Runs.{SameState, SameNext, ComesTo, before, IsLeft, Puts, StaysOver, Advances, AdvancesBy, Runs, RepliesTo, IsPutEnd, Reads, Stays, kept_state}
-use Rattle.paris_machine.proofs.Bound.{falls, falls_parallel, some_left}
+use Rattle.paris_machine.proofs.Bound.{falls, some_left}
 
 -- so many instructions of the code lead from one state to another, each but for bits that no set has
 abbrev pub Reaches : Image → CodeState → ℕ → CodeState → Type 0
@@ -54,22 +52,6 @@ exact_goes shapes next t e = subst (λ (x : Next). SameNext shapes x (Goes t)) (
 pub exact_ends : (shapes : List SetShape) (next : Next) (end : CodeEnd) (t : CodeState) → next ≡ Ends end t → SameNext shapes next (Ends end t)
 exact_ends shapes next end t e = subst (λ (x : Next). SameNext shapes x (Ends end t)) (sym e) (refl, same_self shapes t)
 
--- what the phases answer
-replied_goes : (shapes : List SetShape) (instr : Instr) (s : State) (m n : BitMemory) (reply : Reply) (input : Rest) (output : List ℕ) (t : CodeState)
-    → reply ≡ reply_of shapes instr s.args m → SameNext shapes (replied instr (joined s (after shapes instr s.args m) input output) reply) (Goes t)
-    → SameNext shapes (replied instr (joined s (after shapes instr s.args m) input output) (reply_of shapes instr s.args m)) (Goes t)
-replied_goes shapes instr s m n reply input output t e h =
-    subst (λ (r : Reply). SameNext shapes (replied instr (joined s (after shapes instr s.args m) input output) r) (Goes t)) e h
-
-pub replies_nothing : (image : Image) (instr : Instr) (s : State) (m n : BitMemory) → Means (shapes_of image) instr s.args m n R.Nothing → RepliesTo image instr s m None s n
-replies_nothing image instr s m n means = λ input output.
-    replied_goes (shapes_of image) instr s m n R.Nothing input output (joined s n input output) means.0 (record { bits = means.1; rest = refl })
-
-pub replies_value : (image : Image) (instr : Instr) (s : State) (m n : BitMemory) (v : ℕ) → s.wanted ≡ result_of instr → Means (shapes_of image) instr s.args m n (R.Value v) → RepliesTo image instr s m None (answered s v) n
-replies_value image instr s m n v wants means = λ input output.
-    replied_goes (shapes_of image) instr s m n (R.Value v) input output (joined (answered s v) n input output) means.0
-    (record { bits = means.1; rest = ap (λ (w : Option ℕ). joined (record s { registers = stored w v s.registers }) n input output) wants })
-
 pub replies_bad : (image : Image) (instr : Instr) (s : State) (m n : BitMemory) (position kind : ℕ) (fault : RunFault) (place : Place) → run_number_of fault ≡ kind → fault_at instr position ≡ Fault fault place (Some position) → Means (shapes_of image) instr s.args m n (R.Bad position)
     → RepliesTo image instr s m (Some (E.Fault kind place (Some position))) s n
 replies_bad image instr s m n position kind fault place number is means = (
@@ -79,14 +61,6 @@ replies_bad image instr s m n position kind fault place number is means = (
       subst (λ (r : Reply). SameNext (shapes_of image) (replied instr (joined s (after (shapes_of image) instr s.args m) input output) r) (Ends (Fault fault place (Some position)) (joined s n input output))) means.0
       (is, record { bits = means.1; rest = refl }),
 )
-
--- the state behind an answer
-pub answered_is : (s t : State) (v : ℕ) → IsSome s.wanted → t ≡ record s { registers = t.registers; wanted = None } → IfSome s.wanted (λ r. t.registers ≡ slice_set s.registers r v) → t ≡ answered s v
-answered_is s t v some same set = same ∙ ap (λ (list : List ℕ). record s { registers = list; wanted = None }) (stored_is s.wanted some set)
-  where
-    stored_is : (w : Option ℕ) → IsSome w → IfSome w (λ r. t.registers ≡ slice_set s.registers r v) → t.registers ≡ stored w v s.registers
-    stored_is None some set = cc
-    stored_is (Some r) some set = set
 
 -- nothing is read or printed
 pub took_none : (left : Option (List ℕ)) → Took left [] left
@@ -111,25 +85,6 @@ stopped_advances image old new m ended asks = quiet image old m (Some E.Stopped)
 
 pub halted_advances : (image : Image) (old new : State) (m : BitMemory) (ended : Bool) → AsksFor image old A.Halted new → Advances image old m (Some E.Done) new m ended [] []
 halted_advances image old new m ended asks = quiet image old m (Some E.Done) new m ended (λ later output. exact_ends (shapes_of image) _ _ _ (asks.1 m later output))
-
--- what a parallel instruction that was asked for comes to
-abbrev pub IsApplied : Image → State → Instr → State → Type 0
-IsApplied image old instr new =
-    IsAt image old.at instr × Begins image old (λ m i o. replied instr (joined new (after (shapes_of image) instr new.args m) i o) (reply_of (shapes_of image) instr new.args m))
-
-pub applied_advances : (image : Image) (old between new : State) (instr : Instr) (m n : BitMemory) (result : Option RunEnd) (ended : Bool) → IsApplied image old instr between → RepliesTo image instr between m result new n → Advances image old m result new n ended [] []
-applied_advances image old between new instr m n None ended is replies = quiet image old m None new n ended (λ later output.
-    subst (λ (next : Next). SameNext (shapes_of image) next (Goes (joined new n later output))) (sym (is.1 m later output)) (replies later output))
-applied_advances image old between new instr m n (Some (E.Fault kind place position)) ended is replies = quiet image old m (Some (E.Fault kind place position)) new n ended (λ later output. (
-  replies.0,
-  replies.1,
-  subst (λ (next : Next). SameNext (shapes_of image) next (Ends (Fault replies.0 place position) (joined new n later output))) (sym (is.1 m later output)) (replies.2 later output),
-))
-applied_advances image old between new instr m n (Some E.Memory) ended is replies = quiet image old m (Some E.Memory) new n ended (λ later output. ((instr, is.0, replies), refl))
-applied_advances image old between new instr m n (Some E.Done) ended is replies = absurd replies
-applied_advances image old between new instr m n (Some E.Stopped) ended is replies = absurd replies
-applied_advances image old between new instr m n (Some E.InputBroken) ended is replies = absurd replies
-applied_advances image old between new instr m n (Some E.OutputBroken) ended is replies = absurd replies
 
 pub puts_none : (result : Option RunEnd) {S : Type 0} (agrees : S → List ℕ → Type 0) (s : S) → output_broke_in result ≡ false → Puts result agrees s s []
 puts_none None agrees s h = takes_none agrees s
@@ -261,14 +216,6 @@ pub read_falls : (image : Image) (sound : IsSound image) (old between new : Stat
 unfolding nothing_left
 read_falls image sound old between new m place asks stays =
     omega (arith, stays_left image between new stays, falls image sound (joined old m nothing_left []) (joined (answered between (2 ^ 32 - 1)) m nothing_left []) place (asks.1 m nothing_left []))
-
-pub applied_falls : (image : Image) (sound : IsSound image) (old between new : State) (instr : Instr) → IsPlace image old.at old.returns → IsAt image old.at instr → is_parallel instr ≡ true
-    → (between.at ≡ old.at + 1) → (between.returns ≡ old.returns) → (between.turns ≡ old.turns) → Stays between new → most_left image new.at new.returns new.turns + 1 ≤ most_left image old.at old.returns old.turns
-applied_falls image sound old between new instr place here parallel at returns turns stays =
-    let fell = falls_parallel image sound old.at old.returns old.turns instr place here parallel in
-    let same : most_left image between.at between.returns between.turns ≡ most_left image (old.at + 1) old.returns old.turns =
-    ap (λ at. most_left image at between.returns between.turns) at ∙ ap (λ (returns : List ℕ). most_left image (old.at + 1) returns between.turns) returns ∙ ap (λ turns. most_left image (old.at + 1) old.returns turns) turns in
-    omega (arith, stays_left image between new stays, fell, same)
 
 -- instructions that are done whole, and one more
 whole_falls : (image : Image) (sound : IsSound image) (old last : State) (m : BitMemory) (whole : ℕ) → RunsWhole image old whole last → most_left image last.at last.returns last.turns + whole ≤ most_left image old.at old.returns old.turns

@@ -21,9 +21,6 @@ coordinate_in : (shapes : List SetShape) (slots : ℕ) (d : Field) (reads : ℕ 
 coordinate_in shapes slots d reads (C.Field f) exists can fits there with = (lies shapes f fits there, with_reads shapes d f reads exists there with can)
 coordinate_in shapes slots d reads (C.Reg r) exists can fits there with = tt
 
-pub coordinates_in : (shapes : List SetShape) (slots : ℕ) (d : Field) (reads : ℕ → Type 0) (cs : List Coordinate) → FieldExists shapes d → reads d.set → All (CoordinateFits shapes slots) cs → All (CoordinateExists shapes) cs → All (CoordinateIsWith shapes d) cs → All (IsCoordinateIn shapes reads) cs
-coordinates_in shapes slots d reads cs exists can fit there with = λ k e within. coordinate_in shapes slots d reads (get_or cs k e) exists can (fit k e within) (there k e within) (with k e within)
-
 in_set : (shapes : List SetShape) (slots set : ℕ) (reads : ℕ → Type 0) (c : Coordinate) → reads set → CoordinateFits shapes slots c → CoordinateExists shapes c → ((f : Field) → c ≡ C.Field f → f.set ≡ set) → IsCoordinateIn shapes reads c
 in_set shapes slots set reads (C.Field f) can fits there same = (lies shapes f fits there, subst reads (sym (same f refl)) can)
 in_set shapes slots set reads (C.Reg r) can fits there same = tt

@@ -104,10 +104,6 @@ module _ (at len number k : ℕ) (first old new : List ℕ) (byte : ℕ) (small 
     ];
   }
 
--- the bytes that a number is in are there
-pub bytes_there : (at len k size : ℕ) → at + len ≤ 8 * size → 1 ≤ len → k < (at % 8 + len + 7) / 8 → at / 8 + k < size
-bytes_there at len k size within some h = omega arith
-
 -- the first bytes of a window
 pub record ReadUntil (at k window : ℕ) (bytes : List ℕ) : Type 0 where
   pub small : window < 2 ^ (8 * k)

@@ -61,15 +61,3 @@ module _ (p width : ℕ) (run : Field) (block : ℕ) (words first old new : List
           ])
     ];
   }
-
--- behind the last position of the block or of the set
-pub put_all : (last positions width : ℕ) (run : Field) (block : ℕ) (words first new : List ℕ) → last ≤ positions → ((p : ℕ) → p / 512 ≡ block → p < positions → p < last)
-    → RunPut last width run block words first new → RunPut positions width run block words first new
-put_all last positions width run block words first new few whole done = record {
-  long = done.long;
-  inside = λ p i at b l h. done.inside p i at (whole p at b) l h;
-  outside = λ p i b apart. done.outside p i b (elim apart [
-    | inl a ↦ inl a
-    | inr r ↦ inr (elim r [ inl s ↦ inl (omega arith) | inr s ↦ inr s ])
-  ]);
-}

@@ -3,7 +3,6 @@ use Rattle.std.proofs.Common.{◌≡◌, ℕ, zero, suc, ◌+◌, ◌-◌, ◌*�
 use Rattle.std.specs.Int.{bit_at}
 use Rattle.std.specs.List.{range_with_len}
 use Rattle.std.specs.Prelude.{MatchBool, sum}
-use Rattle.std.proofs.Math.ListN.{length-take, length-drop}
 use Rattle.std.proofs.Math.Seq.{drop-drop, get_or-drop, get_or-take}
 use Rattle.std.proofs.lemmas.Bool.{cases_lt, eqb-true, eqb-false}
 use Rattle.std.proofs.lemmas.List.FromFn.{map-range_with_len_more}
@@ -55,9 +54,6 @@ own_bit bytes start size n h =
     ap (λ x. bit_at x (n % 8)) (get_or-take size (drop start bytes) (n / 8) 0 (omega arith) ∙ get_or-drop start bytes (n / 8) 0)
     ∙ ap (λ q. bit_at (get_or bytes q 0) (n % 8)) (let e : start + n / 8 ≡ (8 * start + n) / 8 = omega arith in e)
     ∙ ap (λ j. bit_at (get_or bytes ((8 * start + n) / 8) 0) j) (let e : n % 8 ≡ (8 * start + n) % 8 = omega arith in e)
-
-pub own_long : (bytes : List ℕ) (start size : ℕ) → start + size ≤ length bytes → length (take size (drop start bytes)) ≡ size
-own_long bytes start size h = omega (arith, length-take size (drop start bytes), length-drop start bytes)
 
 pub rest_more : (bytes : List ℕ) (start size : ℕ) → drop size (drop start bytes) ≡ drop (start + size) bytes
 rest_more bytes start size = drop-drop size start bytes

@@ -1,5 +1,5 @@
 -- Scans along lines on which each place is its position, by the planes of one block.
-use Rattle.std.proofs.Common.{◌≡◌, ◌≢◌, ℕ, zero, suc, ◌+◌, ◌-◌, ◌*◌, ◌/◌, ◌%◌, ◌^◌, ◌<◌, ◌≤◌, min, max, Bool, true, false, ◌&&◌, cond, eqb, ltb, List, get_or, Some, inl, inr, refl, sym, ◌∙◌, ap, subst, zero-add, add-mul, arith}
+use Rattle.std.proofs.Common.{◌≡◌, ◌≢◌, ℕ, zero, suc, ◌+◌, ◌-◌, ◌*◌, ◌/◌, ◌%◌, ◌^◌, ◌<◌, ◌≤◌, min, Bool, true, false, ◌&&◌, cond, eqb, ltb, List, get_or, Some, inl, inr, refl, sym, ◌∙◌, ap, subst, zero-add, add-mul, arith}
 use Rattle.std.specs.Prelude.{◌||◌, not}
 use Rattle.std.specs.Int.{bit_at}
 use Rattle.std.proofs.Math.Nat.{add-mul-div_right, add-mul-mod_self_right, div-eq_of_lt, div-add-mod, mod-eq_of_lt, mul_comm}
@@ -94,15 +94,6 @@ both_bits b zero t h e = omega arith
 both_bits b (suc zero) true h e = omega (arith, e)
 both_bits b (suc zero) false h e = omega (arith, e)
 both_bits b (suc (suc a)) t h e = absurd (omega arith)
-
-pub either_bit : (s t : Bool) (x y r : ℕ) → x ≡ cond s 1 0 → y ≡ cond t 1 0 → r ≡ max x y → eqb r 1 ≡ (s || t)
-either_bit true t x y r e f g = eq-eqb r 1 (omega (arith, e, g, small t y f))
-  where
-    small : (u : Bool) (z : ℕ) → z ≡ cond u 1 0 → z < 2
-    small true z h = omega (arith, h)
-    small false z h = omega (arith, h)
-either_bit false true x y r e f g = eq-eqb r 1 (omega (arith, e, f, g))
-either_bit false false x y r e f g = ne_eqb r 1 (λ h. absurd (omega (arith, e, f, g, h)))
 
 module _ (planes : List Plane) (scan : Scan) (extent k : ℕ) (cuts : List ℕ) (first : bit cuts 0 ≡ 0)
     (others : (i : ℕ) → 0 < i → i < 512 → eqb (bit cuts i) 1 ≡ cut_in planes scan extent k i) where

@@ -1,9 +1,8 @@
 -- Expressions where a site tells of the current shape: what they become, and the faults at them.
-use Rattle.std.proofs.Common.{◌≡◌, ℕ, Bool, true, false, Option, Some, None, Box, refl, sym, ap, subst, ◌∙◌}
+use Rattle.std.proofs.Common.{◌≡◌, ℕ, true, false, Option, Some, None, Box, refl, sym, ap, subst, ◌∙◌}
 use Rattle.std.specs.Option.{is_some}
 use Rattle.std.specs.declared.alloc.Global.{Global}
 use Rattle.cstar_base.specs.declared.elem.Elem.{Elem}
-use Rattle.cstar_base.specs.declared.faults.Fault.{Fault}
 use Rattle.cstar_base.specs.declared.faults.Fault.TheVariants as Faults
 use Rattle.cstar_base.specs.declared.operators.Place.{Place}
 use Rattle.cstar_tree.specs.declared.syntax.Expr.{Expr}
@@ -25,7 +24,8 @@ use Rattle.cstar_tree.specs.Typed.{type_of}
 use Rattle.type_scopes.specs.Answers.{TellsAway}
 use Rattle.type_scopes.specs.declared.faults.Untyped.{Untyped}
 use Rattle.type_scopes.specs.declared.names.VariableType as Names
-use Rattle.type_expressions.specs.Answers.{IsFault, meant}
+use Rattle.type_expressions.specs.Answers.{IsFault}
+use Rattle.type_scopes.specs.Bindings.{variable_type}
 use Rattle.type_expressions.proofs.OnOperands.{tells}
 
 pub some_in : (shape : Option ℕ) → is_some shape ≡ true → (s : ℕ) × (shape ≡ Some s)
@@ -47,13 +47,13 @@ away_at {u = u} current place away stands =
 abbrev IsArray : Here → Name → Variable → Elem → Option ℕ → Option ℕ → Type 0
 IsArray here n v elem shape array = IsVariable here n v (record { value = record { elem = elem; shape = shape }; array = array })
 
-pub element_types : {program : Program} {here : Here} {n : Name} {p : Place} {v : Variable} {length : ℕ} (ty : Names.VariableType) (index : Box Expr Global) (x : Box TExpr Global) → IsVariable here n v (meant ty) → ty.array ≡ Some length → Types program (part here) index.value x.value true → (type_of x.value).shape ≡ None → IsAtHand here.current ty.shape → Types program here (E.Element n p index) (T.Element (record { elem = ty.elem; shape = ty.shape }) p v x) true
+pub element_types : {program : Program} {here : Here} {n : Name} {p : Place} {v : Variable} {length : ℕ} (ty : Names.VariableType) (index : Box Expr Global) (x : Box TExpr Global) → IsVariable here n v (variable_type ty) → ty.array ≡ Some length → Types program (part here) index.value x.value true → (type_of x.value).shape ≡ None → IsAtHand here.current ty.shape → Types program here (E.Element n p index) (T.Element (record { elem = ty.elem; shape = ty.shape }) p v x) true
 element_types {here = here} {n = n} {v = v} ty index x is array h scalar hand = X.element index x (subst (IsArray here n v ty.elem ty.shape) array is) h scalar hand
 
-pub parallel_index : {program : Program} {here : Here} {n : Name} {p : Place} {v : Variable} {length : ℕ} {x : TExpr} (ty : Names.VariableType) (index : Box Expr Global) → IsVariable here n v (meant ty) → ty.array ≡ Some length → Types program (part here) index.value x true → is_some (type_of x).shape ≡ true → FaultAt program here (E.Element n p index) Faults.ScalarWanted p
+pub parallel_index : {program : Program} {here : Here} {n : Name} {p : Place} {v : Variable} {length : ℕ} {x : TExpr} (ty : Names.VariableType) (index : Box Expr Global) → IsVariable here n v (variable_type ty) → ty.array ≡ Some length → Types program (part here) index.value x true → is_some (type_of x).shape ≡ true → FaultAt program here (E.Element n p index) Faults.ScalarWanted p
 parallel_index {here = here} {n = n} {v = v} {x = x} ty index is array h parallel = let s = some_in (type_of x).shape parallel in F.parallel_index index (subst (IsArray here n v ty.elem ty.shape) array is) h s.1
 
-pub element_away : (program : Program) (here : Here) (n : Name) (p : Place) {q : Place} {v : Variable} {length : ℕ} {x : TExpr} {current : Option ℕ} {u : Untyped} (ty : Names.VariableType) (index : Box Expr Global) → IsVariable here n v (meant ty) → ty.array ≡ Some length → Types program (part here) index.value x true → (type_of x).shape ≡ None → here.current ≡ current → n.place ≡ q → TellsAway current ty.shape q u → IsFault program here (E.Element n p index) u
+pub element_away : (program : Program) (here : Here) (n : Name) (p : Place) {q : Place} {v : Variable} {length : ℕ} {x : TExpr} {current : Option ℕ} {u : Untyped} (ty : Names.VariableType) (index : Box Expr Global) → IsVariable here n v (variable_type ty) → ty.array ≡ Some length → Types program (part here) index.value x true → (type_of x).shape ≡ None → here.current ≡ current → n.place ≡ q → TellsAway current ty.shape q u → IsFault program here (E.Element n p index) u
 element_away program here n p {v = v} {length = length} ty index is array h scalar current place away =
     let of_shape = subst (λ (k : Option ℕ). IsArray here n v ty.elem k (Some length)) away.is_parallel (subst (IsArray here n v ty.elem ty.shape) array is) in
     away_at {program = program} {e = E.Element n p index} current place away (λ a. F.element_away index of_shape h scalar a)

@@ -1,5 +1,5 @@
 -- Operators over two and three typed operands: the trees that their expressions become.
-use Rattle.std.proofs.Common.{◌≡◌, true, Option, Some, None, Result, Ok, Box, refl}
+use Rattle.std.proofs.Common.{true, Option, Some, None, Ok, Box, refl}
 use Rattle.std.specs.declared.alloc.Global.{Global}
 use Rattle.cstar_base.specs.declared.operators.Place.{Place}
 use Rattle.cstar_tree.specs.declared.syntax.BinaryOp.{BinaryOp}

@@ -3,6 +3,7 @@ pub mod Assigned
 pub mod AtSites
 pub mod Combined
 pub mod Indexed
+pub mod NamesInExpressions
 pub mod OfShapes
 pub mod OnOperands
 pub mod Printed

@@ -6,7 +6,6 @@ use Rattle.cstar_base.specs.declared.operators.Place.{Place}
 use Rattle.cstar_tree.specs.declared.syntax.Expr.{Expr}
 use Rattle.cstar_tree.specs.declared.syntax.Expr as E
 use Rattle.cstar_tree.specs.declared.syntax.AssignOp.{AssignOp}
-use Rattle.cstar_tree.specs.declared.syntax.BinaryOp.{BinaryOp}
 use Rattle.cstar_tree.specs.declared.syntax.PrefixOp.{PrefixOp}
 use Rattle.cstar_tree.specs.declared.syntax.PrefixOp.TheVariants as P
 use Rattle.cstar_tree.specs.declared.syntax.StepOp.{StepOp}
@@ -20,12 +19,11 @@ use Rattle.cstar_tree.specs.ExpressionFaults.{FaultAt}
 use Rattle.cstar_tree.specs.ExpressionTypes.{Types}
 use Rattle.cstar_tree.specs.Headers.{Program}
 use Rattle.cstar_tree.specs.Operations.{folds, many, sends, target_of}
-use Rattle.cstar_tree.specs.Scopes.{Here, VariableType, part}
+use Rattle.cstar_tree.specs.Scopes.{Here, part}
 use Rattle.cstar_tree.specs.Typed.{type_of}
 use Rattle.type_expressions.specs.declared.found.TypedExpr.{TypedExpr}
 use Rattle.type_scopes.specs.declared.faults.Untyped.{Untyped}
 use Rattle.type_scopes.specs.declared.faults.Untyped.TheVariants as N
-use Rattle.type_scopes.specs.declared.names.VariableType as Names
 use Rattle.type_scopes.specs.declared.sites.Site.{Site}
 use Rattle.type_scopes.specs.declared.standing.Standing.{Standing}
 use Rattle.type_scopes.specs.Answers.{IsRecorded}
@@ -74,10 +72,6 @@ pub record IsSite (site : Site) (here : Here) : Type 0 where
 -- the answer for an expression, at whatever place the site is
 abbrev pub AtSite : Site → Expr → Result TExpr Untyped → Type 0
 AtSite site e result = (program : Program) (here : Here) → IsSite site here → IsAnswer program here e result
-
--- what the code calls the type of a variable, as the definitions have it
-abbrev pub meant : Names.VariableType → VariableType
-meant ty = record { value = record { elem = ty.elem; shape = ty.shape }; array = ty.array }
 
 -- the operator sends where the target is one of many
 abbrev pub CanSend : AssignOp → TExpr → Type 0

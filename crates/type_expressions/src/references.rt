@@ -4,14 +4,17 @@ ghost use Rattle.cstar_tree.specs.Conversions as C;
 ghost use Rattle.cstar_tree.specs.Conversions.{AreSpread};
 ghost use Rattle.cstar_tree.specs.ExpressionTypes.{IsVariable, Types, TypesIndexes};
 ghost use Rattle.cstar_tree.specs.Headers.{Program};
-ghost use Rattle.cstar_tree.specs.Scopes.{Here, part};
+ghost use Rattle.cstar_tree.specs.Scopes.{Here, find, part};
 ghost use Rattle.cstar_tree.specs.declared.syntax.Expr as E;
 ghost use Rattle.cstar_tree.specs.declared.syntax.Expr.{Expr};
 ghost use Rattle.cstar_tree.specs.declared.syntax.Name.{Name};
-ghost use Rattle.std.specs.Prelude.{◌≡◌, ℕ, true, Box, IfOk, Vec};
+ghost use Rattle.std.specs.Prelude.{◌≡◌, ℕ, false, true, Box, IfOk, MatchResult, Vec};
 ghost use Rattle.std.specs.declared.alloc.Global.{Global};
 ghost use Rattle.type_expressions.specs.Along.{HasExtents, is_rank};
-ghost use Rattle.type_expressions.specs.Answers.{AtSite, HasShapes, IsAnswer, IsSite, meant, trees};
+ghost use Rattle.type_expressions.specs.Answers.{AtSite, HasShapes, IsAnswer, IsSite, trees};
+ghost use Rattle.type_expressions.specs.Names.{HasNames, IsFound, IsNamed, TellsOther};
+ghost use Rattle.type_scopes.specs.Bindings.{variable_type};
+ghost use Rattle.type_scopes.specs.FileBindings.{names_at};
 
 use cstar_base::{Elem, Fault, Memory, Place};
 use cstar_tree::syntax::Name;
@@ -25,7 +28,9 @@ use type_scopes::sites::Site;
 use typed_nodes::conversions::spread;
 
 /// A name that stands for a whole variable.
-pub fn name(file: &File<'_>, locals: &Locals, site: Site, name: &Name) -> Result<TExpr, Untyped> {
+pub fn name(file: &File<'_>, locals: &Locals, site: Site, name: &Name) -> Result<TExpr, Untyped>
+    ensures { (program : Program) (here : Here) → HasNames (names_at file.now locals.now site.known) here → IsSite site here → IsNamed program here name.now result }
+{
     let (variable, ty) = plain_variable(file, locals, site, name)?;
     site.holds(name.place, ty.shape)?;
     Ok(TExpr::Variable {
@@ -40,7 +45,9 @@ pub fn plain_variable(
     locals: &Locals,
     site: Site,
     name: &Name,
-) -> Result<(Variable, VariableType), Untyped> {
+) -> Result<(Variable, VariableType), Untyped>
+    ensures { MatchResult result (IsFound false (find (names_at file.now locals.now site.known) name.now.word)) (TellsOther false (find (names_at file.now locals.now site.known) name.now.word) name.now.place) }
+{
     let (variable, ty) = file.variable(locals, site, name)?;
     if ty.array.is_some() {
         return Err(fault(Fault::ArrayUse, name.place));
@@ -54,7 +61,9 @@ pub fn array(
     locals: &Locals,
     site: Site,
     name: &Name,
-) -> Result<(Variable, VariableType), Untyped> {
+) -> Result<(Variable, VariableType), Untyped>
+    ensures { MatchResult result (IsFound true (find (names_at file.now locals.now site.known) name.now.word)) (TellsOther true (find (names_at file.now locals.now site.known) name.now.word) name.now.place) }
+{
     let (variable, ty) = file.variable(locals, site, name)?;
     if ty.array.is_none() {
         return Err(fault(Fault::ArrayUse, name.place));
@@ -71,7 +80,7 @@ pub fn element(
     array: (Variable, VariableType),
     index: Box<TExpr>,
 ) -> Result<TExpr, Untyped>
-    ensures { (program : Program) (here : Here) (n : Name) (length : ℕ) (i : Box Expr Global) → IsSite site here → n.place ≡ place → IsVariable here n array.0 (meant array.1) → array.1.array ≡ Some length → Types program (part here) i.value index.value true → IsAnswer program here (E.Element n bracket i) result }
+    ensures { (program : Program) (here : Here) (n : Name) (length : ℕ) (i : Box Expr Global) → IsSite site here → n.place ≡ place → IsVariable here n array.0 (variable_type array.1) → array.1.array ≡ Some length → Types program (part here) i.value index.value true → IsAnswer program here (E.Element n bracket i) result }
 {
     if index.ty().shape.is_some() {
         return Err(fault(Fault::ScalarWanted, bracket));
@@ -119,7 +128,7 @@ pub fn left_index(
     variable: (Variable, VariableType),
     indexes: Vec<Box<TExpr>>,
 ) -> Result<TExpr, Untyped>
-    ensures { (program : Program) (here : Here) (n : Name) (given : Vec Expr Global) → HasShapes file.now.shapes.items here → HasExtents here variable.1.shape → IsVariable here n variable.0 (meant variable.1) → variable.1.array ≡ None → TypesIndexes program here n 0 given.items (trees indexes.items) → IsAnswer program here (E.LeftIndex place given n) result }
+    ensures { (program : Program) (here : Here) (n : Name) (given : Vec Expr Global) → HasShapes file.now.shapes.items here → HasExtents here variable.1.shape → IsVariable here n variable.0 (variable_type variable.1) → variable.1.array ≡ None → TypesIndexes program here n 0 given.items (trees indexes.items) → IsAnswer program here (E.LeftIndex place given n) result }
 {
     let (variable, ty) = variable;
     let Some(of) = ty.shape else {

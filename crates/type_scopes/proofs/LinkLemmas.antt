@@ -1,6 +1,6 @@
 -- What is found under a name, by the links between names and variables.
-use Rattle.std.proofs.Common.{◌≡◌, ◌≢◌, ℕ, zero, suc, ◌+◌, ◌<◌, ◌==◌, Bool, true, false, List, [], ◌∷◌, ◌++◌, length, get_or, map, reverse, Option, Some, None, Result, Ok, Err, OnOk, OnErr, refl, sym, ap, subst, ◌∙◌, arith, length-append, true≢false}
-use Rattle.std.proofs.lemmas.Bool.{eq-eqb, eqb-true, ne_eqb}
+use Rattle.std.proofs.Common.{◌≡◌, ◌≢◌, ℕ, zero, suc, ◌+◌, ◌-◌, ◌<◌, ◌≤◌, ◌==◌, Bool, true, false, is_some, take, List, [], ◌∷◌, ◌++◌, drop, inl, inr, length, get_or, map, reverse, Option, Some, None, Result, Ok, Err, OnOk, OnErr, refl, sym, ap, subst, ◌∙◌, arith, length-append, true≢false}
+use Rattle.std.proofs.lemmas.Bool.{cases_lt, eq-eqb, eqb-true, lt-leb, le-leb, ne_eqb}
 use Rattle.std.proofs.lemmas.List.Quantifiers.{position-Some}
 use Rattle.std.proofs.lemmas.Map.Entries.{length-keys_of}
 use Rattle.std.proofs.lemmas.Map.Keys.{IsDistinct-head, IsDistinct-tail}
@@ -10,7 +10,7 @@ use Rattle.std.specs.List.{AllByRecursion, position_or_len}
 use Rattle.std.specs.Map.{keys_of, lookup}
 use Rattle.std.specs.declared.alloc.Global.{Global}
 use Rattle.std.specs.Prelude.{Vec}
-use Rattle.std.proofs.lemmas.List.{reverse-append, reverse-reverse, length-reverse}
+use Rattle.std.proofs.lemmas.List.{drop-drop, length-map, reverse-append, reverse-reverse, length-reverse}
 use Rattle.std.specs.Prelude.{bytes_eq, slice_get, slice_index_or, if◌then◌else◌}
 use Rattle.std.specs.Option.{option_map}
 use Rattle.std.proofs.Math.Seq.{get_or-append_seam}
@@ -19,10 +19,10 @@ use Rattle.std.proofs.lemmas.Option.{slice_get-get_or}
 use Rattle.indexmap.specs.IndexMap.{insert_entry, set_value_at}
 use Rattle.indexmap.specs.Layout.{length-set_value_at}
 use Rattle.indexmap.proofs.MapLemmas.{Missing-position, absent_from_lookup, insert_entry-absent}
-use Rattle.cstar_tree.specs.Scopes.{Meaning, find}
+use Rattle.cstar_tree.specs.Scopes.{Binding, Meaning, find}
 use Rattle.type_scopes.specs.declared.locals.Local.{Local}
-use Rattle.type_scopes.specs.Bindings.{bound, named}
-use Rattle.type_scopes.specs.Links.{newest, slot_named, words_of, AreDistinct, AreLinked, HaveNewest, IsSlotOf, Slots}
+use Rattle.type_scopes.specs.Bindings.{around, bound, named, within}
+use Rattle.type_scopes.specs.Links.{is_in, newest, slot_named, words_of, AreDistinct, AreLinked, HaveNewest, IsSlotOf, Slots}
 
 -- the newest variable of a slot
 pub at_slot : List Local → ℕ → Option Local
@@ -320,3 +320,59 @@ declared_more slots w declared local word is = rw (words-set slots local.slot w,
 -- the slot of the last variable
 pub last_slot : (n : ℕ) (items rest : List Local) (local : Local) → items ≡ rest ++ local ∷ [] → AreLinked n (reverse items) → local.slot < n
 last_slot n items rest local is linked = (subst (λ xs. AreLinked n xs) (ap reverse is ∙ reverse-append rest (local ∷ [])) linked 0 local refl).0
+
+-- what the names stand for with a variable less
+pub bound_less : (slots : Slots) (s : ℕ) (w : Option ℕ) (items rest : List Local) (local : Local) → items ≡ rest ++ local ∷ [] → map (bound (words_of (set_value_at slots s w))) (reverse rest) ≡ drop 1 (map (bound (words_of slots)) (reverse items))
+bound_less slots s w items rest local is = rw (words-set slots s w, is, reverse-append rest (local ∷ [])) refl
+
+-- and where there is none
+pub none_less : (words : List (List ℕ)) (items rest : List Local) → items ≡ rest ++ [] → length items ≡ 0 → map (bound words) (reverse rest) ≡ drop 1 (map (bound words) (reverse items))
+none_less words items [] is none = rw is refl
+none_less words items (local ∷ rest) is none = absurd (omega (arith, none, ap length is))
+
+-- and the next of a scope's to go
+pub next_dropped : (old bs new : List Binding) (scope counter : ℕ) → scope ≤ counter → bs ≡ drop (counter - scope) old → new ≡ drop 1 bs → new ≡ drop (counter + 1 - scope) old
+next_dropped old bs new scope counter begun before next =
+    let less : drop 1 (drop (counter - scope) old) ≡ drop (counter - scope + 1) old = drop-drop 1 (counter - scope) old in
+    let count : counter - scope + 1 ≡ counter + 1 - scope = omega (arith, begun) in
+    next ∙ (ap (drop 1) before ∙ (less ∙ ap (λ n. drop n old) count))
+
+-- the names of a scope that are no more
+pub all_dropped : (words : List (List ℕ)) (items : List Local) (bs : List Binding) (scope counter : ℕ) → scope ≤ counter → length items ≤ counter → (scope ≤ length items → counter ≤ length items) → (length items ≤ scope → counter ≤ scope) → bs ≡ drop (counter - scope) (map (bound words) (reverse items)) → bs ≡ around scope (map (bound words) (reverse items))
+all_dropped words items bs scope counter begun ended most least is =
+    let long : length (map (bound words) (reverse items)) ≡ length items = length-map (reverse items) (bound words) ∙ length-reverse items in
+    let count : counter - scope ≡ length (map (bound words) (reverse items)) - scope = rw long (elim (cases_lt scope (length items)) [
+      | inl l ↦ omega (arith, begun, ended, most (omega (arith, l)))
+      | inr g ↦ omega (arith, begun, ended, least g)
+    ]) in
+    is ∙ ap (λ n. drop n (map (bound words) (reverse items))) count
+
+-- a name has a variable in a scope just where the newest of the name is in it
+pub in_scope : (words : List (List ℕ)) (word : List ℕ) (s scope : ℕ) (locals : List Local) → IsNamed words word s locals → is_some (find (take (length locals - scope) (map (bound words) locals)) word) ≡ is_in scope (newest locals s)
+unfolding find newest
+in_scope words word s scope [] is =
+    let none : 0 - scope ≡ 0 = omega arith in
+    rw none refl
+in_scope words word s scope (local ∷ older) is = elim (cases_lt (length older) scope) [
+  | inl out ↦
+      let none : length (local ∷ older) - scope ≡ 0 = omega (arith, out) in
+      rw none (sym (all_older out (newest (local ∷ older) s) refl))
+  | inr l ↦
+      let more : length (local ∷ older) - scope ≡ suc (length older - scope) = omega (arith, l) in
+      rw more (step (local.slot == s) refl (in_scope words word s scope older (λ k l at. is (suc k) l at)) l)
+]
+  where
+    all_older : length older < scope → (k : Option ℕ) → newest (local ∷ older) s ≡ k → is_in scope k ≡ false
+    all_older out None at = refl
+    all_older out (Some k) at = lt-leb scope k (omega (arith, out, newest_within (local ∷ older) s k at))
+
+    step : (b : Bool) → (local.slot == s) ≡ b → is_some (find (take (length older - scope) (map (bound words) older)) word) ≡ is_in scope (newest older s) → scope ≤ length older
+        → is_some (find (bound words local ∷ take (length older - scope) (map (bound words) older)) word) ≡ is_in scope (newest (local ∷ older) s)
+    step true e rest l = rw (is 0 local refl ∙ e, e) (sym (le-leb scope (length older) l))
+    step false e rest l = rw (is 0 local refl ∙ e, e) rest
+
+pub declared_in : (slots : Slots) (word : List ℕ) (declared : List Local) (s scope : ℕ) (v : Option ℕ) → AreDistinct slots → AreLinked (length slots) (reverse declared) → HaveNewest slots (reverse declared) → IsSlotOf slots word s → slice_get (map (λ slot. slot.1) slots) s ≡ Some v
+    → is_some (find (within scope (map (bound (words_of slots)) (reverse declared))) word) ≡ is_in scope v
+declared_in slots word declared s scope v distinct linked each is at =
+    let long : length (map (bound (words_of slots)) (reverse declared)) ≡ length (reverse declared) = length-map (reverse declared) (bound (words_of slots)) in
+    rw long (in_scope (words_of slots) word s scope (reverse declared) (named_by slots word (reverse declared) s distinct linked is)) ∙ ap (is_in scope) (newest_is slots (reverse declared) s v each is.0 at)

@@ -1,5 +1,5 @@
 -- How the names of a function and its variables are linked.
-use Rattle.std.specs.Prelude.{◌≡◌, ℕ, ◌<◌, ◌==◌, List, [], ◌∷◌, map, length, drop, slice_get, slice_index_or, Option, Some, None, Vec, bytes_eq, position, if◌then◌else◌}
+use Rattle.std.specs.Prelude.{◌≡◌, ℕ, Bool, false, nat_le, ◌<◌, ◌==◌, List, [], ◌∷◌, map, length, drop, slice_get, slice_index_or, Option, Some, None, Vec, bytes_eq, position, if◌then◌else◌}
 use Rattle.std.specs.List.{IsDistinct}
 use Rattle.std.specs.Map.{keys_of}
 use Rattle.std.specs.declared.alloc.Global.{Global}
@@ -16,6 +16,11 @@ words_of slots = map (λ slot. slot.0.items) slots
 unfoldable pub newest : List Local → ℕ → Option ℕ
 newest [] slot = None
 newest (local ∷ older) slot = if local.slot == slot then Some (length older) else newest older slot
+
+-- is a variable, known by how many were declared before it, in a scope?
+abbrev pub is_in : ℕ → Option ℕ → Bool
+is_in scope None = false
+is_in scope (Some k) = nat_le scope k
 
 -- each variable has a slot, and knows the one that it hides
 abbrev pub AreLinked : ℕ → List Local → Type 0

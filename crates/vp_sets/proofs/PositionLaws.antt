@@ -100,10 +100,6 @@ pub geometry_parts : (xs : List ℕ) → is_geometry xs ≡ true → (1 ≤ leng
 unfolding is_geometry rank_fits positions_fit
 geometry_parts xs h = grind (arith, nat_tests)
 
-pub geometry_of_parts : (xs : List ℕ) → rank_fits xs ≡ true → positions_fit xs ≡ true → is_geometry xs ≡ true
-unfolding is_geometry
-geometry_of_parts xs r p = grind (arith, nat_tests)
-
 -- the later axes have no more positions, and none of their extents is 0
 pub later_positive : (k : ℕ) (xs : List ℕ) → are_positive xs ≡ true → are_positive (drop k xs) ≡ true
 later_positive zero xs h = h

@@ -1,4 +1,4 @@
-use Rattle.std.proofs.Common.{Option, ℕ, subst, sym, ◌∙◌}
+use Rattle.std.proofs.Common.{subst, sym, ◌∙◌}
 use Rattle.type_expressions.specs.Along.{HasExtents}
 use Rattle.type_expressions.proofs.Indexed.{left_index_types, scalar_indexed, wrong_count}
 use Rattle.type_expressions.proofs.OnOperands.{tells}
