@@ -1,5 +1,7 @@
 -- What the deliveries that are left of a claim make of its worker.
-use Rattle.std.proofs.Common.{◌≡◌, ℕ, ◌+◌, ◌-◌, ◌*◌, ◌<◌, ◌≤◌, min, false, is_some, List, ◌∷◌, take, drop, length, get_or, slice_get, option_map, Option, Some, None, refl, sym, ap, ◌∙◌, arith}
+use Rattle.std.proofs.Common.{◌≡◌, ℕ, ◌+◌, ◌-◌, ◌*◌, ◌<◌, ◌≤◌, min, false, is_some, List, ◌∷◌, take, drop, length, get_or, slice_get, option_map, Option, Some, None, refl, sym, ap, ◌∙◌, inl, inr, arith}
+use Rattle.std.proofs.lemmas.Bool.{cases_lt}
+use Rattle.std.proofs.lemmas.List.{take_all, length-drop}
 use Rattle.std.proofs.lemmas.Option.{get_or_from_slice_get, slice_get-get_or}
 use Rattle.atomic_table.specs.Table.{Me}
 use Rattle.combine_core.specs.declared.message.Message.{Message}
@@ -10,6 +12,20 @@ use Rattle.combine_core.proofs.Ahead.{first_message-more, first_message_not_here
 use Rattle.combine_board.specs.declared.view.View.{View}
 use Rattle.combine_board.specs.Values.{with_last, with_passed}
 use Rattle.combine_board.specs.Rule.{view_with, delivered_by, delivered_view}
+
+-- a list has no more elements than there are
+take_less : {X : Type 0} (xs : List X) (n m : ℕ) → m ≡ min n (length xs) → take n xs ≡ take m xs
+take_less xs n m e = elim (cases_lt (length xs) n) [
+  | inl l ↦ take_all n xs (omega arith) ∙ sym (take_all m xs (omega arith))
+  | inr g ↦ ap (λ k. take k xs) (let k : n ≡ m = omega arith in k)
+]
+
+-- the first message that is left, where the slots of the claim end
+pub next_up_to : (os : List (Option Message)) (c p to : ℕ) → p ≤ 512 → 512 * c + p ≤ length os → to ≡ min (length os) (512 * c + 512)
+    → next_in os (held c p) ≡ first_message (512 * c + p) (take (to - (512 * c + p)) (drop (512 * c + p) os))
+next_up_to os c p to small within end =
+    let at : ℕ = 512 * c + p in
+    ap (first_message at) (take_less (drop at os) (512 - p) (to - at) (let l = length-drop at os in omega arith))
 
 -- behind a delivery
 pub rest_ahead : (os : List (Option Message)) (c p i to : ℕ) → p ≡ i + 1 - 512 * c → 512 * c ≤ i → i < to → to ≡ min (length os) (512 * c + 512)

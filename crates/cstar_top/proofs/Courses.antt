@@ -1,5 +1,5 @@
 -- What a sink took of a report, and what the end of a run says of its answer.
-use Rattle.std.proofs.Common.{◌≡◌, ◌≢◌, ℕ, Bool, true, false, List, [], ◌++◌, Option, Some, None, Result, Ok, Err, IfOk, inl, inr, sym, subst, refl, append-nil}
+use Rattle.std.proofs.Common.{◌≡◌, ◌≢◌, ◌∙◌, ℕ, Bool, true, false, List, [], ◌++◌, Option, Some, None, Result, Ok, Err, IfOk, inl, inr, ap, sym, subst, refl, append-nil}
 use Rattle.block_store.specs.declared.set.BlockSet.{BlockSet}
 use Rattle.block_store.specs.Stored.{stored}
 use Rattle.cstar_base.specs.declared.operators.Winner.{Winner}
@@ -24,6 +24,13 @@ use Rattle.cstar_top.specs.Courses.{Reports, ReportsPart, answer_to_end, closing
 -- the same bits, with a winner that was chosen
 pub chosen : (shapes : List SetShape) (m n : BitMemory) (winner : Winner) (bits : Option (List ℕ)) → SameBits shapes m (record { bit = n.bit; winner = winner }) → ((w : Winner) → SameBits shapes (record { bit = n.bit; winner = w }) (memory_from shapes w bits)) → SameBits shapes m (memory_from shapes winner bits)
 chosen shapes m n winner bits one two = bits_after shapes (memory_from shapes winner bits) (record { bit = n.bit; winner = winner }) m one (two winner)
+
+-- bits that were put back are those that are given
+pub put_back_are : (shapes : List SetShape) (m : BitMemory) (found : Option (List ℕ)) (bits bytes : List ℕ) (w winner : Winner) → found ≡ Some bits → bytes ≡ bits → SameBits shapes m (restored shapes bytes w) → SameBits shapes (record { bit = m.bit; winner = winner }) (memory_from shapes winner found)
+unfolding restored
+put_back_are shapes m found bits bytes w winner is same put =
+    subst (λ (o : Option (List ℕ)). SameBits shapes (record { bit = m.bit; winner = winner }) (memory_from shapes winner o)) (sym is)
+    (record { bits = λ s p i a b c. put.bits s p i a b c ∙ ap (λ (xs : List ℕ). (restored shapes xs winner).bit s p i) same; winner = refl })
 
 -- and so are those of new phases, where none are given
 pub fresh_are : (shapes : List SetShape) (m : BitMemory) (found : Option (List ℕ)) (winner : Winner) → found ≡ None → SameBits shapes m (fresh_memory shapes) → SameBits shapes (record { bit = m.bit; winner = winner }) (memory_from shapes winner found)

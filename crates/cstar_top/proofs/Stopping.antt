@@ -103,6 +103,12 @@ reports_as agrees s t left rest options from answer told More Other change said 
     let changed = change said.0 said.3 said.5 in
     (said.0, said.1, said.2, changed.0, said.4, changed.1)
 
+-- a run that came with its point stopped, and may be saved
+pub saves_one : {S O : Type 0} (file : S → List ℕ → Option (List ℕ)) (old new : S) (agrees : O → List ℕ → Type 0) (s t : O) (left rest : Option (List ℕ)) (options : Options) (from : Origin) (answer : Answer) (point : Point) (name : List ℕ) → save_name options ≡ Some name → OthersStay file old new name
+    → Reports agrees s t left rest options from answer (ComesWith (is_some options.save) from (Some point)) → SavesOne file old new left rest options from
+saves_one file old new agrees s t left rest options from answer point name named others said =
+    (name, named, others, (said.0, said.1, said.2, said.5.0))
+
 -- where the point was found
 pub saves_from : {S O : Type 0} (file : S → List ℕ → Option (List ℕ)) (old new : S) (agrees : O → List ℕ → Type 0) (s t : O) (left rest : Option (List ℕ)) (options : Options) (from : Origin) (answer : Answer) (found : Option Point) (point : Point) (name : List ℕ) → found ≡ Some point → save_name options ≡ Some name → OthersStay file old new name
     → IfSome found (λ p. IsHeld p × (status_of answer ≡ 4)) → (status_of answer ≢ 6 → status_of answer ≢ 8 → Reports agrees s t left rest options from answer (ComesWith (is_some options.save) from found)) → SavesOne file old new left rest options from

@@ -9,7 +9,7 @@ use Rattle.cstar_words.specs.declared.options.Mode.{Mode}
 use Rattle.cstar_words.specs.declared.options.Mode.TheVariants as M
 use Rattle.cstar_words.specs.declared.options.Options.{Options}
 use Rattle.paris_machine.specs.declared.outcome.End.TheVariants as E
-use Rattle.point_laws.specs.Joined.{GoesOn}
+use Rattle.point_laws.specs.Joined.{GoesOn, Keeps}
 use Rattle.point_runs.specs.Courses.{Course, Feeds, IsCourse}
 use Rattle.point_runs.specs.Points.{point_at}
 use Rattle.point_runs.specs.Starts.{Origin}
@@ -32,6 +32,12 @@ abbrev pub HoldsPoint : {S : Type 0} → (S → Bool) → (S → List ℕ → Op
 HoldsPoint tells file old new options status from course =
     status ≡ 4 → (name : List ℕ) → save_name options ≡ Some name
     → IsHeld (point_at from course) × (IsTrue (tells old) → file new name ≡ Some (bytes_of (point_at from course)))
+
+-- so the shelf holds bytes that keep the run, whatever text resumes it
+abbrev pub HoldsRun : {S : Type 0} → (S → Bool) → (S → List ℕ → Option (List ℕ)) → S → S → Options → ℕ → Origin → Course → Type 0
+HoldsRun tells file old new options status from course =
+    status ≡ 4 → (name : List ℕ) → save_name options ≡ Some name
+    → (bytes : List ℕ) × Keeps bytes from options.turns course × (IsTrue (tells old) → file new name ≡ Some bytes)
 
 -- in mode resume the run goes on from the one that the text keeps
 abbrev pub TakesUp : Mode → List ℕ → ℕ → Course → Type 0

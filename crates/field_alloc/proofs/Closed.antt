@@ -1,4 +1,5 @@
 -- Spans that take in the stretches that they meet.
+use Rattle.field_alloc.specs.Sweep.{HeldBy}
 use Rattle.std.proofs.Common.{◌≡◌, ℕ, ◌+◌, ◌<◌, ◌≤◌, List, Bool, Option, Some, None, length, ⊎_elim, ap, sym, ◌∙◌, subst, arith}
 use Rattle.std.proofs.lemmas.Bool.{cases_lt}
 use Rattle.std.proofs.lemmas.Option.{same_Some}
@@ -10,7 +11,7 @@ use Rattle.paris_code.specs.Spans.{Span as Stretch}
 use Rattle.field_alloc.specs.declared.spans.Span.{Span}
 use Rattle.field_alloc.specs.Lasting.{HasSpan, HaveStretches, LastsBy, LastsThrough}
 use Rattle.field_alloc.specs.Lent.{HasFlag}
-use Rattle.field_alloc.specs.Named.{HeldBy}
+use Rattle.field_alloc.specs.Made.{BeginsAt, IsFirstWritten, IsMade, IsOnlyWritten}
 use Rattle.field_alloc.proofs.Sweeps.{below_or_at}
 
 -- where the span of an entry holds what names it, each closed span round it holds what the entry lasts through
@@ -25,6 +26,25 @@ lasts_by unit entry at loops (Some span) held have l = λ wide low high closed.
           let h = have stretch is in
           closed h.0 (record { first = stretch.first; last = stretch.last }) h.1 meet.0 meet.1;
     })
+
+-- an entry that is first written where a closed span begins with its own is made there
+pub made_at : (unit : CodeUnit) (entry at : ℕ) (loops : List Span) (o : Option Span) → ((place : ℕ) → IsNamedAt unit entry place → HeldBy o place) → HaveStretches unit loops → IsFirstWritten unit o entry → BeginsAt loops o at → IsMade unit entry at
+made_at unit entry at loops None held have first begins = absurd first
+made_at unit entry at loops (Some span) held have first begins =
+    let wide = begins.1.0 in
+    record {
+      written = subst (λ n. IsOnlyWritten unit entry n) begins.0 first;
+      span = record { first = wide.first; last = wide.last };
+      in_use = record {
+        named = λ place is. let h = held place is in (omega (arith, h.0, begins.0, begins.1.1), omega (arith, h.1, begins.1.3));
+        called = tt;
+        stretches = λ stretch is meet.
+            let h = have stretch is in
+            begins.1.4 h.0 (record { first = stretch.first; last = stretch.last }) h.1 meet.0 meet.1;
+      };
+      begins = begins.1.1;
+      goes_on = begins.1.2;
+    }
 
 -- one more instruction, from the end
 pub stretches_more : (unit : CodeUnit) (instr : Instr) (here left : ℕ) (before after : List Span) → StandsAt unit here instr → left ≤ here + 1 → ((stretch : Stretch) → IsStretch unit stretch → left ≤ stretch.last → HasSpan before stretch.first stretch.last) → ((first last : ℕ) → HasSpan before first last → HasSpan after first last) → ((place : ℕ) → JumpsTo instr place → place ≤ here → HasSpan after place here) → (stretch : Stretch) → IsStretch unit stretch → here ≤ stretch.last → HasSpan after stretch.first stretch.last

@@ -1,5 +1,6 @@
 -- Own entries of a unit that are in use at one instruction are apart.
-use Rattle.std.proofs.Common.{◌≡◌, ◌≢◌, ◌⊎◌, ℕ, ◌+◌, ◌<◌, ◌≤◌, List, [], ◌∷◌, ◌++◌, Bool, Option, Some, None, Vec, Global, length, map, inl, inr, ⊎_elim, refl, sym, ap, ◌∙◌, subst, arith}
+use Rattle.std.proofs.Common.{◌≡◌, ◌≢◌, ℕ, ◌+◌, ◌<◌, ◌≤◌, List, [], ◌∷◌, ◌++◌, Bool, true, false, true≢false, Option, Some, None, Vec, Global, length, map, inl, inr, ⊎_elim, refl, sym, ap, ◌∙◌, subst, arith, length-append}
+use Rattle.std.proofs.Math.ListN.{get_or-eq_default}
 use Rattle.std.proofs.lemmas.Bool.{cases_lt}
 use Rattle.std.proofs.lemmas.List.{get_or_append_left, get_or_push, length-map, map-append}
 use Rattle.std.proofs.lemmas.Option.{same_Some, slice_get_within}
@@ -11,12 +12,13 @@ use Rattle.paris_code.specs.declared.program.Unit.{Unit as CodeUnit}
 use Rattle.paris_code.specs.declared.program.Virtual.{Virtual}
 use Rattle.paris_code.specs.Spans.{IsNamedAt, StandsAt, fields_of}
 use Rattle.field_alloc.specs.declared.spans.Span.{Span}
-use Rattle.field_alloc.specs.Lasting.{HaveStretches, LastsBy, LastsThrough}
+use Rattle.field_alloc.specs.Lasting.{HaveStretches}
 use Rattle.field_alloc.specs.Lent.{AreLentFlags, HasFlag, IsLentBy}
-use Rattle.field_alloc.specs.Named.{AreLifted, AreUnitApart, IsBased, IsUnitAbove, IsUnitUnder, HeldAt, HeldBy, IsInUseAt, IsUsedAt}
+use Rattle.field_alloc.specs.Made.{BeginsAt, IsFirstWritten, IsHeldThrough, IsUse}
+use Rattle.field_alloc.specs.Named.{AreLifted, AreUnitApart, IsBased, IsUnitAbove, IsUnitUnder, HeldAt, IsInUseAt, IsUsedAt}
 use Rattle.field_alloc.specs.Places.{items_of}
-use Rattle.field_alloc.specs.Sweep.{AreBelow, AreStacked, Holds, IsInSet, KeepsOthers}
-use Rattle.field_alloc.proofs.Closed.{lasts_by}
+use Rattle.field_alloc.specs.Sweep.{HeldBy, AreBelow, AreStacked, Holds, IsInSet, KeepsOthers}
+use Rattle.field_alloc.proofs.Closed.{lasts_by, made_at}
 use Rattle.field_alloc.proofs.Sweeps.{below_or_at}
 
 pub held_span : (o : Option Span) (at : ℕ) → HeldBy o at → (a : Span) × (o ≡ Some a) × Holds a at
@@ -53,7 +55,7 @@ flagged_use : (units : List CodeUnit) (flags : List (List Bool)) (number : ℕ) 
 flagged_use units flags number unit are is entry at within h =
     ⊎_elim
     (λ (l : IsLentBy units number entry). inl (are.lent number entry unit is within l))
-    (λ (b : LastsThrough unit entry at). inr b)
+    (λ (b : IsHeldThrough unit entry at). inr b)
     h
 
 pub flagged_apart : (units : List CodeUnit) (flags : List (List Bool)) (number : ℕ) (unit : CodeUnit) (sets : ℕ) (starts : List ℕ) → AreLentFlags units flags → slice_get units number ≡ Some unit → AreUnitApart unit (IsInUseAt unit (slice_index_or flags number [])) sets starts → AreUnitApart unit (IsUsedAt units number unit) sets starts
@@ -119,23 +121,46 @@ named_here unit instr at fields spans stands are names entry in_fields h =
     any.4 in_fields
 
 -- one more span
-pub held_more : (named spans : List (Option Span)) (lent : List Bool) (loops : List Span) (whole : Span) (i : ℕ) (span : Option Span) → length spans ≡ i → ((at : ℕ) → Holds whole at → HasFlag lent i ⊎ LastsBy loops (slice_index_or named i None) at → HeldBy span at) → ((entry at : ℕ) → entry < i → Holds whole at → HasFlag lent entry ⊎ LastsBy loops (slice_index_or named entry None) at → HeldAt spans entry at) → (entry at : ℕ) → entry < i + 1 → Holds whole at → HasFlag lent entry ⊎ LastsBy loops (slice_index_or named entry None) at → HeldAt (spans ++ span ∷ []) entry at
-held_more named spans lent loops whole i span long here old entry at lt in_whole used =
+pub uses_more : (P : ℕ → Option Span → Type 0) (spans : List (Option Span)) (i : ℕ) (span : Option Span) → length spans ≡ i → P i span → ((entry : ℕ) → entry < i → P entry (slice_index_or spans entry None)) → (entry : ℕ) → entry < i + 1 → P entry (slice_index_or (spans ++ span ∷ []) entry None)
+uses_more P spans i span long here old entry lt =
     ⊎_elim
-    (λ (x : entry < i). subst (λ (o : Option Span). HeldBy o at) (sym (get_or_append_left spans (span ∷ []) None entry (omega arith))) (old entry at x in_whole used))
-    (λ (x : entry ≡ i).
-    subst (λ (o : Option Span). HeldBy o at) (sym (get_or_push spans span None entry (long ∙ sym x)))
-    (here at in_whole (subst (λ k. HasFlag lent k ⊎ LastsBy loops (slice_index_or named k None) at) x used)))
+    (λ (x : entry < i). subst (λ (o : Option Span). P entry o) (sym (get_or_append_left spans (span ∷ []) None entry (omega arith))) (old entry x))
+    (λ (x : entry ≡ i). subst (λ (o : Option Span). P entry o) (sym (get_or_push spans span None entry (long ∙ sym x))) (subst (λ k. P k span) (sym x) here))
     (below_or_at entry i lt)
 
+-- one more flag
+pub flags_more : (P : ℕ → Type 0) (flags : List Bool) (i : ℕ) (flag : Bool) → length flags ≡ i → (flag ≡ true → P i) → ((entry : ℕ) → HasFlag flags entry → P entry) → (entry : ℕ) → HasFlag (flags ++ flag ∷ []) entry → P entry
+flags_more P flags i flag long here old entry is =
+    ⊎_elim
+    (λ (x : entry < i). old entry (sym (get_or_append_left flags (flag ∷ []) false entry (omega arith)) ∙ is))
+    (λ (y : i ≤ entry).
+    ⊎_elim
+    (λ (x : i < entry).
+    let none : slice_index_or (flags ++ flag ∷ []) entry false ≡ false = get_or-eq_default (flags ++ flag ∷ []) false (omega (arith, length-append flags (flag ∷ []))) in
+    absurd (true≢false (sym is ∙ none)))
+    (λ (x : entry ≤ i).
+    let same : entry ≡ i = omega arith in
+    subst P (sym same) (here (sym (get_or_push flags flag false entry (long ∙ sym same)) ∙ is)))
+    (cases_lt i entry))
+    (cases_lt entry i)
+
 -- the spans hold the instructions at which the entries are in use
-pub held_in_use : (unit : CodeUnit) (lent : List Bool) (named spans : List (Option Span)) (loops : List Span) (whole : Span) → ((entry at : ℕ) → entry < length named → Holds whole at → HasFlag lent entry ⊎ LastsBy loops (slice_index_or named entry None) at → HeldAt spans entry at) → length named ≡ length unit.fields.items → ((entry at : ℕ) → entry < length unit.fields.items → IsNamedAt unit entry at → HeldAt named entry at) → HaveStretches unit loops → ((at : ℕ) → at < length unit.code.items → Holds whole at) → (entry at : ℕ) → entry < length unit.fields.items → at < length unit.code.items → IsInUseAt unit lent entry at → HeldAt spans entry at
-held_in_use unit lent named spans loops whole held long names have in_whole entry at in_fields in_code used =
-    held entry at (omega arith) (in_whole at in_code)
-    (⊎_elim
-    (λ (e : HasFlag lent entry). inl e)
-    (λ (l : LastsThrough unit entry at). inr (lasts_by unit entry at loops (slice_index_or named entry None) (λ place is. names entry place in_fields is) have l))
-    used)
+pub held_in_use : (unit : CodeUnit) (lent made : List Bool) (named spans : List (Option Span)) (loops : List Span) (whole : Span)
+    → ((entry : ℕ) → entry < length named → IsUse lent made whole loops (slice_index_or named entry None) entry (slice_index_or spans entry None))
+    → ((entry : ℕ) → HasFlag made entry → IsFirstWritten unit (slice_index_or named entry None) entry)
+    → length named ≡ length unit.fields.items → ((entry at : ℕ) → entry < length unit.fields.items → IsNamedAt unit entry at → HeldAt named entry at) → HaveStretches unit loops → ((at : ℕ) → at < length unit.code.items → Holds whole at)
+    → (entry at : ℕ) → entry < length unit.fields.items → at < length unit.code.items → IsInUseAt unit lent entry at → HeldAt spans entry at
+held_in_use unit lent made named spans loops whole uses first long names have in_whole entry at in_fields in_code used =
+    let is = uses entry (omega arith) in
+    let own = slice_index_or named entry None in
+    ⊎_elim
+    (λ (e : HasFlag lent entry). subst (λ (o : Option Span). HeldBy o at) (sym (is.is_lent e)) (in_whole at in_code))
+    (λ (l : IsHeldThrough unit entry at).
+    ⊎_elim
+    (λ (h : HeldBy (slice_index_or spans entry None) at). h)
+    (λ (b : HasFlag made entry × BeginsAt loops own at). absurd (l.1 (made_at unit entry at loops own (λ place n. names entry place in_fields n) have (first entry b.0) b.1)))
+    (is.held at (in_whole at in_code) (lasts_by unit entry at loops own (λ place n. names entry place in_fields n) have l.0)))
+    used
 
 pub below_kept : (fields : List Virtual) (spans : List (Option Span)) (s set number : ℕ) (before starts : List ℕ) (top : ℕ) → KeepsOthers fields set before starts → s ≢ set → AreBelow fields spans s number before top → AreBelow fields spans s number starts top
 unfolding own_entry

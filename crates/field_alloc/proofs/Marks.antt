@@ -28,6 +28,27 @@ marks_none Named flags none = record {
   only = λ number entry h. inl h;
 }
 
+-- those that are named first, and then others
+pub marks_then : (First Then Both : ℕ → ℕ → Type 0) (before between after : List (List Bool)) → AreMarked First before between → AreMarked Then between after → ((number entry : ℕ) → Both number entry → First number entry ⊎ Then number entry) → ((number entry : ℕ) → First number entry ⊎ Then number entry → Both number entry) → AreMarked Both before after
+marks_then First Then Both before between after h k split join = record {
+  long = λ number. k.long number ∙ h.long number;
+  kept = λ number entry f. k.kept number entry (h.kept number entry f);
+  marked = λ number entry named lt.
+      ⊎_elim
+      (λ (p : First number entry). k.kept number entry (h.marked number entry p (omega (arith, k.long number))))
+      (λ (q : Then number entry). k.marked number entry q lt)
+      (split number entry named);
+  only = λ number entry f.
+      ⊎_elim
+      (λ (x : IsFlagged between number entry).
+      ⊎_elim
+      (λ (y : IsFlagged before number entry). inl y)
+      (λ (p : First number entry). inr (join number entry (inl p)))
+      (h.only number entry x))
+      (λ (q : Then number entry). inr (join number entry (inr q)))
+      (k.only number entry f);
+}
+
 -- the flag of one entry
 pub marked_one : (flags : List (List Bool)) (unit index : ℕ) → unit < length flags → index < length (slice_index_or flags unit []) → AreMarked (λ number entry. (number ≡ unit) × (entry ≡ index)) flags (set flags unit (set (slice_index_or flags unit []) index true))
 marked_one flags unit index in_flags in_row =

@@ -3,6 +3,7 @@ pub mod Places
 pub mod Sweep
 pub mod Lasting
 pub mod Lent
+pub mod Made
 pub mod Named
 pub mod Files
 pub mod OverBits

@@ -7,26 +7,21 @@ use Rattle.paris_code.specs.declared.program.Unit.{Unit as CodeUnit}
 use Rattle.paris_code.specs.declared.program.Virtual.{Virtual}
 use Rattle.paris_code.specs.Proper.{IsOwn}
 use Rattle.field_alloc.specs.declared.spans.Span.{Span}
-use Rattle.field_alloc.specs.Lasting.{LastsThrough}
 use Rattle.field_alloc.specs.Lent.{HasFlag, IsLentBy}
-use Rattle.field_alloc.specs.Sweep.{Holds}
-
--- a span, if there is one, holds an instruction
-abbrev pub HeldBy : Option Span → ℕ → Type 0
-HeldBy None at = ⊥
-HeldBy (Some span) at = Holds span at
+use Rattle.field_alloc.specs.Made.{IsHeldThrough}
+use Rattle.field_alloc.specs.Sweep.{HeldBy}
 
 -- the span of an entry does
 abbrev pub HeldAt : List (Option Span) → ℕ → ℕ → Type 0
 HeldAt spans entry at = HeldBy (slice_index_or spans entry None) at
 
--- the flag of the entry is set, and so it is in use throughout, or it lasts through the instruction
+-- the flag of the entry is set, and so it is in use throughout, or it is held through the instruction
 abbrev pub IsInUseAt : CodeUnit → List Bool → ℕ → ℕ → Type 0
-IsInUseAt unit lent entry at = HasFlag lent entry ⊎ LastsThrough unit entry at
+IsInUseAt unit lent entry at = HasFlag lent entry ⊎ IsHeldThrough unit entry at
 
 -- the same of an entry that one of these units lends
 abbrev pub IsUsedAt : List CodeUnit → ℕ → CodeUnit → ℕ → ℕ → Type 0
-IsUsedAt units number unit entry at = IsLentBy units number entry ⊎ LastsThrough unit entry at
+IsUsedAt units number unit entry at = IsLentBy units number entry ⊎ IsHeldThrough unit entry at
 
 -- two runs of bits have none in common
 abbrev pub AreApart : ℕ → ℕ → ℕ → ℕ → Type 0

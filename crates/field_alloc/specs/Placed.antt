@@ -1,6 +1,6 @@
 -- What placing makes of a program: each field stands at the bits of its entry, and all else is as it
 -- was. `places` are the bits at which the entries of a unit begin, in the order of the entries.
-use Rattle.std.specs.Prelude.{◌≡◌, ◌≢◌, ◌⊎◌, ℕ, ◌+◌, ◌<◌, ◌≤◌, List, [], ◌∷◌, length, map, Option, Some, None}
+use Rattle.std.specs.Prelude.{◌≡◌, ◌≢◌, ◌⊎◌, ℕ, ◌+◌, ◌<◌, ◌≤◌, List, [], ◌∷◌, length, Some}
 use Rattle.std.specs.List.{AllZip, slice_get, slice_index, slice_index_or}
 use Rattle.paris_code.specs.declared.instr.Instr.TheVariants as I
 use Rattle.paris_code.specs.declared.program.Final.{Final}
@@ -12,7 +12,7 @@ use Rattle.paris_code.specs.Moving.{IsMoved}
 use Rattle.paris_code.specs.Proper.{EndsWith, IsCallChain, IsUnit, IsEntry, IsLent, IsOwn}
 use Rattle.paris_code.specs.Spans.{StandsAt}
 use Rattle.field_alloc.specs.Files.{AreFilesStacked}
-use Rattle.field_alloc.specs.Lasting.{LastsThrough}
+use Rattle.field_alloc.specs.Made.{IsHeldThrough}
 use Rattle.field_alloc.specs.Named.{AreApart}
 
 -- a unit, and the same over bits
@@ -39,9 +39,10 @@ abbrev pub begins : List (List ℕ) → ℕ → ℕ → ℕ
 begins places number entry = slice_index (slice_index_or places number []) entry
 
 -- an entry is lent, and so in use throughout its unit, or each span in which it is in use holds the
--- instruction: those between two that name it do, and with a loop that it does not lie within the whole loop
+-- instruction, which does not make it: those between two that name it do, and with a loop that it does
+-- not lie within the whole loop
 abbrev pub IsUsed : Program → ℕ → CodeUnit → ℕ → ℕ → Type 0
-IsUsed program number unit entry at = IsLent program number entry ⊎ LastsThrough unit entry at
+IsUsed program number unit entry at = IsLent program number entry ⊎ IsHeldThrough unit entry at
 
 -- what a list of each unit's numbers has for a set
 abbrev pub of_set : List (List ℕ) → ℕ → ℕ → ℕ

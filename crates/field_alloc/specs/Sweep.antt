@@ -9,6 +9,11 @@ use Rattle.field_alloc.specs.declared.spans.Span.{Span}
 abbrev pub Holds : Span → ℕ → Type 0
 Holds span at = (span.first ≤ at) × (at ≤ span.last)
 
+-- a span, if there is one, holds an instruction
+abbrev pub HeldBy : Option Span → ℕ → Type 0
+HeldBy None at = ⊥
+HeldBy (Some span) at = Holds span at
+
 -- an own entry of a set, of this length and with this span
 pub record IsInSet (fields : List Virtual) (spans : List (Option Span)) (set entry len : ℕ) (span : Span) : Type 0 where
   pub entry_is : slice_get fields entry ≡ Some (record { set = set; len = len; owner = O.Own })

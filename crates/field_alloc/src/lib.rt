@@ -6,6 +6,7 @@ mod fields;
 mod finals;
 pub mod laws;
 mod lent;
+mod made;
 mod offsets;
 mod owns;
 mod places;

@@ -1,17 +1,20 @@
 //! The span of each entry of a unit: from the first instruction that names it to the last one. A span
 //! that a loop's stretch cuts takes in the whole stretch, since what stands in the entry then has to
-//! last from one round to the next.
+//! last from one round to the next. An instruction that makes the entry, with which its span would
+//! begin, does not count: it reads all before it writes, so the entry can have the bits of an operand.
 
-ghost use Rattle.std.specs.Prelude.{◌≡◌, ◌⊎◌, ℕ, ◌<◌, ◌≤◌, false, IfOk, length, None, OnOk, Some, true};
+ghost use Rattle.std.specs.Prelude.{◌≡◌, ◌⊎◌, ℕ, ◌<◌, ◌≤◌, IfOk, length, None, OnOk, Some};
 ghost use Rattle.std.specs.List.{slice_index_or};
 ghost use Rattle.paris_code.specs.Spans.{IsNamedAt};
-ghost use Rattle.field_alloc.specs.Lasting.{AreBehindEnds, HaveStretches, LastsBy};
+ghost use Rattle.field_alloc.specs.Lasting.{AreBehindEnds, HaveStretches, IsClosed, LastsBy};
 ghost use Rattle.field_alloc.specs.Lent.{HasFlag};
-ghost use Rattle.field_alloc.specs.Sweep.{Holds};
-ghost use Rattle.field_alloc.specs.Named.{HeldAt, HeldBy, IsInUseAt};
+ghost use Rattle.field_alloc.specs.Made.{BeginsAt, IsUse};
+ghost use Rattle.field_alloc.specs.Sweep.{HeldBy, Holds};
+ghost use Rattle.field_alloc.specs.Named.{HeldAt, IsInUseAt};
 
 use crate::fields::named;
 use crate::lent::flag_at;
+use crate::made::made_entries;
 use crate::stretches::{behind_ends, is_straight, lasting, note_stretch};
 use cstar_base::Memory;
 use paris_code::{Field, Unit};
@@ -42,60 +45,95 @@ pub fn spans_of(alloc: Global, unit: &Unit, lent: &[bool]) -> Result<Vec<Option<
         named.push(None)?;
     }
     let loops = name_all(alloc, unit, &mut named)?;
+    let made = made_entries(alloc, unit, named.as_slice())?;
     let behind = behind_ends(alloc, unit.code.len(), loops.as_slice())?;
-    let spans = in_use_all(
-        alloc,
-        named.as_slice(),
+    let uses = Uses {
         lent,
+        made: made.as_slice(),
         whole,
-        behind.as_slice(),
-        loops.as_slice(),
-    )?;
+        behind: behind.as_slice(),
+        loops: loops.as_slice(),
+    };
+    let spans = in_use_all(alloc, named.as_slice(), &uses)?;
     Ok(spans)
 }
 
-/// The spans with the stretches that they meet, and the whole one where the entry is lent.
+/// What tells where entries are in use: which are lent, and so in use throughout the whole unit, which
+/// are made where they are first named, the stretches of the jumps back, and where these end.
+#[derive(Clone, Copy)]
+struct Uses<'a> {
+    lent: &'a [bool],
+    made: &'a [bool],
+    whole: Span,
+    behind: &'a [usize],
+    loops: &'a [Span],
+}
+
+impl Uses<'_> {
+    /// The span in which an entry is in use, that is named in this one: with the stretches that it
+    /// meets and without the instruction that makes the entry, or the whole one.
+    fn in_use(&self, span: Option<Span>, entry: usize) -> Option<Span>
+        requires { AreBehindEnds self.now.loops.now self.now.behind.now }
+        ensures lent { HasFlag self.now.lent.now entry → result ≡ Some self.now.whole }
+        ensures held { (at : ℕ) → Holds self.now.whole at → LastsBy self.now.loops.now span at → HeldBy result at ⊎ (HasFlag self.now.made.now entry × BeginsAt self.now.loops.now span at) }
+    {
+        if flag_at(self.lent, entry) {
+            return Some(self.whole);
+        }
+        let span = span?;
+        let wide = self.lasting(span);
+        Some(if flag_at(self.made, entry) && wide.first == span.first {
+            behind_first(wide)
+        } else {
+            wide
+        })
+    }
+
+    /// The span with the stretches that it meets, unless it lies inside one.
+    fn lasting(&self, span: Span) -> Span
+        requires { AreBehindEnds self.now.loops.now self.now.behind.now }
+        ensures first { result.first ≤ span.first }
+        ensures last { span.last ≤ result.last }
+        ensures closed { IsClosed self.now.loops.now result }
+    {
+        if is_straight(span, self.behind) {
+            span
+        } else {
+            lasting(span, self.loops)
+        }
+    }
+}
+
+/// The span without its first instruction, if it has more.
+fn behind_first(span: Span) -> Span
+    ensures rest { (at : ℕ) → Holds span at → Holds result at ⊎ ((at ≡ span.first) × (at < span.last)) }
+{
+    if span.first < span.last {
+        Span {
+            first: span.first + 1,
+            last: span.last,
+        }
+    } else {
+        span
+    }
+}
+
+/// The spans in which the entries are in use that are named in these.
 fn in_use_all(
     alloc: Global,
     named: &[Option<Span>],
-    lent: &[bool],
-    whole: Span,
-    behind: &[usize],
-    loops: &[Span],
+    uses: &Uses,
 ) -> Result<Vec<Option<Span>>, Memory>
-    requires { AreBehindEnds loops.now behind.now }
+    requires { AreBehindEnds uses.now.loops.now uses.now.behind.now }
     ensures length { IfOk result (λ spans. length spans.items ≡ length named.now) }
-    ensures held { IfOk result (λ spans. (entry at : ℕ) → entry < length named.now → Holds whole at → HasFlag lent.now entry ⊎ LastsBy loops.now (slice_index_or named.now entry None) at → HeldAt spans.items entry at) }
+    ensures each { IfOk result (λ spans. (entry : ℕ) → entry < length named.now → IsUse uses.now.lent.now uses.now.made.now uses.now.whole uses.now.loops.now (slice_index_or named.now entry None) entry (slice_index_or spans.items entry None)) }
 {
     let mut spans = Vec::new(alloc);
     for span in named {
-        let is_lent = flag_at(lent, spans.len());
-        spans.push(in_use(*span, is_lent, whole, behind, loops))?;
+        let span = uses.in_use(*span, spans.len());
+        spans.push(span)?;
     }
     Ok(spans)
-}
-
-/// The span with the stretches that it meets, or the whole one.
-fn in_use(
-    span: Option<Span>,
-    is_lent: bool,
-    whole: Span,
-    behind: &[usize],
-    loops: &[Span],
-) -> Option<Span>
-    requires { AreBehindEnds loops.now behind.now }
-    ensures lent { is_lent ≡ true → result ≡ Some whole }
-    ensures held { is_lent ≡ false → (at : ℕ) → LastsBy loops.now span at → HeldBy result at }
-{
-    if is_lent {
-        return Some(whole);
-    }
-    let span = span?;
-    if is_straight(span, behind) {
-        Some(span)
-    } else {
-        Some(lasting(span, loops))
-    }
 }
 
 /// Goes through the code from its end, and answers the stretches of the jumps back.

@@ -2,8 +2,9 @@
 use Rattle.std.proofs.Common.{◌≡◌, ℕ, ◌+◌, ◌-◌, ◌*◌, ◌%◌, ◌<◌, Bool, true, false, if◌then◌else◌, List, [], ◌∷◌, ◌++◌, length, take, slice_index, Option, Some, None, refl, sym, ◌∙◌, ap, subst, arith}
 use Rattle.std.specs.Prelude.{◌==◌, ◌||◌, not, map, slice_set}
 use Rattle.std.proofs.lemmas.List.{length_push}
-use Rattle.std.proofs.Math.Nat.{mod-eq_of_lt}
+use Rattle.std.proofs.Math.Nat.{mod-add-mod, mod-eq_of_lt}
 use Rattle.std.proofs.Math.Seq.{get_or-append_seam, take-append_seam}
+use Rattle.std.proofs.lemmas.Nat.{mul-mod_first}
 use Rattle.cstar_base.specs.declared.operators.Place.{Place}
 use Rattle.cstar_base.specs.declared.faults.RunFault.{RunFault}
 use Rattle.cstar_base.specs.Faults.{run_number_of}
@@ -134,6 +135,17 @@ last_of xs ys x e =
       ap (λ n. slice_index xs n) count ∙ ap (λ (l : List ℕ). slice_index l (length ys)) e ∙ get_or-append_seam ys x [] 0,
       ap (λ n. take n xs) count ∙ ap (λ (l : List ℕ). take (length ys) l) e ∙ take-append_seam ys (x ∷ []),
     )
+
+-- the number behind the earlier axes, taken modulo m at each of them
+pub address_step : (number extent x positions rest m : ℕ) → (((number * extent % m + x) % m) * positions + rest) % m ≡ (number * (extent * positions) + (x * positions + rest)) % m
+address_step number extent x positions rest m =
+    let first : ((number * extent % m + x) % m) ≡ (number * extent + x) % m = mod-add-mod (number * extent) m x in
+    let whole : (number * extent + x) * positions + rest ≡ number * (extent * positions) + (x * positions + rest) = grind arith in
+    ap (λ n. (n * positions + rest) % m) first
+    ∙ sym (mod-add-mod (((number * extent + x) % m) * positions) m rest)
+    ∙ ap (λ n. (n + rest) % m) (mul-mod_first (number * extent + x) positions m)
+    ∙ mod-add-mod ((number * extent + x) * positions) m rest
+    ∙ ap (λ n. n % m) whole
 
 -- the first axis and the later ones
 pub outside_first : (extents es : List ℕ) (e : ℕ) (list cs : List RegisterCoordinate) (c : RegisterCoordinate) (registers : List ℕ) → extents ≡ e ∷ es → list ≡ c ∷ cs

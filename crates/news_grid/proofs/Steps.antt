@@ -149,6 +149,54 @@ lane_taken extents axis by step held k blocks len i crossing staying round leads
           ∙ ap (number_held held len) (sym (there ∙ p))
     ]
 
+-- how far into its turn a lane is, by how far the first one is
+within_turn : (from i turn : ℕ) → 0 < turn → i < turn → (from + i) % turn ≡ cond (ltb (from % turn + i) turn) (from % turn + i) (from % turn + i - turn)
+within_turn from i turn p b =
+    ap (λ n. n % turn) (let q : from + i ≡ i + from = omega arith in q) ∙ sym (add-mod-mod i from turn) ∙ ap (λ n. n % turn) (let q : i + from % turn ≡ from % turn + i = omega arith in q)
+    ∙ round_once turn (from % turn) i (mod-lt from p) b
+
+-- the lanes below one count and not below another
+bits_between : (a b i x : ℕ) → x ≡ min (cond (ltb i a) 1 0) (1 - cond (ltb i b) 1 0) → (i < a → b ≤ i → x ≡ 1) × ((a ≤ i → x ≡ 0) × (i < b → x ≡ 0))
+bits_between a b i x e = (
+  λ l g. e ∙ ap (λ t. min t (1 - cond (ltb i b) 1 0)) (sym (less i a 1 0 l)) ∙ ap (λ t. min 1 (1 - t)) (sym (not_less i b 1 0 g)),
+  (
+    λ g. e ∙ ap (λ t. min t (1 - cond (ltb i b) 1 0)) (sym (not_less i a 1 0 g)) ∙ (let q : min 0 (1 - cond (ltb i b) 1 0) ≡ 0 = omega arith in q),
+    λ l. e ∙ ap (λ t. min (cond (ltb i a) 1 0) (1 - t)) (sym (less i b 1 0 l)) ∙ (let q : min (cond (ltb i a) 1 0) (1 - 1) ≡ 0 = omega arith in q),
+  ),
+)
+
+-- the crossing lanes of the first turn that is seen, and 0 behind it
+pub first_turn : (from turn ahead i x y z : ℕ) → ahead < turn → let past : ℕ = from % turn in let last : ℕ = turn - ahead in
+    x ≡ min (cond (ltb i (turn - past)) 1 0) (1 - cond (ltb i (last - past)) 1 0) → y ≡ min (cond (ltb i turn) 1 0) (1 - cond (ltb i (turn - past + last)) 1 0) → z ≡ max x y
+    → (i < turn → z ≡ cond (ltb ((from + i) % turn + ahead) turn) 0 1) × (turn ≤ i → z ≡ 0)
+first_turn from turn ahead i x y z short is_x is_y is_z =
+    let past : ℕ = from % turn in
+    let last : ℕ = turn - ahead in
+    let p : past < turn = mod-lt from (omega (arith, short)) in
+    let this = bits_between (turn - past) (last - past) i x is_x in
+    let next = bits_between turn (turn - past + last) i y is_y in
+    let seen : ℕ = (from + i) % turn in (
+      λ b.
+          let where_is : seen ≡ cond (ltb (past + i) turn) (past + i) (past + i - turn) = within_turn from i turn (omega (arith, short)) b in
+          elim (cases_lt (past + i) turn) [
+            | inl l ↦
+                let at : seen ≡ past + i = where_is ∙ sym (less (past + i) turn (past + i) (past + i - turn) l) in
+                let second : y ≡ 0 = next.1.1 (omega (arith, l, short)) in
+                elim (cases_lt (seen + ahead) turn) [
+                  | inl s ↦ is_z ∙ (let q : max x y ≡ 0 = omega (arith, second, this.1.1 (omega (arith, s, at))) in q) ∙ less (seen + ahead) turn 0 1 s
+                  | inr c ↦ is_z ∙ (let q : max x y ≡ 1 = omega (arith, second, this.0 (omega (arith, l)) (omega (arith, c, at))) in q) ∙ not_less (seen + ahead) turn 0 1 c
+                ]
+            | inr g ↦
+                let at : seen ≡ past + i - turn = where_is ∙ sym (not_less (past + i) turn (past + i) (past + i - turn) g) in
+                let first : x ≡ 0 = this.1.0 (omega (arith, g, p)) in
+                elim (cases_lt (seen + ahead) turn) [
+                  | inl s ↦ is_z ∙ (let q : max x y ≡ 0 = omega (arith, first, next.1.1 (omega (arith, s, at, g, p, short))) in q) ∙ less (seen + ahead) turn 0 1 s
+                  | inr c ↦ is_z ∙ (let q : max x y ≡ 1 = omega (arith, first, next.0 b (omega (arith, c, at, g, p, short))) in q) ∙ not_less (seen + ahead) turn 0 1 c
+                ]
+          ],
+      λ g. is_z ∙ (let q : max x y ≡ 0 = omega (arith, this.1.0 (omega (arith, g)), next.1.0 g) in q),
+    )
+
 -- lanes that are both below a count and not below another
 pub lanes_between : (a b i : ℕ) (below early late both : List ℕ) → bit below i ≡ cond (ltb i a) 1 0 → bit early i ≡ cond (ltb i b) 1 0 → bit late i ≡ 1 - bit early i → bit both i ≡ min (bit below i) (bit late i)
     → bit both i ≡ min (cond (ltb i a) 1 0) (1 - cond (ltb i b) 1 0)

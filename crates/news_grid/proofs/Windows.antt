@@ -99,6 +99,13 @@ seen_bit held window len i j jb =
           ∙ not_less n 512 (bit (plane_at held (low + j)) n) (bit (plane_at held (high + j)) (n - 512)) g
     ]
 
+-- the planes of a field of one of the blocks lie in those that are held
+pub block_held : (k blocks len count : ℕ) → k < blocks → len ≤ 32 → 32 * blocks ≤ count → k * len + len ≤ count
+block_held k blocks len count kb few much =
+    let most : (k + 1) * len ≤ (k + 1) * 32 = mul-le-mul_left (k + 1) few in
+    let all : (k + 1) * len ≡ k * len + len = grind arith in
+    omega (arith, most, all, kb, much)
+
 pub window_held : (held : List Plane) (window : Window) (lane blocks len : ℕ) → Views window lane blocks → 0 < blocks → len ≤ 32 → 32 * blocks ≤ length held → HasHeld window len held
 window_held held window lane blocks len views some few much = (
   block_held window.first blocks len (length held) (subst (λ k. k < blocks) (sym views.first) (mod-lt (lane / 512) some)) few much,

@@ -21,7 +21,7 @@ use Rattle.paris_code.specs.Operands.{result_of}
 use Rattle.paris_code.specs.Scalar.{computed, any_register_outside}
 use Rattle.paris_code.specs.Shapes.{SetShape, shapes_of, extents_at}
 use Rattle.paris_code.specs.RuleBackEdge.{IsBehindTurn, IsNoTarget, GoesBackToTurn}
-use Rattle.paris_code.specs.RuleTarget.{GoesOn, AreStarts}
+use Rattle.paris_code.specs.RuleTarget.{GoesOn, AreStarts, KeepsTarget}
 use Rattle.paris_code.specs.Sound.{IsSound, KeepsRules}
 use Rattle.paris_code.specs.Units.{unit_of, started, starts_of, start_at, IsAt, IsInUnitOf, Path}
 use Rattle.front_end.specs.Fit.{IsBehindCall, IsChain, IsPlace}
@@ -572,3 +572,29 @@ some_left image at returns turns b =
 pub left_most : (image : Image) (at : ℕ) (returns : List ℕ) (turns : ℕ) → at < length image.code.items → most_left image at returns turns ≤ (turns + 1) * length image.code.items
 left_most image at returns turns b =
     omega (arith, left_by image at returns turns, most_any (slice_get image.code.items at) turns (length image.code.items) (count_below (Ahead image at returns) (length image.code.items)) (omega arith) (count_all (Ahead image at returns) (length image.code.items)))
+
+parallel_steady : (instr : Instr) → is_parallel instr ≡ true → is_steady instr ≡ true
+parallel_steady (I.FrontJump target) h = cc
+parallel_steady (I.FrontJumpZero x target) h = cc
+parallel_steady (I.FrontJumpNonzero x target) h = cc
+parallel_steady I.FrontTurn h = cc
+parallel_steady (I.FrontCall unit) h = cc
+parallel_steady I.FrontReturn h = cc
+parallel_steady _ h = refl
+
+parallel_goes : (image : Image) (place : ℕ) (instr : Instr) → is_parallel instr ≡ true → KeepsTarget image place instr → GoesOn image place
+parallel_goes image place (I.FrontJump target) h k = cc
+parallel_goes image place (I.FrontJumpZero x target) h k = cc
+parallel_goes image place (I.FrontJumpNonzero x target) h k = cc
+parallel_goes image place (I.FrontCall unit) h k = cc
+parallel_goes image place I.FrontReturn h k = cc
+parallel_goes image place I.FrontHalt h k = cc
+parallel_goes image place _ h k = k
+
+pub falls_parallel : (image : Image) (sound : IsSound image) (at : ℕ) (returns : List ℕ) (turns : ℕ) (instr : Instr) → IsPlace image at returns → IsAt image at instr → is_parallel instr ≡ true
+    → most_left image (at + 1) returns turns + 1 ≤ most_left image at returns turns
+falls_parallel image sound at returns turns instr place here parallel =
+    let plain = steady_plain instr (parallel_steady instr parallel) in
+    let off : is_turn (slice_get image.code.items at) ≡ false = ap is_turn here ∙ plain.0 in
+    let keeps : KeepsRules image at instr = sound.each at instr here in
+    falls_forward image sound at (at + 1) returns turns place (parallel_goes image at instr parallel keeps.target) (omega arith) off (ap is_call here ∙ plain.1) (next_free image sound at off)

@@ -11,7 +11,8 @@ use Rattle.paris_code.specs.declared.program.Image.{Image}
 use Rattle.paris_code.specs.declared.program.Reply.{Reply}
 use Rattle.paris_code.specs.declared.program.Reply.TheVariants as R
 use Rattle.paris_code.specs.Code.{CodeState, Rest, End, Next, Goes, Ends, CodeEnd, Fault, code, step, replied, fault_at, opening}
-use Rattle.paris_code.specs.Meaning.{Means, after}
+use Rattle.paris_code.specs.Kinds.{is_parallel}
+use Rattle.paris_code.specs.Meaning.{Means, after, reply_of}
 use Rattle.paris_code.specs.Memory.{BitMemory, SameBits}
 use Rattle.paris_code.specs.Shapes.{SetShape, shapes_of}
 use Rattle.paris_code.specs.Sound.{IsSound}
@@ -27,7 +28,7 @@ use Rattle.paris_machine.specs.declared.outcome.End.TheVariants as E
 use Rattle.paris_machine.specs.Bound.{most_left}
 use Rattle.paris_machine.specs.Ends.{IsNumbered, input_broke_in, output_broke_in}
 use Rattle.paris_machine.specs.Runs.{SameState, SameNext, ComesTo, before, IsLeft, Puts, StaysOver, Advances, AdvancesBy, Runs, RepliesTo, IsPutEnd, Reads, Stays, kept_state}
-use Rattle.paris_machine.proofs.Bound.{falls, some_left}
+use Rattle.paris_machine.proofs.Bound.{falls, falls_parallel, some_left}
 
 -- so many instructions of the code lead from one state to another, each but for bits that no set has
 abbrev pub Reaches : Image → CodeState → ℕ → CodeState → Type 0
@@ -85,6 +86,25 @@ stopped_advances image old new m ended asks = quiet image old m (Some E.Stopped)
 
 pub halted_advances : (image : Image) (old new : State) (m : BitMemory) (ended : Bool) → AsksFor image old A.Halted new → Advances image old m (Some E.Done) new m ended [] []
 halted_advances image old new m ended asks = quiet image old m (Some E.Done) new m ended (λ later output. exact_ends (shapes_of image) _ _ _ (asks.1 m later output))
+
+-- what a parallel instruction that was asked for comes to
+abbrev pub IsApplied : Image → State → Instr → State → Type 0
+IsApplied image old instr new =
+    IsAt image old.at instr × Begins image old (λ m i o. replied instr (joined new (after (shapes_of image) instr new.args m) i o) (reply_of (shapes_of image) instr new.args m))
+
+pub applied_advances : (image : Image) (old between new : State) (instr : Instr) (m n : BitMemory) (result : Option RunEnd) (ended : Bool) → IsApplied image old instr between → RepliesTo image instr between m result new n → Advances image old m result new n ended [] []
+applied_advances image old between new instr m n None ended is replies = quiet image old m None new n ended (λ later output.
+    subst (λ (next : Next). SameNext (shapes_of image) next (Goes (joined new n later output))) (sym (is.1 m later output)) (replies later output))
+applied_advances image old between new instr m n (Some (E.Fault kind place position)) ended is replies = quiet image old m (Some (E.Fault kind place position)) new n ended (λ later output. (
+  replies.0,
+  replies.1,
+  subst (λ (next : Next). SameNext (shapes_of image) next (Ends (Fault replies.0 place position) (joined new n later output))) (sym (is.1 m later output)) (replies.2 later output),
+))
+applied_advances image old between new instr m n (Some E.Memory) ended is replies = quiet image old m (Some E.Memory) new n ended (λ later output. ((instr, is.0, replies), refl))
+applied_advances image old between new instr m n (Some E.Done) ended is replies = absurd replies
+applied_advances image old between new instr m n (Some E.Stopped) ended is replies = absurd replies
+applied_advances image old between new instr m n (Some E.InputBroken) ended is replies = absurd replies
+applied_advances image old between new instr m n (Some E.OutputBroken) ended is replies = absurd replies
 
 pub puts_none : (result : Option RunEnd) {S : Type 0} (agrees : S → List ℕ → Type 0) (s : S) → output_broke_in result ≡ false → Puts result agrees s s []
 puts_none None agrees s h = takes_none agrees s
@@ -216,6 +236,14 @@ pub read_falls : (image : Image) (sound : IsSound image) (old between new : Stat
 unfolding nothing_left
 read_falls image sound old between new m place asks stays =
     omega (arith, stays_left image between new stays, falls image sound (joined old m nothing_left []) (joined (answered between (2 ^ 32 - 1)) m nothing_left []) place (asks.1 m nothing_left []))
+
+pub applied_falls : (image : Image) (sound : IsSound image) (old between new : State) (instr : Instr) → IsPlace image old.at old.returns → IsAt image old.at instr → is_parallel instr ≡ true
+    → (between.at ≡ old.at + 1) → (between.returns ≡ old.returns) → (between.turns ≡ old.turns) → Stays between new → most_left image new.at new.returns new.turns + 1 ≤ most_left image old.at old.returns old.turns
+applied_falls image sound old between new instr place here parallel at returns turns stays =
+    let fell = falls_parallel image sound old.at old.returns old.turns instr place here parallel in
+    let same : most_left image between.at between.returns between.turns ≡ most_left image (old.at + 1) old.returns old.turns =
+    ap (λ at. most_left image at between.returns between.turns) at ∙ ap (λ (returns : List ℕ). most_left image (old.at + 1) returns between.turns) returns ∙ ap (λ turns. most_left image (old.at + 1) old.returns turns) turns in
+    omega (arith, stays_left image between new stays, fell, same)
 
 -- instructions that are done whole, and one more
 whole_falls : (image : Image) (sound : IsSound image) (old last : State) (m : BitMemory) (whole : ℕ) → RunsWhole image old whole last → most_left image last.at last.returns last.turns + whole ≤ most_left image old.at old.returns old.turns

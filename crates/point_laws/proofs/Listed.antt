@@ -1,7 +1,8 @@
 -- A run of an image is one of each image whose code means the same.
-use Rattle.std.proofs.Common.{◌≡◌, ◌∙◌, ℕ, Bool, true, List, Some, sym, subst, ap, refl}
+use Rattle.std.proofs.Common.{◌≡◌, ◌∙◌, ℕ, Bool, true, List, [], Some, sym, subst, ap, refl}
 use Rattle.checkpoint.specs.declared.point.Point.{Point}
 use Rattle.checkpoint.proofs.Same.{bytes_determine}
+use Rattle.front_end.specs.declared.kept.Kept.{Kept}
 use Rattle.listed_images.specs.Meaning.{MeansSame}
 use Rattle.listed_images.proofs.SameCode.{same_meaning}
 use Rattle.lower_base.specs.Drafts.{step as step_of}
@@ -10,10 +11,11 @@ use Rattle.paris_code.specs.declared.instr.Instr.{Instr}
 use Rattle.paris_code.specs.declared.instr.Instr.TheVariants as I
 use Rattle.paris_code.specs.declared.program.Image.{Image}
 use Rattle.paris_code.specs.Code.{CodeState, Done, Ends, Fault, Goes, InputBroken, Next, Rest, Stopped, step}
+use Rattle.paris_code.specs.Memory.{BitMemory, SameBits}
 use Rattle.paris_code.specs.Shapes.{SetShape, shapes_of}
 use Rattle.paris_machine.specs.declared.outcome.End.{End as RunEnd}
 use Rattle.paris_machine.specs.declared.outcome.End.TheVariants as E
-use Rattle.paris_machine.specs.Runs.{ComesTo, IsAtSend, Runs, SameNext, before}
+use Rattle.paris_machine.specs.Runs.{ComesTo, IsAtSend, Runs, SameNext, StaysOver, before, kept_state}
 use Rattle.phase_meaning.specs.Apply.{is_send}
 use Rattle.point_bits.specs.Strings.{restored}
 use Rattle.point_runs.specs.Courses.{Course, IsCourse}
@@ -48,6 +50,19 @@ module _ (one other : Image) (same : MeansSame one other) where
   runs_same from end steps to ended taken runs later left =
       let run = runs later left in
       (run.0, run.1, (run.2.0, sym (same.code run.0 (from (before taken later))) ∙ run.2.1, comes_same run.2.0 end (to later) run.2.2))
+
+-- a course from where one begins is one from where the other does, with the same state and the same bits
+pub course_same : (from to : Origin) (turns : ℕ) (course : Course) → MeansSame from.image to.image → from.kept ≡ to.kept → from.memory ≡ to.memory → IsCourse from turns course → IsCourse to turns course
+course_same from to turns course same kept memory ran = record {
+  begun = ran.begun;
+  same = subst (λ (m : BitMemory). SameBits (shapes_of to.image) ran.begun m) memory (subst (λ (shapes : List SetShape). SameBits shapes ran.begun from.memory) same.sets ran.same);
+  ran =
+      subst
+      (λ (state : Kept). Runs to.image (λ rest. kept_state state turns ran.begun rest []) course.end course.steps (λ rest. kept_state course.stopped course.left course.memory rest course.printed) course.stopped.ended course.taken)
+      kept
+      (runs_same from.image to.image same (λ rest. kept_state from.kept turns ran.begun rest []) course.end course.steps (λ rest. kept_state course.stopped course.left course.memory rest course.printed) course.stopped.ended course.taken ran.ran);
+  over = subst (λ (state : Kept). StaysOver state.ended (Some course.end) course.stopped.ended course.taken) kept ran.over;
+}
 
 -- a run that goes on where the bytes say goes on from the point of whatever run they keep
 pub from_kept : (bytes : List ℕ) (from : Origin) (turns : ℕ) (first : Course) (to : Origin) (more : ℕ) (second : Course) → Keeps bytes from turns first → Resumes bytes to → IsCourse to more second
