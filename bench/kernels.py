@@ -309,9 +309,9 @@ int main(int count, char **words) {
         for (size_t n = 0; n < sizes[s] * sizeof *blocks / 8; n++) all_words[n] = seed = seed * 6364136223846793005u + 1442695040888963407u;
         for (int k = 0; k < 4; k++) {
             double best[3] = {1e9, 1e9, 1e9};
-            for (int repeat = 0; repeat < 7; repeat++)
+            for (int repeat = 0; repeat < 3; repeat++)
                 for (int t = 0; t < 3; t++) {
-                    int rounds = 1 + 4096 / sizes[s];
+                    int rounds = 1 + 400000 / sizes[s];  // many, since threads move to free processors late
                     double began = now();
                     for (int r = 0; r < rounds; r++) one_round(all[k].work, blocks, sizes[s], threads[t]);
                     double took = (now() - began) / rounds;
