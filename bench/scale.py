@@ -16,14 +16,14 @@ import time
 
 EXAMPLES = pathlib.Path(__file__).resolve().parent.parent / "examples"
 TURNS = "4000000"  # a picture of 1024 by 1024 points takes more than the 1,000,000 of a run by itself
-MAP = 254  # rows and columns of the map of islands
+MAP = 638  # rows and columns of the map of islands
 
 SIZES = {
     "wave": {"ROWS": 256, "COLUMNS": 384, "STEPS": 560, "WALL": 110, "APART": 26, "SLIT": 3, "PERIOD": 26},
     "mandelbrot": {"ROWS": 600, "COLUMNS": 800, "ROUNDS": 120, "PICTURE": 1},
-    "gas": {"SIDE": 1024, "DENSE": 100, "STEPS": 400},
+    "gas": {"SIDE": 1024, "DENSE": 100, "STEPS": 640},
     "components": {"ROWS": MAP + 2, "COLUMNS": MAP + 2},
-    "shortest_paths": {"TOWNS": 256},
+    "shortest_paths": {"TOWNS": 336},
 }
 
 
