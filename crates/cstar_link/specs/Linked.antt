@@ -6,6 +6,7 @@ use Rattle.paris_code.specs.declared.program.Image.{Image}
 use Rattle.paris_code.specs.declared.program.Program.{Program}
 use Rattle.paris_code.specs.declared.instr.Instr.{Instr}
 use Rattle.paris_code.specs.declared.instr.Instr.TheVariants as I
+use Rattle.cstar_link.specs.Sets.{fields_named, fitted_from}
 
 -- an instruction of a unit that begins at `start`: its jump target counts from there
 abbrev pub moved_by : ℕ → Instr → Instr
@@ -24,11 +25,12 @@ unfoldable pub entries_from : ℕ → List Unit → List Entry
 entries_from start [] = []
 entries_from start (u ∷ us) = record { name = u.name; start = start } ∷ entries_from (start + length u.code.items) us
 
--- an image has the units of a program as one list of code, and all else is as it was
+-- an image has the units of a program as one list of code and the bits that its fields reach, and all
+-- else is as it was
 pub record IsLinked (p : Program) (image : Image) : Type 0 where
   pub code : image.code.items ≡ code_from 0 p.units.items
   pub units : image.units.items ≡ entries_from 0 p.units.items
-  pub shapes : image.shapes ≡ p.shapes
+  pub shapes : image.shapes.items ≡ fitted_from (fields_named image.code.items image.finals.items) 0 p.shapes.items
   pub slots : image.slots ≡ p.slots
   pub depth : image.depth ≡ p.depth
   pub finals : image.finals ≡ p.finals

@@ -3,6 +3,7 @@
 ghost use Rattle.std.specs.Prelude.{◌≡◌, [], ◌∷◌, ◌++◌, map, length, OnOk, IfOk};
 ghost use Rattle.cstar_link.specs.Linked.{moved_by, IsLinked};
 
+use crate::sets::fitted;
 use crate::target::moved;
 use cstar_base::Memory;
 use paris_code::{Entry, Image, Instr, Program, Unit};
@@ -25,6 +26,7 @@ pub fn link(alloc: Global, p: Program) -> Result<Image, Memory>
     for unit in units {
         join(unit, &mut entries, &mut code)?;
     }
+    let shapes = fitted(alloc, shapes, code.as_slice(), finals.as_slice())?;
     Ok(Image {
         shapes,
         slots,

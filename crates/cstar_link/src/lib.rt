@@ -3,6 +3,7 @@
 
 mod image;
 pub mod laws;
+mod sets;
 mod target;
 
 pub use image::link;
