@@ -33,7 +33,7 @@ unfolding meaning
 parallel_array here n v ty length s is = s.arrays n.word v ty length is
 
 -- the type that is written with a shape has one
-written_parallel : (here : Here) (written : TypeName) (ty : ValueType) → IsSome written.shape → written_type here written ≡ Some ty → HasShape ty
+pub written_parallel : (here : Here) (written : TypeName) (ty : ValueType) → IsSome written.shape → written_type here written ≡ Some ty → HasShape ty
 written_parallel here written ty has is = by_shape written.shape has is
   where
     value : ValueType → Option ValueType → ValueType

@@ -42,7 +42,7 @@ function_bound before number (Some word) rest known = by_word (is_among word bef
     by_word true = known
     by_word false = with_name rest word (a_function number) known (function_is_parallel number)
 
-functions_parallel : (before : List (List ℕ)) (number : ℕ) (items : List Item) → ArraysAreParallel (function_names before number items)
+pub functions_parallel : (before : List (List ℕ)) (number : ℕ) (items : List Item) → ArraysAreParallel (function_names before number items)
 unfolding function_names find
 functions_parallel before number [] = λ word v ty length is. elim (none-some _ is) [ ]
 functions_parallel before number (item ∷ items) =
@@ -78,11 +78,11 @@ function_known functions known f before =
 
 -- ---- its functions
 
-record IsFit (placed : Placed) : Type 0 where
-  arrays : ArraysAreParallel placed.known
-  casts : BlockNamesShapes placed.function.body
+pub record IsFit (placed : Placed) : Type 0 where
+  pub arrays : ArraysAreParallel placed.known
+  pub casts : BlockNamesShapes placed.function.body
 
-placed_fit : {functions : List Binding} {known : Known} {items : List Item} {infos : List ShapeInfo} {vars : List VarInfo} → TypesItems functions known items infos vars → KnowsParallel functions known → All ItemNamesShapes items → All IsFit (placed_from functions known items)
+pub placed_fit : {functions : List Binding} {known : Known} {items : List Item} {infos : List ShapeInfo} {vars : List VarInfo} → TypesItems functions known items infos vars → KnowsParallel functions known → All ItemNamesShapes items → All IsFit (placed_from functions known items)
 unfolding placed_from behind_item ItemNamesShapes
 placed_fit Y.no_item before w = All-nil IsFit
 placed_fit {functions = functions} (Y.TypesItems.shapes {known = known} {p = p} {list = list} {items = items} are more) before w =
@@ -99,7 +99,7 @@ placed_fit {functions = functions} (Y.TypesItems.function {known = known} {f = f
     by_name true rest all = all
     by_name false rest all = All-cons IsFit _ rest own all
 
-at_number : {A : Type 0} (P : A → Type 0) (xs : List A) (n : ℕ) (x : A) → All P xs → slice_get xs n ≡ Some x → P x
+pub at_number : {A : Type 0} (P : A → Type 0) (xs : List A) (n : ℕ) (x : A) → All P xs → slice_get xs n ≡ Some x → P x
 at_number P xs n x all is = subst P (get_or_from_slice_get xs n x x is) (All-get_or P xs n x (slice_get_within xs n x is) all)
 
 -- ---- its instances
@@ -112,7 +112,7 @@ parameters_sound here number (p ∷ ps) s =
     (behind_name here p.name.word (a_variable (V.Param number) (plain_type (written_type here p.type_name))) here.locals s
     (of_type (V.Param number) (plain_type (written_type here p.type_name)) (plain_is_parallel (written_type here p.type_name))))
 
-body_sound : (shapes : List (List ℕ)) (placed : Placed) (r : Reached) → ArraysAreParallel placed.known → IsSound (body_place shapes placed r)
+pub body_sound : (shapes : List (List ℕ)) (placed : Placed) (r : Reached) → ArraysAreParallel placed.known → IsSound (body_place shapes placed r)
 body_sound shapes placed r known =
     parameters_sound (header_place shapes placed r) 0 placed.function.parameters.items (record { arrays = known; dot = λ axis is. elim (none-some axis is) [ ] })
 

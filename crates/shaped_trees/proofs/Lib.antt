@@ -2,6 +2,10 @@ pub mod Bringing
 pub mod ExpressionShapes
 pub mod FileShapes
 pub mod Known
+pub mod LowerableExpressions
+pub mod LowerableFiles
+pub mod LowerableStatements
 pub mod Rows
 pub mod SpelledCasts
+pub mod Standing
 pub mod StatementShapes

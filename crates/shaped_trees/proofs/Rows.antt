@@ -1,5 +1,5 @@
 -- Lists as they stand in nodes: what is said of the row of a node is said of each thing of its list.
-use Rattle.std.proofs.Common.{◌≡◌, Vec, sym, subst}
+use Rattle.std.proofs.Common.{◌≡◌, Option, Vec, sym, subst}
 use Rattle.std.specs.declared.alloc.Global.{Global}
 use Rattle.std.specs.List.{All}
 use Rattle.std.proofs.lemmas.List.Elements.{All-nil, All-cons, All-head, All-tail}
@@ -14,8 +14,12 @@ use Rattle.cstar_tree.specs.declared.typed.TExpr.{TExpr, Row_of-TExpr, end_of-TE
 use Rattle.cstar_tree.specs.declared.typed.TExpr as T
 use Rattle.cstar_tree.specs.declared.typed.TStmt.{TStmt, Row_of-TStmt, end_of-TStmt, more_of-TStmt, items-the_row-TStmt, items_hidden-the_row-TStmt-0}
 use Rattle.cstar_tree.specs.declared.typed.TStmt as R
+use Rattle.cstar_tree.specs.declared.typed.Typed.{Typed}
+use Rattle.cstar_tree.specs.declared.typed.VarInfo.{VarInfo}
 use Rattle.code_lengths.specs.Shaped.{AreShaped, IsShaped}
 use Rattle.code_lengths.specs.ShapedStatements.{AreShapedLocals, AreShapedStatements, IsShapedStatement}
+use Rattle.shaped_trees.specs.Lowerable.{AreLowerable, IsLowerable}
+use Rattle.shaped_trees.specs.LowerableStatements.{AreLowerableStatements, IsLowerableLocal, IsLowerableStatement}
 use Rattle.shaped_trees.specs.Casts.{BlockNamesShapes, ExpressionNamesShapes, ExpressionsNameShapes, StatementNamesShapes, StatementsNameShapes}
 
 -- ---- typed expressions
@@ -33,6 +37,14 @@ row_shaped n (more_of-TExpr e rest) all = (All-head IsShaped e _ all, row_shaped
 
 pub list_shaped : (node : TExpr) (list : Vec TExpr Global) → items-the_row-TExpr (typed_row node).0 (typed_row node).1 ≡ list.items → All IsShaped list.items → AreShaped (typed_row node).1
 list_shaped node list same all = row_shaped (typed_row node).0 (typed_row node).1 (subst (All IsShaped) (sym same) all)
+
+row_lowerable : (t : Typed) (n : Count) (row : Row_of-TExpr n) → All (IsLowerable t) (items-the_row-TExpr n row) → AreLowerable t row
+unfolding AreLowerable
+row_lowerable t n end_of-TExpr all = tt
+row_lowerable t n (more_of-TExpr e rest) all = (All-head (IsLowerable t) e _ all, row_lowerable t _ rest (All-tail (IsLowerable t) e _ all))
+
+pub list_lowerable : (t : Typed) (node : TExpr) (list : Vec TExpr Global) → items-the_row-TExpr (typed_row node).0 (typed_row node).1 ≡ list.items → All (IsLowerable t) list.items → AreLowerable t (typed_row node).1
+list_lowerable t node list same all = row_lowerable t (typed_row node).0 (typed_row node).1 (subst (All (IsLowerable t)) (sym same) all)
 
 -- ---- expressions of the text
 
@@ -74,6 +86,19 @@ unfolding IsShapedStatement
 block_shaped locals statements declared all =
     let row = typed_statements (R.Block locals statements) in
     (declared, statements_shaped row.0 row.1 (subst (All IsShapedStatement) (sym (items_hidden-the_row-TStmt-0 statements)) all))
+
+statements_lowerable : (t : Typed) (result : Option VarInfo) (n : Count) (row : Row_of-TStmt n) → All (IsLowerableStatement t result) (items-the_row-TStmt n row) → AreLowerableStatements t result row
+unfolding AreLowerableStatements
+statements_lowerable t result n end_of-TStmt all = tt
+statements_lowerable t result n (more_of-TStmt s rest) all =
+    (All-head (IsLowerableStatement t result) s _ all, statements_lowerable t result _ rest (All-tail (IsLowerableStatement t result) s _ all))
+
+pub block_lowerable : (t : Typed) (result : Option VarInfo) (locals : Vec LocalVar Global) (statements : Vec TStmt Global) →
+    All (IsLowerableLocal t) locals.items → All (IsLowerableStatement t result) statements.items → IsLowerableStatement t result (R.Block locals statements)
+unfolding IsLowerableStatement
+block_lowerable t result locals statements declared all =
+    let row = typed_statements (R.Block locals statements) in
+    (declared, statements_lowerable t result row.0 row.1 (subst (All (IsLowerableStatement t result)) (sym (items_hidden-the_row-TStmt-0 statements)) all))
 
 -- ---- blocks of the text
 

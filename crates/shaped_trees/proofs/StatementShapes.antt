@@ -46,7 +46,7 @@ module _ (program : Program) where
     pub sound : IsSound behind_them
     pub shaped : AreShapedLocals locals
 
-  behind_one : (here : Here) (ty : ValueType) (d : Declarator) (local : LocalVar) → TypesLocal program here ty d local → IsSound here → IsSound (behind_declarator here (Some ty) d)
+  pub behind_one : (here : Here) (ty : ValueType) (d : Declarator) (local : LocalVar) → TypesLocal program here ty d local → IsSound here → IsSound (behind_declarator here (Some ty) d)
   behind_one here ty d local typed s =
       behind_name here d.name.word (a_variable (V.Local here.locals) (declared_type here (Some ty) d.length)) (here.locals + 1) s
       (of_type (V.Local here.locals) (declared_type here (Some ty) d.length) (λ given length is. declarable typed.declarable given length (sym typed.its_type ∙ is)))

@@ -1,5 +1,5 @@
--- The laws: what the rules of typing give is shaped.
-use Rattle.std.specs.Prelude.{◌≡◌, Bool, List, Some, is_none}
+-- The laws: what the rules of typing give is shaped, and lowerable.
+use Rattle.std.specs.Prelude.{◌≡◌, ℕ, Bool, true, false, List, Option, Some, is_none}
 use Rattle.std.specs.List.{All}
 use Rattle.cstar_tree.specs.declared.syntax.Declaration.{Declaration}
 use Rattle.cstar_tree.specs.declared.syntax.Expr.{Expr}
@@ -11,12 +11,13 @@ use Rattle.cstar_tree.specs.declared.typed.LocalVar.{LocalVar}
 use Rattle.cstar_tree.specs.declared.typed.TExpr.{TExpr}
 use Rattle.cstar_tree.specs.declared.typed.TStmt.{TStmt}
 use Rattle.cstar_tree.specs.declared.typed.Typed.{Typed}
+use Rattle.cstar_tree.specs.declared.typed.VarInfo.{VarInfo}
 use Rattle.cstar_tree.specs.BlockScopes.{behind_declarations}
 use Rattle.cstar_tree.specs.ExpressionTypes.{Types}
 use Rattle.cstar_tree.specs.Headers.{Program, Returns}
 use Rattle.cstar_tree.specs.Items.{IsTree}
 use Rattle.cstar_tree.specs.Operations.{Target, target_of}
-use Rattle.cstar_tree.specs.ProgramTypes.{TypesFile}
+use Rattle.cstar_tree.specs.ProgramTypes.{TypesFile, TypesResult}
 use Rattle.cstar_tree.specs.Scopes.{Here}
 use Rattle.cstar_tree.specs.StatementTypes.{TypesDeclarations, TypesStatement}
 use Rattle.cstar_tree.specs.Typed.{type_of}
@@ -24,7 +25,9 @@ use Rattle.lower_expr.specs.Steps.{is_kept}
 use Rattle.code_lengths.specs.Shaped.{IsShaped, IsTarget}
 use Rattle.code_lengths.specs.ShapedStatements.{AreShapedLocals, IsShapedStatement}
 use Rattle.shaped_trees.specs.Casts.{DeclarationNamesShapes, ExpressionNamesShapes, NamesShapes, StatementNamesShapes}
-use Rattle.shaped_trees.specs.Places.{IsSound}
+use Rattle.shaped_trees.specs.Lowerable.{GivesValue, IsLowerable}
+use Rattle.shaped_trees.specs.LowerableStatements.{IsLowerableLocal, IsLowerableStatement}
+use Rattle.shaped_trees.specs.Places.{IsInside, IsSound}
 
 -- What an expression becomes, before it is brought to another type or shape: it is shaped, can be
 -- assigned to where typing takes it as a target, and is kept in a register exactly where it has no shape.
@@ -37,6 +40,16 @@ abbrev pub TypedExpressionsAreShaped : Type 0
 TypedExpressionsAreShaped =
     (program : Program) (here : Here) (e : Expr) (t : TExpr) (has_value : Bool) → IsSound here → ExpressionNamesShapes e → Types program here e t has_value → IsShapedValue t
 
+-- the same expression is lowerable, and gives a value where it has one and is no whole statement
+pub record IsLowerableValue (t : Typed) (whole has_value : Bool) (e : TExpr) : Type 0 where
+  pub lowerable : IsLowerable t e
+  pub gives : has_value ≡ true → whole ≡ false → GivesValue t e
+
+abbrev pub TypedExpressionsAreLowerable : Type 0
+TypedExpressionsAreLowerable =
+    (program : Program) (typed : Typed) (here : Here) (e : Expr) (t : TExpr) (has_value : Bool) → IsSound here → IsInside program typed here → ExpressionNamesShapes e →
+    Types program here e t has_value → IsLowerableValue typed here.whole has_value t
+
 -- declarations, and the place behind them
 abbrev pub TypedDeclarationsAreShaped : Type 0
 TypedDeclarationsAreShaped =
@@ -47,6 +60,18 @@ abbrev pub TypedStatementsAreShaped : Type 0
 TypedStatementsAreShaped =
     (program : Program) (returns : Returns) (here : Here) (s : Stmt) (t : TStmt) → IsSound here → StatementNamesShapes s → TypesStatement program returns here s t → IsShapedStatement t
 
+abbrev pub TypedDeclarationsAreLowerable : Type 0
+TypedDeclarationsAreLowerable =
+    (program : Program) (typed : Typed) (here : Here) (list : List Declaration) (locals : List LocalVar) →
+    IsSound here → IsInside program typed here → here.whole ≡ false → All DeclarationNamesShapes list → TypesDeclarations program here list locals → All (IsLowerableLocal typed) locals
+
+-- a statement of a function, which returns this and whose result has this shape
+abbrev pub TypedStatementsAreLowerable : Type 0
+TypedStatementsAreLowerable =
+    (program : Program) (typed : Typed) (returns : Returns) (word : List ℕ) (result : Option VarInfo) (here : Here) (s : Stmt) (t : TStmt) →
+    IsSound here → IsInside program typed here → here.whole ≡ false → TypesResult word returns result → StatementNamesShapes s → TypesStatement program returns here s t →
+    IsLowerableStatement typed result t
+
 -- what the laws of code lengths ask of an instance
 abbrev pub HasShapedBody : Instance → Type 0
 HasShapedBody instance = IsShapedStatement instance.body
@@ -56,3 +81,9 @@ TypedFilesAreShaped = (tree : Tree) (typed : Typed) → NamesShapes tree → Typ
 
 abbrev pub SpelledTreesNameShapes : Type 0
 SpelledTreesNameShapes = (tokens : Tokens) (tree : Tree) → IsTree tokens tree → NamesShapes tree
+
+abbrev pub HasLowerableBody : Typed → Instance → Type 0
+HasLowerableBody typed instance = IsLowerableStatement typed instance.result instance.body
+
+abbrev pub TypedFilesAreLowerable : Type 0
+TypedFilesAreLowerable = (tree : Tree) (typed : Typed) → NamesShapes tree → TypesFile tree typed → All (HasLowerableBody typed) typed.instances.items

@@ -1,3 +1,5 @@
 pub mod Casts
 pub mod Laws
+pub mod Lowerable
+pub mod LowerableStatements
 pub mod Places

@@ -1,7 +1,11 @@
--- What has to be known at a place for a typed tree that stands there to be shaped.
-use Rattle.std.specs.Prelude.{◌≡◌, ℕ, List, ◌++◌, Some, is_none, false}
+-- What has to be known at a place for a typed tree that stands there to be shaped, and lowerable.
+use Rattle.std.specs.Prelude.{◌≡◌, ℕ, List, ◌++◌, Some, IsSome, is_none, false, slice_get}
+use Rattle.cstar_tree.specs.declared.typed.Instance.{Instance}
+use Rattle.cstar_tree.specs.declared.typed.Typed.{Typed}
 use Rattle.cstar_tree.specs.declared.typed.ValueType.{ValueType}
 use Rattle.cstar_tree.specs.declared.typed.Variable.{Variable}
+use Rattle.cstar_tree.specs.Headers.{Placed, Program, Reached, header_place, returns_of}
+use Rattle.cstar_tree.specs.ProgramTypes.{TypesParameters, TypesResult}
 use Rattle.cstar_tree.specs.Scopes.{Binding, Here, a_variable, find}
 use Rattle.code_lengths.specs.Shaped.{HasShape}
 
@@ -14,3 +18,15 @@ ArraysAreParallel names =
 pub record IsSound (here : Here) : Type 0 where
   pub arrays : ArraysAreParallel (here.names.inner ++ here.names.outer)
   pub dot : (axis : ℕ) → here.dot ≡ Some axis → is_none here.current ≡ false
+
+-- a function under a current shape has an instance of this number, with its parameters and its result
+pub record HasInstance (t : Typed) (shapes : List (List ℕ)) (number : ℕ) (r : Reached) (placed : Placed) : Type 0 where
+  pub instance : Instance
+  pub found : slice_get t.instances.items number ≡ Some instance
+  pub parameters : TypesParameters (header_place shapes placed r) 0 placed.function.parameters.items instance.params.items
+  pub result : TypesResult placed.function.name.word (returns_of (header_place shapes placed r) placed.function.result) instance.result
+
+-- a place in a function, from which the typed program's instances are called
+pub record IsInside (program : Program) (t : Typed) (here : Here) : Type 0 where
+  pub around : IsSome here.around
+  pub instances : (number : ℕ) (r : Reached) (placed : Placed) → slice_get program.instances number ≡ Some r → slice_get program.functions r.function ≡ Some placed → HasInstance t here.shapes number r placed
