@@ -24,9 +24,9 @@ use Rattle.cstar_tree.specs.Typed.{type_of}
 use Rattle.type_scopes.specs.Answers.{TellsAway}
 use Rattle.type_scopes.specs.declared.faults.Untyped.{Untyped}
 use Rattle.type_scopes.specs.declared.names.VariableType as Names
-use Rattle.type_expressions.specs.Answers.{IsFault}
+use Rattle.type_expressions.specs.Answers.{IsFault, IsFaultOrMemory}
 use Rattle.type_scopes.specs.Bindings.{variable_type}
-use Rattle.type_expressions.proofs.OnOperands.{tells}
+use Rattle.type_expressions.proofs.OnOperands.{or_memory, tells}
 
 pub some_in : (shape : Option ℕ) → is_some shape ≡ true → (s : ℕ) × (shape ≡ Some s)
 some_in None is = absurd (cc)
@@ -61,7 +61,7 @@ element_away program here n p {v = v} {length = length} ty index is array h scal
 pub cast_types : {program : Program} {here : Here} {p : Place} {written : TypeName} {ty : ValueType} {a : TExpr} {current : Option ℕ} (operand : Box Expr Global) (x : Box TExpr Global) → here.current ≡ current → written_type here written ≡ Some ty → IsAtHand current ty.shape → Types program (part here) operand.value a true → IsSpread a ty.shape x.value → Types program here (E.ParallelCast p written operand) (T.ParallelCast ty x) true
 cast_types {ty = ty} operand x current is hand h spread = X.parallel_cast operand x is (subst (λ (k : Option ℕ). IsAtHand k ty.shape) (sym current) hand) h spread
 
-pub cast_away : (program : Program) (here : Here) (p : Place) (written : TypeName) {a : TExpr} {current : Option ℕ} {u : Untyped} (ty : ValueType) (operand : Box Expr Global) → here.current ≡ current → written_type here written ≡ Some ty → Types program (part here) operand.value a true → TellsAway current ty.shape p u → IsFault program here (E.ParallelCast p written operand) u
-cast_away program here p written {a = a} ty operand current is h away =
+pub cast_away : (program : Program) (here : Here) (p : Place) (written : TypeName) {a : TExpr} {current : Option ℕ} {u : Untyped} (ty : ValueType) (operand : Box Expr Global) → here.current ≡ current → written_type here written ≡ Some ty → Types program (part here) operand.value a true → TellsAway current ty.shape p u → IsFaultOrMemory program here (E.ParallelCast p written operand) u
+cast_away program here p written {a = a} {u = u} ty operand current is h away =
     let of_shape = subst (λ (k : Option ℕ). written_type here written ≡ Some (record { elem = ty.elem; shape = k })) away.is_parallel is in
-    away_at {program = program} {e = E.ParallelCast p written operand} current refl away (λ far. F.cast_away operand of_shape (a, h) far)
+    or_memory program here (E.ParallelCast p written operand) u (away_at {program = program} {e = E.ParallelCast p written operand} current refl away (λ far. F.cast_away operand of_shape (a, h) far))

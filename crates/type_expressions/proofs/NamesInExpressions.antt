@@ -19,7 +19,7 @@ use Rattle.type_scopes.specs.Answers.{TellsAway, told_by}
 use Rattle.type_scopes.specs.declared.faults.Untyped.{Untyped}
 use Rattle.type_scopes.specs.declared.faults.Untyped.TheVariants as N
 use Rattle.type_scopes.specs.declared.names.VariableType as Names
-use Rattle.type_expressions.specs.Names.{HasNames, IsFound, IsNamed, TellsOther}
+use Rattle.type_expressions.specs.Names.{HasNames, IsVariableMeant, IsNamed, TellsOther}
 use Rattle.type_expressions.proofs.AtSites.{none_in}
 
 abbrev at_told : Program → Here → Name → Option (Fault × Place) → Type 0
@@ -43,14 +43,14 @@ not_plain program here n (Some (a_function f)) u is tells = named_fault program 
 not_plain program here n (Some (a_variable v None)) u is tells = subst (λ (w : Untyped). IsNamed program here n (Err w)) (sym tells) (v, is)
 not_plain program here n (Some (a_variable v (Some t))) u is tells = named_fault program here n u tells.1 (array_alone t t.array refl is tells.0)
 
-plain : (here : Here) (n : Name) (names : List Binding) (v : Variable) (ty : Names.VariableType) → HasNames names here → IsFound false (find names n.word) (v, ty) → IsVariable here n v (record { value = record { elem = ty.elem; shape = ty.shape }; array = None })
+plain : (here : Here) (n : Name) (names : List Binding) (v : Variable) (ty : Names.VariableType) → HasNames names here → IsVariableMeant false (find names n.word) (v, ty) → IsVariable here n v (record { value = record { elem = ty.elem; shape = ty.shape }; array = None })
 plain here n names v ty has found =
     subst (λ (a : Option ℕ). IsVariable here n v (record { value = record { elem = ty.elem; shape = ty.shape }; array = a })) (none_in ty.array found.1) (has n.word ∙ found.0)
 
-pub name_types : (program : Program) (here : Here) (n : Name) (names : List Binding) (v : Variable) (ty : Names.VariableType) {current : Option ℕ} → HasNames names here → here.current ≡ current → IsFound false (find names n.word) (v, ty) → IsAtHand current ty.shape → Types program here (E.Name n) (T.Variable (record { elem = ty.elem; shape = ty.shape }) v) true
+pub name_types : (program : Program) (here : Here) (n : Name) (names : List Binding) (v : Variable) (ty : Names.VariableType) {current : Option ℕ} → HasNames names here → here.current ≡ current → IsVariableMeant false (find names n.word) (v, ty) → IsAtHand current ty.shape → Types program here (E.Name n) (T.Variable (record { elem = ty.elem; shape = ty.shape }) v) true
 name_types program here n names v ty has current found hand = X.name (plain here n names v ty has found) (subst (λ (k : Option ℕ). IsAtHand k ty.shape) (sym current) hand)
 
-pub name_away : (program : Program) (here : Here) (n : Name) (names : List Binding) (v : Variable) (ty : Names.VariableType) {current : Option ℕ} {u : Untyped} → HasNames names here → here.current ≡ current → IsFound false (find names n.word) (v, ty) → TellsAway current ty.shape n.place u → IsNamed program here n (Err u)
+pub name_away : (program : Program) (here : Here) (n : Name) (names : List Binding) (v : Variable) (ty : Names.VariableType) {current : Option ℕ} {u : Untyped} → HasNames names here → here.current ≡ current → IsVariableMeant false (find names n.word) (v, ty) → TellsAway current ty.shape n.place u → IsNamed program here n (Err u)
 name_away program here n names v ty {u = u} has current found away =
     let of_shape = subst (λ (k : Option ℕ). IsVariable here n v (record { value = record { elem = ty.elem; shape = k }; array = None })) away.is_parallel (plain here n names v ty has found) in
     named_fault program here n u away.tells (F.variable_away of_shape (subst (λ (k : Option ℕ). IsAway k away.of away.fault) (sym current) away.away))

@@ -1,5 +1,5 @@
 -- Operators on typed operands: the trees that their expressions become, and the faults at them.
-use Rattle.std.proofs.Common.{◌≡◌, ℕ, Bool, true, List, Option, Some, None, Result, Box, Vec, refl, sym, ap, subst, ◌∙◌}
+use Rattle.std.proofs.Common.{◌≡◌, ℕ, Bool, true, List, Option, Some, None, Result, Ok, Err, Box, Vec, refl, sym, ap, subst, ◌∙◌}
 use Rattle.std.specs.declared.alloc.Global.{Global}
 use Rattle.cstar_base.specs.declared.faults.Fault.{Fault}
 use Rattle.cstar_base.specs.declared.operators.Place.{Place}
@@ -29,7 +29,7 @@ use Rattle.type_scopes.specs.Answers.{told_by}
 use Rattle.type_scopes.specs.declared.faults.Untyped.{Untyped}
 use Rattle.type_scopes.specs.declared.faults.Untyped.TheVariants as N
 use Rattle.typed_nodes.specs.Operators.{IsCastChain, IsReduction, IsUnary}
-use Rattle.type_expressions.specs.Answers.{IsAnswer, IsFault, step_of, written_as}
+use Rattle.type_expressions.specs.Answers.{IsAnswer, IsAnswerOrMemory, IsFault, IsFaultOrMemory, step_of, written_as}
 
 abbrev at_told : Program → Here → Expr → Option (Fault × Place) → Type 0
 at_told program here e None = Unit {0}
@@ -39,7 +39,15 @@ at_told program here e (Some q) = FaultAt program here e q.0 q.1
 pub tells : {program : Program} {here : Here} {e : Expr} (u : Untyped) {fault : Fault} {p : Place} → told_by u ≡ Some (fault, p) → FaultAt program here e fault p → IsFault program here e u
 tells {program} {here} {e} (N.Fault standing) is h = subst (at_told program here e) (sym is) h
 tells N.Faulty is h = absurd (cc)
-tells N.Memory is h = tt
+tells N.Memory is h = absurd (cc)
+
+pub or_memory : (program : Program) (here : Here) (e : Expr) (u : Untyped) → IsFault program here e u → IsFaultOrMemory program here e u
+or_memory program here e (N.Fault standing) h = h
+or_memory program here e N.Faulty h = h
+or_memory program here e N.Memory h = tt
+
+pub tells_or_memory : {program : Program} {here : Here} {e : Expr} (u : Untyped) {fault : Fault} {p : Place} → told_by u ≡ Some (fault, p) → FaultAt program here e fault p → IsFaultOrMemory program here e u
+tells_or_memory {program} {here} {e} u is h = or_memory program here e u (tells u is h)
 
 pub unary_types : (op : UnaryOp) {program : Program} {here : Here} (p : Place) (x : Box TExpr Global) (t : TExpr) (operand : Box Expr Global) → IsUnary op x t → Types program (part here) operand.value x.value true → Types program here (E.Prefix p (written_as op) operand) t true
 unary_types U.Not p x t operand is h = rw is (X.logical_not operand x h)
@@ -70,8 +78,12 @@ shape_is t ty_is u_is is = ap (λ (v : ValueType). v.shape) (sym (ty_is ∙ ap t
 pub target_is : (t : TExpr) {u : TExpr} {target : Option Target} → target ≡ target_of u → u ≡ t → target_of t ≡ target
 target_is t is u_is = sym (is ∙ ap target_of u_is)
 
-pub of_prefix : {op written : PrefixOp} (p : Place) (program : Program) (here : Here) (operand : Box Expr Global) (r : Result TExpr Untyped) → op ≡ written → IsAnswer program here (E.Prefix p written operand) r → IsAnswer program here (E.Prefix p op operand) r
-of_prefix p program here operand r is h = subst (λ (o : PrefixOp). IsAnswer program here (E.Prefix p o operand) r) (sym is) h
+pub answer_or_memory : (program : Program) (here : Here) (e : Expr) (r : Result TExpr Untyped) → IsAnswer program here e r → IsAnswerOrMemory program here e r
+answer_or_memory program here e (Ok t) h = h
+answer_or_memory program here e (Err u) h = or_memory program here e u h
+
+pub of_prefix : {op written : PrefixOp} (p : Place) (program : Program) (here : Here) (operand : Box Expr Global) (r : Result TExpr Untyped) → op ≡ written → IsAnswerOrMemory program here (E.Prefix p written operand) r → IsAnswerOrMemory program here (E.Prefix p op operand) r
+of_prefix p program here operand r is h = subst (λ (o : PrefixOp). IsAnswerOrMemory program here (E.Prefix p o operand) r) (sym is) h
 
 pub bracket_types : {program : Program} {here : Here} {p : Place} {t u : TExpr} {ty : ValueType} {b : Bool} (inner : Box Expr Global) (x : Box TExpr Global) → t ≡ T.Brackets ty x → ty ≡ type_of u → u ≡ x.value → Types program here inner.value x.value b → Types program here (E.Brackets p inner) t b
 bracket_types {ty = ty} inner x is ty_is u_is h = rw (is, ty_is, u_is) (X.brackets inner x h)

@@ -32,15 +32,25 @@ use Rattle.type_scopes.specs.Answers.{IsRecorded}
 abbrev pub IsFault : Program → Here → Expr → Untyped → Type 0
 IsFault program here e (N.Fault standing) = FaultAt program here e standing.fault standing.place
 IsFault program here e N.Faulty = ⊥
-IsFault program here e N.Memory = Unit {0}
+IsFault program here e N.Memory = ⊥
 
 abbrev pub IsAnswer : Program → Here → Expr → Result TExpr Untyped → Type 0
 IsAnswer program here e (Ok t) = Types program here e t true
 IsAnswer program here e (Err u) = IsFault program here e u
 
+-- or memory is wanting, where the tree takes some
+abbrev pub IsFaultOrMemory : Program → Here → Expr → Untyped → Type 0
+IsFaultOrMemory program here e (N.Fault standing) = FaultAt program here e standing.fault standing.place
+IsFaultOrMemory program here e N.Faulty = ⊥
+IsFaultOrMemory program here e N.Memory = Unit {0}
+
+abbrev pub IsAnswerOrMemory : Program → Here → Expr → Result TExpr Untyped → Type 0
+IsAnswerOrMemory program here e (Ok t) = Types program here e t true
+IsAnswerOrMemory program here e (Err u) = IsFaultOrMemory program here e u
+
 -- the answer for an expression with one operand, which has become this tree, wherever it stands
 abbrev pub WithOperand : TExpr → (Box Expr Global → Expr) → Result TExpr Untyped → Type 0
-WithOperand x whole result = (program : Program) (here : Here) (operand : Box Expr Global) → Types program (part here) operand.value x true → IsAnswer program here (whole operand) result
+WithOperand x whole result = (program : Program) (here : Here) (operand : Box Expr Global) → Types program (part here) operand.value x true → IsAnswerOrMemory program here (whole operand) result
 
 -- `++` or `--` before or behind its operand
 abbrev pub step_of : StepOrder → Place → StepOp → Box Expr Global → Expr

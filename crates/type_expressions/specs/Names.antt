@@ -22,8 +22,8 @@ abbrev pub HasNames : List Binding → Here → Type 0
 HasNames names here = (word : List ℕ) → meaning here word ≡ find names word
 
 -- the variable that is named, an array or none
-abbrev pub IsFound : Bool → Option Meaning → Variable × VariableType → Type 0
-IsFound array m found = (m ≡ Some (a_variable found.0 (Some (variable_type found.1)))) × (is_some found.1.array ≡ array)
+abbrev pub IsVariableMeant : Bool → Option Meaning → Variable × VariableType → Type 0
+IsVariableMeant array m found = (m ≡ Some (a_variable found.0 (Some (variable_type found.1)))) × (is_some found.1.array ≡ array)
 
 -- where an array is wanted, or a variable that is none
 abbrev pub TellsOther : Bool → Option Meaning → Place → Untyped → Type 0

@@ -9,7 +9,7 @@ ghost use Rattle.cstar_tree.specs.declared.syntax.Expr.{Expr};
 ghost use Rattle.std.specs.Prelude.{◌≡◌, IfOk, MatchResult, Vec};
 ghost use Rattle.std.specs.List.{list_any};
 ghost use Rattle.std.specs.declared.alloc.Global.{Global};
-ghost use Rattle.type_expressions.specs.Answers.{IsFault, is_parallel, trees};
+ghost use Rattle.type_expressions.specs.Answers.{IsFaultOrMemory, is_parallel, trees};
 
 use crate::found::{Found, TypedExpr, Typing};
 use cstar_base::{Fault, Memory, Place, Word};
@@ -171,7 +171,7 @@ pub fn printf(
     text: &Word,
     arguments: Vec<Box<TExpr>>,
 ) -> Result<TypedExpr, Untyped>
-    ensures { (program : Program) (here : Here) (given : Vec Expr Global) → TypesEach program (part here) given.items (trees arguments.items) → MatchResult result (λ t. Types program here (E.Printf place text.now given) t.expr.value t.has_value) (IsFault program here (E.Printf place text.now given)) }
+    ensures { (program : Program) (here : Here) (given : Vec Expr Global) → TypesEach program (part here) given.items (trees arguments.items) → MatchResult result (λ t. Types program here (E.Printf place text.now given) t.expr.value t.has_value) (IsFaultOrMemory program here (E.Printf place text.now given)) }
 {
     if has_parallel(arguments.as_slice()) {
         return Err(fault(Fault::ScalarWanted, place));

@@ -16,7 +16,7 @@ ghost use Rattle.std.specs.Prelude.{◌≡◌, ◌<◌, ◌^◌, ℕ, true, Box,
 ghost use Rattle.type_expressions.specs.declared.intrinsics.Axis.TheVariants as A;
 ghost use Rattle.std.specs.declared.alloc.Global.{Global};
 ghost use Rattle.type_expressions.specs.Along.{AreBits, GoesBy, IsAlong, IsAxisOf, axis_in, extent_along, goes_with, number_of_constant};
-ghost use Rattle.type_expressions.specs.Answers.{HasShapes, IsAnswer, IsFault, IsSite};
+ghost use Rattle.type_expressions.specs.Answers.{HasShapes, IsAnswer, IsAnswerOrMemory, IsFault, IsSite};
 
 use cstar_base::{Combiner, Direction, Elem, Fault, Inclusion, Place, SegmentMode, numbers};
 use cstar_tree::syntax::Name;
@@ -139,7 +139,7 @@ pub fn parallel_cast(
     ty: ValueType,
     operand: Box<TExpr>,
 ) -> Result<TExpr, Untyped>
-    ensures { (program : Program) (here : Here) (written : TypeName) (e : Box Expr Global) → IsSite site here → written_type here written ≡ Some ty → Types program (part here) e.value operand.value true → IsAnswer program here (E.ParallelCast place written e) result }
+    ensures { (program : Program) (here : Here) (written : TypeName) (e : Box Expr Global) → IsSite site here → written_type here written ≡ Some ty → Types program (part here) e.value operand.value true → IsAnswerOrMemory program here (E.ParallelCast place written e) result }
 {
     site.holds(place, ty.shape)?;
     let operand = spread(alloc, operand, ty.shape)?;
@@ -213,7 +213,7 @@ pub fn scan(
     walk: Walk,
     bit: Option<Variable>,
 ) -> Result<TExpr, Untyped>
-    ensures { (program : Program) (here : Here) (scanned along : Box Expr Global) (written : Option Name) → IsSite site here → IsAlong program here along.value axis → AreBits here written bit → Types program (part here) scanned.value source.value true → IsAnswer program here (E.Scan place scanned along combiner walk.direction walk.mode written walk.inclusion) result }
+    ensures { (program : Program) (here : Here) (scanned along : Box Expr Global) (written : Option Name) → IsSite site here → IsAlong program here along.value axis → AreBits here written bit → Types program (part here) scanned.value source.value true → IsAnswerOrMemory program here (E.Scan place scanned along combiner walk.direction walk.mode written walk.inclusion) result }
 {
     let shape = site.shape(place)?;
     if source.ty().shape.is_none() {

@@ -15,7 +15,7 @@ ghost use Rattle.cstar_tree.specs.declared.syntax.Expr.{Expr};
 ghost use Rattle.cstar_tree.specs.declared.syntax.PrefixOp.TheVariants as P;
 ghost use Rattle.std.specs.Prelude.{◌≡◌, false, true, Box, Vec, IfOk, MatchResult};
 ghost use Rattle.std.specs.declared.alloc.Global.{Global};
-ghost use Rattle.type_expressions.specs.Answers.{AreBrackets, CanSend, IsAnswer, IsFault, IsSending, IsSite, WithOperand, step_of, storable, written_as};
+ghost use Rattle.type_expressions.specs.Answers.{AreBrackets, CanSend, IsAnswer, IsAnswerOrMemory, IsFault, IsSending, IsSite, WithOperand, step_of, storable, written_as};
 
 use crate::found::{TypedExpr, Typing};
 use cstar_base::{Fault, Place};
@@ -65,7 +65,7 @@ pub fn assign(
     target: Box<TExpr>,
     value: Box<TExpr>,
 ) -> Result<TExpr, Untyped>
-    ensures { CanSend op target.value → (program : Program) (here : Here) (t v : Box Expr Global) → IsSite site here → Types program (part here) t.value target.value true → Types program (part here) v.value value.value true → IsAnswer program here (E.Assign place op t v) result }
+    ensures { CanSend op target.value → (program : Program) (here : Here) (t v : Box Expr Global) → IsSite site here → Types program (part here) t.value target.value true → Types program (part here) v.value value.value true → IsAnswerOrMemory program here (E.Assign place op t v) result }
 {
     is_assignable(site, place, op, &target, &value)?;
     Ok(assignment(alloc, place, op, target, value)?)
@@ -124,7 +124,7 @@ pub fn stepped(
     order: StepOrder,
     target: Box<TExpr>,
 ) -> Result<TExpr, Untyped>
-    ensures { WithOperand target.value (step_of order place op) result }
+    ensures { (program : Program) (here : Here) (operand : Box Expr Global) → Types program (part here) operand.value target.value true → IsAnswer program here (step_of order place op operand) result }
 {
     match target_of(&target) {
         None => Err(fault(Fault::NotAPlace, place)),
@@ -177,7 +177,7 @@ pub fn casts(
     place: Place,
     operand: Box<TExpr>,
 ) -> Result<TExpr, Untyped>
-    ensures { (program : Program) (here : Here) (chain : Vec Cast Global) (e : Box Expr Global) → chain.items ≡ casts.now → place_of e.value ≡ place → Types program (part here) e.value operand.value true → IsAnswer program here (E.Casts chain e) result }
+    ensures { (program : Program) (here : Here) (chain : Vec Cast Global) (e : Box Expr Global) → chain.items ≡ casts.now → place_of e.value ≡ place → Types program (part here) e.value operand.value true → IsAnswerOrMemory program here (E.Casts chain e) result }
 {
     match operand.ty().shape {
         Some(_) => Err(fault(Fault::ScalarWanted, innermost(casts, place))),

@@ -11,8 +11,8 @@ ghost use Rattle.cstar_tree.specs.declared.syntax.Name.{Name};
 ghost use Rattle.std.specs.Prelude.{◌≡◌, ℕ, false, true, Box, IfOk, MatchResult, Vec};
 ghost use Rattle.std.specs.declared.alloc.Global.{Global};
 ghost use Rattle.type_expressions.specs.Along.{HasExtents, is_rank};
-ghost use Rattle.type_expressions.specs.Answers.{AtSite, HasShapes, IsAnswer, IsSite, trees};
-ghost use Rattle.type_expressions.specs.Names.{HasNames, IsFound, IsNamed, TellsOther};
+ghost use Rattle.type_expressions.specs.Answers.{AtSite, HasShapes, IsAnswer, IsAnswerOrMemory, IsSite, trees};
+ghost use Rattle.type_expressions.specs.Names.{HasNames, IsVariableMeant, IsNamed, TellsOther};
 ghost use Rattle.type_scopes.specs.Bindings.{variable_type};
 ghost use Rattle.type_scopes.specs.FileBindings.{names_at};
 
@@ -46,7 +46,7 @@ pub fn plain_variable(
     site: Site,
     name: &Name,
 ) -> Result<(Variable, VariableType), Untyped>
-    ensures { MatchResult result (IsFound false (find (names_at file.now locals.now site.known) name.now.word)) (TellsOther false (find (names_at file.now locals.now site.known) name.now.word) name.now.place) }
+    ensures { MatchResult result (IsVariableMeant false (find (names_at file.now locals.now site.known) name.now.word)) (TellsOther false (find (names_at file.now locals.now site.known) name.now.word) name.now.place) }
 {
     let (variable, ty) = file.variable(locals, site, name)?;
     if ty.array.is_some() {
@@ -62,7 +62,7 @@ pub fn array(
     site: Site,
     name: &Name,
 ) -> Result<(Variable, VariableType), Untyped>
-    ensures { MatchResult result (IsFound true (find (names_at file.now locals.now site.known) name.now.word)) (TellsOther true (find (names_at file.now locals.now site.known) name.now.word) name.now.place) }
+    ensures { MatchResult result (IsVariableMeant true (find (names_at file.now locals.now site.known) name.now.word)) (TellsOther true (find (names_at file.now locals.now site.known) name.now.word) name.now.place) }
 {
     let (variable, ty) = file.variable(locals, site, name)?;
     if ty.array.is_none() {
@@ -128,7 +128,7 @@ pub fn left_index(
     variable: (Variable, VariableType),
     indexes: Vec<Box<TExpr>>,
 ) -> Result<TExpr, Untyped>
-    ensures { (program : Program) (here : Here) (n : Name) (given : Vec Expr Global) → HasShapes file.now.shapes.items here → HasExtents here variable.1.shape → IsVariable here n variable.0 (variable_type variable.1) → variable.1.array ≡ None → TypesIndexes program here n 0 given.items (trees indexes.items) → IsAnswer program here (E.LeftIndex place given n) result }
+    ensures { (program : Program) (here : Here) (n : Name) (given : Vec Expr Global) → HasShapes file.now.shapes.items here → HasExtents here variable.1.shape → IsVariable here n variable.0 (variable_type variable.1) → variable.1.array ≡ None → TypesIndexes program here n 0 given.items (trees indexes.items) → IsAnswerOrMemory program here (E.LeftIndex place given n) result }
 {
     let (variable, ty) = variable;
     let Some(of) = ty.shape else {
