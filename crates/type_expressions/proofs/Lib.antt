@@ -7,4 +7,5 @@ pub mod NamesInExpressions
 pub mod OfShapes
 pub mod OnOperands
 pub mod Printed
+pub mod SegmentBits
 pub mod Told

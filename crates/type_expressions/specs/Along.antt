@@ -2,6 +2,7 @@
 use Rattle.std.specs.Prelude.{◌≡◌, ◌==◌, ◌<◌, ◌^◌, ℕ, ℤ, Bool, false, List, length, Option, Some, None, is_none, is_some, slice_get, unwrap_or, nat_lt, pos, negsuc, Result, Ok, Err, if◌then◌else◌}
 use Rattle.std.specs.Option.{option_map}
 use Rattle.cstar_base.specs.Numbers.{number_of}
+use Rattle.cstar_base.specs.declared.faults.Fault.{Fault}
 use Rattle.cstar_base.specs.declared.faults.Fault.TheVariants as Faults
 use Rattle.cstar_base.specs.declared.operators.Place.{Place}
 use Rattle.cstar_base.specs.declared.elem.Elem.{Elem}
@@ -16,12 +17,13 @@ use Rattle.cstar_tree.specs.Typed.{type_of}
 use Rattle.source_meaning.specs.Constants.{constant_of}
 use Rattle.type_scopes.specs.Answers.{told_by}
 use Rattle.type_scopes.specs.declared.faults.Untyped.{Untyped}
+use Rattle.type_scopes.specs.declared.faults.Untyped.TheVariants as U
 use Rattle.cstar_tree.specs.Constants.{axis_among, axis_of}
 use Rattle.cstar_tree.specs.Conversions.{parallel}
-use Rattle.cstar_tree.specs.ExpressionFaults.{IsAxis}
+use Rattle.cstar_tree.specs.ExpressionFaults.{FaultAt, IsAxis, NamesBit}
 use Rattle.cstar_tree.specs.ExpressionTypes.{IsBit, IsVariable}
 use Rattle.cstar_tree.specs.Headers.{Program}
-use Rattle.cstar_tree.specs.Scopes.{Here, extents_of}
+use Rattle.cstar_tree.specs.Scopes.{Here, a_variable, extents_of, meaning}
 use Rattle.type_expressions.specs.declared.intrinsics.Axis.{Axis}
 use Rattle.type_expressions.specs.declared.intrinsics.Axis.TheVariants as A
 
@@ -34,6 +36,19 @@ pub data IsAlong (program : Program) (here : Here) (e : Expr) : Axis → Type 0 
 pub data AreBits (here : Here) : Option Name → Option Variable → Type 0 where
   no_bits : AreBits here None None
   bits : {n : Name} {v : Variable} {elem : Elem} {shape : ℕ} → IsVariable here n v (record { value = parallel elem shape; array = None }) → elem.bits ≡ 1 → here.current ≡ Some shape → AreBits here (Some n) (Some v)
+
+-- a fault of the name of segment bits stands at each expression that names them
+abbrev pub IsFaultOfBits : Program → Here → Name → Fault → Place → Type 0
+IsFaultOfBits program here n fault p = (e : Expr) (mode : SegmentMode) → NamesBit e mode (Some n) → FaultAt program here e fault p
+
+-- what is answered for segment bits, if they are written: their variable, or a fault of their name,
+-- or that its declaration is faulty
+abbrev pub AreBitsNamed : Program → Here → Option Name → Result (Option Variable) Untyped → Type 0
+AreBitsNamed program here written (Ok bit) = AreBits here written bit
+AreBitsNamed program here None (Err u) = ⊥
+AreBitsNamed program here (Some n) (Err (U.Fault standing)) = IsFaultOfBits program here n standing.fault standing.place
+AreBitsNamed program here (Some n) (Err U.Faulty) = (v : Variable) × (meaning here n.word ≡ Some (a_variable v None))
+AreBitsNamed program here (Some n) (Err U.Memory) = ⊥
 
 -- an intrinsic goes along this axis of the current shape, with these segment bits
 pub record GoesBy (here : Here) (e : Expr) (mode : SegmentMode) (written : Option Name) (bit : Option Variable) (shape axis : ℕ) : Type 0 where

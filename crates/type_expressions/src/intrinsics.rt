@@ -10,12 +10,15 @@ ghost use Rattle.cstar_tree.specs.declared.syntax.Expr as E;
 ghost use Rattle.cstar_tree.specs.declared.syntax.Expr.{Expr};
 ghost use Rattle.cstar_tree.specs.declared.syntax.TypeName.{TypeName};
 ghost use Rattle.cstar_tree.specs.declared.syntax.Name.{Name};
-ghost use Rattle.cstar_tree.specs.ExpressionFaults.{IsReady};
+ghost use Rattle.cstar_tree.specs.ExpressionFaults.{HoldsBits, IsReady};
 ghost use Rattle.cstar_tree.specs.Syntax.{place_of};
-ghost use Rattle.std.specs.Prelude.{◌≡◌, ◌<◌, ◌^◌, ℕ, true, Box, List, MatchResult, Option, Some, length, slice_get};
+ghost use Rattle.std.specs.Prelude.{◌≡◌, ◌↔◌, ◌<◌, ◌^◌, ℕ, true, Box, IsTrue, List, MatchResult, Option, Some, length, slice_get};
 ghost use Rattle.type_expressions.specs.declared.intrinsics.Axis.TheVariants as A;
 ghost use Rattle.std.specs.declared.alloc.Global.{Global};
-ghost use Rattle.type_expressions.specs.Along.{AreBits, GoesBy, IsAlong, IsAxisOf, axis_in, extent_along, goes_with, number_of_constant};
+ghost use Rattle.type_expressions.specs.Along.{AreBits, AreBitsNamed, GoesBy, IsAlong, IsAxisOf, axis_in, extent_along, goes_with, number_of_constant};
+ghost use Rattle.type_expressions.specs.Names.{HasNames};
+ghost use Rattle.type_scopes.specs.Bindings.{variable_type};
+ghost use Rattle.type_scopes.specs.FileBindings.{names_at};
 ghost use Rattle.type_expressions.specs.Answers.{HasShapes, IsAnswer, IsAnswerOrMemory, IsFault, IsSite};
 
 use cstar_base::{Combiner, Direction, Elem, Fault, Inclusion, Place, SegmentMode, numbers};
@@ -27,6 +30,7 @@ use std::alloc::Global;
 use type_scopes::faults::{Untyped, fault};
 use type_scopes::file::File;
 use type_scopes::locals::Locals;
+use type_scopes::names::VariableType;
 use type_scopes::sites::Site;
 use typed_nodes::conversions::{INT, converted, promoted, spread};
 
@@ -153,18 +157,30 @@ pub fn segment_bit(
     locals: &Locals,
     site: Site,
     bit: &Option<Name>,
-) -> Result<Option<Variable>, Untyped> {
+) -> Result<Option<Variable>, Untyped>
+    ensures { (program : Program) (here : Here) → HasNames (names_at file.now locals.now site.known) here → IsSite site here → AreBitsNamed program here bit.now result }
+{
     let Some(name) = bit else {
         return Ok(None);
     };
     let (variable, ty) = file.variable(locals, site, name)?;
-    if ty.array.is_some() || ty.shape.is_none() || ty.elem.bits != 1 {
+    if !holds_bits(ty) {
         return Err(fault(Fault::WrongKind, name.place));
     }
     if ty.shape != site.current {
         return Err(fault(Fault::OtherShape, name.place));
     }
     Ok(Some(variable))
+}
+
+/// Can a variable of the type be segment bits of some shape?
+fn holds_bits(ty: VariableType) -> bool
+    ensures { IsTrue result ↔ ((s : ℕ) × HoldsBits (variable_type ty) s) }
+{
+    match (ty.array, ty.shape) {
+        (None, Some(_)) => ty.elem.bits == 1,
+        _ => false,
+    }
 }
 
 /// The axis of what stands at the place, whose mode goes with the segment bit.
