@@ -2,7 +2,8 @@
 //! machine has enough for all of them.
 #![tactic(auto)]
 
-ghost use Rattle.std.specs.Prelude.{◌≡◌, IfOk, length, vec_len};
+ghost use Rattle.cstar_tree.specs.Constants.{product};
+ghost use Rattle.std.specs.Prelude.{◌≡◌, ◌-◌, ◌^◌, min, IfOk, length, vec_len};
 
 mod room;
 
@@ -53,8 +54,10 @@ fn machine_bits(info: &ShapeInfo, need: u64) -> u64 {
     need.saturating_mul(BLOCK).saturating_mul(blocks)
 }
 
-/// How many positions the shape has: the product of its extents.
-pub fn positions(shape: &ShapeInfo) -> u64 {
+/// How many positions the shape has: the product of its extents, as far as it is counted.
+pub fn positions(shape: &ShapeInfo) -> u64
+    ensures { result ≡ min (product shape.now.extents.items) (2 ^ 64 - 1) }
+{
     let mut product = 1u64;
     for extent in &shape.extents {
         product = product.saturating_mul(u64::from(*extent));

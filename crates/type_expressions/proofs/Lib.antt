@@ -1,6 +1,7 @@
 pub mod AlongAxes
 pub mod Assigned
 pub mod AtSites
+pub mod CallArguments
 pub mod Combined
 pub mod Indexed
 pub mod NamesInExpressions

@@ -1,9 +1,10 @@
 -- What is asked of shapes: the trees that the questions become.
-use Rattle.std.proofs.Common.{◌≡◌, ◌<◌, ◌^◌, ℕ, ℤ, pos, negsuc, Bool, true, false, List, length, get_or, Option, Some, None, Box, refl, sym, ap, subst, ◌∙◌}
+use Rattle.std.proofs.Common.{◌≡◌, ◌<◌, ◌≤◌, ◌-◌, ◌^◌, ℕ, ℤ, pos, negsuc, Bool, true, false, List, length, get_or, Option, Some, None, Box, refl, sym, ap, subst, ◌∙◌, arith}
 use Rattle.std.specs.List.{slice_get}
 use Rattle.std.specs.Option.{option_map, unwrap_or}
-use Rattle.std.specs.Prelude.{if◌then◌else◌}
+use Rattle.std.specs.Prelude.{min, if◌then◌else◌}
 use Rattle.std.specs.declared.alloc.Global.{Global}
+use Rattle.std.proofs.Math.Nat.{min-eq_left}
 use Rattle.std.proofs.lemmas.Bool.{lt-ltb, ltb-true}
 use Rattle.std.proofs.lemmas.Option.{slice_get-get_or, slice_get-map}
 use Rattle.cstar_base.specs.declared.elem.Elem.{Elem}
@@ -13,14 +14,14 @@ use Rattle.cstar_tree.specs.declared.syntax.Expr as E
 use Rattle.cstar_tree.specs.declared.syntax.ShapeRef.{ShapeRef}
 use Rattle.cstar_tree.specs.declared.typed.ShapeInfo.{ShapeInfo}
 use Rattle.cstar_tree.specs.declared.typed.TExpr as T
-use Rattle.cstar_tree.specs.Constants.{axis_among, axis_of, constant_number}
+use Rattle.cstar_tree.specs.Constants.{axis_among, axis_of, constant_number, product}
 use Rattle.cstar_tree.specs.Conversions.{int}
 use Rattle.cstar_tree.specs.ExpressionTypes.{Types}
 use Rattle.cstar_tree.specs.ExpressionTypes as X
 use Rattle.cstar_tree.specs.Headers.{Program}
 use Rattle.cstar_tree.specs.Scopes.{Here, extents_of, shape_of}
 use Rattle.type_scopes.specs.Shapes.{rank_of}
-use Rattle.type_expressions.specs.Along.{extent_along}
+use Rattle.type_expressions.specs.Along.{extent_along, positions_in}
 use Rattle.type_expressions.specs.Answers.{HasShapes}
 use Rattle.type_expressions.specs.declared.intrinsics.Axis.{Axis}
 use Rattle.type_expressions.specs.declared.intrinsics.Axis.TheVariants as A
@@ -50,6 +51,13 @@ pub rank_types : (elem : Elem) (shapes : List ShapeInfo) {program : Program} {he
 rank_types elem shapes {here = here} {shape = shape} {value = value} {extents = extents} elem_is has named is few value_is =
     let rank : value ≡ length extents = value_is ∙ ap (λ (o : Option ℕ). unwrap_or o 0) (rank_is shapes here shape has is few) in
     rw (elem_is, rank) (X.rank_of named is)
+
+pub positions_types : (elem : Elem) (shapes : List ShapeInfo) {program : Program} {here : Here} {p : Place} {written : ShapeRef} {shape value : ℕ} {extents : List ℕ} → elem ≡ int → HasShapes shapes here → shape_of here written ≡ Some shape → extents_of here shape ≡ Some extents → product extents < 2 ^ 32 → value ≡ positions_in (slice_get shapes shape) → Types program here (E.PositionsOf p written) (T.PositionsOf (record { elem = elem; shape = None }) shape value) true
+positions_types elem shapes {here = here} {shape = shape} {value = value} {extents = extents} elem_is has named is few value_is =
+    let info = info_of shapes here shape has is in
+    let counted : product extents ≤ 2 ^ 32 - 1 = omega (arith, few) in
+    let count : value ≡ product extents = value_is ∙ (ap positions_in info.1 ∙ (ap (λ (all : List ℕ). min (product all) (2 ^ 32 - 1)) info.2 ∙ min-eq_left counted)) in
+    rw (elem_is, count) (X.positions_of named is)
 
 within : (b : Bool) {m n : ℕ} → (if b then Some m else None) ≡ Some n → (b ≡ true) × (m ≡ n)
 within true is = (refl, cc)

@@ -1,5 +1,5 @@
 -- What an intrinsic goes along: its axis and its segment bits, as the code has found them.
-use Rattle.std.specs.Prelude.{◌≡◌, ◌==◌, ◌<◌, ◌^◌, ℕ, ℤ, Bool, false, List, length, Option, Some, None, is_none, is_some, slice_get, unwrap_or, nat_lt, pos, negsuc, Result, Ok, Err, if◌then◌else◌}
+use Rattle.std.specs.Prelude.{◌≡◌, ◌==◌, ◌<◌, ◌-◌, ◌^◌, ℕ, min, ℤ, Bool, false, List, length, Option, Some, None, is_none, is_some, slice_get, unwrap_or, nat_lt, pos, negsuc, Result, Ok, Err, if◌then◌else◌}
 use Rattle.std.specs.Option.{option_map}
 use Rattle.cstar_base.specs.Numbers.{number_of}
 use Rattle.cstar_base.specs.declared.faults.Fault.{Fault}
@@ -18,7 +18,7 @@ use Rattle.source_meaning.specs.Constants.{constant_of}
 use Rattle.type_scopes.specs.Answers.{told_by}
 use Rattle.type_scopes.specs.declared.faults.Untyped.{Untyped}
 use Rattle.type_scopes.specs.declared.faults.Untyped.TheVariants as U
-use Rattle.cstar_tree.specs.Constants.{axis_among, axis_of}
+use Rattle.cstar_tree.specs.Constants.{axis_among, axis_of, product}
 use Rattle.cstar_tree.specs.Conversions.{parallel}
 use Rattle.cstar_tree.specs.ExpressionFaults.{FaultAt, IsAxis, NamesBit}
 use Rattle.cstar_tree.specs.ExpressionTypes.{IsBit, IsVariable}
@@ -66,6 +66,11 @@ goes_with mode bit = is_some bit
 abbrev pub extent_along : Option ShapeInfo → ℕ → ℕ
 extent_along None axis = 0
 extent_along (Some info) axis = unwrap_or (slice_get info.extents.items axis) 0
+
+-- how many positions a shape has, as far as 32 bits count them, or 0 where there is none
+abbrev pub positions_in : Option ShapeInfo → ℕ
+positions_in None = 0
+positions_in (Some info) = min (product info.extents.items) (2 ^ 32 - 1)
 
 -- as many as a shape has axes
 abbrev pub is_rank : Option ℕ → ℕ → Bool

@@ -1,3 +1,4 @@
 pub mod Along
 pub mod Answers
+pub mod Calls
 pub mod Names

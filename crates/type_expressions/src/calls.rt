@@ -1,14 +1,18 @@
 //! Calls of functions, and `printf`.
 
-ghost use Rattle.cstar_tree.specs.Conversions.{ArePromoted};
+ghost use Rattle.cstar_tree.specs.Conversions.{AreFitted, ArePromoted};
 ghost use Rattle.cstar_tree.specs.ExpressionTypes.{Types, TypesEach};
 ghost use Rattle.cstar_tree.specs.Headers.{Program};
 ghost use Rattle.cstar_tree.specs.Scopes.{Here, part};
 ghost use Rattle.cstar_tree.specs.declared.syntax.Expr as E;
 ghost use Rattle.cstar_tree.specs.declared.syntax.Expr.{Expr};
-ghost use Rattle.std.specs.Prelude.{◌≡◌, IfOk, MatchResult, Vec};
-ghost use Rattle.std.specs.List.{list_any};
+ghost use Rattle.std.specs.Prelude.{◌≡◌, ◌↔◌, List, IfOk, IsTrue, MatchResult, Some, Vec, length, map};
+ghost use Rattle.std.specs.List.{list_any, slice_get};
+ghost use Rattle.std.specs.Option.{option_flatten};
 ghost use Rattle.std.specs.declared.alloc.Global.{Global};
+ghost use Rattle.type_scopes.specs.declared.faults.Untyped.TheVariants as U;
+ghost use Rattle.cstar_tree.specs.declared.typed.ValueType.{ValueType};
+ghost use Rattle.type_expressions.specs.Calls.{TakesParallel, is_unfit};
 ghost use Rattle.type_expressions.specs.Answers.{IsFaultOrMemory, is_parallel, trees};
 
 use crate::found::{Found, TypedExpr, Typing};
@@ -25,16 +29,25 @@ use typed_nodes::conversions::{INT, converted, fitted, promoted};
 use typed_nodes::format::cut;
 
 /// Does a scalar parameter get a parallel argument?
-fn has_parallel_argument(header: &Header, arguments: &[Box<TExpr>]) -> bool {
+fn has_parallel_argument(header: &Header, arguments: &[Box<TExpr>]) -> bool
+    ensures { IsTrue result ↔ TakesParallel header.now.parameters.items (trees arguments.now) }
+{
     for (ty, argument) in header.parameters.iter().zip(arguments) {
-        if let Some(ty) = ty
-            && ty.shape.is_none()
-            && argument.ty().shape.is_some()
-        {
+        if is_unfit(*ty, argument) {
             return true;
         }
     }
     false
+}
+
+/// Is the argument parallel where its parameter is scalar?
+fn is_unfit(ty: Option<ValueType>, argument: &TExpr) -> bool
+    ensures { result ≡ is_unfit ty argument.now }
+{
+    match ty {
+        Some(ty) => ty.shape.is_none() && argument.ty().shape.is_some(),
+        None => false,
+    }
 }
 
 /// The arguments at the types of their parameters.
@@ -42,16 +55,24 @@ fn fit_arguments(
     alloc: Global,
     parameters: &[Option<ValueType>],
     arguments: Vec<Box<TExpr>>,
-) -> Result<Vec<TExpr>, Untyped> {
+) -> Result<Vec<TExpr>, Untyped>
+    ensures { (types : List ValueType) → parameters.now ≡ map (λ ty. Some ty) types → length arguments.items ≡ length types → (TakesParallel parameters.now (trees arguments.items) → ⊥) → MatchResult result (λ fit. AreFitted types (trees arguments.items) fit.items) (λ u. u ≡ U.Memory) }
+{
     let mut fit = Vec::new(alloc);
-    let mut types = parameters.iter();
     for argument in arguments {
-        let Some(Some(ty)) = types.next() else {
+        let Some(ty) = parameter_type(parameters, fit.len()) else {
             return Err(Untyped::Faulty);
         };
-        fit.push(Box::into_inner(fitted(alloc, argument, *ty)?))?;
+        fit.push(Box::into_inner(fitted(alloc, argument, ty)?))?;
     }
     Ok(fit)
+}
+
+/// The type of the parameter of the number, where it has one.
+fn parameter_type(parameters: &[Option<ValueType>], number: usize) -> Option<ValueType>
+    ensures { result ≡ option_flatten (slice_get parameters.now number) }
+{
+    *parameters.get(number)?
 }
 
 /// A call of the instance with its arguments at the types of the header, if all its parameters have

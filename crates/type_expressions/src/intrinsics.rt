@@ -3,7 +3,7 @@
 ghost use Rattle.cstar_tree.specs.ExpressionTypes.{Types};
 ghost use Rattle.cstar_tree.specs.Headers.{Program};
 ghost use Rattle.cstar_tree.specs.Scopes.{Here, extents_of, part, shape_of, written_type};
-ghost use Rattle.cstar_tree.specs.Constants.{axis_of};
+ghost use Rattle.cstar_tree.specs.Constants.{axis_of, product};
 ghost use Rattle.cstar_tree.specs.declared.syntax.ShapeRef.{ShapeRef};
 ghost use Rattle.cstar_base.specs.declared.operators.Place.{Place};
 ghost use Rattle.cstar_tree.specs.declared.syntax.Expr as E;
@@ -15,7 +15,7 @@ ghost use Rattle.cstar_tree.specs.Syntax.{place_of};
 ghost use Rattle.std.specs.Prelude.{◌≡◌, ◌↔◌, ◌<◌, ◌^◌, ℕ, true, Box, IsTrue, List, MatchResult, Option, Some, length, slice_get};
 ghost use Rattle.type_expressions.specs.declared.intrinsics.Axis.TheVariants as A;
 ghost use Rattle.std.specs.declared.alloc.Global.{Global};
-ghost use Rattle.type_expressions.specs.Along.{AreBits, AreBitsNamed, GoesBy, IsAlong, IsAxisOf, axis_in, extent_along, goes_with, number_of_constant};
+ghost use Rattle.type_expressions.specs.Along.{AreBits, AreBitsNamed, GoesBy, IsAlong, IsAxisOf, axis_in, extent_along, goes_with, number_of_constant, positions_in};
 ghost use Rattle.type_expressions.specs.Names.{HasNames};
 ghost use Rattle.type_scopes.specs.Bindings.{variable_type};
 ghost use Rattle.type_scopes.specs.FileBindings.{names_at};
@@ -92,12 +92,23 @@ pub fn pcoord(site: Site, place: Place, axis: Axis) -> Result<TExpr, Untyped>
 }
 
 /// `positionsof` of the shape.
-pub fn positions_of(file: &File<'_>, shape: u16) -> TExpr {
-    let count = file.shapes.get(usize::from(shape)).map_or(0, positions);
+pub fn positions_of(file: &File<'_>, shape: u16) -> TExpr
+    ensures { (program : Program) (here : Here) (place : Place) (written : ShapeRef) (extents : List ℕ) → HasShapes file.now.shapes.items here → shape_of here written ≡ Some shape → extents_of here shape ≡ Some extents → product extents < 2 ^ 32 → Types program here (E.PositionsOf place written) result true }
+{
     TExpr::PositionsOf {
         ty: INT,
         shape,
-        value: u32::try_from(count).unwrap_or(u32::MAX),
+        value: position_count(file, shape),
+    }
+}
+
+/// How many positions the shape has, as far as a `u32` counts them, or 0 where there is none.
+fn position_count(file: &File<'_>, shape: u16) -> u32
+    ensures { result ≡ positions_in (slice_get file.now.shapes.items shape) }
+{
+    match file.shapes.get(usize::from(shape)) {
+        Some(info) => u32::try_from(positions(info)).unwrap_or(u32::MAX),
+        None => 0,
     }
 }
 
