@@ -6,7 +6,7 @@ use Rattle.std.proofs.lemmas.Nat.{mod-pow-add, shr-shr, pow_pos, mod_below}
 use Rattle.std.proofs.lemmas.Bool.{cases_lt, lt-ltb, le-ltb, eq-eqb}
 use Rattle.lane_kernels.proofs.BitTables.{less_step, equal_step}
 use Rattle.std.proofs.lemmas.Nat.{and_mask, and_le_l, or_lt, xor_lt}
-use Rattle.std.proofs.lemmas.Nat.Bits.{bit_at_and, bit_at_or, bit_at_xor, bit_at_ones, bit_at_above, bit_at_cat_low, bit_at_cat_high}
+use Rattle.std.proofs.lemmas.Nat.Bits.{bit_at-zero, bit_at_and, bit_at_or, bit_at_xor, bit_at_ones, bit_at_above, bit_at_cat_low, bit_at_cat_high}
 use Rattle.std.specs.Int.Bits.{bit_and, bit_xor, xor_add_and}
 use Rattle.lane_kernels.specs.declared.gates.Gate.{Gate}
 use Rattle.lane_kernels.specs.declared.gates.Gate.TheVariants.{And, Or, Xor}
@@ -41,6 +41,21 @@ carry_is x y c j =
     omega (arith, mod-next x j, mod-next y j, mul-add p (bit_at x j) (bit_at y j), mul_comm p (bit_at x j), mul_comm p (bit_at y j)) in
     sym (shr-shr (x % 2 ^ (j + 1) + y % 2 ^ (j + 1) + c) j 1) ∙ ap (λ n. n / p / 2) e
     ∙ ap (λ n. n / 2) (mul-add-div (pow_pos j) (bit_at x j + bit_at y j) (x % p + y % p + c))
+
+-- the bit of a number with a carry, and the carry out of it
+pub plus_bit_is : (x c j : ℕ) → bit_at (x + c) j ≡ (bit_at x j + (x % 2 ^ j + c) / 2 ^ j) % 2
+plus_bit_is x c j =
+    ap (λ n. bit_at (n + c) j) (let e : x ≡ x + 0 = omega arith in e) ∙ sum_bit_is x 0 c j
+    ∙ ap (λ b. (bit_at x j + b + (x % 2 ^ j + 0 % 2 ^ j + c) / 2 ^ j) % 2) (bit_at-zero j)
+    ∙ ap (λ r. (bit_at x j + 0 + (x % 2 ^ j + r + c) / 2 ^ j) % 2) (mod_small 0 (2 ^ j) (pow_pos j))
+    ∙ ap (λ n. (n + (x % 2 ^ j + 0 + c) / 2 ^ j) % 2) (let e : bit_at x j + 0 ≡ bit_at x j = omega arith in e)
+    ∙ ap (λ n. (bit_at x j + (n + c) / 2 ^ j) % 2) (let e : x % 2 ^ j + 0 ≡ x % 2 ^ j = omega arith in e)
+
+pub plus_carry_is : (x c j : ℕ) → (x % 2 ^ (j + 1) + c) / 2 ^ (j + 1) ≡ (bit_at x j + (x % 2 ^ j + c) / 2 ^ j) / 2
+plus_carry_is x c j =
+    let p : ℕ = 2 ^ j in
+    let e : x % 2 ^ (j + 1) + c ≡ p * bit_at x j + (x % p + c) = omega (arith, mod-next x j, mul_comm p (bit_at x j)) in
+    sym (shr-shr (x % 2 ^ (j + 1) + c) j 1) ∙ ap (λ n. n / p / 2) e ∙ ap (λ n. n / 2) (mul-add-div (pow_pos j) (bit_at x j) (x % p + c))
 
 -- the bits of a complement
 pub complement_bits : (n x j : ℕ) → x < 2 ^ n → j < n → bit_at (2 ^ n - 1 - x) j ≡ 1 - bit_at x j

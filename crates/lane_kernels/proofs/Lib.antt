@@ -6,3 +6,4 @@ pub mod Steps
 pub mod ColumnLemmas
 pub mod Ones
 pub mod Products
+pub mod Raising

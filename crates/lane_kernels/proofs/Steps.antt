@@ -38,7 +38,26 @@ field_kept offset n to j at i numbers old mid ja an readable before =
     ap (λ q. bit q i) (before.outside (offset + at) (elim readable.1 [ inl l ↦ inr (omega arith) | inr g ↦ inl (omega arith) ]))
     ∙ sym (number-bits old offset n i at an)
 
--- one bit of a field from bit k on
+-- one bit of a field from bit k on, as it is read while the target is written from its lowest bit up
+pub taken_bit : (to : Target) (offset n j k : ℕ) (unsigned : Bool) (sign value : List ℕ) (numbers : ℕ → ℕ) (old mid : List Plane) → 1 ≤ n → j < to.len → IsFieldReadable offset n to old
+    → ((i : ℕ) → i < 512 → bit sign i ≡ cond unsigned 0 (bit (plane_at old (offset + (n - 1))) i))
+    → ((i : ℕ) → i < 512 → bit value i ≡ cond (nat_lt (j + k) n) (bit (plane_at mid (offset + (j + k))) i) (bit sign i))
+    → Becoming to 0 j numbers old mid → (i : ℕ) → i < 512 → bit value i ≡ bit_at (extended unsigned n (to.len + k) (number old offset n i) / 2 ^ k) j
+taken_bit to offset n j k unsigned sign value numbers old mid nb jb readable sign_is value_is before i ib =
+    let x : ℕ = number old offset n i in
+    let s : bit sign i ≡ cond unsigned 0 (bit_at x (n - 1)) = sign_is i ib ∙ ap (cond unsigned 0) (sym (number-bits old offset n i (n - 1) (omega arith))) in
+    value_is i ib ∙ ap (cond (nat_lt (j + k) n) (bit (plane_at mid (offset + (j + k))) i)) s
+    ∙ (let e : cond (nat_lt (j + k) n) (bit (plane_at mid (offset + (j + k))) i) (cond unsigned 0 (bit_at x (n - 1))) ≡ cond (nat_lt (j + k) n) (bit_at x (j + k)) (cond unsigned 0 (bit_at x (n - 1))) =
+    elim (cases_lt (j + k) n) [
+      | inl l ↦ ap (λ b. cond (nat_lt (j + k) n) b (cond unsigned 0 (bit_at x (n - 1)))) (field_kept offset n to j (j + k) i numbers old mid (omega arith) l readable before)
+      | inr g ↦ ap (λ t. cond t (bit (plane_at mid (offset + (j + k))) i) (cond unsigned 0 (bit_at x (n - 1)))) (le-ltb (j + k) n g)
+          ∙ sym (ap (λ t. cond t (bit_at x (j + k)) (cond unsigned 0 (bit_at x (n - 1)))) (le-ltb (j + k) n g))
+    ] in e)
+    ∙ sym (extended_bits unsigned n (to.len + k) x (j + k) nb (number-lt old offset n i) (omega arith))
+    ∙ ap (bit_at (extended unsigned n (to.len + k) x)) (let e : j + k ≡ k + j = omega arith in e)
+    ∙ sym (bit_at-shr (extended unsigned n (to.len + k) x) k j)
+
+-- the same written
 pub taken : (to : Target) (offset n j k : ℕ) (unsigned : Bool) (sign value : List ℕ) (old mid new : List Plane) → 1 ≤ n → j < to.len → IsFieldReadable offset n to old
     → ((i : ℕ) → i < 512 → bit sign i ≡ cond unsigned 0 (bit (plane_at old (offset + (n - 1))) i))
     → ((i : ℕ) → i < 512 → bit value i ≡ cond (nat_lt (j + k) n) (bit (plane_at mid (offset + (j + k))) i) (bit sign i))
@@ -46,19 +65,7 @@ pub taken : (to : Target) (offset n j k : ℕ) (unsigned : Bool) (sign value : L
     → Becoming to 0 (j + 1) (λ i. extended unsigned n (to.len + k) (number old offset n i) / 2 ^ k) old new
 taken to offset n j k unsigned sign value old mid new nb jb readable sign_is value_is before now =
     let f : ℕ → ℕ = λ i. extended unsigned n (to.len + k) (number old offset n i) / 2 ^ k in
-    one_up to j f old mid new value before now (λ i ib _.
-    let x : ℕ = number old offset n i in
-    let s : bit sign i ≡ cond unsigned 0 (bit_at x (n - 1)) = sign_is i ib ∙ ap (cond unsigned 0) (sym (number-bits old offset n i (n - 1) (omega arith))) in
-    value_is i ib ∙ ap (cond (nat_lt (j + k) n) (bit (plane_at mid (offset + (j + k))) i)) s
-    ∙ (let e : cond (nat_lt (j + k) n) (bit (plane_at mid (offset + (j + k))) i) (cond unsigned 0 (bit_at x (n - 1))) ≡ cond (nat_lt (j + k) n) (bit_at x (j + k)) (cond unsigned 0 (bit_at x (n - 1))) =
-    elim (cases_lt (j + k) n) [
-      | inl l ↦ ap (λ b. cond (nat_lt (j + k) n) b (cond unsigned 0 (bit_at x (n - 1)))) (field_kept offset n to j (j + k) i f old mid (omega arith) l readable before)
-      | inr g ↦ ap (λ t. cond t (bit (plane_at mid (offset + (j + k))) i) (cond unsigned 0 (bit_at x (n - 1)))) (le-ltb (j + k) n g)
-          ∙ sym (ap (λ t. cond t (bit_at x (j + k)) (cond unsigned 0 (bit_at x (n - 1)))) (le-ltb (j + k) n g))
-    ] in e)
-    ∙ sym (extended_bits unsigned n (to.len + k) x (j + k) nb (number-lt old offset n i) (omega arith))
-    ∙ ap (bit_at (extended unsigned n (to.len + k) x)) (let e : j + k ≡ k + j = omega arith in e)
-    ∙ sym (bit_at-shr (extended unsigned n (to.len + k) x) k j))
+    one_up to j f old mid new value before now (λ i ib _. taken_bit to offset n j k unsigned sign value f old mid nb jb readable sign_is value_is before i ib)
 
 -- one bit of a field that is shifted left, from the highest down
 pub lifted : (to : Target) (offset m j k : ℕ) (value : List ℕ) (old mid new : List Plane) → j < to.len → IsReadableDown offset to old

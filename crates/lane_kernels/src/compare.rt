@@ -17,6 +17,7 @@ pub fn less(planes: &[Plane], a: &Operand, b: &Operand, len: u8, unsigned: bool)
     requires b { IsWithin b.now len planes.now }
     ensures { (i : ℕ) → i < 512 → bit result i ≡ (if is_less unsigned len (operand_of a.now planes.now len i) (operand_of b.now planes.now len i) then 1 else 0) }
 {
+    let (a, b) = (*a, *b);
     let top = len as usize - 1;
     let mut below = repeated(false);
     for j in 0..top {
@@ -55,6 +56,7 @@ pub fn equal(planes: &[Plane], a: &Operand, b: &Operand, len: u8) -> u64x8
     requires b { IsWithin b.now len planes.now }
     ensures { (i : ℕ) → i < 512 → bit result i ≡ (if nat_eq (operand_of a.now planes.now len i) (operand_of b.now planes.now len i) then 1 else 0) }
 {
+    let (a, b) = (*a, *b);
     let mut alike = repeated(true);
     for j in 0..len as usize {
         let change = differ(a.plane(planes, j), b.plane(planes, j));

@@ -1,6 +1,8 @@
 //! Kernels in place: they read fields of the planes and write a field of the same planes, in the
-//! lanes of a mask. Where operand and target coincide or do not overlap, each may be used.
-ghost use Rattle.std.specs.Prelude.{◌≡◌, ℕ, ◌<◌, ◌≤◌, ◌+◌, ◌-◌, ◌*◌, ◌/◌, ◌%◌, ◌^◌, ◌⊎◌, length, slice_index, if◌then◌else◌, nat_eq, nat_lt, bit_and, bit_or, bit_xor};
+//! lanes of a mask. Where operand and target coincide or do not overlap, each may be used. Before
+//! its loop a kernel copies what it is lent: a local stays in registers, while what is lent is read
+//! again for each plane that is written.
+ghost use Rattle.std.specs.Prelude.{◌≡◌, ℕ, ◌<◌, ◌≤◌, ◌+◌, ◌-◌, ◌*◌, ◌/◌, ◌%◌, ◌^◌, ◌⊎◌, false, length, slice_index, if◌then◌else◌, nat_eq, nat_lt, bit_and, bit_or, bit_xor};
 ghost use Rattle.bit_planes.specs.Bits.{bit};
 ghost use Rattle.bit_planes.specs.Planes.{number, plane_at};
 ghost use Rattle.bit_planes.specs.Rows.{held};
@@ -12,7 +14,7 @@ ghost use Rattle.lane_kernels.specs.Gates.{gate_of};
 use crate::compare::less;
 use crate::gates::{Gate, carry_bit, choose, sum_bit};
 use crate::target::{Operand, Target};
-use bit_planes::plane::{differ, opposite, repeated};
+use bit_planes::plane::{both, differ, opposite, repeated};
 use bit_planes::{Lanes, Plane, Rows};
 use std::simd::prelude::*;
 
@@ -24,6 +26,7 @@ fn ripple(planes: &mut [Plane], to: &Target, a: &Operand, b: &Operand, inverted:
     requires b { IsReadable b.now to.now planes.old }
     ensures { Becomes to.now (λ i. (operand_of a.now planes.old to.now.len i + addend inverted to.now.len (operand_of b.now planes.old to.now.len i)) % 2 ^ to.now.len) planes.old planes.new }
 {
+    let (to, a, b) = (*to, *a, *b);
     let flip = repeated(inverted);
     let mut carry = repeated(inverted);
     for j in 0..to.len as usize {
@@ -72,6 +75,7 @@ fn bitwise(planes: &mut [Plane], to: &Target, a: &Operand, b: &Operand, gate: Ga
     requires b { IsReadable b.now to.now planes.old }
     ensures { Becomes to.now (λ i. gate_of gate (operand_of a.now planes.old to.now.len i) (operand_of b.now planes.old to.now.len i)) planes.old planes.new }
 {
+    let (to, a, b) = (*to, *a, *b);
     for j in 0..to.len as usize {
         let value = gate.through(a.plane(planes, j), b.plane(planes, j));
         to.write(planes, j, value);
@@ -123,6 +127,7 @@ pub fn not(planes: &mut [Plane], to: &Target, a: &Operand)
     requires a { IsReadable a.now to.now planes.old }
     ensures { Becomes to.now (λ i. complement_of to.now.len (operand_of a.now planes.old to.now.len i)) planes.old planes.new }
 {
+    let (to, a) = (*to, *a);
     for j in 0..to.len as usize {
         let value = opposite(a.plane(planes, j));
         to.write(planes, j, value);
@@ -136,6 +141,7 @@ pub fn select(planes: &mut [Plane], to: &Target, first: u64x8, a: &Operand, b: &
     requires b { IsReadable b.now to.now planes.old }
     ensures { Becomes to.now (λ i. if nat_eq (bit first i) 1 then operand_of a.now planes.old to.now.len i else operand_of b.now planes.old to.now.len i) planes.old planes.new }
 {
+    let (to, a, b) = (*to, *a, *b);
     for j in 0..to.len as usize {
         let value = choose(first, a.plane(planes, j), b.plane(planes, j));
         to.write(planes, j, value);
@@ -199,6 +205,7 @@ fn from_bit(planes: &mut [Plane], to: &Target, offset: u32, len: u8, k: u32, uns
     requires field { IsFieldReadable offset len to.now planes.old }
     ensures { Becomes to.now (λ i. extended unsigned len (to.now.len + k) (number planes.old offset len i) / 2 ^ k % 2 ^ to.now.len) planes.old planes.new }
 {
+    let to = *to;
     let sign = above(planes, offset, len, unsigned);
     for j in 0..to.len as usize {
         let value = plane_or(planes, offset, len, j + k as usize, sign);
@@ -225,6 +232,24 @@ pub fn shift_right(planes: &mut [Plane], to: &Target, offset: u32, k: u32, unsig
     from_bit(planes, to, offset, to.len, k, unsigned);
 }
 
+/// The numbers of the field at the offset, shifted right by k in two's complement, and one more where
+/// the plane has 1.
+pub fn shift_right_plus(planes: &mut [Plane], to: &Target, offset: u32, k: u32, more: u64x8)
+    requires target { HasTarget to.now planes.old }
+    requires field { IsFieldReadable offset to.now.len to.now planes.old }
+    ensures { Becomes to.now (λ i. (shifted_right false to.now.len k (number planes.old offset to.now.len i) + bit more i) % 2 ^ to.now.len) planes.old planes.new }
+{
+    let to = *to;
+    let sign = above(planes, offset, to.len, false);
+    let mut carry = more;
+    for j in 0..to.len as usize {
+        let value = plane_or(planes, offset, to.len, j + k as usize, sign);
+        let sum = differ(value, carry);
+        carry = both(value, carry);
+        to.write(planes, j, sum);
+    }
+}
+
 /// The plane k before this one of a field, or 0.
 #[inline(always)]
 fn plane_before(planes: &[Plane], offset: u32, at: usize, k: u32) -> u64x8
@@ -244,6 +269,7 @@ pub fn shift_left(planes: &mut [Plane], to: &Target, offset: u32, k: u32)
     requires field { IsReadableDown offset to.now planes.old }
     ensures { Becomes to.now (λ i. shifted_left to.now.len k (number planes.old offset to.now.len i)) planes.old planes.new }
 {
+    let to = *to;
     for j in (0..to.len as usize).rev() {
         let value = plane_before(planes, offset, j, k);
         to.write(planes, j, value);

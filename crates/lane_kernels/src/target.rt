@@ -10,7 +10,7 @@ use std::simd::prelude::*;
 
 /// Where a kernel puts its results: a field of the planes, and the lanes in which it is written. Where
 /// all lanes are seen to be written, a plane is put down whole.
-#[derive(Drop)]
+#[derive(Clone, Copy)]
 pub struct Target {
     pub offset: u32,
     pub len: u8,
@@ -71,7 +71,7 @@ impl Target {
 
 /// What a kernel reads: a field of the planes, as long as the target, or one number for all lanes,
 /// cut to the target's length.
-#[derive(Drop)]
+#[derive(Clone, Copy)]
 pub enum Operand {
     Field(u32),
     Constant(u32),
