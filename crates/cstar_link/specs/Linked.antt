@@ -25,8 +25,8 @@ unfoldable pub entries_from : ℕ → List Unit → List Entry
 entries_from start [] = []
 entries_from start (u ∷ us) = record { name = u.name; start = start } ∷ entries_from (start + length u.code.items) us
 
--- an image has the units of a program as one list of code and the bits that its fields reach, and all
--- else is as it was
+-- an image has the units of a program as one list of code, its sets have no bits behind their furthest
+-- fields, and all else is as it was
 pub record IsLinked (p : Program) (image : Image) : Type 0 where
   pub code : image.code.items ≡ code_from 0 p.units.items
   pub units : image.units.items ≡ entries_from 0 p.units.items

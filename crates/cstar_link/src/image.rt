@@ -10,7 +10,7 @@ use paris_code::{Entry, Image, Instr, Program, Unit};
 use std::alloc::Global;
 
 /// The image of a placed program: its units' code in one list, with each jump target moved by where
-/// its unit begins.
+/// its unit begins. Each set has the bits up to the end of its furthest field, if those are fewer.
 pub fn link(alloc: Global, p: Program) -> Result<Image, Memory>
     ensures { IfOk result (λ image. IsLinked p image) }
 {

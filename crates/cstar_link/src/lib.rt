@@ -1,4 +1,5 @@
-//! Linking: the units of a placed program become one list of code.
+//! Linking: the units of a placed program become one list of code, and each set has the bits that its
+//! fields reach.
 #![tactic(auto)]
 
 mod image;
