@@ -1,9 +1,10 @@
 -- Where a step along an axis leads, by the numbers of positions; and the lanes from which it crosses the end of a turn.
-use Rattle.std.proofs.Common.{◌≡◌, ℕ, suc, ◌+◌, ◌-◌, ◌*◌, ◌%◌, ◌<◌, ◌≤◌, true, cond, eqb, ltb, max, min, List, drop, refl, sym, ◌∙◌, ap, inl, inr, zero-add, add-mul, arith}
+use Rattle.std.proofs.Common.{◌≡◌, ℕ, zero, suc, ◌+◌, ◌-◌, ◌*◌, ◌%◌, ◌<◌, ◌≤◌, true, cond, eqb, ltb, max, min, List, [], ◌∷◌, drop, refl, sym, ◌∙◌, ap, inl, inr, zero-add, add-mul, arith}
 use Rattle.std.specs.Prelude.{ℤ, pos, negsuc, ◌+ℤ◌, unsigned_abs, slice_index, length}
 use Rattle.std.proofs.lemmas.Int.{int_rem_euclid_is, ints}
 use Rattle.std.proofs.Math.Arith.{mod-mul}
-use Rattle.std.proofs.Math.Nat.{mod-eq_of_lt, mod-lt, add-mod-mod, add-mod_right, mul-le-mul_right, le-mul_of_pos_right, mod-le}
+use Rattle.std.proofs.Math.Nat.{mod-eq_of_lt, mod-lt, add-mod-mod, add-mod_right, mul-le-mul_right, le-mul_of_pos_right, mod-le, mod_self}
+use Rattle.std.proofs.lemmas.Nat.{mul-mod_second}
 use Rattle.std.proofs.lemmas.Bool.{cases_lt}
 use Rattle.vp_sets.specs.Positions.{position_count, are_positive, coordinate, moved, shifted}
 use Rattle.vp_sets.proofs.PositionLaws.{Step, step_of, axis_count, extent_positive, later_positive, count_positive, coordinate_by_stride}
@@ -14,7 +15,7 @@ use Rattle.phase_meaning.proofs.Alike.{shifted_below}
 use Rattle.phase_meaning.proofs.Tests.{less, not_less}
 use Rattle.news_grid.specs.declared.step.Step.{Step as Lead}
 use Rattle.news_grid.specs.declared.window.Window.{Window}
-use Rattle.news_grid.specs.Steps.{led, beside, number_held, number_seen, Leads, Views}
+use Rattle.news_grid.specs.Steps.{led, turn_blocks, beside, number_held, number_seen, Leads, Views}
 use Rattle.news_grid.proofs.Windows.{seen_there}
 
 -- a number that leaves the same as an integer
@@ -29,13 +30,15 @@ moved_is e own (negsuc a) p =
     let much : suc a ≤ suc a * e = le-mul_of_pos_right (suc a) p in
     ap unsigned_abs (int_rem_euclid_is (pos own +ℤ negsuc a) (pos e) e (suc a) (own + (suc a * e - suc a)) p refl (omega (arith, ints, much)))
 
+-- a number that is past one extent and not past two
+pub past_once : (n e : ℕ) → e ≤ n → n < 2 * e → n % e ≡ n - e
+past_once n e g few = ap (λ m. m % e) (let q : n ≡ (n - e) + e = omega (arith, g) in q) ∙ add-mod_right (n - e) e ∙ mod-eq_of_lt (let q : n - e < e = omega (arith, few, g) in q)
+
 -- round the end by less than an extent
 round_once : (e own k : ℕ) → own < e → k < e → (own + k) % e ≡ cond (ltb (own + k) e) (own + k) (own + k - e)
 round_once e own k o h = elim (cases_lt (own + k) e) [
   | inl l ↦ mod-eq_of_lt l ∙ less (own + k) e (own + k) (own + k - e) l
-  | inr g ↦
-      ap (λ n. n % e) (let q : own + k ≡ (own + k - e) + e = omega (arith, g) in q) ∙ add-mod_right (own + k - e) e
-      ∙ mod-eq_of_lt (let q : own + k - e < e = omega (arith, o, h, g) in q) ∙ not_less (own + k) e (own + k) (own + k - e) g
+  | inr g ↦ past_once (own + k) e g (omega (arith, o, h)) ∙ not_less (own + k) e (own + k) (own + k - e) g
 ]
 
 moved_by : (e own : ℕ) (by : ℤ) → own < e → (moved e 0 by < e) × (moved e own by ≡ cond (ltb (own + moved e 0 by) e) (own + moved e 0 by) (own + moved e 0 by - e))
@@ -66,6 +69,15 @@ one_step n c k e t rest tp rb cb kb is part =
           ∙ (let q : n - c * t + (c + k - e) * t ≡ n + k * t - e * t = omega (arith, split, past, back, part) in q)
           ∙ not_less (n % (e * t) + k * t) (e * t) (n + k * t) (n + k * t - e * t) (omega (arith, is, past, split))
     ]
+
+-- the turns of an axis fill the set
+axis_fills : (xs : List ℕ) (axis : ℕ) → axis < length xs → position_count xs % (slice_index xs axis * position_count (drop (suc axis) xs)) ≡ 0
+unfolding position_count
+axis_fills [] axis r = elim r [ ]
+axis_fills (x ∷ xs) zero r = mod_self (x * position_count xs)
+axis_fills (x ∷ xs) (suc axis) r =
+    let turn : ℕ = slice_index xs axis * position_count (drop (suc axis) xs) in
+    sym (mul-mod_second x (position_count xs) turn) ∙ ap (λ n. (x * n) % turn) (axis_fills xs axis (omega arith)) ∙ (let q : (x * 0) % turn ≡ 0 = omega arith in q)
 
 module _ (xs : List ℕ) (axis : ℕ) (by : ℤ) (positive : are_positive xs ≡ true) (there : axis < length xs) where
   abbrev pub extent : ℕ
@@ -107,8 +119,8 @@ module _ (xs : List ℕ) (axis : ℕ) (by : ℤ) (positive : are_positive xs ≡
       let short : 0 % (extent * stride) + steps * stride < extent * stride = omega (arith, zero_is, less_than, more, stride_is) in
       stepped 0 (count_positive xs positive) ∙ sym (less (0 % (extent * stride) + steps * stride) (extent * stride) (0 + steps * stride) (0 + steps * stride - extent * stride) short) ∙ (let q : 0 + steps * stride ≡ steps * stride = omega arith in q)
 
-  pub leads : (step : Lead) → step.turn ≡ extent * stride → step.ahead ≡ shifted xs 0 axis by → Leads xs axis by step
-  leads step turn ahead =
+  pub leads : (step : Lead) → step.turn ≡ extent * stride → step.ahead ≡ shifted xs 0 axis by → step.blocks ≡ turn_blocks step.turn → Leads xs axis by step
+  leads step turn ahead blocks =
       let is : step.ahead ≡ steps * stride = ahead ∙ from_first in
       let small : steps < extent = (moved_by extent 0 by extent_is).0 in
       let less_than : (steps + 1) * stride ≤ extent * stride = mul-le-mul_right stride (omega (arith, small)) in
@@ -116,6 +128,8 @@ module _ (xs : List ℕ) (axis : ℕ) (by : ℤ) (positive : are_positive xs ≡
       record {
         short = omega (arith, is, turn, less_than, more, stride_is);
         within = omega (arith, turn, axis_count xs axis positive there);
+        fills = ap (λ t. position_count xs % t) turn ∙ axis_fills xs axis there;
+        blocks = blocks;
         there = λ n within. stepped n within
             ∙ ap (λ a. cond (ltb (n % (extent * stride) + a) (extent * stride)) (n + a) (n + a - extent * stride)) (sym is)
             ∙ ap (λ t. cond (ltb (n % t + step.ahead) t) (n + step.ahead) (n + step.ahead - t)) (sym turn);

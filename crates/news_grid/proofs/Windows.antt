@@ -5,7 +5,9 @@ use Rattle.std.proofs.Math.Nat.{mod-eq_of_lt, mod-lt, add-mul-mod_self_right, mu
 use Rattle.std.proofs.lemmas.Bool.{cases_lt, cases_eq, eq-eqb, ne_eqb}
 use Rattle.std.proofs.lemmas.Nat.{div_below, div-mul-add, div-add-mod'}
 use Rattle.bit_planes.specs.declared.block.Block.{Block}
+use Rattle.block_store.specs.Phases.{LanesWritten}
 use Rattle.block_store.specs.Planes.{planes_in, planes_at}
+use Rattle.block_store.proofs.Kernels.{put_at}
 use Rattle.phase_meaning.proofs.Entries.{entry}
 use Rattle.bit_planes.proofs.Planes.{plane_read, number-bits, number-lt, number-same}
 use Rattle.bit_planes.proofs.Words.{bit-lt}
@@ -14,10 +16,11 @@ use Rattle.bit_planes.specs.Bits.{bit}
 use Rattle.bit_planes.specs.Planes.{plane_at, number}
 use Rattle.lane_kernels.specs.declared.target.Target.{Target}
 use Rattle.lane_kernels.specs.Kernels.{Becomes}
+use Rattle.lane_kernels.proofs.Lifted.{same_change}
 use Rattle.phase_meaning.proofs.Tests.{less, not_less}
 use Rattle.news_grid.specs.declared.window.Turn.{Turn}
 use Rattle.news_grid.specs.declared.window.Window.{Window}
-use Rattle.news_grid.specs.Steps.{number_taken, number_held, number_seen, seen_through, beside, HasHeld, Views}
+use Rattle.news_grid.specs.Steps.{number_taken, number_held, number_seen, position_seen, seen_through, beside, HasHeld, Views}
 
 -- a word of the first plane, or of the second
 pub word_low : (low high : List ℕ) (at : ℕ) → at < 8 → (i : ℕ) → i < 64 → bit_at (get_or low at 0) i ≡ beside low high (64 * at + i)
@@ -133,6 +136,21 @@ seen_there held window lane blocks len i p turns views ib pb e =
           ∙ ap (number held (p / 512 * len) len) (let q : n - 512 ≡ p % 512 = omega (arith, views.from, g, ib, e) in q)
     ]
 
+-- and by the position that it shows
+pub seen_held : (held : List Plane) (window : Window) (len i : ℕ) → i < 512 → window.from < 512 → number_seen held window len i ≡ number_held held len (position_seen window i)
+seen_held held window len i ib fb =
+    let n : ℕ = window.from + i in
+    let low : ℕ = 512 * window.first + n in
+    let high : ℕ = 512 * window.next + (n - 512) in
+    elim (cases_lt n 512) [
+      | inl l ↦ sym (less n 512 (number held (window.first * len) len n) (number held (window.next * len) len (n - 512)) l)
+          ∙ ap (λ k. number held (k * len) len n) (let q : window.first ≡ low / 512 = omega (arith, l) in q) ∙ ap (number held (low / 512 * len) len) (let q : n ≡ low % 512 = omega (arith, l) in q)
+          ∙ ap (number_held held len) (less n 512 low high l)
+      | inr g ↦ sym (not_less n 512 (number held (window.first * len) len n) (number held (window.next * len) len (n - 512)) g)
+          ∙ ap (λ k. number held (k * len) len (n - 512)) (let q : window.next ≡ high / 512 = omega (arith, ib, fb) in q) ∙ ap (number held (high / 512 * len) len) (let q : n - 512 ≡ high % 512 = omega (arith, ib, fb) in q)
+          ∙ ap (number_held held len) (not_less n 512 low high g)
+    ]
+
 -- the number of a lane fits
 pub seen-lt : (held : List Plane) (window : Window) (len i : ℕ) → number_seen held window len i < 2 ^ len
 seen-lt held window len i =
@@ -168,6 +186,12 @@ both_put held turn to staying round old mid new so sl ro rl stays rounds first s
   outside = λ j far. second.outside j (subst (λ o. (j < o) ⊎ (o + round.len ≤ j)) (sym ro) (subst (λ n. (j < to.offset) ⊎ (to.offset + n ≤ j)) (sym rl) far))
       ∙ first.outside j (subst (λ o. (j < o) ⊎ (o + staying.len ≤ j)) (sym so) (subst (λ n. (j < to.offset) ⊎ (to.offset + n ≤ j)) (sym sl) far));
 }
+
+-- what a target becomes is written in its field and lanes
+pub target_written : (to : Target) (offset len : ℕ) (lanes : List ℕ) (numbers : ℕ → ℕ → ℕ) (old new : List Plane) → to.offset ≡ offset → to.len ≡ len → to.lanes ≡ lanes
+    → Becomes to (numbers to.len) old new → LanesWritten offset len lanes (numbers len) old new
+target_written to offset len lanes numbers old new is_offset is_len is_lanes becomes =
+    put_at to offset len lanes (numbers len) old new is_offset is_len is_lanes (same_change to (numbers to.len) (numbers len) old new (λ i ib. ap (λ n. numbers n i) is_len) becomes)
 
 -- the one of two bits that a third chooses
 pub chosen : (c r s a d b x : ℕ) → c < 2 → r < 2 → s < 2 → a ≡ min c r → d ≡ 1 - c → b ≡ min d s → x ≡ max a b → x ≡ cond (eqb c 1) r s

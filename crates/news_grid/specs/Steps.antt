@@ -12,10 +12,16 @@ use Rattle.news_grid.specs.declared.window.Window.{Window}
 abbrev pub led : Step → ℕ → ℕ
 led step n = if nat_lt (n % step.turn + step.ahead) step.turn then n + step.ahead else n + step.ahead - step.turn
 
+-- how many blocks are in a turn of so many positions, where the turns begin at blocks; else 0
+abbrev pub turn_blocks : ℕ → ℕ
+turn_blocks turn = if turn % 512 == 0 then turn / 512 else 0
+
 -- the step that leads by so many along an axis
 pub record Leads (extents : List ℕ) (axis : ℕ) (by : ℤ) (step : Step) : Type 0 where
   pub short : step.ahead < step.turn
   pub within : step.turn ≤ position_count extents
+  pub fills : position_count extents % step.turn ≡ 0
+  pub blocks : step.blocks ≡ turn_blocks step.turn
   pub there : (n : ℕ) → n < position_count extents → shifted extents n axis by ≡ led step n
   pub inside : (n : ℕ) → n < position_count extents → shifted extents n axis by < position_count extents
 
@@ -36,6 +42,10 @@ pub record Views (window : Window) (lane blocks : ℕ) : Type 0 where
   pub first : window.first ≡ lane / 512 % blocks
   pub next : window.next ≡ (lane / 512 + 1) % blocks
   pub from : window.from ≡ lane % 512
+
+-- the position that lane i of a window shows
+abbrev pub position_seen : Window → ℕ → ℕ
+position_seen window i = if nat_lt (window.from + i) 512 then 512 * window.first + (window.from + i) else 512 * window.next + (window.from + i - 512)
 
 -- the planes of a field of len bits are held of both blocks of a window
 abbrev pub HasHeld : Window → ℕ → List Plane → Type 0

@@ -123,6 +123,8 @@ fn put_from(planes: &mut [Plane], to: &Target, held: &[Plane], window: &Window, 
     requires word { word ≡ window.now.from / 64 }
     ensures { Becomes to.now (λ i. number_seen held.now window.now to.now.len i) planes.old planes.new }
 {
+    // Copies, which stay in registers over the writes.
+    let (to, window) = (*to, *window);
     for j in 0..to.len as usize {
         to.write(planes, j, window.plane(held, to.len, j, word));
     }
@@ -157,6 +159,8 @@ fn put_both_from(planes: &mut [Plane], to: &Target, held: &[Plane], turn: &Turn,
     requires words { (word ≡ turn.now.staying.from / 64) × (word ≡ turn.now.round.from / 64) }
     ensures { Becomes to.now (λ i. number_taken held.now turn.now to.now.len i) planes.old planes.new }
 {
+    // Copies, which stay in registers over the writes.
+    let (to, turn) = (*to, *turn);
     for j in 0..to.len as usize {
         to.write(planes, j, turn.plane(held, to.len, j, word));
     }
@@ -214,7 +218,18 @@ fn put_turn(planes: &mut [Plane], to: &Target, held: &[Plane], turn: &Turn)
     }
 }
 
-/// The same for a field of a block, in these lanes.
+/// A field of a block becomes, in these lanes, what a window shows of the planes that are held.
+fn take_window(block: &mut Block, dest: Field, lanes: u64x8, held: &[Plane], window: &Window)
+    requires len { (1 ≤ dest.len) × (dest.len ≤ 32) }
+    requires within { dest.offset + dest.len ≤ length block.old.planes.items }
+    requires held { HasHeld window.now dest.len held.now }
+    ensures { LanesWritten dest.offset dest.len lanes (λ i. number_seen held.now window.now dest.len i) block.old.planes.items block.new.planes.items }
+{
+    let to = Target::at(dest.offset, dest.len, lanes);
+    put_window(&mut block.planes, &to, held, window);
+}
+
+/// The same of what a turn takes.
 fn take_turn(block: &mut Block, dest: Field, lanes: u64x8, held: &[Plane], turn: &Turn)
     requires len { (1 ≤ dest.len) × (dest.len ≤ 32) }
     requires within { dest.offset + dest.len ≤ length block.old.planes.items }
@@ -226,8 +241,9 @@ fn take_turn(block: &mut Block, dest: Field, lanes: u64x8, held: &[Plane], turn:
     put_turn(&mut block.planes, &to, held, turn);
 }
 
-/// Block `k` takes what is held a step away: through one window in the lanes whose step stays in its
-/// turn of the axis, and through another in those that come round its end.
+/// Block `k` takes what is held a step away: through one window where each turn of the axis is made of
+/// whole blocks, and else through one in the lanes whose step stays in its turn, and through another in
+/// those that come round its end.
 pub fn step_block(block: &mut Block, k: u32, taking: &Taking)
     requires block { (k < taking.now.blocks) × (k < 2 ^ 16) }
     requires taking { TakingFits taking.now }
@@ -236,6 +252,11 @@ pub fn step_block(block: &mut Block, k: u32, taking: &Taking)
 {
     let shift = &taking.shift;
     let lanes = taking_lanes(taking.plan, block, k, shift.always);
+    if taking.step.blocks > 0 {
+        let window = taking.step.own_window(k);
+        take_window(block, shift.dest, lanes, taking.held, &window);
+        return;
+    }
     let (staying, round) = taking.step.windows(k, taking.blocks);
     let turn = Turn {
         staying,

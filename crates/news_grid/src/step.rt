@@ -1,9 +1,9 @@
 //! A step along an axis, in position numbers.
 
-ghost use Rattle.std.specs.Prelude.{◌≡◌, ℕ, ◌<◌, ◌≤◌, ◌+◌, ◌-◌, ◌*◌, ◌%◌, ◌^◌, length, nat_lt, if◌then◌else◌, slice_index};
+ghost use Rattle.std.specs.Prelude.{◌≡◌, ℕ, ◌<◌, ◌≤◌, ◌+◌, ◌-◌, ◌*◌, ◌/◌, ◌%◌, ◌^◌, length, nat_lt, if◌then◌else◌, slice_index};
 ghost use Rattle.bit_planes.specs.Bits.{bit};
 ghost use Rattle.vp_sets.specs.Positions.{position_count, coordinate};
-ghost use Rattle.news_grid.specs.Steps.{Leads, Views};
+ghost use Rattle.news_grid.specs.Steps.{led, turn_blocks, position_seen, Leads, Views};
 
 use crate::window::{Window, lanes_beside};
 use bit_planes::Plane;
@@ -12,11 +12,32 @@ use std::simd::prelude::*;
 use vp_sets::{BLOCK_SIZE, Geometry};
 
 /// A step along an axis of a set. The axis begins anew after each `turn` positions; the step leads
-/// `ahead` positions on, fewer than a turn, and round the end of its turn.
+/// `ahead` positions on, fewer than a turn, and round the end of its turn. Where each turn is made of
+/// whole blocks, `blocks` says of how many, and else it may be 0.
 #[derive(Clone, Copy)]
 pub struct Step {
     pub(crate) turn: u32,
     pub(crate) ahead: u32,
+    pub(crate) blocks: u32,
+}
+
+/// The blocks of a turn of so many positions, where the turns begin at blocks; else 0.
+fn blocks_of_turn(turn: u32) -> u32
+    ensures { result ≡ turn_blocks turn }
+{
+    if turn % BLOCK_SIZE == 0 {
+        turn / BLOCK_SIZE
+    } else {
+        0
+    }
+}
+
+/// A number below twice a count, modulo the count, without a division.
+fn round(n: u32, count: u32) -> u32
+    requires { n < 2 * count }
+    ensures { result ≡ n % count }
+{
+    if n < count { n } else { n - count }
 }
 
 impl Step {
@@ -25,9 +46,11 @@ impl Step {
         requires { axis < length geometry.now }
         ensures { Leads geometry.now axis by result }
     {
+        let turn = geometry.extent(axis) * geometry.stride(axis);
         Step {
-            turn: geometry.extent(axis) * geometry.stride(axis),
+            turn,
             ahead: geometry.shift(0, axis, by),
+            blocks: blocks_of_turn(turn),
         }
     }
 
@@ -63,6 +86,25 @@ impl Step {
         repeated_lanes(either(in_this, in_next), self.turn)
     }
 
+    /// The window through which block `k` takes where each turn is made of whole blocks: it goes round
+    /// the end of the block's own turn.
+    pub(crate) fn own_window(self, k: u32) -> Window
+        requires step { (0 < self.blocks) × (self.turn ≡ 512 * self.blocks) × (self.ahead < self.turn) }
+        requires block { k < 2 ^ 16 }
+        ensures from { result.from < 512 }
+        ensures own_turn { (result.first / self.blocks ≡ k / self.blocks) × (result.next / self.blocks ≡ k / self.blocks) }
+        ensures shows { (i : ℕ) → i < 512 → position_seen result i ≡ led self (512 * k + i) }
+    {
+        let past = k % self.blocks;
+        let start = k - past;
+        let first = past + self.ahead / BLOCK_SIZE;
+        Window {
+            first: (start + round(first, self.blocks)) as usize,
+            next: (start + round(first + 1, self.blocks)) as usize,
+            from: self.ahead % BLOCK_SIZE,
+        }
+    }
+
     /// What the lanes of block `k` take from in a set of so many blocks: where the step stays in
     /// its turn, and where it leads round its end.
     pub(crate) fn windows(self, k: u32, blocks: u32) -> (Window, Window)
@@ -93,6 +135,7 @@ pub fn lanes_from(geometry: &Geometry, axis: u32, from: u32, k: u32) -> u64x8
     let to_end = Step {
         turn: extent * stride,
         ahead: (extent - from) * stride,
+        blocks: 0,
     };
     to_end.crossing_lanes(k)
 }

@@ -1,8 +1,6 @@
-use Rattle.std.proofs.Common.{◌≡◌, ℕ, ◌<◌, ◌≤◌, ◌+◌, ◌*◌, ◌/◌, ◌%◌, length, length-take, get_or, take, drop, List, [], ◌++◌, sym, ◌∙◌, ap, arith}
+use Rattle.std.proofs.Common.{◌≡◌, ℕ, ◌*◌, length, length-take, take, drop, [], sym, ◌∙◌, ap, arith}
 use Rattle.std.proofs.Math.ListN.{get_or-append}
 use Rattle.bit_planes.specs.declared.plane.Plane.{Plane}
-use Rattle.bit_planes.specs.Planes.{plane_at}
-use Rattle.block_store.specs.Planes.{planes_at, HasPlanes}
 use Rattle.news_grid.proofs.news.copy_fields.Goals as goal
 
 pub returns-clause-planes : goal.returns-clause-planes

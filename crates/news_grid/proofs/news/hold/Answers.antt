@@ -1,7 +1,6 @@
-use Rattle.std.proofs.Common.{◌≡◌, ℕ, ◌<◌, ◌≤◌, ◌+◌, ◌*◌, ◌/◌, ◌%◌, length, get_or, List, [], subst, sym, ◌∙◌, ap, arith}
+use Rattle.std.proofs.Common.{◌≡◌, ℕ, ◌<◌, ◌+◌, ◌*◌, ◌/◌, ◌%◌, length, List, [], subst, ◌∙◌, ap, arith}
 use Rattle.std.proofs.lemmas.List.{get_or-map}
 use Rattle.bit_planes.specs.declared.block.Block.{Block}
-use Rattle.bit_planes.specs.declared.plane.Plane.{Plane}
 use Rattle.bit_planes.specs.Planes.{number, plane_at}
 use Rattle.block_store.specs.Planes.{planes_in, planes_at}
 use Rattle.block_store.proofs.Kernels.{refilled}

@@ -1,4 +1,4 @@
-use Rattle.std.proofs.Common.{ℕ, ◌∙◌, ap, refl, sym, subst, length, ◌<◌, ◌≤◌, FitsSigned, w32, rules, arith}
+use Rattle.std.proofs.Common.{ℕ, ◌∙◌, ap, refl, sym, subst, length, ◌<◌, FitsSigned, w32, rules, arith}
 use Rattle.std.specs.Prelude.{ℤ}
 use Rattle.std.proofs.lemmas.Int.{to_z-of_z}
 use Rattle.std.proofs.lemmas.List.{length-map}
