@@ -1,12 +1,12 @@
 -- Products, quotients and remainders by a power of 2 that is above 0 as a signed number.
-use Rattle.std.proofs.Common.{◌≡◌, ℕ, suc, ◌+◌, ◌-◌, ◌*◌, ◌/◌, ◌%◌, ◌^◌, ◌<◌, ◌≤◌, true, false, cond, eqb, ℤ, pos, negsuc, neg_ℤ, ◌*ℤ◌, bit_and, sym, ◌∙◌, ap, inl, inr, arith, add-mul}
+use Rattle.std.proofs.Common.{◌≡◌, ℕ, suc, ◌+◌, ◌-◌, ◌*◌, ◌/◌, ◌%◌, ◌^◌, ◌<◌, ◌≤◌, true, false, cond, eqb, nat_eq, ℤ, pos, negsuc, neg_ℤ, ◌*ℤ◌, bit_and, sym, ◌∙◌, ap, inl, inr, arith, add-mul}
 use Rattle.std.specs.Prelude.{int_div, int_rem}
 use Rattle.std.specs.Int.{bit_at}
 use Rattle.std.proofs.lemmas.Int.{ints}
 use Rattle.std.proofs.lemmas.Nat.{pow_pos, pow-add, mod_below, and_mask}
 use Rattle.std.proofs.lemmas.Nat.Bits.{bit_at_above}
-use Rattle.std.proofs.lemmas.Bool.{cases_lt, ne_eqb}
-use Rattle.std.proofs.Math.Nat.{mod-eq_of_lt, div-eq_of_lt, div-add-mod, add-mul-div_left, add-mul-mod_self_right, mul_comm}
+use Rattle.std.proofs.lemmas.Bool.{cases_lt, cases_eq, eq-eqb, ne_eqb}
+use Rattle.std.proofs.Math.Nat.{mod-eq_of_lt, div-eq_of_lt, div-add-mod, add-mul-div_left, add-mul-mod_self_right, mul_comm, mul-add, mul-add-div}
 use Rattle.std.proofs.Math.Pow.{pow-lt}
 use Rattle.cstar_base.specs.Numbers.{residue, number_of}
 use Rattle.cstar_base.specs.Operators.{operand, product_of, quotient_of, remainder_of, modulus_of, floor_rem}
@@ -106,7 +106,7 @@ not_below_zero n x l b none =
     sym (mod-eq_of_lt b) ∙ ap (λ m. x % 2 ^ m) (let e : n ≡ n - 1 + 1 = omega (arith, l) in e) ∙ mod-next x (n - 1) ∙ ap (λ t. t * 2 ^ (n - 1) + x % 2 ^ (n - 1)) none in
     omega (arith, e, mod_below x (2 ^ (n - 1)) (pow_pos (n - 1)))
 
--- a number that is not below 0 is shifted, and one below 0 when it has got the divisor less 1
+-- a number that is not below 0 is shifted
 quotient : (n k : ℕ) (z : ℤ) (x : ℕ) → k + 1 < n → number_of n true x ≡ z → quotient_of n false x (2 ^ k) ≡ residue n (int_div z (pos (2 ^ k)))
 unfolding quotient_of operand
 quotient n k z x h e = divisor k _ ∙ ap (λ y. residue n (int_div (number_of n true x) y)) (power_number n k h) ∙ ap (λ y. residue n (int_div y (pos (2 ^ k)))) e
@@ -117,31 +117,33 @@ divided_low n k x h low = ap (λ m. m / 2 ^ k % 2 ^ n) (extended_low n (n + k) x
 opposite_residue : (n q : ℕ) → q ≤ 2 ^ n → residue n (neg_ℤ (pos q)) ≡ (2 ^ n - q) % 2 ^ n
 opposite_residue n q h = residue_is n (neg_ℤ (pos q)) 1 (2 ^ n - q) (omega (arith, ints, h))
 
-pub divided_high : (n k x : ℕ) → k + 1 < n → 2 ^ (n - 1) ≤ x → x < 2 ^ n → N.shifted_right false n k (N.sum_of n x ((2 ^ k - 1) % 2 ^ n)) ≡ quotient_of n false x (2 ^ k)
-divided_high n k x h high b =
+-- one more than a number, divided
+one_more_divided : (x s : ℕ) → 0 < s → (x + 1) / s + cond (nat_eq (s - 1 - x % s) 0) 0 1 ≡ x / s + 1
+one_more_divided x s positive =
+    let q : ℕ = x / s in
+    let parts : s * q + x % s ≡ x = div-add-mod x s in
+    let rest : x % s < s = mod_below x s positive in
+    elim (cases_eq (s - 1 - x % s) 0) [
+      | inl none ↦
+          ap (λ m. m / s + cond (nat_eq (s - 1 - x % s) 0) 0 1) (let e : x + 1 ≡ s * (q + 1) + 0 = omega (arith, parts, rest, none, mul-add s q 1) in e)
+          ∙ ap (λ m. m + cond (nat_eq (s - 1 - x % s) 0) 0 1) (mul-add-div positive (q + 1) 0 ∙ ap (λ m. q + 1 + m) (div-eq_of_lt positive))
+          ∙ ap (λ t. q + 1 + 0 + cond t 0 1) (eq-eqb (s - 1 - x % s) 0 none) ∙ omega arith
+      | inr some ↦
+          ap (λ m. m / s + cond (nat_eq (s - 1 - x % s) 0) 0 1) (let e : x + 1 ≡ s * q + (x % s + 1) = omega (arith, parts) in e)
+          ∙ ap (λ m. m + cond (nat_eq (s - 1 - x % s) 0) 0 1) (mul-add-div positive q (x % s + 1) ∙ ap (λ m. q + m) (div-eq_of_lt (let e : x % s + 1 < s = omega (arith, rest, some) in e)))
+          ∙ ap (λ t. q + 0 + cond t 0 1) (ne_eqb (s - 1 - x % s) 0 some) ∙ omega arith
+    ]
+
+-- a number below 0 is shifted, and gets one more where it leaves a remainder
+pub divided_up : (n k x : ℕ) → k + 1 < n → 2 ^ (n - 1) ≤ x → x < 2 ^ n → (N.shifted_right false n k x + cond (nat_eq (x % 2 ^ k) 0) 0 1) % 2 ^ n ≡ quotient_of n false x (2 ^ k)
+divided_up n k x h high b =
     let p : ℕ = 2 ^ n in
     let s : ℕ = 2 ^ k in
     let lack : ℕ = p - 1 - x in
     let positive : 0 < s = pow_pos k in
-    let halves : p ≡ 2 * 2 ^ (n - 1) = two_halves n (omega (arith, h)) in
-    let short : s < 2 ^ (n - 1) = below_half n k h in
-    let is : quotient_of n false x s ≡ residue n (neg_ℤ (pos (suc lack / s))) = quotient n k (negsuc lack) x h (upper n x b high) in
-    let more : N.sum_of n x ((s - 1) % p) ≡ (x + (s - 1)) % p = ap (λ m. (x + m) % p) (mod-eq_of_lt (omega (arith, halves, short))) in
-    ap (N.shifted_right false n k) more ∙ elim (cases_lt (suc lack) s) [
-      | inl few ↦
-          let y : ℕ = x + (s - 1) - p in
-          let now : (x + (s - 1)) % p ≡ y = ap (λ m. m % p) (let e : x + (s - 1) ≡ y + 1 * p = omega (arith, few, b) in e) ∙ add-mul-mod_self_right y 1 p ∙ mod-eq_of_lt (omega (arith, b, halves, short)) in
-          ap (N.shifted_right false n k) now ∙ ap (λ m. m / s % p) (extended_low n (n + k) y (omega (arith, few, b, short)))
-          ∙ ap (λ m. m % p) (div-eq_of_lt (let e : y < s = omega (arith, few, b) in e)) ∙ mod-eq_of_lt (pow_pos n)
-          ∙ sym (is ∙ ap (λ m. residue n (neg_ℤ (pos m))) (div-eq_of_lt few) ∙ residue_of_pos n 0 ∙ mod-eq_of_lt (pow_pos n))
-      | inr enough ↦
-          let y : ℕ = x + (s - 1) in
-          let part : ℕ = suc lack - s in
-          let whole : suc lack / s ≡ part / s + 1 = ap (λ m. m / s) (let e : suc lack ≡ part + s * 1 = omega (arith, enough) in e) ∙ add-mul-div_left part 1 positive in
-          let least : part / s ≤ part = omega (arith, div-add-mod part s, less_one s (part / s) positive) in
-          ap (N.shifted_right false n k) (mod-eq_of_lt (let e : y < p = omega (arith, enough, b) in e))
-          ∙ ap (λ m. m / s % p) (extended_high n (n + k) y (omega (arith, high))) ∙ shifted_high n k y (omega (arith, enough, b))
-          ∙ ap (λ m. p - 1 - m / s) (let e : p - 1 - y ≡ part = omega (arith, enough, b) in e)
-          ∙ sym (is ∙ opposite_residue n (suc lack / s) (omega (arith, whole, least, b, enough)) ∙ ap (λ m. (p - m) % p) whole ∙ mod-eq_of_lt (omega (arith, pow_pos n))
-          ∙ (let e : p - (part / s + 1) ≡ p - 1 - part / s = omega arith in e))
-    ]
+    let least : lack / s ≤ lack = omega (arith, div-add-mod lack s, less_one s (lack / s) positive) in
+    let up : ℕ = cond (nat_eq (x % s) 0) 0 1 in
+    let next : suc lack / s + up ≡ lack / s + 1 = ap (λ m. suc lack / s + cond (nat_eq m 0) 0 1) (sym (low_bits n k x h b)) ∙ ap (λ m. m / s + cond (nat_eq (s - 1 - lack % s) 0) 0 1) (let e : suc lack ≡ lack + 1 = omega arith in e) ∙ one_more_divided lack s positive in
+    ap (λ m. (m + up) % p) (ap (λ m. m / s % p) (extended_high n (n + k) x high) ∙ shifted_high n k x b)
+    ∙ ap (λ m. m % p) (let e : p - 1 - lack / s + up ≡ p - suc lack / s = omega (arith, next, least, b) in e)
+    ∙ sym (quotient n k (negsuc lack) x h (upper n x b high) ∙ opposite_residue n (suc lack / s) (omega (arith, next, least, b)))

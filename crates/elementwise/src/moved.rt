@@ -11,6 +11,7 @@ ghost use Rattle.elementwise.specs.Moved.{moved_number, IsMovedWithin, IsMovable
 use crate::overlap::{is_readable_down, is_readable_up};
 use bit_planes::Plane;
 use bit_planes::plane::{both, opposite};
+use lane_kernels::compare::equal;
 use lane_kernels::{Operand, Target, in_place};
 use std::simd::prelude::*;
 
@@ -39,14 +40,6 @@ pub(crate) enum Moved {
     },
 }
 
-/// The lowest k bits, all 1.
-fn ones(k: u32) -> u32
-    requires { k < 32 }
-    ensures { result ≡ 2 ^ k - 1 }
-{
-    (1 << k) - 1
-}
-
 /// The sign of a field's numbers in two's complement.
 fn sign(planes: &[Plane], offset: u32, len: u8) -> u64x8
     requires len { 1 ≤ len }
@@ -56,8 +49,8 @@ fn sign(planes: &[Plane], offset: u32, len: u8) -> u64x8
     planes[offset as usize + (len as usize - 1)].bits
 }
 
-/// Makes the target the quotients toward 0 of the field's numbers by 2 to the k: numbers below 0
-/// get the divisor less 1, and then all are shifted.
+/// Makes the target the quotients toward 0 of the field's numbers by 2 to the k: a number below 0 that
+/// leaves a remainder gets one more than its shift.
 fn divide(planes: &mut [Plane], to: &Target, offset: u32, k: u32)
     requires target { HasTarget to.now planes.old }
     requires field { IsFieldReadable offset to.now.len to.now planes.old }
@@ -65,19 +58,10 @@ fn divide(planes: &mut [Plane], to: &Target, offset: u32, k: u32)
     ensures { Becomes to.now (λ i. quotient_of to.now.len false (number planes.old offset to.now.len i) (2 ^ k)) planes.old planes.new }
 {
     let below_zero = sign(planes, offset, to.len);
-    let negative = both(to.lanes, below_zero);
-    let others = both(to.lanes, opposite(below_zero));
-    let raised = Target::at(to.offset, to.len, negative);
-    let kept = Target::at(to.offset, to.len, others);
-    let more = ones(k);
-    in_place::add(
-        planes,
-        &raised,
-        &Operand::Field(offset),
-        &Operand::Constant(more),
-    );
-    in_place::assign(planes, &kept, &Operand::Field(offset));
-    in_place::shift_right(planes, to, to.offset, k, false);
+    let low = Operand::Field(offset);
+    let whole = equal(planes, &low, &Operand::Constant(0), k as u8);
+    let more = both(below_zero, opposite(whole));
+    in_place::shift_right_plus(planes, to, offset, k, more);
 }
 
 impl Moved {
