@@ -5,6 +5,7 @@ pub mod Known
 pub mod LowerableExpressions
 pub mod LowerableFiles
 pub mod LowerableStatements
+pub mod NamedVariables
 pub mod Rows
 pub mod SpelledCasts
 pub mod Standing

@@ -9,6 +9,7 @@ use Rattle.cstar_tree.specs.declared.syntax.Expr.{Expr, Row_of-Expr, end_of-Expr
 use Rattle.cstar_tree.specs.declared.syntax.Expr as E
 use Rattle.cstar_tree.specs.declared.syntax.Stmt.{Stmt, Row_of-Stmt, end_of-Stmt, more_of-Stmt, items-the_row-Stmt, items_hidden-the_row-Stmt-0}
 use Rattle.cstar_tree.specs.declared.syntax.Stmt as S
+use Rattle.cstar_tree.specs.declared.typed.Instance.{Instance}
 use Rattle.cstar_tree.specs.declared.typed.LocalVar.{LocalVar}
 use Rattle.cstar_tree.specs.declared.typed.TExpr.{TExpr, Row_of-TExpr, end_of-TExpr, more_of-TExpr, items-the_row-TExpr}
 use Rattle.cstar_tree.specs.declared.typed.TExpr as T
@@ -21,6 +22,7 @@ use Rattle.code_lengths.specs.ShapedStatements.{AreShapedLocals, AreShapedStatem
 use Rattle.shaped_trees.specs.Lowerable.{AreLowerable, IsLowerable}
 use Rattle.shaped_trees.specs.LowerableStatements.{AreLowerableStatements, IsLowerableLocal, IsLowerableStatement}
 use Rattle.shaped_trees.specs.Casts.{BlockNamesShapes, ExpressionNamesShapes, ExpressionsNameShapes, StatementNamesShapes, StatementsNameShapes}
+use Rattle.shaped_trees.specs.Naming.{AllNameVariables, NamesVariables}
 
 -- ---- typed expressions
 
@@ -45,6 +47,16 @@ row_lowerable t n (more_of-TExpr e rest) all = (All-head (IsLowerable t) e _ all
 
 pub list_lowerable : (t : Typed) (node : TExpr) (list : Vec TExpr Global) → items-the_row-TExpr (typed_row node).0 (typed_row node).1 ≡ list.items → All (IsLowerable t) list.items → AreLowerable t (typed_row node).1
 list_lowerable t node list same all = row_lowerable t (typed_row node).0 (typed_row node).1 (subst (All (IsLowerable t)) (sym same) all)
+
+row_names_variables : (t : Typed) (i : Instance) (n : Count) (row : Row_of-TExpr n) → All (NamesVariables t i) (items-the_row-TExpr n row) → AllNameVariables t i row
+unfolding AllNameVariables
+row_names_variables t i n end_of-TExpr all = tt
+row_names_variables t i n (more_of-TExpr e rest) all =
+    (All-head (NamesVariables t i) e _ all, row_names_variables t i _ rest (All-tail (NamesVariables t i) e _ all))
+
+pub list_names_variables : (t : Typed) (i : Instance) (node : TExpr) (list : Vec TExpr Global) → items-the_row-TExpr (typed_row node).0 (typed_row node).1 ≡ list.items →
+    All (NamesVariables t i) list.items → AllNameVariables t i (typed_row node).1
+list_names_variables t i node list same all = row_names_variables t i (typed_row node).0 (typed_row node).1 (subst (All (NamesVariables t i)) (sym same) all)
 
 -- ---- expressions of the text
 

@@ -27,6 +27,7 @@ use Rattle.code_lengths.specs.ShapedStatements.{AreShapedLocals, IsShapedStateme
 use Rattle.shaped_trees.specs.Casts.{DeclarationNamesShapes, ExpressionNamesShapes, NamesShapes, StatementNamesShapes}
 use Rattle.shaped_trees.specs.Lowerable.{GivesValue, IsLowerable}
 use Rattle.shaped_trees.specs.LowerableStatements.{IsLowerableLocal, IsLowerableStatement}
+use Rattle.shaped_trees.specs.Naming.{KnowsVariables, NamesVariables}
 use Rattle.shaped_trees.specs.Places.{IsInside, IsSound}
 
 -- What an expression becomes, before it is brought to another type or shape: it is shaped, can be
@@ -49,6 +50,12 @@ abbrev pub TypedExpressionsAreLowerable : Type 0
 TypedExpressionsAreLowerable =
     (program : Program) (typed : Typed) (here : Here) (e : Expr) (t : TExpr) (has_value : Bool) → IsSound here → IsInside program typed here → ExpressionNamesShapes e →
     Types program here e t has_value → IsLowerableValue typed here.whole has_value t
+
+-- it names no variables but those that its place knows
+abbrev pub TypedExpressionsNameVariables : Type 0
+TypedExpressionsNameVariables =
+    (program : Program) (typed : Typed) (instance : Instance) (here : Here) (e : Expr) (t : TExpr) (has_value : Bool) → KnowsVariables typed instance here → Types program here e t has_value →
+    NamesVariables typed instance t
 
 -- declarations, and the place behind them
 abbrev pub TypedDeclarationsAreShaped : Type 0

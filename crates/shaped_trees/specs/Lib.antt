@@ -2,4 +2,5 @@ pub mod Casts
 pub mod Laws
 pub mod Lowerable
 pub mod LowerableStatements
+pub mod Naming
 pub mod Places

@@ -3,7 +3,7 @@
 //! Readers find the laws here by name.
 #![tactic(auto)]
 
-ghost use Rattle.shaped_trees.specs.Laws.{SpelledTreesNameShapes, TypedDeclarationsAreLowerable, TypedDeclarationsAreShaped, TypedExpressionsAreLowerable, TypedExpressionsAreShaped, TypedFilesAreLowerable, TypedFilesAreShaped, TypedStatementsAreLowerable, TypedStatementsAreShaped};
+ghost use Rattle.shaped_trees.specs.Laws.{SpelledTreesNameShapes, TypedDeclarationsAreLowerable, TypedDeclarationsAreShaped, TypedExpressionsAreLowerable, TypedExpressionsAreShaped, TypedExpressionsNameVariables, TypedFilesAreLowerable, TypedFilesAreShaped, TypedStatementsAreLowerable, TypedStatementsAreShaped};
 
 /// What an expression becomes by the rules is shaped, at a place that knows no array without a shape,
 /// and can be assigned to where the rules take it as a target. Its value is kept in a register exactly
@@ -16,6 +16,12 @@ pub fn typed_expression_is_shaped()
 /// typed program has. It gives a value where the rules say so, but for a send that is a whole statement.
 pub fn typed_expression_is_lowerable()
     ensures { TypedExpressionsAreLowerable }
+{}
+
+/// What an expression becomes by the rules names variables of the program and of the instance in which it
+/// stands alone, with their types, where those that its place knows are such.
+pub fn typed_expression_names_variables()
+    ensures { TypedExpressionsNameVariables }
 {}
 
 /// The variables of declarations have shaped initialisers, scalar exactly where the variable is, and no
