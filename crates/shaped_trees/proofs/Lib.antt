@@ -1,10 +1,12 @@
 pub mod Bringing
+pub mod Counting
 pub mod ExpressionShapes
 pub mod FileShapes
 pub mod Known
 pub mod LowerableExpressions
 pub mod LowerableFiles
 pub mod LowerableStatements
+pub mod NamedStatements
 pub mod NamedVariables
 pub mod Rows
 pub mod SpelledCasts

@@ -33,7 +33,7 @@ module _ (t : Typed) (i : Instance) where
   spread (C.is_parallel shape) n = n
   spread (C.at_each_position operand is none) n = subst (NamesVariables t i) (sym is) n
 
-  fitted : {e f : TExpr} {ty : ValueType} → IsFitted e ty f → NamesVariables t i e → NamesVariables t i f
+  pub fitted : {e f : TExpr} {ty : ValueType} → IsFitted e ty f → NamesVariables t i e → NamesVariables t i f
   fitted fit n = spread fit.spread (converted fit.conversion n)
 
   each_promoted : {es fs : List TExpr} → ArePromoted es fs → All (NamesVariables t i) es → All (NamesVariables t i) fs

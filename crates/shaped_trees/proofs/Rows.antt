@@ -23,6 +23,7 @@ use Rattle.shaped_trees.specs.Lowerable.{AreLowerable, IsLowerable}
 use Rattle.shaped_trees.specs.LowerableStatements.{AreLowerableStatements, IsLowerableLocal, IsLowerableStatement}
 use Rattle.shaped_trees.specs.Casts.{BlockNamesShapes, ExpressionNamesShapes, ExpressionsNameShapes, StatementNamesShapes, StatementsNameShapes}
 use Rattle.shaped_trees.specs.Naming.{AllNameVariables, NamesVariables}
+use Rattle.shaped_trees.specs.NamingStatements.{InitialNamesVariables, StatementNamesVariables, StatementsNameVariables}
 
 -- ---- typed expressions
 
@@ -111,6 +112,19 @@ unfolding IsLowerableStatement
 block_lowerable t result locals statements declared all =
     let row = typed_statements (R.Block locals statements) in
     (declared, statements_lowerable t result row.0 row.1 (subst (All (IsLowerableStatement t result)) (sym (items_hidden-the_row-TStmt-0 statements)) all))
+
+statements_name_variables : (t : Typed) (i : Instance) (n : Count) (row : Row_of-TStmt n) → All (StatementNamesVariables t i) (items-the_row-TStmt n row) → StatementsNameVariables t i row
+unfolding StatementsNameVariables
+statements_name_variables t i n end_of-TStmt all = tt
+statements_name_variables t i n (more_of-TStmt s rest) all =
+    (All-head (StatementNamesVariables t i) s _ all, statements_name_variables t i _ rest (All-tail (StatementNamesVariables t i) s _ all))
+
+pub block_names_variables : (t : Typed) (i : Instance) (locals : Vec LocalVar Global) (statements : Vec TStmt Global) →
+    All (InitialNamesVariables t i) locals.items → All (StatementNamesVariables t i) statements.items → StatementNamesVariables t i (R.Block locals statements)
+unfolding StatementNamesVariables
+block_names_variables t i locals statements declared all =
+    let row = typed_statements (R.Block locals statements) in
+    (declared, statements_name_variables t i row.0 row.1 (subst (All (StatementNamesVariables t i)) (sym (items_hidden-the_row-TStmt-0 statements)) all))
 
 -- ---- blocks of the text
 

@@ -21,6 +21,7 @@ use Rattle.cstar_tree.specs.ProgramTypes.{TypesFile, TypesResult}
 use Rattle.cstar_tree.specs.Scopes.{Here}
 use Rattle.cstar_tree.specs.StatementTypes.{TypesDeclarations, TypesStatement}
 use Rattle.cstar_tree.specs.Typed.{type_of}
+use Rattle.cstar_tree.specs.Variables.{variables_of}
 use Rattle.lower_expr.specs.Steps.{is_kept}
 use Rattle.code_lengths.specs.Shaped.{IsShaped, IsTarget}
 use Rattle.code_lengths.specs.ShapedStatements.{AreShapedLocals, IsShapedStatement}
@@ -28,6 +29,7 @@ use Rattle.shaped_trees.specs.Casts.{DeclarationNamesShapes, ExpressionNamesShap
 use Rattle.shaped_trees.specs.Lowerable.{GivesValue, IsLowerable}
 use Rattle.shaped_trees.specs.LowerableStatements.{IsLowerableLocal, IsLowerableStatement}
 use Rattle.shaped_trees.specs.Naming.{KnowsVariables, NamesVariables}
+use Rattle.shaped_trees.specs.NamingStatements.{StandFrom, StatementNamesVariables}
 use Rattle.shaped_trees.specs.Places.{IsInside, IsSound}
 
 -- What an expression becomes, before it is brought to another type or shape: it is shaped, can be
@@ -78,6 +80,12 @@ TypedStatementsAreLowerable =
     (program : Program) (typed : Typed) (returns : Returns) (word : List ℕ) (result : Option VarInfo) (here : Here) (s : Stmt) (t : TStmt) →
     IsSound here → IsInside program typed here → here.whole ≡ false → TypesResult word returns result → StatementNamesShapes s → TypesStatement program returns here s t →
     IsLowerableStatement typed result t
+
+-- where those that it declares are the instance's from the place's number on
+abbrev pub TypedStatementsNameVariables : Type 0
+TypedStatementsNameVariables =
+    (program : Program) (typed : Typed) (instance : Instance) (returns : Returns) (here : Here) (s : Stmt) (t : TStmt) →
+    KnowsVariables typed instance here → StandFrom (variables_of instance.body) here.locals (variables_of t) → TypesStatement program returns here s t → StatementNamesVariables typed instance t
 
 -- what the laws of code lengths ask of an instance
 abbrev pub HasShapedBody : Instance → Type 0

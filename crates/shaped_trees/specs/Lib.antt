@@ -3,4 +3,5 @@ pub mod Laws
 pub mod Lowerable
 pub mod LowerableStatements
 pub mod Naming
+pub mod NamingStatements
 pub mod Places

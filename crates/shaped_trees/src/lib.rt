@@ -3,7 +3,7 @@
 //! Readers find the laws here by name.
 #![tactic(auto)]
 
-ghost use Rattle.shaped_trees.specs.Laws.{SpelledTreesNameShapes, TypedDeclarationsAreLowerable, TypedDeclarationsAreShaped, TypedExpressionsAreLowerable, TypedExpressionsAreShaped, TypedExpressionsNameVariables, TypedFilesAreLowerable, TypedFilesAreShaped, TypedStatementsAreLowerable, TypedStatementsAreShaped};
+ghost use Rattle.shaped_trees.specs.Laws.{SpelledTreesNameShapes, TypedDeclarationsAreLowerable, TypedDeclarationsAreShaped, TypedExpressionsAreLowerable, TypedExpressionsAreShaped, TypedExpressionsNameVariables, TypedFilesAreLowerable, TypedFilesAreShaped, TypedStatementsAreLowerable, TypedStatementsAreShaped, TypedStatementsNameVariables};
 
 /// What an expression becomes by the rules is shaped, at a place that knows no array without a shape,
 /// and can be assigned to where the rules take it as a target. Its value is kept in a register exactly
@@ -43,6 +43,12 @@ pub fn typed_statement_is_shaped()
 /// What a statement becomes by the rules is lowerable, in a function with the result that they give it.
 pub fn typed_statement_is_lowerable()
     ensures { TypedStatementsAreLowerable }
+{}
+
+/// What a statement becomes by the rules names variables of the program and of its instance alone, where
+/// those that it declares have the numbers of the instance's variables that its place counts on with.
+pub fn typed_statement_names_variables()
+    ensures { TypedStatementsNameVariables }
 {}
 
 /// What a file becomes by the rules has shaped bodies, so that the laws of code lengths hold of each of
