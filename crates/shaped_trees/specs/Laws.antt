@@ -1,4 +1,4 @@
--- The laws: what the rules of typing give is shaped, and lowerable.
+-- The laws: what the rules of typing give is shaped and lowerable, and names the variables that there are.
 use Rattle.std.specs.Prelude.{◌≡◌, ℕ, Bool, true, false, List, Option, Some, is_none}
 use Rattle.std.specs.List.{All}
 use Rattle.cstar_tree.specs.declared.syntax.Declaration.{Declaration}
@@ -53,7 +53,7 @@ TypedExpressionsAreLowerable =
     (program : Program) (typed : Typed) (here : Here) (e : Expr) (t : TExpr) (has_value : Bool) → IsSound here → IsInside program typed here → ExpressionNamesShapes e →
     Types program here e t has_value → IsLowerableValue typed here.whole has_value t
 
--- it names no variables but those that its place knows
+-- the same expression names no variables but those that its place knows
 abbrev pub TypedExpressionsNameVariables : Type 0
 TypedExpressionsNameVariables =
     (program : Program) (typed : Typed) (instance : Instance) (here : Here) (e : Expr) (t : TExpr) (has_value : Bool) → KnowsVariables typed instance here → Types program here e t has_value →
@@ -74,14 +74,15 @@ TypedDeclarationsAreLowerable =
     (program : Program) (typed : Typed) (here : Here) (list : List Declaration) (locals : List LocalVar) →
     IsSound here → IsInside program typed here → here.whole ≡ false → All DeclarationNamesShapes list → TypesDeclarations program here list locals → All (IsLowerableLocal typed) locals
 
--- a statement of a function, which returns this and whose result has this shape
+-- a statement of a function that returns this, and whose instance has this result
 abbrev pub TypedStatementsAreLowerable : Type 0
 TypedStatementsAreLowerable =
     (program : Program) (typed : Typed) (returns : Returns) (word : List ℕ) (result : Option VarInfo) (here : Here) (s : Stmt) (t : TStmt) →
     IsSound here → IsInside program typed here → here.whole ≡ false → TypesResult word returns result → StatementNamesShapes s → TypesStatement program returns here s t →
     IsLowerableStatement typed result t
 
--- where those that it declares are the instance's from the place's number on
+-- a statement names no others either, where those that it declares are the instance's from the number on
+-- that its place has
 abbrev pub TypedStatementsNameVariables : Type 0
 TypedStatementsNameVariables =
     (program : Program) (typed : Typed) (instance : Instance) (returns : Returns) (here : Here) (s : Stmt) (t : TStmt) →
