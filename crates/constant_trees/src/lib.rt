@@ -1,0 +1,16 @@
+//! What is constant by its form in the text is constant in the typed tree, with the same number.
+//! Readers find the laws here by name.
+#![tactic(auto)]
+
+ghost use Rattle.constant_trees.specs.Laws.{TypedConstantsAreTheWrittenOnes, TypedConstantsHaveTheWrittenNumbers};
+
+/// What an expression becomes by the rules is the constant that the expression is by its form, and is
+/// none where the expression is none.
+pub fn typed_constant_is_the_written_one()
+    ensures { TypedConstantsAreTheWrittenOnes }
+{}
+
+/// So the number of a constant expression, and whether it has one, can be read from its typed tree.
+pub fn typed_constant_has_the_written_number()
+    ensures { TypedConstantsHaveTheWrittenNumbers }
+{}
