@@ -11,9 +11,9 @@ use Rattle.cstar_tree.specs.Constants.{Constant, cast_to}
 use Rattle.cstar_tree.specs.Conversions.{IsConverted, IsFitted, IsSpread}
 use Rattle.cstar_tree.specs.Conversions as C
 use Rattle.cstar_tree.specs.Typed.{type_of}
-use Rattle.source_meaning.specs.Constants.{is_constant, then_value, value_of}
+use Rattle.source_meaning.specs.Constants.{is_constant, value_of}
 use Rattle.constant_trees.specs.Laws.{IsConstant}
-use Rattle.constant_trees.proofs.Words.{converted_below, converted_same}
+use Rattle.constant_trees.proofs.Words.{converted_below, converted_same, then_mapped}
 
 pub both_true : (a b : Bool) → a ≡ true → b ≡ true → (a && b) ≡ true
 both_true true b g h = h
@@ -39,17 +39,15 @@ pub converted_fits : (elem from : Elem) (word : Option ℕ) → IfSome (option_m
 converted_fits elem from None = tt
 converted_fits elem from (Some w) = converted_below elem from w
 
-same_word : (elem from of : Elem) (value word : Option ℕ) → of ≡ from → value ≡ word → then_value value (λ v. Some (converted elem of v)) ≡ option_map (converted elem from) word
-same_word elem from of None word of_is is = ap (λ (o : Option ℕ). option_map (converted elem from) o) is
-same_word elem from of (Some v) word of_is is = ap (λ (e : Elem). Some (converted elem e v)) of_is ∙ ap (λ (o : Option ℕ). option_map (converted elem from) o) is
-
 node : (operand : Box TExpr Global) (elem : Elem) (k : Constant) → IsConstant operand.value k → IsConstant (T.Convert (record { elem = elem; shape = (type_of operand.value).shape }) operand) (cast_to elem k)
 unfolding is_constant value_of cast_to
 node operand elem k g = record {
   form = both_true _ _ (ap is_none g.scalar) g.form;
   scalar = g.scalar;
   elem = refl;
-  value = same_word elem k.elem (type_of operand.value).elem (value_of operand.value) k.word g.elem g.value;
+  value =
+      then_mapped (converted elem (type_of operand.value).elem) (value_of operand.value)
+      ∙ (ap (λ (e : Elem). option_map (converted elem e) (value_of operand.value)) g.elem ∙ ap (option_map (converted elem k.elem)) g.value);
   fits = converted_fits elem k.elem k.word;
 }
 

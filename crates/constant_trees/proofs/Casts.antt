@@ -13,10 +13,11 @@ use Rattle.cstar_tree.specs.Constants as C
 use Rattle.cstar_tree.specs.Conversions.{scalar}
 use Rattle.cstar_tree.specs.ExpressionTypes.{cast_elem}
 use Rattle.cstar_tree.specs.Typed.{type_of}
-use Rattle.source_meaning.specs.Constants.{is_constant, then_value, value_of}
+use Rattle.source_meaning.specs.Constants.{is_constant, value_of}
 use Rattle.source_meaning.specs.Values.{cast_through, cast_type}
 use Rattle.constant_trees.specs.Laws.{IsAsWritten}
 use Rattle.constant_trees.proofs.Bringing.{both_true, converted_fits, right_false}
+use Rattle.constant_trees.proofs.Words.{then_mapped}
 
 abbrev elems_of : List Cast → List Elem
 elems_of chain = map (λ (c : Cast). c.elem) chain
@@ -31,9 +32,9 @@ unfolding cast_type
 type_through [] from = refl
 type_through (c ∷ cs) from = refl
 
-same_word : (word : Option ℕ) → word ≡ option_map (λ w. w) word
-same_word None = refl
-same_word (Some w) = refl
+no_cast : (word : Option ℕ) → word ≡ option_map (λ w. w) word
+no_cast None = refl
+no_cast (Some w) = refl
 
 one_more : (elem from of : Elem) (word : Option ℕ) (inner : Option ℕ) (through : ℕ → ℕ) → from ≡ of → inner ≡ option_map through word → option_map (converted elem from) inner ≡ option_map (λ w. converted elem of (through w)) word
 one_more elem from of word inner through from_is inner_is = ap (λ (e : Elem). option_map (converted elem e) inner) from_is ∙ (ap (option_map (converted elem of)) inner_is ∙ both word)
@@ -44,7 +45,7 @@ one_more elem from of word inner through from_is inner_is = ap (λ (e : Elem). o
 
 word_through : (chain : List Cast) (k : Constant) → (C.cast_through chain k).word ≡ option_map (cast_through (elems_of chain) k.elem) k.word
 unfolding C.cast_through cast_to cast_through
-word_through [] k = same_word k.word
+word_through [] k = no_cast k.word
 word_through (c ∷ cs) k =
     one_more c.elem (C.cast_through cs k).elem (cast_type (elems_of cs) k.elem) k.word (C.cast_through cs k).word (cast_through (elems_of cs) k.elem) (elem_through cs k ∙ sym (type_through cs k.elem)) (word_through cs k)
 
@@ -52,10 +53,6 @@ fits_through : (chain : List Cast) (k : Constant) → IfSome k.word (λ w. w < 2
 unfolding C.cast_through cast_to
 fits_through [] k fits = fits
 fits_through (c ∷ cs) k fits = converted_fits c.elem (C.cast_through cs k).elem (C.cast_through cs k).word
-
-mapped : (through : ℕ → ℕ) (value : Option ℕ) → then_value value (λ v. Some (through v)) ≡ option_map through value
-mapped through None = refl
-mapped through (Some v) = refl
 
 pub casts : (chain : Vec Cast Global) (elems : Vec Elem Global) (k : Option Constant) (x : Box TExpr Global) → elems.items ≡ elems_of chain.items → IsAsWritten k x.value →
     IsAsWritten (option_map (C.cast_through chain.items) k) (T.Casts (scalar (cast_elem chain.items (type_of x.value).elem)) elems x)
@@ -69,7 +66,7 @@ casts chain elems (Some k) x are g =
       scalar = refl;
       elem = ap (cast_elem chain.items) g.elem ∙ sym (elem_through chain.items k);
       value =
-          mapped (cast_through elems.items of) (value_of x.value) ∙ (ap (λ (es : List Elem). option_map (cast_through es of) (value_of x.value)) are
+          then_mapped (cast_through elems.items of) (value_of x.value) ∙ (ap (λ (es : List Elem). option_map (cast_through es of) (value_of x.value)) are
           ∙ (ap (λ (e : Elem). option_map (cast_through (elems_of chain.items) e) (value_of x.value)) g.elem
           ∙ (ap (option_map (cast_through (elems_of chain.items) k.elem)) g.value ∙ sym (word_through chain.items k))));
       fits = fits_through chain.items k g.fits;

@@ -8,8 +8,7 @@ use Rattle.std.proofs.lemmas.Bool.{eq-eqb}
 use Rattle.cstar_base.specs.declared.elem.Elem.{Elem}
 use Rattle.cstar_base.specs.declared.operators.Op.{Op}
 use Rattle.cstar_base.specs.declared.operators.Place.{Place}
-use Rattle.cstar_base.specs.Operators.{difference_of, operate}
-use Rattle.cstar_base.proofs.NumberLaws.{residue_below}
+use Rattle.cstar_base.specs.Operators.{operate}
 use Rattle.cstar_tree.specs.declared.syntax.BinaryOp.TheVariants as B
 use Rattle.cstar_tree.specs.declared.syntax.PrefixOp.{PrefixOp}
 use Rattle.cstar_tree.specs.declared.syntax.PrefixOp.TheVariants as P
@@ -28,7 +27,7 @@ use Rattle.source_meaning.specs.Constants.{is_constant, then_value, value_of}
 use Rattle.source_meaning.specs.Values.{nonzero, unary_of}
 use Rattle.constant_trees.specs.Laws.{IsAsWritten, IsConstant}
 use Rattle.constant_trees.proofs.Bringing.{both_true, converted_constant, converted_none, fitted_constant, fitted_none, left_false, right_false, spread_none, spread_scalar}
-use Rattle.constant_trees.proofs.Words.{common_wide, left_wide, operate_below, promoted_wide, result_wide, right_wide}
+use Rattle.constant_trees.proofs.Words.{common_wide, left_wide, operate_below, promoted_wide, result_wide, right_wide, then_mapped, unary_below}
 
 -- ---- brackets
 
@@ -49,49 +48,41 @@ mapped_fits : (f : ℕ → ℕ) (word : Option ℕ) (bits : ℕ) → bits ≡ 32
 mapped_fits f None bits wide below fits = tt
 mapped_fits f (Some w) bits wide below fits = subst (λ (n : ℕ). f w < 2 ^ n) (sym wide) (below w (subst (λ (n : ℕ). w < 2 ^ n) wide fits))
 
-mapped_word : (f g : ℕ → ℕ) (value word : Option ℕ) → ((w : ℕ) → f w ≡ g w) → value ≡ word → then_value value (λ v. Some (f v)) ≡ option_map g word
-mapped_word f g None word same is = ap (option_map g) is
-mapped_word f g (Some v) word same is = ap Some (same v) ∙ ap (option_map g) is
-
-unary : (f : ℕ → ℕ) (sign : UnaryOp) (k : Constant) (x : Box TExpr Global) → k.elem.bits ≡ 32 → ((w : ℕ) → unary_of sign w ≡ f w) → ((w : ℕ) → w < 2 ^ 32 → f w < 2 ^ 32) → IsConstant x.value k → IsConstant (T.Unary (type_of x.value) sign x) (record { elem = k.elem; word = option_map f k.word })
+unary : (sign : UnaryOp) (k : Constant) (x : Box TExpr Global) → k.elem.bits ≡ 32 → IsConstant x.value k → IsConstant (T.Unary (type_of x.value) sign x) (record { elem = k.elem; word = option_map (unary_of sign) k.word })
 unfolding is_constant value_of
-unary f sign k x wide same below g = record {
+unary sign k x wide g = record {
   form = both_true _ _ (both_true _ _ (ap is_none g.scalar) (eq-eqb (type_of x.value).elem.bits 32 (ap (λ (e : Elem). e.bits) g.elem ∙ wide))) g.form;
   scalar = g.scalar;
   elem = g.elem;
-  value = mapped_word (unary_of sign) f (value_of x.value) k.word same g.value;
-  fits = mapped_fits f k.word k.elem.bits wide below g.fits;
+  value = then_mapped (unary_of sign) (value_of x.value) ∙ ap (option_map (unary_of sign)) g.value;
+  fits = mapped_fits (unary_of sign) k.word k.elem.bits wide (unary_below sign) g.fits;
 }
 
-unary_none : (sign : UnaryOp) (x : Box TExpr Global) → is_constant x.value ≡ false → is_constant (T.Unary (type_of x.value) sign x) ≡ false
-unfolding is_constant
-unary_none sign x h = right_false _ (is_constant x.value) h
-
-below_modulus : (w : ℕ) → 2 ^ 32 - 1 - w < 2 ^ 32
-below_modulus w = omega arith
-
 by_sign : (op : PrefixOp) (sign : UnaryOp) (k : Constant) (x : Box TExpr Global) → sign_of op ≡ Some sign → IsConstant x.value (cast_to (promoted k.elem) k) → IsAsWritten (prefixed op k) (T.Unary (type_of x.value) sign x)
-unfolding prefixed signed_by cast_to unary_of negated complemented difference_of
-by_sign P.Plus sign k x is g = subst (λ (s : UnaryOp). IsAsWritten (prefixed P.Plus k) (T.Unary (type_of x.value) s x)) (cc) (unary (λ w. w) U.Plus (cast_to (promoted k.elem) k) x (promoted_wide k.elem) (λ w. refl) (λ w few. few) g)
-by_sign P.Minus sign k x is g = subst (λ (s : UnaryOp). IsAsWritten (prefixed P.Minus k) (T.Unary (type_of x.value) s x)) (cc) (unary negated U.Minus (cast_to (promoted k.elem) k) x (promoted_wide k.elem) (λ w. refl) (λ w few. residue_below 32 _) g)
-by_sign P.Complement sign k x is g = subst (λ (s : UnaryOp). IsAsWritten (prefixed P.Complement k) (T.Unary (type_of x.value) s x)) (cc) (unary complemented U.Complement (cast_to (promoted k.elem) k) x (promoted_wide k.elem) (λ w. refl) (λ w few. below_modulus w) g)
+unfolding prefixed signed_by cast_to unary_of negated complemented
+by_sign P.Plus sign k x is g = subst (λ (s : UnaryOp). IsAsWritten (prefixed P.Plus k) (T.Unary (type_of x.value) s x)) (cc) (unary U.Plus (cast_to (promoted k.elem) k) x (promoted_wide k.elem) g)
+by_sign P.Minus sign k x is g = subst (λ (s : UnaryOp). IsAsWritten (prefixed P.Minus k) (T.Unary (type_of x.value) s x)) (cc) (unary U.Minus (cast_to (promoted k.elem) k) x (promoted_wide k.elem) g)
+by_sign P.Complement sign k x is g =
+    subst (λ (s : UnaryOp). IsAsWritten (prefixed P.Complement k) (T.Unary (type_of x.value) s x)) (cc) (unary U.Complement (cast_to (promoted k.elem) k) x (promoted_wide k.elem) g)
 by_sign P.Not sign k x is g = absurd (cc)
 by_sign (P.Step op) sign k x is g = absurd (cc)
 by_sign (P.Reduce op) sign k x is g = absurd (cc)
 
-pub signed : {a : TExpr} (op : PrefixOp) (sign : UnaryOp) (k : Option Constant) (x : Box TExpr Global) → sign_of op ≡ Some sign → IsConverted a (promoted (type_of a).elem) x.value → IsAsWritten k a → IsAsWritten (over_one (prefixed op) k) (T.Unary (type_of x.value) sign x)
-unfolding over_one
-signed op sign None x is conversion h = unary_none sign x (converted_none conversion h)
+pub signed : {a : TExpr} (op : PrefixOp) (sign : UnaryOp) (k : Option Constant) (x : Box TExpr Global) → sign_of op ≡ Some sign → IsConverted a (promoted (type_of a).elem) x.value → IsAsWritten k a →
+    IsAsWritten (over_one (prefixed op) k) (T.Unary (type_of x.value) sign x)
+unfolding over_one is_constant
+signed op sign None x is conversion h = right_false _ (is_constant x.value) (converted_none conversion h)
 signed {a = a} op sign (Some k) x is conversion g =
     by_sign op sign k x is (subst (λ (e : Elem). IsConstant x.value (cast_to (promoted e) k)) g.elem (converted_constant (promoted_wide (type_of a).elem) conversion g))
 
-not_word : (w : ℕ) → from_bool (w == 0) ≡ 1 - truth w
+not_by : (b : Bool) → from_bool b ≡ 1 - (if b then 0 else 1)
+not_by true = refl
+not_by false = refl
+
+not_word : (word : Option ℕ) → option_map (λ w. from_bool (w == 0)) word ≡ option_map (λ w. 1 - truth w) word
 unfolding truth
-not_word w = by (w == 0)
-  where
-    by : (b : Bool) → from_bool b ≡ 1 - (if b then 0 else 1)
-    by true = refl
-    by false = refl
+not_word None = refl
+not_word (Some w) = ap Some (not_by (w == 0))
 
 not_below : (w : ℕ) → 1 - truth w < 2 ^ 32
 not_below w = omega arith
@@ -107,7 +98,7 @@ logical_not (Some k) x g = record {
   form = both_true _ _ (both_true _ _ (ap is_none g.scalar) refl) g.form;
   scalar = g.scalar;
   elem = refl;
-  value = mapped_word (λ w. from_bool (w == 0)) (λ w. 1 - truth w) (value_of x.value) k.word not_word g.value;
+  value = then_mapped (λ w. from_bool (w == 0)) (value_of x.value) ∙ (ap (option_map (λ w. from_bool (w == 0))) g.value ∙ not_word k.word);
   fits = not_fits k.word;
 }
 
@@ -124,11 +115,11 @@ step op (Some k) t h = h
 
 -- ---- binary operators
 
-with_value : (f g : ℕ → ℕ → Option ℕ) (a b left right : Option ℕ) → ((v w : ℕ) → f v w ≡ g v w) → a ≡ left → b ≡ right → then_value a (λ v. then_value b (λ w. f v w)) ≡ with_both g left right
+both_values : (f : ℕ → ℕ → Option ℕ) (a b : Option ℕ) → then_value a (λ v. then_value b (λ w. f v w)) ≡ with_both f a b
 unfolding with_both
-with_value f g None b left right same is is_b = ap (λ (o : Option ℕ). with_both g o right) is
-with_value f g (Some v) None left right same is is_b = ap (λ (o : Option ℕ). with_both g (Some v) o) is_b ∙ ap (λ (o : Option ℕ). with_both g o right) is
-with_value f g (Some v) (Some w) left right same is is_b = same v w ∙ (ap (λ (o : Option ℕ). with_both g (Some v) o) is_b ∙ ap (λ (o : Option ℕ). with_both g o right) is)
+both_values f None b = refl
+both_values f (Some v) None = refl
+both_values f (Some v) (Some w) = refl
 
 both_fit : (op : Op) (unsigned : Bool) (a b : Option ℕ) (m n k : ℕ) → m ≡ 32 → n ≡ 32 → k ≡ 32 → IfSome a (λ w. w < 2 ^ m) → IfSome b (λ w. w < 2 ^ n) → IfSome (with_both (operate op unsigned) a b) (λ w. w < 2 ^ k)
 unfolding with_both
@@ -146,8 +137,9 @@ binary p op elem l r x y wide wide_l wide_r g h = record {
   scalar = refl;
   elem = refl;
   value =
-      with_value (λ v w. operate op (not (type_of x.value).elem.signed) v w) (operate op (not l.elem.signed)) (value_of x.value) (value_of y.value) l.word r.word
-      (λ v w. ap (λ (e : Elem). operate op (not e.signed) v w) g.elem) g.value h.value;
+      both_values (operate op (not (type_of x.value).elem.signed)) (value_of x.value) (value_of y.value)
+      ∙ (ap (λ (e : Elem). with_both (operate op (not e.signed)) (value_of x.value) (value_of y.value)) g.elem
+      ∙ (ap (λ (o : Option ℕ). with_both (operate op (not l.elem.signed)) o (value_of y.value)) g.value ∙ ap (with_both (operate op (not l.elem.signed)) l.word) h.value));
   fits = both_fit op (not l.elem.signed) l.word r.word l.elem.bits r.elem.bits elem.bits wide_l wide_r wide g.fits h.fits;
 }
 
@@ -202,11 +194,14 @@ either_way true x y = refl
 either_way false x y = refl
 
 -- C's choice, in the words of the typed tree and in those of the text
-chosen_word : (a left first second f s : Option ℕ) → a ≡ left → first ≡ f → second ≡ s → then_value a (λ v. if nonzero v then first else second) ≡ chosen left f s
+chosen_by : (a first second : Option ℕ) → then_value a (λ v. if nonzero v then first else second) ≡ chosen a first second
 unfolding chosen
-chosen_word None left first second f s is is_f is_s = ap (λ (o : Option ℕ). chosen o f s) is
-chosen_word (Some v) left first second f s is is_f is_s =
-    either_way (v == 0) first second ∙ (ap (λ (o : Option ℕ). if v == 0 then second else o) is_f ∙ (ap (λ (o : Option ℕ). if v == 0 then o else f) is_s ∙ ap (λ (o : Option ℕ). chosen o f s) is))
+chosen_by None first second = refl
+chosen_by (Some v) first second = either_way (v == 0) first second
+
+chosen_word : (a b first f second s : Option ℕ) → a ≡ b → first ≡ f → second ≡ s → then_value a (λ v. if nonzero v then first else second) ≡ chosen b f s
+chosen_word a b first f second s is is_f is_s =
+    chosen_by a first second ∙ (ap (λ (o : Option ℕ). chosen o first second) is ∙ (ap (λ (o : Option ℕ). chosen b o second) is_f ∙ ap (chosen b f) is_s))
 
 which_fits : (b : Bool) (f s : Option ℕ) (bits : ℕ) → IfSome f (λ w. w < 2 ^ bits) → IfSome s (λ w. w < 2 ^ bits) → IfSome (if b then s else f) (λ w. w < 2 ^ bits)
 which_fits true f s bits few few_s = few_s
@@ -228,7 +223,7 @@ logical_or (Some k) (Some l) x y spread g of =
       form = both_true _ _ (both_true _ _ (both_true _ _ (ap is_none h.scalar) refl) g.form) h.form;
       scalar = h.scalar;
       elem = refl;
-      value = chosen_word (value_of x.value) k.word (Some 1) _ (Some 1) (option_map truth l.word) g.value refl (truth_word (value_of y.value) ∙ ap (option_map truth) h.value);
+      value = chosen_word (value_of x.value) k.word (Some 1) (Some 1) _ (option_map truth l.word) g.value refl (truth_word (value_of y.value) ∙ ap (option_map truth) h.value);
       fits = chosen_fits k.word (Some 1) (option_map truth l.word) 32 (truth_small false) (truth_fits l.word);
     }
 
@@ -243,7 +238,7 @@ logical_and (Some k) (Some l) x y spread g of =
       form = both_true _ _ (both_true _ _ (both_true _ _ (ap is_none h.scalar) refl) g.form) h.form;
       scalar = h.scalar;
       elem = refl;
-      value = chosen_word (value_of x.value) k.word _ (Some 0) (option_map truth l.word) (Some 0) g.value (truth_word (value_of y.value) ∙ ap (option_map truth) h.value) refl;
+      value = chosen_word (value_of x.value) k.word _ (option_map truth l.word) (Some 0) (Some 0) g.value (truth_word (value_of y.value) ∙ ap (option_map truth) h.value) refl;
       fits = chosen_fits k.word (option_map truth l.word) (Some 0) 32 (truth_fits l.word) (truth_small true);
     }
 
@@ -254,7 +249,7 @@ selection elem k l m c x y l_is m_is f g h = record {
   form = both_true _ _ (both_true _ _ (both_true _ _ (both_true _ _ (both_true _ _ refl (same_width x.value (g.elem ∙ l_is))) (same_width y.value (h.elem ∙ m_is))) f.form) g.form) h.form;
   scalar = refl;
   elem = refl;
-  value = chosen_word (value_of c.value) k.word (value_of x.value) (value_of y.value) l.word m.word f.value g.value h.value;
+  value = chosen_word (value_of c.value) k.word (value_of x.value) l.word (value_of y.value) m.word f.value g.value h.value;
   fits = chosen_fits k.word l.word m.word elem.bits (subst (λ (e : Elem). IfSome l.word (λ w. w < 2 ^ e.bits)) l_is g.fits) (subst (λ (e : Elem). IfSome m.word (λ w. w < 2 ^ e.bits)) m_is h.fits);
 }
   where

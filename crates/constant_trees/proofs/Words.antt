@@ -1,5 +1,5 @@
 -- The words of constants are numbers of their types.
-use Rattle.std.proofs.Common.{◌≡◌, ℕ, ℤ, pos, negsuc, zero, suc, ◌<◌, ◌≤◌, ◌-◌, ◌*◌, ◌^◌, ◌%◌, Bool, true, false, ◌&&◌, ◌==◌, nat_lt, if◌then◌else◌, Some, None, IfSome, refl, sym, subst, ◌∙◌, arith}
+use Rattle.std.proofs.Common.{◌≡◌, ℕ, ℤ, pos, negsuc, zero, suc, ◌<◌, ◌≤◌, ◌-◌, ◌*◌, ◌^◌, ◌%◌, Bool, true, false, ◌&&◌, ◌==◌, nat_lt, if◌then◌else◌, Option, Some, None, option_map, IfSome, refl, sym, subst, ◌∙◌, arith}
 use Rattle.std.specs.Int.{from_bool, is_negative}
 use Rattle.std.proofs.lemmas.Bool.{eq-eqb, eqb-true, ltb-false}
 use Rattle.std.proofs.lemmas.Nat.{and_le_l, or_of_32, xor_of_32}
@@ -9,8 +9,17 @@ use Rattle.cstar_base.specs.declared.operators.Op.TheVariants as O
 use Rattle.cstar_base.specs.Numbers.{converted, number_of, residue, truth_of}
 use Rattle.cstar_base.specs.Operators.{divides, operand, operate, outcome, sum_of, difference_of, product_of, quotient_of, remainder_of, modulus_of, lesser_of, greater_of, shifted_left, shifted_right}
 use Rattle.cstar_base.proofs.NumberLaws.{kind_bits, residue_below, residue_of_number, residue_of_pos}
+use Rattle.cstar_tree.specs.declared.typed.UnaryOp.{UnaryOp}
+use Rattle.cstar_tree.specs.declared.typed.UnaryOp.TheVariants as U
 use Rattle.cstar_tree.specs.Conversions.{common, int, promoted, unsigned}
 use Rattle.cstar_tree.specs.Operations.{compares, left_elem, result_elem, right_elem, shifts}
+use Rattle.source_meaning.specs.Constants.{then_value}
+use Rattle.source_meaning.specs.Values.{unary_of}
+
+-- a value that is only mapped
+pub then_mapped : (f : ℕ → ℕ) (value : Option ℕ) → then_value value (λ v. Some (f v)) ≡ option_map f value
+then_mapped f None = refl
+then_mapped f (Some v) = refl
 
 truth_below : (z : ℤ) → truth_of z < 2
 unfolding truth_of
@@ -40,7 +49,7 @@ word_fits n few = eq-eqb (residue 32 (pos n)) n (residue_of_pos 32 n ∙ omega a
 
 -- ---- operators
 
-from_bool_below : (b : Bool) → from_bool b < 2 ^ 32
+pub from_bool_below : (b : Bool) → from_bool b < 2 ^ 32
 from_bool_below true = omega arith
 from_bool_below false = omega arith
 
@@ -53,6 +62,9 @@ zero_or b n few = either_below b 0 n (omega arith) few
 
 remainder_below : (n : ℕ) → n % 2 ^ 32 < 2 ^ 32
 remainder_below n = omega arith
+
+complement_below : (w : ℕ) → 2 ^ 32 - 1 - w < 2 ^ 32
+complement_below w = omega arith
 
 outcome_below : (o : Op) (unsigned : Bool) (a b : ℕ) → a < 2 ^ 32 → b < 2 ^ 32 → outcome o 32 unsigned a b < 2 ^ 32
 unfolding outcome sum_of difference_of product_of quotient_of remainder_of modulus_of lesser_of greater_of shifted_left shifted_right
@@ -75,6 +87,13 @@ outcome_below O.Lt unsigned a b few few_b = from_bool_below _
 outcome_below O.Le unsigned a b few few_b = from_bool_below _
 outcome_below O.Gt unsigned a b few few_b = from_bool_below _
 outcome_below O.Ge unsigned a b few few_b = from_bool_below _
+
+pub unary_below : (sign : UnaryOp) (w : ℕ) → w < 2 ^ 32 → unary_of sign w < 2 ^ 32
+unfolding unary_of difference_of
+unary_below U.Plus w few = few
+unary_below U.Minus w few = residue_below 32 _
+unary_below U.Complement w few = complement_below w
+unary_below U.Not w few = from_bool_below (w == 0)
 
 unless_zero : (b : Bool) (n : ℕ) → n < 2 ^ 32 → IfSome (if b then None else Some n) (λ w. w < 2 ^ 32)
 unless_zero true n few = tt
