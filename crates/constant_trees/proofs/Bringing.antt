@@ -79,9 +79,10 @@ spread_none (C.at_each_position operand is scalar) h = refl
 
 -- ---- both
 
-pub fitted_constant : {e t : TExpr} {ty : ValueType} {k : Constant} → ty.shape ≡ None → ty.elem.bits ≡ 32 → IsFitted e ty t → IsConstant e k → IsConstant t (cast_to ty.elem k)
-fitted_constant {ty = ty} {k = k} scalar wide fit g =
-    subst (λ (x : TExpr). IsConstant x (cast_to ty.elem k)) (spread_scalar fit.spread scalar) (converted_constant wide fit.conversion g)
+pub fitted_constant : {e t : TExpr} {ty : ValueType} {k : Constant} (elem : Elem) → ty.elem ≡ elem → ty.shape ≡ None → elem.bits ≡ 32 → IsFitted e ty t → IsConstant e k → IsConstant t (cast_to elem k)
+fitted_constant {e = e} {k = k} elem is scalar wide fit g =
+    let conversion = subst (λ (d : Elem). IsConverted e d fit.converted) is fit.conversion in
+    subst (λ (x : TExpr). IsConstant x (cast_to elem k)) (spread_scalar fit.spread scalar) (converted_constant wide conversion g)
 
 pub fitted_none : {e t : TExpr} {ty : ValueType} → IsFitted e ty t → is_constant e ≡ false → is_constant t ≡ false
 fitted_none fit h = spread_none fit.spread (converted_none fit.conversion h)

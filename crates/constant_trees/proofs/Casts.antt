@@ -36,7 +36,7 @@ no_cast : (word : Option ℕ) → word ≡ option_map (λ w. w) word
 no_cast None = refl
 no_cast (Some w) = refl
 
-one_more : (elem from of : Elem) (word : Option ℕ) (inner : Option ℕ) (through : ℕ → ℕ) → from ≡ of → inner ≡ option_map through word → option_map (converted elem from) inner ≡ option_map (λ w. converted elem of (through w)) word
+one_more : (elem from of : Elem) (word inner : Option ℕ) (through : ℕ → ℕ) → from ≡ of → inner ≡ option_map through word → option_map (converted elem from) inner ≡ option_map (λ w. converted elem of (through w)) word
 one_more elem from of word inner through from_is inner_is = ap (λ (e : Elem). option_map (converted elem e) inner) from_is ∙ (ap (option_map (converted elem of)) inner_is ∙ both word)
   where
     both : (o : Option ℕ) → option_map (converted elem of) (option_map through o) ≡ option_map (λ w. converted elem of (through w)) o

@@ -20,7 +20,7 @@ use Rattle.cstar_tree.specs.declared.typed.ValueType.{ValueType}
 use Rattle.cstar_tree.specs.declared.typed.UnaryOp.{UnaryOp}
 use Rattle.cstar_tree.specs.declared.typed.UnaryOp.TheVariants as U
 use Rattle.cstar_tree.specs.Constants.{Constant, cast_to, chosen, combined, complemented, negated, operated, over_one, over_three, over_two, prefixed, selected, signed_by, truth, with_both}
-use Rattle.cstar_tree.specs.Conversions.{IsConverted, IsFitted, IsSpread, common, either, int, promoted, scalar}
+use Rattle.cstar_tree.specs.Conversions.{IsConverted, IsFitted, IsSpread, common, either, int, promoted}
 use Rattle.cstar_tree.specs.Operations.{left_elem, result_elem, right_elem, sign_of}
 use Rattle.cstar_tree.specs.Typed.{type_of}
 use Rattle.source_meaning.specs.Constants.{is_constant, then_value, value_of}
@@ -129,13 +129,13 @@ both_fit op unsigned (Some v) (Some w) m n k m_is n_is k_is few few_b =
     subst (λ (i : ℕ). IfSome (operate op unsigned v w) (λ r. r < 2 ^ i)) (sym k_is)
     (operate_below op unsigned v w (subst (λ (i : ℕ). v < 2 ^ i) m_is few) (subst (λ (i : ℕ). w < 2 ^ i) n_is few_b))
 
-binary : (p : Place) (op : Op) (elem : Elem) (l r : Constant) (x y : Box TExpr Global) → elem.bits ≡ 32 → l.elem.bits ≡ 32 → r.elem.bits ≡ 32 → IsConstant x.value l → IsConstant y.value r →
-    IsConstant (T.Binary (scalar elem) p op x y) (record { elem = elem; word = with_both (operate op (not l.elem.signed)) l.word r.word })
+binary : (ty : ValueType) (p : Place) (op : Op) (elem : Elem) (l r : Constant) (x y : Box TExpr Global) → ty.elem ≡ elem → ty.shape ≡ None → elem.bits ≡ 32 → l.elem.bits ≡ 32 → r.elem.bits ≡ 32 → IsConstant x.value l → IsConstant y.value r →
+    IsConstant (T.Binary ty p op x y) (record { elem = elem; word = with_both (operate op (not l.elem.signed)) l.word r.word })
 unfolding is_constant value_of
-binary p op elem l r x y wide wide_l wide_r g h = record {
-  form = both_true _ _ (both_true _ _ (both_true _ _ refl (eq-eqb elem.bits 32 wide)) g.form) h.form;
-  scalar = refl;
-  elem = refl;
+binary ty p op elem l r x y is scalar wide wide_l wide_r g h = record {
+  form = both_true _ _ (both_true _ _ (both_true _ _ (ap is_none scalar) (eq-eqb ty.elem.bits 32 (ap (λ (e : Elem). e.bits) is ∙ wide))) g.form) h.form;
+  scalar = scalar;
+  elem = is;
   value =
       both_values (operate op (not (type_of x.value).elem.signed)) (value_of x.value) (value_of y.value)
       ∙ (ap (λ (e : Elem). with_both (operate op (not e.signed)) (value_of x.value) (value_of y.value)) g.elem
@@ -143,31 +143,27 @@ binary p op elem l r x y wide wide_l wide_r g h = record {
   fits = both_fit op (not l.elem.signed) l.word r.word l.elem.bits r.elem.bits elem.bits wide_l wide_r wide g.fits h.fits;
 }
 
--- the operands brought to the types that the operator gives them
-operated_constant : {a b : TExpr} (p : Place) (op : Op) (k l : Constant) (x y : Box TExpr Global) → IsConstant a k → IsConstant b l → IsFitted a (scalar (left_elem op k.elem l.elem)) x.value → IsFitted b (scalar (right_elem op k.elem l.elem)) y.value →
-    IsConstant (T.Binary (scalar (result_elem op k.elem l.elem)) p op x y) (operated op k l)
-unfolding operated cast_to
-operated_constant p op k l x y g h fit_a fit_b =
-    binary p op (result_elem op k.elem l.elem) (cast_to (left_elem op k.elem l.elem) k) (cast_to (right_elem op k.elem l.elem) l) x y (result_wide op k.elem l.elem) (left_wide op k.elem l.elem) (right_wide op k.elem l.elem)
-    (fitted_constant refl (left_wide op k.elem l.elem) fit_a g) (fitted_constant refl (right_wide op k.elem l.elem) fit_b h)
+-- of two constants a type is made by their types, and a scalar
+both_elems : {a b : TExpr} {k l : Constant} (f : Elem → Elem → Elem) → IsConstant a k → IsConstant b l → f (type_of a).elem (type_of b).elem ≡ f k.elem l.elem
+both_elems {b = b} {k = k} f g h = ap (λ (e : Elem). f e (type_of b).elem) g.elem ∙ ap (f k.elem) h.elem
 
-brought : {a b : TExpr} (p : Place) (op : Op) (k l : Constant) (d e : Elem) (shape : Option ℕ) (x y : Box TExpr Global) → d ≡ k.elem → e ≡ l.elem → shape ≡ None → IsConstant a k → IsConstant b l →
-    IsFitted a (record { elem = left_elem op d e; shape = shape }) x.value → IsFitted b (record { elem = right_elem op d e; shape = shape }) y.value →
-    IsConstant (T.Binary (record { elem = result_elem op d e; shape = shape }) p op x y) (operated op k l)
-brought {a = a} {b = b} p op k l d e shape x y d_is e_is shape_is g h =
-    let Goal : Elem → Elem → Option ℕ → Type 0 = λ d e shape.
-    IsFitted a (record { elem = left_elem op d e; shape = shape }) x.value → IsFitted b (record { elem = right_elem op d e; shape = shape }) y.value →
-    IsConstant (T.Binary (record { elem = result_elem op d e; shape = shape }) p op x y) (operated op k l) in
-    subst (λ (d : Elem). Goal d e shape) (sym d_is) (subst (λ (e : Elem). Goal k.elem e shape) (sym e_is) (subst (λ (s : Option ℕ). Goal k.elem l.elem s) (sym shape_is) (operated_constant p op k l x y g h)))
+both_scalar : {a b : TExpr} {k l : Constant} → IsConstant a k → IsConstant b l → either (type_of a).shape (type_of b).shape ≡ None
+both_scalar {b = b} g h = ap (λ (o : Option ℕ). either o (type_of b).shape) g.scalar ∙ h.scalar
 
 pub operation : {a b : TExpr} {shape : Option ℕ} (p : Place) (op : Op) (k l : Option Constant) (x y : Box TExpr Global) → shape ≡ either (type_of a).shape (type_of b).shape →
     IsFitted a (record { elem = left_elem op (type_of a).elem (type_of b).elem; shape = shape }) x.value → IsFitted b (record { elem = right_elem op (type_of a).elem (type_of b).elem; shape = shape }) y.value →
     IsAsWritten k a → IsAsWritten l b → IsAsWritten (over_two (combined (B.Number op)) k l) (T.Binary (record { elem = result_elem op (type_of a).elem (type_of b).elem; shape = shape }) p op x y)
-unfolding over_two over_one combined is_constant
+unfolding over_two over_one combined operated cast_to is_constant
 operation p op None l x y is fit_a fit_b g h = left_false _ (is_constant y.value) (right_false _ (is_constant x.value) (fitted_none fit_a g))
 operation p op (Some k) None x y is fit_a fit_b g h = right_false _ (is_constant y.value) (fitted_none fit_b h)
 operation {a = a} {b = b} {shape = shape} p op (Some k) (Some l) x y is fit_a fit_b g h =
-    brought p op k l (type_of a).elem (type_of b).elem shape x y g.elem h.elem (is ∙ (ap (λ (o : Option ℕ). either o (type_of b).shape) g.scalar ∙ h.scalar)) g h fit_a fit_b
+    let none : shape ≡ None = is ∙ both_scalar g h in
+    let left = left_elem op k.elem l.elem in
+    let right = right_elem op k.elem l.elem in
+    let wide_left = left_wide op k.elem l.elem in
+    let wide_right = right_wide op k.elem l.elem in
+    binary (record { elem = result_elem op (type_of a).elem (type_of b).elem; shape = shape }) p op (result_elem op k.elem l.elem) (cast_to left k) (cast_to right l) x y (both_elems (result_elem op) g h) none (result_wide op k.elem l.elem) wide_left wide_right
+    (fitted_constant left (both_elems (left_elem op) g h) none wide_left fit_a g) (fitted_constant right (both_elems (right_elem op) g h) none wide_right fit_b h)
 
 -- ---- `||`, `&&` and `?:`
 
@@ -242,38 +238,30 @@ logical_and (Some k) (Some l) x y spread g of =
       fits = chosen_fits k.word (option_map truth l.word) (Some 0) 32 (truth_fits l.word) (truth_small true);
     }
 
-selection : (elem : Elem) (k l m : Constant) (c x y : Box TExpr Global) → l.elem ≡ elem → m.elem ≡ elem → IsConstant c.value k → IsConstant x.value l → IsConstant y.value m →
-    IsConstant (T.Choice (scalar elem) c x y) (record { elem = elem; word = chosen k.word l.word m.word })
+selection : (ty : ValueType) (elem : Elem) (k l m : Constant) (c x y : Box TExpr Global) → ty.elem ≡ elem → ty.shape ≡ None → l.elem ≡ elem → m.elem ≡ elem → IsConstant c.value k → IsConstant x.value l → IsConstant y.value m →
+    IsConstant (T.Choice ty c x y) (record { elem = elem; word = chosen k.word l.word m.word })
 unfolding is_constant value_of
-selection elem k l m c x y l_is m_is f g h = record {
-  form = both_true _ _ (both_true _ _ (both_true _ _ (both_true _ _ (both_true _ _ refl (same_width x.value (g.elem ∙ l_is))) (same_width y.value (h.elem ∙ m_is))) f.form) g.form) h.form;
-  scalar = refl;
-  elem = refl;
+selection ty elem k l m c x y is scalar l_is m_is f g h = record {
+  form = both_true _ _ (both_true _ _ (both_true _ _ (both_true _ _ (both_true _ _ (ap is_none scalar) (same_width x.value (g.elem ∙ l_is))) (same_width y.value (h.elem ∙ m_is))) f.form) g.form) h.form;
+  scalar = scalar;
+  elem = is;
   value = chosen_word (value_of c.value) k.word (value_of x.value) l.word (value_of y.value) m.word f.value g.value h.value;
   fits = chosen_fits k.word l.word m.word elem.bits (subst (λ (e : Elem). IfSome l.word (λ w. w < 2 ^ e.bits)) l_is g.fits) (subst (λ (e : Elem). IfSome m.word (λ w. w < 2 ^ e.bits)) m_is h.fits);
 }
   where
-    same_width : (t : TExpr) → (type_of t).elem ≡ elem → (elem.bits == (type_of t).elem.bits) ≡ true
-    same_width t is = eq-eqb elem.bits (type_of t).elem.bits (ap (λ (e : Elem). e.bits) (sym is))
-
-selected_constant : {a b : TExpr} (k l m : Constant) (c x y : Box TExpr Global) → IsConstant c.value k → IsConstant a l → IsConstant b m → IsFitted a (scalar (common l.elem m.elem)) x.value → IsFitted b (scalar (common l.elem m.elem)) y.value →
-    IsConstant (T.Choice (scalar (common l.elem m.elem)) c x y) (selected k l m)
-unfolding selected cast_to
-selected_constant k l m c x y f g h fit_a fit_b =
-    let elem = common l.elem m.elem in
-    selection elem k (cast_to elem l) (cast_to elem m) c x y refl refl f (fitted_constant refl (common_wide l.elem m.elem) fit_a g) (fitted_constant refl (common_wide l.elem m.elem) fit_b h)
+    same_width : (t : TExpr) → (type_of t).elem ≡ elem → (ty.elem.bits == (type_of t).elem.bits) ≡ true
+    same_width t has = eq-eqb ty.elem.bits (type_of t).elem.bits (ap (λ (e : Elem). e.bits) (is ∙ sym has))
 
 pub choice : {a b : TExpr} {ty : ValueType} (k l m : Option Constant) (c x y : Box TExpr Global) → ty ≡ record { elem = common (type_of a).elem (type_of b).elem; shape = either (type_of c.value).shape (either (type_of a).shape (type_of b).shape) } →
     IsFitted a ty x.value → IsFitted b ty y.value → IsAsWritten k c.value → IsAsWritten l a → IsAsWritten m b → IsAsWritten (over_three selected k l m) (T.Choice ty c x y)
-unfolding over_three over_two over_one is_constant
+unfolding over_three over_two over_one selected cast_to is_constant
 choice None l m c x y is fit_a fit_b f g h = left_false _ (is_constant y.value) (left_false _ (is_constant x.value) (right_false _ (is_constant c.value) f))
 choice (Some k) None m c x y is fit_a fit_b f g h = left_false _ (is_constant y.value) (right_false _ (is_constant x.value) (fitted_none fit_a g))
 choice (Some k) (Some l) None c x y is fit_a fit_b f g h = right_false _ (is_constant y.value) (fitted_none fit_b h)
 choice {a = a} {b = b} {ty = ty} (Some k) (Some l) (Some m) c x y is fit_a fit_b f g h =
-    let elems : common (type_of a).elem (type_of b).elem ≡ common l.elem m.elem = ap (λ (e : Elem). common e (type_of b).elem) g.elem ∙ ap (λ (e : Elem). common l.elem e) h.elem in
-    let shapes : either (type_of c.value).shape (either (type_of a).shape (type_of b).shape) ≡ None =
-    ap (λ (o : Option ℕ). either o (either (type_of a).shape (type_of b).shape)) f.scalar ∙ (ap (λ (o : Option ℕ). either o (type_of b).shape) g.scalar ∙ h.scalar) in
-    let types : ty ≡ scalar (common l.elem m.elem) =
-    is ∙ (ap (λ (e : Elem). let of : ValueType = record { elem = e; shape = either (type_of c.value).shape (either (type_of a).shape (type_of b).shape) } in of) elems
-    ∙ ap (λ (s : Option ℕ). let of : ValueType = record { elem = common l.elem m.elem; shape = s } in of) shapes) in
-    subst (λ (v : ValueType). IsFitted a v x.value → IsFitted b v y.value → IsConstant (T.Choice v c x y) (selected k l m)) (sym types) (selected_constant k l m c x y f g h) fit_a fit_b
+    let elem = common l.elem m.elem in
+    let elem_is : ty.elem ≡ elem = ap (λ (v : ValueType). v.elem) is ∙ both_elems common g h in
+    let of_parts : either (type_of c.value).shape (either (type_of a).shape (type_of b).shape) ≡ None = ap (λ (o : Option ℕ). either o (either (type_of a).shape (type_of b).shape)) f.scalar ∙ both_scalar g h in
+    let none : ty.shape ≡ None = ap (λ (v : ValueType). v.shape) is ∙ of_parts in
+    let wide = common_wide l.elem m.elem in
+    selection ty elem k (cast_to elem l) (cast_to elem m) c x y elem_is none refl refl f (fitted_constant elem elem_is none wide fit_a g) (fitted_constant elem elem_is none wide fit_b h)

@@ -58,13 +58,17 @@ module _ (program : Program) where
   written (X.brackets {here = here} inner i typed) few w = Nodes.brackets (constant here inner.value) i (written typed few w)
   written (X.assign target value t f typed typed_value place storable fit) few w = refl
   written (X.choice {here = here} test second third c x y typed_test typed_second typed_third is fit_second fit_third) few w =
-      Nodes.choice (constant here test.value) (constant here second.value) (constant here third.value) c x y is fit_second fit_third (of_part here test.value c.value (written typed_test few w.0)) (of_part here second.value _ (written typed_second few w.1)) (of_part here third.value _ (written typed_third few w.2))
+      Nodes.choice (constant here test.value) (constant here second.value) (constant here third.value) c x y is fit_second fit_third
+      (of_part here test.value c.value (written typed_test few w.0)) (of_part here second.value _ (written typed_second few w.1)) (of_part here third.value _ (written typed_third few w.2))
   written (X.operation {here = here} {p = p} {op = op} left right x y typed_left typed_right is fit_left fit_right) few w =
-      Nodes.operation p op (constant here left.value) (constant here right.value) x y is fit_left fit_right (of_part here left.value _ (written typed_left few w.0)) (of_part here right.value _ (written typed_right few w.1))
+      Nodes.operation p op (constant here left.value) (constant here right.value) x y is fit_left fit_right
+      (of_part here left.value _ (written typed_left few w.0)) (of_part here right.value _ (written typed_right few w.1))
   written (X.logical_or {here = here} left right x y typed_left typed_right spread) few w =
-      Nodes.logical_or (constant here left.value) (constant here right.value) x y spread (of_part here left.value _ (written typed_left few w.0)) (of_part here right.value _ (written typed_right few w.1))
+      Nodes.logical_or (constant here left.value) (constant here right.value) x y spread
+      (of_part here left.value _ (written typed_left few w.0)) (of_part here right.value _ (written typed_right few w.1))
   written (X.logical_and {here = here} left right x y typed_left typed_right spread) few w =
-      Nodes.logical_and (constant here left.value) (constant here right.value) x y spread (of_part here left.value _ (written typed_left few w.0)) (of_part here right.value _ (written typed_right few w.1))
+      Nodes.logical_and (constant here left.value) (constant here right.value) x y spread
+      (of_part here left.value _ (written typed_left few w.0)) (of_part here right.value _ (written typed_right few w.1))
   written (X.signed {here = here} {op = op} {sign = sign} operand x is typed conversion) few w = Nodes.signed op sign (constant here operand.value) x is conversion (of_part here operand.value _ (written typed few w))
   written (X.logical_not {here = here} operand x typed) few w = Nodes.logical_not (constant here operand.value) x (of_part here operand.value _ (written typed few w))
   written (X.reduction {here = here} {op = op} operand x typed parallel conversion) few w = Nodes.reduction op (constant here operand.value) _ refl

@@ -12,7 +12,8 @@ use Rattle.cstar_tree.specs.Typed.{type_of}
 use Rattle.source_meaning.specs.Constants.{constant_of, is_constant, value_of}
 use Rattle.constant_trees.specs.Words.{HasFewPositions, HasWords}
 
--- a typed tree is this constant: its element type, and its value, which is one of its type
+-- A typed tree is this constant: it is constant and scalar, and has its element type and its value,
+-- which is a number of that type. Neither has a value where that is a fault.
 pub record IsConstant (t : TExpr) (k : Constant) : Type 0 where
   pub form : is_constant t ≡ true
   pub scalar : (type_of t).shape ≡ None

@@ -6,8 +6,8 @@ use Rattle.cstar_tree.specs.declared.syntax.Expr as E
 use Rattle.cstar_tree.specs.Constants.{product}
 use Rattle.cstar_tree.specs.Scopes.{Here}
 
--- The numbers are words that stand in an expression where it can be constant by its form. (What a
--- `dimof` gives is an extent, whatever number its axis is.)
+-- The numbers in an expression are words, as far as the forms of constants go. The axis of a `dimof`
+-- does not count: the typed tree has only the extent that it names.
 unfoldable pub HasWords : Expr → Type 0
 HasWords (E.Number p value u) = value < 2 ^ 32
 HasWords (E.Brackets' p _ inner) = HasWords inner
@@ -23,6 +23,6 @@ pub record IsCounted (extents : List ℕ) : Type 0 where
   pub rank : length extents < 2 ^ 32
   pub each : All (λ n. n < 2 ^ 32) extents
 
--- those of each shape that is known at a place
+-- so are those of each shape that is known at a place
 abbrev pub HasFewPositions : Here → Type 0
 HasFewPositions here = All IsCounted here.shapes

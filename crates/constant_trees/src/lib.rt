@@ -5,7 +5,8 @@
 ghost use Rattle.constant_trees.specs.Laws.{TypedConstantsAreTheWrittenOnes, TypedConstantsHaveTheWrittenNumbers};
 
 /// What an expression becomes by the rules is the constant that the expression is by its form, and is
-/// none where the expression is none.
+/// none where the expression is none. The numbers of the expression and of the shapes that are known at
+/// its place are below 2^32.
 pub fn typed_constant_is_the_written_one()
     ensures { TypedConstantsAreTheWrittenOnes }
 {}
