@@ -1,2 +1,3 @@
 pub mod FileLemmas
+pub mod HeaderLemmas
 pub mod LinkLemmas
