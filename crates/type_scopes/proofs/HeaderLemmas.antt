@@ -24,19 +24,25 @@ use Rattle.cstar_tree.specs.Conversions.{int}
 use Rattle.cstar_tree.specs.ExpressionFaults.{kind_of, variable}
 use Rattle.cstar_tree.specs.declared.typed.Variable.TheVariants as V
 use Rattle.cstar_tree.specs.ExpressionTypes.{IsCallable, IsKnownAtHand, faulty, result_known, typed}
+use Rattle.cstar_tree.specs.FileFaults.{ParametersFault}
 use Rattle.cstar_tree.specs.Headers.{Returns, a_value, behind_parameter, parameter_types, plain_type}
 use Rattle.cstar_tree.specs.Scopes as S
 use Rattle.cstar_tree.specs.Scopes.{Binding, Here, IsAtHand, Meaning, Names, VariableType, a_function, a_shape, a_variable, declared, find, meaning, of_current, scalar, shape_meant, written_type}
 use Rattle.type_scopes.specs.declared.file.File.{File}
 use Rattle.type_scopes.specs.declared.headers.HeaderScope.{HeaderScope}
+use Rattle.type_scopes.specs.declared.standing.Standing.{Standing}
+use Rattle.type_scopes.specs.Faults.{Records}
 use Rattle.type_scopes.specs.declared.names.Meaning as Kept
 use Rattle.type_scopes.specs.declared.names.Meaning.TheVariants as M
 use Rattle.type_scopes.specs.Bindings.{meant}
 use Rattle.type_scopes.specs.FileBindings.{file_bindings}
-use Rattle.type_scopes.specs.Headers.{IsKeptFor, has_word}
+use Rattle.type_scopes.specs.Headers.{IsKeptFor, NameFault, has_word}
 use Rattle.type_scopes.specs.Answers.{part_of}
 use Rattle.type_scopes.specs.declared.faults.Untyped.{Untyped}
 use Rattle.type_scopes.specs.Named.{IsTypeAmong, misnamed, of_written, type_among}
+use Rattle.cstar_tree.specs.StatementFaults.{TypeFaultAt}
+use Rattle.type_scopes.proofs.HeaderFaults.{no_parameter, parameters_record}
+use Rattle.type_scopes.proofs.RecordLemmas.{records_none}
 use Rattle.type_scopes.proofs.FileLemmas.{find_first, turned_round}
 
 -- a name that a parameter has stands for no shape
@@ -158,11 +164,12 @@ pub an_int : (kind : is_kind 32 true ≡ true) → a_value (record { elem = reco
 an_int kind = ap (λ (k : is_kind 32 true ≡ true). a_value (record { elem = record { bits = 32; signed = true; kind = k }; shape = None })) (Bool-set _ _ kind refl)
 
 -- The types so far are those of the parameters before the next one, which stands at a place whose
--- names are kept.
-pub record AreTyped (file : File) (scope : HeaderScope) (start : Here) (ps : List Parameter) (i : ℕ) (types : List (Option ValueType)) : Type 0 where
+-- names are kept, and the faults of these parameters are recorded.
+pub record AreTyped (file : File) (scope : HeaderScope) (start : Here) (ps : List Parameter) (i : ℕ) (types : List (Option ValueType)) (old new : Option Standing) : Type 0 where
   pub here : Here
   pub kept : IsKeptFor file scope here
   pub all : types ++ parameter_types here i (drop i ps) ≡ parameter_types start 0 ps
+  pub faults : (last : Option Standing) → Records (ParametersFault here i (drop i ps)) new last → Records (ParametersFault start 0 ps) old last
 
 pub kept_at_start : (file : File) (scope : HeaderScope) (start : Here) → scope.parameters.keys ≡ [] → start.names.inner ≡ [] → start.current ≡ scope.current → ((word : List ℕ) → find start.names.outer word ≡ find (file_bindings file scope.known) word) → IsKeptFor file scope start
 unfolding find
@@ -172,27 +179,35 @@ kept_at_start file scope start none first current outer = record {
   outer = outer;
 }
 
-pub typed_more : (file : File) (scope new : HeaderScope) (start : Here) (ps : List Parameter) (i : ℕ) (types more : List (Option ValueType)) (p : Parameter) (ty : Option ValueType) → i < length ps → p ≡ get_or ps i p → more ≡ types ++ ty ∷ []
-    → ((here : Here) → IsKeptFor file scope here → ty ≡ written_type here p.type_name)
-    → ((here : Here) → IsKeptFor file scope here → IsKeptFor file new (behind_parameter here i p))
-    → AreTyped file scope start ps i types → AreTyped file new start ps (i + 1) more
+pub typed_more : (file : File) (scope new : HeaderScope) (start : Here) (ps : List Parameter) (i : ℕ) (types more : List (Option ValueType)) (p : Parameter) (ty : Option ValueType) (first old mid least : Option Standing) → i < length ps → p ≡ get_or ps i p → more ≡ types ++ ty ∷ []
+    → ((here : Here) → IsKeptFor file scope here → (ty ≡ written_type here p.type_name) × Records (TypeFaultAt here p.type_name) old mid)
+    → ((here : Here) → IsKeptFor file scope here → IsKeptFor file new (behind_parameter here i p) × Records (NameFault here p) mid least)
+    → AreTyped file scope start ps i types first old → AreTyped file new start ps (i + 1) more first least
 unfolding parameter_types
-typed_more file scope new start ps i types more p ty within is more_is is_typed behind old = record {
-  here = behind_parameter old.here i p;
-  kept = behind old.here old.kept;
+typed_more file scope new start ps i types more p ty first old mid least within is more_is is_typed behind so_far = record {
+  here = behind_parameter so_far.here i p;
+  kept = (behind so_far.here so_far.kept).0;
   all =
-      let rest : drop i ps ≡ p ∷ drop (i + 1) ps = rw add-one (drop-cons ps i p within ∙ ap (λ (q : Parameter). q ∷ drop (suc i) ps) (sym is)) in
-      let tail = parameter_types (behind_parameter old.here i p) (i + 1) (drop (i + 1) ps) in
+      let tail = parameter_types (behind_parameter so_far.here i p) (i + 1) (drop (i + 1) ps) in
       ap (λ (ts : List (Option ValueType)). ts ++ tail) more_is
       ∙ (append_assoc types (ty ∷ []) tail
-      ∙ (ap (λ (t : Option ValueType). types ++ (t ∷ tail)) (is_typed old.here old.kept) ∙ (ap (λ (qs : List Parameter). types ++ parameter_types old.here i qs) (sym rest) ∙ old.all)));
+      ∙ (ap (λ (t : Option ValueType). types ++ (t ∷ tail)) (is_typed so_far.here so_far.kept).0 ∙ (ap (λ (qs : List Parameter). types ++ parameter_types so_far.here i qs) (sym rest) ∙ so_far.all)));
+  faults = λ last later.
+      so_far.faults last (subst (λ (qs : List Parameter). Records (ParametersFault so_far.here i qs) old last) (sym rest) (parameters_record so_far.here i p (drop (i + 1) ps) old mid least last (is_typed so_far.here so_far.kept).1 (behind so_far.here so_far.kept).1 later));
 }
+  where
+    rest : drop i ps ≡ p ∷ drop (i + 1) ps
+    rest = rw add-one (drop-cons ps i p within ∙ ap (λ (q : Parameter). q ∷ drop (suc i) ps) (sym is))
 
-pub all_typed : (file : File) (scope : HeaderScope) (start : Here) (ps : List Parameter) (i : ℕ) (types : List (Option ValueType)) → length ps ≤ i → AreTyped file scope start ps i types → types ≡ parameter_types start 0 ps
+pub all_typed : (file : File) (scope : HeaderScope) (start : Here) (ps : List Parameter) (i : ℕ) (types : List (Option ValueType)) (old new : Option Standing) → length ps ≤ i → AreTyped file scope start ps i types old new → (types ≡ parameter_types start 0 ps) × Records (ParametersFault start 0 ps) old new
 unfolding parameter_types
-all_typed file scope start ps i types past so_far =
-    let none : drop i ps ≡ [] = drop_all i ps past in
-    sym (append-nil types) ∙ (ap (λ (qs : List Parameter). types ++ parameter_types so_far.here i qs) (sym none) ∙ so_far.all)
+all_typed file scope start ps i types old new past so_far = (
+  sym (append-nil types) ∙ (ap (λ (qs : List Parameter). types ++ parameter_types so_far.here i qs) (sym none) ∙ so_far.all),
+  so_far.faults new (subst (λ (qs : List Parameter). Records (ParametersFault so_far.here i qs) new new) (sym none) (records_none (ParametersFault so_far.here i []) new new (λ f p h. no_parameter h) refl)),
+)
+  where
+    none : drop i ps ≡ []
+    none = drop_all i ps past
 
 -- what of the parameters and the result is known is at hand
 abbrev IsKnown : Option ℕ → Option ValueType → Type 0
