@@ -27,7 +27,7 @@ named es = map (λ e. (e.0.items, e.1)) es
 abbrev same_names : Vec ℕ Global → Vec ℕ Global → Bool
 same_names a b = bytes_eq a.items b.items
 
-turned_round : (a b : List ℕ) (is : Bool) → bytes_eq a b ≡ is → bytes_eq b a ≡ is
+pub turned_round : (a b : List ℕ) (is : Bool) → bytes_eq a b ≡ is → bytes_eq b a ≡ is
 turned_round a b is e = sym (nat_list_eq_equiv.symm a b) ∙ e
 
 -- by the place of its key

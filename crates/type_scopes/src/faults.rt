@@ -2,7 +2,7 @@
 
 ghost use Rattle.std.specs.Prelude.{◌≡◌, Some, true, IfOk, IsNone, MatchOption, OnOk};
 ghost use Rattle.type_scopes.specs.Answers.{IsSettled, part_of, told_by};
-ghost use Rattle.type_scopes.specs.Faults.{lesser, told};
+ghost use Rattle.type_scopes.specs.Faults.{IsIncluded, lesser, told};
 ghost use Rattle.type_scopes.specs.TypingFaults.{is_of_typing};
 ghost use Rattle.type_scopes.specs.declared.faults.Untyped.TheVariants as Untypeds;
 
@@ -36,7 +36,9 @@ impl Faults {
     }
 
     /// Records the least of the other faults.
-    pub fn include(&mut self, other: Faults) {
+    pub fn include(&mut self, other: Faults)
+        ensures { IsIncluded self.old.least other.least self.new.least }
+    {
         if let Some(fault) = other.least {
             self.stands(fault.fault, fault.place);
         }
