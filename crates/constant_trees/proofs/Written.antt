@@ -30,7 +30,7 @@ number_read (Some k) t g =
     ap (λ (e : Elem). in_type e k.word) (sym g.elem) ∙ (ap (in_type (type_of t).elem) (sym g.value) ∙ ap (λ (b : Bool). in_type (type_of t).elem (if b then value_of t else None)) (sym g.form))
 
 -- what an expression is as a constant does not hang on whether it is a whole statement
-in_part : (here : Here) (e : Expr) → constant (part here) e ≡ constant here e
+pub in_part : (here : Here) (e : Expr) → constant (part here) e ≡ constant here e
 unfolding constant extents_of meaning
 in_part here (E.Brackets' p _ inner) = in_part here inner
 in_part here (E.Casts' casts _ operand) = ap (option_map (cast_through casts.items)) (in_part here operand)

@@ -4,9 +4,11 @@ pub mod AtSites
 pub mod CallArguments
 pub mod Combined
 pub mod Indexed
+pub mod Listing
 pub mod NamesInExpressions
 pub mod OfShapes
 pub mod OnOperands
 pub mod Printed
 pub mod SegmentBits
 pub mod Told
+pub mod Walking

@@ -4,7 +4,7 @@ ghost use Rattle.cstar_tree.specs.Conversions as C;
 ghost use Rattle.cstar_tree.specs.Conversions.{AreSpread};
 ghost use Rattle.cstar_tree.specs.ExpressionTypes.{IsVariable, Types, TypesIndexes};
 ghost use Rattle.cstar_tree.specs.Headers.{Program};
-ghost use Rattle.cstar_tree.specs.Scopes.{Here, find, part};
+ghost use Rattle.cstar_tree.specs.Scopes.{Here, find, part, stands_under};
 ghost use Rattle.cstar_tree.specs.declared.syntax.Expr as E;
 ghost use Rattle.cstar_tree.specs.declared.syntax.Expr.{Expr};
 ghost use Rattle.cstar_tree.specs.declared.syntax.Name.{Name};
@@ -113,7 +113,9 @@ pub fn dot(site: Site, place: Place) -> Result<TExpr, Untyped>
 
 /// Does the name stand for a variable of the current shape, so that a `.` in its left index has a
 /// meaning?
-pub fn is_of_current(file: &File<'_>, locals: &Locals, site: Site, name: &Name) -> bool {
+pub fn is_of_current(file: &File<'_>, locals: &Locals, site: Site, name: &Name) -> bool
+    ensures { result ≡ stands_under site.current (find (names_at file.now locals.now site.known) name.now.word) }
+{
     match file.type_of(locals, site, name) {
         Some(ty) => ty.shape.is_some() && ty.shape == site.current,
         None => false,

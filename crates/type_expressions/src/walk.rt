@@ -3,8 +3,21 @@
 
 ghost use Rattle.cstar_base.specs.declared.operators.Place.{Place};
 ghost use Rattle.cstar_tree.specs.declared.syntax.Expr as E;
-ghost use Rattle.std.specs.Prelude.{◌≡◌, IfOk, OnOk};
+ghost use Rattle.std.specs.Prelude.{◌≡◌, true, false, IfOk, IfSome, OnOk, Ok, Some, Box, Vec};
+ghost use Rattle.std.specs.declared.alloc.Global.{Global};
+ghost use Rattle.cstar_tree.specs.ExpressionTypes.{Types};
+ghost use Rattle.cstar_tree.specs.Headers.{Program};
+ghost use Rattle.cstar_tree.specs.Scopes.{Here, find};
+ghost use Rattle.cstar_tree.specs.declared.syntax.Expr.{Expr};
+ghost use Rattle.cstar_tree.specs.declared.syntax.Name.{Name};
+ghost use Rattle.cstar_tree.specs.declared.typed.TExpr.{TExpr};
+ghost use Rattle.type_scopes.specs.FileBindings.{names_at};
+ghost use Rattle.type_scopes.specs.declared.locals.Locals.{Locals};
+ghost use Rattle.type_scopes.specs.declared.sites.Site.{Site};
+ghost use Rattle.type_expressions.specs.Along.{IsAxisOf, number_of_constant};
+ghost use Rattle.type_expressions.specs.Names.{IsVariableMeant};
 ghost use Rattle.type_expressions.specs.Answers.{IsAssigned, OnBoth, OnThree};
+ghost use Rattle.type_expressions.specs.Walks.{AreFoundAlong, AreListed, AreMore, AreParts, HasItsSource, IsAround, IsFoundAlong, IsOperand, IsPart, IsSource, IsSourceValue, IsTyped, IsTypedAlong, IsTypedFrom, IsValue, dot_at, rank_under};
 
 use crate::calls::{call, printf};
 use crate::found::{Found, TypedExpr, Typing, outcome};
@@ -34,7 +47,9 @@ pub fn typed_value(
     locals: &Locals,
     site: Site,
     e: &Expr,
-) -> Result<Option<Box<TExpr>>, Memory> {
+) -> Result<Option<Box<TExpr>>, Memory>
+    ensures { IfOk result (IsValue file.now locals.now site e.now) }
+{
     let typed = typed_expr(found, file, locals, site.part(), e)?;
     found.faults.settle(valued(e.place(), typed))
 }
@@ -47,7 +62,9 @@ fn axis_value(
     locals: &Locals,
     site: Site,
     axis: &Expr,
-) -> Result<Option<Box<TExpr>>, Memory> {
+) -> Result<Option<Box<TExpr>>, Memory>
+    ensures { IfOk result (IsValue file.now locals.now site axis.now) }
+{
     let earlier = found.set_aside();
     let typed = typed_value(found, file, locals, site, axis)?;
     found.expect_constant(site, axis.place(), typed.is_some(), earlier);
@@ -61,7 +78,9 @@ pub fn typed_constant(
     locals: &Locals,
     site: Site,
     e: &Expr,
-) -> Typing {
+) -> Typing
+    ensures { IfOk result (IsTyped file.now locals.now (record site { whole = false }) e.now) }
+{
     let earlier = found.set_aside();
     let typed = typed_expr(found, file, locals, site.part(), e)?;
     found.expect_constant(site, e.place(), typed.is_some(), earlier);
@@ -69,7 +88,9 @@ pub fn typed_constant(
 }
 
 /// The expression, which needs a value. If it has none, that is a fault at the place.
-fn valued(place: Place, typed: Option<TypedExpr>) -> Result<Box<TExpr>, Untyped> {
+fn valued(place: Place, typed: Option<TypedExpr>) -> Result<Box<TExpr>, Untyped>
+    ensures { IfOk result (λ x. typed ≡ Some (record { expr = x; has_value = true })) }
+{
     let Some(TypedExpr { expr, has_value }) = typed else {
         return Err(Untyped::Faulty);
     };
@@ -88,7 +109,9 @@ pub fn typed_expr(
     locals: &Locals,
     site: Site,
     e: &Expr,
-) -> Typing {
+) -> Typing
+    ensures { IfOk result (IsTyped file.now locals.now site e.now) }
+{
     found.count(nodes(file, locals, site, e));
     match e {
         Expr::Brackets { inner, .. } => {
@@ -116,16 +139,30 @@ pub fn typed_expr(
         | Expr::Enumerate { axis, .. } => {
             let axis = axis_value(found, file, locals, site, axis)?;
             let along = goes_along(&mut found.faults, file, locals, site, e, axis)?;
-            let source = match e {
-                Expr::Scan { source, .. } => typed_value(found, file, locals, site, source)?,
-                _ => None,
-            };
+            let source = source_value(found, file, locals, site, e)?;
             match along {
                 Some(along) => with_axis(&mut found.faults, file, site, e, along, source),
                 None => Ok(None),
             }
         }
         _ => outcome(&mut found.faults, file.alloc, leaf(file, locals, site, e)),
+    }
+}
+
+/// Types the source of a scan. No other expression has one.
+#[cycle(expression)]
+fn source_value(
+    found: &mut Found,
+    file: &File<'_>,
+    locals: &Locals,
+    site: Site,
+    e: &Expr,
+) -> Result<Option<Box<TExpr>>, Memory>
+    ensures { IfOk result (IsSourceValue file.now locals.now site e.now) }
+{
+    match e {
+        Expr::Scan { source, .. } => typed_value(found, file, locals, site, source),
+        _ => Ok(None),
     }
 }
 
@@ -144,7 +181,9 @@ fn nodes(file: &File<'_>, locals: &Locals, site: Site, e: &Expr) -> u64 {
 
 /// Types an expression with two or three operands.
 #[cycle(expression)]
-fn operands(found: &mut Found, file: &File<'_>, locals: &Locals, site: Site, e: &Expr) -> Typing {
+fn operands(found: &mut Found, file: &File<'_>, locals: &Locals, site: Site, e: &Expr) -> Typing
+    ensures { IfOk result (IsTyped file.now locals.now site e.now) }
+{
     match e {
         Expr::Assign {
             place,
@@ -257,7 +296,9 @@ fn with_operand(
     site: Site,
     e: &Expr,
     operand: Option<Box<TExpr>>,
-) -> Typing {
+) -> Typing
+    ensures { IfOk result (IsTypedFrom (λ program here x. IsOperand program here e.now x) operand file.now locals.now site e.now) }
+{
     match e {
         Expr::ParallelCast {
             place,
@@ -296,7 +337,9 @@ fn with_operand(
     }
 }
 
-fn on_operand(alloc: Global, e: &Expr, operand: Box<TExpr>) -> Result<TExpr, Untyped> {
+fn on_operand(alloc: Global, e: &Expr, operand: Box<TExpr>) -> Result<TExpr, Untyped>
+    ensures { IfOk result (λ t. (program : Program) (here : Here) → IsOperand program here e.now operand → Types program here e.now t true) }
+{
     match e {
         Expr::Prefix { place, op, .. } => prefix(alloc, *place, *op, operand),
         Expr::Casts {
@@ -316,7 +359,9 @@ fn cast_to(
     place: Place,
     written: &TypeName,
     operand: Option<Box<TExpr>>,
-) -> Typing {
+) -> Typing
+    ensures { (e : Box Expr Global) → IfOk result (IsTypedFrom (λ program here x. IsPart program here e.value x) operand file.now locals.now site (E.ParallelCast place written.now e)) }
+{
     let ty = faults.settle(file.value_type(locals, site, written))?;
     let (Some(ty), Some(operand)) = (ty, operand) else {
         return Ok(None);
@@ -336,7 +381,9 @@ fn element_of(
     name: &Name,
     bracket: Place,
     index: Option<Box<TExpr>>,
-) -> Typing {
+) -> Typing
+    ensures { (e : Box Expr Global) → IfOk result (IsTypedFrom (λ program here x. IsPart program here e.value x) index file.now locals.now site (E.Element name.now bracket e)) }
+{
     let array = faults.settle(array(file, locals, site, name))?;
     let (Some(array), Some(index)) = (array, index) else {
         return Ok(None);
@@ -357,7 +404,9 @@ fn list(
     locals: &Locals,
     site: Site,
     e: &Expr,
-) -> Result<Option<Vec<Box<TExpr>>>, Memory> {
+) -> Result<Option<Vec<Box<TExpr>>>, Memory>
+    ensures { IfOk result (AreListed file.now locals.now site e.now) }
+{
     let (parts, indexed) = match e {
         Expr::Call { arguments, .. } | Expr::Printf { arguments, .. } => (arguments, None),
         Expr::LeftIndex { indexes, name, .. } => {
@@ -365,22 +414,41 @@ fn list(
         }
         _ => return Ok(None),
     };
-    let mut typed = Vec::new(file.alloc);
-    let mut complete = true;
+    let mut typed = Some(Vec::new(file.alloc));
     let mut axis = 0u32;
     for part in parts {
-        let dot = match indexed {
-            Some(true) => Some(axis),
-            Some(false) => None,
-            None => site.dot,
-        };
+        let dot = dot_at(indexed, site.dot, axis);
+        let part = typed_value(found, file, locals, Site { dot, ..site }, part)?;
+        typed = with_part(typed, part)?;
         axis = axis.saturating_add(1);
-        match typed_value(found, file, locals, Site { dot, ..site }, part)? {
-            Some(part) => typed.push(part)?,
-            None => complete = false,
-        }
     }
-    Ok(if complete { Some(typed) } else { None })
+    Ok(typed)
+}
+
+/// The axis that a `.` stands for in the part of this number, if it stands for one: of a left index,
+/// that axis, where the variable is of the current shape, and else what it stands for around the list.
+fn dot_at(indexed: Option<bool>, around: Option<u32>, axis: u32) -> Option<u32>
+    ensures { result ≡ dot_at indexed around axis }
+{
+    match indexed {
+        Some(true) => Some(axis),
+        Some(false) => None,
+        None => around,
+    }
+}
+
+/// The parts with one part more, where each has become a tree.
+fn with_part(
+    parts: Option<Vec<Box<TExpr>>>,
+    part: Option<Box<TExpr>>,
+) -> Result<Option<Vec<Box<TExpr>>>, Memory>
+    ensures { IfOk result (AreMore parts part) }
+{
+    let (Some(mut parts), Some(part)) = (parts, part) else {
+        return Ok(None);
+    };
+    parts.push(part)?;
+    Ok(Some(parts))
 }
 
 /// A call, a left index or `printf` with its typed parts. What its name breaks stands whatever the
@@ -392,7 +460,9 @@ fn with_list(
     site: Site,
     e: &Expr,
     parts: Option<Vec<Box<TExpr>>>,
-) -> Typing {
+) -> Typing
+    ensures { IfOk result (IsTypedFrom (λ program here xs. AreParts program here e.now xs) parts file.now locals.now site e.now) }
+{
     match e {
         Expr::Call { name, .. } => call(found, file, locals, site, name, parts),
         Expr::LeftIndex { place, name, .. } => {
@@ -416,7 +486,9 @@ fn indexed(
     place: Place,
     variable: Option<(Variable, VariableType)>,
     parts: Option<Vec<Box<TExpr>>>,
-) -> Typing {
+) -> Typing
+    ensures { (locals : Locals) (site : Site) (n : Name) (indexes : Vec Expr Global) → IfSome variable (IsVariableMeant false (find (names_at file.now locals site.known) n.word)) → IfOk result (IsTypedFrom (λ program here xs. AreParts program here (E.LeftIndex place indexes n) xs) parts file.now locals site (E.LeftIndex place indexes n)) }
+{
     let (Some(variable), Some(parts)) = (variable, parts) else {
         return Ok(None);
     };
@@ -440,7 +512,9 @@ fn goes_along(
     site: Site,
     e: &Expr,
     axis: Option<Box<TExpr>>,
-) -> Result<Option<Along>, Memory> {
+) -> Result<Option<Along>, Memory>
+    ensures { IfOk result (AreFoundAlong file.now locals.now site e.now axis) }
+{
     match e {
         Expr::DimOf {
             shape,
@@ -483,7 +557,9 @@ fn known_along(
     axis: Option<Axis>,
     bit: Option<Option<Variable>>,
     shape: Option<u16>,
-) -> Option<Along> {
+) -> Option<Along>
+    ensures { IfSome result (λ a. (axis ≡ Some a.axis) × (bit ≡ Some a.bit) × (a.shape ≡ shape)) }
+{
     Some(Along {
         axis: axis?,
         shape,
@@ -499,9 +575,25 @@ fn with_axis(
     e: &Expr,
     along: Along,
     source: Option<Box<TExpr>>,
-) -> Typing {
+) -> Typing
+    ensures { (locals : Locals) → IfOk result (IsTypedAlong file.now locals site e.now along source) }
+{
+    outcome(faults, file.alloc, intrinsic(file, site, e, along, source))
+}
+
+/// The same as a tree, or why it has none.
+fn intrinsic(
+    file: &File<'_>,
+    site: Site,
+    e: &Expr,
+    along: Along,
+    source: Option<Box<TExpr>>,
+) -> Result<TExpr, Untyped>
+    ensures source { IfOk result (λ t. HasItsSource e.now source) }
+    ensures typed { (locals : Locals) → IfOk result (λ t. (program : Program) (here : Here) → IsAround file.now locals site here → IsFoundAlong program here e.now along → IsSource program here e.now source → Types program here e.now t true) }
+{
     let Along { axis, shape, bit } = along;
-    let typed = match e {
+    match e {
         Expr::DimOf { .. } => match shape {
             Some(shape) => dim_of(file, shape, axis),
             None => Err(Untyped::Faulty),
@@ -528,20 +620,19 @@ fn with_axis(
             mode,
             inclusion,
             ..
-        } => match source {
-            Some(source) => {
-                let walk = Walk {
-                    mode: *mode,
-                    direction: *direction,
-                    inclusion: *inclusion,
-                };
-                scan(file.alloc, site, *place, source, axis, *combiner, walk, bit)
-            }
-            None => Err(Untyped::Faulty),
-        },
+        } => {
+            let Some(source) = source else {
+                return Err(Untyped::Faulty);
+            };
+            let walk = Walk {
+                mode: *mode,
+                direction: *direction,
+                inclusion: *inclusion,
+            };
+            scan(file.alloc, site, *place, source, axis, *combiner, walk, bit)
+        }
         _ => Err(Untyped::Faulty),
-    };
-    outcome(faults, file.alloc, typed)
+    }
 }
 
 /// The axis at the place, where its expression has no fault.
@@ -550,7 +641,9 @@ fn settled_axis(
     place: Place,
     axis: Option<Box<TExpr>>,
     rank: Option<u32>,
-) -> Result<Option<Axis>, Memory> {
+) -> Result<Option<Axis>, Memory>
+    ensures { IfOk result (λ r. IfSome r (λ a. (x : Box TExpr Global) × (axis ≡ Some x) × IsAxisOf (number_of_constant x.value) rank place (Ok a))) }
+{
     match axis {
         Some(axis) => faults.settle(axis_of(place, &axis, rank)),
         None => Ok(None),
@@ -558,12 +651,16 @@ fn settled_axis(
 }
 
 /// The rank of the shape, if there is one.
-fn rank_of_shape(file: &File<'_>, shape: Option<u16>) -> Option<u32> {
+fn rank_of_shape(file: &File<'_>, shape: Option<u16>) -> Option<u32>
+    ensures { result ≡ rank_under file.now.shapes.items shape }
+{
     file.rank(shape?)
 }
 
 /// Types an expression without parts.
-fn leaf(file: &File<'_>, locals: &Locals, site: Site, e: &Expr) -> Result<TExpr, Untyped> {
+fn leaf(file: &File<'_>, locals: &Locals, site: Site, e: &Expr) -> Result<TExpr, Untyped>
+    ensures { IfOk result (λ t. (program : Program) (here : Here) → IsAround file.now locals.now site here → Types program here e.now t true) }
+{
     match e {
         Expr::Name(written) => name(file, locals, site, written),
         Expr::Number {
@@ -582,10 +679,15 @@ fn leaf(file: &File<'_>, locals: &Locals, site: Site, e: &Expr) -> Result<TExpr,
 }
 
 /// An integer constant.
-fn number(value: u32, unsigned: bool) -> TExpr {
-    let elem = if unsigned { Elem::UNSIGNED } else { Elem::INT };
-    TExpr::Number {
-        ty: ValueType { elem, shape: None },
-        value,
+fn number(value: u32, unsigned: bool) -> TExpr
+    ensures { (program : Program) (here : Here) (place : Place) → Types program here (E.Number place value unsigned) result true }
+{
+    if unsigned {
+        let ty = ValueType {
+            elem: Elem::UNSIGNED,
+            shape: None,
+        };
+        return TExpr::Number { ty, value };
     }
+    TExpr::Number { ty: INT, value }
 }

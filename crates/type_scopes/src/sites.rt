@@ -2,7 +2,8 @@
 
 ghost use Rattle.cstar_base.specs.declared.faults.Fault.TheVariants as Faults;
 ghost use Rattle.cstar_tree.specs.Scopes.{IsAtHand};
-ghost use Rattle.std.specs.Prelude.{◌≡◌, MatchResult, None, Some};
+ghost use Rattle.std.specs.Prelude.{◌≡◌, true, false, MatchResult, None, Some};
+ghost use Rattle.type_scopes.specs.declared.sites.Returns.TheVariants as R;
 ghost use Rattle.type_scopes.specs.Answers.{TellsAway, told_by};
 
 use crate::faults::{Untyped, fault};
@@ -36,7 +37,9 @@ pub struct Site {
 
 impl Site {
     /// At file scope, where so many names are known.
-    pub fn file(known: usize) -> Site {
+    pub fn file(known: usize) -> Site
+        ensures { result ≡ record { current = None; known = known; function = None; returns = R.Unknown; in_loop = false; dot = None; whole = false } }
+    {
         Site {
             current: None,
             known,
@@ -49,7 +52,9 @@ impl Site {
     }
 
     /// The place of a part of an expression.
-    pub fn part(self) -> Site {
+    pub fn part(self) -> Site
+        ensures { result ≡ record self { whole = false } }
+    {
         Site {
             whole: false,
             ..self
@@ -57,7 +62,9 @@ impl Site {
     }
 
     /// The place of a whole expression.
-    pub fn statement(self) -> Site {
+    pub fn statement(self) -> Site
+        ensures { result ≡ record self { whole = true } }
+    {
         Site {
             whole: true,
             ..self
@@ -65,7 +72,9 @@ impl Site {
     }
 
     /// The place of a loop's body.
-    pub fn body(self) -> Site {
+    pub fn body(self) -> Site
+        ensures { result ≡ record self { in_loop = true } }
+    {
         Site {
             in_loop: true,
             ..self

@@ -1,4 +1,5 @@
-use Rattle.std.proofs.Common.{◌+◌, ◌*◌}
+use Rattle.std.proofs.Common.{◌≡◌, ◌+◌, ◌*◌, ◌-◌, ◌^◌, min}
+use Rattle.type_expressions.proofs.Listing.{AreListedTo, IsToldIndexed}
 use Rattle.type_expressions.proofs.walk.+expression.Given as goal
 
 abbrev pub decreases-typed_value : goal.decreases-typed_value
@@ -15,3 +16,12 @@ decreases-list l = goal.size-list l * 8 + 0
 
 abbrev pub decreases-axis_value : goal.decreases-axis_value
 decreases-axis_value l = goal.size-axis_value l * 8 + 3
+
+abbrev pub decreases-source_value : goal.decreases-source_value
+decreases-source_value l = goal.size-source_value l * 8 + 0
+
+abbrev pub invariant-list-loop-part : goal.invariant-list-loop-part
+invariant-list-loop-part l =
+    AreListedTo l.file l.locals l.site l.e l.indexed l.part-items l.part-index l.typed
+    × (l.axis ≡ min l.part-index (2 ^ 32 - 1))
+    × IsToldIndexed l.file l.locals l.site l.e l.indexed

@@ -1,0 +1,6 @@
+use Rattle.type_expressions.proofs.Walking.{dim_ok}
+use Rattle.type_expressions.proofs.walk.intrinsic.Goals as goal
+
+pub returns-in-Some-clause-typed : goal.returns-in-Some-clause-typed
+returns-in-Some-clause-typed c locals =
+    rw c.in-DimOf.is (dim_ok c.args.file.now locals c.args.site c.in-DimOf.place c.in-DimOf.shape c.in-DimOf.axis c.args.along c.args.source c.in-Some.shape c.dim_of.result c.in-Some.is c.dim_of.ensures)
