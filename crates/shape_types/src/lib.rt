@@ -1,21 +1,20 @@
 //! Typing: what every name means, the type of every expression, and the first fault of a file.
 #![tactic(auto)]
 
-ghost use Rattle.std.specs.Prelude.{◌≡◌, ◌<◌, ◌≤◌, IfErr, IfOk, IsNone, length};
+ghost use Rattle.std.specs.Prelude.{◌≡◌, [], ◌<◌, ◌≤◌, IfErr, IfOk, IsNone, length};
 ghost use Rattle.cstar_tree.specs.IsTyped.{IsTyped};
 ghost use Rattle.shape_types.specs.TypeFaults.{IsListedFault};
 
 mod declarations;
 mod instances;
-mod names;
 
 use crate::declarations::{Declared, SHAPES, file_scope};
 use crate::instances::{NODES, Program, reached_instances};
-use crate::names::{collect, main_function};
 use call_groups::function_groups;
 use cstar_base::{Fault, Memory, Place};
 use cstar_tree::syntax::Tree;
 use cstar_tree::typed::{Instance, ShapeInfo, Typed};
+use file_names::{collect, main_function};
 use shape_room::{has_room, needs};
 use std::alloc::Global;
 use type_expressions::Found;
@@ -119,7 +118,9 @@ fn with_needs(
 }
 
 /// Types the declarations of the file and the instances that `main` reaches.
-fn type_file(found: &mut Found, file: &mut File<'_>) -> Result<(Declared, Program), Memory> {
+fn type_file(found: &mut Found, file: &mut File<'_>) -> Result<(Declared, Program), Memory>
+    requires { file.old.functions.items ≡ [] }
+{
     collect(&mut found.faults, file)?;
     let groups = function_groups(file)?;
     for (info, group) in file.functions.iter_mut().zip(&groups) {
