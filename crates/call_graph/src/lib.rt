@@ -1,6 +1,12 @@
 //! Directed graphs of calls, as the list of the successors of each node.
 #![tactic(auto)]
 
+ghost use Rattle.call_graph.specs.Graph.{AreGroups, Successors};
+ghost use Rattle.std.specs.Prelude.{IfOk};
+
+mod walk;
+
+use crate::walk::Walk;
 use cstar_base::Memory;
 use std::alloc::Global;
 
@@ -54,51 +60,13 @@ pub fn finishing_order(alloc: Global, graph: &[Vec<u32>]) -> Result<Vec<usize>, 
     Ok(order)
 }
 
-/// The graph with all edges turned round.
-fn turned(alloc: Global, graph: &[Vec<u32>]) -> Result<Vec<Vec<u32>>, Memory> {
-    let mut turned = Vec::new(alloc);
-    for _ in graph {
-        turned.push(Vec::new(alloc))?;
+/// The group of each node: two nodes are of one group if each is reached from the other.
+pub fn groups(alloc: Global, graph: &[Vec<u32>]) -> Result<Vec<usize>, Memory>
+    ensures { IfOk result (λ groups. AreGroups (Successors graph.now) groups.items) }
+{
+    let mut walk = Walk::new(alloc, graph.len())?;
+    for root in 0..graph.len() {
+        walk.go_from(graph, root)?;
     }
-    for (node, successors) in graph.iter().enumerate() {
-        let node = u32::try_from(node).map_err(|_error| Memory)?;
-        for successor in successors {
-            if let Some(predecessors) = turned.get_mut(*successor as usize) {
-                predecessors.push(node)?;
-            }
-        }
-    }
-    Ok(turned)
-}
-
-/// The group of each node: two nodes are of one group if each is reached from the other. `order`
-/// is the finishing order.
-pub fn groups(alloc: Global, graph: &[Vec<u32>], order: &[usize]) -> Result<Vec<usize>, Memory> {
-    let most = steps(graph);
-    let turned = turned(alloc, graph)?;
-    let mut seen = vec![in alloc; false; graph.len()]?;
-    let mut groups = vec![in alloc; 0usize; graph.len()]?;
-    let mut waiting = Vec::new(alloc);
-    for root in order.iter().rev() {
-        if mark(&mut seen, *root) {
-            waiting.push(*root)?;
-        }
-        for _ in 0..=most {
-            let Some(node) = waiting.pop() else {
-                break;
-            };
-            if let Some(group) = groups.get_mut(node) {
-                *group = *root;
-            }
-            let Some(predecessors) = turned.get(node) else {
-                break;
-            };
-            for predecessor in predecessors {
-                if mark(&mut seen, *predecessor as usize) {
-                    waiting.push(*predecessor as usize)?;
-                }
-            }
-        }
-    }
-    Ok(groups)
+    walk.groups(alloc)
 }

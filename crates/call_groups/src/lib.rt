@@ -1,7 +1,7 @@
 //! Which functions call each other, as the calls stand in the text.
 #![tactic(auto)]
 
-use call_graph::{finishing_order, groups};
+use call_graph::groups;
 use cstar_base::Memory;
 use cstar_tree::syntax::{Block, Expr, Function, Name, Stmt};
 use cstar_tree::typed::Variable;
@@ -28,8 +28,7 @@ pub fn function_groups(file: &File<'_>) -> Result<Vec<usize>, Memory> {
         let number = u32::try_from(number).map_err(|_error| Memory)?;
         called.push(calls_of(file, number)?)?;
     }
-    let order = finishing_order(file.alloc, called.as_slice())?;
-    groups(file.alloc, called.as_slice(), order.as_slice())
+    groups(file.alloc, called.as_slice())
 }
 
 /// The functions that the function of the number calls, each as often as it does.
