@@ -34,7 +34,7 @@ one_less : (list : Option (List ℕ)) (next called : ℕ) → list_at list next 
 one_less None next called h = cc
 one_less (Some list) next called h = let short = slice_get_within list next called h in omega arith
 
-over_at : (list : Option (List ℕ)) (next i called : ℕ) → list_at list next ≡ None → list_at list i ≡ Some called → i < next
+pub over_at : (list : Option (List ℕ)) (next i called : ℕ) → list_at list next ≡ None → list_at list i ≡ Some called → i < next
 over_at None next i called none h = cc
 over_at (Some list) next i called none h =
     let short = slice_get_within list i called h in

@@ -39,10 +39,10 @@ gone_at open_nodes number root old new closes stands least node (Some (Open n)) 
     subst (λ o. IsPast least o) (sym (closes.shut n node h (stands node n is))) tt
 
 -- A place behind the change was the same before, or it is one of those that got the group.
-abbrev WasIn : List ℕ → ℕ → ℕ → ℕ → Place → Type 0
+abbrev pub WasIn : List ℕ → ℕ → ℕ → ℕ → Place → Type 0
 WasIn open_nodes number root node place = (place ≡ Grouped root) × ((n : ℕ) × (number ≤ n) × (slice_get open_nodes n ≡ Some node))
 
-was : (open_nodes : List ℕ) (number root : ℕ) (old new : List Place) → Closes open_nodes number root old new → ((node n : ℕ) → slice_get old node ≡ Some (Open n) → slice_get open_nodes n ≡ Some node)
+pub was : (open_nodes : List ℕ) (number root : ℕ) (old new : List Place) → Closes open_nodes number root old new → ((node n : ℕ) → slice_get old node ≡ Some (Open n) → slice_get open_nodes n ≡ Some node)
     → (node : ℕ) (before : Option Place) (place : Place) → slice_get old node ≡ before → slice_get new node ≡ Some place
     → ((slice_get old node ≡ Some place) × ((n : ℕ) → place ≡ Open n → n < number)) ⊎ WasIn open_nodes number root node place
 was open_nodes number root old new closes stands node None place is h =
@@ -90,6 +90,40 @@ never_open calls places sized closed f g root n at_f at_g leads =
     let high = subst (λ o. IsPast (n + 1) o) at_g past in
     absurd (omega arith)
 
+-- what the nodes from the number of a visit on call is past that number, where the visit is over and
+-- leads back no lower
+pub past_number : (calls : List (List ℕ)) (old : List Place) (open_nodes : List ℕ) (v : Visit) (rest : List Visit)
+    → IsWalk calls old open_nodes (v ∷ rest)
+    → ((i called : ℕ) → step_at calls v.node i ≡ Some called → i < v.next)
+    → v.lowest ≡ v.number
+    → (n node i called : ℕ) → v.number ≤ n → slice_get open_nodes n ≡ Some node → step_at calls node i ≡ Some called → IsPast v.number (slice_get old called)
+past_number calls old open_nodes v rest walk over own n node i called above h s =
+    let is = walk.way_on.0 in
+    let past = λ (o : Option Place) (p : IsPast v.lowest o). subst (λ k. IsPast k o) own p in
+    elim (cases_order v.number n) [
+      | inl e ↦
+          (let same = same_Some v.node node (sym is.stands ∙ ap (slice_get open_nodes) e ∙ h) in
+          let s' = subst (λ x. step_at calls x i ≡ Some called) (sym same) s in
+          past (slice_get old called) (is.begun i called (over i called s') s'))
+      | inr apart ↦ elim apart [
+        | inl up ↦ past (slice_get old called) (is.done n node i called up (slice_get_within open_nodes n node h) h s)
+        | inr down ↦ absurd (omega arith)
+      ]
+    ]
+
+-- those nodes lead back to the node of the visit
+pub back_home : (calls : List (List ℕ)) (old : List Place) (open_nodes : List ℕ) (v : Visit) (rest : List Visit)
+    → IsWalk calls old open_nodes (v ∷ rest) → (n node : ℕ) → v.number ≤ n → slice_get open_nodes n ≡ Some node → Leads calls node v.node
+back_home calls old open_nodes v rest walk n node above h =
+    let is = walk.way_on.0 in
+    elim (cases_order v.number n) [
+      | inl e ↦ subst (λ x. Leads calls x v.node) (same_Some v.node node (sym is.stands ∙ ap (slice_get open_nodes) e ∙ h)) is_it
+      | inr apart ↦ elim apart [
+        | inl up ↦ is.back n node up (slice_get_within open_nodes n node h) h
+        | inr down ↦ absurd (omega arith)
+      ]
+    ]
+
 pub closed : (calls : List (List ℕ)) (old new : List Place) (open_nodes : List ℕ) (v : Visit) (rest : List Visit)
     → IsWalk calls old open_nodes (v ∷ rest)
     → Closes open_nodes v.number v.node old new
@@ -103,26 +137,8 @@ closed calls old new open_nodes v rest walk closes over own =
     let stands = walk.number in
     let moves : Moves old new = λ least node. moves_at open_nodes number root old new closes stands least node (slice_get old node) refl in
     let before = λ (node : ℕ) (place : Place) (h : slice_get new node ≡ Some place). was open_nodes number root old new closes stands node (slice_get old node) place refl h in
-    let own_past = λ (o : Option Place) (h : IsPast v.lowest o). subst (λ n. IsPast n o) own h in
-    let gone = λ (n node i called : ℕ) (above : number ≤ n) (h : slice_get open_nodes n ≡ Some node) (s : step_at calls node i ≡ Some called).
-    elim (cases_order number n) as (λ _. IsPast number (slice_get old called)) [
-      | inl e ↦
-          (let same = same_Some root node (sym is.stands ∙ ap (slice_get open_nodes) e ∙ h) in
-          let s' = subst (λ x. step_at calls x i ≡ Some called) (sym same) s in
-          own_past (slice_get old called) (is.begun i called (over i called s') s'))
-      | inr apart ↦ elim apart as (λ _. IsPast number (slice_get old called)) [
-        | inl up ↦ own_past (slice_get old called) (is.done n node i called up (slice_get_within open_nodes n node h) h s)
-        | inr down ↦ absurd (omega arith)
-      ]
-    ] in
-    let home = λ (n node : ℕ) (above : number ≤ n) (h : slice_get open_nodes n ≡ Some node).
-    elim (cases_order number n) as (λ _. Leads calls node root) [
-      | inl e ↦ subst (λ x. Leads calls x root) (same_Some root node (sym is.stands ∙ ap (slice_get open_nodes) e ∙ h)) is_it
-      | inr apart ↦ elim apart as (λ _. Leads calls node root) [
-        | inl up ↦ is.back n node up (slice_get_within open_nodes n node h) h
-        | inr down ↦ absurd (omega arith)
-      ]
-    ] in
+    let gone = past_number calls old open_nodes v rest walk over own in
+    let home = back_home calls old open_nodes v rest walk in
     let away = λ (n node : ℕ) (above : number ≤ n) (h : slice_get open_nodes n ≡ Some node). walk.rises number n root node above is.stands h in
     let out = λ (f m : ℕ) (at_f : slice_get old f ≡ Some (Grouped m)) (n g : ℕ) (h : slice_get open_nodes n ≡ Some g) (leads : Leads calls f g). never_open calls old walk.sized walk.closed f g m n at_f (walk.node g n h) leads in
     let apart = λ (m : ℕ) (f : ℕ) (at_f : slice_get old f ≡ Some (Grouped m)) (e : m ≡ root). let this = walk.rooted f m at_f in let that = walk.node root number is.stands in let same = ap (slice_get old) e in let none : ⊥ = cc in none in

@@ -76,3 +76,14 @@ replaced [] [] e = refl
 replaced [] (y ∷ ys) e = absurd (omega arith)
 replaced (x ∷ xs) [] e = absurd (omega arith)
 replaced (x ∷ xs) (y ∷ ys) e = ap (λ zs. x ∷ zs) (replaced xs ys (omega arith))
+
+pub at_joint : {A : Type 0} (xs ys : List A) (k : ℕ) → slice_get (xs ++ ys) (length xs + k) ≡ slice_get ys k
+at_joint [] ys k = ap (slice_get ys) (let e : 0 + k ≡ k = omega arith in e)
+at_joint (x ∷ xs) ys k = ap (slice_get (x ∷ xs ++ ys)) (let e : suc (length xs) + k ≡ suc (length xs + k) = omega arith in e) ∙ at_joint xs ys k
+
+-- what stands in two lists, one behind the other, stands in the one or in the other
+pub joined : {A : Type 0} (xs ys : List A) (k : ℕ) (x : A) → slice_get (xs ++ ys) k ≡ Some x → (slice_get xs k ≡ Some x) ⊎ ((n : ℕ) × (k ≡ length xs + n) × (slice_get ys n ≡ Some x))
+joined [] ys k x h = inr (k, (let e : k ≡ 0 + k = omega arith in e), h)
+joined (y ∷ xs) ys zero x h = inl h
+joined (y ∷ xs) ys (suc k) x h =
+    elim (joined xs ys k x h) [ inl front ↦ inl front | inr back ↦ inr (back.0, omega arith, back.2) ]

@@ -5,3 +5,4 @@ pub mod Entered
 pub mod Left
 pub mod WalkLemmas
 pub mod Whole
+pub mod Ordered

@@ -12,7 +12,7 @@ use Rattle.call_graph.specs.Walk.{IsPast, IsWalk, Moves, first_visit, group_at}
 use Rattle.call_graph.proofs.Elements.{set_here}
 use Rattle.call_graph.proofs.Entered.{enter_moves, entered}
 
-all_new : (n node : ℕ) (place : Place) → slice_get (replicate n New) node ≡ Some place → place ≡ New
+pub all_new : (n node : ℕ) (place : Place) → slice_get (replicate n New) node ≡ Some place → place ≡ New
 all_new zero node place h = cc
 all_new (suc n) zero place h = cc
 all_new (suc n) (suc node) place h = all_new n node place h
@@ -51,7 +51,7 @@ comes_first calls places nodes v end new others on walk is e p o w =
       subst (λ ps. IsPast 0 (slice_get ps v)) (sym p') come,
     )
 
-has_group : (calls : List (List ℕ)) (places : List Place) (nodes : List ℕ) (f : ℕ) → IsWalk calls places nodes [] → f < length calls
+pub has_group : (calls : List (List ℕ)) (places : List Place) (nodes : List ℕ) (f : ℕ) → IsWalk calls places nodes [] → f < length calls
     → (place : Option Place) → slice_get places f ≡ place → IsPast 0 place → slice_get places f ≡ Some (Grouped (slice_index (map group_at places) f))
 has_group calls places nodes f walk less None is h =
     let there = slice_get-get_or places f New (let same = walk.sized in omega arith) in cc

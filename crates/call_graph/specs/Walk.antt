@@ -1,5 +1,5 @@
 -- The walk that finds the groups of a graph.
-use Rattle.std.specs.Prelude.{◌≡◌, ℕ, ◌+◌, ◌-◌, ◌<◌, ◌≤◌, ◌↔◌, List, [], ◌∷◌, length, min, slice_get, Option, Some, None}
+use Rattle.std.specs.Prelude.{◌≡◌, ℕ, ◌+◌, ◌-◌, ◌<◌, ◌≤◌, ◌↔◌, ◌⊎◌, List, [], ◌∷◌, length, min, slice_get, Option, Some, None}
 use Rattle.call_graph.specs.declared.walk.Place.{Place}
 use Rattle.call_graph.specs.declared.walk.Place.TheVariants.{New, Open, Grouped}
 use Rattle.call_graph.specs.declared.walk.Visit.{Visit}
@@ -100,3 +100,14 @@ first_visit node number = record { node = node; number = number; lowest = number
 abbrev pub place_of : ℕ → Option Place → Place
 place_of node None = Grouped node
 place_of node (Some place) = place
+
+-- a node stands at a place before this one
+abbrev pub IsBefore : List ℕ → ℕ → ℕ → Type 0
+IsBefore order place node = (earlier : ℕ) × (earlier < place) × (slice_get order earlier ≡ Some node)
+
+-- the nodes that have a group, each once; what one calls in the graph stands before it, or leads to it
+pub record IsOrder (calls : List (List ℕ)) (places : List Place) (order : List ℕ) : Type 0 where
+  pub has_group : (place node : ℕ) → slice_get order place ≡ Some node → (root : ℕ) × (slice_get places node ≡ Some (Grouped root))
+  pub listed : (node root : ℕ) → slice_get places node ≡ Some (Grouped root) → (place : ℕ) × (slice_get order place ≡ Some node)
+  pub once : (m n node : ℕ) → slice_get order m ≡ Some node → slice_get order n ≡ Some node → m ≡ n
+  pub behind : (place node i called : ℕ) → slice_get order place ≡ Some node → step_at calls node i ≡ Some called → called < length calls → IsBefore order place called ⊎ Leads calls called node

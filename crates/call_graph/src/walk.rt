@@ -3,8 +3,8 @@
 #![tactic(auto)]
 
 ghost use Rattle.call_graph.specs.Graph.{Successors};
-ghost use Rattle.call_graph.specs.Walk.{Advances, Closes, IsPast, IsWalk, Moves, first_visit, group_at, lowered_by, place_of, step_at};
-ghost use Rattle.std.specs.Prelude.{◌≡◌, ℕ, ◌<◌, ◌≤◌, ◌∷◌, ◌++◌, [], IfOk, IfSome, length, map, replicate, reverse, slice_get, slice_set, take, vec_len};
+ghost use Rattle.call_graph.specs.Walk.{Advances, Closes, IsOrder, IsPast, IsWalk, Moves, first_visit, group_at, lowered_by, place_of, step_at};
+ghost use Rattle.std.specs.Prelude.{◌≡◌, ℕ, ◌<◌, ◌≤◌, ◌∷◌, ◌++◌, ◌-◌, [], IfOk, IfSome, drop, length, map, replicate, reverse, slice_get, slice_set, take, vec_len};
 
 use cstar_base::Memory;
 use std::alloc::Global;
@@ -33,12 +33,14 @@ pub struct Visit {
     pub next: usize,
 }
 
-/// The walk: where each node stands, the nodes without a group, and the way to the present one.
+/// The walk: where each node stands, the nodes without a group, the way to the present one, and the
+/// nodes with a group in the order in which they got it.
 #[derive(Drop)]
 pub struct Walk {
     pub places: Vec<Place>,
     pub ungrouped: Vec<usize>,
     pub path: Vec<Visit>,
+    pub order: Vec<usize>,
 }
 
 /// The successor to which the visit comes next.
@@ -68,11 +70,13 @@ impl Walk {
         ensures places { IfOk result (λ walk. walk.places.items ≡ replicate nodes Place.New) }
         ensures ungrouped { IfOk result (λ walk. walk.ungrouped.items ≡ []) }
         ensures path { IfOk result (λ walk. walk.path.items ≡ []) }
+        ensures order { IfOk result (λ walk. walk.order.items ≡ []) }
     {
         Ok(Walk {
             places: vec![in alloc; Place::New; nodes]?,
             ungrouped: Vec::new(alloc),
             path: Vec::new(alloc),
+            order: Vec::new(alloc),
         })
     }
 
@@ -84,6 +88,7 @@ impl Walk {
         ensures ungrouped { IfOk result (λ _. self.new.ungrouped.items ≡ self.old.ungrouped.items ++ node ∷ []) }
         ensures path { IfOk result
             (λ _. reverse self.new.path.items ≡ first_visit node (vec_len self.old.ungrouped) ∷ reverse self.old.path.items) }
+        ensures order { self.new.order.items ≡ self.old.order.items }
     {
         let number = self.ungrouped.len();
         self.places[node] = Place::Open(number);
@@ -103,6 +108,7 @@ impl Walk {
         ensures ungrouped { self.new.ungrouped.items ≡ self.old.ungrouped.items }
         ensures path { IfOk result
             (λ _. reverse self.new.path.items ≡ lowered_by number (reverse self.old.path.items)) }
+        ensures order { self.new.order.items ≡ self.old.order.items }
     {
         if let Some(caller) = self.path.pop() {
             let lowest = caller.lowest.min(number);
@@ -112,15 +118,19 @@ impl Walk {
     }
 
     /// Gives the nodes from the number on their group.
-    fn close(&mut self, number: usize, root: usize)
+    fn close(&mut self, number: usize, root: usize) -> Result<(), Memory>
         requires within { number ≤ vec_len self.old.ungrouped }
         requires node { (node n : ℕ) → slice_get self.old.ungrouped.items n ≡ Some node → slice_get self.old.places.items node ≡ Some (Place.Open n) }
-        ensures places { Closes self.old.ungrouped.items number root self.old.places.items self.new.places.items }
-        ensures ungrouped { self.new.ungrouped.items ≡ take number self.old.ungrouped.items }
+        ensures places { IfOk result (λ _. Closes self.old.ungrouped.items number root self.old.places.items self.new.places.items) }
+        ensures ungrouped { IfOk result (λ _. self.new.ungrouped.items ≡ take number self.old.ungrouped.items) }
         ensures path { self.new.path.items ≡ self.old.path.items }
+        ensures order { IfOk result
+            (λ _. self.new.order.items ≡ self.old.order.items ++ take (length self.old.ungrouped.items - number) (drop number self.old.ungrouped.items)) }
     {
         set_group(&mut self.places, &self.ungrouped[number..], root);
+        self.order.extend_from_slice(&self.ungrouped[number..])?;
         self.ungrouped.truncate(number);
+        Ok(())
     }
 
     /// Where the node stands. One that is not in the graph is a group of its own.
@@ -135,16 +145,17 @@ impl Walk {
 
     /// Goes on by one step from the visit, which is the last of the way.
     fn advance(&mut self, graph: &[Vec<u32>], visit: Visit) -> Result<(), Memory>
-        requires { IsWalk (Successors graph.now) self.old.places.items self.old.ungrouped.items (visit ∷ reverse self.old.path.items) }
-        ensures { IfOk result
+        requires walk { IsWalk (Successors graph.now) self.old.places.items self.old.ungrouped.items (visit ∷ reverse self.old.path.items) }
+        requires order { IsOrder (Successors graph.now) self.old.places.items self.old.order.items }
+        ensures order { IfOk result (λ _. IsOrder (Successors graph.now) self.new.places.items self.new.order.items) }
+        ensures walk { IfOk result
             (λ _. Advances (Successors graph.now) self.old.places.items (visit ∷ reverse self.old.path.items) self.new.places.items self.new.ungrouped.items (reverse self.new.path.items)) }
     {
         let Some(node) = successor(graph, &visit) else {
             if visit.lowest < visit.number {
                 return self.lower(visit.lowest);
             }
-            self.close(visit.number, visit.node);
-            return Ok(());
+            return self.close(visit.number, visit.node);
         };
         let next = visit.next + 1;
         match self.place(node) {
@@ -172,10 +183,12 @@ impl Walk {
     pub fn go_from(&mut self, graph: &[Vec<u32>], root: usize) -> Result<(), Memory>
         requires walk { IsWalk (Successors graph.now) self.old.places.items self.old.ungrouped.items [] }
         requires path { self.old.path.items ≡ [] }
+        requires order { IsOrder (Successors graph.now) self.old.places.items self.old.order.items }
         requires root { root < length graph.now }
         ensures walk { IfOk result (λ _. IsWalk (Successors graph.now) self.new.places.items self.new.ungrouped.items []) }
         ensures path { IfOk result (λ _. self.new.path.items ≡ []) }
         ensures moves { IfOk result (λ _. Moves self.old.places.items self.new.places.items) }
+        ensures order { IfOk result (λ _. IsOrder (Successors graph.now) self.new.places.items self.new.order.items) }
         ensures root { IfOk result (λ _. IsPast 0 (slice_get self.new.places.items root)) }
     {
         let Place::New = self.place(root) else {
