@@ -3,7 +3,7 @@
 
 ghost use Rattle.call_graph.specs.Graph.{AreCalleesFirst, AreGroups, Successors};
 ghost use Rattle.call_graph.specs.Walk.{IsOrder, IsPast, IsWalk};
-ghost use Rattle.std.specs.Prelude.{ℕ, ◌<◌, [], IfOk, length, slice_get};
+ghost use Rattle.std.specs.Prelude.{◌≡◌, ℕ, ◌<◌, [], IfOk, length, slice_get, vec_len};
 
 mod walk;
 
@@ -35,7 +35,8 @@ pub fn finishing_order(alloc: Global, graph: &[Vec<u32>]) -> Result<Vec<usize>, 
 
 /// The group of each node: two nodes are of one group if each is reached from the other.
 pub fn groups(alloc: Global, graph: &[Vec<u32>]) -> Result<Vec<usize>, Memory>
-    ensures { IfOk result (λ groups. AreGroups (Successors graph.now) groups.items) }
+    ensures length { IfOk result (λ groups. vec_len groups ≡ length graph.now) }
+    ensures exact { IfOk result (λ groups. AreGroups (Successors graph.now) groups.items) }
 {
     walked(alloc, graph)?.groups(alloc)
 }
