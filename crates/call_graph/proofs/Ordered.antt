@@ -1,5 +1,5 @@
 -- The order in which the nodes get their groups.
-use Rattle.std.proofs.Common.{◌≡◌, ◌≢◌, ℕ, ◌+◌, ◌-◌, ◌<◌, ◌≤◌, List, [], ◌∷◌, ◌++◌, length, take, drop, map, replicate, slice_get, slice_index, Option, Some, None, ◌⊎◌, inl, inr, refl, sym, ap, ◌∙◌, subst, arith}
+use Rattle.std.proofs.Common.{◌≡◌, ◌≢◌, ℕ, ◌+◌, ◌-◌, ◌<◌, ◌≤◌, List, [], ◌∷◌, ◌++◌, length, take, drop, map, slice_get, slice_index, Option, Some, None, ◌⊎◌, inl, inr, refl, sym, ap, ◌∙◌, subst, arith}
 use Rattle.std.proofs.Math.ListN.{set}
 use Rattle.std.proofs.lemmas.Option.{slice_get_within, slice_get-get_or}
 use Rattle.cstar_tree.specs.Headers.{Leads}
@@ -12,15 +12,7 @@ use Rattle.call_graph.proofs.Advance.{over_at}
 use Rattle.call_graph.proofs.Closed.{back_home, past_number, was}
 use Rattle.call_graph.proofs.Elements.{at_joint, changed, in_rest, joined, kept_below, of_rest, set_else}
 use Rattle.call_graph.proofs.WalkLemmas.{leads_on}
-use Rattle.call_graph.proofs.Whole.{all_new, has_group}
-
-pub none_ordered : (calls : List (List ℕ)) (nodes : ℕ) → IsOrder calls (replicate nodes New) []
-none_ordered calls nodes = record {
-  has_group = λ place node h. cc;
-  listed = λ node root h. absurd (let e = all_new nodes node (Grouped root) h in cc);
-  once = λ m n node h k. cc;
-  behind = λ place node i called h. cc;
-}
+use Rattle.call_graph.proofs.Whole.{has_group}
 
 entered_order : (calls : List (List ℕ)) (places : List Place) (v n : ℕ) (order : List ℕ) → slice_get places v ≡ Some New → IsOrder calls places order → IsOrder calls (set places v (Open n)) order
 entered_order calls places v n order is old = record {

@@ -1,7 +1,6 @@
 -- Where a walk begins, and what it is at its end.
-use Rattle.std.proofs.Common.{◌≡◌, ℕ, zero, suc, ◌<◌, List, [], ◌∷◌, ◌++◌, length, map, replicate, slice_get, slice_index, Option, Some, None, refl, sym, ap, ◌∙◌, subst, arith}
+use Rattle.std.proofs.Common.{◌≡◌, ℕ, ◌<◌, List, [], ◌∷◌, ◌++◌, length, map, slice_get, slice_index, Option, Some, None, refl, sym, ap, ◌∙◌, subst, arith}
 use Rattle.std.proofs.Math.ListN.{set}
-use Rattle.std.proofs.lemmas.List.{length-replicate}
 use Rattle.std.proofs.lemmas.Option.{slice_get_within, slice_get-get_or, slice_get-map, get_or_from_slice_get}
 use Rattle.std.specs.Option.{option_map}
 use Rattle.call_graph.specs.declared.walk.Place.{Place}
@@ -11,25 +10,6 @@ use Rattle.call_graph.specs.Graph.{AreGroups}
 use Rattle.call_graph.specs.Walk.{IsPast, IsWalk, Moves, first_visit, group_at}
 use Rattle.call_graph.proofs.Elements.{set_here}
 use Rattle.call_graph.proofs.Entered.{enter_moves, entered}
-
-pub all_new : (n node : ℕ) (place : Place) → slice_get (replicate n New) node ≡ Some place → place ≡ New
-all_new zero node place h = cc
-all_new (suc n) zero place h = cc
-all_new (suc n) (suc node) place h = all_new n node place h
-
-pub not_begun : (calls : List (List ℕ)) → IsWalk calls (replicate (length calls) New) [] []
-not_begun calls =
-    let new = all_new (length calls) in
-    record {
-      sized = length-replicate (length calls) New;
-      rises = λ m n f g less h. cc;
-      number = λ node n h. absurd (let e = new node (Open n) h in cc);
-      node = λ node n h. cc;
-      closed = λ node root i called h. absurd (let e = new node (Grouped root) h in cc);
-      rooted = λ node root h. absurd (let e = new node (Grouped root) h in cc);
-      grouped = λ f g m n h. absurd (let e = new f (Grouped m) h in cc);
-      way_on = refl;
-    }
 
 -- the walk comes to a new node from nowhere
 pub comes_first : (calls : List (List ℕ)) (places : List Place) (nodes : List ℕ) (v end : ℕ) (new : List Place) (others : List ℕ) (on : List Visit)

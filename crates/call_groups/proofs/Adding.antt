@@ -13,9 +13,6 @@ pub functions-append : (a b : List Call) → functions_of (a ++ b) ≡ functions
 functions-append [] b = refl
 functions-append (x ∷ a) b = ap (λ fs. x.function ∷ fs) (functions-append a b)
 
-names_of : File → List Binding → ℕ → List Binding
-names_of file local known = local ++ file_bindings file known
-
 pub still_known : (old new : Calls) (calls : Here → List Call) (here : Here) → Adds old new calls → IsKnown old here → IsKnown new here
 still_known old new calls here adds known = λ word.
     known word

@@ -172,9 +172,6 @@ stmt_none {calls = calls} {s = s} is = none_added calls (calls_in_statement s) i
 pub stmt_same : {old new : Calls} {s : Stmt} (calls : Here → List Call) → Has s calls → Adds old new calls → Adds old new (calls_in_statement s)
 stmt_same {old = old} {new = new} {s = s} calls is adds = same_added old new calls (calls_in_statement s) adds is.at_place
 
-pub expr_of : {old new : Calls} {e v : Expr} → v ≡ e → Adds old new (λ here. calls_in here v) → Adds old new (λ here. calls_in here e)
-expr_of {old = old} {new = new} same adds = subst (λ x. Adds old new (λ here. calls_in here x)) same adds
-
 pub stmt_of : {old new : Calls} {s v : Stmt} → v ≡ s → Adds old new (calls_in_statement v) → Adds old new (calls_in_statement s)
 stmt_of {old = old} {new = new} same adds = subst (λ x. Adds old new (calls_in_statement x)) same adds
 
