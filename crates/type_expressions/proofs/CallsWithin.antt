@@ -1,6 +1,6 @@
 -- The calls of the parts of an expression are among its own, and what was met before begins what is
 -- met now.
-use Rattle.std.proofs.Common.{◌≡◌, ◌<◌, ℕ, suc, zero, List, [], ◌∷◌, ◌++◌, append_assoc, get_or, length, Option, Some, Box, Vec, arith, refl, sym, ap, subst, ◌∙◌, if◌then◌else◌, Bool, true, false}
+use Rattle.std.proofs.Common.{◌≡◌, ◌<◌, ℕ, suc, zero, List, [], ◌∷◌, ◌++◌, append_assoc, get_or, length, Option, Some, OnOk, Result, Ok, Err, Box, Vec, arith, refl, sym, ap, subst, ◌∙◌, if◌then◌else◌, Bool, true, false}
 use Rattle.std.specs.List.{All, Contains, slice_get}
 use Rattle.std.specs.declared.alloc.Global.{Global}
 use Rattle.std.proofs.lemmas.List.{append-nil}
@@ -30,16 +30,16 @@ use Rattle.cstar_tree.specs.Scopes.{Here, meaning}
 use Rattle.cstar_tree.specs.Scopes as S
 use Rattle.cstar_tree.specs.TypedParts.{concat}
 use Rattle.type_scopes.specs.declared.file.File.{File}
-use Rattle.type_expressions.specs.Instances.{Grows, IsBeginning, met, with_met}
+use Rattle.type_expressions.specs.Instances.{AreHeaders, Grows, IsBeginning, met, with_met}
 use Rattle.type_expressions.specs.Programs.{HasItsCalls}
 use Rattle.type_expressions.specs.declared.found.Instances.{Instances}
 
 -- ---- beginnings of lists
 
-beginning_same : {A : Type 0} {xs ys : List A} → ys ≡ xs → IsBeginning xs ys
+pub beginning_same : {A : Type 0} {xs ys : List A} → ys ≡ xs → IsBeginning xs ys
 beginning_same {xs = xs} same = record { rest = []; whole = same ∙ sym (append-nil xs) }
 
-beginning_both : {A : Type 0} {xs ys zs : List A} → IsBeginning xs ys → IsBeginning ys zs → IsBeginning xs zs
+pub beginning_both : {A : Type 0} {xs ys zs : List A} → IsBeginning xs ys → IsBeginning ys zs → IsBeginning xs zs
 beginning_both {xs = xs} b c = record {
   rest = b.rest ++ c.rest;
   whole = c.whole ∙ (ap (λ (l : List _). l ++ c.rest) b.whole ∙ append_assoc xs b.rest c.rest);
@@ -63,10 +63,19 @@ among_more {xs = xs} n x b is = subst (λ (l : List _). slice_get l n ≡ Some x
 -- ---- instances that are met further on
 
 pub begins_same : {file : File} {old new : Instances} → new ≡ old → Grows file old new
-begins_same same = record { begins = beginning_same (ap met same) }
+begins_same same = record { begins = beginning_same (ap met same); headers = (subst (AreHeaders _) (sym same), subst (AreHeaders _) same) }
 
 pub begins_both : {file : File} {first second third : Instances} → Grows file first second → Grows file second third → Grows file first third
-begins_both b c = record { begins = beginning_both b.begins c.begins }
+begins_both b c = record { begins = beginning_both b.begins c.begins; headers = (λ all. c.headers.0 (b.headers.0 all), λ all. b.headers.1 (c.headers.1 all)) }
+
+-- so it is at an answer, whatever is answered
+pub begins_answer : {A E : Type 0} {file : File} {old new : Instances} (r : Result A E) → Grows file old new → OnOk r (Grows file old new)
+begins_answer (Ok x) grows = grows
+begins_answer (Err e) grows = tt
+
+pub begins_before : {A E : Type 0} {file : File} {first second : Instances} (r : Result A E) (third : Instances) → Grows file first second → OnOk r (Grows file second third) → OnOk r (Grows file first third)
+begins_before (Ok x) third b c = begins_both b c
+begins_before (Err e) third b c = tt
 
 -- ---- the calls of parts
 
@@ -199,7 +208,7 @@ narrowed within calls = record {
 pub moved : {so_far : Instances} {file : File} {program : Program} {here : Here} {e : Expr} (dot : Option ℕ) (whole : Bool) → HasItsCalls so_far file program here e → HasItsCalls so_far file program (record here { dot = dot; whole = whole }) e
 unfolding meaning
 moved dot whole calls = record {
-  of_file = record { named = calls.of_file.named; around = calls.of_file.around; groups = calls.of_file.groups; instances = calls.of_file.instances };
+  of_file = record { named = calls.of_file.named; around = calls.of_file.around; groups = calls.of_file.groups; instances = calls.of_file.instances; headers = calls.of_file.headers };
   place = calls.place;
   names = calls.names;
   called = calls.called;
@@ -207,7 +216,7 @@ moved dot whole calls = record {
 
 pub earlier : {so_far later : Instances} {file : File} {program : Program} {here : Here} {e : Expr} → Grows file so_far later → HasItsCalls later file program here e → HasItsCalls so_far file program here e
 earlier begins calls = record {
-  of_file = record { named = calls.of_file.named; around = calls.of_file.around; groups = calls.of_file.groups; instances = beginning_both begins.begins calls.of_file.instances };
+  of_file = record { named = calls.of_file.named; around = calls.of_file.around; groups = calls.of_file.groups; instances = beginning_both begins.begins calls.of_file.instances; headers = begins.headers.1 calls.of_file.headers };
   place = calls.place;
   names = calls.names;
   called = calls.called;

@@ -185,18 +185,6 @@ told_typed are x file locals site e (Ok t) old new (Some b) h m = λ program her
 told_typed are x file locals site e (Err u) old new None h m = tt
 told_typed are x file locals site e (Err u) old new (Some b) h m = absurd m
 
-pub told_ok : {A : Type 0} (are : Program → Here → A → Type 0) (x : A) (file : File) (locals : Locals) (site : Site) (e : Expr) (typed : Result TExpr Untyped) (old new : Option Standing) (r : Option TypedExpr) → IfOk typed (λ t. (program : Program) (here : Here) → are program here x → Types program here e t true) → IsOutcome typed old new r → IsTypedFrom are (Some x) file locals site e r
-told_ok are x file locals site e (Ok t) old new None h m = tt
-told_ok are x file locals site e (Ok t) old new (Some b) h m = λ program here a parts. rw (m.0, m.1) (h program here parts)
-told_ok are x file locals site e (Err u) old new None h m = tt
-told_ok are x file locals site e (Err u) old new (Some b) h m = absurd m
-
-pub told_leaf : (so_far : Instances) (file : File) (locals : Locals) (site : Site) (e : Expr) (typed : Result TExpr Untyped) (old new : Option Standing) (r : Option TypedExpr) → IfOk typed (λ t. (program : Program) (here : Here) → IsAround file locals site here → Types program here e t true) → IsOutcome typed old new r → IsTyped so_far file locals site e r
-told_leaf so_far file locals site e (Ok t) old new None h m = tt
-told_leaf so_far file locals site e (Ok t) old new (Some b) h m = λ program here a calls plain. rw (m.0, m.1) (h program here a)
-told_leaf so_far file locals site e (Err u) old new None h m = tt
-told_leaf so_far file locals site e (Err u) old new (Some b) h m = absurd m
-
 pub if_answers : {A : Type 0} (are : Program → Here → A → Type 0) (x : A) (e : Expr) (typed : Result TExpr Untyped) → ((program : Program) (here : Here) → are program here x → IsAnswerOrMemory program here e typed) → IfOk typed (λ t. (program : Program) (here : Here) → are program here x → Types program here e t true)
 if_answers are x e (Ok t) h = h
 if_answers are x e (Err u) h = tt

@@ -201,30 +201,36 @@ pub fn call(
         function,
         current: site.current,
     };
-    let header = file.header(reached)?;
-    let instance = reach(found, file, site, reached, &header)?;
+    let instance = reach(found, file, site, reached)?;
     let Some(arguments) = arguments else {
         return Ok(None);
     };
-    found.faults.settle(fitting_call(
-        file, site, name.place, function, &header, instance, arguments,
-    ))
+    let Some(header) = found.instances.header(reached) else {
+        return Ok(None);
+    };
+    let typed = fitting_call(
+        file, site, name.place, function, header, instance, arguments,
+    );
+    found.faults.settle(typed)
 }
 
-/// The number of the instance that a call reaches, if it stands in a function.
+/// The number of the instance that a call reaches, if it stands in a function. Its header is kept
+/// from here on.
 fn reach(
     found: &mut Found,
     file: &File<'_>,
     site: Site,
     reached: Reached,
-    header: &Header,
 ) -> Result<Option<u32>, Memory>
     ensures number { IfOk result (IsReached (met found.new.instances) site.function (instance_of reached)) }
     ensures met { OnOk result (Grows file.now found.old.instances found.new.instances) }
 {
     match site.function {
-        Some(_) => Ok(Some(found.reach(reached, header)?)),
-        None => Ok(None),
+        Some(_) => Ok(Some(found.reach(file, reached)?)),
+        None => {
+            found.instances.prepare(file, reached)?;
+            Ok(None)
+        }
     }
 }
 

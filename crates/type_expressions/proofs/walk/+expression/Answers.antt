@@ -1,6 +1,6 @@
 use Rattle.std.proofs.Common.{◌≡◌, arith, inl, inr, length, refl}
 use Rattle.std.proofs.lemmas.Result.{IfOk-weaker}
-use Rattle.type_expressions.proofs.CallsWithin.{begins_both, begins_same}
+use Rattle.type_expressions.proofs.CallsWithin.{begins_answer, begins_before, begins_both, begins_same}
 use Rattle.type_expressions.proofs.Listing.{call_listed, indexes_listed, listed_more, listed_to_later, none_listed, printed_listed, told_left}
 use Rattle.type_expressions.proofs.Walking.{assigned_typed, at_index_typed, both_typed, brackets_typed, casts_typed, dim_typed, enumerate_typed, list_typed, parallel_cast_typed, pcoord_typed, postfix_typed, prefix_typed, scan_typed, three_typed, value_later, value_typed}
 use Rattle.type_expressions.proofs.walk.+expression.Goals as goal
@@ -105,3 +105,30 @@ typed_expr-returns-in_ok-parts-in-Call-clause-typed t c =
 pub typed_value-returns-clause-typed : goal.typed_value-returns-clause-typed
 typed_value-returns-clause-typed t c =
     IfOk-weaker c.settle.result _ _ (λ r m. value_typed _ c.args.file.now c.args.locals.now c.args.site c.part.result c.args.e.now c.in_ok-typed.typed c.valued.result r c.part.ensures c.in_ok-typed.ensures.typed c.valued.ensures m) c.settle.ensures.part
+
+pub operands-returns-in_ok-value-in-Assign-clause-met : goal.operands-returns-in_ok-value-in-Assign-clause-met
+operands-returns-in_ok-value-in-Assign-clause-met t c =
+    begins_answer c.assigned.result (begins_both c.in_ok-target-in-Assign.ensures.met c.in_ok-value-in-Assign.ensures.met)
+
+pub operands-returns-in_ok-otherwise-in-Choice-clause-met : goal.operands-returns-in_ok-otherwise-in-Choice-clause-met
+operands-returns-in_ok-otherwise-in-Choice-clause-met t c =
+    begins_answer c.chosen.result (begins_both c.in_ok-test-in-Choice.ensures.met (begins_both c.in_ok-then-in-Choice.ensures.met c.in_ok-otherwise-in-Choice.ensures.met))
+
+pub operands-returns-in_ok-right-in-Binary-clause-met : goal.operands-returns-in_ok-right-in-Binary-clause-met
+operands-returns-in_ok-right-in-Binary-clause-met t c =
+    begins_answer c.combined.result (begins_both c.in_ok-left-in-Binary.ensures.met c.in_ok-right-in-Binary.ensures.met)
+
+pub typed_expr-returns-in_default-clause-met : goal.typed_expr-returns-in_default-clause-met
+typed_expr-returns-in_default-clause-met t c = begins_answer c.outcome.result (begins_same c.count.ensures)
+
+pub typed_expr-returns-in_ok-parts-in-Call-clause-met : goal.typed_expr-returns-in_ok-parts-in-Call-clause-met
+typed_expr-returns-in_ok-parts-in-Call-clause-met t c =
+    begins_before c.with_list.result c.with_list.new.found.instances (begins_both (begins_same c.count.ensures) c.in_ok-parts-in-Call.ensures.met) c.with_list.ensures.met
+
+pub typed_expr-returns-in-Some-clause-met : goal.typed_expr-returns-in-Some-clause-met
+typed_expr-returns-in-Some-clause-met t c =
+    begins_answer c.with_axis.result (begins_both (begins_same c.count.ensures) (begins_both c.in_ok-axis-in-Pcoord.ensures.met c.in_ok-source-in-Pcoord.ensures.met))
+
+pub typed_expr-returns-in-None-clause-met : goal.typed_expr-returns-in-None-clause-met
+typed_expr-returns-in-None-clause-met t c =
+    begins_both (begins_same c.count.ensures) (begins_both c.in_ok-axis-in-Pcoord.ensures.met c.in_ok-source-in-Pcoord.ensures.met)
