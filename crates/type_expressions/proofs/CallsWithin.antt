@@ -1,6 +1,6 @@
 -- The calls of the parts of an expression are among its own, and what was met before begins what is
 -- met now.
-use Rattle.std.proofs.Common.{◌≡◌, ◌<◌, ℕ, suc, zero, List, [], ◌∷◌, ◌++◌, append_assoc, get_or, length, Option, Some, Box, Vec, arith, refl, sym, ap, subst, ◌∙◌, if◌then◌else◌, Bool, true, false}
+use Rattle.std.proofs.Common.{◌≡◌, ◌<◌, ℕ, suc, zero, List, [], ◌∷◌, ◌++◌, append_assoc, get_or, length, Option, Some, OnOk, Result, Ok, Err, Box, Vec, arith, refl, sym, ap, subst, ◌∙◌, if◌then◌else◌, Bool, true, false}
 use Rattle.std.specs.List.{All, Contains, slice_get}
 use Rattle.std.specs.declared.alloc.Global.{Global}
 use Rattle.std.proofs.lemmas.List.{append-nil}
@@ -30,16 +30,17 @@ use Rattle.cstar_tree.specs.Scopes.{Here, meaning}
 use Rattle.cstar_tree.specs.Scopes as S
 use Rattle.cstar_tree.specs.TypedParts.{concat}
 use Rattle.type_scopes.specs.declared.file.File.{File}
-use Rattle.type_expressions.specs.Instances.{IsBeginning, with_met}
+use Rattle.type_expressions.specs.Instances.{AreHeaders, Grows, IsBeginning, met, with_met}
 use Rattle.type_expressions.specs.Programs.{HasItsCalls}
+use Rattle.type_expressions.specs.declared.found.Instances.{Instances}
 
 -- ---- beginnings of lists
 
-pub begins_same : {A : Type 0} {xs ys : List A} → ys ≡ xs → IsBeginning xs ys
-begins_same {xs = xs} same = record { rest = []; whole = same ∙ sym (append-nil xs) }
+pub beginning_same : {A : Type 0} {xs ys : List A} → ys ≡ xs → IsBeginning xs ys
+beginning_same {xs = xs} same = record { rest = []; whole = same ∙ sym (append-nil xs) }
 
-pub begins_both : {A : Type 0} {xs ys zs : List A} → IsBeginning xs ys → IsBeginning ys zs → IsBeginning xs zs
-begins_both {xs = xs} b c = record {
+pub beginning_both : {A : Type 0} {xs ys zs : List A} → IsBeginning xs ys → IsBeginning ys zs → IsBeginning xs zs
+beginning_both {xs = xs} b c = record {
   rest = b.rest ++ c.rest;
   whole = c.whole ∙ (ap (λ (l : List _). l ++ c.rest) b.whole ∙ append_assoc xs b.rest c.rest);
 }
@@ -48,7 +49,7 @@ pub begins_met : (r : Reached) (before : List Reached) → IsBeginning before (w
 begins_met r before = by (is_met r before)
   where
     by : (b : Bool) → IsBeginning before (if b then before else before ++ r ∷ [])
-    by true = begins_same refl
+    by true = beginning_same refl
     by false = record { rest = r ∷ []; whole = refl }
 
 kept : {A : Type 0} (xs rest : List A) (k : ℕ) (x : A) → slice_get xs k ≡ Some x → slice_get (xs ++ rest) k ≡ Some x
@@ -58,6 +59,23 @@ kept (y ∷ ys) rest (suc k) x is = kept ys rest k x is
 
 pub among_more : {A : Type 0} {xs ys : List A} (n : ℕ) (x : A) → IsBeginning xs ys → slice_get xs n ≡ Some x → slice_get ys n ≡ Some x
 among_more {xs = xs} n x b is = subst (λ (l : List _). slice_get l n ≡ Some x) (sym b.whole) (kept xs b.rest n x is)
+
+-- ---- instances that are met further on
+
+pub begins_same : {file : File} {old new : Instances} → new ≡ old → Grows file old new
+begins_same same = record { begins = beginning_same (ap met same); headers = (subst (AreHeaders _) (sym same), subst (AreHeaders _) same) }
+
+pub begins_both : {file : File} {first second third : Instances} → Grows file first second → Grows file second third → Grows file first third
+begins_both b c = record { begins = beginning_both b.begins c.begins; headers = (λ all. c.headers.0 (b.headers.0 all), λ all. b.headers.1 (c.headers.1 all)) }
+
+-- so it is at an answer, whatever is answered
+pub begins_answer : {A E : Type 0} {file : File} {old new : Instances} (r : Result A E) → Grows file old new → OnOk r (Grows file old new)
+begins_answer (Ok x) grows = grows
+begins_answer (Err e) grows = tt
+
+pub begins_before : {A E : Type 0} {file : File} {first second : Instances} (r : Result A E) (third : Instances) → Grows file first second → OnOk r (Grows file second third) → OnOk r (Grows file first third)
+begins_before (Ok x) third b c = begins_both b c
+begins_before (Err e) third b c = tt
 
 -- ---- the calls of parts
 
@@ -178,7 +196,7 @@ called_itself here n arguments f is =
 
 -- ---- what is known of the calls of an expression
 
-pub narrowed : {met : List Reached} {file : File} {program : Program} {here : Here} {e p : Expr} → AreCallsOf p e → HasItsCalls met file program here e → HasItsCalls met file program here p
+pub narrowed : {so_far : Instances} {file : File} {program : Program} {here : Here} {e p : Expr} → AreCallsOf p e → HasItsCalls so_far file program here e → HasItsCalls so_far file program here p
 narrowed within calls = record {
   of_file = calls.of_file;
   place = calls.place;
@@ -187,18 +205,18 @@ narrowed within calls = record {
 }
 
 -- a place that differs in the `.`, or is that of a part
-pub moved : {met : List Reached} {file : File} {program : Program} {here : Here} {e : Expr} (dot : Option ℕ) (whole : Bool) → HasItsCalls met file program here e → HasItsCalls met file program (record here { dot = dot; whole = whole }) e
+pub moved : {so_far : Instances} {file : File} {program : Program} {here : Here} {e : Expr} (dot : Option ℕ) (whole : Bool) → HasItsCalls so_far file program here e → HasItsCalls so_far file program (record here { dot = dot; whole = whole }) e
 unfolding meaning
 moved dot whole calls = record {
-  of_file = record { named = calls.of_file.named; around = calls.of_file.around; groups = calls.of_file.groups; instances = calls.of_file.instances };
+  of_file = record { named = calls.of_file.named; around = calls.of_file.around; groups = calls.of_file.groups; instances = calls.of_file.instances; headers = calls.of_file.headers };
   place = calls.place;
   names = calls.names;
   called = calls.called;
 }
 
-pub earlier : {met later : List Reached} {file : File} {program : Program} {here : Here} {e : Expr} → IsBeginning met later → HasItsCalls later file program here e → HasItsCalls met file program here e
+pub earlier : {so_far later : Instances} {file : File} {program : Program} {here : Here} {e : Expr} → Grows file so_far later → HasItsCalls later file program here e → HasItsCalls so_far file program here e
 earlier begins calls = record {
-  of_file = record { named = calls.of_file.named; around = calls.of_file.around; groups = calls.of_file.groups; instances = begins_both begins calls.of_file.instances };
+  of_file = record { named = calls.of_file.named; around = calls.of_file.around; groups = calls.of_file.groups; instances = beginning_both begins.begins calls.of_file.instances; headers = begins.headers.1 calls.of_file.headers };
   place = calls.place;
   names = calls.names;
   called = calls.called;

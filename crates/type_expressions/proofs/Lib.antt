@@ -6,6 +6,7 @@ pub mod CalledFunctions
 pub mod CallsWithin
 pub mod Combined
 pub mod Indexed
+pub mod KeptHeaders
 pub mod Listing
 pub mod NamesInExpressions
 pub mod OfShapes

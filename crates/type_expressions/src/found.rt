@@ -5,9 +5,10 @@ ghost use Rattle.type_expressions.specs.Answers.{IsOutcome};
 
 use cstar_base::{Fault, Memory, Place};
 use cstar_tree::typed::TExpr;
-use indexmap::IndexSet;
+use indexmap::{IndexMap, IndexSet};
 use std::alloc::Global;
 use type_scopes::faults::{Faults, Untyped};
+use type_scopes::file::File;
 use type_scopes::headers::{Header, Reached};
 use type_scopes::sites::Site;
 
@@ -21,24 +22,28 @@ pub struct TypedExpr {
 /// A typed expression, or nothing where it has a fault or stands on a declaration that has one.
 pub type Typing = Result<Option<TypedExpr>, Memory>;
 
-/// The instances in the order in which they were met, and those that the present one calls.
+/// The headers that were typed, the instances in the order in which they were met, and those that
+/// the present one calls.
 #[derive(Drop)]
 pub struct Instances {
+    headers: IndexMap<Reached, Header>,
     reached: IndexSet<Reached>,
     callees: Vec<u32>,
 }
 
 impl Instances {
-    ghost use Rattle.std.specs.Prelude.{◌≡◌, ◌∷◌, ◌++◌, [], not, slice_get, Some, IfOk};
-    ghost use Rattle.std.specs.Option.{option_map};
+    ghost use Rattle.std.specs.Prelude.{◌≡◌, ◌∷◌, ◌++◌, [], not, slice_get, Some, IfOk, IsSome, OnOk};
+    ghost use Rattle.std.specs.Option.{option_copied, option_map};
     ghost use Rattle.cstar_tree.specs.Instances.{is_met};
-    ghost use Rattle.type_expressions.specs.Instances.{instance_of, met, with_met};
+    ghost use Rattle.type_expressions.specs.Instances.{Grows, instance_of, kept_header, met, with_met};
 
     pub fn new(alloc: Global) -> Instances
+        ensures headers { result.headers.entries ≡ [] }
         ensures met { met result ≡ [] }
         ensures callees { result.callees.items ≡ [] }
     {
         Instances {
+            headers: IndexMap::new(alloc),
             reached: IndexSet::new(alloc),
             callees: Vec::new(alloc),
         }
@@ -51,14 +56,36 @@ impl Instances {
         self.reached.get_index(number).copied()
     }
 
+    /// The header of an instance, where it was prepared.
+    pub fn header(&self, reached: Reached) -> Option<&Header>
+        ensures { option_copied result ≡ kept_header self.now reached }
+    {
+        self.headers.get(&reached)
+    }
+
     /// The instances that the present one calls, each as often as it does. The next one calls none
     /// yet.
     pub fn callees(&mut self, alloc: Global) -> Vec<u32>
         ensures callees { result.items ≡ self.old.callees.items }
         ensures none { self.new.callees.items ≡ [] }
         ensures met { met self.new ≡ met self.old }
+        ensures headers { self.new.headers ≡ self.old.headers }
     {
         std::mem::replace(&mut self.callees, Vec::new(alloc))
+    }
+
+    /// Types the header of the instance, unless that was done before.
+    pub fn prepare(&mut self, file: &File<'_>, reached: Reached) -> Result<(), Memory>
+        ensures kept { OnOk result (IsSome (kept_header self.new reached)) }
+        ensures grows { OnOk result (Grows file.now self.old self.new) }
+        ensures met { met self.new ≡ met self.old }
+    {
+        if self.headers.contains_key(&reached) {
+            return Ok(());
+        }
+        let header = file.header(reached)?;
+        self.headers.insert(reached, header)?;
+        Ok(())
     }
 
     /// Calls the instance. Answers its number, and whether it is met for the first time.
@@ -67,6 +94,7 @@ impl Instances {
         ensures is_new { IfOk result (λ r. r.1 ≡ not (is_met (instance_of reached) (met self.old))) }
         ensures met { IfOk result (λ r. met self.new ≡ with_met (instance_of reached) (met self.old)) }
         ensures callees { IfOk result (λ r. self.new.callees.items ≡ self.old.callees.items ++ r.0 ∷ []) }
+        ensures headers { self.new.headers ≡ self.old.headers }
     {
         let (number, is_new) = self.reached.insert_full(reached)?;
         let number = u32::try_from(number).map_err(|_error| Memory)?;
@@ -85,11 +113,12 @@ pub struct Found {
 }
 
 impl Found {
-    ghost use Rattle.std.specs.Prelude.{◌≡◌, [], slice_get, Some, IfOk};
-    ghost use Rattle.type_expressions.specs.Instances.{instance_of, met, with_met};
+    ghost use Rattle.std.specs.Prelude.{◌≡◌, [], slice_get, Some, IfOk, IsSome, OnOk};
+    ghost use Rattle.type_expressions.specs.Instances.{Grows, instance_of, kept_header, met, with_met};
 
     pub fn new(alloc: Global) -> Found
-        ensures { met result.instances ≡ [] }
+        ensures headers { result.instances.headers.entries ≡ [] }
+        ensures met { met result.instances ≡ [] }
     {
         Found {
             faults: Faults::none(),
@@ -124,15 +153,19 @@ impl Found {
         self.faults.include(earlier);
     }
 
-    /// The number of the instance, which is called here. Where it is met for the first time the
-    /// faults of its header stand.
-    pub fn reach(&mut self, reached: Reached, header: &Header) -> Result<u32, Memory>
+    /// The number of the instance, which is called here and whose header is kept from here on. Where
+    /// it is met for the first time the faults of its header stand.
+    pub fn reach(&mut self, file: &File<'_>, reached: Reached) -> Result<u32, Memory>
         ensures number { IfOk result (λ number. slice_get (met self.new.instances) number ≡ Some (instance_of reached)) }
         ensures met { IfOk result (λ number. met self.new.instances ≡ with_met (instance_of reached) (met self.old.instances)) }
+        ensures grows { OnOk result (Grows file.now self.old.instances self.new.instances) }
+        ensures kept { OnOk result (IsSome (kept_header self.new.instances reached)) }
     {
+        self.instances.prepare(file, reached)?;
         let (number, is_new) = self.instances.call(reached)?;
-        if is_new {
-            self.faults.include(header.faults);
+        if is_new && let Some(header) = self.instances.header(reached) {
+            let faults = header.faults;
+            self.faults.include(faults);
         }
         Ok(number)
     }
