@@ -1,1 +1,4 @@
+mod Counting
 mod Products
+mod Rooms
+mod StatementRooms
