@@ -1,4 +1,6 @@
+mod CallOrders
 mod Counting
+mod MachineRoom
 mod Products
 mod Rooms
 mod StatementRooms

@@ -1,1 +1,2 @@
+pub mod CallOrders
 pub mod Counted

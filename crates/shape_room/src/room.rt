@@ -1,10 +1,12 @@
 //! The room that a typed program needs on each shape, in bits for each position.
 
-ghost use Rattle.std.specs.Prelude.{◌≡◌, ℕ, map};
-ghost use Rattle.cstar_tree.specs.Room.{beside, bits_of, expression_room, greatest, greatest_part, of_shape, own_room, passed_bits, room_as, room_of, statement_room};
+ghost use Rattle.std.specs.Prelude.{◌≡◌, ◌+◌, ℕ, IfOk, None, Some, length, map, slice_get, slice_index, slice_set};
+ghost use Rattle.cstar_tree.specs.Room.{beside, bits_of, expression_room, greatest, greatest_part, instance_room, need, of_shape, own_room, passed_bits, room_as, room_of, statement_room};
 ghost use Rattle.cstar_tree.specs.Typed.{type_of};
 ghost use Rattle.cstar_tree.specs.TypedParts.{concat, optional, optional_box, total};
 ghost use Rattle.cstar_tree.specs.declared.typed.LocalVar.{LocalVar};
+ghost use Rattle.cstar_tree.specs.declared.typed.Instance.{Instance};
+ghost use Rattle.shape_room.specs.CallOrders.{HasCalls, IsCallOrder, numbers_in};
 ghost use Rattle.shape_room.specs.Counted.{counted};
 
 use cstar_base::Memory;
@@ -300,14 +302,44 @@ fn instance(instance: &Instance, shape: u16) -> u64
         .saturating_add(statement(&instance.body, shape))
 }
 
-/// The greatest room of those that are called, by the rooms of the instances so far.
-fn greatest_called(rooms: &[u64], called: &[u32]) -> u64 {
+/// The room that is kept for the number, or 0.
+fn room_at(rooms: &[u64], number: usize) -> u64
+    ensures { result ≡ slice_index rooms.now number }
+{
+    rooms.get(number).copied().unwrap_or(0)
+}
+
+/// The greatest room of those that the instance of the number calls.
+fn greatest_called(rooms: &[u64], called: &[Vec<u32>], number: usize) -> u64
+    ensures { result ≡ greatest (map (slice_index rooms.now) (numbers_in (slice_get called.now number))) }
+{
+    let Some(callees) = called.get(number) else {
+        return 0;
+    };
     let mut greatest = 0u64;
-    for number in called {
-        let room = rooms.get(*number as usize).copied().unwrap_or(0);
-        greatest = greatest.max(room);
+    for callee in callees {
+        greatest = greatest.max(room_at(rooms, *callee as usize));
     }
     greatest
+}
+
+/// Gives the instance of the number its room, by the rooms of those that it calls.
+fn give_room(
+    rooms: &mut [u64],
+    instances: &[Instance],
+    called: &[Vec<u32>],
+    number: usize,
+    shape: u16,
+)
+    requires { length rooms.old ≡ length instances.now }
+    ensures given { (i : Instance) → slice_get instances.now number ≡ Some i → rooms.new ≡ slice_set rooms.old number (counted (own_room shape i + greatest (map (slice_index rooms.old) (numbers_in (slice_get called.now number))))) }
+    ensures none { slice_get instances.now number ≡ None → rooms.new ≡ rooms.old }
+{
+    let Some(caller) = instances.get(number) else {
+        return;
+    };
+    let greatest = greatest_called(rooms, called, number);
+    rooms[number] = instance(caller, shape).saturating_add(greatest);
 }
 
 /// The room of `main` on the shape, with all that it calls. `called` has for each instance those
@@ -318,20 +350,25 @@ fn main_room(
     called: &[Vec<u32>],
     order: &[usize],
     shape: u16,
-) -> Result<u64, Memory> {
+) -> Result<u64, Memory>
+    ensures { HasCalls instances.now called.now → IsCallOrder instances.now order.now → IfOk result (λ room. room ≡ counted (instance_room (length instances.now) shape instances.now 0)) }
+{
     let mut rooms = vec![in alloc; 0u64; instances.len()]?;
     for number in order {
-        let greatest = match called.get(*number) {
-            Some(called) => greatest_called(&rooms, called),
-            None => 0,
-        };
-        if let Some(caller) = instances.get(*number)
-            && let Some(room) = rooms.get_mut(*number)
-        {
-            *room = instance(caller, shape).saturating_add(greatest);
-        }
+        give_room(&mut rooms, instances, called, *number, shape);
     }
-    Ok(rooms.first().copied().unwrap_or(0))
+    Ok(room_at(&rooms, 0))
+}
+
+/// The bits of the variables of the file on the shape.
+fn file_bits(vars: &[VarInfo], shape: u16) -> u64
+    ensures { result ≡ counted (total (map (bits_of shape) vars.now)) }
+{
+    let mut sum = 0u64;
+    for info in vars {
+        sum = sum.saturating_add(bits(info, shape));
+    }
+    sum
 }
 
 /// How many bits for each position the program needs on the shape.
@@ -342,10 +379,13 @@ pub fn need(
     called: &[Vec<u32>],
     order: &[usize],
     shape: u16,
-) -> Result<u64, Memory> {
-    let mut need = main_room(alloc, instances, called, order, shape)?.saturating_add(2);
-    for info in vars {
-        need = need.saturating_add(bits(info, shape));
-    }
-    Ok(need)
+) -> Result<u64, Memory>
+    ensures { HasCalls instances.now called.now → IsCallOrder instances.now order.now → IfOk result (λ found. found ≡ counted (need vars.now instances.now shape)) }
+{
+    let main = main_room(alloc, instances, called, order, shape)?;
+    Ok(
+        file_bits(vars, shape)
+            .saturating_add(2)
+            .saturating_add(main),
+    )
 }
