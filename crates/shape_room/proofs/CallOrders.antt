@@ -13,6 +13,20 @@ use Rattle.cstar_tree.specs.TypedParts.{calls_within}
 use Rattle.shape_room.specs.CallOrders.{HasCalls, IsCallOrder, numbers_in}
 use Rattle.shape_room.specs.Counted.{counted}
 
+-- ---- orders of instances
+
+pub record IsOrder (instances : List Instance) (order : List ℕ) : Type 0 where
+  pub behind : (k callee : ℕ) (i : Instance) → k < length order → slice_get instances (slice_index order k) ≡ Some i → Contains (calls_within i.body) callee → callee < length instances → (j : ℕ) × (j < k) × (slice_index order j ≡ callee)
+  pub main : 0 < length instances → Contains order 0
+  pub few : length order ≤ length instances
+
+pub order_of : (instances : List Instance) (called : List (Vec ℕ Global)) (order : List ℕ) → HasCalls instances called → IsCallOrder called order → IsOrder instances order
+order_of instances called order has is = record {
+  behind = λ k callee i within i_is among small. is.behind k callee within ((has.just (slice_index order k) callee i i_is).0 among) (omega (arith, small, has.as_many));
+  main = λ some. is.first (omega (arith, some, has.as_many));
+  few = omega (arith, is.few, has.as_many);
+}
+
 -- ---- the greatest of what numbers give
 
 element_below : (g : ℕ → ℕ) (ys : List ℕ) (n : ℕ) → Contains ys n → g n ≤ greatest (map g ys)
@@ -69,7 +83,7 @@ module _ (shape : ℕ) (instances : List Instance) where
           ∙ sym (at_instance l number i is)
 
   -- those of an order are through with as many calls as stand before them, and one
-  enough : (order : List ℕ) → IsCallOrder instances order → (most k l j : ℕ) → j < most → most ≤ k → most ≤ l → most ≤ length order → instance_room k shape instances (slice_index order j) ≡ instance_room l shape instances (slice_index order j)
+  enough : (order : List ℕ) → IsOrder instances order → (most k l j : ℕ) → j < most → most ≤ k → most ≤ l → most ≤ length order → instance_room k shape instances (slice_index order j) ≡ instance_room l shape instances (slice_index order j)
   enough order is zero k l j lt le lf lo = absurd (omega arith)
   enough order is (suc most) zero l j lt le lf lo = absurd (omega arith)
   enough order is (suc most) (suc k) zero j lt le lf lo = absurd (omega arith)
@@ -82,7 +96,7 @@ module _ (shape : ℕ) (instances : List Instance) where
     pub all : length rooms ≡ length instances
     pub each : (j : ℕ) → j < done → slice_index order j < length instances → slice_index rooms (slice_index order j) ≡ counted (instance_room (length instances) shape instances (slice_index order j))
 
-  module _ (order : List ℕ) (is : IsCallOrder instances order) (called : List (Vec ℕ Global)) (has : HasCalls instances called) (rooms : List ℕ) (k : ℕ) (within : k < length order) (before : AreGiven order rooms k) where
+  module _ (order : List ℕ) (is : IsOrder instances order) (called : List (Vec ℕ Global)) (has : HasCalls instances called) (rooms : List ℕ) (k : ℕ) (within : k < length order) (before : AreGiven order rooms k) where
     -- the room that one that is called has, as far as it matters
     callee_room : (most : ℕ) → length instances ≡ suc most → (i : Instance) → slice_get instances (slice_index order k) ≡ Some i → (n : ℕ) → Contains (calls_within i.body) n → (n < length instances) ⊎ (length instances ≤ n) → slice_index rooms n ≡ counted (instance_room most shape instances n)
     callee_room most all i i_is n among (inr none) = omega (arith, get_or_past rooms n 0 (omega (arith, before.all)), past most n none)
@@ -99,7 +113,7 @@ module _ (shape : ℕ) (instances : List Instance) where
     room_given most all i i_is =
         let calls = calls_within i.body in
         let same = same_greatest (slice_index rooms) (λ (n : ℕ). counted (instance_room most shape instances n)) (numbers_in (slice_get called (slice_index order k))) calls
-        (λ n. (has (slice_index order k) n i i_is).1) (λ n among. ((has (slice_index order k) n i i_is).0 among, callee_room most all i i_is n among (cases_lt n (length instances)))) in
+        (λ n. (has.just (slice_index order k) n i i_is).1) (λ n among. ((has.just (slice_index order k) n i i_is).0 among, callee_room most all i i_is n among (cases_lt n (length instances)))) in
         let whole = ap (λ (c : ℕ). instance_room c shape instances (slice_index order k)) all ∙ at_instance most (slice_index order k) i i_is in
         sum_counted (own_room shape i) _ (greatest (map (instance_room most shape instances) calls)) (same ∙ counted_greatest (instance_room most shape instances) calls) ∙ ap counted (sym whole)
 
@@ -152,7 +166,7 @@ module _ (shape : ℕ) (instances : List Instance) where
                   (at_each i i_is small j lt fits (differs (slice_index order j) number));
             }
 
-  pub given_main : (order rooms : List ℕ) → IsCallOrder instances order → AreGiven order rooms (length order) → slice_index rooms 0 ≡ counted (instance_room (length instances) shape instances 0)
+  pub given_main : (order rooms : List ℕ) → IsOrder instances order → AreGiven order rooms (length order) → slice_index rooms 0 ≡ counted (instance_room (length instances) shape instances 0)
   given_main order rooms is given = step (cases_lt 0 (length instances))
     where
       step : (0 < length instances) ⊎ (length instances ≤ 0) → slice_index rooms 0 ≡ counted (instance_room (length instances) shape instances 0)

@@ -9,12 +9,12 @@ numbers_in None = []
 numbers_in (Some numbers) = numbers.items
 
 -- there is for each instance a list of just the numbers that its body calls
-abbrev pub HasCalls : List Instance → List (Vec ℕ Global) → Type 0
-HasCalls instances called =
-    (number callee : ℕ) (i : Instance) → slice_get instances number ≡ Some i → Contains (calls_within i.body) callee ↔ Contains (numbers_in (slice_get called number)) callee
+pub record HasCalls (instances : List Instance) (called : List (Vec ℕ Global)) : Type 0 where
+  pub as_many : length called ≡ length instances
+  pub just : (number callee : ℕ) (i : Instance) → slice_get instances number ≡ Some i → Contains (calls_within i.body) callee ↔ Contains (numbers_in (slice_get called number)) callee
 
--- the numbers of instances, each behind those of the instances that it calls; `main` is among them
-pub record IsCallOrder (instances : List Instance) (order : List ℕ) : Type 0 where
-  pub behind : (k callee : ℕ) (i : Instance) → k < length order → slice_get instances (slice_index order k) ≡ Some i → Contains (calls_within i.body) callee → callee < length instances → (j : ℕ) × (j < k) × (slice_index order j ≡ callee)
-  pub main : 0 < length instances → Contains order 0
-  pub few : length order ≤ length instances
+-- the numbers of nodes, each behind those that it calls; node 0 is among them
+pub record IsCallOrder (called : List (Vec ℕ Global)) (order : List ℕ) : Type 0 where
+  pub behind : (k callee : ℕ) → k < length order → Contains (numbers_in (slice_get called (slice_index order k))) callee → callee < length called → (j : ℕ) × (j < k) × (slice_index order j ≡ callee)
+  pub first : 0 < length called → Contains order 0
+  pub few : length order ≤ length called

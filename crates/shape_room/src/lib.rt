@@ -46,7 +46,7 @@ fn needs_by(
     order: &[usize],
 ) -> Result<Vec<u32>, Memory>
     ensures length { IfOk result (λ found. vec_len found ≡ length shapes.now) }
-    ensures needs { HasCalls instances.now called.now → IsCallOrder instances.now order.now → IfOk result (λ found. found.items ≡ map kept (needs shapes.now vars.now instances.now)) }
+    ensures needs { HasCalls instances.now called.now → IsCallOrder called.now order.now → IfOk result (λ found. found.items ≡ map kept (needs shapes.now vars.now instances.now)) }
 {
     let mut needs = Vec::new(alloc);
     for (number, _) in shapes.iter().enumerate() {

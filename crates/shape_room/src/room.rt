@@ -228,7 +228,7 @@ fn statement(s: &TStmt, shape: u16) -> u64
         TStmt::Everywhere {
             shape: current,
             body,
-        } => { on_shape(Some(*current), shape, 1).saturating_add(statement(body, shape)) }
+        } => on_shape(Some(*current), shape, 1).saturating_add(statement(body, shape)),
         TStmt::While { test, body } | TStmt::Do { body, test } => {
             expression(test, shape, false).max(statement(body, shape))
         }
@@ -351,7 +351,7 @@ fn main_room(
     order: &[usize],
     shape: u16,
 ) -> Result<u64, Memory>
-    ensures { HasCalls instances.now called.now → IsCallOrder instances.now order.now → IfOk result (λ room. room ≡ counted (instance_room (length instances.now) shape instances.now 0)) }
+    ensures { HasCalls instances.now called.now → IsCallOrder called.now order.now → IfOk result (λ room. room ≡ counted (instance_room (length instances.now) shape instances.now 0)) }
 {
     let mut rooms = vec![in alloc; 0u64; instances.len()]?;
     for number in order {
@@ -380,7 +380,7 @@ pub fn need(
     order: &[usize],
     shape: u16,
 ) -> Result<u64, Memory>
-    ensures { HasCalls instances.now called.now → IsCallOrder instances.now order.now → IfOk result (λ found. found ≡ counted (need vars.now instances.now shape)) }
+    ensures { HasCalls instances.now called.now → IsCallOrder called.now order.now → IfOk result (λ found. found ≡ counted (need vars.now instances.now shape)) }
 {
     let main = main_room(alloc, instances, called, order, shape)?;
     Ok(

@@ -7,4 +7,4 @@ use Rattle.shape_room.proofs.needs_by.Given as goal
 abbrev pub invariant-loop-number : goal.invariant-loop-number
 invariant-loop-number l =
     (vec_len l.needs ≡ l.number)
-    × (HasCalls l.instances l.called → IsCallOrder l.instances l.order → l.needs.items ++ map kept (needs_from l.vars l.instances l.number (drop l.number l.shapes)) ≡ map kept (needs_from l.vars l.instances 0 l.shapes))
+    × (HasCalls l.instances l.called → IsCallOrder l.called l.order → l.needs.items ++ map kept (needs_from l.vars l.instances l.number (drop l.number l.shapes)) ≡ map kept (needs_from l.vars l.instances 0 l.shapes))

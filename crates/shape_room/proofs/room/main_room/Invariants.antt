@@ -5,4 +5,4 @@ use Rattle.shape_room.proofs.room.main_room.Given as goal
 
 abbrev pub invariant-loop-number : goal.invariant-loop-number
 invariant-loop-number l =
-    (length l.rooms.items ≡ length l.instances) × (HasCalls l.instances l.called → IsCallOrder l.instances l.order → AreGiven l.shape l.instances l.order l.rooms.items l.number-index)
+    (length l.rooms.items ≡ length l.instances) × (HasCalls l.instances l.called → IsCallOrder l.called l.order → AreGiven l.shape l.instances l.order l.rooms.items l.number-index)
