@@ -1,6 +1,7 @@
 mod CallOrders
 mod Counting
 mod MachineRoom
+mod Orders
 mod Products
 mod Rooms
 mod StatementRooms

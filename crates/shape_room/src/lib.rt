@@ -3,8 +3,9 @@
 #![tactic(auto)]
 
 ghost use Rattle.cstar_tree.specs.Constants.{product};
+ghost use Rattle.call_graph.specs.Graph.{Successors};
 ghost use Rattle.cstar_tree.specs.Room.{HasRoom, blocks, machine_bits, needs};
-ghost use Rattle.shape_room.specs.CallOrders.{HasCalls, IsCallOrder};
+ghost use Rattle.shape_room.specs.CallOrders.{HasCalls, HasNoCycle, IsCallOrder};
 ghost use Rattle.shape_room.specs.Counted.{counted, kept};
 ghost use Rattle.std.specs.Prelude.{◌≡◌, ◌*◌, ◌-◌, ◌^◌, ◌↔◌, min, map, IfOk, IsTrue, length, slice_index, vec_len};
 
@@ -30,7 +31,8 @@ pub fn needs(
     instances: &[Instance],
     called: &[Vec<u32>],
 ) -> Result<Vec<u32>, Memory>
-    ensures { IfOk result (λ found. vec_len found ≡ length shapes.now) }
+    ensures length { IfOk result (λ found. vec_len found ≡ length shapes.now) }
+    ensures needs { HasCalls instances.now called.now → HasNoCycle (Successors called.now) → IfOk result (λ found. found.items ≡ map kept (needs shapes.now vars.now instances.now)) }
 {
     let order = finishing_order(alloc, called)?;
     needs_by(alloc, shapes, vars, instances, called, order.as_slice())
