@@ -1,4 +1,4 @@
-use Rattle.std.proofs.Common.{◌≡◌, List, ℕ, subst, sym}
+use Rattle.std.proofs.Common.{List, ℕ, subst, sym}
 use Rattle.shape_room.proofs.Orders.{call_order}
 use Rattle.shape_room.specs.CallOrders.{IsCallOrder}
 use Rattle.shape_room.proofs.needs.Goals as goal
