@@ -1,6 +1,6 @@
 -- The room that a typed program needs on the machine, in bits for each position of a shape. The
 -- rules of room are this profile's own.
-use Rattle.std.specs.Prelude.{ℕ, zero, suc, ◌+◌, ◌*◌, ◌/◌, ◌^◌, ◌==◌, ◌≤◌, max, Bool, true, false, is_some, List, [], ◌∷◌, map, length, slice_get, Option, Some, None, if◌then◌else◌}
+use Rattle.std.specs.Prelude.{ℕ, zero, suc, ◌+◌, ◌*◌, ◌/◌, ◌^◌, ◌==◌, ◌≤◌, max, Bool, false, is_some, List, [], ◌∷◌, map, length, slice_get, Option, Some, None, if◌then◌else◌}
 use Rattle.cstar_tree.specs.declared.typed.Instance.{Instance}
 use Rattle.cstar_tree.specs.declared.typed.LocalVar.{LocalVar}
 use Rattle.cstar_tree.specs.declared.typed.ShapeInfo.{ShapeInfo}
@@ -19,16 +19,12 @@ use Rattle.cstar_tree.specs.TypedParts.{calls_within, expressions_of, node_type,
 unfoldable pub of_shape : ℕ → Option ℕ → ℕ → ℕ
 of_shape shape at bits = if is_shape shape at then bits else 0
 
--- The room of an expression: the bits of its value, and the room of its parts. Both are asked of it
--- as a value, or (`true`) as the target of an assignment, where a left index fetches nothing. `sends`
--- tells whether it is the targets of a send.
+-- The room of an expression as a value, and as the target of an assignment, where a left index
+-- fetches nothing. `sends` tells whether it is the targets of a send.
 pub record ExpressionRoom : Type 0 where
-  pub own : Bool → ℕ
-  pub parts : Bool → ℕ
+  pub value : ℕ
+  pub target : ℕ
   pub sends : Bool
-
-abbrev pub room_as : Bool → ExpressionRoom → ℕ
-room_as is_target r = r.own is_target + r.parts is_target
 
 -- the room of a part beside the values of as many parts before it: 33 bits for each
 unfoldable pub beside : ℕ → ℕ → ℕ
@@ -37,42 +33,35 @@ beside number room = if room == 0 then 0 else 33 * number + room
 -- the greatest room of parts as values, the first of them with this number
 unfoldable pub greatest_part : ℕ → List ExpressionRoom → ℕ
 greatest_part number [] = 0
-greatest_part number (r ∷ rest) = max (beside number (room_as false r)) (greatest_part (number + 1) rest)
+greatest_part number (r ∷ rest) = max (beside number r.value) (greatest_part (number + 1) rest)
 
--- 99 bits for a get, a send, a scan and an enumerate, 33 for any other value; conversions and
--- promotions need nothing beside their operand
-unfoldable pub value_bits : Bool → TExpr-F ExpressionRoom → ℕ
-value_bits is_target (TExpr-F.Assign ty p op target value) = if target.value.sends then 99 else 33
-value_bits is_target (TExpr-F.LeftIndex ty p indexes variable of) = if is_target then 33 else 99
-value_bits is_target (TExpr-F.Scan ty _ _ _ _ _ _ _) = 99
-value_bits is_target (TExpr-F.Enumerate ty _ _ _ _ _) = 99
-value_bits is_target (TExpr-F.Convert ty operand) = 0
-value_bits is_target (TExpr-F.Promote ty operand) = 0
-value_bits is_target node = 33
+abbrev pub same_room : ℕ → ExpressionRoom
+same_room room = record { value = room; target = room; sends = false }
 
-unfoldable pub parts_room : Bool → TExpr-F ExpressionRoom → ℕ
-parts_room is_target (TExpr-F.Assign ty p op target value) = max (room_as true target.value) (beside 1 (room_as false value.value))
-parts_room is_target (TExpr-F.Step ty op order target) = room_as true target.value
-parts_room is_target (TExpr-F.Brackets ty inner) = room_as is_target inner.value
-parts_room is_target node = greatest_part 0 (parts_of node)
-
-unfoldable pub sends_to : TExpr-F ExpressionRoom → Bool
-sends_to (TExpr-F.Brackets ty inner) = inner.value.sends
-sends_to (TExpr-F.LeftIndex ty p indexes variable of) = is_some ty.shape
-sends_to node = false
-
+-- 99 bits for a get, a send, a scan and an enumerate of the shape, 33 for any other value of it;
+-- conversions and promotions need nothing beside their operand
 unfoldable pub room_step : ℕ → TExpr-F ExpressionRoom → ExpressionRoom
-room_step shape node = record {
-  own = λ is_target. of_shape shape (node_type node).shape (value_bits is_target node);
-  parts = λ is_target. parts_room is_target node;
-  sends = sends_to node;
+room_step shape (TExpr-F.Assign ty p op target value) =
+    same_room (of_shape shape ty.shape (if target.value.sends then 99 else 33) + max target.value.target (beside 1 value.value.value))
+room_step shape (TExpr-F.Step ty op order target) = same_room (of_shape shape ty.shape 33 + target.value.target)
+room_step shape (TExpr-F.Brackets ty inner) = record {
+  value = of_shape shape ty.shape 33 + inner.value.value;
+  target = of_shape shape ty.shape 33 + inner.value.target;
+  sends = inner.value.sends;
 }
+room_step shape (TExpr-F.LeftIndex ty p indexes variable of) = record {
+  value = of_shape shape ty.shape 99 + greatest_part 0 indexes.items;
+  target = of_shape shape ty.shape 33 + greatest_part 0 indexes.items;
+  sends = is_some ty.shape;
+}
+room_step shape (TExpr-F.Convert ty operand) = same_room operand.value.value
+room_step shape (TExpr-F.Promote ty operand) = same_room operand.value.value
+room_step shape (TExpr-F.Scan ty source _ _ _ _ _ _) = same_room (of_shape shape ty.shape 99 + source.value.value)
+room_step shape (TExpr-F.Enumerate ty _ _ _ _ _) = same_room (of_shape shape ty.shape 99)
+room_step shape node = same_room (of_shape shape (node_type node).shape 33 + greatest_part 0 (parts_of node))
 
-unfoldable pub room_of : ℕ → TExpr → ExpressionRoom
-room_of shape = fold-TExpr ExpressionRoom (room_step shape)
-
-abbrev pub expression_room : ℕ → TExpr → ℕ
-expression_room shape e = room_as false (room_of shape e)
+unfoldable pub expression_room : ℕ → TExpr → ℕ
+expression_room shape e = (fold-TExpr ExpressionRoom (room_step shape) e).value
 
 unfoldable pub greatest : List ℕ → ℕ
 greatest [] = 0
@@ -90,8 +79,8 @@ bits_of shape v = of_shape shape v.shape (times_length v.elem.bits v.array)
 -- and `everywhere` under the shape
 unfoldable pub own_bits : {A : Type 0} → ℕ → TStmt-F A → ℕ
 own_bits shape (TStmt-F.Block locals statements) = total (map (λ (l : LocalVar). bits_of shape l.info) locals.items)
-own_bits shape (TStmt-F.Where current test second third) = of_shape shape (Some current) 2
-own_bits shape (TStmt-F.Everywhere current body) = of_shape shape (Some current) 1
+own_bits shape (TStmt-F.Where current test second third) = if current == shape then 2 else 0
+own_bits shape (TStmt-F.Everywhere current body) = if current == shape then 1 else 0
 own_bits shape node = 0
 
 unfoldable pub statement_step : ℕ → TStmt-F ℕ → ℕ

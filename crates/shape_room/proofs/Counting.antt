@@ -1,6 +1,7 @@
 -- Sums and greatest ones of numbers that are counted.
-use Rattle.std.proofs.Common.{◌≡◌, ℕ, zero, suc, ◌+◌, ◌*◌, ◌-◌, ◌^◌, ◌<◌, Bool, false, true, min, max, ap, refl, sym, ◌∙◌, arith, if◌then◌else◌, Option, Some, None, [], ◌∷◌, unwrap_or}
-use Rattle.std.proofs.lemmas.Bool.Decides.{nat_tests}
+use Rattle.std.proofs.Common.{◌≡◌, ◌==◌, inl, inr, ℕ, zero, suc, ◌+◌, ◌*◌, ◌-◌, ◌^◌, ◌<◌, Bool, false, true, min, max, ap, refl, sym, ◌∙◌, arith, if◌then◌else◌, Option, Some, None, [], ◌∷◌, unwrap_or}
+use Rattle.std.proofs.lemmas.Bool.{eq-eqb, ne_eqb}
+use Rattle.std.proofs.lemmas.Bool.Decides.{eqb_tells, nat_tests}
 use Rattle.cstar_tree.specs.Room.{beside, greatest, of_shape, times_length}
 use Rattle.cstar_tree.specs.Scopes.{is_shape}
 use Rattle.shape_room.specs.Counted.{counted}
@@ -40,6 +41,17 @@ if_counted true n = refl
 pub of_shape_counted : (shape : ℕ) (at : Option ℕ) (n : ℕ) → of_shape shape at (counted n) ≡ counted (of_shape shape at n)
 unfolding of_shape
 of_shape_counted shape at n = if_counted (is_shape shape at) n
+
+either_way : (a b : ℕ) → (a == b) ≡ (b == a)
+either_way a b = elim (eqb_tells a b) [
+  | inl same ↦ same.0 ∙ sym (eq-eqb b a (sym same.1))
+  | inr other ↦ other.0 ∙ sym (ne_eqb b a (λ is. other.1 (sym is)))
+]
+
+-- bits of a context, whose shape is the current one
+pub of_current : (shape current bits : ℕ) → (if current == shape then bits else 0) ≡ of_shape shape (Some current) bits
+unfolding of_shape
+of_current shape current bits = ap (λ (b : Bool). if b then bits else 0) (either_way current shape)
 
 -- what is counted of a number that 64 bits hold is the number
 pub whole : {a x : ℕ} → a ≡ x → a < 2 ^ 64 → a ≡ counted x

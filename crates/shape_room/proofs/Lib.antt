@@ -1,3 +1,4 @@
+mod ByRules
 mod CallOrders
 mod Counting
 mod MachineRoom

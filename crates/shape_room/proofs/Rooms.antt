@@ -23,17 +23,18 @@ use Rattle.cstar_tree.specs.declared.typed.TExpr as T
 use Rattle.cstar_tree.specs.declared.typed.TExpr.TheFolds.{fold-roll-TExpr, fold_out-TExpr}
 use Rattle.cstar_tree.specs.declared.typed.TExpr.TheOpen.{TExpr-F}
 use Rattle.cstar_tree.specs.declared.typed.TExpr.TheVariants.{rolls-Assign, rolls-Binary, rolls-Brackets, rolls-Call, rolls-Casts, rolls-Choice, rolls-Convert, rolls-DimOf, rolls-Dot, rolls-Element, rolls-Enumerate, rolls-GetChar, rolls-LeftIndex, rolls-LogicalAnd, rolls-LogicalOr, rolls-Number, rolls-ParallelCast, rolls-Pcoord, rolls-PositionsOf, rolls-Printf, rolls-Promote, rolls-RankOf, rolls-Reduce, rolls-Scan, rolls-Step, rolls-Unary, rolls-Variable}
-use Rattle.cstar_tree.specs.Room.{ExpressionRoom, beside, greatest_part, of_shape, parts_room, room_as, room_of, room_step, sends_to, value_bits}
+use Rattle.cstar_tree.specs.Room.{beside, greatest_part, of_shape}
 use Rattle.cstar_tree.specs.Typed.{type_of}
+use Rattle.shape_room.specs.RoomInParts.{RoomInParts, joined, parts_room, parts_step, room_as, room_of, sends_to, value_bits}
 
 -- an expression that is rolled of a node has the room of the node
-by_node : (shape : ℕ) (x : TExpr-F TExpr) {e : TExpr} → roll-TExpr x ≡ e → room_of shape e ≡ room_step shape (map-TExpr TExpr ExpressionRoom (room_of shape) x)
+by_node : (shape : ℕ) (x : TExpr-F TExpr) {e : TExpr} → roll-TExpr x ≡ e → room_of shape e ≡ parts_step shape (map-TExpr TExpr RoomInParts (room_of shape) x)
 unfolding room_of
-by_node shape x is = ap (room_of shape) (sym is) ∙ fold-roll-TExpr ExpressionRoom (room_step shape) x
+by_node shape x is = ap (room_of shape) (sym is) ∙ fold-roll-TExpr RoomInParts (parts_step shape) x
 
-parts_by : (shape : ℕ) (t : Bool) (x : TExpr-F TExpr) {e : TExpr} → roll-TExpr x ≡ e → (room_of shape e).parts t ≡ parts_room t (map-TExpr TExpr ExpressionRoom (room_of shape) x)
-unfolding room_step
-parts_by shape t x is = ap (λ (r : ExpressionRoom). r.parts t) (by_node shape x is)
+parts_by : (shape : ℕ) (t : Bool) (x : TExpr-F TExpr) {e : TExpr} → roll-TExpr x ≡ e → (room_of shape e).parts t ≡ parts_room t (map-TExpr TExpr RoomInParts (room_of shape) x)
+unfolding parts_step
+parts_by shape t x is = ap (λ (r : RoomInParts). r.parts t) (by_node shape x is)
 
 -- ---- the greatest part of few
 
@@ -41,15 +42,15 @@ first_part : (room : ℕ) → beside 0 room ≡ room
 unfolding beside
 first_part room = grind (arith, nat_tests)
 
-alone : (a : ExpressionRoom) → greatest_part 0 (a ∷ []) ≡ room_as false a
+pub alone : (a : RoomInParts) → greatest_part 0 (joined a ∷ []) ≡ room_as false a
 unfolding greatest_part
 alone a = omega (arith, first_part (room_as false a))
 
-pair : (a b : ExpressionRoom) → greatest_part 0 (a ∷ b ∷ []) ≡ max (room_as false a) (beside 1 (room_as false b))
+pair : (a b : RoomInParts) → greatest_part 0 (joined a ∷ joined b ∷ []) ≡ max (room_as false a) (beside 1 (room_as false b))
 unfolding greatest_part
 pair a b = omega (arith, first_part (room_as false a))
 
-triple : (a b c : ExpressionRoom) → greatest_part 0 (a ∷ b ∷ c ∷ []) ≡ max (max (room_as false a) (beside 1 (room_as false b))) (beside 2 (room_as false c))
+triple : (a b c : RoomInParts) → greatest_part 0 (joined a ∷ joined b ∷ joined c ∷ []) ≡ max (max (room_as false a) (beside 1 (room_as false b))) (beside 2 (room_as false c))
 unfolding greatest_part
 triple a b c = omega (arith, first_part (room_as false a))
 
@@ -62,7 +63,7 @@ IsPair e left right =
     ⊎ ((ty : ValueType) × (place : Place) × (op : Op) × e ≡ T.Binary ty place op left right))
 
 pub pair_parts : (shape : ℕ) (t : Bool) (e : TExpr) (left : Box TExpr Global) (right : Box TExpr Global) → IsPair e left right → (room_of shape e).parts t ≡ max (room_as false (room_of shape left.value)) (beside 1 (room_as false (room_of shape right.value)))
-unfolding room_step parts_room greatest_part
+unfolding parts_step parts_room greatest_part
 pair_parts shape t e left right (inl (ty, is)) = parts_by shape t (TExpr-F.LogicalOr ty left right) (rolls-LogicalOr ty left right ∙ sym is) ∙ pair (room_of shape left.value) (room_of shape right.value)
 pair_parts shape t e left right (inr (inl (ty, is))) = parts_by shape t (TExpr-F.LogicalAnd ty left right) (rolls-LogicalAnd ty left right ∙ sym is) ∙ pair (room_of shape left.value) (room_of shape right.value)
 pair_parts shape t e left right (inr (inr (ty, place, op, is))) = parts_by shape t (TExpr-F.Binary ty place op left right) (rolls-Binary ty place op left right ∙ sym is) ∙ pair (room_of shape left.value) (room_of shape right.value)
@@ -79,7 +80,7 @@ HasOperand e operand =
     ⊎ ((ty : ValueType) × (axis : ℕ) × (combiner : Combiner) × (direction : Direction) × (mode : SegmentMode) × (bit : Option Variable) × (inclusion : Inclusion) × e ≡ T.Scan ty operand axis combiner direction mode bit inclusion)))))))
 
 pub operand_parts : (shape : ℕ) (t : Bool) (e : TExpr) (operand : Box TExpr Global) → HasOperand e operand → (room_of shape e).parts t ≡ room_as false (room_of shape operand.value)
-unfolding room_step parts_room greatest_part
+unfolding parts_step parts_room greatest_part
 operand_parts shape t e operand (inl (ty, op, is)) = parts_by shape t (TExpr-F.Unary ty op operand) (rolls-Unary ty op operand ∙ sym is) ∙ alone (room_of shape operand.value)
 operand_parts shape t e operand (inr (inl (ty, op, is))) = parts_by shape t (TExpr-F.Reduce ty op operand) (rolls-Reduce ty op operand ∙ sym is) ∙ alone (room_of shape operand.value)
 operand_parts shape t e operand (inr (inr (inl (ty, elems, is)))) = parts_by shape t (TExpr-F.Casts ty elems operand) (rolls-Casts ty elems operand ∙ sym is) ∙ alone (room_of shape operand.value)
@@ -95,8 +96,8 @@ IsList e parts =
     ⊎ (((ty : ValueType) × (place : Place) × (variable : Variable) × (of : ℕ) × e ≡ T.LeftIndex ty place parts variable of)
     ⊎ ((ty : ValueType) × (pieces : Vec Piece Global) × e ≡ T.Printf ty pieces parts))
 
-pub list_parts : (shape : ℕ) (t : Bool) (e : TExpr) (parts : Vec TExpr Global) → IsList e parts → (room_of shape e).parts t ≡ greatest_part 0 (map (room_of shape) parts.items)
-unfolding room_step parts_room greatest_part
+pub list_parts : (shape : ℕ) (t : Bool) (e : TExpr) (parts : Vec TExpr Global) → IsList e parts → (room_of shape e).parts t ≡ greatest_part 0 (map joined (map (room_of shape) parts.items))
+unfolding parts_step parts_room greatest_part
 list_parts shape t e parts (inl (ty, instance, is)) = parts_by shape t (TExpr-F.Call ty instance parts) (rolls-Call ty instance parts ∙ sym is)
 list_parts shape t e parts (inr (inl (ty, place, variable, of, is))) = parts_by shape t (TExpr-F.LeftIndex ty place parts variable of) (rolls-LeftIndex ty place parts variable of ∙ sym is)
 list_parts shape t e parts (inr (inr (ty, pieces, is))) = parts_by shape t (TExpr-F.Printf ty pieces parts) (rolls-Printf ty pieces parts ∙ sym is)
@@ -114,7 +115,7 @@ IsLeaf e =
     ⊎ ((ty : ValueType) × e ≡ T.GetChar ty))))))))
 
 pub leaf_parts : (shape : ℕ) (t : Bool) (e : TExpr) → IsLeaf e → (room_of shape e).parts t ≡ 0
-unfolding room_step parts_room greatest_part
+unfolding parts_step parts_room greatest_part
 leaf_parts shape t e (inl (ty, variable, is)) = parts_by shape t (TExpr-F.Variable ty variable) (rolls-Variable ty variable ∙ sym is)
 leaf_parts shape t e (inr (inl (ty, value, is))) = parts_by shape t (TExpr-F.Number ty value) (rolls-Number ty value ∙ sym is)
 leaf_parts shape t e (inr (inr (inl (ty, axis, is)))) = parts_by shape t (TExpr-F.Dot ty axis) (rolls-Dot ty axis ∙ sym is)
@@ -126,26 +127,26 @@ leaf_parts shape t e (inr (inr (inr (inr (inr (inr (inr (inl (ty, axis, directio
 leaf_parts shape t e (inr (inr (inr (inr (inr (inr (inr (inr (ty, is))))))))) = parts_by shape t (TExpr-F.GetChar ty) (rolls-GetChar ty ∙ sym is)
 
 pub assign_parts : (shape : ℕ) (t : Bool) (e : TExpr) (ty : ValueType) (place : Place) (op : AssignOp) (target : Box TExpr Global) (value : Box TExpr Global) → e ≡ T.Assign ty place op target value → (room_of shape e).parts t ≡ max (room_as true (room_of shape target.value)) (beside 1 (room_as false (room_of shape value.value)))
-unfolding room_step parts_room
+unfolding parts_step parts_room
 assign_parts shape t e ty place op target value is = parts_by shape t (TExpr-F.Assign ty place op target value) (rolls-Assign ty place op target value ∙ sym is)
 
 pub choice_parts : (shape : ℕ) (t : Bool) (e : TExpr) (ty : ValueType) (test : Box TExpr Global) (second : Box TExpr Global) (third : Box TExpr Global) → e ≡ T.Choice ty test second third → (room_of shape e).parts t ≡ max (max (room_as false (room_of shape test.value)) (beside 1 (room_as false (room_of shape second.value)))) (beside 2 (room_as false (room_of shape third.value)))
-unfolding room_step parts_room
+unfolding parts_step parts_room
 choice_parts shape t e ty test second third is = parts_by shape t (TExpr-F.Choice ty test second third) (rolls-Choice ty test second third ∙ sym is) ∙ triple (room_of shape test.value) (room_of shape second.value) (room_of shape third.value)
 
 pub step_parts : (shape : ℕ) (t : Bool) (e : TExpr) (ty : ValueType) (op : StepOp) (order : StepOrder) (target : Box TExpr Global) → e ≡ T.Step ty op order target → (room_of shape e).parts t ≡ room_as true (room_of shape target.value)
-unfolding room_step parts_room
+unfolding parts_step parts_room
 step_parts shape t e ty op order target is = parts_by shape t (TExpr-F.Step ty op order target) (rolls-Step ty op order target ∙ sym is)
 
 pub brackets_parts : (shape : ℕ) (t : Bool) (e : TExpr) (ty : ValueType) (inner : Box TExpr Global) → e ≡ T.Brackets ty inner → (room_of shape e).parts t ≡ room_as t (room_of shape inner.value)
-unfolding room_step parts_room
+unfolding parts_step parts_room
 brackets_parts shape t e ty inner is = parts_by shape t (TExpr-F.Brackets ty inner) (rolls-Brackets ty inner ∙ sym is)
 
 -- ---- the targets of sends
 
-sends_by : (shape : ℕ) (x : TExpr-F TExpr) {e : TExpr} → roll-TExpr x ≡ e → (room_of shape e).sends ≡ sends_to (map-TExpr TExpr ExpressionRoom (room_of shape) x)
-unfolding room_step
-sends_by shape x is = ap (λ (r : ExpressionRoom). r.sends) (by_node shape x is)
+sends_by : (shape : ℕ) (x : TExpr-F TExpr) {e : TExpr} → roll-TExpr x ≡ e → (room_of shape e).sends ≡ sends_to (map-TExpr TExpr RoomInParts (room_of shape) x)
+unfolding parts_step
+sends_by shape x is = ap (λ (r : RoomInParts). r.sends) (by_node shape x is)
 
 pub sends_brackets : (shape : ℕ) (e : TExpr) (ty : ValueType) (inner : Box TExpr Global) → e ≡ T.Brackets ty inner → (room_of shape e).sends ≡ (room_of shape inner.value).sends
 unfolding sends_to
@@ -172,13 +173,13 @@ sends_other shape e not_brackets not_index = other_sends shape (out-TExpr e) e (
 
 -- ---- the bits of the value
 
-own_of : (shape : ℕ) (t : Bool) (e : TExpr) → (room_of shape e).own t ≡ of_shape shape (type_of e).shape (value_bits t (map-TExpr TExpr ExpressionRoom (room_of shape) (out-TExpr e)))
-unfolding room_of room_step out-TExpr Carrier.out
-own_of shape t (T.GetChar ty) = ap (λ (r : ExpressionRoom). r.own t) (fold_out-TExpr ExpressionRoom (room_step shape) (T.GetChar ty))
-own_of shape t e = ap (λ (r : ExpressionRoom). r.own t) (fold_out-TExpr ExpressionRoom (room_step shape) e)
+own_of : (shape : ℕ) (t : Bool) (e : TExpr) → (room_of shape e).own t ≡ of_shape shape (type_of e).shape (value_bits t (map-TExpr TExpr RoomInParts (room_of shape) (out-TExpr e)))
+unfolding room_of parts_step out-TExpr Carrier.out
+own_of shape t (T.GetChar ty) = ap (λ (r : RoomInParts). r.own t) (fold_out-TExpr RoomInParts (parts_step shape) (T.GetChar ty))
+own_of shape t e = ap (λ (r : RoomInParts). r.own t) (fold_out-TExpr RoomInParts (parts_step shape) e)
 
-own_by : (shape : ℕ) (t : Bool) (x : TExpr-F TExpr) {e : TExpr} → roll-TExpr x ≡ e → (room_of shape e).own t ≡ of_shape shape (type_of e).shape (value_bits t (map-TExpr TExpr ExpressionRoom (room_of shape) x))
-own_by shape t x {e} is = own_of shape t e ∙ ap (λ (y : TExpr-F TExpr). of_shape shape (type_of e).shape (value_bits t (map-TExpr TExpr ExpressionRoom (room_of shape) y))) (ap out-TExpr (sym is) ∙ out-roll-TExpr x)
+own_by : (shape : ℕ) (t : Bool) (x : TExpr-F TExpr) {e : TExpr} → roll-TExpr x ≡ e → (room_of shape e).own t ≡ of_shape shape (type_of e).shape (value_bits t (map-TExpr TExpr RoomInParts (room_of shape) x))
+own_by shape t x {e} is = own_of shape t e ∙ ap (λ (y : TExpr-F TExpr). of_shape shape (type_of e).shape (value_bits t (map-TExpr TExpr RoomInParts (room_of shape) y))) (ap out-TExpr (sym is) ∙ out-roll-TExpr x)
 
 pub own_assign : (shape : ℕ) (t : Bool) (e : TExpr) (ty : ValueType) (place : Place) (op : AssignOp) (target : Box TExpr Global) (value : Box TExpr Global) → e ≡ T.Assign ty place op target value → (room_of shape e).own t ≡ of_shape shape (type_of e).shape (if (room_of shape target.value).sends then 99 else 33)
 unfolding value_bits

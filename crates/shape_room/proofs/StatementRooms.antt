@@ -10,6 +10,7 @@ use Rattle.cstar_tree.specs.declared.typed.TStmt.TheOpen.{TStmt-F}
 use Rattle.cstar_tree.specs.declared.typed.TStmt.TheVariants.{rolls-Block, rolls-Break, rolls-Continue, rolls-Do, rolls-Empty, rolls-Everywhere, rolls-Expression, rolls-For, rolls-If, rolls-Return, rolls-Where, rolls-While, rolls-With}
 use Rattle.cstar_tree.specs.Room.{bits_of, expression_room, greatest, of_shape, own_bits, statement_room, statement_step}
 use Rattle.cstar_tree.specs.TypedParts.{concat, optional, optional_box, total}
+use Rattle.shape_room.proofs.Counting.{of_current}
 
 by_node : (shape : ℕ) (x : TStmt-F TStmt) {s : TStmt} → roll-TStmt x ≡ s → statement_room shape s ≡ statement_step shape (map-TStmt TStmt ℕ (statement_room shape) x)
 unfolding statement_room
@@ -52,15 +53,15 @@ if_room shape s test then (Some b) is = by_node shape (TStmt-F.If test then (Som
 
 pub where_room : (shape : ℕ) (s : TStmt) (current : ℕ) (test : TExpr) (then : Box TStmt Global) (otherwise : Option (Box TStmt Global)) → s ≡ T.Where current test then otherwise → statement_room shape s ≡ of_shape shape (Some current) 2 + branches shape test then.value otherwise
 unfolding statement_step own_bits greatest
-where_room shape s current test then None is = by_node shape (TStmt-F.Where current test then None) (rolls-Where current test then None ∙ sym is) ∙ tested (of_shape shape (Some current) 2) _ _
-where_room shape s current test then (Some b) is = by_node shape (TStmt-F.Where current test then (Some b)) (rolls-Where current test then (Some b) ∙ sym is) ∙ tested (of_shape shape (Some current) 2) _ _
+where_room shape s current test then None is = by_node shape (TStmt-F.Where current test then None) (rolls-Where current test then None ∙ sym is) ∙ tested _ _ _ ∙ ap (λ (n : ℕ). n + branches shape test then.value None) (of_current shape current 2)
+where_room shape s current test then (Some b) is = by_node shape (TStmt-F.Where current test then (Some b)) (rolls-Where current test then (Some b) ∙ sym is) ∙ tested _ _ _ ∙ ap (λ (n : ℕ). n + branches shape test then.value (Some b)) (of_current shape current 2)
 
 below : (own n : ℕ) → own + max 0 (max n 0) ≡ own + n
 below own n = omega arith
 
 pub everywhere_room : (shape : ℕ) (s : TStmt) (current : ℕ) (body : Box TStmt Global) → s ≡ T.Everywhere current body → statement_room shape s ≡ of_shape shape (Some current) 1 + statement_room shape body.value
 unfolding statement_step own_bits greatest
-everywhere_room shape s current body is = by_node shape (TStmt-F.Everywhere current body) (rolls-Everywhere current body ∙ sym is) ∙ below (of_shape shape (Some current) 1) (statement_room shape body.value)
+everywhere_room shape s current body is = by_node shape (TStmt-F.Everywhere current body) (rolls-Everywhere current body ∙ sym is) ∙ below _ (statement_room shape body.value) ∙ ap (λ (n : ℕ). n + statement_room shape body.value) (of_current shape current 1)
 
 pub with_room : (shape : ℕ) (s : TStmt) (current : ℕ) (body : Box TStmt Global) → s ≡ T.With current body → statement_room shape s ≡ statement_room shape body.value
 unfolding statement_step own_bits greatest

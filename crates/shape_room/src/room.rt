@@ -1,13 +1,14 @@
 //! The room that a typed program needs on each shape, in bits for each position.
 
 ghost use Rattle.std.specs.Prelude.{◌≡◌, ◌+◌, ℕ, IfOk, None, Some, length, map, slice_get, slice_index, slice_set};
-ghost use Rattle.cstar_tree.specs.Room.{beside, bits_of, expression_room, greatest, greatest_part, instance_room, need, of_shape, own_room, passed_bits, room_as, room_of, statement_room};
+ghost use Rattle.cstar_tree.specs.Room.{beside, bits_of, expression_room, greatest, greatest_part, instance_room, need, of_shape, own_room, passed_bits, statement_room};
 ghost use Rattle.cstar_tree.specs.Typed.{type_of};
 ghost use Rattle.cstar_tree.specs.TypedParts.{concat, optional, optional_box, total};
 ghost use Rattle.cstar_tree.specs.declared.typed.LocalVar.{LocalVar};
 ghost use Rattle.cstar_tree.specs.declared.typed.Instance.{Instance};
 ghost use Rattle.shape_room.specs.CallOrders.{HasCalls, IsCallOrder, numbers_in};
 ghost use Rattle.shape_room.specs.Counted.{counted};
+ghost use Rattle.shape_room.specs.RoomInParts.{joined, room_as, room_of};
 
 use cstar_base::Memory;
 use cstar_tree::typed::{Instance, LocalVar, TExpr, TStmt, VarInfo};
@@ -141,7 +142,7 @@ fn parts(e: &TExpr, shape: u16, is_target: bool) -> u64
 /// The greatest room of parts as values, beside the values of the parts before each.
 #[cycle(room)]
 fn greatest_of(parts: &[TExpr], shape: u16) -> u64
-    ensures { result ≡ counted (greatest_part 0 (map (room_of shape) parts.now)) }
+    ensures { result ≡ counted (greatest_part 0 (map joined (map (room_of shape) parts.now))) }
 {
     let mut greatest = 0u64;
     let mut number = 0u64;

@@ -2,10 +2,11 @@ use Rattle.std.proofs.Common.{◌≡◌, ◌∙◌, ◌+◌, false, true, List, 
 use Rattle.std.proofs.lemmas.List.{at_drop_all, at_drop_more}
 use Rattle.cstar_tree.specs.declared.typed.TExpr.{TExpr}
 use Rattle.cstar_tree.specs.declared.typed.ValueType.{ValueType}
-use Rattle.cstar_tree.specs.Room.{greatest_part, of_shape, room_as, room_of}
+use Rattle.cstar_tree.specs.Room.{greatest_part, of_shape}
 use Rattle.shape_room.proofs.Counting.{greater, greatest_more, greatest_of_all, pair, part, sum, whole}
 use Rattle.shape_room.proofs.Rooms.{assign_parts, brackets_parts, choice_parts, leaf_parts, list_parts, operand_parts, pair_parts, step_parts}
 use Rattle.shape_room.specs.Counted.{counted}
+use Rattle.shape_room.specs.RoomInParts.{joined, room_as, room_of}
 use Rattle.shape_room.proofs.room.+room.Goals as goal
 
 pub parts-returns-in-Assign : goal.parts-returns-in-Assign
@@ -46,7 +47,7 @@ parts-returns-in-Unary t c =
 
 pub parts-returns-in-Call : goal.parts-returns-in-Call
 parts-returns-in-Call t c =
-    c.greatest_of.ensures ∙ ap (λ es. counted (greatest_part 0 (map (room_of c.args.shape) es))) c.deref-in-Call.ensures.value
+    c.greatest_of.ensures ∙ ap (λ es. counted (greatest_part 0 (map joined (map (room_of c.args.shape) es)))) c.deref-in-Call.ensures.value
     ∙ ap counted (sym (list_parts c.args.shape c.args.is_target c.args.e.now _ c.in-Call.is))
 
 pub parts-returns-in-Variable : goal.parts-returns-in-Variable
@@ -85,13 +86,13 @@ expression-returns t c =
 pub greatest_of-returns : goal.greatest_of-returns
 unfolding greatest_part
 greatest_of-returns t c =
-    let none = at_drop_all (λ (es : List TExpr). greatest_part c.loop-e.e-index (map (room_of c.args.shape) es)) c.args.parts.now c.loop-e.e-index c.loop-e-test.false in
+    let none = at_drop_all (λ (es : List TExpr). greatest_part c.loop-e.e-index (map joined (map (room_of c.args.shape) es))) c.args.parts.now c.loop-e.e-index c.loop-e-test.false in
     greatest_of_all _ _ c.loop-e.invariant.1 none
 
 pub greatest_of-loop-e-preserved : goal.greatest_of-loop-e-preserved
 unfolding greatest_part
 greatest_of-loop-e-preserved t c =
-    let left = λ (es : List TExpr). greatest_part c.loop-e.e-index (map (room_of c.args.shape) es) in
+    let left = λ (es : List TExpr). greatest_part c.loop-e.e-index (map joined (map (room_of c.args.shape) es)) in
     let rest = drop (c.loop-e.e-index + 1) c.args.parts.now in
     let next = at_drop_more left c.args.parts.now c.loop-e.e-index c.e-item.result c.loop-e-test.true ∙ ap (λ (e : TExpr). left (e ∷ rest)) (sym c.e-item.is) in
     let taken = part c.loop-e.e-index _ c.loop-e.invariant.0 c.expression.ensures c.part.ensures in

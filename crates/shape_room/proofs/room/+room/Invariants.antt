@@ -1,6 +1,7 @@
 use Rattle.std.proofs.Common.{◌≡◌, ◌+◌, ◌*◌, map, drop}
-use Rattle.cstar_tree.specs.Room.{greatest_part, room_of}
+use Rattle.cstar_tree.specs.Room.{greatest_part}
 use Rattle.shape_room.specs.Counted.{counted}
+use Rattle.shape_room.specs.RoomInParts.{joined, room_of}
 use Rattle.shape_room.proofs.Counting.{IsGreatest}
 use Rattle.shape_room.proofs.room.+room.Given as goal
 
@@ -16,4 +17,4 @@ decreases-greatest_of l = goal.size-greatest_of l * 8 + 2
 abbrev pub invariant-greatest_of-loop-e : goal.invariant-greatest_of-loop-e
 invariant-greatest_of-loop-e l =
     (l.number ≡ counted l.e-index)
-    × IsGreatest l.greatest (greatest_part l.e-index (map (room_of l.shape) (drop l.e-index l.parts))) (greatest_part 0 (map (room_of l.shape) l.parts))
+    × IsGreatest l.greatest (greatest_part l.e-index (map joined (map (room_of l.shape) (drop l.e-index l.parts)))) (greatest_part 0 (map joined (map (room_of l.shape) l.parts)))

@@ -4,6 +4,7 @@ use Rattle.cstar_tree.specs.declared.typed.LocalVar.{LocalVar}
 use Rattle.cstar_tree.specs.declared.typed.TStmt.{TStmt}
 use Rattle.cstar_tree.specs.Room.{bits_of, expression_room, greatest, statement_room}
 use Rattle.cstar_tree.specs.TypedParts.{concat, optional, total}
+use Rattle.shape_room.proofs.ByRules.{value_by_rules}
 use Rattle.shape_room.proofs.Counting.{greater, greatest_alone, greatest_more, greatest_of_all, sum, whole}
 use Rattle.shape_room.proofs.StatementRooms.{block_room, branch_rooms, everywhere_room, expression_statement, for_room, if_room, loop_room, plain_room, return_room, where_room, with_room}
 use Rattle.shape_room.specs.Counted.{counted}
@@ -18,18 +19,18 @@ statement-returns-in-Block t c =
     ∙ ap counted (sym (block_room c.args.shape c.args.s.now _ _ c.in-Block.is))
 
 pub statement-returns-in-Expression : goal.statement-returns-in-Expression
-statement-returns-in-Expression t c = c.expression.ensures ∙ ap counted (sym (expression_statement c.args.shape c.args.s.now _ c.in-Expression.is))
+statement-returns-in-Expression t c = value_by_rules c.args.shape c.in-Expression.e c.expression.ensures ∙ ap counted (sym (expression_statement c.args.shape c.args.s.now _ c.in-Expression.is))
 
 pub statement-returns-in-If : goal.statement-returns-in-If
 statement-returns-in-If t c =
     let then = c.statement.ensures ∙ ap (λ s. counted (statement_room c.args.shape s)) c.deref-in-If.ensures in
-    greater _ _ (greater _ _ c.expression-in-If.ensures then c.max.ensures) c.optional_statement.ensures c.max-in-If.ensures
+    greater _ _ (greater _ _ (value_by_rules c.args.shape c.in-If.test c.expression-in-If.ensures) then c.max.ensures) c.optional_statement.ensures c.max-in-If.ensures
     ∙ ap counted (branch_rooms c.args.shape c.in-If.test c.in-If.then.value c.in-If.otherwise ∙ sym (if_room c.args.shape c.args.s.now _ _ _ c.in-If.is))
 
 pub statement-returns-in-Where : goal.statement-returns-in-Where
 statement-returns-in-Where t c =
     let then = c.statement-in-Where.ensures ∙ ap (λ s. counted (statement_room c.args.shape s)) c.deref-in-Where.ensures in
-    let parts = greater _ _ (greater _ _ c.expression-in-Where.ensures then c.max-in-Where.ensures) c.optional_statement-in-Where.ensures c.max-parts-in-Where.ensures
+    let parts = greater _ _ (greater _ _ (value_by_rules c.args.shape c.in-Where.test c.expression-in-Where.ensures) then c.max-in-Where.ensures) c.optional_statement-in-Where.ensures c.max-parts-in-Where.ensures
     ∙ ap counted (branch_rooms c.args.shape c.in-Where.test c.in-Where.then.value c.in-Where.otherwise) in
     sum _ _ (whole c.on_shape.ensures c.on_shape.type_inv) parts c.saturating_add-in-Where.ensures
     ∙ ap counted (sym (where_room c.args.shape c.args.s.now _ _ _ _ c.in-Where.is))
@@ -43,7 +44,7 @@ statement-returns-in-Everywhere t c =
 pub statement-returns-in-While : goal.statement-returns-in-While
 statement-returns-in-While t c =
     let body = c.statement-in-While.ensures ∙ ap (λ s. counted (statement_room c.args.shape s)) c.deref-in-While.ensures in
-    greater _ _ c.expression-in-While.ensures body c.max-in-While.ensures
+    greater _ _ (value_by_rules c.args.shape c.in-While.test c.expression-in-While.ensures) body c.max-in-While.ensures
     ∙ ap counted (sym (loop_room c.args.shape c.args.s.now _ _ c.in-While.is))
 
 pub statement-returns-in-For : goal.statement-returns-in-For

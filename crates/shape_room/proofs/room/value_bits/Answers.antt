@@ -1,7 +1,8 @@
 use Rattle.std.proofs.Common.{◌∙◌, Bool, ap, sym, if◌then◌else◌}
-use Rattle.cstar_tree.specs.Room.{of_shape, room_of}
+use Rattle.cstar_tree.specs.Room.{of_shape}
 use Rattle.cstar_tree.specs.Typed.{type_of}
 use Rattle.shape_room.proofs.Rooms.{own_assign, own_left_index, own_far, own_none, own_other}
+use Rattle.shape_room.specs.RoomInParts.{room_of}
 use Rattle.shape_room.proofs.room.value_bits.Goals as goal
 
 pub returns-in_default : goal.returns-in_default
