@@ -8,7 +8,7 @@ use Rattle.std.specs.Prelude.{min}
 use Rattle.cstar_tree.specs.Constants.{product}
 
 -- of a factor only what is counted matters
-up_to : (most a b : ℕ) → min (min a most * b) most ≡ min (a * b) most
+pub up_to : (most a b : ℕ) → min (min a most * b) most ≡ min (a * b) most
 up_to most a b = step (cases_lt most a) b
   where
     step : (most < a) ⊎ (a ≤ most) → (b : ℕ) → min (min a most * b) most ≡ min (a * b) most

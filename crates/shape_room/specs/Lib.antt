@@ -1,0 +1,3 @@
+pub mod CallOrders
+pub mod Counted
+pub mod RoomInParts
