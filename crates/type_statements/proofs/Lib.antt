@@ -1,0 +1,6 @@
+pub mod Counted
+pub mod Declared
+pub mod Listed
+pub mod Places
+pub mod TypedForms
+pub mod Walking

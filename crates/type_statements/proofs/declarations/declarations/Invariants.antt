@@ -1,0 +1,10 @@
+use Rattle.std.proofs.Common.{◌≡◌, true}
+use Rattle.type_scopes.specs.Bindings.{bindings}
+use Rattle.type_statements.specs.Places.{IsGrown}
+use Rattle.type_statements.proofs.Listed.{AreDeclaredTo}
+use Rattle.type_statements.proofs.declarations.declarations.Given as goal
+
+abbrev pub invariant-loop-written : goal.invariant-loop-written
+invariant-loop-written l =
+    IsGrown (bindings l.fn.scopes.locals) (bindings l.scopes.locals)
+    × (l.complete ≡ true → AreDeclaredTo l.file l.fn.scopes l.scopes l.site l.scope l.declarations l.written-index l.locals.items)

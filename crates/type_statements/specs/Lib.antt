@@ -1,0 +1,4 @@
+pub mod Answers
+pub mod Declarators
+pub mod Places
+pub mod Walks
