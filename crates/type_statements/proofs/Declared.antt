@@ -1,9 +1,7 @@
 -- Declared variables: their lengths, types and initialisers, and the place behind each.
-use Rattle.std.proofs.Common.{◌≡◌, w64, ◌<◌, ◌≤◌, ◌+◌, ◌^◌, ℕ, ℤ, pos, negsuc, Bool, true, false, List, [], ◌∷◌, ◌++◌, length, take, get_or, Option, Some, None, Box, IfOk, IfSome, Result, Ok, Err, is_none, is_some, arith, rules, refl, sym, ap, subst, ◌∙◌, if◌then◌else◌, length-append, append_assoc}
-use Rattle.std.specs.List.{All}
+use Rattle.std.proofs.Common.{◌≡◌, w64, ◌<◌, ◌+◌, ◌^◌, ℕ, ℤ, pos, negsuc, Bool, true, false, List, [], ◌∷◌, length, Option, Some, None, Box, IfOk, IfSome, Result, Ok, Err, is_none, arith, rules, refl, sym, ap, subst, ◌∙◌, if◌then◌else◌}
 use Rattle.std.specs.Prelude.{FitsSigned, IsNone, OnOk}
 use Rattle.std.specs.declared.alloc.Global.{Global}
-use Rattle.std.proofs.Math.Seq.{take-suc}
 use Rattle.std.proofs.lemmas.Bool.{lt-ltb}
 use Rattle.cstar_tree.specs.declared.syntax.Declarator.{Declarator}
 use Rattle.cstar_tree.specs.declared.syntax.Expr.{Expr}
@@ -13,18 +11,14 @@ use Rattle.cstar_tree.specs.declared.syntax.TypeName.{TypeName}
 use Rattle.cstar_tree.specs.declared.typed.LocalVar.{LocalVar}
 use Rattle.cstar_tree.specs.declared.typed.TExpr.{TExpr}
 use Rattle.cstar_tree.specs.declared.typed.ValueType.{ValueType}
-use Rattle.cstar_tree.specs.declared.typed.VarInfo.{VarInfo}
 use Rattle.cstar_tree.specs.declared.typed.Variable.TheVariants as V
 use Rattle.cstar_tree.specs.BlockScopes.{behind_declarator, declared_type, with_length}
-use Rattle.cstar_tree.specs.Constants.{constant_number}
-use Rattle.cstar_tree.specs.Conversions.{IsFitted}
 use Rattle.cstar_tree.specs.ExpressionTypes.{Types}
 use Rattle.cstar_tree.specs.Headers.{Program}
 use Rattle.cstar_tree.specs.Scopes.{Binding, Here, IsAtHand, find, part, written_type}
 use Rattle.cstar_tree.specs.Scopes as S
 use Rattle.cstar_tree.specs.StatementTypes.{IsDeclarable, TypesInitial, TypesLocal, variable_info}
 use Rattle.cstar_tree.specs.StatementTypes as Y
-use Rattle.cstar_tree.specs.Typed.{type_of}
 use Rattle.cstar_base.specs.declared.operators.Place.{Place}
 use Rattle.type_scopes.specs.Answers.{part_of}
 use Rattle.type_scopes.specs.declared.faults.Untyped.{Untyped}
@@ -35,14 +29,13 @@ use Rattle.type_scopes.specs.declared.file.File.{File}
 use Rattle.type_scopes.specs.declared.locals.Locals.{Locals}
 use Rattle.type_scopes.specs.declared.names.VariableType as Names
 use Rattle.type_scopes.specs.declared.sites.Site.{Site}
-use Rattle.type_expressions.specs.Along.{number_of_constant}
 use Rattle.type_expressions.specs.Walks.{IsAround, IsPlain, IsShape, IsValue}
 use Rattle.type_expressions.specs.Walks as X
 use Rattle.type_expressions.proofs.Walking as W
 use Rattle.type_expressions.specs.declared.found.TypedExpr.{TypedExpr}
 use Rattle.type_expressions.proofs.Walking.{in_part, is_shape, number_there}
-use Rattle.type_statements.specs.Declarators.{FitsArray, IsConstantNumber, IsFitting, IsInitial, IsInitialised, IsInitialisedIf, IsLength, IsVariable, counted, type_with}
-use Rattle.type_statements.specs.Places.{HasItsShape, IsGrown, IsInScope, IsPlace}
+use Rattle.type_statements.specs.Declarators.{FitsArray, IsConstantNumber, IsFitting, IsInitial, IsInitialisedIf, IsLength, IsVariable, counted, type_with}
+use Rattle.type_statements.specs.Places.{HasItsShape, IsGrown, IsPlace}
 use Rattle.type_statements.specs.Walks.{IsLocal, IsPlainDeclarator}
 use Rattle.type_statements.specs.declared.declarations.Initial.{Initial}
 use Rattle.type_statements.specs.declared.declarations.Length.{Length}
@@ -148,10 +141,6 @@ length_settled file locals site e p typed (Err u) n r h is settled found = absur
 pub declared_grown : (old new : List Binding) (b : Binding) (fresh : Bool) → new ≡ (if fresh then b ∷ old else old) → IsGrown old new
 declared_grown old new b true is = record { more = b ∷ []; grown = is }
 declared_grown old new b false is = record { more = []; grown = is }
-
-pub not_scalar : (shape : Option ℕ) → shape ≡ None → is_some shape ≡ true → ⊥
-not_scalar None none is = cc
-not_scalar (Some s) none is = cc
 
 pub settled_local : {A E P : Type 0} (r : Result A E) → P → OnOk r P
 settled_local (Ok x) p = p

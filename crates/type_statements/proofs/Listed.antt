@@ -1,5 +1,5 @@
 -- Lists of declarations and of statements: one more behind those that are typed.
-use Rattle.std.proofs.Common.{◌≡◌, ◌<◌, ◌+◌, ℕ, suc, Bool, true, is_some, List, [], ◌∷◌, ◌++◌, length, take, get_or, map, Option, Some, None, arith, refl, sym, ap, subst, ◌∙◌, append_assoc, length-append}
+use Rattle.std.proofs.Common.{◌≡◌, ◌<◌, ◌+◌, ℕ, suc, Bool, true, is_some, List, [], ◌∷◌, ◌++◌, length, take, get_or, map, Option, Some, None, arith, refl, sym, ap, subst, ◌∙◌, append_assoc}
 use Rattle.std.specs.List.{All}
 use Rattle.std.proofs.Math.Seq.{take-length, take-suc}
 use Rattle.std.proofs.lemmas.List.{append-nil}
@@ -10,7 +10,7 @@ use Rattle.cstar_tree.specs.declared.syntax.Stmt.{Stmt}
 use Rattle.cstar_tree.specs.declared.typed.LocalVar.{LocalVar}
 use Rattle.cstar_tree.specs.declared.typed.TStmt.{TStmt}
 use Rattle.cstar_tree.specs.declared.typed.ValueType.{ValueType}
-use Rattle.cstar_tree.specs.BlockScopes.{behind, behind_declarations, behind_declarator, behind_declarators}
+use Rattle.cstar_tree.specs.BlockScopes.{behind_declarations, behind_declarator, behind_declarators}
 use Rattle.cstar_tree.specs.Headers.{Program, Returns}
 use Rattle.cstar_tree.specs.Scopes.{Binding, Here, extents_of, written_type}
 use Rattle.cstar_tree.specs.StatementTypes.{TypesDeclarations, TypesLocal, TypesLocals, TypesStatement, TypesStatements}
@@ -33,12 +33,6 @@ none_grown names = record { more = []; grown = refl }
 
 pub more_grown : {a b c : List Binding} → IsGrown a b → IsGrown b c → IsGrown a c
 more_grown {a = a} f g = record { more = g.more ++ f.more; grown = g.grown ∙ (ap (λ (names : List Binding). g.more ++ names) f.grown ∙ sym (append_assoc g.more f.more a)) }
-
-pub one_grown : (names new : List Binding) (b : Binding) → new ≡ b ∷ names → IsGrown names new
-one_grown names new b is = record { more = b ∷ []; grown = is }
-
-pub same_grown : (names new : List Binding) → new ≡ names → IsGrown names new
-same_grown names new is = record { more = []; grown = is }
 
 -- ---- the next of a list
 

@@ -2,14 +2,11 @@
 use Rattle.std.proofs.Common.{◌≡◌, ◌⊎◌, inl, inr, ◌≤◌, ◌+◌, ◌-◌, ℕ, ℤ, pos, negsuc, suc, Bool, true, false, List, [], ◌∷◌, ◌++◌, length, take, Option, Some, None, is_some, is_none, bytes_eq, if◌then◌else◌, arith, refl, sym, ap, subst, ◌∙◌}
 use Rattle.cstar_tree.specs.declared.syntax.Declarator.{Declarator}
 use Rattle.cstar_tree.specs.declared.syntax.Expr.{Expr}
-use Rattle.cstar_tree.specs.declared.syntax.Stmt.{Stmt}
 use Rattle.cstar_tree.specs.declared.typed.ValueType.{ValueType}
 use Rattle.cstar_tree.specs.declared.typed.Variable.{Variable}
 use Rattle.cstar_tree.specs.declared.typed.Variable.TheVariants as V
-use Rattle.cstar_tree.specs.BlockScopes.{behind, behind_declarator, block_place, declared_type, in_loop, with_length}
+use Rattle.cstar_tree.specs.BlockScopes.{behind_declarator, block_place, declared_type, in_loop, with_length}
 use Rattle.cstar_tree.specs.Constants.{constant_number}
-use Rattle.cstar_tree.specs.ExpressionTypes.{Types}
-use Rattle.cstar_tree.specs.Headers.{Program}
 use Rattle.cstar_tree.specs.Scopes.{Binding, Here, Meaning, VariableType, a_shape, a_variable, as_whole, declared, extents_of, find, meaning, part, under}
 use Rattle.type_scopes.specs.Bindings.{bindings, named, type_meant, within}
 use Rattle.type_scopes.specs.FileBindings.{file_bindings, names_at}
@@ -17,7 +14,6 @@ use Rattle.type_scopes.specs.declared.file.File.{File}
 use Rattle.type_scopes.specs.declared.locals.Locals.{Locals}
 use Rattle.type_scopes.specs.declared.names.VariableType as Names
 use Rattle.type_scopes.specs.declared.sites.Site.{Site}
-use Rattle.type_expressions.specs.Names.{HasNames}
 use Rattle.type_expressions.specs.Walks.{HasItsShapes, IsAround, IsShape}
 use Rattle.type_statements.specs.Places.{HasItsShape, IsInScope, IsPlace}
 use Rattle.type_statements.specs.declared.scopes.Scopes.{Scopes}

@@ -27,7 +27,7 @@ use Rattle.cstar_tree.specs.Typed.{type_of}
 use Rattle.type_scopes.specs.Answers.{told_by}
 use Rattle.type_scopes.specs.declared.faults.Untyped.{Untyped}
 use Rattle.type_scopes.specs.declared.faults.Untyped.TheVariants as N
-use Rattle.type_statements.specs.Answers.{AreBranches, IsFault, IsHeading, IsReturnFault, TypesElse, value_of}
+use Rattle.type_statements.specs.Answers.{AreBranches, IsFault, IsHeading, IsReturnFault, value_of}
 use Rattle.type_statements.specs.declared.branches.Branches.{Branches}
 use Rattle.type_statements.specs.declared.forms.Heading.{Heading}
 

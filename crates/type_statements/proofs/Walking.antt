@@ -1,9 +1,9 @@
 -- The walk over a statement: from the answers for its parts to the answer for the whole.
-use Rattle.std.proofs.Common.{◌≡◌, ◌+◌, ◌-◌, ℕ, Bool, true, false, List, [], ◌∷◌, ◌++◌, length, take, drop, map, Option, Some, None, IfOk, IfSome, MatchOption, MatchResult, Result, Ok, Err, Box, Vec, arith, refl, sym, ap, subst, ◌∙◌, length-append}
+use Rattle.std.proofs.Common.{◌≡◌, ◌+◌, ℕ, true, List, ◌++◌, length, take, map, Option, Some, None, IfOk, IfSome, MatchOption, MatchResult, Result, Ok, Err, Box, Vec, arith, refl, sym, ap, subst, ◌∙◌}
 use Rattle.std.specs.Option.{option_map}
 use Rattle.std.specs.List.{All}
 use Rattle.std.specs.declared.alloc.Global.{Global}
-use Rattle.std.proofs.Math.Seq.{drop-append_seam, take-length}
+use Rattle.std.proofs.Math.Seq.{take-length}
 use Rattle.std.proofs.lemmas.List.Elements.{All-nil, All-cons}
 use mathlib.Core.Former.{Count}
 use Rattle.cstar_base.specs.declared.operators.Place.{Place}
@@ -19,16 +19,16 @@ use Rattle.cstar_tree.specs.declared.typed.TStmt as T
 use Rattle.cstar_tree.specs.BlockScopes.{behind, behind_declarations, block_place, in_loop}
 use Rattle.cstar_tree.specs.ExpressionTypes.{Types}
 use Rattle.cstar_tree.specs.Headers.{Program, Returns}
-use Rattle.cstar_tree.specs.Scopes.{Binding, Here, as_whole, extents_of, find, meaning, shape_of, under}
+use Rattle.cstar_tree.specs.Scopes.{Binding, Here, as_whole, find, under}
 use Rattle.cstar_tree.specs.StatementTypes.{TypesEffectIf, TypesStatement, TypesStatements, TypesValueIf}
 use Rattle.cstar_tree.specs.StatementTypes as Y
 use Rattle.cstar_tree.specs.SyntaxParts.{locals_in}
 use Rattle.cstar_tree.specs.TypedParts.{total}
 use Rattle.type_scopes.specs.Answers.{part_of}
-use Rattle.type_scopes.specs.Bindings.{around, bindings}
+use Rattle.type_scopes.specs.Bindings.{bindings}
 use Rattle.type_scopes.specs.FileBindings.{file_bindings, names_at}
 use Rattle.type_scopes.specs.Headers.{returned}
-use Rattle.type_scopes.specs.Named.{IsShapeAmong, shape_among}
+use Rattle.type_scopes.specs.Named.{IsShapeAmong}
 use Rattle.type_scopes.specs.declared.faults.Untyped.{Untyped}
 use Rattle.type_scopes.specs.declared.faults.Untyped.TheVariants as N
 use Rattle.type_scopes.specs.declared.file.File.{File}
@@ -39,9 +39,9 @@ use Rattle.type_expressions.specs.Walks.{IsAround, IsPlain, IsShape, IsValue}
 use Rattle.type_expressions.specs.Walks as W
 use Rattle.type_expressions.specs.declared.found.TypedExpr.{TypedExpr}
 use Rattle.type_expressions.proofs.Walking.{is_shape, shape_found}
-use Rattle.type_statements.specs.Answers.{AreBranches, IsAnswer, IsEverywhere, IsHeading, IsOutcome, IsReturnAnswer, IsUnder, IsWholeBlock, TypesElse, value_of}
-use Rattle.type_statements.specs.Places.{IsGrown, IsInScope, IsPlace}
-use Rattle.type_statements.specs.Walks.{AreDeclared, ArePlainStatements, IsEffectIf, IsHeadingOf, IsPlainBlock, IsPlainElse, IsPlainStatement, IsTyped, IsTypedBlock, IsTypedHeading, IsTypedIf, IsValueIf}
+use Rattle.type_statements.specs.Answers.{AreBranches, IsAnswer, IsEverywhere, IsHeading, IsOutcome, IsReturnAnswer, IsUnder, IsWholeBlock, value_of}
+use Rattle.type_statements.specs.Places.{IsInScope, IsPlace}
+use Rattle.type_statements.specs.Walks.{AreDeclared, ArePlainStatements, IsEffectIf, IsPlainBlock, IsPlainElse, IsPlainStatement, IsTyped, IsTypedBlock, IsTypedHeading, IsTypedIf, IsValueIf}
 use Rattle.type_statements.specs.declared.branches.Branches.{Branches}
 use Rattle.type_statements.specs.declared.forms.Heading.{Heading}
 use Rattle.type_statements.specs.declared.scopes.Scopes.{Scopes}
@@ -81,11 +81,6 @@ still_around {file} {site} {here} old new same a = record {
 }
 
 -- ---- blocks
-
-pub closed : (scope : ℕ) (old names : List Binding) → scope ≡ length old → IsGrown old names → around scope names ≡ old
-closed scope old names is g =
-    let count : length names - scope ≡ length g.more = omega (arith, is, ap (λ (ns : List Binding). length ns) g.grown, length-append g.more old) in
-    ap (λ (n : ℕ). drop n names) count ∙ (ap (λ (ns : List Binding). drop (length g.more) ns) g.grown ∙ drop-append_seam g.more old)
 
 abbrev statement_row : Stmt → (n : Count) × Row_of-Stmt n
 statement_row (S.Block' _ _ _ row) = (_, row)
@@ -313,8 +308,3 @@ return_typed file scopes site p e (Some x) (Ok t) h none answers = record {
   typed = λ program here place plain. answers program here e x refl place.around.at_site.current (h program here place plain);
   counted = rw (count.in_return p e) (omega arith);
 }
-
-pub simple_typed : (file : File) (scopes : Scopes) (site : Site) (s : Stmt) (typed : Result TStmt Untyped) (before later : Option Standing) (r : Option (Box TStmt Global)) → IfOk typed (IsTyped file scopes scopes site s) → IsOutcome typed before later r → IsTypedIf file scopes scopes site s r
-simple_typed file scopes site s typed before later None h m = tt
-simple_typed file scopes site s (Ok t) before later (Some b) h m = rw m.0 h
-simple_typed file scopes site s (Err u) before later (Some b) h m = absurd m

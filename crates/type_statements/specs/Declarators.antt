@@ -1,5 +1,5 @@
 -- What is answered for a declared variable: its length, its type and its initialiser.
-use Rattle.std.specs.Prelude.{◌≡◌, ◌<◌, ◌≤◌, ◌^◌, nat_lt, ℕ, ℤ, pos, negsuc, true, List, Option, Some, None, Result, Ok, Err, Box, if◌then◌else◌}
+use Rattle.std.specs.Prelude.{◌≡◌, ◌≤◌, ◌^◌, nat_lt, ℕ, ℤ, pos, negsuc, true, Option, Some, None, Result, Ok, Err, Box, if◌then◌else◌}
 use Rattle.std.specs.declared.alloc.Global.{Global}
 use Rattle.cstar_base.specs.declared.faults.Fault.TheVariants as Faults
 use Rattle.cstar_base.specs.declared.operators.Place.{Place}

@@ -1,5 +1,5 @@
 -- The place of a statement in the body of a function, and the one that is kept for it.
-use Rattle.std.specs.Prelude.{◌≡◌, ◌≤◌, ◌++◌, ℕ, false, List, length, Option, Some}
+use Rattle.std.specs.Prelude.{◌≡◌, ◌≤◌, ◌++◌, ℕ, false, List, length, Some}
 use Rattle.cstar_tree.specs.declared.typed.ValueType.{ValueType}
 use Rattle.cstar_tree.specs.Scopes.{Binding, Here, find}
 use Rattle.type_expressions.specs.Walks.{IsAround, IsShape}

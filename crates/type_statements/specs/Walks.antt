@@ -19,7 +19,7 @@ use Rattle.cstar_tree.specs.Headers.{Program}
 use Rattle.cstar_tree.specs.Scopes.{Here}
 use Rattle.cstar_tree.specs.StatementTypes.{TypesBlock, TypesDeclarations, TypesEffectIf, TypesLocal, TypesStatement, TypesValueIf}
 use Rattle.cstar_tree.specs.SyntaxParts.{declared_in, locals_in}
-use Rattle.type_expressions.specs.Walks.{IsAround, IsPlain}
+use Rattle.type_expressions.specs.Walks.{IsPlain}
 use Rattle.type_scopes.specs.Headers.{returned}
 use Rattle.type_scopes.specs.declared.file.File.{File}
 use Rattle.type_scopes.specs.declared.sites.Site.{Site}

@@ -1,6 +1,5 @@
-use Rattle.std.proofs.Common.{sym, ◌∙◌, ap, Bool}
+use Rattle.std.proofs.Common.{sym, ◌∙◌}
 use Rattle.std.proofs.lemmas.Result.{IfOk-weaker}
-use Rattle.std.specs.Prelude.{if◌then◌else◌}
 use Rattle.type_expressions.proofs.Walking.{found_of}
 use Rattle.type_statements.specs.Declarators.{FitsArray}
 use Rattle.type_statements.proofs.Declared.{declared_grown, local_settled, settled_local}

@@ -1,5 +1,4 @@
 use Rattle.type_statements.proofs.TypedForms.{no_result, return_fault, returns_value, fit, unfit}
-use Rattle.type_scopes.specs.Headers.{returned}
 use Rattle.type_statements.proofs.forms.return_statement.Goals as goal
 
 pub returns-then-not-fits_result : goal.returns-then-not-fits_result
