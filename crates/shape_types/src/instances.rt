@@ -35,13 +35,12 @@ impl Program {
 /// has too many nodes the walk goes on, since an earlier fault may stand, and keeps no tree. It
 /// ends where no instance can have an earlier fault than the least so far.
 pub fn reached_instances(found: &mut Found, file: &File<'_>, main: u32) -> Result<Program, Memory> {
-    found.reach(
-        file,
-        Reached {
-            function: main,
-            current: None,
-        },
-    )?;
+    let reached = Reached {
+        function: main,
+        current: None,
+    };
+    let header = file.header(reached)?;
+    found.reach(reached, &header)?;
     found.instances.callees(file.alloc);
     let mut program = Program::none(file.alloc);
     let shapes = file.shapes.len().saturating_add(1);
@@ -84,11 +83,9 @@ fn typed_instance(
     };
     found.count(1);
     let mut scopes = Scopes::new(file.alloc);
-    let Some(header) = found.instances.header(reached) else {
-        return Ok(None);
-    };
+    let header = file.header(reached)?;
     let returns = header.returns;
-    let params = parameters(file.alloc, &mut scopes, header, &function.parameters)?;
+    let params = parameters(file.alloc, &mut scopes, &header, &function.parameters)?;
     found.count(function.parameters.len() as u64);
     let site = body_site(info, reached, returns);
     let body = block_in(found, file, &mut scopes, site, 0, &function.body)?;

@@ -31,7 +31,7 @@ last values x =
 abbrev value_in : Box TExpr Global → TExpr
 value_in b = b.value
 
-trees_more : (values : List (Box TExpr Global)) (x : Box TExpr Global) → trees (values ++ x ∷ []) ≡ trees values ++ x.value ∷ []
+pub trees_more : (values : List (Box TExpr Global)) (x : Box TExpr Global) → trees (values ++ x ∷ []) ≡ trees values ++ x.value ∷ []
 trees_more values x = map-append value_in values (x ∷ [])
 
 injective : {A : Type 0} {x y : A} → Some x ≡ Some y → x ≡ y
@@ -46,7 +46,7 @@ last_parallel : (parameters : List (Option ValueType)) (values : List (Box TExpr
 last_parallel parameters values x ty is none unfit =
     none (length values, Some ty, x.value, is, slice_get-map value_in (values ++ x ∷ []) (length values) ∙ ap (option_map value_in) (last values x), unfit)
 
-scalar_too : (shape other : Option ℕ) → ((is_none shape && is_some other) ≡ true → ⊥) → shape ≡ None → other ≡ None
+pub scalar_too : (shape other : Option ℕ) → ((is_none shape && is_some other) ≡ true → ⊥) → shape ≡ None → other ≡ None
 scalar_too None None never is = refl
 scalar_too None (Some s) never is = absurd (never refl)
 scalar_too (Some s) other never is = absurd (cc)

@@ -2,6 +2,8 @@ pub mod AlongAxes
 pub mod Assigned
 pub mod AtSites
 pub mod CallArguments
+pub mod CalledFunctions
+pub mod CallsWithin
 pub mod Combined
 pub mod Indexed
 pub mod Listing

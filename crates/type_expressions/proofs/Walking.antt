@@ -1,5 +1,5 @@
 -- The walk over an expression: from the answers for its parts to the answer for the whole.
-use Rattle.std.proofs.Common.{◌≡◌, ◌<◌, ◌^◌, ℕ, ℤ, pos, negsuc, Bool, true, false, List, length, Option, Some, None, IfOk, IfSome, MatchResult, Result, Ok, Err, Box, Vec, refl, sym, ap, subst, ◌∙◌, if◌then◌else◌}
+use Rattle.std.proofs.Common.{◌≡◌, ◌<◌, ◌^◌, ℕ, ℤ, pos, negsuc, Bool, true, false, List, length, Option, Some, None, IfOk, IfSome, OnOk, MatchResult, Result, Ok, Err, Box, Vec, refl, sym, ap, subst, ◌∙◌, if◌then◌else◌}
 use Rattle.std.specs.List.{slice_get}
 use Rattle.std.specs.Option.{is_some}
 use Rattle.std.proofs.lemmas.List.Elements.{All-get_or}
@@ -32,7 +32,7 @@ use Rattle.cstar_tree.specs.Constants.{axis_among, axis_of, constant, constant_n
 use Rattle.cstar_tree.specs.Conversions.{int, unsigned}
 use Rattle.cstar_tree.specs.ExpressionTypes.{IsVariable, Types, TypesEach, TypesIndexes}
 use Rattle.cstar_tree.specs.ExpressionTypes as X
-use Rattle.cstar_tree.specs.Headers.{Program}
+use Rattle.cstar_tree.specs.Headers.{Program, Reached}
 use Rattle.cstar_tree.specs.Scopes.{Here, Meaning, a_function, a_shape, a_variable, extents_of, find, meaning, part, shape_meant, shape_of, written_type}
 use Rattle.cstar_tree.specs.Scopes as S
 use Rattle.type_scopes.specs.Answers.{part_of}
@@ -49,13 +49,16 @@ use Rattle.type_scopes.specs.declared.standing.Standing.{Standing}
 use Rattle.type_scopes.specs.Shapes.{rank_of}
 use Rattle.type_expressions.specs.Along.{AreBits, AreBitsNamed, HasExtents, IsAlong, IsAxisOf, axis_in, number_of_constant}
 use Rattle.type_expressions.specs.Along as L
-use Rattle.type_expressions.specs.Answers.{AreBrackets, AtSite, HasShapes, IsAnswer, IsAnswerOrMemory, IsAssigned, IsFaultOrMemory, IsOutcome, IsSite, OnBoth, OnThree, trees}
+use Rattle.type_expressions.specs.Answers.{AreBrackets, AtSite, HasShapes, IsAnswer, IsAnswerOrMemory, IsAssigned, IsOutcome, IsSite, OnBoth, OnThree, trees}
 use Rattle.type_expressions.specs.Names.{HasNames, IsNamed, IsVariableMeant}
-use Rattle.type_expressions.specs.Walks.{AreFoundAlong, AreListed, AreParts, HasItsSource, IsAlongShape, IsAround, IsAxisTyped, IsFoundAlong, IsOperand, IsPart, IsPlain, IsShape, IsSource, IsSourceValue, IsTyped, IsTypedAlong, IsTypedFrom, IsValue, rank_under}
+use Rattle.type_expressions.specs.Instances.{IsBeginning}
+use Rattle.type_expressions.specs.Programs.{HasItsCalls}
+use Rattle.type_expressions.specs.Walks.{AreFoundAlong, AreListed, AreParts, HasItsSource, IsAlongShape, IsAround, IsAxisTyped, IsFoundAlong, IsOperand, IsPart, IsPlain, IsShape, IsSource, IsSourceValue, IsTyped, IsTypedAlong, IsTypedFrom, IsTypedFromList, IsValue, rank_under}
 use Rattle.type_expressions.specs.declared.found.TypedExpr.{TypedExpr}
 use Rattle.type_expressions.specs.declared.intrinsics.Axis.{Axis}
 use Rattle.type_expressions.specs.declared.intrinsics.Axis.TheVariants as A
 use Rattle.type_expressions.specs.declared.walk.Along.{Along}
+use Rattle.type_expressions.proofs.CallsWithin.{AreCallsOf, earlier, in_assignment_target, in_assignment_value, in_binary_left, in_binary_right, in_brackets, in_casts, in_choice_second, in_choice_test, in_choice_third, in_dim, in_element, in_enumerate, in_parallel_cast, in_pcoord, in_postfix, in_prefix, in_scan_axis, in_scan_source, moved, narrowed}
 use Rattle.type_expressions.proofs.OfShapes.{rank_is}
 use Rattle.type_expressions.proofs.AtSites.{some_in}
 
@@ -187,33 +190,15 @@ told_ok are x file locals site e (Ok t) old new (Some b) h m = λ program here a
 told_ok are x file locals site e (Err u) old new None h m = tt
 told_ok are x file locals site e (Err u) old new (Some b) h m = absurd m
 
-pub told_leaf : (file : File) (locals : Locals) (site : Site) (e : Expr) (typed : Result TExpr Untyped) (old new : Option Standing) (r : Option TypedExpr) → IfOk typed (λ t. (program : Program) (here : Here) → IsAround file locals site here → Types program here e t true) → IsOutcome typed old new r → IsTyped file locals site e r
-told_leaf file locals site e (Ok t) old new None h m = tt
-told_leaf file locals site e (Ok t) old new (Some b) h m = λ program here a plain. rw (m.0, m.1) (h program here a)
-told_leaf file locals site e (Err u) old new None h m = tt
-told_leaf file locals site e (Err u) old new (Some b) h m = absurd m
+pub told_leaf : (met : List Reached) (file : File) (locals : Locals) (site : Site) (e : Expr) (typed : Result TExpr Untyped) (old new : Option Standing) (r : Option TypedExpr) → IfOk typed (λ t. (program : Program) (here : Here) → IsAround file locals site here → Types program here e t true) → IsOutcome typed old new r → IsTyped met file locals site e r
+told_leaf met file locals site e (Ok t) old new None h m = tt
+told_leaf met file locals site e (Ok t) old new (Some b) h m = λ program here a calls plain. rw (m.0, m.1) (h program here a)
+told_leaf met file locals site e (Err u) old new None h m = tt
+told_leaf met file locals site e (Err u) old new (Some b) h m = absurd m
 
 pub if_answers : {A : Type 0} (are : Program → Here → A → Type 0) (x : A) (e : Expr) (typed : Result TExpr Untyped) → ((program : Program) (here : Here) → are program here x → IsAnswerOrMemory program here e typed) → IfOk typed (λ t. (program : Program) (here : Here) → are program here x → Types program here e t true)
 if_answers are x e (Ok t) h = h
 if_answers are x e (Err u) h = tt
-
--- no call is plain
-pub call_typed : (file : File) (locals : Locals) (site : Site) (n : Name) (arguments : Vec Expr Global) (parts : Option (Vec (Box TExpr Global) Global)) (r : Option TypedExpr) → IsTypedFrom (λ program here xs. AreParts program here (E.Call n arguments) xs) parts file locals site (E.Call n arguments) r
-unfolding IsPlain
-call_typed file locals site n arguments parts None = tt
-call_typed file locals site n arguments None (Some t) = λ plain. plain
-call_typed file locals site n arguments (Some xs) (Some t) = λ program here a h. absurd h
-
-pub each_ok : {A X : Type 0} (typed : Result A X) (P : A → Type 0) → ((r : A) → P r) → IfOk typed P
-each_ok (Ok r) P h = h r
-each_ok (Err u) P h = tt
-
-pub printed : (file : File) (locals : Locals) (site : Site) (p : Place) (text : List ℕ) (given : Vec Expr Global) (xs : Vec (Box TExpr Global) Global) (typed : Result TypedExpr Untyped) (r : Option TypedExpr) → ((program : Program) (here : Here) (given : Vec Expr Global) → TypesEach program (part here) given.items (trees xs.items) → MatchResult typed (λ t. Types program here (E.Printf p text given) t.expr.value t.has_value) (IsFaultOrMemory program here (E.Printf p text given))) → r ≡ part_of typed → IsTypedFrom (λ program here xs. AreParts program here (E.Printf p text given) xs) (Some xs) file locals site (E.Printf p text given) r
-printed file locals site p text given xs typed None h settled = tt
-printed file locals site p text given xs (Ok t) (Some b) h settled = λ program here a parts.
-    let each = subst (λ (es : List Expr). TypesEach program (part here) es (trees xs.items)) (items_hidden-the_row-Expr-0 given) parts in
-    rw (let e : b ≡ t = cc in e) (h program here given each)
-printed file locals site p text given xs (Err u) (Some b) h settled = absurd (cc)
 
 extents_known : {file : File} {locals : Locals} {site : Site} {here : Here} (n : Name) (v : Variable) (ty : Names.VariableType) (shape : Option ℕ) → IsAround file locals site here → IsVariable here n v (variable_type ty) → ty.shape ≡ shape → HasExtents here shape
 extents_known n v ty None a is of = tt
@@ -242,74 +227,86 @@ element_typed file locals site n bracket index v ty x typed old new r found h m 
 
 -- ---- the whole from its walk
 
-pub value_typed : (file : File) (locals : Locals) (site at_part : Site) (e : Expr) (typed : Option TypedExpr) (valued : Result (Box TExpr Global) Untyped) (r : Option (Box TExpr Global)) → at_part ≡ record site { whole = false } → IsTyped file locals at_part e typed → IfOk valued (λ x. typed ≡ Some (record { expr = x; has_value = true })) → r ≡ part_of valued → IsValue file locals site e r
-value_typed file locals site at_part e typed valued None is h v settled = tt
-value_typed file locals site at_part e typed (Ok y) (Some x) is h v settled =
-    let whole = subst (IsTyped file locals at_part e) v h in
-    let there = subst (λ (s : Site). IsTyped file locals s e (Some (record { expr = y; has_value = true }))) is whole in
-    λ program here a plain. rw (let k : x ≡ y = cc in k) (there program (part here) (in_part a) plain)
-value_typed file locals site at_part e typed (Err u) (Some x) is h v settled = absurd (cc)
+pub value_typed : (met : List Reached) (file : File) (locals : Locals) (site at_part : Site) (e : Expr) (typed : Option TypedExpr) (valued : Result (Box TExpr Global) Untyped) (r : Option (Box TExpr Global)) → at_part ≡ record site { whole = false } → IsTyped met file locals at_part e typed → IfOk valued (λ x. typed ≡ Some (record { expr = x; has_value = true })) → r ≡ part_of valued → IsValue met file locals site e r
+value_typed met file locals site at_part e typed valued None is h v settled = tt
+value_typed met file locals site at_part e typed (Ok y) (Some x) is h v settled =
+    let whole = subst (IsTyped met file locals at_part e) v h in
+    let there = subst (λ (s : Site). IsTyped met file locals s e (Some (record { expr = y; has_value = true }))) is whole in
+    λ program here a calls plain. rw (let k : x ≡ y = cc in k) (there program (part here) (in_part a) (moved here.dot false calls) plain)
+value_typed met file locals site at_part e typed (Err u) (Some x) is h v settled = absurd (cc)
 
-pub brackets_typed : (file : File) (locals : Locals) (site : Site) (p : Place) (inner : Box Expr Global) (i r : Option TypedExpr) → IsTyped file locals site inner.value i → AreBrackets i r → IsTyped file locals site (E.Brackets p inner) r
+-- what was typed where less was met
+pub value_later : {before met : List Reached} (file : File) (locals : Locals) (site : Site) (e : Expr) (x : Option (Box TExpr Global)) → IsBeginning before met → IsValue before file locals site e x → IsValue met file locals site e x
+value_later file locals site e None begins v = tt
+value_later file locals site e (Some x) begins v = λ program here a calls plain. v program here a (earlier begins calls) plain
+
+pub brackets_typed : (met : List Reached) (file : File) (locals : Locals) (site : Site) (p : Place) (inner : Box Expr Global) (i r : Option TypedExpr) → IsTyped met file locals site inner.value i → AreBrackets i r → IsTyped met file locals site (E.Brackets p inner) r
 unfolding IsPlain
-brackets_typed file locals site p inner i None h b = tt
-brackets_typed file locals site p inner None (Some t) h b = absurd b
-brackets_typed file locals site p inner (Some i) (Some t) h b = λ program here a plain. b program here p inner (h program here a plain)
+brackets_typed met file locals site p inner i None h b = tt
+brackets_typed met file locals site p inner None (Some t) h b = absurd b
+brackets_typed met file locals site p inner (Some i) (Some t) h b = λ program here a calls plain. b program here p inner (h program here a (narrowed (in_brackets p inner) calls) plain)
 
 -- an expression with one operand
-pub from_operand : (file : File) (locals : Locals) (site : Site) (e operand : Expr) (x : Option (Box TExpr Global)) (r : Option TypedExpr) → ((program : Program) (here : Here) (y : Box TExpr Global) → IsPart program here operand y → IsOperand program here e y) → (IsPlain e → IsPlain operand) → IsValue file locals site operand x → IsTypedFrom (λ program here x. IsOperand program here e x) x file locals site e r → IsTyped file locals site e r
-from_operand file locals site e operand x None brings plainly v h = tt
-from_operand file locals site e operand None (Some t) brings plainly v h = λ program here a plain. absurd (h plain)
-from_operand file locals site e operand (Some x) (Some t) brings plainly v h = λ program here a plain. h program here a (brings program here x (v program here a (plainly plain)))
+pub from_operand : (met : List Reached) (file : File) (locals : Locals) (site : Site) (e operand : Expr) (x : Option (Box TExpr Global)) (r : Option TypedExpr) → ((program : Program) (here : Here) (y : Box TExpr Global) → IsPart program here operand y → IsOperand program here e y) → AreCallsOf operand e → (IsPlain e → IsPlain operand) → IsValue met file locals site operand x → IsTypedFrom (λ program here x. IsOperand program here e x) x file locals site e r → IsTyped met file locals site e r
+from_operand met file locals site e operand x None brings within plainly v h = tt
+from_operand met file locals site e operand None (Some t) brings within plainly v h = absurd h
+from_operand met file locals site e operand (Some x) (Some t) brings within plainly v h = λ program here a calls plain. h program here a (brings program here x (v program here a (narrowed within calls) (plainly plain)))
 
-pub prefix_typed : (file : File) (locals : Locals) (site : Site) (p : Place) (op : PrefixOp) (operand : Box Expr Global) (x : Option (Box TExpr Global)) (r : Option TypedExpr) → IsValue file locals site operand.value x → IsTypedFrom (λ program here x. IsOperand program here (E.Prefix p op operand) x) x file locals site (E.Prefix p op operand) r → IsTyped file locals site (E.Prefix p op operand) r
+pub prefix_typed : (met : List Reached) (file : File) (locals : Locals) (site : Site) (p : Place) (op : PrefixOp) (operand : Box Expr Global) (x : Option (Box TExpr Global)) (r : Option TypedExpr) → IsValue met file locals site operand.value x → IsTypedFrom (λ program here x. IsOperand program here (E.Prefix p op operand) x) x file locals site (E.Prefix p op operand) r → IsTyped met file locals site (E.Prefix p op operand) r
 unfolding IsPlain
-prefix_typed file locals site p op operand x r = from_operand file locals site (E.Prefix p op operand) operand.value x r (λ program here y h. h) (λ plain. plain)
+prefix_typed met file locals site p op operand x r = from_operand met file locals site (E.Prefix p op operand) operand.value x r (λ program here y h. h) (in_prefix p op operand) (λ plain. plain)
 
-pub casts_typed : (file : File) (locals : Locals) (site : Site) (chain : Vec Cast Global) (operand : Box Expr Global) (x : Option (Box TExpr Global)) (r : Option TypedExpr) → IsValue file locals site operand.value x → IsTypedFrom (λ program here x. IsOperand program here (E.Casts chain operand) x) x file locals site (E.Casts chain operand) r → IsTyped file locals site (E.Casts chain operand) r
+pub casts_typed : (met : List Reached) (file : File) (locals : Locals) (site : Site) (chain : Vec Cast Global) (operand : Box Expr Global) (x : Option (Box TExpr Global)) (r : Option TypedExpr) → IsValue met file locals site operand.value x → IsTypedFrom (λ program here x. IsOperand program here (E.Casts chain operand) x) x file locals site (E.Casts chain operand) r → IsTyped met file locals site (E.Casts chain operand) r
 unfolding IsPlain
-casts_typed file locals site chain operand x r = from_operand file locals site (E.Casts chain operand) operand.value x r (λ program here y h. h) (λ plain. plain)
+casts_typed met file locals site chain operand x r = from_operand met file locals site (E.Casts chain operand) operand.value x r (λ program here y h. h) (in_casts chain operand) (λ plain. plain)
 
-pub parallel_cast_typed : (file : File) (locals : Locals) (site : Site) (p : Place) (written : TypeName) (operand : Box Expr Global) (x : Option (Box TExpr Global)) (r : Option TypedExpr) → IsValue file locals site operand.value x → IsTypedFrom (λ program here x. IsOperand program here (E.ParallelCast p written operand) x) x file locals site (E.ParallelCast p written operand) r → IsTyped file locals site (E.ParallelCast p written operand) r
+pub parallel_cast_typed : (met : List Reached) (file : File) (locals : Locals) (site : Site) (p : Place) (written : TypeName) (operand : Box Expr Global) (x : Option (Box TExpr Global)) (r : Option TypedExpr) → IsValue met file locals site operand.value x → IsTypedFrom (λ program here x. IsOperand program here (E.ParallelCast p written operand) x) x file locals site (E.ParallelCast p written operand) r → IsTyped met file locals site (E.ParallelCast p written operand) r
 unfolding IsPlain
-parallel_cast_typed file locals site p written operand x r = from_operand file locals site (E.ParallelCast p written operand) operand.value x r (λ program here y h. h) (λ plain. plain)
+parallel_cast_typed met file locals site p written operand x r = from_operand met file locals site (E.ParallelCast p written operand) operand.value x r (λ program here y h. h) (in_parallel_cast p written operand) (λ plain. plain)
 
-pub postfix_typed : (file : File) (locals : Locals) (site : Site) (p : Place) (op : StepOp) (operand : Box Expr Global) (x : Option (Box TExpr Global)) (r : Option TypedExpr) → IsValue file locals site operand.value x → IsTypedFrom (λ program here x. IsOperand program here (E.Postfix p op operand) x) x file locals site (E.Postfix p op operand) r → IsTyped file locals site (E.Postfix p op operand) r
+pub postfix_typed : (met : List Reached) (file : File) (locals : Locals) (site : Site) (p : Place) (op : StepOp) (operand : Box Expr Global) (x : Option (Box TExpr Global)) (r : Option TypedExpr) → IsValue met file locals site operand.value x → IsTypedFrom (λ program here x. IsOperand program here (E.Postfix p op operand) x) x file locals site (E.Postfix p op operand) r → IsTyped met file locals site (E.Postfix p op operand) r
 unfolding IsPlain
-postfix_typed file locals site p op operand x r = from_operand file locals site (E.Postfix p op operand) operand.value x r (λ program here y h. h) (λ plain. plain)
+postfix_typed met file locals site p op operand x r = from_operand met file locals site (E.Postfix p op operand) operand.value x r (λ program here y h. h) (in_postfix p op operand) (λ plain. plain)
 
-pub at_index_typed : (file : File) (locals : Locals) (site : Site) (n : Name) (p : Place) (index : Box Expr Global) (x : Option (Box TExpr Global)) (r : Option TypedExpr) → IsValue file locals site index.value x → IsTypedFrom (λ program here x. IsOperand program here (E.Element n p index) x) x file locals site (E.Element n p index) r → IsTyped file locals site (E.Element n p index) r
+pub at_index_typed : (met : List Reached) (file : File) (locals : Locals) (site : Site) (n : Name) (p : Place) (index : Box Expr Global) (x : Option (Box TExpr Global)) (r : Option TypedExpr) → IsValue met file locals site index.value x → IsTypedFrom (λ program here x. IsOperand program here (E.Element n p index) x) x file locals site (E.Element n p index) r → IsTyped met file locals site (E.Element n p index) r
 unfolding IsPlain
-at_index_typed file locals site n p index x r = from_operand file locals site (E.Element n p index) index.value x r (λ program here y h. h) (λ plain. plain)
+at_index_typed met file locals site n p index x r = from_operand met file locals site (E.Element n p index) index.value x r (λ program here y h. h) (in_element n p index) (λ plain. plain)
 
 -- an expression with a list of parts
-pub from_list : (file : File) (locals : Locals) (site : Site) (e : Expr) (xs : Option (Vec (Box TExpr Global) Global)) (r : Option TypedExpr) → AreListed file locals site e xs → IsTypedFrom (λ program here xs. AreParts program here e xs) xs file locals site e r → IsTyped file locals site e r
-from_list file locals site e xs None l h = tt
-from_list file locals site e None (Some t) l h = λ program here a plain. absurd (h plain)
-from_list file locals site e (Some xs) (Some t) l h = λ program here a plain. h program here a (l program here a plain)
+pub list_typed : {E : Type 0} (before met : List Reached) (file : File) (locals : Locals) (site : Site) (e : Expr) (xs : Option (Vec (Box TExpr Global) Global)) (typed : Result (Option TypedExpr) E) → AreListed before file locals site e xs → OnOk typed (IsBeginning before met) → IfOk typed (IsTypedFromList met xs file locals site e) → IfOk typed (IsTyped met file locals site e)
+list_typed before met file locals site e xs (Err error) l begins h = tt
+list_typed before met file locals site e xs (Ok None) l begins h = tt
+list_typed before met file locals site e None (Ok (Some t)) l begins h = absurd h
+list_typed before met file locals site e (Some xs) (Ok (Some t)) l begins h = λ program here a calls plain. h program here a (l program here a (earlier begins calls) plain, calls)
+
+-- what is typed of parts that are given, whatever is known of the calls
+pub without_calls : (met : List Reached) (parts : Option (Vec (Box TExpr Global) Global)) (file : File) (locals : Locals) (site : Site) (e : Expr) (r : Option TypedExpr) → IsTypedFrom (λ program here xs. AreParts program here e xs) parts file locals site e r → IsTypedFromList met parts file locals site e r
+without_calls met parts file locals site e None h = tt
+without_calls met None file locals site e (Some t) h = h
+without_calls met (Some xs) file locals site e (Some t) h = λ program here a both. h program here a both.0
 
 -- an expression with two operands, or three
-pub both_typed : (file : File) (locals : Locals) (site : Site) (p : Place) (op : BinaryOp) (left right : Box Expr Global) (x y : Option (Box TExpr Global)) (r : Option TypedExpr) → IsValue file locals site left.value x → IsValue file locals site right.value y → OnBoth x y (E.Binary p op) r → IsTyped file locals site (E.Binary p op left right) r
+pub both_typed : (met : List Reached) (file : File) (locals : Locals) (site : Site) (p : Place) (op : BinaryOp) (left right : Box Expr Global) (x y : Option (Box TExpr Global)) (r : Option TypedExpr) → IsValue met file locals site left.value x → IsValue met file locals site right.value y → OnBoth x y (E.Binary p op) r → IsTyped met file locals site (E.Binary p op left right) r
 unfolding IsPlain
-both_typed file locals site p op left right x y None v w h = tt
-both_typed file locals site p op left right (Some x) (Some y) (Some t) v w h = λ program here a plain. h program here left right (v program here a plain.0) (w program here a plain.1)
-both_typed file locals site p op left right None y (Some t) v w h = absurd h
-both_typed file locals site p op left right (Some x) None (Some t) v w h = absurd h
+both_typed met file locals site p op left right x y None v w h = tt
+both_typed met file locals site p op left right (Some x) (Some y) (Some t) v w h = λ program here a calls plain. h program here left right (v program here a (narrowed (in_binary_left p op left right) calls) plain.0) (w program here a (narrowed (in_binary_right p op left right) calls) plain.1)
+both_typed met file locals site p op left right None y (Some t) v w h = absurd h
+both_typed met file locals site p op left right (Some x) None (Some t) v w h = absurd h
 
-pub three_typed : (file : File) (locals : Locals) (site : Site) (p : Place) (test second third : Box Expr Global) (x y z : Option (Box TExpr Global)) (r : Option TypedExpr) → IsValue file locals site test.value x → IsValue file locals site second.value y → IsValue file locals site third.value z → OnThree x y z (E.Choice p) r → IsTyped file locals site (E.Choice p test second third) r
+pub three_typed : (met : List Reached) (file : File) (locals : Locals) (site : Site) (p : Place) (test second third : Box Expr Global) (x y z : Option (Box TExpr Global)) (r : Option TypedExpr) → IsValue met file locals site test.value x → IsValue met file locals site second.value y → IsValue met file locals site third.value z → OnThree x y z (E.Choice p) r → IsTyped met file locals site (E.Choice p test second third) r
 unfolding IsPlain
-three_typed file locals site p test second third x y z None u v w h = tt
-three_typed file locals site p test second third (Some x) (Some y) (Some z) (Some t) u v w h = λ program here a plain. h program here test second third (u program here a plain.0) (v program here a plain.1) (w program here a plain.2)
-three_typed file locals site p test second third None y z (Some t) u v w h = absurd h
-three_typed file locals site p test second third (Some x) None z (Some t) u v w h = absurd h
-three_typed file locals site p test second third (Some x) (Some y) None (Some t) u v w h = absurd h
+three_typed met file locals site p test second third x y z None u v w h = tt
+three_typed met file locals site p test second third (Some x) (Some y) (Some z) (Some t) u v w h = λ program here a calls plain. h program here test second third (u program here a (narrowed (in_choice_test p test second third) calls) plain.0) (v program here a (narrowed (in_choice_second p test second third) calls) plain.1) (w program here a (narrowed (in_choice_third p test second third) calls) plain.2)
+three_typed met file locals site p test second third None y z (Some t) u v w h = absurd h
+three_typed met file locals site p test second third (Some x) None z (Some t) u v w h = absurd h
+three_typed met file locals site p test second third (Some x) (Some y) None (Some t) u v w h = absurd h
 
-pub assigned_typed : (file : File) (locals : Locals) (site : Site) (p : Place) (op : AssignOp) (target value : Box Expr Global) (x y : Option (Box TExpr Global)) (old new : Option Standing) (r : Option TypedExpr) → IsValue file locals site target.value x → IsValue file locals site value.value y → IsAssigned site p op x y old new r → IsTyped file locals site (E.Assign p op target value) r
+pub assigned_typed : (met : List Reached) (file : File) (locals : Locals) (site : Site) (p : Place) (op : AssignOp) (target value : Box Expr Global) (x y : Option (Box TExpr Global)) (old new : Option Standing) (r : Option TypedExpr) → IsValue met file locals site target.value x → IsValue met file locals site value.value y → IsAssigned site p op x y old new r → IsTyped met file locals site (E.Assign p op target value) r
 unfolding IsPlain
-assigned_typed file locals site p op target value x y old new None v w h = tt
-assigned_typed file locals site p op target value (Some x) (Some y) old new (Some t) v w h = λ program here a plain. (h program here target value a.at_site (v program here a plain.0) (w program here a plain.1)).0
-assigned_typed file locals site p op target value None y old new (Some t) v w h = absurd h
-assigned_typed file locals site p op target value (Some x) None old new (Some t) v w h = absurd h
+assigned_typed met file locals site p op target value x y old new None v w h = tt
+assigned_typed met file locals site p op target value (Some x) (Some y) old new (Some t) v w h = λ program here a calls plain. (h program here target value a.at_site (v program here a (narrowed (in_assignment_target p op target value) calls) plain.0) (w program here a (narrowed (in_assignment_value p op target value) calls) plain.1)).0
+assigned_typed met file locals site p op target value None y old new (Some t) v w h = absurd h
+assigned_typed met file locals site p op target value (Some x) None old new (Some t) v w h = absurd h
 
 -- ---- intrinsics along an axis
 
@@ -425,36 +422,36 @@ told_along file locals site e along source (Err u) old new None s h m = tt
 told_along file locals site e along source (Err u) old new (Some b) s h m = absurd m
 
 -- an intrinsic from its axis and its source
-from_axis : (file : File) (locals : Locals) (site : Site) (e axis : Expr) (x : Option (Box TExpr Global)) (found : Option Along) (along : Along) (source : Option (Box TExpr Global)) (r : Option TypedExpr) → ((program : Program) (here : Here) (y : Box TExpr Global) → IsPart program here axis y → IsAxisTyped program here e y) → (IsPlain e → IsPlain axis) → (HasItsSource e source → (program : Program) (here : Here) → IsAround file locals site here → IsPlain e → IsSource program here e source) → IsValue file locals site axis x → AreFoundAlong file locals site e x found → found ≡ Some along → IsTypedAlong file locals site e along source r → IsTyped file locals site e r
-from_axis file locals site e axis x found along source None brings plainly has v f is h = tt
-from_axis file locals site e axis None None along source (Some t) brings plainly has v f is h = absurd (cc)
-from_axis file locals site e axis None (Some b) along source (Some t) brings plainly has v f is h = absurd f
-from_axis file locals site e axis (Some x) None along source (Some t) brings plainly has v f is h = absurd (cc)
-from_axis file locals site e axis (Some x) (Some b) along source (Some t) brings plainly has v f is h = λ program here a plain.
-    let goes = subst (IsFoundAlong program here e) (let k : b ≡ along = cc in k) (f program here a plain (brings program here x (v program here a (plainly plain)))) in
-    h.1 program here a goes (has h.0 program here a plain)
+from_axis : (met : List Reached) (file : File) (locals : Locals) (site : Site) (e axis : Expr) (x : Option (Box TExpr Global)) (found : Option Along) (along : Along) (source : Option (Box TExpr Global)) (r : Option TypedExpr) → ((program : Program) (here : Here) (y : Box TExpr Global) → IsPart program here axis y → IsAxisTyped program here e y) → AreCallsOf axis e → (IsPlain e → IsPlain axis) → (HasItsSource e source → (program : Program) (here : Here) → IsAround file locals site here → HasItsCalls met file program here e → IsPlain e → IsSource program here e source) → IsValue met file locals site axis x → AreFoundAlong file locals site e x found → found ≡ Some along → IsTypedAlong file locals site e along source r → IsTyped met file locals site e r
+from_axis met file locals site e axis x found along source None brings within plainly has v f is h = tt
+from_axis met file locals site e axis None None along source (Some t) brings within plainly has v f is h = absurd (cc)
+from_axis met file locals site e axis None (Some b) along source (Some t) brings within plainly has v f is h = absurd f
+from_axis met file locals site e axis (Some x) None along source (Some t) brings within plainly has v f is h = absurd (cc)
+from_axis met file locals site e axis (Some x) (Some b) along source (Some t) brings within plainly has v f is h = λ program here a calls plain.
+    let goes = subst (IsFoundAlong program here e) (let k : b ≡ along = cc in k) (f program here a plain (brings program here x (v program here a (narrowed within calls) (plainly plain)))) in
+    h.1 program here a goes (has h.0 program here a calls plain)
 
-pub pcoord_typed : (file : File) (locals : Locals) (site : Site) (p : Place) (axis : Box Expr Global) (x : Option (Box TExpr Global)) (found : Option Along) (along : Along) (source : Option (Box TExpr Global)) (r : Option TypedExpr) → IsValue file locals site axis.value x → AreFoundAlong file locals site (E.Pcoord p axis) x found → found ≡ Some along → IsSourceValue file locals site (E.Pcoord p axis) source → IsTypedAlong file locals site (E.Pcoord p axis) along source r → IsTyped file locals site (E.Pcoord p axis) r
+pub pcoord_typed : (met : List Reached) (file : File) (locals : Locals) (site : Site) (p : Place) (axis : Box Expr Global) (x : Option (Box TExpr Global)) (found : Option Along) (along : Along) (source : Option (Box TExpr Global)) (r : Option TypedExpr) → IsValue met file locals site axis.value x → AreFoundAlong file locals site (E.Pcoord p axis) x found → found ≡ Some along → IsSourceValue met file locals site (E.Pcoord p axis) source → IsTypedAlong file locals site (E.Pcoord p axis) along source r → IsTyped met file locals site (E.Pcoord p axis) r
 unfolding IsPlain
-pcoord_typed file locals site p axis x found along source r v f is s h = from_axis file locals site (E.Pcoord p axis) axis.value x found along source r (λ program here y k. k) (λ plain. plain) (λ has program here a plain. tt) v f is h
+pcoord_typed met file locals site p axis x found along source r v f is s h = from_axis met file locals site (E.Pcoord p axis) axis.value x found along source r (λ program here y k. k) (in_pcoord p axis) (λ plain. plain) (λ has program here a calls plain. tt) v f is h
 
-pub dim_typed : (file : File) (locals : Locals) (site : Site) (p : Place) (shape : ShapeRef) (axis : Box Expr Global) (x : Option (Box TExpr Global)) (found : Option Along) (along : Along) (source : Option (Box TExpr Global)) (r : Option TypedExpr) → IsValue file locals site axis.value x → AreFoundAlong file locals site (E.DimOf p shape axis) x found → found ≡ Some along → IsSourceValue file locals site (E.DimOf p shape axis) source → IsTypedAlong file locals site (E.DimOf p shape axis) along source r → IsTyped file locals site (E.DimOf p shape axis) r
+pub dim_typed : (met : List Reached) (file : File) (locals : Locals) (site : Site) (p : Place) (shape : ShapeRef) (axis : Box Expr Global) (x : Option (Box TExpr Global)) (found : Option Along) (along : Along) (source : Option (Box TExpr Global)) (r : Option TypedExpr) → IsValue met file locals site axis.value x → AreFoundAlong file locals site (E.DimOf p shape axis) x found → found ≡ Some along → IsSourceValue met file locals site (E.DimOf p shape axis) source → IsTypedAlong file locals site (E.DimOf p shape axis) along source r → IsTyped met file locals site (E.DimOf p shape axis) r
 unfolding IsPlain
-dim_typed file locals site p shape axis x found along source r v f is s h = from_axis file locals site (E.DimOf p shape axis) axis.value x found along source r (λ program here y k. k) (λ plain. plain) (λ has program here a plain. tt) v f is h
+dim_typed met file locals site p shape axis x found along source r v f is s h = from_axis met file locals site (E.DimOf p shape axis) axis.value x found along source r (λ program here y k. k) (in_dim p shape axis) (λ plain. plain) (λ has program here a calls plain. tt) v f is h
 
-pub enumerate_typed : (file : File) (locals : Locals) (site : Site) (p : Place) (axis : Box Expr Global) (direction : Direction) (reach : Inclusion) (mode : SegmentMode) (bit : Option Name) (x : Option (Box TExpr Global)) (found : Option Along) (along : Along) (source : Option (Box TExpr Global)) (r : Option TypedExpr) → IsValue file locals site axis.value x → AreFoundAlong file locals site (E.Enumerate p axis direction reach mode bit) x found → found ≡ Some along → IsSourceValue file locals site (E.Enumerate p axis direction reach mode bit) source → IsTypedAlong file locals site (E.Enumerate p axis direction reach mode bit) along source r → IsTyped file locals site (E.Enumerate p axis direction reach mode bit) r
+pub enumerate_typed : (met : List Reached) (file : File) (locals : Locals) (site : Site) (p : Place) (axis : Box Expr Global) (direction : Direction) (reach : Inclusion) (mode : SegmentMode) (bit : Option Name) (x : Option (Box TExpr Global)) (found : Option Along) (along : Along) (source : Option (Box TExpr Global)) (r : Option TypedExpr) → IsValue met file locals site axis.value x → AreFoundAlong file locals site (E.Enumerate p axis direction reach mode bit) x found → found ≡ Some along → IsSourceValue met file locals site (E.Enumerate p axis direction reach mode bit) source → IsTypedAlong file locals site (E.Enumerate p axis direction reach mode bit) along source r → IsTyped met file locals site (E.Enumerate p axis direction reach mode bit) r
 unfolding IsPlain
-enumerate_typed file locals site p axis direction reach mode bit x found along source r v f is s h = from_axis file locals site (E.Enumerate p axis direction reach mode bit) axis.value x found along source r (λ program here y k. k) (λ plain. plain) (λ has program here a plain. tt) v f is h
+enumerate_typed met file locals site p axis direction reach mode bit x found along source r v f is s h = from_axis met file locals site (E.Enumerate p axis direction reach mode bit) axis.value x found along source r (λ program here y k. k) (in_enumerate p axis direction reach mode bit) (λ plain. plain) (λ has program here a calls plain. tt) v f is h
 
-source_there : (file : File) (locals : Locals) (site : Site) (p : Place) (from axis : Box Expr Global) (combiner : Combiner) (direction : Direction) (mode : SegmentMode) (bit : Option Name) (reach : Inclusion) (source : Option (Box TExpr Global)) → IsValue file locals site from.value source → HasItsSource (E.Scan p from axis combiner direction mode bit reach) source → (program : Program) (here : Here) → IsAround file locals site here → IsPlain (E.Scan p from axis combiner direction mode bit reach) → IsSource program here (E.Scan p from axis combiner direction mode bit reach) source
+source_there : (met : List Reached) (file : File) (locals : Locals) (site : Site) (p : Place) (from axis : Box Expr Global) (combiner : Combiner) (direction : Direction) (mode : SegmentMode) (bit : Option Name) (reach : Inclusion) (source : Option (Box TExpr Global)) → IsValue met file locals site from.value source → HasItsSource (E.Scan p from axis combiner direction mode bit reach) source → (program : Program) (here : Here) → IsAround file locals site here → HasItsCalls met file program here (E.Scan p from axis combiner direction mode bit reach) → IsPlain (E.Scan p from axis combiner direction mode bit reach) → IsSource program here (E.Scan p from axis combiner direction mode bit reach) source
 unfolding IsPlain
-source_there file locals site p from axis combiner direction mode bit reach None v has program here a plain = has
-source_there file locals site p from axis combiner direction mode bit reach (Some y) v has program here a plain = v program here a plain.0
+source_there met file locals site p from axis combiner direction mode bit reach None v has program here a calls plain = has
+source_there met file locals site p from axis combiner direction mode bit reach (Some y) v has program here a calls plain = v program here a (narrowed (in_scan_source p from axis combiner direction mode bit reach) calls) plain.0
 
-pub scan_typed : (file : File) (locals : Locals) (site : Site) (p : Place) (from axis : Box Expr Global) (combiner : Combiner) (direction : Direction) (mode : SegmentMode) (bit : Option Name) (reach : Inclusion) (x : Option (Box TExpr Global)) (found : Option Along) (along : Along) (source : Option (Box TExpr Global)) (r : Option TypedExpr) → IsValue file locals site axis.value x → AreFoundAlong file locals site (E.Scan p from axis combiner direction mode bit reach) x found → found ≡ Some along → IsSourceValue file locals site (E.Scan p from axis combiner direction mode bit reach) source → IsTypedAlong file locals site (E.Scan p from axis combiner direction mode bit reach) along source r → IsTyped file locals site (E.Scan p from axis combiner direction mode bit reach) r
+pub scan_typed : (met : List Reached) (file : File) (locals : Locals) (site : Site) (p : Place) (from axis : Box Expr Global) (combiner : Combiner) (direction : Direction) (mode : SegmentMode) (bit : Option Name) (reach : Inclusion) (x : Option (Box TExpr Global)) (found : Option Along) (along : Along) (source : Option (Box TExpr Global)) (r : Option TypedExpr) → IsValue met file locals site axis.value x → AreFoundAlong file locals site (E.Scan p from axis combiner direction mode bit reach) x found → found ≡ Some along → IsSourceValue met file locals site (E.Scan p from axis combiner direction mode bit reach) source → IsTypedAlong file locals site (E.Scan p from axis combiner direction mode bit reach) along source r → IsTyped met file locals site (E.Scan p from axis combiner direction mode bit reach) r
 unfolding IsPlain
-scan_typed file locals site p from axis combiner direction mode bit reach x found along source r v f is s h =
-    from_axis file locals site (E.Scan p from axis combiner direction mode bit reach) axis.value x found along source r (λ program here y k. k) (λ plain. plain.1) (source_there file locals site p from axis combiner direction mode bit reach source s) v f is h
+scan_typed met file locals site p from axis combiner direction mode bit reach x found along source r v f is s h =
+    from_axis met file locals site (E.Scan p from axis combiner direction mode bit reach) axis.value x found along source r (λ program here y k. k) (in_scan_axis p from axis combiner direction mode bit reach) (λ plain. plain.1) (source_there met file locals site p from axis combiner direction mode bit reach source s) v f is h
 
 pub if_answer : (P : Program → Here → Type 0) (e : Expr) (typed : Result TExpr Untyped) → ((program : Program) (here : Here) → P program here → IsAnswerOrMemory program here e typed) → IfOk typed (λ t. (program : Program) (here : Here) → P program here → Types program here e t true)
 if_answer P e (Ok t) h = h

@@ -9,7 +9,7 @@ use Rattle.cstar_tree.specs.declared.typed.Variable.{Variable}
 use Rattle.constant_trees.specs.Words.{HasFewPositions}
 use Rattle.cstar_tree.specs.Constants.{axis_among, constant_number}
 use Rattle.cstar_tree.specs.ExpressionTypes.{Types, TypesEach, TypesIndexes}
-use Rattle.cstar_tree.specs.Headers.{Program}
+use Rattle.cstar_tree.specs.Headers.{Program, Reached}
 use Rattle.cstar_tree.specs.Scopes.{Here, VariableType, a_shape, a_variable, extents_of, meaning, part, shape_of}
 use Rattle.type_scopes.specs.FileBindings.{names_at}
 use Rattle.type_scopes.specs.declared.file.File.{File}
@@ -19,6 +19,7 @@ use Rattle.type_scopes.specs.Shapes.{rank_of}
 use Rattle.type_expressions.specs.Along.{AreBits, IsAlong}
 use Rattle.type_expressions.specs.Answers.{HasShapes, IsSite, trees}
 use Rattle.type_expressions.specs.Names.{HasNames}
+use Rattle.type_expressions.specs.Programs.{HasItsCalls}
 use Rattle.type_expressions.specs.declared.found.TypedExpr.{TypedExpr}
 use Rattle.type_expressions.specs.declared.intrinsics.Axis.TheVariants as A
 use Rattle.type_expressions.specs.declared.walk.Along.{Along}
@@ -41,8 +42,7 @@ pub record IsAround (file : File) (locals : Locals) (site : Site) (here : Here) 
   pub known : HasItsShapes here
   pub few : HasFewPositions here
 
--- No function is called in the expression. Its numbers are below 2^32, and so are as many indexes as
--- stand before a name.
+-- the numbers in the expression are below 2^32, and so are as many indexes as stand before a name
 unfoldable mutual
   pub IsPlain : Expr → Type 0
   IsPlain (E.Assign' p op _ target _ value) = IsPlain target × IsPlain value
@@ -55,7 +55,7 @@ unfoldable mutual
   IsPlain (E.Element' n bracket _ index) = IsPlain index
   IsPlain (E.Number p value u) = value < 2 ^ 32
   IsPlain (E.Brackets' p _ inner) = IsPlain inner
-  IsPlain (E.Call' n _ arguments) = ⊥
+  IsPlain (E.Call' n _ arguments) = ArePlain arguments
   IsPlain (E.LeftIndex' p _ indexes n) = (length (items-the_row-Expr _ indexes) < 2 ^ 32) × ArePlain indexes
   IsPlain (E.Pcoord' p _ axis) = IsPlain axis
   IsPlain (E.DimOf' p shape _ axis) = IsPlain axis
@@ -68,20 +68,21 @@ unfoldable mutual
   ArePlain end_of-Expr = Unit {0}
   ArePlain (more_of-Expr e rest) = IsPlain e × ArePlain rest
 
--- what is typed is what the rules give the expression at its place
-abbrev pub IsTyped : File → Locals → Site → Expr → Option TypedExpr → Type 0
-IsTyped file locals site e None = Unit {0}
-IsTyped file locals site e (Some t) = (program : Program) (here : Here) → IsAround file locals site here → IsPlain e → Types program here e t.expr.value t.has_value
+-- what is typed is what the rules give the expression at its place, where these instances were met
+-- so far
+abbrev pub IsTyped : List Reached → File → Locals → Site → Expr → Option TypedExpr → Type 0
+IsTyped met file locals site e None = Unit {0}
+IsTyped met file locals site e (Some t) = (program : Program) (here : Here) → IsAround file locals site here → HasItsCalls met file program here e → IsPlain e → Types program here e t.expr.value t.has_value
 
 -- so is a part, which needs a value
-abbrev pub IsValue : File → Locals → Site → Expr → Option (Box TExpr Global) → Type 0
-IsValue file locals site e None = Unit {0}
-IsValue file locals site e (Some x) = (program : Program) (here : Here) → IsAround file locals site here → IsPlain e → Types program (part here) e x.value true
+abbrev pub IsValue : List Reached → File → Locals → Site → Expr → Option (Box TExpr Global) → Type 0
+IsValue met file locals site e None = Unit {0}
+IsValue met file locals site e (Some x) = (program : Program) (here : Here) → IsAround file locals site here → HasItsCalls met file program here e → IsPlain e → Types program (part here) e x.value true
 
 -- what is typed from parts is what the rules give the expression with such parts
 abbrev pub IsTypedFrom : {X : Type 0} → (Program → Here → X → Type 0) → Option X → File → Locals → Site → Expr → Option TypedExpr → Type 0
 IsTypedFrom are parts file locals site e None = Unit {0}
-IsTypedFrom are None file locals site e (Some t) = IsPlain e → ⊥
+IsTypedFrom are None file locals site e (Some t) = ⊥
 IsTypedFrom are (Some parts) file locals site e (Some t) = (program : Program) (here : Here) → IsAround file locals site here → are program here parts → Types program here e t.expr.value t.has_value
 
 abbrev pub IsPart : Program → Here → Expr → Box TExpr Global → Type 0
@@ -96,15 +97,20 @@ IsOperand program here (E.Postfix' p op _ operand) x = IsPart program here opera
 IsOperand program here (E.Element' n bracket _ index) x = IsPart program here index x
 IsOperand program here _ x = ⊥
 
--- the arguments of `printf`, or the indexes of a left index
+-- the arguments of a call or of `printf`, or the indexes of a left index
 abbrev pub AreParts : Program → Here → Expr → Vec (Box TExpr Global) Global → Type 0
 AreParts program here (E.LeftIndex' p _ indexes n) xs = TypesIndexes program here n 0 (items-the_row-Expr _ indexes) (trees xs.items)
+AreParts program here (E.Call' n _ arguments) xs = TypesEach program (part here) (items-the_row-Expr _ arguments) (trees xs.items)
 AreParts program here (E.Printf' p text _ arguments) xs = TypesEach program (part here) (items-the_row-Expr _ arguments) (trees xs.items)
 AreParts program here _ xs = ⊥
 
-abbrev pub AreListed : File → Locals → Site → Expr → Option (Vec (Box TExpr Global) Global) → Type 0
-AreListed file locals site e None = Unit {0}
-AreListed file locals site e (Some xs) = (program : Program) (here : Here) → IsAround file locals site here → IsPlain e → AreParts program here e xs
+abbrev pub AreListed : List Reached → File → Locals → Site → Expr → Option (Vec (Box TExpr Global) Global) → Type 0
+AreListed met file locals site e None = Unit {0}
+AreListed met file locals site e (Some xs) = (program : Program) (here : Here) → IsAround file locals site here → HasItsCalls met file program here e → IsPlain e → AreParts program here e xs
+
+-- the whole from its list
+abbrev pub IsTypedFromList : List Reached → Option (Vec (Box TExpr Global) Global) → File → Locals → Site → Expr → Option TypedExpr → Type 0
+IsTypedFromList met parts file locals site e t = IsTypedFrom (λ program here xs. AreParts program here e xs × HasItsCalls met file program here e) parts file locals site e t
 
 -- what a `.` stands for in a part of a list, if it stands for an axis
 abbrev pub dot_at : Option Bool → Option ℕ → ℕ → Option ℕ
@@ -133,9 +139,9 @@ IsSource program here (E.Scan' p _ source _ axis _ _ _ bit _) None = ⊥
 IsSource program here (E.Scan' p _ source _ axis _ _ _ bit _) (Some x) = IsPart program here source x
 IsSource program here _ x = Unit {0}
 
-abbrev pub IsSourceValue : File → Locals → Site → Expr → Option (Box TExpr Global) → Type 0
-IsSourceValue file locals site (E.Scan' p _ source _ axis _ _ _ bit _) x = IsValue file locals site source x
-IsSourceValue file locals site _ x = Unit {0}
+abbrev pub IsSourceValue : List Reached → File → Locals → Site → Expr → Option (Box TExpr Global) → Type 0
+IsSourceValue met file locals site (E.Scan' p _ source _ axis _ _ _ bit _) x = IsValue met file locals site source x
+IsSourceValue met file locals site _ x = Unit {0}
 
 abbrev pub HasItsSource : Expr → Option (Box TExpr Global) → Type 0
 HasItsSource (E.Scan' p _ source _ axis _ _ _ bit _) None = ⊥

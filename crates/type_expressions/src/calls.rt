@@ -6,13 +6,16 @@ ghost use Rattle.cstar_tree.specs.Headers.{Program};
 ghost use Rattle.cstar_tree.specs.Scopes.{Here, part};
 ghost use Rattle.cstar_tree.specs.declared.syntax.Expr as E;
 ghost use Rattle.cstar_tree.specs.declared.syntax.Expr.{Expr};
-ghost use Rattle.std.specs.Prelude.{◌≡◌, ◌↔◌, List, IfOk, IsTrue, MatchResult, Some, Vec, length, map};
-ghost use Rattle.std.specs.List.{list_any, slice_get};
+ghost use Rattle.std.specs.Prelude.{◌≡◌, ◌↔◌, List, IfOk, IfSome, IsTrue, MatchResult, OnOk, Some, Bool, Vec, false, is_some, length, map};
+ghost use Rattle.std.specs.List.{list_all, list_any, slice_get};
 ghost use Rattle.std.specs.Option.{option_flatten};
 ghost use Rattle.std.specs.declared.alloc.Global.{Global};
 ghost use Rattle.type_scopes.specs.declared.faults.Untyped.TheVariants as U;
 ghost use Rattle.cstar_tree.specs.declared.typed.ValueType.{ValueType};
-ghost use Rattle.type_expressions.specs.Calls.{TakesParallel, is_unfit};
+ghost use Rattle.type_scopes.specs.Headers.{IsOfGroup, returned};
+ghost use Rattle.type_expressions.specs.Calls.{HasTypes, IsCallTo, IsGiven, IsReached, TakesParallel, is_unfit};
+ghost use Rattle.type_expressions.specs.Instances.{IsBeginning, instance_of, met};
+ghost use Rattle.type_expressions.specs.Walks.{IsTypedFromList};
 ghost use Rattle.type_expressions.specs.Answers.{IsFaultOrMemory, is_parallel, trees};
 
 use crate::found::{Found, TypedExpr, Typing};
@@ -75,36 +78,82 @@ fn parameter_type(parameters: &[Option<ValueType>], number: usize) -> Option<Val
     *parameters.get(number)?
 }
 
+/// The arguments as they are.
+fn unboxed(alloc: Global, arguments: Vec<Box<TExpr>>) -> Result<Vec<TExpr>, Memory>
+    ensures { IfOk result (λ values. values.items ≡ trees arguments.items) }
+{
+    let mut values = Vec::new(alloc);
+    for argument in arguments {
+        values.push(Box::into_inner(argument))?;
+    }
+    Ok(values)
+}
+
+/// Has each parameter a type?
+fn has_types(header: &Header) -> bool
+    ensures { result ≡ list_all is_some header.now.parameters.items }
+{
+    header.parameters.iter().all(|ty| ty.is_some())
+}
+
+/// What a call gives, and whether it has a value. At file scope a result whose type has a fault is
+/// taken for an `int`, since the call is no constant anyway.
+fn given(returns: Returns, is_inside: bool) -> Option<(ValueType, bool)>
+    ensures { IfSome result (λ r. IsGiven is_inside (returned returns) r.0 r.1) }
+{
+    match returns {
+        Returns::Nothing => Some((INT, false)),
+        Returns::Value(ty) => Some((ty, true)),
+        Returns::Unknown => { if is_inside { None } else { Some((INT, true)) } }
+    }
+}
+
 /// A call of the instance with its arguments at the types of the header, if all its parameters have
-/// one. A call at file scope reaches no instance. It is no constant, and what stands for it is
-/// refused as it would be.
+/// one.
 fn call_node(
     alloc: Global,
     header: &Header,
     instance: Option<u32>,
     arguments: Vec<Box<TExpr>>,
-) -> Result<TypedExpr, Untyped> {
-    if header.parameters.iter().any(|ty| ty.is_none()) {
+) -> Result<TypedExpr, Untyped>
+    ensures { length header.now.parameters.items ≡ length arguments.items → (TakesParallel header.now.parameters.items (trees arguments.items) → ⊥) → IfOk result (λ t. IsCallTo header.now (trees arguments.items) instance t.expr.value t.has_value) }
+{
+    if !has_types(header) {
         return Err(Untyped::Faulty);
     }
-    let (ty, has_value) = match header.returns {
-        Returns::Nothing => (INT, false),
-        Returns::Value(ty) => (ty, true),
-        Returns::Unknown if instance.is_none() => (INT, true),
-        Returns::Unknown => return Err(Untyped::Faulty),
+    let Some((ty, has_value)) = given(header.returns, instance.is_some()) else {
+        return Err(Untyped::Faulty);
     };
-    let expr = match instance {
-        Some(instance) => TExpr::Call {
-            ty,
-            instance,
-            arguments: fit_arguments(alloc, header.parameters.as_slice(), arguments)?,
-        },
-        None => TExpr::GetChar { ty: INT },
-    };
+    let expr = call_tree(alloc, header, ty, instance, arguments)?;
     Ok(TypedExpr {
         expr: Box::new(alloc, expr)?,
         has_value,
     })
+}
+
+/// A call that gives the type. One at file scope reaches no instance and is never evaluated, and its
+/// arguments stay as they are.
+fn call_tree(
+    alloc: Global,
+    header: &Header,
+    ty: ValueType,
+    instance: Option<u32>,
+    arguments: Vec<Box<TExpr>>,
+) -> Result<TExpr, Untyped>
+    ensures { (has_value : Bool) → HasTypes header.now.parameters.items → IsGiven (is_some instance) (returned header.now.returns) ty has_value → length header.now.parameters.items ≡ length arguments.items → (TakesParallel header.now.parameters.items (trees arguments.items) → ⊥) → IfOk result (λ t. IsCallTo header.now (trees arguments.items) instance t has_value) }
+{
+    match instance {
+        Some(instance) => Ok(TExpr::Call {
+            ty,
+            instance,
+            arguments: fit_arguments(alloc, header.parameters.as_slice(), arguments)?,
+        }),
+        None => Ok(TExpr::Call {
+            ty,
+            instance: 0,
+            arguments: unboxed(alloc, arguments)?,
+        }),
+    }
 }
 
 /// Does the call at the place fit the header?
@@ -115,7 +164,11 @@ fn call_fits(
     function: u32,
     header: &Header,
     arguments: &[Box<TExpr>],
-) -> Result<(), Untyped> {
+) -> Result<(), Untyped>
+    ensures shape { IfOk result (λ _. header.now.other_shape ≡ false) }
+    ensures arguments { IfOk result (λ _. (TakesParallel header.now.parameters.items (trees arguments.now) → ⊥) × (length header.now.parameters.items ≡ length arguments.now)) }
+    ensures recursion { IfOk result (λ _. IsOfGroup file.now site.function function → ⊥) }
+{
     if header.other_shape {
         Err(fault(Fault::OtherShape, place))
     } else if has_parallel_argument(header, arguments) {
@@ -137,7 +190,10 @@ pub fn call(
     site: Site,
     name: &Name,
     arguments: Option<Vec<Box<TExpr>>>,
-) -> Typing {
+) -> Typing
+    ensures typed { (given : Vec Expr Global) → IfOk result (IsTypedFromList (met found.new.instances) arguments file.now locals.now site (E.Call name.now given)) }
+    ensures met { OnOk result (IsBeginning (met found.old.instances) (met found.new.instances)) }
+{
     let Some(function) = found.faults.settle(file.called(locals, site, name))? else {
         return Ok(None);
     };
@@ -145,31 +201,30 @@ pub fn call(
         function,
         current: site.current,
     };
-    let instance = reach(found, file, site, reached)?;
+    let header = file.header(reached)?;
+    let instance = reach(found, site, reached, &header)?;
     let Some(arguments) = arguments else {
         return Ok(None);
     };
-    let typed = match found.instances.header(reached) {
-        Some(header) => fitting_call(
-            file, site, name.place, function, header, instance, arguments,
-        ),
-        None => Err(Untyped::Faulty),
-    };
-    found.faults.settle(typed)
+    found.faults.settle(fitting_call(
+        file, site, name.place, function, &header, instance, arguments,
+    ))
 }
 
-/// The instance that a call reaches, if it stands in a function. Its header is known then.
+/// The number of the instance that a call reaches, if it stands in a function.
 fn reach(
     found: &mut Found,
-    file: &File<'_>,
     site: Site,
     reached: Reached,
-) -> Result<Option<u32>, Memory> {
-    if site.function.is_none() {
-        found.instances.prepare(file, reached)?;
-        return Ok(None);
+    header: &Header,
+) -> Result<Option<u32>, Memory>
+    ensures number { IfOk result (IsReached (met found.new.instances) site.function (instance_of reached)) }
+    ensures met { OnOk result (IsBeginning (met found.old.instances) (met found.new.instances)) }
+{
+    match site.function {
+        Some(_) => Ok(Some(found.reach(reached, header)?)),
+        None => Ok(None),
     }
-    Ok(Some(found.reach(file, reached)?))
 }
 
 fn fitting_call(
@@ -180,7 +235,11 @@ fn fitting_call(
     header: &Header,
     instance: Option<u32>,
     arguments: Vec<Box<TExpr>>,
-) -> Result<TypedExpr, Untyped> {
+) -> Result<TypedExpr, Untyped>
+    ensures shape { IfOk result (λ _. header.now.other_shape ≡ false) }
+    ensures recursion { IfOk result (λ _. IsOfGroup file.now site.function function → ⊥) }
+    ensures typed { IfOk result (λ t. IsCallTo header.now (trees arguments.items) instance t.expr.value t.has_value) }
+{
     call_fits(file, site, place, function, header, arguments.as_slice())?;
     call_node(file.alloc, header, instance, arguments)
 }

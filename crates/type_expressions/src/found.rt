@@ -5,10 +5,9 @@ ghost use Rattle.type_expressions.specs.Answers.{IsOutcome};
 
 use cstar_base::{Fault, Memory, Place};
 use cstar_tree::typed::TExpr;
-use indexmap::{IndexMap, IndexSet};
+use indexmap::IndexSet;
 use std::alloc::Global;
 use type_scopes::faults::{Faults, Untyped};
-use type_scopes::file::File;
 use type_scopes::headers::{Header, Reached};
 use type_scopes::sites::Site;
 
@@ -22,55 +21,57 @@ pub struct TypedExpr {
 /// A typed expression, or nothing where it has a fault or stands on a declaration that has one.
 pub type Typing = Result<Option<TypedExpr>, Memory>;
 
-/// The headers that were typed, the instances in the order in which they were met, and those that
-/// the present one calls.
+/// The instances in the order in which they were met, and those that the present one calls.
 #[derive(Drop)]
 pub struct Instances {
-    headers: IndexMap<Reached, Header>,
     reached: IndexSet<Reached>,
     callees: Vec<u32>,
 }
 
 impl Instances {
-    pub fn new(alloc: Global) -> Instances {
+    ghost use Rattle.std.specs.Prelude.{◌≡◌, ◌∷◌, ◌++◌, [], not, slice_get, Some, IfOk};
+    ghost use Rattle.std.specs.Option.{option_map};
+    ghost use Rattle.cstar_tree.specs.Instances.{is_met};
+    ghost use Rattle.type_expressions.specs.Instances.{instance_of, met, with_met};
+
+    pub fn new(alloc: Global) -> Instances
+        ensures met { met result ≡ [] }
+        ensures callees { result.callees.items ≡ [] }
+    {
         Instances {
-            headers: IndexMap::new(alloc),
             reached: IndexSet::new(alloc),
             callees: Vec::new(alloc),
         }
     }
 
     /// The instance of the number.
-    pub fn instance(&self, number: usize) -> Option<Reached> {
+    pub fn instance(&self, number: usize) -> Option<Reached>
+        ensures { option_map instance_of result ≡ slice_get (met self.now) number }
+    {
         self.reached.get_index(number).copied()
-    }
-
-    /// The header of an instance that was reached.
-    pub fn header(&self, reached: Reached) -> Option<&Header> {
-        self.headers.get(&reached)
     }
 
     /// The instances that the present one calls, each as often as it does. The next one calls none
     /// yet.
-    pub fn callees(&mut self, alloc: Global) -> Vec<u32> {
+    pub fn callees(&mut self, alloc: Global) -> Vec<u32>
+        ensures callees { result.items ≡ self.old.callees.items }
+        ensures none { self.new.callees.items ≡ [] }
+        ensures met { met self.new ≡ met self.old }
+    {
         std::mem::replace(&mut self.callees, Vec::new(alloc))
     }
 
-    /// Types the header of the instance, unless that was done before.
-    pub fn prepare(&mut self, file: &File<'_>, reached: Reached) -> Result<(), Memory> {
-        if !self.headers.contains_key(&reached) {
-            let header = file.header(reached)?;
-            self.headers.insert(reached, header)?;
-        }
-        Ok(())
-    }
-
     /// Calls the instance. Answers its number, and whether it is met for the first time.
-    fn call(&mut self, reached: Reached) -> Result<(u32, bool), Memory> {
-        let (number, new) = self.reached.insert_full(reached)?;
+    fn call(&mut self, reached: Reached) -> Result<(u32, bool), Memory>
+        ensures number { IfOk result (λ r. slice_get (met self.new) r.0 ≡ Some (instance_of reached)) }
+        ensures is_new { IfOk result (λ r. r.1 ≡ not (is_met (instance_of reached) (met self.old))) }
+        ensures met { IfOk result (λ r. met self.new ≡ with_met (instance_of reached) (met self.old)) }
+        ensures callees { IfOk result (λ r. self.new.callees.items ≡ self.old.callees.items ++ r.0 ∷ []) }
+    {
+        let (number, is_new) = self.reached.insert_full(reached)?;
         let number = u32::try_from(number).map_err(|_error| Memory)?;
         self.callees.push(number)?;
-        Ok((number, new))
+        Ok((number, is_new))
     }
 }
 
@@ -84,7 +85,12 @@ pub struct Found {
 }
 
 impl Found {
-    pub fn new(alloc: Global) -> Found {
+    ghost use Rattle.std.specs.Prelude.{◌≡◌, [], slice_get, Some, IfOk};
+    ghost use Rattle.type_expressions.specs.Instances.{instance_of, met, with_met};
+
+    pub fn new(alloc: Global) -> Found
+        ensures { met result.instances ≡ [] }
+    {
         Found {
             faults: Faults::none(),
             instances: Instances::new(alloc),
@@ -93,19 +99,25 @@ impl Found {
     }
 
     /// Counts nodes of the tree.
-    pub fn count(&mut self, nodes: u64) {
+    pub fn count(&mut self, nodes: u64)
+        ensures { self.new.instances ≡ self.old.instances }
+    {
         self.nodes = self.nodes.saturating_add(nodes);
     }
 
     /// Takes the faults so far out, so that those of the next part are seen alone.
-    pub fn set_aside(&mut self) -> Faults {
+    pub fn set_aside(&mut self) -> Faults
+        ensures { self.new.instances ≡ self.old.instances }
+    {
         std::mem::replace(&mut self.faults, Faults::none())
     }
 
     /// Takes the earlier faults in again behind an expression at the place that is to be constant.
     /// Outside all functions one that has neither a type nor a fault of its own calls a function
     /// with a faulty header, and no call is constant there.
-    pub fn expect_constant(&mut self, site: Site, place: Place, is_typed: bool, earlier: Faults) {
+    pub fn expect_constant(&mut self, site: Site, place: Place, is_typed: bool, earlier: Faults)
+        ensures { self.new.instances ≡ self.old.instances }
+    {
         if !is_typed && site.function.is_none() && self.faults.least.is_none() {
             self.faults.stands(Fault::Constant, place);
         }
@@ -114,12 +126,13 @@ impl Found {
 
     /// The number of the instance, which is called here. Where it is met for the first time the
     /// faults of its header stand.
-    pub fn reach(&mut self, file: &File<'_>, reached: Reached) -> Result<u32, Memory> {
-        self.instances.prepare(file, reached)?;
-        let (number, new) = self.instances.call(reached)?;
-        if new && let Some(header) = self.instances.header(reached) {
-            let faults = header.faults;
-            self.faults.include(faults);
+    pub fn reach(&mut self, reached: Reached, header: &Header) -> Result<u32, Memory>
+        ensures number { IfOk result (λ number. slice_get (met self.new.instances) number ≡ Some (instance_of reached)) }
+        ensures met { IfOk result (λ number. met self.new.instances ≡ with_met (instance_of reached) (met self.old.instances)) }
+    {
+        let (number, is_new) = self.instances.call(reached)?;
+        if is_new {
+            self.faults.include(header.faults);
         }
         Ok(number)
     }

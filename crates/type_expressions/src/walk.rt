@@ -17,7 +17,8 @@ ghost use Rattle.type_scopes.specs.declared.sites.Site.{Site};
 ghost use Rattle.type_expressions.specs.Along.{IsAxisOf, number_of_constant};
 ghost use Rattle.type_expressions.specs.Names.{IsVariableMeant};
 ghost use Rattle.type_expressions.specs.Answers.{IsAssigned, OnBoth, OnThree};
-ghost use Rattle.type_expressions.specs.Walks.{AreFoundAlong, AreListed, AreMore, AreParts, HasItsSource, IsAround, IsFoundAlong, IsOperand, IsPart, IsSource, IsSourceValue, IsTyped, IsTypedAlong, IsTypedFrom, IsValue, dot_at, rank_under};
+ghost use Rattle.type_expressions.specs.Instances.{IsBeginning, met};
+ghost use Rattle.type_expressions.specs.Walks.{AreFoundAlong, AreListed, AreMore, AreParts, HasItsSource, IsAround, IsFoundAlong, IsOperand, IsPart, IsSource, IsSourceValue, IsTyped, IsTypedAlong, IsTypedFrom, IsTypedFromList, IsValue, dot_at, rank_under};
 
 use crate::calls::{call, printf};
 use crate::found::{Found, TypedExpr, Typing, outcome};
@@ -48,7 +49,8 @@ pub fn typed_value(
     site: Site,
     e: &Expr,
 ) -> Result<Option<Box<TExpr>>, Memory>
-    ensures { IfOk result (IsValue file.now locals.now site e.now) }
+    ensures typed { IfOk result (IsValue (met found.new.instances) file.now locals.now site e.now) }
+    ensures met { OnOk result (IsBeginning (met found.old.instances) (met found.new.instances)) }
 {
     let typed = typed_expr(found, file, locals, site.part(), e)?;
     found.faults.settle(valued(e.place(), typed))
@@ -63,7 +65,8 @@ fn axis_value(
     site: Site,
     axis: &Expr,
 ) -> Result<Option<Box<TExpr>>, Memory>
-    ensures { IfOk result (IsValue file.now locals.now site axis.now) }
+    ensures typed { IfOk result (IsValue (met found.new.instances) file.now locals.now site axis.now) }
+    ensures met { OnOk result (IsBeginning (met found.old.instances) (met found.new.instances)) }
 {
     let earlier = found.set_aside();
     let typed = typed_value(found, file, locals, site, axis)?;
@@ -79,7 +82,8 @@ pub fn typed_constant(
     site: Site,
     e: &Expr,
 ) -> Typing
-    ensures { IfOk result (IsTyped file.now locals.now (record site { whole = false }) e.now) }
+    ensures typed { IfOk result (IsTyped (met found.new.instances) file.now locals.now (record site { whole = false }) e.now) }
+    ensures met { OnOk result (IsBeginning (met found.old.instances) (met found.new.instances)) }
 {
     let earlier = found.set_aside();
     let typed = typed_expr(found, file, locals, site.part(), e)?;
@@ -110,7 +114,8 @@ pub fn typed_expr(
     site: Site,
     e: &Expr,
 ) -> Typing
-    ensures { IfOk result (IsTyped file.now locals.now site e.now) }
+    ensures typed { IfOk result (IsTyped (met found.new.instances) file.now locals.now site e.now) }
+    ensures met { OnOk result (IsBeginning (met found.old.instances) (met found.new.instances)) }
 {
     found.count(nodes(file, locals, site, e));
     match e {
@@ -127,7 +132,7 @@ pub fn typed_expr(
         | Expr::Postfix { operand: part, .. }
         | Expr::Element { index: part, .. } => {
             let part = typed_value(found, file, locals, site, part)?;
-            with_operand(found, file, locals, site, e, part)
+            with_operand(&mut found.faults, file, locals, site, e, part)
         }
         Expr::Call { .. } | Expr::Printf { .. } | Expr::LeftIndex { .. } => {
             let parts = list(found, file, locals, site, e)?;
@@ -158,7 +163,8 @@ fn source_value(
     site: Site,
     e: &Expr,
 ) -> Result<Option<Box<TExpr>>, Memory>
-    ensures { IfOk result (IsSourceValue file.now locals.now site e.now) }
+    ensures typed { IfOk result (IsSourceValue (met found.new.instances) file.now locals.now site e.now) }
+    ensures met { OnOk result (IsBeginning (met found.old.instances) (met found.new.instances)) }
 {
     match e {
         Expr::Scan { source, .. } => typed_value(found, file, locals, site, source),
@@ -182,7 +188,8 @@ fn nodes(file: &File<'_>, locals: &Locals, site: Site, e: &Expr) -> u64 {
 /// Types an expression with two or three operands.
 #[cycle(expression)]
 fn operands(found: &mut Found, file: &File<'_>, locals: &Locals, site: Site, e: &Expr) -> Typing
-    ensures { IfOk result (IsTyped file.now locals.now site e.now) }
+    ensures typed { IfOk result (IsTyped (met found.new.instances) file.now locals.now site e.now) }
+    ensures met { OnOk result (IsBeginning (met found.old.instances) (met found.new.instances)) }
 {
     match e {
         Expr::Assign {
@@ -290,7 +297,7 @@ fn assigned(
 /// An expression with one typed operand, or an element of an array with its typed index. What its
 /// names break stands whatever the operand is.
 fn with_operand(
-    found: &mut Found,
+    faults: &mut Faults,
     file: &File<'_>,
     locals: &Locals,
     site: Site,
@@ -304,35 +311,15 @@ fn with_operand(
             place,
             type_name,
             ..
-        } => cast_to(
-            &mut found.faults,
-            file,
-            locals,
-            site,
-            *place,
-            type_name,
-            operand,
-        ),
+        } => cast_to(faults, file, locals, site, *place, type_name, operand),
         Expr::Element { name, bracket, .. } => {
-            element_of(
-                &mut found.faults,
-                file,
-                locals,
-                site,
-                name,
-                *bracket,
-                operand,
-            )
+            element_of(faults, file, locals, site, name, *bracket, operand)
         }
         _ => {
             let Some(operand) = operand else {
                 return Ok(None);
             };
-            outcome(
-                &mut found.faults,
-                file.alloc,
-                on_operand(file.alloc, e, operand),
-            )
+            outcome(faults, file.alloc, on_operand(file.alloc, e, operand))
         }
     }
 }
@@ -405,7 +392,8 @@ fn list(
     site: Site,
     e: &Expr,
 ) -> Result<Option<Vec<Box<TExpr>>>, Memory>
-    ensures { IfOk result (AreListed file.now locals.now site e.now) }
+    ensures typed { IfOk result (AreListed (met found.new.instances) file.now locals.now site e.now) }
+    ensures met { OnOk result (IsBeginning (met found.old.instances) (met found.new.instances)) }
 {
     let (parts, indexed) = match e {
         Expr::Call { arguments, .. } | Expr::Printf { arguments, .. } => (arguments, None),
@@ -461,7 +449,8 @@ fn with_list(
     e: &Expr,
     parts: Option<Vec<Box<TExpr>>>,
 ) -> Typing
-    ensures { IfOk result (IsTypedFrom (λ program here xs. AreParts program here e.now xs) parts file.now locals.now site e.now) }
+    ensures typed { IfOk result (IsTypedFromList (met found.new.instances) parts file.now locals.now site e.now) }
+    ensures met { OnOk result (IsBeginning (met found.old.instances) (met found.new.instances)) }
 {
     match e {
         Expr::Call { name, .. } => call(found, file, locals, site, name, parts),

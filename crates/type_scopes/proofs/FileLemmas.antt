@@ -1,6 +1,7 @@
 -- What is found under a name of a file.
-use Rattle.std.proofs.Common.{◌≡◌, ℕ, zero, suc, ◌+◌, ◌-◌, ◌<◌, Bool, true, false, List, [], ◌∷◌, ◌++◌, get_or, length, map, Option, Some, None, refl, sym, ap, subst, ◌∙◌, arith, true≢false}
+use Rattle.std.proofs.Common.{◌≡◌, ◌==◌, ℕ, zero, suc, ◌+◌, ◌-◌, ◌<◌, Bool, true, false, List, [], ◌∷◌, ◌++◌, get_or, length, map, Option, Some, None, refl, sym, ap, subst, ◌∙◌, arith, true≢false}
 use Rattle.std.proofs.lemmas.List.{map-append}
+use Rattle.std.proofs.lemmas.Bool.{eqb-true, eq-eqb}
 use Rattle.std.proofs.lemmas.Cmp.{nat_list_eq_equiv}
 use Rattle.std.proofs.lemmas.List.Quantifiers.{position-Some}
 use Rattle.std.proofs.lemmas.Map.Entries.{length-keys_of}
@@ -9,8 +10,8 @@ use Rattle.std.proofs.lemmas.Slice.Eq.{bytes_eq-Decides}
 use Rattle.std.specs.declared.alloc.Global.{Global}
 use Rattle.std.specs.List.{AllByRecursion, IsDistinct}
 use Rattle.std.specs.Map.{keys_of, lookup}
-use Rattle.std.specs.Option.{option_map, option_or}
-use Rattle.std.specs.Prelude.{Vec, bytes_eq, is_some, position, slice_get}
+use Rattle.std.specs.Option.{option_eq, option_map, option_or}
+use Rattle.std.specs.Prelude.{◌↔◌, Vec, bytes_eq, is_some, position, slice_get}
 use Rattle.indexmap.proofs.MapLemmas.{Missing-position, absent_from_lookup, insert_entry-absent}
 use Rattle.indexmap.specs.IndexMap.{insert_entry}
 use Rattle.cstar_tree.specs.Scopes.{Binding, find}
@@ -140,3 +141,10 @@ find_first (b ∷ rest) outer word = step (bytes_eq b.word word) refl (find_firs
     step : (is : Bool) → bytes_eq b.word word ≡ is → find (rest ++ outer) word ≡ option_or (find rest word) (find outer word) → find (b ∷ rest ++ outer) word ≡ option_or (find (b ∷ rest) word) (find outer word)
     step true e rest = rw e refl
     step false e rest = rw e rest
+
+-- two numbers, where there are such, that are told to be one
+pub same_number : (a b : Option ℕ) (r : Bool) → r ≡ option_eq ◌==◌ a b → (r ≡ true) ↔ (a ≡ b)
+same_number None None r is = (λ t. refl, λ e. is)
+same_number None (Some y) r is = (λ t. absurd (true≢false (sym t ∙ is)), λ e. absurd (cc))
+same_number (Some x) None r is = (λ t. absurd (true≢false (sym t ∙ is)), λ e. absurd (cc))
+same_number (Some x) (Some y) r is = (λ t. ap (λ (k : ℕ). Some k) (eqb-true x y (sym is ∙ t)), λ e. is ∙ eq-eqb x y (let k : x ≡ y = cc in k))

@@ -51,6 +51,14 @@ pub record IsPlaced (file : File) (f : ℕ) (placed : Placed) : Type 0 where
   pub is_item : slice_get file.tree.now.items.items info.item ≡ Some (I.Function placed.function)
   pub known : (word : List ℕ) → find placed.known word ≡ find (file_bindings file info.known) word
 
+-- the group of the function of a number, and whether the function around is of the same one
+abbrev pub group_of : File → ℕ → Option ℕ
+group_of file f = option_map (λ (info : FunctionInfo). info.group) (slice_get file.functions.items f)
+
+abbrev pub IsOfGroup : File → Option ℕ → ℕ → Type 0
+IsOfGroup file None f = ⊥
+IsOfGroup file (Some around) f = group_of file around ≡ group_of file f
+
 -- is the word a key of the set?
 abbrev pub has_word : List (Vec ℕ Global) → List ℕ → Bool
 has_word keys word = list_any (λ key. bytes_eq word key.items) keys
