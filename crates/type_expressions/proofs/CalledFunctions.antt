@@ -35,9 +35,10 @@ use Rattle.type_scopes.specs.declared.sites.Site.{Site}
 use Rattle.type_expressions.specs.Answers.{trees}
 use Rattle.type_expressions.specs.Calls.{HasTypes, IsCallTo, IsGiven, IsReached, TakesParallel}
 use Rattle.type_expressions.specs.Calls as C
-use Rattle.type_expressions.specs.Instances.{instance_of, with_met}
+use Rattle.type_expressions.specs.Instances.{instance_of, met, with_met}
 use Rattle.type_expressions.specs.Programs.{HasItsCalls}
 use Rattle.type_expressions.specs.Walks.{IsTypedFromList}
+use Rattle.type_expressions.specs.declared.found.Instances.{Instances}
 use Rattle.type_expressions.specs.declared.found.TypedExpr.{TypedExpr}
 use Rattle.type_scopes.proofs.FileLemmas.{same_number}
 use Rattle.type_expressions.proofs.CallArguments.{scalar_too}
@@ -52,7 +53,7 @@ taken (ty ∷ types) (e ∷ es) many none =
     X.next (scalar_too ty.shape (type_of e).shape (λ unfit. none (0, Some ty, e, refl, refl, unfit))) (taken types es (omega (arith, many)) (λ t. none (suc t.0, t.1, t.2, t.3, t.4, t.5)))
 
 -- the function that is called does not lead back
-away : {met : List Reached} {file : File} {program : Program} {here : Here} {n : Name} {around f : ℕ} (given : Vec Expr Global) → HasItsCalls met file program here (E.Call n given) → meaning here n.word ≡ Some (a_function f) → here.around ≡ Some around → (IsOfGroup file (Some around) f → ⊥) → Leads program.calls f around → ⊥
+away : {so_far : Instances} {file : File} {program : Program} {here : Here} {n : Name} {around f : ℕ} (given : Vec Expr Global) → HasItsCalls so_far file program here (E.Call n given) → meaning here n.word ≡ Some (a_function f) → here.around ≡ Some around → (IsOfGroup file (Some around) f → ⊥) → Leads program.calls f around → ⊥
 away {n = n} {around = around} {f = f} given calls is there apart back =
     let leads = calls.called around (record { function = f; current = calls.place.current; typed = true }) there (called_itself calls.place n given f (calls.names n.word ∙ is)) in
     apart ((calls.of_file.groups around f (calls.of_file.around around there) (calls.of_file.named n.word f is)).1 (leads, back))
@@ -60,7 +61,7 @@ away {n = n} {around = around} {f = f} given calls is there apart back =
 callable_as : {current : Option ℕ} {from to : List (Option ValueType)} {r s : Returns} → from ≡ to → r ≡ s → IsCallable current from r → IsCallable current to s
 callable_as {current = current} {to = to} {r = r} types returns h = subst (λ (k : Returns). IsCallable current to k) returns (subst (λ (ps : List (Option ValueType)). IsCallable current ps r) types h)
 
-pub call_types : {met : List Reached} {file : File} {program : Program} {here : Here} {n : Name} {f : ℕ} {header : Header} {o : Option ℕ} {ts : List TExpr} {node : TExpr} {has_value : Bool} (given : Vec Expr Global) (function : Option ℕ) (placed : Placed) → here.around ≡ function → meaning here n.word ≡ Some (a_function f) → HasItsCalls met file program here (E.Call n given) → slice_get program.functions f ≡ Some placed → IsHeader placed (record { function = f; current = here.current }) header → header.other_shape ≡ false → (IsOfGroup file function f → ⊥) → IsReached met function (record { function = f; current = here.current }) o → TypesEach program (part here) given.items ts → IsCallTo header ts o node has_value → Types program here (E.Call n given) node has_value
+pub call_types : {so_far : Instances} {file : File} {program : Program} {here : Here} {n : Name} {f : ℕ} {header : Header} {o : Option ℕ} {ts : List TExpr} {node : TExpr} {has_value : Bool} (given : Vec Expr Global) (function : Option ℕ) (placed : Placed) → here.around ≡ function → meaning here n.word ≡ Some (a_function f) → HasItsCalls so_far file program here (E.Call n given) → slice_get program.functions f ≡ Some placed → IsHeader placed (record { function = f; current = here.current }) header → header.other_shape ≡ false → (IsOfGroup file function f → ⊥) → IsReached (met so_far) function (record { function = f; current = here.current }) o → TypesEach program (part here) given.items ts → IsCallTo header ts o node has_value → Types program here (E.Call n given) node has_value
 call_types given None placed there is calls in_program head same apart reached each (C.inside fitted types gives fit) = absurd (cc)
 call_types {here = here} {f = f} given (Some around) placed there is calls in_program head same apart reached each (C.inside {ty = ty} {has_value = b} {instance = instance} fitted types gives fit) =
     X.call given fitted is in_program there (away given calls is there apart) (among_more instance (record { function = f; current = here.current }) calls.of_file.instances reached)
@@ -75,17 +76,17 @@ called_function : (names : List Binding) (n : Name) (called : Result ℕ Untyped
 called_function names n (Ok g) o {f = f} is settled found = is ∙ (let e : Some (a_function g) ≡ Some (a_function f) = cc in e)
 called_function names n (Err u) o is settled found = absurd (cc)
 
-pub call_typed : (met : List Reached) (file : File) (locals : Locals) (site : Site) (n : Name) (given : Vec Expr Global) (called : Result ℕ Untyped) (named : Option ℕ) (f : ℕ) (header : Header) (o : Option ℕ) (xs : Vec (Box TExpr Global) Global) (typed : Result TypedExpr Untyped) (r : Option TypedExpr) → IsFunctionAmong (names_at file locals site.known) n called → named ≡ part_of called → named ≡ Some f → ((placed : Placed) → IsPlaced file f placed → IsHeader placed (record { function = f; current = site.current }) header) → IsReached met site.function (record { function = f; current = site.current }) o → IfOk typed (λ t. header.other_shape ≡ false) → IfOk typed (λ t. IsOfGroup file site.function f → ⊥) → IfOk typed (λ t. IsCallTo header (trees xs.items) o t.expr.value t.has_value) → r ≡ part_of typed → IsTypedFromList met (Some xs) file locals site (E.Call n given) r
-call_typed met file locals site n given called named f header o xs typed None is settled found head reached same apart to whole = tt
-call_typed met file locals site n given called named f header o xs (Err u) (Some b) is settled found head reached same apart to whole = absurd (cc)
-call_typed met file locals site n given called named f header o xs (Ok t) (Some b) is settled found head reached same apart to whole = λ program here a parts.
+pub call_typed : (so_far : Instances) (file : File) (locals : Locals) (site : Site) (n : Name) (given : Vec Expr Global) (called : Result ℕ Untyped) (named : Option ℕ) (f : ℕ) (header : Header) (o : Option ℕ) (xs : Vec (Box TExpr Global) Global) (typed : Result TypedExpr Untyped) (r : Option TypedExpr) → IsFunctionAmong (names_at file locals site.known) n called → named ≡ part_of called → named ≡ Some f → ((placed : Placed) → IsPlaced file f placed → IsHeader placed (record { function = f; current = site.current }) header) → IsReached (met so_far) site.function (record { function = f; current = site.current }) o → IfOk typed (λ t. header.other_shape ≡ false) → IfOk typed (λ t. IsOfGroup file site.function f → ⊥) → IfOk typed (λ t. IsCallTo header (trees xs.items) o t.expr.value t.has_value) → r ≡ part_of typed → IsTypedFromList so_far (Some xs) file locals site (E.Call n given) r
+call_typed so_far file locals site n given called named f header o xs typed None is settled found head reached same apart to whole = tt
+call_typed so_far file locals site n given called named f header o xs (Err u) (Some b) is settled found head reached same apart to whole = absurd (cc)
+call_typed so_far file locals site n given called named f header o xs (Ok t) (Some b) is settled found head reached same apart to whole = λ program here a parts.
     let means = a.names n.word ∙ called_function (names_at file locals site.known) n called named is settled found in
     let function = parts.1.of_file.named n.word f means in
     let current = sym a.at_site.current in
     let each = subst (λ (es : List Expr). TypesEach program (part here) es (trees xs.items)) (items_hidden-the_row-Expr-0 given) parts.0 in
     rw (let e : b ≡ t = cc in e) (call_types given site.function function.placed a.at_site.around means parts.1 function.in_program
     (subst (λ (c : Option ℕ). IsHeader function.placed (record { function = f; current = c }) header) current (head function.placed function.in_file)) same apart
-    (subst (λ (c : Option ℕ). IsReached met site.function (record { function = f; current = c }) o) current reached) each to)
+    (subst (λ (c : Option ℕ). IsReached (met so_far) site.function (record { function = f; current = c }) o) current reached) each to)
 
 -- ---- instances that are met
 

@@ -30,16 +30,17 @@ use Rattle.cstar_tree.specs.Scopes.{Here, meaning}
 use Rattle.cstar_tree.specs.Scopes as S
 use Rattle.cstar_tree.specs.TypedParts.{concat}
 use Rattle.type_scopes.specs.declared.file.File.{File}
-use Rattle.type_expressions.specs.Instances.{IsBeginning, with_met}
+use Rattle.type_expressions.specs.Instances.{Grows, IsBeginning, met, with_met}
 use Rattle.type_expressions.specs.Programs.{HasItsCalls}
+use Rattle.type_expressions.specs.declared.found.Instances.{Instances}
 
 -- ---- beginnings of lists
 
-pub begins_same : {A : Type 0} {xs ys : List A} → ys ≡ xs → IsBeginning xs ys
-begins_same {xs = xs} same = record { rest = []; whole = same ∙ sym (append-nil xs) }
+beginning_same : {A : Type 0} {xs ys : List A} → ys ≡ xs → IsBeginning xs ys
+beginning_same {xs = xs} same = record { rest = []; whole = same ∙ sym (append-nil xs) }
 
-pub begins_both : {A : Type 0} {xs ys zs : List A} → IsBeginning xs ys → IsBeginning ys zs → IsBeginning xs zs
-begins_both {xs = xs} b c = record {
+beginning_both : {A : Type 0} {xs ys zs : List A} → IsBeginning xs ys → IsBeginning ys zs → IsBeginning xs zs
+beginning_both {xs = xs} b c = record {
   rest = b.rest ++ c.rest;
   whole = c.whole ∙ (ap (λ (l : List _). l ++ c.rest) b.whole ∙ append_assoc xs b.rest c.rest);
 }
@@ -48,7 +49,7 @@ pub begins_met : (r : Reached) (before : List Reached) → IsBeginning before (w
 begins_met r before = by (is_met r before)
   where
     by : (b : Bool) → IsBeginning before (if b then before else before ++ r ∷ [])
-    by true = begins_same refl
+    by true = beginning_same refl
     by false = record { rest = r ∷ []; whole = refl }
 
 kept : {A : Type 0} (xs rest : List A) (k : ℕ) (x : A) → slice_get xs k ≡ Some x → slice_get (xs ++ rest) k ≡ Some x
@@ -58,6 +59,14 @@ kept (y ∷ ys) rest (suc k) x is = kept ys rest k x is
 
 pub among_more : {A : Type 0} {xs ys : List A} (n : ℕ) (x : A) → IsBeginning xs ys → slice_get xs n ≡ Some x → slice_get ys n ≡ Some x
 among_more {xs = xs} n x b is = subst (λ (l : List _). slice_get l n ≡ Some x) (sym b.whole) (kept xs b.rest n x is)
+
+-- ---- instances that are met further on
+
+pub begins_same : {file : File} {old new : Instances} → new ≡ old → Grows file old new
+begins_same same = record { begins = beginning_same (ap met same) }
+
+pub begins_both : {file : File} {first second third : Instances} → Grows file first second → Grows file second third → Grows file first third
+begins_both b c = record { begins = beginning_both b.begins c.begins }
 
 -- ---- the calls of parts
 
@@ -178,7 +187,7 @@ called_itself here n arguments f is =
 
 -- ---- what is known of the calls of an expression
 
-pub narrowed : {met : List Reached} {file : File} {program : Program} {here : Here} {e p : Expr} → AreCallsOf p e → HasItsCalls met file program here e → HasItsCalls met file program here p
+pub narrowed : {so_far : Instances} {file : File} {program : Program} {here : Here} {e p : Expr} → AreCallsOf p e → HasItsCalls so_far file program here e → HasItsCalls so_far file program here p
 narrowed within calls = record {
   of_file = calls.of_file;
   place = calls.place;
@@ -187,7 +196,7 @@ narrowed within calls = record {
 }
 
 -- a place that differs in the `.`, or is that of a part
-pub moved : {met : List Reached} {file : File} {program : Program} {here : Here} {e : Expr} (dot : Option ℕ) (whole : Bool) → HasItsCalls met file program here e → HasItsCalls met file program (record here { dot = dot; whole = whole }) e
+pub moved : {so_far : Instances} {file : File} {program : Program} {here : Here} {e : Expr} (dot : Option ℕ) (whole : Bool) → HasItsCalls so_far file program here e → HasItsCalls so_far file program (record here { dot = dot; whole = whole }) e
 unfolding meaning
 moved dot whole calls = record {
   of_file = record { named = calls.of_file.named; around = calls.of_file.around; groups = calls.of_file.groups; instances = calls.of_file.instances };
@@ -196,9 +205,9 @@ moved dot whole calls = record {
   called = calls.called;
 }
 
-pub earlier : {met later : List Reached} {file : File} {program : Program} {here : Here} {e : Expr} → IsBeginning met later → HasItsCalls later file program here e → HasItsCalls met file program here e
+pub earlier : {so_far later : Instances} {file : File} {program : Program} {here : Here} {e : Expr} → Grows file so_far later → HasItsCalls later file program here e → HasItsCalls so_far file program here e
 earlier begins calls = record {
-  of_file = record { named = calls.of_file.named; around = calls.of_file.around; groups = calls.of_file.groups; instances = begins_both begins calls.of_file.instances };
+  of_file = record { named = calls.of_file.named; around = calls.of_file.around; groups = calls.of_file.groups; instances = beginning_both begins.begins calls.of_file.instances };
   place = calls.place;
   names = calls.names;
   called = calls.called;

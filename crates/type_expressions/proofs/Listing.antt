@@ -14,15 +14,16 @@ use Rattle.cstar_tree.specs.declared.syntax.Name.{Name}
 use Rattle.cstar_tree.specs.declared.typed.TExpr.{TExpr}
 use Rattle.cstar_tree.specs.ExpressionTypes.{Types, TypesEach, TypesIndexes}
 use Rattle.cstar_tree.specs.ExpressionTypes as X
-use Rattle.cstar_tree.specs.Headers.{Program, Reached}
+use Rattle.cstar_tree.specs.Headers.{Program}
 use Rattle.cstar_tree.specs.Scopes.{Here, extents_of, find, index_place, meaning, part, stands_under}
 use Rattle.type_scopes.specs.FileBindings.{names_at}
 use Rattle.type_scopes.specs.declared.file.File.{File}
 use Rattle.type_scopes.specs.declared.locals.Locals.{Locals}
 use Rattle.type_scopes.specs.declared.sites.Site.{Site}
 use Rattle.type_expressions.specs.Answers.{trees}
-use Rattle.type_expressions.specs.Instances.{IsBeginning}
+use Rattle.type_expressions.specs.Instances.{Grows}
 use Rattle.type_expressions.specs.Programs.{HasItsCalls}
+use Rattle.type_expressions.specs.declared.found.Instances.{Instances}
 use Rattle.type_expressions.specs.Walks.{AreListed, AreMore, IsAround, IsPlain, ArePlain, IsValue, dot_at}
 use Rattle.type_expressions.proofs.CallsWithin.{earlier, in_call, in_left_index, in_printf, moved, narrowed}
 
@@ -43,9 +44,9 @@ AreFew None items = Unit {0}
 AreFew (Some b) items = length items < 2 ^ 32
 
 -- the first so many of the parts have become these trees
-abbrev pub AreListedTo : List Reached → File → Locals → Site → Expr → Option Bool → List Expr → ℕ → Option (Vec (Box TExpr Global) Global) → Type 0
-AreListedTo met file locals site e indexed items k None = Unit {0}
-AreListedTo met file locals site e indexed items k (Some xs) = (program : Program) (here : Here) → IsAround file locals site here → All (HasItsCalls met file program here) items → All IsPlain items → AreFew indexed items → AreTyped program here e indexed (take k items) (trees xs.items)
+abbrev pub AreListedTo : Instances → File → Locals → Site → Expr → Option Bool → List Expr → ℕ → Option (Vec (Box TExpr Global) Global) → Type 0
+AreListedTo so_far file locals site e indexed items k None = Unit {0}
+AreListedTo so_far file locals site e indexed items k (Some xs) = (program : Program) (here : Here) → IsAround file locals site here → All (HasItsCalls so_far file program here) items → All IsPlain items → AreFew indexed items → AreTyped program here e indexed (take k items) (trees xs.items)
 
 abbrev left_name : Expr → Option Name
 left_name (E.LeftIndex' p _ indexes n) = Some n
@@ -60,8 +61,8 @@ none_typed : (program : Program) (here : Here) (e : Expr) (indexed : Option Bool
 none_typed program here e None = X.no_expression
 none_typed program here e (Some b) = λ n left. X.no_index
 
-pub none_listed : (met : List Reached) (file : File) (locals : Locals) (site : Site) (e : Expr) (indexed : Option Bool) (items : List Expr) (xs : Vec (Box TExpr Global) Global) → xs.items ≡ [] → AreListedTo met file locals site e indexed items 0 (Some xs)
-none_listed met file locals site e indexed items xs empty = λ program here a calls plain few. rw empty (none_typed program here e indexed)
+pub none_listed : (so_far : Instances) (file : File) (locals : Locals) (site : Site) (e : Expr) (indexed : Option Bool) (items : List Expr) (xs : Vec (Box TExpr Global) Global) → xs.items ≡ [] → AreListedTo so_far file locals site e indexed items 0 (Some xs)
+none_listed so_far file locals site e indexed items xs empty = λ program here a calls plain few. rw empty (none_typed program here e indexed)
 
 -- ---- one part more
 
@@ -90,9 +91,9 @@ indexes_more {program = program} {here = here} {n = n} {e = e} {t = t} {from = f
     X.next_index (subst (λ (m : ℕ). Types program (index_place here n.word m) e t true) (let k : count ≡ from = omega (arith, is) in k) h) X.no_index
 indexes_more {from = from} count (X.next_index {es = es} k rest) is h = X.next_index k (indexes_more count rest (omega (arith, is)) h)
 
-typed_more : (met : List Reached) (file : File) (locals : Locals) (site : Site) (e : Expr) (indexed : Option Bool) (items es : List Expr) (k axis : ℕ) (x : Expr) (y : Box TExpr Global) (ts : List TExpr) (program : Program) (here : Here) → IsAround file locals site here → length es ≡ k → k < length items → axis ≡ min k (2 ^ 32 - 1) → AreFew indexed items → HasItsCalls met file program here x → IsPlain x → IsToldIndexed file locals site e indexed → IsValue met file locals (record site { dot = dot_at indexed site.dot axis }) x (Some y) → AreTyped program here e indexed es ts → AreTyped program here e indexed (es ++ x ∷ []) (ts ++ y.value ∷ [])
-typed_more met file locals site e None items es k axis x y ts program here a count within axis_is few calls plain told v h = each_more h (v program here a calls plain)
-typed_more met file locals site e (Some b) items es k axis x y ts program here a count within axis_is few calls plain told v h = λ n left.
+typed_more : (so_far : Instances) (file : File) (locals : Locals) (site : Site) (e : Expr) (indexed : Option Bool) (items es : List Expr) (k axis : ℕ) (x : Expr) (y : Box TExpr Global) (ts : List TExpr) (program : Program) (here : Here) → IsAround file locals site here → length es ≡ k → k < length items → axis ≡ min k (2 ^ 32 - 1) → AreFew indexed items → HasItsCalls so_far file program here x → IsPlain x → IsToldIndexed file locals site e indexed → IsValue so_far file locals (record site { dot = dot_at indexed site.dot axis }) x (Some y) → AreTyped program here e indexed es ts → AreTyped program here e indexed (es ++ x ∷ []) (ts ++ y.value ∷ [])
+typed_more so_far file locals site e None items es k axis x y ts program here a count within axis_is few calls plain told v h = each_more h (v program here a calls plain)
+typed_more so_far file locals site e (Some b) items es k axis x y ts program here a count within axis_is few calls plain told v h = λ n left.
     let same : axis ≡ k = omega (arith, axis_is, within, few) in
     let current : b ≡ stands_under here.current (meaning here n.word) = told n left ∙ (ap (λ (c : Option ℕ). stands_under c (find (names_at file locals site.known) n.word)) (sym a.at_site.current) ∙ ap (stands_under here.current) (sym (a.names n.word))) in
     let there = v program (record here { dot = dot_at (Some b) here.dot axis }) (at_dot b a) (moved (dot_at (Some b) here.dot axis) here.whole calls) plain in
@@ -105,17 +106,17 @@ typed_more met file locals site e (Some b) items es k axis x y ts program here a
 trees_more : (values : List (Box TExpr Global)) (x : Box TExpr Global) → trees (values ++ x ∷ []) ≡ trees values ++ x.value ∷ []
 trees_more values x = map-append (λ (b : Box TExpr Global). b.value) values (x ∷ [])
 
-pub listed_more : (met : List Reached) (file : File) (locals : Locals) (site : Site) (e : Expr) (indexed : Option Bool) (items : List Expr) (k axis : ℕ) (x : Expr) (typed : Option (Box TExpr Global)) (old new : Option (Vec (Box TExpr Global) Global)) → k < length items → x ≡ get_or items k x → axis ≡ min k (2 ^ 32 - 1) → IsToldIndexed file locals site e indexed → IsValue met file locals (record site { dot = dot_at indexed site.dot axis }) x typed → AreMore old typed new → AreListedTo met file locals site e indexed items k old → AreListedTo met file locals site e indexed items (k + 1) new
-listed_more met file locals site e indexed items k axis x typed old None within is axis_is told v more h = tt
-listed_more met file locals site e indexed items k axis x typed None (Some ys) within is axis_is told v more h = absurd more
-listed_more met file locals site e indexed items k axis x None (Some xs) (Some ys) within is axis_is told v more h = absurd more
-listed_more met file locals site e indexed items k axis x (Some y) (Some xs) (Some ys) within is axis_is told v more h = λ program here a calls plain few.
+pub listed_more : (so_far : Instances) (file : File) (locals : Locals) (site : Site) (e : Expr) (indexed : Option Bool) (items : List Expr) (k axis : ℕ) (x : Expr) (typed : Option (Box TExpr Global)) (old new : Option (Vec (Box TExpr Global) Global)) → k < length items → x ≡ get_or items k x → axis ≡ min k (2 ^ 32 - 1) → IsToldIndexed file locals site e indexed → IsValue so_far file locals (record site { dot = dot_at indexed site.dot axis }) x typed → AreMore old typed new → AreListedTo so_far file locals site e indexed items k old → AreListedTo so_far file locals site e indexed items (k + 1) new
+listed_more so_far file locals site e indexed items k axis x typed old None within is axis_is told v more h = tt
+listed_more so_far file locals site e indexed items k axis x typed None (Some ys) within is axis_is told v more h = absurd more
+listed_more so_far file locals site e indexed items k axis x None (Some xs) (Some ys) within is axis_is told v more h = absurd more
+listed_more so_far file locals site e indexed items k axis x (Some y) (Some xs) (Some ys) within is axis_is told v more h = λ program here a calls plain few.
     let next : k + 1 ≡ suc k = omega arith in
     let all : take (k + 1) items ≡ take k items ++ x ∷ [] = ap (λ (m : ℕ). take m items) next ∙ (take-suc items k x within ∙ ap (λ (z : Expr). take k items ++ z ∷ []) (sym is)) in
     let values = ap trees more ∙ trees_more xs.items y in
     let plain_x = subst IsPlain (sym is) (All-get_or IsPlain items k x within plain) in
-    let calls_x = subst (HasItsCalls met file program here) (sym is) (All-get_or (HasItsCalls met file program here) items k x within calls) in
-    let typed = typed_more met file locals site e indexed items (take k items) k axis x y (trees xs.items) program here a (omega (arith, length-take k items, within)) within axis_is few calls_x plain_x told v (h program here a calls plain few) in
+    let calls_x = subst (HasItsCalls so_far file program here) (sym is) (All-get_or (HasItsCalls so_far file program here) items k x within calls) in
+    let typed = typed_more so_far file locals site e indexed items (take k items) k axis x y (trees xs.items) program here a (omega (arith, length-take k items, within)) within axis_is few calls_x plain_x told v (h program here a calls plain few) in
     subst (λ (es : List Expr). AreTyped program here e indexed es (trees ys.items)) (sym all) (subst (AreTyped program here e indexed (take k items ++ x ∷ [])) (sym values) typed)
 
 -- ---- the whole list
@@ -131,10 +132,10 @@ written_row (E.Call' _ _ row) = (_, row)
 written_row (E.Printf' _ _ _ row) = (_, row)
 written_row _ = (_, end_of-Expr)
 
-pub indexes_listed : (met : List Reached) (file : File) (locals : Locals) (site : Site) (p : Place) (indexes : Vec Expr Global) (n : Name) (b : Bool) (r : Option (Vec (Box TExpr Global) Global)) → AreListedTo met file locals site (E.LeftIndex p indexes n) (Some b) indexes.items (length indexes.items) r → AreListed met file locals site (E.LeftIndex p indexes n) r
+pub indexes_listed : (so_far : Instances) (file : File) (locals : Locals) (site : Site) (p : Place) (indexes : Vec Expr Global) (n : Name) (b : Bool) (r : Option (Vec (Box TExpr Global) Global)) → AreListedTo so_far file locals site (E.LeftIndex p indexes n) (Some b) indexes.items (length indexes.items) r → AreListed so_far file locals site (E.LeftIndex p indexes n) r
 unfolding IsPlain
-indexes_listed met file locals site p indexes n b None h = tt
-indexes_listed met file locals site p indexes n b (Some xs) h = λ program here a calls plain.
+indexes_listed so_far file locals site p indexes n b None h = tt
+indexes_listed so_far file locals site p indexes n b (Some xs) h = λ program here a calls plain.
     let row = items_hidden-the_row-Expr-0 indexes in
     let node = written_row (E.LeftIndex p indexes n) in
     let each = subst (All IsPlain) row (row_plain node.0 node.1 plain.1) in
@@ -142,25 +143,25 @@ indexes_listed met file locals site p indexes n b (Some xs) h = λ program here 
     let typed = h program here a (λ k d within. narrowed (in_left_index p indexes n k d within) calls) each few n (p, indexes, refl) in
     subst (λ (es : List Expr). TypesIndexes program here n 0 es (trees xs.items)) (take-length indexes.items ∙ sym row) typed
 
-pub printed_listed : (met : List Reached) (file : File) (locals : Locals) (site : Site) (p : Place) (text : List ℕ) (arguments : Vec Expr Global) (r : Option (Vec (Box TExpr Global) Global)) → AreListedTo met file locals site (E.Printf p text arguments) None arguments.items (length arguments.items) r → AreListed met file locals site (E.Printf p text arguments) r
+pub printed_listed : (so_far : Instances) (file : File) (locals : Locals) (site : Site) (p : Place) (text : List ℕ) (arguments : Vec Expr Global) (r : Option (Vec (Box TExpr Global) Global)) → AreListedTo so_far file locals site (E.Printf p text arguments) None arguments.items (length arguments.items) r → AreListed so_far file locals site (E.Printf p text arguments) r
 unfolding IsPlain
-printed_listed met file locals site p text arguments None h = tt
-printed_listed met file locals site p text arguments (Some xs) h = λ program here a calls plain.
+printed_listed so_far file locals site p text arguments None h = tt
+printed_listed so_far file locals site p text arguments (Some xs) h = λ program here a calls plain.
     let row = items_hidden-the_row-Expr-0 arguments in
     let node = written_row (E.Printf p text arguments) in
     let each = subst (All IsPlain) row (row_plain node.0 node.1 plain) in
     subst (λ (es : List Expr). TypesEach program (part here) es (trees xs.items)) (take-length arguments.items ∙ sym row) (h program here a (λ k d within. narrowed (in_printf p text arguments k d within) calls) each tt)
 
-pub call_listed : (met : List Reached) (file : File) (locals : Locals) (site : Site) (n : Name) (arguments : Vec Expr Global) (r : Option (Vec (Box TExpr Global) Global)) → AreListedTo met file locals site (E.Call n arguments) None arguments.items (length arguments.items) r → AreListed met file locals site (E.Call n arguments) r
+pub call_listed : (so_far : Instances) (file : File) (locals : Locals) (site : Site) (n : Name) (arguments : Vec Expr Global) (r : Option (Vec (Box TExpr Global) Global)) → AreListedTo so_far file locals site (E.Call n arguments) None arguments.items (length arguments.items) r → AreListed so_far file locals site (E.Call n arguments) r
 unfolding IsPlain
-call_listed met file locals site n arguments None h = tt
-call_listed met file locals site n arguments (Some xs) h = λ program here a calls plain.
+call_listed so_far file locals site n arguments None h = tt
+call_listed so_far file locals site n arguments (Some xs) h = λ program here a calls plain.
     let row = items_hidden-the_row-Expr-0 arguments in
     let node = written_row (E.Call n arguments) in
     let each = subst (All IsPlain) row (row_plain node.0 node.1 plain) in
     subst (λ (es : List Expr). TypesEach program (part here) es (trees xs.items)) (take-length arguments.items ∙ sym row) (h program here a (λ k d within. narrowed (in_call n arguments k d within) calls) each tt)
 
 -- what was listed where less was met
-pub listed_to_later : {before met : List Reached} (file : File) (locals : Locals) (site : Site) (e : Expr) (indexed : Option Bool) (items : List Expr) (k : ℕ) (xs : Option (Vec (Box TExpr Global) Global)) → IsBeginning before met → AreListedTo before file locals site e indexed items k xs → AreListedTo met file locals site e indexed items k xs
+pub listed_to_later : {before so_far : Instances} (file : File) (locals : Locals) (site : Site) (e : Expr) (indexed : Option Bool) (items : List Expr) (k : ℕ) (xs : Option (Vec (Box TExpr Global) Global)) → Grows file before so_far → AreListedTo before file locals site e indexed items k xs → AreListedTo so_far file locals site e indexed items k xs
 listed_to_later file locals site e indexed items k None begins h = tt
 listed_to_later file locals site e indexed items k (Some xs) begins h = λ program here a calls plain few. h program here a (λ n d within. earlier begins (calls n d within)) plain few

@@ -32,7 +32,7 @@ use Rattle.cstar_tree.specs.Constants.{axis_among, axis_of, constant, constant_n
 use Rattle.cstar_tree.specs.Conversions.{int, unsigned}
 use Rattle.cstar_tree.specs.ExpressionTypes.{IsVariable, Types, TypesEach, TypesIndexes}
 use Rattle.cstar_tree.specs.ExpressionTypes as X
-use Rattle.cstar_tree.specs.Headers.{Program, Reached}
+use Rattle.cstar_tree.specs.Headers.{Program}
 use Rattle.cstar_tree.specs.Scopes.{Here, Meaning, a_function, a_shape, a_variable, extents_of, find, meaning, part, shape_meant, shape_of, written_type}
 use Rattle.cstar_tree.specs.Scopes as S
 use Rattle.type_scopes.specs.Answers.{part_of}
@@ -51,9 +51,10 @@ use Rattle.type_expressions.specs.Along.{AreBits, AreBitsNamed, HasExtents, IsAl
 use Rattle.type_expressions.specs.Along as L
 use Rattle.type_expressions.specs.Answers.{AreBrackets, AtSite, HasShapes, IsAnswer, IsAnswerOrMemory, IsAssigned, IsOutcome, IsSite, OnBoth, OnThree, trees}
 use Rattle.type_expressions.specs.Names.{HasNames, IsNamed, IsVariableMeant}
-use Rattle.type_expressions.specs.Instances.{IsBeginning}
+use Rattle.type_expressions.specs.Instances.{Grows}
 use Rattle.type_expressions.specs.Programs.{HasItsCalls}
 use Rattle.type_expressions.specs.Walks.{AreFoundAlong, AreListed, AreParts, HasItsSource, IsAlongShape, IsAround, IsAxisTyped, IsFoundAlong, IsOperand, IsPart, IsPlain, IsShape, IsSource, IsSourceValue, IsTyped, IsTypedAlong, IsTypedFrom, IsTypedFromList, IsValue, rank_under}
+use Rattle.type_expressions.specs.declared.found.Instances.{Instances}
 use Rattle.type_expressions.specs.declared.found.TypedExpr.{TypedExpr}
 use Rattle.type_expressions.specs.declared.intrinsics.Axis.{Axis}
 use Rattle.type_expressions.specs.declared.intrinsics.Axis.TheVariants as A
@@ -190,11 +191,11 @@ told_ok are x file locals site e (Ok t) old new (Some b) h m = λ program here a
 told_ok are x file locals site e (Err u) old new None h m = tt
 told_ok are x file locals site e (Err u) old new (Some b) h m = absurd m
 
-pub told_leaf : (met : List Reached) (file : File) (locals : Locals) (site : Site) (e : Expr) (typed : Result TExpr Untyped) (old new : Option Standing) (r : Option TypedExpr) → IfOk typed (λ t. (program : Program) (here : Here) → IsAround file locals site here → Types program here e t true) → IsOutcome typed old new r → IsTyped met file locals site e r
-told_leaf met file locals site e (Ok t) old new None h m = tt
-told_leaf met file locals site e (Ok t) old new (Some b) h m = λ program here a calls plain. rw (m.0, m.1) (h program here a)
-told_leaf met file locals site e (Err u) old new None h m = tt
-told_leaf met file locals site e (Err u) old new (Some b) h m = absurd m
+pub told_leaf : (so_far : Instances) (file : File) (locals : Locals) (site : Site) (e : Expr) (typed : Result TExpr Untyped) (old new : Option Standing) (r : Option TypedExpr) → IfOk typed (λ t. (program : Program) (here : Here) → IsAround file locals site here → Types program here e t true) → IsOutcome typed old new r → IsTyped so_far file locals site e r
+told_leaf so_far file locals site e (Ok t) old new None h m = tt
+told_leaf so_far file locals site e (Ok t) old new (Some b) h m = λ program here a calls plain. rw (m.0, m.1) (h program here a)
+told_leaf so_far file locals site e (Err u) old new None h m = tt
+told_leaf so_far file locals site e (Err u) old new (Some b) h m = absurd m
 
 pub if_answers : {A : Type 0} (are : Program → Here → A → Type 0) (x : A) (e : Expr) (typed : Result TExpr Untyped) → ((program : Program) (here : Here) → are program here x → IsAnswerOrMemory program here e typed) → IfOk typed (λ t. (program : Program) (here : Here) → are program here x → Types program here e t true)
 if_answers are x e (Ok t) h = h
@@ -227,86 +228,86 @@ element_typed file locals site n bracket index v ty x typed old new r found h m 
 
 -- ---- the whole from its walk
 
-pub value_typed : (met : List Reached) (file : File) (locals : Locals) (site at_part : Site) (e : Expr) (typed : Option TypedExpr) (valued : Result (Box TExpr Global) Untyped) (r : Option (Box TExpr Global)) → at_part ≡ record site { whole = false } → IsTyped met file locals at_part e typed → IfOk valued (λ x. typed ≡ Some (record { expr = x; has_value = true })) → r ≡ part_of valued → IsValue met file locals site e r
-value_typed met file locals site at_part e typed valued None is h v settled = tt
-value_typed met file locals site at_part e typed (Ok y) (Some x) is h v settled =
-    let whole = subst (IsTyped met file locals at_part e) v h in
-    let there = subst (λ (s : Site). IsTyped met file locals s e (Some (record { expr = y; has_value = true }))) is whole in
+pub value_typed : (so_far : Instances) (file : File) (locals : Locals) (site at_part : Site) (e : Expr) (typed : Option TypedExpr) (valued : Result (Box TExpr Global) Untyped) (r : Option (Box TExpr Global)) → at_part ≡ record site { whole = false } → IsTyped so_far file locals at_part e typed → IfOk valued (λ x. typed ≡ Some (record { expr = x; has_value = true })) → r ≡ part_of valued → IsValue so_far file locals site e r
+value_typed so_far file locals site at_part e typed valued None is h v settled = tt
+value_typed so_far file locals site at_part e typed (Ok y) (Some x) is h v settled =
+    let whole = subst (IsTyped so_far file locals at_part e) v h in
+    let there = subst (λ (s : Site). IsTyped so_far file locals s e (Some (record { expr = y; has_value = true }))) is whole in
     λ program here a calls plain. rw (let k : x ≡ y = cc in k) (there program (part here) (in_part a) (moved here.dot false calls) plain)
-value_typed met file locals site at_part e typed (Err u) (Some x) is h v settled = absurd (cc)
+value_typed so_far file locals site at_part e typed (Err u) (Some x) is h v settled = absurd (cc)
 
 -- what was typed where less was met
-pub value_later : {before met : List Reached} (file : File) (locals : Locals) (site : Site) (e : Expr) (x : Option (Box TExpr Global)) → IsBeginning before met → IsValue before file locals site e x → IsValue met file locals site e x
+pub value_later : {before so_far : Instances} (file : File) (locals : Locals) (site : Site) (e : Expr) (x : Option (Box TExpr Global)) → Grows file before so_far → IsValue before file locals site e x → IsValue so_far file locals site e x
 value_later file locals site e None begins v = tt
 value_later file locals site e (Some x) begins v = λ program here a calls plain. v program here a (earlier begins calls) plain
 
-pub brackets_typed : (met : List Reached) (file : File) (locals : Locals) (site : Site) (p : Place) (inner : Box Expr Global) (i r : Option TypedExpr) → IsTyped met file locals site inner.value i → AreBrackets i r → IsTyped met file locals site (E.Brackets p inner) r
+pub brackets_typed : (so_far : Instances) (file : File) (locals : Locals) (site : Site) (p : Place) (inner : Box Expr Global) (i r : Option TypedExpr) → IsTyped so_far file locals site inner.value i → AreBrackets i r → IsTyped so_far file locals site (E.Brackets p inner) r
 unfolding IsPlain
-brackets_typed met file locals site p inner i None h b = tt
-brackets_typed met file locals site p inner None (Some t) h b = absurd b
-brackets_typed met file locals site p inner (Some i) (Some t) h b = λ program here a calls plain. b program here p inner (h program here a (narrowed (in_brackets p inner) calls) plain)
+brackets_typed so_far file locals site p inner i None h b = tt
+brackets_typed so_far file locals site p inner None (Some t) h b = absurd b
+brackets_typed so_far file locals site p inner (Some i) (Some t) h b = λ program here a calls plain. b program here p inner (h program here a (narrowed (in_brackets p inner) calls) plain)
 
 -- an expression with one operand
-pub from_operand : (met : List Reached) (file : File) (locals : Locals) (site : Site) (e operand : Expr) (x : Option (Box TExpr Global)) (r : Option TypedExpr) → ((program : Program) (here : Here) (y : Box TExpr Global) → IsPart program here operand y → IsOperand program here e y) → AreCallsOf operand e → (IsPlain e → IsPlain operand) → IsValue met file locals site operand x → IsTypedFrom (λ program here x. IsOperand program here e x) x file locals site e r → IsTyped met file locals site e r
-from_operand met file locals site e operand x None brings within plainly v h = tt
-from_operand met file locals site e operand None (Some t) brings within plainly v h = absurd h
-from_operand met file locals site e operand (Some x) (Some t) brings within plainly v h = λ program here a calls plain. h program here a (brings program here x (v program here a (narrowed within calls) (plainly plain)))
+pub from_operand : (so_far : Instances) (file : File) (locals : Locals) (site : Site) (e operand : Expr) (x : Option (Box TExpr Global)) (r : Option TypedExpr) → ((program : Program) (here : Here) (y : Box TExpr Global) → IsPart program here operand y → IsOperand program here e y) → AreCallsOf operand e → (IsPlain e → IsPlain operand) → IsValue so_far file locals site operand x → IsTypedFrom (λ program here x. IsOperand program here e x) x file locals site e r → IsTyped so_far file locals site e r
+from_operand so_far file locals site e operand x None brings within plainly v h = tt
+from_operand so_far file locals site e operand None (Some t) brings within plainly v h = absurd h
+from_operand so_far file locals site e operand (Some x) (Some t) brings within plainly v h = λ program here a calls plain. h program here a (brings program here x (v program here a (narrowed within calls) (plainly plain)))
 
-pub prefix_typed : (met : List Reached) (file : File) (locals : Locals) (site : Site) (p : Place) (op : PrefixOp) (operand : Box Expr Global) (x : Option (Box TExpr Global)) (r : Option TypedExpr) → IsValue met file locals site operand.value x → IsTypedFrom (λ program here x. IsOperand program here (E.Prefix p op operand) x) x file locals site (E.Prefix p op operand) r → IsTyped met file locals site (E.Prefix p op operand) r
+pub prefix_typed : (so_far : Instances) (file : File) (locals : Locals) (site : Site) (p : Place) (op : PrefixOp) (operand : Box Expr Global) (x : Option (Box TExpr Global)) (r : Option TypedExpr) → IsValue so_far file locals site operand.value x → IsTypedFrom (λ program here x. IsOperand program here (E.Prefix p op operand) x) x file locals site (E.Prefix p op operand) r → IsTyped so_far file locals site (E.Prefix p op operand) r
 unfolding IsPlain
-prefix_typed met file locals site p op operand x r = from_operand met file locals site (E.Prefix p op operand) operand.value x r (λ program here y h. h) (in_prefix p op operand) (λ plain. plain)
+prefix_typed so_far file locals site p op operand x r = from_operand so_far file locals site (E.Prefix p op operand) operand.value x r (λ program here y h. h) (in_prefix p op operand) (λ plain. plain)
 
-pub casts_typed : (met : List Reached) (file : File) (locals : Locals) (site : Site) (chain : Vec Cast Global) (operand : Box Expr Global) (x : Option (Box TExpr Global)) (r : Option TypedExpr) → IsValue met file locals site operand.value x → IsTypedFrom (λ program here x. IsOperand program here (E.Casts chain operand) x) x file locals site (E.Casts chain operand) r → IsTyped met file locals site (E.Casts chain operand) r
+pub casts_typed : (so_far : Instances) (file : File) (locals : Locals) (site : Site) (chain : Vec Cast Global) (operand : Box Expr Global) (x : Option (Box TExpr Global)) (r : Option TypedExpr) → IsValue so_far file locals site operand.value x → IsTypedFrom (λ program here x. IsOperand program here (E.Casts chain operand) x) x file locals site (E.Casts chain operand) r → IsTyped so_far file locals site (E.Casts chain operand) r
 unfolding IsPlain
-casts_typed met file locals site chain operand x r = from_operand met file locals site (E.Casts chain operand) operand.value x r (λ program here y h. h) (in_casts chain operand) (λ plain. plain)
+casts_typed so_far file locals site chain operand x r = from_operand so_far file locals site (E.Casts chain operand) operand.value x r (λ program here y h. h) (in_casts chain operand) (λ plain. plain)
 
-pub parallel_cast_typed : (met : List Reached) (file : File) (locals : Locals) (site : Site) (p : Place) (written : TypeName) (operand : Box Expr Global) (x : Option (Box TExpr Global)) (r : Option TypedExpr) → IsValue met file locals site operand.value x → IsTypedFrom (λ program here x. IsOperand program here (E.ParallelCast p written operand) x) x file locals site (E.ParallelCast p written operand) r → IsTyped met file locals site (E.ParallelCast p written operand) r
+pub parallel_cast_typed : (so_far : Instances) (file : File) (locals : Locals) (site : Site) (p : Place) (written : TypeName) (operand : Box Expr Global) (x : Option (Box TExpr Global)) (r : Option TypedExpr) → IsValue so_far file locals site operand.value x → IsTypedFrom (λ program here x. IsOperand program here (E.ParallelCast p written operand) x) x file locals site (E.ParallelCast p written operand) r → IsTyped so_far file locals site (E.ParallelCast p written operand) r
 unfolding IsPlain
-parallel_cast_typed met file locals site p written operand x r = from_operand met file locals site (E.ParallelCast p written operand) operand.value x r (λ program here y h. h) (in_parallel_cast p written operand) (λ plain. plain)
+parallel_cast_typed so_far file locals site p written operand x r = from_operand so_far file locals site (E.ParallelCast p written operand) operand.value x r (λ program here y h. h) (in_parallel_cast p written operand) (λ plain. plain)
 
-pub postfix_typed : (met : List Reached) (file : File) (locals : Locals) (site : Site) (p : Place) (op : StepOp) (operand : Box Expr Global) (x : Option (Box TExpr Global)) (r : Option TypedExpr) → IsValue met file locals site operand.value x → IsTypedFrom (λ program here x. IsOperand program here (E.Postfix p op operand) x) x file locals site (E.Postfix p op operand) r → IsTyped met file locals site (E.Postfix p op operand) r
+pub postfix_typed : (so_far : Instances) (file : File) (locals : Locals) (site : Site) (p : Place) (op : StepOp) (operand : Box Expr Global) (x : Option (Box TExpr Global)) (r : Option TypedExpr) → IsValue so_far file locals site operand.value x → IsTypedFrom (λ program here x. IsOperand program here (E.Postfix p op operand) x) x file locals site (E.Postfix p op operand) r → IsTyped so_far file locals site (E.Postfix p op operand) r
 unfolding IsPlain
-postfix_typed met file locals site p op operand x r = from_operand met file locals site (E.Postfix p op operand) operand.value x r (λ program here y h. h) (in_postfix p op operand) (λ plain. plain)
+postfix_typed so_far file locals site p op operand x r = from_operand so_far file locals site (E.Postfix p op operand) operand.value x r (λ program here y h. h) (in_postfix p op operand) (λ plain. plain)
 
-pub at_index_typed : (met : List Reached) (file : File) (locals : Locals) (site : Site) (n : Name) (p : Place) (index : Box Expr Global) (x : Option (Box TExpr Global)) (r : Option TypedExpr) → IsValue met file locals site index.value x → IsTypedFrom (λ program here x. IsOperand program here (E.Element n p index) x) x file locals site (E.Element n p index) r → IsTyped met file locals site (E.Element n p index) r
+pub at_index_typed : (so_far : Instances) (file : File) (locals : Locals) (site : Site) (n : Name) (p : Place) (index : Box Expr Global) (x : Option (Box TExpr Global)) (r : Option TypedExpr) → IsValue so_far file locals site index.value x → IsTypedFrom (λ program here x. IsOperand program here (E.Element n p index) x) x file locals site (E.Element n p index) r → IsTyped so_far file locals site (E.Element n p index) r
 unfolding IsPlain
-at_index_typed met file locals site n p index x r = from_operand met file locals site (E.Element n p index) index.value x r (λ program here y h. h) (in_element n p index) (λ plain. plain)
+at_index_typed so_far file locals site n p index x r = from_operand so_far file locals site (E.Element n p index) index.value x r (λ program here y h. h) (in_element n p index) (λ plain. plain)
 
 -- an expression with a list of parts
-pub list_typed : {E : Type 0} (before met : List Reached) (file : File) (locals : Locals) (site : Site) (e : Expr) (xs : Option (Vec (Box TExpr Global) Global)) (typed : Result (Option TypedExpr) E) → AreListed before file locals site e xs → OnOk typed (IsBeginning before met) → IfOk typed (IsTypedFromList met xs file locals site e) → IfOk typed (IsTyped met file locals site e)
-list_typed before met file locals site e xs (Err error) l begins h = tt
-list_typed before met file locals site e xs (Ok None) l begins h = tt
-list_typed before met file locals site e None (Ok (Some t)) l begins h = absurd h
-list_typed before met file locals site e (Some xs) (Ok (Some t)) l begins h = λ program here a calls plain. h program here a (l program here a (earlier begins calls) plain, calls)
+pub list_typed : {E : Type 0} (before so_far : Instances) (file : File) (locals : Locals) (site : Site) (e : Expr) (xs : Option (Vec (Box TExpr Global) Global)) (typed : Result (Option TypedExpr) E) → AreListed before file locals site e xs → OnOk typed (Grows file before so_far) → IfOk typed (IsTypedFromList so_far xs file locals site e) → IfOk typed (IsTyped so_far file locals site e)
+list_typed before so_far file locals site e xs (Err error) l begins h = tt
+list_typed before so_far file locals site e xs (Ok None) l begins h = tt
+list_typed before so_far file locals site e None (Ok (Some t)) l begins h = absurd h
+list_typed before so_far file locals site e (Some xs) (Ok (Some t)) l begins h = λ program here a calls plain. h program here a (l program here a (earlier begins calls) plain, calls)
 
 -- what is typed of parts that are given, whatever is known of the calls
-pub without_calls : (met : List Reached) (parts : Option (Vec (Box TExpr Global) Global)) (file : File) (locals : Locals) (site : Site) (e : Expr) (r : Option TypedExpr) → IsTypedFrom (λ program here xs. AreParts program here e xs) parts file locals site e r → IsTypedFromList met parts file locals site e r
-without_calls met parts file locals site e None h = tt
-without_calls met None file locals site e (Some t) h = h
-without_calls met (Some xs) file locals site e (Some t) h = λ program here a both. h program here a both.0
+pub without_calls : (so_far : Instances) (parts : Option (Vec (Box TExpr Global) Global)) (file : File) (locals : Locals) (site : Site) (e : Expr) (r : Option TypedExpr) → IsTypedFrom (λ program here xs. AreParts program here e xs) parts file locals site e r → IsTypedFromList so_far parts file locals site e r
+without_calls so_far parts file locals site e None h = tt
+without_calls so_far None file locals site e (Some t) h = h
+without_calls so_far (Some xs) file locals site e (Some t) h = λ program here a both. h program here a both.0
 
 -- an expression with two operands, or three
-pub both_typed : (met : List Reached) (file : File) (locals : Locals) (site : Site) (p : Place) (op : BinaryOp) (left right : Box Expr Global) (x y : Option (Box TExpr Global)) (r : Option TypedExpr) → IsValue met file locals site left.value x → IsValue met file locals site right.value y → OnBoth x y (E.Binary p op) r → IsTyped met file locals site (E.Binary p op left right) r
+pub both_typed : (so_far : Instances) (file : File) (locals : Locals) (site : Site) (p : Place) (op : BinaryOp) (left right : Box Expr Global) (x y : Option (Box TExpr Global)) (r : Option TypedExpr) → IsValue so_far file locals site left.value x → IsValue so_far file locals site right.value y → OnBoth x y (E.Binary p op) r → IsTyped so_far file locals site (E.Binary p op left right) r
 unfolding IsPlain
-both_typed met file locals site p op left right x y None v w h = tt
-both_typed met file locals site p op left right (Some x) (Some y) (Some t) v w h = λ program here a calls plain. h program here left right (v program here a (narrowed (in_binary_left p op left right) calls) plain.0) (w program here a (narrowed (in_binary_right p op left right) calls) plain.1)
-both_typed met file locals site p op left right None y (Some t) v w h = absurd h
-both_typed met file locals site p op left right (Some x) None (Some t) v w h = absurd h
+both_typed so_far file locals site p op left right x y None v w h = tt
+both_typed so_far file locals site p op left right (Some x) (Some y) (Some t) v w h = λ program here a calls plain. h program here left right (v program here a (narrowed (in_binary_left p op left right) calls) plain.0) (w program here a (narrowed (in_binary_right p op left right) calls) plain.1)
+both_typed so_far file locals site p op left right None y (Some t) v w h = absurd h
+both_typed so_far file locals site p op left right (Some x) None (Some t) v w h = absurd h
 
-pub three_typed : (met : List Reached) (file : File) (locals : Locals) (site : Site) (p : Place) (test second third : Box Expr Global) (x y z : Option (Box TExpr Global)) (r : Option TypedExpr) → IsValue met file locals site test.value x → IsValue met file locals site second.value y → IsValue met file locals site third.value z → OnThree x y z (E.Choice p) r → IsTyped met file locals site (E.Choice p test second third) r
+pub three_typed : (so_far : Instances) (file : File) (locals : Locals) (site : Site) (p : Place) (test second third : Box Expr Global) (x y z : Option (Box TExpr Global)) (r : Option TypedExpr) → IsValue so_far file locals site test.value x → IsValue so_far file locals site second.value y → IsValue so_far file locals site third.value z → OnThree x y z (E.Choice p) r → IsTyped so_far file locals site (E.Choice p test second third) r
 unfolding IsPlain
-three_typed met file locals site p test second third x y z None u v w h = tt
-three_typed met file locals site p test second third (Some x) (Some y) (Some z) (Some t) u v w h = λ program here a calls plain. h program here test second third (u program here a (narrowed (in_choice_test p test second third) calls) plain.0) (v program here a (narrowed (in_choice_second p test second third) calls) plain.1) (w program here a (narrowed (in_choice_third p test second third) calls) plain.2)
-three_typed met file locals site p test second third None y z (Some t) u v w h = absurd h
-three_typed met file locals site p test second third (Some x) None z (Some t) u v w h = absurd h
-three_typed met file locals site p test second third (Some x) (Some y) None (Some t) u v w h = absurd h
+three_typed so_far file locals site p test second third x y z None u v w h = tt
+three_typed so_far file locals site p test second third (Some x) (Some y) (Some z) (Some t) u v w h = λ program here a calls plain. h program here test second third (u program here a (narrowed (in_choice_test p test second third) calls) plain.0) (v program here a (narrowed (in_choice_second p test second third) calls) plain.1) (w program here a (narrowed (in_choice_third p test second third) calls) plain.2)
+three_typed so_far file locals site p test second third None y z (Some t) u v w h = absurd h
+three_typed so_far file locals site p test second third (Some x) None z (Some t) u v w h = absurd h
+three_typed so_far file locals site p test second third (Some x) (Some y) None (Some t) u v w h = absurd h
 
-pub assigned_typed : (met : List Reached) (file : File) (locals : Locals) (site : Site) (p : Place) (op : AssignOp) (target value : Box Expr Global) (x y : Option (Box TExpr Global)) (old new : Option Standing) (r : Option TypedExpr) → IsValue met file locals site target.value x → IsValue met file locals site value.value y → IsAssigned site p op x y old new r → IsTyped met file locals site (E.Assign p op target value) r
+pub assigned_typed : (so_far : Instances) (file : File) (locals : Locals) (site : Site) (p : Place) (op : AssignOp) (target value : Box Expr Global) (x y : Option (Box TExpr Global)) (old new : Option Standing) (r : Option TypedExpr) → IsValue so_far file locals site target.value x → IsValue so_far file locals site value.value y → IsAssigned site p op x y old new r → IsTyped so_far file locals site (E.Assign p op target value) r
 unfolding IsPlain
-assigned_typed met file locals site p op target value x y old new None v w h = tt
-assigned_typed met file locals site p op target value (Some x) (Some y) old new (Some t) v w h = λ program here a calls plain. (h program here target value a.at_site (v program here a (narrowed (in_assignment_target p op target value) calls) plain.0) (w program here a (narrowed (in_assignment_value p op target value) calls) plain.1)).0
-assigned_typed met file locals site p op target value None y old new (Some t) v w h = absurd h
-assigned_typed met file locals site p op target value (Some x) None old new (Some t) v w h = absurd h
+assigned_typed so_far file locals site p op target value x y old new None v w h = tt
+assigned_typed so_far file locals site p op target value (Some x) (Some y) old new (Some t) v w h = λ program here a calls plain. (h program here target value a.at_site (v program here a (narrowed (in_assignment_target p op target value) calls) plain.0) (w program here a (narrowed (in_assignment_value p op target value) calls) plain.1)).0
+assigned_typed so_far file locals site p op target value None y old new (Some t) v w h = absurd h
+assigned_typed so_far file locals site p op target value (Some x) None old new (Some t) v w h = absurd h
 
 -- ---- intrinsics along an axis
 
@@ -422,36 +423,36 @@ told_along file locals site e along source (Err u) old new None s h m = tt
 told_along file locals site e along source (Err u) old new (Some b) s h m = absurd m
 
 -- an intrinsic from its axis and its source
-from_axis : (met : List Reached) (file : File) (locals : Locals) (site : Site) (e axis : Expr) (x : Option (Box TExpr Global)) (found : Option Along) (along : Along) (source : Option (Box TExpr Global)) (r : Option TypedExpr) → ((program : Program) (here : Here) (y : Box TExpr Global) → IsPart program here axis y → IsAxisTyped program here e y) → AreCallsOf axis e → (IsPlain e → IsPlain axis) → (HasItsSource e source → (program : Program) (here : Here) → IsAround file locals site here → HasItsCalls met file program here e → IsPlain e → IsSource program here e source) → IsValue met file locals site axis x → AreFoundAlong file locals site e x found → found ≡ Some along → IsTypedAlong file locals site e along source r → IsTyped met file locals site e r
-from_axis met file locals site e axis x found along source None brings within plainly has v f is h = tt
-from_axis met file locals site e axis None None along source (Some t) brings within plainly has v f is h = absurd (cc)
-from_axis met file locals site e axis None (Some b) along source (Some t) brings within plainly has v f is h = absurd f
-from_axis met file locals site e axis (Some x) None along source (Some t) brings within plainly has v f is h = absurd (cc)
-from_axis met file locals site e axis (Some x) (Some b) along source (Some t) brings within plainly has v f is h = λ program here a calls plain.
+from_axis : (so_far : Instances) (file : File) (locals : Locals) (site : Site) (e axis : Expr) (x : Option (Box TExpr Global)) (found : Option Along) (along : Along) (source : Option (Box TExpr Global)) (r : Option TypedExpr) → ((program : Program) (here : Here) (y : Box TExpr Global) → IsPart program here axis y → IsAxisTyped program here e y) → AreCallsOf axis e → (IsPlain e → IsPlain axis) → (HasItsSource e source → (program : Program) (here : Here) → IsAround file locals site here → HasItsCalls so_far file program here e → IsPlain e → IsSource program here e source) → IsValue so_far file locals site axis x → AreFoundAlong file locals site e x found → found ≡ Some along → IsTypedAlong file locals site e along source r → IsTyped so_far file locals site e r
+from_axis so_far file locals site e axis x found along source None brings within plainly has v f is h = tt
+from_axis so_far file locals site e axis None None along source (Some t) brings within plainly has v f is h = absurd (cc)
+from_axis so_far file locals site e axis None (Some b) along source (Some t) brings within plainly has v f is h = absurd f
+from_axis so_far file locals site e axis (Some x) None along source (Some t) brings within plainly has v f is h = absurd (cc)
+from_axis so_far file locals site e axis (Some x) (Some b) along source (Some t) brings within plainly has v f is h = λ program here a calls plain.
     let goes = subst (IsFoundAlong program here e) (let k : b ≡ along = cc in k) (f program here a plain (brings program here x (v program here a (narrowed within calls) (plainly plain)))) in
     h.1 program here a goes (has h.0 program here a calls plain)
 
-pub pcoord_typed : (met : List Reached) (file : File) (locals : Locals) (site : Site) (p : Place) (axis : Box Expr Global) (x : Option (Box TExpr Global)) (found : Option Along) (along : Along) (source : Option (Box TExpr Global)) (r : Option TypedExpr) → IsValue met file locals site axis.value x → AreFoundAlong file locals site (E.Pcoord p axis) x found → found ≡ Some along → IsSourceValue met file locals site (E.Pcoord p axis) source → IsTypedAlong file locals site (E.Pcoord p axis) along source r → IsTyped met file locals site (E.Pcoord p axis) r
+pub pcoord_typed : (so_far : Instances) (file : File) (locals : Locals) (site : Site) (p : Place) (axis : Box Expr Global) (x : Option (Box TExpr Global)) (found : Option Along) (along : Along) (source : Option (Box TExpr Global)) (r : Option TypedExpr) → IsValue so_far file locals site axis.value x → AreFoundAlong file locals site (E.Pcoord p axis) x found → found ≡ Some along → IsSourceValue so_far file locals site (E.Pcoord p axis) source → IsTypedAlong file locals site (E.Pcoord p axis) along source r → IsTyped so_far file locals site (E.Pcoord p axis) r
 unfolding IsPlain
-pcoord_typed met file locals site p axis x found along source r v f is s h = from_axis met file locals site (E.Pcoord p axis) axis.value x found along source r (λ program here y k. k) (in_pcoord p axis) (λ plain. plain) (λ has program here a calls plain. tt) v f is h
+pcoord_typed so_far file locals site p axis x found along source r v f is s h = from_axis so_far file locals site (E.Pcoord p axis) axis.value x found along source r (λ program here y k. k) (in_pcoord p axis) (λ plain. plain) (λ has program here a calls plain. tt) v f is h
 
-pub dim_typed : (met : List Reached) (file : File) (locals : Locals) (site : Site) (p : Place) (shape : ShapeRef) (axis : Box Expr Global) (x : Option (Box TExpr Global)) (found : Option Along) (along : Along) (source : Option (Box TExpr Global)) (r : Option TypedExpr) → IsValue met file locals site axis.value x → AreFoundAlong file locals site (E.DimOf p shape axis) x found → found ≡ Some along → IsSourceValue met file locals site (E.DimOf p shape axis) source → IsTypedAlong file locals site (E.DimOf p shape axis) along source r → IsTyped met file locals site (E.DimOf p shape axis) r
+pub dim_typed : (so_far : Instances) (file : File) (locals : Locals) (site : Site) (p : Place) (shape : ShapeRef) (axis : Box Expr Global) (x : Option (Box TExpr Global)) (found : Option Along) (along : Along) (source : Option (Box TExpr Global)) (r : Option TypedExpr) → IsValue so_far file locals site axis.value x → AreFoundAlong file locals site (E.DimOf p shape axis) x found → found ≡ Some along → IsSourceValue so_far file locals site (E.DimOf p shape axis) source → IsTypedAlong file locals site (E.DimOf p shape axis) along source r → IsTyped so_far file locals site (E.DimOf p shape axis) r
 unfolding IsPlain
-dim_typed met file locals site p shape axis x found along source r v f is s h = from_axis met file locals site (E.DimOf p shape axis) axis.value x found along source r (λ program here y k. k) (in_dim p shape axis) (λ plain. plain) (λ has program here a calls plain. tt) v f is h
+dim_typed so_far file locals site p shape axis x found along source r v f is s h = from_axis so_far file locals site (E.DimOf p shape axis) axis.value x found along source r (λ program here y k. k) (in_dim p shape axis) (λ plain. plain) (λ has program here a calls plain. tt) v f is h
 
-pub enumerate_typed : (met : List Reached) (file : File) (locals : Locals) (site : Site) (p : Place) (axis : Box Expr Global) (direction : Direction) (reach : Inclusion) (mode : SegmentMode) (bit : Option Name) (x : Option (Box TExpr Global)) (found : Option Along) (along : Along) (source : Option (Box TExpr Global)) (r : Option TypedExpr) → IsValue met file locals site axis.value x → AreFoundAlong file locals site (E.Enumerate p axis direction reach mode bit) x found → found ≡ Some along → IsSourceValue met file locals site (E.Enumerate p axis direction reach mode bit) source → IsTypedAlong file locals site (E.Enumerate p axis direction reach mode bit) along source r → IsTyped met file locals site (E.Enumerate p axis direction reach mode bit) r
+pub enumerate_typed : (so_far : Instances) (file : File) (locals : Locals) (site : Site) (p : Place) (axis : Box Expr Global) (direction : Direction) (reach : Inclusion) (mode : SegmentMode) (bit : Option Name) (x : Option (Box TExpr Global)) (found : Option Along) (along : Along) (source : Option (Box TExpr Global)) (r : Option TypedExpr) → IsValue so_far file locals site axis.value x → AreFoundAlong file locals site (E.Enumerate p axis direction reach mode bit) x found → found ≡ Some along → IsSourceValue so_far file locals site (E.Enumerate p axis direction reach mode bit) source → IsTypedAlong file locals site (E.Enumerate p axis direction reach mode bit) along source r → IsTyped so_far file locals site (E.Enumerate p axis direction reach mode bit) r
 unfolding IsPlain
-enumerate_typed met file locals site p axis direction reach mode bit x found along source r v f is s h = from_axis met file locals site (E.Enumerate p axis direction reach mode bit) axis.value x found along source r (λ program here y k. k) (in_enumerate p axis direction reach mode bit) (λ plain. plain) (λ has program here a calls plain. tt) v f is h
+enumerate_typed so_far file locals site p axis direction reach mode bit x found along source r v f is s h = from_axis so_far file locals site (E.Enumerate p axis direction reach mode bit) axis.value x found along source r (λ program here y k. k) (in_enumerate p axis direction reach mode bit) (λ plain. plain) (λ has program here a calls plain. tt) v f is h
 
-source_there : (met : List Reached) (file : File) (locals : Locals) (site : Site) (p : Place) (from axis : Box Expr Global) (combiner : Combiner) (direction : Direction) (mode : SegmentMode) (bit : Option Name) (reach : Inclusion) (source : Option (Box TExpr Global)) → IsValue met file locals site from.value source → HasItsSource (E.Scan p from axis combiner direction mode bit reach) source → (program : Program) (here : Here) → IsAround file locals site here → HasItsCalls met file program here (E.Scan p from axis combiner direction mode bit reach) → IsPlain (E.Scan p from axis combiner direction mode bit reach) → IsSource program here (E.Scan p from axis combiner direction mode bit reach) source
+source_there : (so_far : Instances) (file : File) (locals : Locals) (site : Site) (p : Place) (from axis : Box Expr Global) (combiner : Combiner) (direction : Direction) (mode : SegmentMode) (bit : Option Name) (reach : Inclusion) (source : Option (Box TExpr Global)) → IsValue so_far file locals site from.value source → HasItsSource (E.Scan p from axis combiner direction mode bit reach) source → (program : Program) (here : Here) → IsAround file locals site here → HasItsCalls so_far file program here (E.Scan p from axis combiner direction mode bit reach) → IsPlain (E.Scan p from axis combiner direction mode bit reach) → IsSource program here (E.Scan p from axis combiner direction mode bit reach) source
 unfolding IsPlain
-source_there met file locals site p from axis combiner direction mode bit reach None v has program here a calls plain = has
-source_there met file locals site p from axis combiner direction mode bit reach (Some y) v has program here a calls plain = v program here a (narrowed (in_scan_source p from axis combiner direction mode bit reach) calls) plain.0
+source_there so_far file locals site p from axis combiner direction mode bit reach None v has program here a calls plain = has
+source_there so_far file locals site p from axis combiner direction mode bit reach (Some y) v has program here a calls plain = v program here a (narrowed (in_scan_source p from axis combiner direction mode bit reach) calls) plain.0
 
-pub scan_typed : (met : List Reached) (file : File) (locals : Locals) (site : Site) (p : Place) (from axis : Box Expr Global) (combiner : Combiner) (direction : Direction) (mode : SegmentMode) (bit : Option Name) (reach : Inclusion) (x : Option (Box TExpr Global)) (found : Option Along) (along : Along) (source : Option (Box TExpr Global)) (r : Option TypedExpr) → IsValue met file locals site axis.value x → AreFoundAlong file locals site (E.Scan p from axis combiner direction mode bit reach) x found → found ≡ Some along → IsSourceValue met file locals site (E.Scan p from axis combiner direction mode bit reach) source → IsTypedAlong file locals site (E.Scan p from axis combiner direction mode bit reach) along source r → IsTyped met file locals site (E.Scan p from axis combiner direction mode bit reach) r
+pub scan_typed : (so_far : Instances) (file : File) (locals : Locals) (site : Site) (p : Place) (from axis : Box Expr Global) (combiner : Combiner) (direction : Direction) (mode : SegmentMode) (bit : Option Name) (reach : Inclusion) (x : Option (Box TExpr Global)) (found : Option Along) (along : Along) (source : Option (Box TExpr Global)) (r : Option TypedExpr) → IsValue so_far file locals site axis.value x → AreFoundAlong file locals site (E.Scan p from axis combiner direction mode bit reach) x found → found ≡ Some along → IsSourceValue so_far file locals site (E.Scan p from axis combiner direction mode bit reach) source → IsTypedAlong file locals site (E.Scan p from axis combiner direction mode bit reach) along source r → IsTyped so_far file locals site (E.Scan p from axis combiner direction mode bit reach) r
 unfolding IsPlain
-scan_typed met file locals site p from axis combiner direction mode bit reach x found along source r v f is s h =
-    from_axis met file locals site (E.Scan p from axis combiner direction mode bit reach) axis.value x found along source r (λ program here y k. k) (in_scan_axis p from axis combiner direction mode bit reach) (λ plain. plain.1) (source_there met file locals site p from axis combiner direction mode bit reach source s) v f is h
+scan_typed so_far file locals site p from axis combiner direction mode bit reach x found along source r v f is s h =
+    from_axis so_far file locals site (E.Scan p from axis combiner direction mode bit reach) axis.value x found along source r (λ program here y k. k) (in_scan_axis p from axis combiner direction mode bit reach) (λ plain. plain.1) (source_there so_far file locals site p from axis combiner direction mode bit reach source s) v f is h
 
 pub if_answer : (P : Program → Here → Type 0) (e : Expr) (typed : Result TExpr Untyped) → ((program : Program) (here : Here) → P program here → IsAnswerOrMemory program here e typed) → IfOk typed (λ t. (program : Program) (here : Here) → P program here → Types program here e t true)
 if_answer P e (Ok t) h = h

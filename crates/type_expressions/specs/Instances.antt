@@ -3,6 +3,7 @@ use Rattle.std.specs.Prelude.{◌≡◌, List, [], ◌∷◌, ◌++◌, map, if�
 use Rattle.cstar_tree.specs.Headers as H
 use Rattle.cstar_tree.specs.Instances.{is_met}
 use Rattle.type_expressions.specs.declared.found.Instances.{Instances}
+use Rattle.type_scopes.specs.declared.file.File.{File}
 use Rattle.type_scopes.specs.declared.headers.Reached.{Reached}
 
 -- a function under a current shape
@@ -21,3 +22,7 @@ with_met r before = if is_met r before then before else before ++ r ∷ []
 pub record IsBeginning {A : Type 0} (first all : List A) : Type 0 where
   pub rest : List A
   pub whole : all ≡ first ++ rest
+
+-- what was met is met further on, and before all that is new
+pub record Grows (file : File) (old new : Instances) : Type 0 where
+  pub begins : IsBeginning (met old) (met new)

@@ -9,7 +9,7 @@ use Rattle.cstar_tree.specs.declared.typed.Variable.{Variable}
 use Rattle.constant_trees.specs.Words.{HasFewPositions}
 use Rattle.cstar_tree.specs.Constants.{axis_among, constant_number}
 use Rattle.cstar_tree.specs.ExpressionTypes.{Types, TypesEach, TypesIndexes}
-use Rattle.cstar_tree.specs.Headers.{Program, Reached}
+use Rattle.cstar_tree.specs.Headers.{Program}
 use Rattle.cstar_tree.specs.Scopes.{Here, VariableType, a_shape, a_variable, extents_of, meaning, part, shape_of}
 use Rattle.type_scopes.specs.FileBindings.{names_at}
 use Rattle.type_scopes.specs.declared.file.File.{File}
@@ -20,6 +20,7 @@ use Rattle.type_expressions.specs.Along.{AreBits, IsAlong}
 use Rattle.type_expressions.specs.Answers.{HasShapes, IsSite, trees}
 use Rattle.type_expressions.specs.Names.{HasNames}
 use Rattle.type_expressions.specs.Programs.{HasItsCalls}
+use Rattle.type_expressions.specs.declared.found.Instances.{Instances}
 use Rattle.type_expressions.specs.declared.found.TypedExpr.{TypedExpr}
 use Rattle.type_expressions.specs.declared.intrinsics.Axis.TheVariants as A
 use Rattle.type_expressions.specs.declared.walk.Along.{Along}
@@ -70,14 +71,14 @@ unfoldable mutual
 
 -- what is typed is what the rules give the expression at its place, where these instances were met
 -- so far
-abbrev pub IsTyped : List Reached → File → Locals → Site → Expr → Option TypedExpr → Type 0
-IsTyped met file locals site e None = Unit {0}
-IsTyped met file locals site e (Some t) = (program : Program) (here : Here) → IsAround file locals site here → HasItsCalls met file program here e → IsPlain e → Types program here e t.expr.value t.has_value
+abbrev pub IsTyped : Instances → File → Locals → Site → Expr → Option TypedExpr → Type 0
+IsTyped so_far file locals site e None = Unit {0}
+IsTyped so_far file locals site e (Some t) = (program : Program) (here : Here) → IsAround file locals site here → HasItsCalls so_far file program here e → IsPlain e → Types program here e t.expr.value t.has_value
 
 -- so is a part, which needs a value
-abbrev pub IsValue : List Reached → File → Locals → Site → Expr → Option (Box TExpr Global) → Type 0
-IsValue met file locals site e None = Unit {0}
-IsValue met file locals site e (Some x) = (program : Program) (here : Here) → IsAround file locals site here → HasItsCalls met file program here e → IsPlain e → Types program (part here) e x.value true
+abbrev pub IsValue : Instances → File → Locals → Site → Expr → Option (Box TExpr Global) → Type 0
+IsValue so_far file locals site e None = Unit {0}
+IsValue so_far file locals site e (Some x) = (program : Program) (here : Here) → IsAround file locals site here → HasItsCalls so_far file program here e → IsPlain e → Types program (part here) e x.value true
 
 -- what is typed from parts is what the rules give the expression with such parts
 abbrev pub IsTypedFrom : {X : Type 0} → (Program → Here → X → Type 0) → Option X → File → Locals → Site → Expr → Option TypedExpr → Type 0
@@ -104,13 +105,13 @@ AreParts program here (E.Call' n _ arguments) xs = TypesEach program (part here)
 AreParts program here (E.Printf' p text _ arguments) xs = TypesEach program (part here) (items-the_row-Expr _ arguments) (trees xs.items)
 AreParts program here _ xs = ⊥
 
-abbrev pub AreListed : List Reached → File → Locals → Site → Expr → Option (Vec (Box TExpr Global) Global) → Type 0
-AreListed met file locals site e None = Unit {0}
-AreListed met file locals site e (Some xs) = (program : Program) (here : Here) → IsAround file locals site here → HasItsCalls met file program here e → IsPlain e → AreParts program here e xs
+abbrev pub AreListed : Instances → File → Locals → Site → Expr → Option (Vec (Box TExpr Global) Global) → Type 0
+AreListed so_far file locals site e None = Unit {0}
+AreListed so_far file locals site e (Some xs) = (program : Program) (here : Here) → IsAround file locals site here → HasItsCalls so_far file program here e → IsPlain e → AreParts program here e xs
 
 -- the whole from its list
-abbrev pub IsTypedFromList : List Reached → Option (Vec (Box TExpr Global) Global) → File → Locals → Site → Expr → Option TypedExpr → Type 0
-IsTypedFromList met parts file locals site e t = IsTypedFrom (λ program here xs. AreParts program here e xs × HasItsCalls met file program here e) parts file locals site e t
+abbrev pub IsTypedFromList : Instances → Option (Vec (Box TExpr Global) Global) → File → Locals → Site → Expr → Option TypedExpr → Type 0
+IsTypedFromList so_far parts file locals site e t = IsTypedFrom (λ program here xs. AreParts program here e xs × HasItsCalls so_far file program here e) parts file locals site e t
 
 -- what a `.` stands for in a part of a list, if it stands for an axis
 abbrev pub dot_at : Option Bool → Option ℕ → ℕ → Option ℕ
@@ -139,9 +140,9 @@ IsSource program here (E.Scan' p _ source _ axis _ _ _ bit _) None = ⊥
 IsSource program here (E.Scan' p _ source _ axis _ _ _ bit _) (Some x) = IsPart program here source x
 IsSource program here _ x = Unit {0}
 
-abbrev pub IsSourceValue : List Reached → File → Locals → Site → Expr → Option (Box TExpr Global) → Type 0
-IsSourceValue met file locals site (E.Scan' p _ source _ axis _ _ _ bit _) x = IsValue met file locals site source x
-IsSourceValue met file locals site _ x = Unit {0}
+abbrev pub IsSourceValue : Instances → File → Locals → Site → Expr → Option (Box TExpr Global) → Type 0
+IsSourceValue so_far file locals site (E.Scan' p _ source _ axis _ _ _ bit _) x = IsValue so_far file locals site source x
+IsSourceValue so_far file locals site _ x = Unit {0}
 
 abbrev pub HasItsSource : Expr → Option (Box TExpr Global) → Type 0
 HasItsSource (E.Scan' p _ source _ axis _ _ _ bit _) None = ⊥

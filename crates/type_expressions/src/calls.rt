@@ -14,7 +14,7 @@ ghost use Rattle.type_scopes.specs.declared.faults.Untyped.TheVariants as U;
 ghost use Rattle.cstar_tree.specs.declared.typed.ValueType.{ValueType};
 ghost use Rattle.type_scopes.specs.Headers.{IsOfGroup, returned};
 ghost use Rattle.type_expressions.specs.Calls.{HasTypes, IsCallTo, IsGiven, IsReached, TakesParallel, is_unfit};
-ghost use Rattle.type_expressions.specs.Instances.{IsBeginning, instance_of, met};
+ghost use Rattle.type_expressions.specs.Instances.{Grows, instance_of, met};
 ghost use Rattle.type_expressions.specs.Walks.{IsTypedFromList};
 ghost use Rattle.type_expressions.specs.Answers.{IsFaultOrMemory, is_parallel, trees};
 
@@ -191,8 +191,8 @@ pub fn call(
     name: &Name,
     arguments: Option<Vec<Box<TExpr>>>,
 ) -> Typing
-    ensures typed { (given : Vec Expr Global) → IfOk result (IsTypedFromList (met found.new.instances) arguments file.now locals.now site (E.Call name.now given)) }
-    ensures met { OnOk result (IsBeginning (met found.old.instances) (met found.new.instances)) }
+    ensures typed { (given : Vec Expr Global) → IfOk result (IsTypedFromList found.new.instances arguments file.now locals.now site (E.Call name.now given)) }
+    ensures met { OnOk result (Grows file.now found.old.instances found.new.instances) }
 {
     let Some(function) = found.faults.settle(file.called(locals, site, name))? else {
         return Ok(None);
@@ -202,7 +202,7 @@ pub fn call(
         current: site.current,
     };
     let header = file.header(reached)?;
-    let instance = reach(found, site, reached, &header)?;
+    let instance = reach(found, file, site, reached, &header)?;
     let Some(arguments) = arguments else {
         return Ok(None);
     };
@@ -214,12 +214,13 @@ pub fn call(
 /// The number of the instance that a call reaches, if it stands in a function.
 fn reach(
     found: &mut Found,
+    file: &File<'_>,
     site: Site,
     reached: Reached,
     header: &Header,
 ) -> Result<Option<u32>, Memory>
     ensures number { IfOk result (IsReached (met found.new.instances) site.function (instance_of reached)) }
-    ensures met { OnOk result (IsBeginning (met found.old.instances) (met found.new.instances)) }
+    ensures met { OnOk result (Grows file.now found.old.instances found.new.instances) }
 {
     match site.function {
         Some(_) => Ok(Some(found.reach(reached, header)?)),

@@ -17,7 +17,7 @@ ghost use Rattle.type_scopes.specs.declared.sites.Site.{Site};
 ghost use Rattle.type_expressions.specs.Along.{IsAxisOf, number_of_constant};
 ghost use Rattle.type_expressions.specs.Names.{IsVariableMeant};
 ghost use Rattle.type_expressions.specs.Answers.{IsAssigned, OnBoth, OnThree};
-ghost use Rattle.type_expressions.specs.Instances.{IsBeginning, met};
+ghost use Rattle.type_expressions.specs.Instances.{Grows};
 ghost use Rattle.type_expressions.specs.Walks.{AreFoundAlong, AreListed, AreMore, AreParts, HasItsSource, IsAround, IsFoundAlong, IsOperand, IsPart, IsSource, IsSourceValue, IsTyped, IsTypedAlong, IsTypedFrom, IsTypedFromList, IsValue, dot_at, rank_under};
 
 use crate::calls::{call, printf};
@@ -49,8 +49,8 @@ pub fn typed_value(
     site: Site,
     e: &Expr,
 ) -> Result<Option<Box<TExpr>>, Memory>
-    ensures typed { IfOk result (IsValue (met found.new.instances) file.now locals.now site e.now) }
-    ensures met { OnOk result (IsBeginning (met found.old.instances) (met found.new.instances)) }
+    ensures typed { IfOk result (IsValue found.new.instances file.now locals.now site e.now) }
+    ensures met { OnOk result (Grows file.now found.old.instances found.new.instances) }
 {
     let typed = typed_expr(found, file, locals, site.part(), e)?;
     found.faults.settle(valued(e.place(), typed))
@@ -65,8 +65,8 @@ fn axis_value(
     site: Site,
     axis: &Expr,
 ) -> Result<Option<Box<TExpr>>, Memory>
-    ensures typed { IfOk result (IsValue (met found.new.instances) file.now locals.now site axis.now) }
-    ensures met { OnOk result (IsBeginning (met found.old.instances) (met found.new.instances)) }
+    ensures typed { IfOk result (IsValue found.new.instances file.now locals.now site axis.now) }
+    ensures met { OnOk result (Grows file.now found.old.instances found.new.instances) }
 {
     let earlier = found.set_aside();
     let typed = typed_value(found, file, locals, site, axis)?;
@@ -82,8 +82,8 @@ pub fn typed_constant(
     site: Site,
     e: &Expr,
 ) -> Typing
-    ensures typed { IfOk result (IsTyped (met found.new.instances) file.now locals.now (record site { whole = false }) e.now) }
-    ensures met { OnOk result (IsBeginning (met found.old.instances) (met found.new.instances)) }
+    ensures typed { IfOk result (IsTyped found.new.instances file.now locals.now (record site { whole = false }) e.now) }
+    ensures met { OnOk result (Grows file.now found.old.instances found.new.instances) }
 {
     let earlier = found.set_aside();
     let typed = typed_expr(found, file, locals, site.part(), e)?;
@@ -114,8 +114,8 @@ pub fn typed_expr(
     site: Site,
     e: &Expr,
 ) -> Typing
-    ensures typed { IfOk result (IsTyped (met found.new.instances) file.now locals.now site e.now) }
-    ensures met { OnOk result (IsBeginning (met found.old.instances) (met found.new.instances)) }
+    ensures typed { IfOk result (IsTyped found.new.instances file.now locals.now site e.now) }
+    ensures met { OnOk result (Grows file.now found.old.instances found.new.instances) }
 {
     found.count(nodes(file, locals, site, e));
     match e {
@@ -163,8 +163,8 @@ fn source_value(
     site: Site,
     e: &Expr,
 ) -> Result<Option<Box<TExpr>>, Memory>
-    ensures typed { IfOk result (IsSourceValue (met found.new.instances) file.now locals.now site e.now) }
-    ensures met { OnOk result (IsBeginning (met found.old.instances) (met found.new.instances)) }
+    ensures typed { IfOk result (IsSourceValue found.new.instances file.now locals.now site e.now) }
+    ensures met { OnOk result (Grows file.now found.old.instances found.new.instances) }
 {
     match e {
         Expr::Scan { source, .. } => typed_value(found, file, locals, site, source),
@@ -188,8 +188,8 @@ fn nodes(file: &File<'_>, locals: &Locals, site: Site, e: &Expr) -> u64 {
 /// Types an expression with two or three operands.
 #[cycle(expression)]
 fn operands(found: &mut Found, file: &File<'_>, locals: &Locals, site: Site, e: &Expr) -> Typing
-    ensures typed { IfOk result (IsTyped (met found.new.instances) file.now locals.now site e.now) }
-    ensures met { OnOk result (IsBeginning (met found.old.instances) (met found.new.instances)) }
+    ensures typed { IfOk result (IsTyped found.new.instances file.now locals.now site e.now) }
+    ensures met { OnOk result (Grows file.now found.old.instances found.new.instances) }
 {
     match e {
         Expr::Assign {
@@ -392,8 +392,8 @@ fn list(
     site: Site,
     e: &Expr,
 ) -> Result<Option<Vec<Box<TExpr>>>, Memory>
-    ensures typed { IfOk result (AreListed (met found.new.instances) file.now locals.now site e.now) }
-    ensures met { OnOk result (IsBeginning (met found.old.instances) (met found.new.instances)) }
+    ensures typed { IfOk result (AreListed found.new.instances file.now locals.now site e.now) }
+    ensures met { OnOk result (Grows file.now found.old.instances found.new.instances) }
 {
     let (parts, indexed) = match e {
         Expr::Call { arguments, .. } | Expr::Printf { arguments, .. } => (arguments, None),
@@ -449,8 +449,8 @@ fn with_list(
     e: &Expr,
     parts: Option<Vec<Box<TExpr>>>,
 ) -> Typing
-    ensures typed { IfOk result (IsTypedFromList (met found.new.instances) parts file.now locals.now site e.now) }
-    ensures met { OnOk result (IsBeginning (met found.old.instances) (met found.new.instances)) }
+    ensures typed { IfOk result (IsTypedFromList found.new.instances parts file.now locals.now site e.now) }
+    ensures met { OnOk result (Grows file.now found.old.instances found.new.instances) }
 {
     match e {
         Expr::Call { name, .. } => call(found, file, locals, site, name, parts),

@@ -1,6 +1,5 @@
 use Rattle.std.proofs.Common.{◌≡◌, arith, inl, inr, length, refl}
 use Rattle.std.proofs.lemmas.Result.{IfOk-weaker}
-use Rattle.type_expressions.specs.Instances.{met}
 use Rattle.type_expressions.proofs.CallsWithin.{begins_both, begins_same}
 use Rattle.type_expressions.proofs.Listing.{call_listed, indexes_listed, listed_more, listed_to_later, none_listed, printed_listed, told_left}
 use Rattle.type_expressions.proofs.Walking.{assigned_typed, at_index_typed, both_typed, brackets_typed, casts_typed, dim_typed, enumerate_typed, list_typed, parallel_cast_typed, pcoord_typed, postfix_typed, prefix_typed, scan_typed, three_typed, value_later, value_typed}
@@ -9,7 +8,7 @@ use Rattle.type_expressions.proofs.walk.+expression.Goals.{list-in-LeftIndex, li
 
 pub list-loop-part-init : goal.list-loop-part-init
 list-loop-part-init t c = (
-  none_listed (met c.args.found.now.instances) c.args.file.now c.args.locals.now c.args.site c.args.e.now c.match-e.indexed.1 c.deref-part-items.result.now c.new.result c.new.ensures.items,
+  none_listed c.args.found.now.instances c.args.file.now c.args.locals.now c.args.site c.args.e.now c.match-e.indexed.1 c.deref-part-items.result.now c.new.result c.new.ensures.items,
   omega arith,
   elim c.match-e.branch [
     | list-in-LeftIndex w ↦ rw w.indexed-is (told_left c.args.file.now c.args.locals.now c.args.site c.args.e.now w.in-LeftIndex.place w.in-LeftIndex.indexes w.in-LeftIndex.name w.is_of_current.result w.in-LeftIndex.is w.is_of_current.ensures)
@@ -23,7 +22,7 @@ list-loop-part-preserved t c =
     let before = c.loop-part.invariant in
     let begins = c.in_ok-part.ensures.met in
     let listed = listed_to_later c.args.file.now c.args.locals.now c.args.site c.args.e.now c.match-e.indexed.1 c.deref-part-items.result.now c.loop-part.part-index c.loop-part.typed begins before.0 in (
-      listed_more (met c.typed_value.new.found.instances) c.args.file.now c.args.locals.now c.args.site c.args.e.now c.match-e.indexed.1 c.deref-part-items.result.now c.loop-part.part-index c.loop-part.axis c.part-item.result c.in_ok-part.part c.loop-part.typed c.in_ok-typed.typed c.loop-part-test.true c.part-item.is before.1 before.2 (rw c.dot_at-dot.ensures at c.in_ok-part.ensures.typed) c.in_ok-typed.ensures listed,
+      listed_more c.typed_value.new.found.instances c.args.file.now c.args.locals.now c.args.site c.args.e.now c.match-e.indexed.1 c.deref-part-items.result.now c.loop-part.part-index c.loop-part.axis c.part-item.result c.in_ok-part.part c.loop-part.typed c.in_ok-typed.typed c.loop-part-test.true c.part-item.is before.1 before.2 (rw c.dot_at-dot.ensures at c.in_ok-part.ensures.typed) c.in_ok-typed.ensures listed,
       omega (arith, before.1, c.saturating_add-axis.ensures),
       before.2,
       begins_both before.3 begins,
@@ -101,7 +100,7 @@ typed_expr-returns-in_ok-part-in-Prefix-clause-typed t c =
 
 pub typed_expr-returns-in_ok-parts-in-Call-clause-typed : goal.typed_expr-returns-in_ok-parts-in-Call-clause-typed
 typed_expr-returns-in_ok-parts-in-Call-clause-typed t c =
-    list_typed (met c.list.new.found.instances) (met c.with_list.new.found.instances) c.args.file.now c.args.locals.now c.args.site c.args.e.now c.in_ok-parts-in-Call.parts c.with_list.result c.in_ok-parts-in-Call.ensures.typed c.with_list.ensures.met c.with_list.ensures.typed
+    list_typed c.list.new.found.instances c.with_list.new.found.instances c.args.file.now c.args.locals.now c.args.site c.args.e.now c.in_ok-parts-in-Call.parts c.with_list.result c.in_ok-parts-in-Call.ensures.typed c.with_list.ensures.met c.with_list.ensures.typed
 
 pub typed_value-returns-clause-typed : goal.typed_value-returns-clause-typed
 typed_value-returns-clause-typed t c =

@@ -1,5 +1,5 @@
 use Rattle.std.proofs.Common.{◌≡◌, ◌+◌, ◌*◌, ◌-◌, ◌^◌, min}
-use Rattle.type_expressions.specs.Instances.{IsBeginning, met}
+use Rattle.type_expressions.specs.Instances.{Grows}
 use Rattle.type_expressions.proofs.Listing.{AreListedTo, IsToldIndexed}
 use Rattle.type_expressions.proofs.walk.+expression.Given as goal
 
@@ -23,7 +23,7 @@ decreases-source_value l = goal.size-source_value l * 8 + 0
 
 abbrev pub invariant-list-loop-part : goal.invariant-list-loop-part
 invariant-list-loop-part l =
-    AreListedTo (met l.found.instances) l.file l.locals l.site l.e l.indexed l.part-items l.part-index l.typed
+    AreListedTo l.found.instances l.file l.locals l.site l.e l.indexed l.part-items l.part-index l.typed
     × (l.axis ≡ min l.part-index (2 ^ 32 - 1))
     × IsToldIndexed l.file l.locals l.site l.e l.indexed
-    × IsBeginning (met l.fn.found.instances) (met l.found.instances)
+    × Grows l.file l.fn.found.instances l.found.instances

@@ -3,7 +3,6 @@ use Rattle.std.proofs.lemmas.Result.{IfOk-weaker}
 use Rattle.cstar_tree.specs.Scopes.{find}
 use Rattle.cstar_tree.specs.declared.syntax.Expr as E
 use Rattle.type_scopes.specs.FileBindings.{names_at}
-use Rattle.type_expressions.specs.Instances.{met}
 use Rattle.type_expressions.specs.Names.{IsVariableMeant, TellsOther}
 use Rattle.type_expressions.proofs.Walking.{found_if, without_calls}
 use Rattle.type_expressions.proofs.walk.with_list.Goals as goal
@@ -15,4 +14,4 @@ pub returns-in_ok-variable-in-LeftIndex-clause-typed : goal.returns-in_ok-variab
 returns-in_ok-variable-in-LeftIndex-clause-typed c =
     let m = find (names_at c.args.file.now c.args.locals.now c.args.site.known) c.in-LeftIndex.name.word in
     let found = found_if (IsVariableMeant false m) (TellsOther false m c.in-LeftIndex.name.place) c.plain_variable.result c.in_ok-variable-in-LeftIndex.variable c.plain_variable.ensures c.in_ok-variable-in-LeftIndex.ensures.part in
-    rw c.in-LeftIndex.is (IfOk-weaker c.indexed.result _ _ (λ r m. without_calls (met c.args.found.now.instances) c.args.parts c.args.file.now c.args.locals.now c.args.site (E.LeftIndex c.in-LeftIndex.place c.in-LeftIndex.indexes c.in-LeftIndex.name) r m) (c.indexed.ensures c.args.locals.now c.args.site c.in-LeftIndex.name c.in-LeftIndex.indexes found))
+    rw c.in-LeftIndex.is (IfOk-weaker c.indexed.result _ _ (λ r m. without_calls c.args.found.now.instances c.args.parts c.args.file.now c.args.locals.now c.args.site (E.LeftIndex c.in-LeftIndex.place c.in-LeftIndex.indexes c.in-LeftIndex.name) r m) (c.indexed.ensures c.args.locals.now c.args.site c.in-LeftIndex.name c.in-LeftIndex.indexes found))
