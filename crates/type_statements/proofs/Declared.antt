@@ -29,19 +29,24 @@ use Rattle.type_scopes.specs.declared.file.File.{File}
 use Rattle.type_scopes.specs.declared.locals.Locals.{Locals}
 use Rattle.type_scopes.specs.declared.names.VariableType as Names
 use Rattle.type_scopes.specs.declared.sites.Site.{Site}
-use Rattle.type_expressions.specs.Walks.{IsAround, IsPlain, IsShape, IsValue}
+use Rattle.type_expressions.specs.Walks.{IsAround, IsShape, IsValue}
 use Rattle.type_expressions.specs.Walks as X
 use Rattle.type_expressions.proofs.Walking as W
+use Rattle.type_expressions.specs.declared.found.Instances.{Instances}
 use Rattle.type_expressions.specs.declared.found.TypedExpr.{TypedExpr}
+use Rattle.type_expressions.proofs.CallsWithin.{moved}
 use Rattle.type_expressions.proofs.Walking.{in_part, is_shape, number_there}
 use Rattle.type_statements.specs.Declarators.{FitsArray, IsConstantNumber, IsFitting, IsInitial, IsInitialisedIf, IsLength, IsVariable, counted, type_with}
 use Rattle.type_statements.specs.Places.{HasItsShape, IsGrown, IsPlace}
-use Rattle.type_statements.specs.Walks.{IsLocal, IsPlainDeclarator}
+use Rattle.type_expressions.specs.Instances.{Grows}
+use Rattle.type_statements.specs.Ready.{InDeclarator, IsReady}
+use Rattle.type_statements.specs.Walks.{IsLocal}
 use Rattle.type_statements.specs.declared.declarations.Initial.{Initial}
 use Rattle.type_statements.specs.declared.declarations.Length.{Length}
 use Rattle.type_statements.specs.declared.declarations.Length.TheVariants as L
 use Rattle.type_statements.specs.declared.scopes.Scopes.{Scopes}
 use Rattle.type_statements.proofs.Places.{behind_new, part_is}
+use Rattle.type_statements.proofs.Ready.{earlier, some_brought}
 
 -- ---- lengths
 
@@ -50,12 +55,12 @@ counted_fitting (pos n) fits = let few : n < 2 ^ 32 = omega (arith, fits.1) in a
 counted_fitting (negsuc n) fits = absurd fits
 
 -- an array's length, where it fits, is the number of its constant expression
-pub type_there : (here : Here) (of : ValueType) (written : Option Expr) (length : Length) (file : File) (locals : Locals) (site : Site) (program : Program) (initial : Option Initializer) {t : S.VariableType} → IsAround file locals site here → IfSome written IsPlain → IsLength file locals site written length → FitsArray (Some of) length initial
+pub type_there : (so_far : Instances) (here : Here) (of : ValueType) (written : Option Expr) (length : Length) (file : File) (locals : Locals) (site : Site) (program : Program) (initial : Option Initializer) {t : S.VariableType} → IsAround file locals site here → IfSome written (IsReady so_far file program here) → IsLength so_far file locals site written length → FitsArray (Some of) length initial
     → type_with length (Some of) ≡ Some t → type_with length (Some of) ≡ declared_type here (Some of) written
-type_there here of None length file locals site program initial a plain is fits typed = rw is refl
-type_there here of (Some e) L.Absent file locals site program initial a plain is fits typed = absurd is
-type_there here of (Some e) L.Faulty file locals site program initial a plain is fits typed = absurd (cc)
-type_there here of (Some e) (L.Of n) file locals site program initial a plain is fits typed =
+type_there so_far here of None length file locals site program initial a plain is fits typed = rw is refl
+type_there so_far here of (Some e) L.Absent file locals site program initial a plain is fits typed = absurd is
+type_there so_far here of (Some e) L.Faulty file locals site program initial a plain is fits typed = absurd (cc)
+type_there so_far here of (Some e) (L.Of n) file locals site program initial a plain is fits typed =
     ap (with_length of) (counted_fitting n fits.1 ∙ sym (is program here a plain))
 
 one_type : (t : S.VariableType) {u : S.VariableType} → Some t ≡ Some u → t ≡ u
@@ -71,34 +76,33 @@ declarable of (L.Of (negsuc n)) ty initial fits is = absurd fits.1
 
 -- ---- values
 
-pub value_here : {file : File} {scopes : Scopes} {site : Site} {program : Program} (here : Here) (e : Expr) (x : Box TExpr Global) → IsPlace file scopes site here → IsValue file scopes.locals site e (Some x) → IsPlain e → Types program here e x.value true
-value_here {program = program} here e x p v plain = subst (λ (place : Here). Types program place e x.value true) (part_is here p.not_whole) (v program here p.around plain)
+pub value_here : (so_far : Instances) {file : File} {scopes : Scopes} {site : Site} {program : Program} (here : Here) (e : Expr) (x : Box TExpr Global) → IsPlace file scopes site here → IsValue so_far file scopes.locals site e (Some x) → IsReady so_far file program here e → Types program here e x.value true
+value_here so_far {program = program} here e x p v ready = subst (λ (place : Here). Types program place e x.value true) (part_is here p.not_whole) (v program here p.around ready.0 ready.1)
 
 -- ---- a variable
 
-initial_types : (file : File) (scopes : Scopes) (site : Site) (program : Program) (here : Here) (ty : Names.VariableType) (written : Option Initializer) (initial : Option Initial) (f : Option TExpr) → IsPlace file scopes site here → IfSome written (λ (i : Initializer). IsPlain i.value)
-    → IsInitial file scopes.locals site written initial → IsInitialisedIf site ty initial f → TypesInitial program here (variable_type ty).value written f
-initial_types file scopes site program here ty None initial f p plain is typed = let none = rw is at typed in rw none Y.no_initial
-initial_types file scopes site program here ty (Some i) None f p plain is typed = absurd is
-initial_types file scopes site program here ty (Some i) (Some x) None p plain is typed = absurd typed
-initial_types file scopes site program here ty (Some i) (Some x) (Some f) p plain is typed =
-    let value = subst (IsValue file scopes.locals site i.value) typed.is_typed is.1 in
-    Y.initial (value_here here i.value typed.value p value plain) (subst (λ (c : Option ℕ). IsAtHand c ty.shape) (sym p.around.at_site.current) typed.at_hand) typed.is_scalar typed.is_fitted
+initial_types : (so_far : Instances) (file : File) (scopes : Scopes) (site : Site) (program : Program) (here : Here) (ty : Names.VariableType) (written : Option Initializer) (initial : Option Initial) (f : Option TExpr) → IsPlace file scopes site here → IfSome written (λ (i : Initializer). IsReady so_far file program here i.value)
+    → IsInitial so_far file scopes.locals site written initial → IsInitialisedIf site ty initial f → TypesInitial program here (variable_type ty).value written f
+initial_types so_far file scopes site program here ty None initial f p plain is typed = let none = rw is at typed in rw none Y.no_initial
+initial_types so_far file scopes site program here ty (Some i) None f p plain is typed = absurd is
+initial_types so_far file scopes site program here ty (Some i) (Some x) None p plain is typed = absurd typed
+initial_types so_far file scopes site program here ty (Some i) (Some x) (Some f) p plain is typed =
+    let value = subst (IsValue so_far file scopes.locals site i.value) typed.is_typed is.1 in
+    Y.initial (value_here so_far here i.value typed.value p value plain) (subst (λ (c : Option ℕ). IsAtHand c ty.shape) (sym p.around.at_site.current) typed.at_hand) typed.is_scalar typed.is_fitted
 
 is_new : (m : Option S.Meaning) → is_none m ≡ true → IsNone m
 is_new None is = search rules
 is_new (Some m) is = absurd (cc)
 
-pub local_typed : (file : File) (old new : Scopes) (site : Site) (scope : ℕ) (of : ValueType) (length : Length) (ty : Names.VariableType) (d : Declarator) (initial : Option Initial) (local : LocalVar)
-    → IsLength file old.locals site d.length length → FitsArray (Some of) length d.initial → type_meant (Some ty) ≡ type_with length (Some of)
+pub local_typed : (first last : Instances) (file : File) (old new : Scopes) (site : Site) (scope : ℕ) (of : ValueType) (length : Length) (ty : Names.VariableType) (d : Declarator) (initial : Option Initial) (local : LocalVar)
+    → Grows file first last → IsLength first file old.locals site d.length length → FitsArray (Some of) length d.initial → type_meant (Some ty) ≡ type_with length (Some of)
     → bindings new.locals ≡ named d.name.word (V.Local old.count) (Some ty) ∷ bindings old.locals → new.count ≡ old.count + 1 → is_none (find (within scope (bindings old.locals)) d.name.word) ≡ true
-    → IsInitial file new.locals site d.initial initial → IsVariable site ty d initial local → IsLocal file old new site scope (Some of) d local
-unfolding IsPlainDeclarator
-local_typed file old new site scope of length ty d initial local is fits typed names count fresh written var = record {
+    → IsInitial last file new.locals site d.initial initial → IsVariable site ty d initial local → IsLocal last file old new site scope (Some of) d local
+local_typed first last file old new site scope of length ty d initial local later is fits typed names count fresh written var = record {
   of = of;
   has_type = refl;
   typed = λ program here p shape plain.
-      let there = type_there here of d.length length file old.locals site program d.initial p.place.around plain.0 is fits (sym typed) in
+      let there = type_there first here of d.length length file old.locals site program d.initial p.place.around (some_brought (earlier later) here d.length plain.0) is fits (sym typed) in
       let after = behind_new here of d (Some ty) p shape (typed ∙ there) fresh names count in (
         record {
           variable = variable_type ty;
@@ -106,7 +110,7 @@ local_typed file old new site scope of length ty d initial local is fits typed n
           its_type = sym (typed ∙ there);
           declarable = declarable of length ty d.initial fits typed;
           info = var.info;
-          initial = initial_types file new site program (behind_declarator here (Some of) d) ty d.initial initial local.initial after.place plain.1 written var.initialised;
+          initial = initial_types last file new site program (behind_declarator here (Some of) d) ty d.initial initial local.initial after.place plain.1 written var.initialised;
         },
         after,
       );
@@ -119,24 +123,24 @@ no_type L.Absent ty is = cc
 no_type L.Faulty ty is = cc
 no_type (L.Of n) ty is = cc
 
-pub local_settled : (file : File) (old new : Scopes) (site : Site) (scope : ℕ) (of : Option ValueType) (length : Length) (ty : Names.VariableType) (d : Declarator) (initial : Option Initial) (typed : Result LocalVar Untyped) (r : Option LocalVar)
-    → IsLength file old.locals site d.length length → FitsArray of length d.initial → type_meant (Some ty) ≡ type_with length of
+pub local_settled : (first last : Instances) (file : File) (old new : Scopes) (site : Site) (scope : ℕ) (of : Option ValueType) (length : Length) (ty : Names.VariableType) (d : Declarator) (initial : Option Initial) (typed : Result LocalVar Untyped) (r : Option LocalVar)
+    → Grows file first last → IsLength first file old.locals site d.length length → FitsArray of length d.initial → type_meant (Some ty) ≡ type_with length of
     → bindings new.locals ≡ named d.name.word (V.Local old.count) (Some ty) ∷ bindings old.locals → new.count ≡ old.count + 1 → is_none (find (within scope (bindings old.locals)) d.name.word) ≡ true
-    → IsInitial file new.locals site d.initial initial → IfOk typed (IsVariable site ty d initial) → r ≡ part_of typed → IfSome r (IsLocal file old new site scope of d)
-local_settled file old new site scope None length ty d initial typed r is fits type_is names count fresh written var settled = absurd (no_type length ty type_is)
-local_settled file old new site scope (Some of) length ty d initial typed None is fits type_is names count fresh written var settled = tt
-local_settled file old new site scope (Some of) length ty d initial (Ok local) (Some l) is fits type_is names count fresh written var settled =
-    local_typed file old new site scope of length ty d initial l is fits type_is names count fresh written (subst (IsVariable site ty d initial) (let e : local ≡ l = cc in e) var)
-local_settled file old new site scope (Some of) length ty d initial (Err u) (Some l) is fits type_is names count fresh written var settled = absurd (cc)
+    → IsInitial last file new.locals site d.initial initial → IfOk typed (IsVariable site ty d initial) → r ≡ part_of typed → IfSome r (IsLocal last file old new site scope of d)
+local_settled first last file old new site scope None length ty d initial typed r later is fits type_is names count fresh written var settled = absurd (no_type length ty type_is)
+local_settled first last file old new site scope (Some of) length ty d initial typed None later is fits type_is names count fresh written var settled = tt
+local_settled first last file old new site scope (Some of) length ty d initial (Ok local) (Some l) later is fits type_is names count fresh written var settled =
+    local_typed first last file old new site scope of length ty d initial l later is fits type_is names count fresh written (subst (IsVariable site ty d initial) (let e : local ≡ l = cc in e) var)
+local_settled first last file old new site scope (Some of) length ty d initial (Err u) (Some l) later is fits type_is names count fresh written var settled = absurd (cc)
 
 -- the number of a constant expression
-pub length_settled : (file : File) (locals : Locals) (site : Site) (e : Expr) (p : Place) (typed : Option TypedExpr) (number : Result ℤ Untyped) (n : ℤ) (r : Option ℤ) → X.IsTyped file locals (record site { whole = false }) e typed → IsConstantNumber p typed number → r ≡ part_of number → r ≡ Some n → IsLength file locals site (Some e) (L.Of n)
-length_settled file locals site e p None (Ok m) n r h is settled found = absurd is
-length_settled file locals site e p (Some t) (Ok m) n r h is settled found = λ program here a plain.
+pub length_settled : (so_far : Instances) (file : File) (locals : Locals) (site : Site) (e : Expr) (p : Place) (typed : Option TypedExpr) (number : Result ℤ Untyped) (n : ℤ) (r : Option ℤ) → X.IsTyped so_far file locals (record site { whole = false }) e typed → IsConstantNumber p typed number → r ≡ part_of number → r ≡ Some n → IsLength so_far file locals site (Some e) (L.Of n)
+length_settled so_far file locals site e p None (Ok m) n r h is settled found = absurd is
+length_settled so_far file locals site e p (Some t) (Ok m) n r h is settled found = λ program here a plain.
     let same : m ≡ n = let e = sym settled ∙ found in cc in
-    let typed = subst (λ (b : Bool). Types program (part here) e t.expr.value b) is.0 (h program (part here) (in_part a) plain) in
-    number_there program here e t.expr.value a.few plain typed ∙ (is.1 ∙ ap (λ (k : ℤ). Some k) same)
-length_settled file locals site e p typed (Err u) n r h is settled found = absurd (let e = sym settled ∙ found in cc)
+    let typed = subst (λ (b : Bool). Types program (part here) e t.expr.value b) is.0 (h program (part here) (in_part a) (moved here.dot false plain.0) plain.1) in
+    number_there program here e t.expr.value a.few plain.1 typed ∙ (is.1 ∙ ap (λ (k : ℤ). Some k) same)
+length_settled so_far file locals site e p typed (Err u) n r h is settled found = absurd (let e = sym settled ∙ found in cc)
 
 pub declared_grown : (old new : List Binding) (b : Binding) (fresh : Bool) → new ≡ (if fresh then b ∷ old else old) → IsGrown old new
 declared_grown old new b true is = record { more = b ∷ []; grown = is }

@@ -18,7 +18,8 @@ use Rattle.cstar_tree.specs.Scopes as S
 use Rattle.cstar_tree.specs.StatementTypes.{variable_info}
 use Rattle.cstar_tree.specs.Typed.{type_of}
 use Rattle.type_expressions.specs.Along.{number_of_constant}
-use Rattle.type_expressions.specs.Walks.{IsAround, IsPlain, IsValue}
+use Rattle.type_expressions.specs.Walks.{IsAround, IsValue}
+use Rattle.type_expressions.specs.declared.found.Instances.{Instances}
 use Rattle.type_expressions.specs.declared.found.TypedExpr.{TypedExpr}
 use Rattle.type_scopes.specs.Answers.{told_by}
 use Rattle.type_scopes.specs.Bindings.{variable_type}
@@ -28,6 +29,7 @@ use Rattle.type_scopes.specs.declared.file.File.{File}
 use Rattle.type_scopes.specs.declared.locals.Locals.{Locals}
 use Rattle.type_scopes.specs.declared.names.VariableType.{VariableType}
 use Rattle.type_scopes.specs.declared.sites.Site.{Site}
+use Rattle.type_statements.specs.Ready.{IsReady}
 use Rattle.type_statements.specs.declared.declarations.Initial.{Initial}
 use Rattle.type_statements.specs.declared.declarations.Length.{Length}
 use Rattle.type_statements.specs.declared.declarations.Length.TheVariants as L
@@ -40,11 +42,11 @@ IsConstantNumber p (Some t) (Ok n) = (t.has_value ≡ true) × (number_of_consta
 IsConstantNumber p (Some t) (Err u) = told_by u ≡ Some (Faults.Constant, p)
 
 -- the length of an array, if one is written
-abbrev pub IsLength : File → Locals → Site → Option Expr → Length → Type 0
-IsLength file locals site None length = length ≡ L.Absent
-IsLength file locals site (Some e) L.Absent = ⊥
-IsLength file locals site (Some e) L.Faulty = Unit {0}
-IsLength file locals site (Some e) (L.Of n) = (program : Program) (here : Here) → IsAround file locals site here → IsPlain e → constant_number here e ≡ Some n
+abbrev pub IsLength : Instances → File → Locals → Site → Option Expr → Length → Type 0
+IsLength so_far file locals site None length = length ≡ L.Absent
+IsLength so_far file locals site (Some e) L.Absent = ⊥
+IsLength so_far file locals site (Some e) L.Faulty = Unit {0}
+IsLength so_far file locals site (Some e) (L.Of n) = (program : Program) (here : Here) → IsAround file locals site here → IsReady so_far file program here e → constant_number here e ≡ Some n
 
 -- a number as a length that 32 bits count
 abbrev pub counted : ℤ → Option ℤ
@@ -75,10 +77,10 @@ FitsArray ty L.Faulty initial = HasShapeIfKnown ty × (initial ≡ None)
 FitsArray ty (L.Of n) initial = HasShapeIfKnown ty × IsFitting n × (initial ≡ None)
 
 -- the initialiser with the place of its `=`, if there is one
-abbrev pub IsInitial : File → Locals → Site → Option Initializer → Option Initial → Type 0
-IsInitial file locals site None initial = initial ≡ None
-IsInitial file locals site (Some i) None = ⊥
-IsInitial file locals site (Some i) (Some initial) = (initial.place ≡ i.place) × IsValue file locals site i.value initial.value
+abbrev pub IsInitial : Instances → File → Locals → Site → Option Initializer → Option Initial → Type 0
+IsInitial so_far file locals site None initial = initial ≡ None
+IsInitial so_far file locals site (Some i) None = ⊥
+IsInitial so_far file locals site (Some i) (Some initial) = (initial.place ≡ i.place) × IsValue so_far file locals site i.value initial.value
 
 -- a typed initialiser is brought to the type of its variable
 pub record IsInitialised (site : Site) (ty : VariableType) (initial : Initial) (f : TExpr) : Type 0 where

@@ -9,6 +9,7 @@ ghost use Rattle.type_scopes.specs.Answers.{told_by};
 ghost use Rattle.type_scopes.specs.Bindings.{bindings, type_meant, variable_type};
 ghost use Rattle.type_statements.specs.Declarators.{FitsArray, IsConstantNumber, IsInitial, IsInitialised, IsLength, IsVariable, type_with};
 ghost use Rattle.type_statements.specs.Places.{IsGrown};
+ghost use Rattle.type_expressions.specs.Instances.{Grows};
 ghost use Rattle.type_statements.specs.Walks.{AreDeclared, AreMore, IsLocal};
 
 use crate::branches::scalar_test;
@@ -72,7 +73,8 @@ pub fn declarations(
     declarations: &[Declaration],
 ) -> Result<Option<Vec<LocalVar>>, Memory>
     ensures grown { OnOk result (IsGrown (bindings scopes.old.locals) (bindings scopes.new.locals)) }
-    ensures typed { IfOk result (λ r. IfSome r (λ locals. AreDeclared file.now scopes.old scopes.new site scope declarations.now locals.items)) }
+    ensures typed { IfOk result (λ r. IfSome r (λ locals. AreDeclared found.new.instances file.now scopes.old scopes.new site scope declarations.now locals.items)) }
+    ensures met { OnOk result (Grows file.now found.old.instances found.new.instances) }
 {
     let mut locals = Vec::new(file.alloc);
     let mut complete = true;
@@ -95,7 +97,8 @@ fn declaration(
     locals: &mut Vec<LocalVar>,
 ) -> Result<bool, Memory>
     ensures grown { OnOk result (IsGrown (bindings scopes.old.locals) (bindings scopes.new.locals)) }
-    ensures typed { IfOk result (λ typed. typed ≡ true → AreMore file.now scopes.old scopes.new site scope written.now locals.old.items locals.new.items) }
+    ensures typed { IfOk result (λ typed. typed ≡ true → AreMore found.new.instances file.now scopes.old scopes.new site scope written.now locals.old.items locals.new.items) }
+    ensures met { OnOk result (Grows file.now found.old.instances found.new.instances) }
 {
     let ty = file.value_type(&scopes.locals, site, &written.type_name);
     let ty = found.faults.settle(ty)?;
@@ -120,7 +123,8 @@ fn local(
     declarator: &Declarator,
 ) -> Result<Option<LocalVar>, Memory>
     ensures grown { OnOk result (IsGrown (bindings scopes.old.locals) (bindings scopes.new.locals)) }
-    ensures typed { IfOk result (λ r. IfSome r (IsLocal file.now scopes.old scopes.new site scope ty declarator.now)) }
+    ensures typed { IfOk result (λ r. IfSome r (IsLocal found.new.instances file.now scopes.old scopes.new site scope ty declarator.now)) }
+    ensures met { OnOk result (Grows file.now found.old.instances found.new.instances) }
 {
     found.count(1);
     let length = array_length(found, file, &scopes.locals, site, &declarator.length)?;
@@ -201,7 +205,8 @@ pub fn typed_initial(
     site: Site,
     declarator: &Declarator,
 ) -> Result<Option<Initial>, Memory>
-    ensures { IfOk result (IsInitial file.now locals.now site declarator.now.initial) }
+    ensures typed { IfOk result (IsInitial found.new.instances file.now locals.now site declarator.now.initial) }
+    ensures met { OnOk result (Grows file.now found.old.instances found.new.instances) }
 {
     let Some(initial) = &declarator.initial else {
         return Ok(None);
@@ -221,7 +226,8 @@ pub fn array_length(
     site: Site,
     length: &Option<Expr>,
 ) -> Result<Length, Memory>
-    ensures { IfOk result (IsLength file.now locals.now site length.now) }
+    ensures typed { IfOk result (IsLength found.new.instances file.now locals.now site length.now) }
+    ensures met { OnOk result (Grows file.now found.old.instances found.new.instances) }
 {
     let Some(length) = length else {
         return Ok(Length::Absent);

@@ -16,6 +16,7 @@ ghost use Rattle.type_scopes.specs.Headers.{returned};
 ghost use Rattle.type_scopes.specs.declared.faults.Untyped.TheVariants as N;
 ghost use Rattle.type_statements.specs.Answers.{AreBranches, IsAnswer, IsEverywhere, IsOutcome, IsReturnAnswer, IsUnder, IsWholeBlock, value_of};
 ghost use Rattle.type_statements.specs.Places.{IsGrown};
+ghost use Rattle.type_expressions.specs.Instances.{Grows};
 ghost use Rattle.type_statements.specs.Walks.{IsEffectIf, IsTyped, IsTypedBlock, IsTypedHeading, IsTypedIf, IsValueIf};
 
 use crate::branches::{Branches, if_statement, where_statement};
@@ -59,7 +60,8 @@ fn block(
     block: &Block,
 ) -> TypedStatement
     ensures kept { OnOk result (bindings scopes.new.locals ≡ bindings scopes.old.locals) }
-    ensures typed { IfOk result (IsTypedIf file.now scopes.old scopes.new site (S.Block block.now)) }
+    ensures typed { IfOk result (IsTypedIf found.new.instances file.now scopes.old scopes.new site (S.Block block.now)) }
+    ensures met { OnOk result (Grows file.now found.old.instances found.new.instances) }
 {
     let scope = scopes.locals.open();
     let typed = block_in(found, file, scopes, site, scope, block)?;
@@ -78,7 +80,8 @@ pub fn block_in(
     block: &Block,
 ) -> TypedStatement
     ensures grown { OnOk result (IsGrown (bindings scopes.old.locals) (bindings scopes.new.locals)) }
-    ensures typed { IfOk result (λ r. IfSome r (λ b. IsTypedBlock file.now scopes.old scopes.new site scope block.now b.value)) }
+    ensures typed { IfOk result (λ r. IfSome r (λ b. IsTypedBlock found.new.instances file.now scopes.old scopes.new site scope block.now b.value)) }
+    ensures met { OnOk result (Grows file.now found.old.instances found.new.instances) }
 {
     found.count(1);
     let locals = declarations(found, file, scopes, site, scope, &block.declarations)?;
@@ -122,7 +125,8 @@ fn statement(
     s: &Stmt,
 ) -> TypedStatement
     ensures kept { OnOk result (bindings scopes.new.locals ≡ bindings scopes.old.locals) }
-    ensures typed { IfOk result (IsTypedIf file.now scopes.old scopes.new site s.now) }
+    ensures typed { IfOk result (IsTypedIf found.new.instances file.now scopes.old scopes.new site s.now) }
+    ensures met { OnOk result (Grows file.now found.old.instances found.new.instances) }
 {
     match s {
         Stmt::Block(inner) => block(found, file, scopes, site, inner),
@@ -149,7 +153,8 @@ fn chosen(
     s: &Stmt,
 ) -> TypedStatement
     ensures kept { OnOk result (bindings scopes.new.locals ≡ bindings scopes.old.locals) }
-    ensures typed { IfOk result (IsTypedIf file.now scopes.old scopes.new site s.now) }
+    ensures typed { IfOk result (IsTypedIf found.new.instances file.now scopes.old scopes.new site s.now) }
+    ensures met { OnOk result (Grows file.now found.old.instances found.new.instances) }
 {
     found.count(1);
     let (Stmt::If {
@@ -218,7 +223,8 @@ fn under(
     s: &Stmt,
 ) -> TypedStatement
     ensures kept { OnOk result (bindings scopes.new.locals ≡ bindings scopes.old.locals) }
-    ensures typed { IfOk result (IsTypedIf file.now scopes.old scopes.new site s.now) }
+    ensures typed { IfOk result (IsTypedIf found.new.instances file.now scopes.old scopes.new site s.now) }
+    ensures met { OnOk result (Grows file.now found.old.instances found.new.instances) }
 {
     found.count(1);
     match s {
@@ -276,7 +282,8 @@ fn repeated(
     s: &Stmt,
 ) -> TypedStatement
     ensures kept { OnOk result (bindings scopes.new.locals ≡ bindings scopes.old.locals) }
-    ensures typed { IfOk result (IsTypedIf file.now scopes.old scopes.new site s.now) }
+    ensures typed { IfOk result (IsTypedIf found.new.instances file.now scopes.old scopes.new site s.now) }
+    ensures met { OnOk result (Grows file.now found.old.instances found.new.instances) }
 {
     found.count(1);
     match s {
@@ -322,7 +329,8 @@ fn heading(
     site: Site,
     s: &Stmt,
 ) -> Result<Option<Heading>, Memory>
-    ensures { IfOk result (IsTypedHeading file.now scopes.now site s.now) }
+    ensures typed { IfOk result (IsTypedHeading found.new.instances file.now scopes.now site s.now) }
+    ensures met { OnOk result (Grows file.now found.old.instances found.new.instances) }
 {
     let Stmt::For {
         first,
@@ -351,7 +359,8 @@ fn effect(
     site: Site,
     e: &Option<Expr>,
 ) -> Result<Option<Option<Box<TExpr>>>, Memory>
-    ensures { IfOk result (IsEffectIf file.now scopes.now site e.now) }
+    ensures typed { IfOk result (IsEffectIf found.new.instances file.now scopes.now site e.now) }
+    ensures met { OnOk result (Grows file.now found.old.instances found.new.instances) }
 {
     let Some(e) = e else {
         return Ok(Some(None));
@@ -371,7 +380,8 @@ fn condition(
     site: Site,
     e: &Option<Expr>,
 ) -> Result<Option<Option<Box<TExpr>>>, Memory>
-    ensures { IfOk result (IsValueIf file.now scopes.now site e.now) }
+    ensures typed { IfOk result (IsValueIf found.new.instances file.now scopes.now site e.now) }
+    ensures met { OnOk result (Grows file.now found.old.instances found.new.instances) }
 {
     let Some(e) = e else {
         return Ok(Some(None));
@@ -390,7 +400,8 @@ fn simple(
     site: Site,
     s: &Stmt,
 ) -> TypedStatement
-    ensures { IfOk result (IsTypedIf file.now scopes.now scopes.now site s.now) }
+    ensures typed { IfOk result (IsTypedIf found.new.instances file.now scopes.now scopes.now site s.now) }
+    ensures met { OnOk result (Grows file.now found.old.instances found.new.instances) }
 {
     found.count(1);
     let typed = simple_form(found, file, scopes, site, s)?;
@@ -405,7 +416,8 @@ fn simple_form(
     site: Site,
     s: &Stmt,
 ) -> Result<Result<TStmt, Untyped>, Memory>
-    ensures { IfOk result (λ typed. IfOk typed (IsTyped file.now scopes.now scopes.now site s.now)) }
+    ensures typed { IfOk result (λ typed. IfOk typed (IsTyped found.new.instances file.now scopes.now scopes.now site s.now)) }
+    ensures met { OnOk result (Grows file.now found.old.instances found.new.instances) }
 {
     match s {
         Stmt::Expression { expr, .. } => {
