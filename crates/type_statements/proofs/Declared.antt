@@ -39,7 +39,7 @@ use Rattle.type_expressions.proofs.Walking.{in_part, is_shape, number_there}
 use Rattle.type_statements.specs.Declarators.{FitsArray, IsConstantNumber, IsFitting, IsInitial, IsInitialisedIf, IsLength, IsVariable, counted, type_with}
 use Rattle.type_statements.specs.Places.{HasItsShape, IsGrown, IsPlace}
 use Rattle.type_expressions.specs.Instances.{Grows}
-use Rattle.type_statements.specs.Ready.{InDeclarator, IsReady}
+use Rattle.type_statements.specs.Ready.{IsReady}
 use Rattle.type_statements.specs.Walks.{IsLocal}
 use Rattle.type_statements.specs.declared.declarations.Initial.{Initial}
 use Rattle.type_statements.specs.declared.declarations.Length.{Length}

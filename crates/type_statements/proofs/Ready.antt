@@ -1,6 +1,6 @@
 -- What is asked of the expressions of a statement is asked of those of its parts, and what was met
 -- before begins what is met further on.
-use Rattle.std.proofs.Common.{◌≡◌, ℕ, List, [], ◌∷◌, IfSome, Option, Some, None, subst}
+use Rattle.std.proofs.Common.{List, [], ◌∷◌, IfSome, Option, Some, None, subst}
 use mathlib.Core.Former.{Count}
 use Rattle.cstar_tree.specs.declared.syntax.Block.{Block}
 use Rattle.cstar_tree.specs.declared.syntax.Declaration.{Declaration}
