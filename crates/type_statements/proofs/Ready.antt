@@ -17,7 +17,7 @@ use Rattle.type_scopes.specs.declared.file.File.{File}
 use Rattle.type_expressions.specs.Instances.{Grows}
 use Rattle.type_expressions.specs.declared.found.Instances.{Instances}
 use Rattle.type_expressions.proofs.CallsWithin as within
-use Rattle.type_statements.specs.Ready.{InBlock, InDeclarations, InDeclarator, InDeclarators, InElse, InRow, InStatement, InStatements, IsReady}
+use Rattle.type_statements.specs.Ready.{InBlock, InDeclarations, InDeclarators, InElse, InRow, InStatement, InStatements, IsReady}
 
 -- what is ready further on was ready before
 pub earlier : {file : File} {first last : Instances} {program : Program} → Grows file first last → (here : Here) (e : Expr) → IsReady last file program here e → IsReady first file program here e
