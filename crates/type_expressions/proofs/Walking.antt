@@ -101,7 +101,7 @@ meant_shape (Some (a_shape s)) is = cc
 meant_shape (Some (a_function f)) is = absurd (cc)
 meant_shape (Some (a_variable v t)) is = absurd (cc)
 
-is_shape : {file : File} {locals : Locals} {site : Site} {here : Here} {shape : ℕ} (written : ShapeRef) → IsAround file locals site here → shape_of here written ≡ Some shape → IsShape here shape
+pub is_shape : {file : File} {locals : Locals} {site : Site} {here : Here} {shape : ℕ} (written : ShapeRef) → IsAround file locals site here → shape_of here written ≡ Some shape → IsShape here shape
 is_shape {here = here} {shape = shape} (R.Named n) a is = a.known.named n.word shape (meant_shape (meaning here n.word) is)
 is_shape {shape = shape} (R.Current p) a is = a.known.current shape is
 
@@ -310,7 +310,7 @@ plain_words (E.Choice' p _ test _ second _ third) h = (plain_words test h.0, pla
 plain_words _ h = tt
 
 -- the number of a typed part is that of its text
-number_there : (program : Program) (here : Here) (e : Expr) (x : TExpr) → HasFewPositions here → IsPlain e → Types program (part here) e x true → constant_number here e ≡ number_of_constant x
+pub number_there : (program : Program) (here : Here) (e : Expr) (x : TExpr) → HasFewPositions here → IsPlain e → Types program (part here) e x true → constant_number here e ≡ number_of_constant x
 number_there program here e x few plain h = ap number_meant (sym (constant_in_part here e)) ∙ number_read (constant (part here) e) x (typed_as_written program h few (plain_words e plain))
 
 axis_in_extents : (extents : List ℕ) (number : ℤ) {n : ℕ} → axis_in (length extents) number ≡ Some n → axis_among extents (Some number) ≡ Some n

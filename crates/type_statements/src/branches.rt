@@ -1,5 +1,17 @@
 //! The typed parts of statements that choose, and the statements over them.
 
+ghost use Rattle.cstar_base.specs.declared.faults.Fault.TheVariants as Faults;
+ghost use Rattle.cstar_tree.specs.declared.syntax.Expr.{Expr};
+ghost use Rattle.cstar_tree.specs.declared.syntax.Stmt as S;
+ghost use Rattle.cstar_tree.specs.declared.syntax.Stmt.{Stmt};
+ghost use Rattle.cstar_tree.specs.Headers.{Program, Returns};
+ghost use Rattle.cstar_tree.specs.Scopes.{Here};
+ghost use Rattle.cstar_tree.specs.Typed.{type_of};
+ghost use Rattle.std.specs.Prelude.{◌≡◌, Box, MatchResult, None, Option, Some, ℕ};
+ghost use Rattle.std.specs.declared.alloc.Global.{Global};
+ghost use Rattle.type_scopes.specs.Answers.{told_by};
+ghost use Rattle.type_statements.specs.Answers.{AreBranches, IsAnswer};
+
 use cstar_base::{Fault, Place};
 use cstar_tree::typed::{TExpr, TStmt};
 use type_scopes::faults::{Untyped, fault};
@@ -14,7 +26,9 @@ pub struct Branches {
 }
 
 /// Is the condition of the statement at the place scalar?
-pub fn scalar_test(place: Place, test: &TExpr) -> Result<(), Untyped> {
+pub fn scalar_test(place: Place, test: &TExpr) -> Result<(), Untyped>
+    ensures { MatchResult result (λ _. (type_of test.now).shape ≡ None) (λ u. ((of : ℕ) × ((type_of test.now).shape ≡ Some of)) × (told_by u ≡ Some (Faults.ScalarWanted, place))) }
+{
     if test.ty().shape.is_some() {
         return Err(fault(Fault::ScalarWanted, place));
     }
@@ -22,7 +36,9 @@ pub fn scalar_test(place: Place, test: &TExpr) -> Result<(), Untyped> {
 }
 
 /// An `if` at its place.
-pub fn if_statement(place: Place, parts: Branches) -> Result<TStmt, Untyped> {
+pub fn if_statement(place: Place, parts: Branches) -> Result<TStmt, Untyped>
+    ensures { (program : Program) (returns : Returns) (here : Here) (e : Expr) (second : Box Stmt Global) (third : Option (Box Stmt Global)) → AreBranches program returns here (S.If place e second third) parts → IsAnswer program returns here (S.If place e second third) result }
+{
     scalar_test(place, &parts.test)?;
     let Branches {
         test,
@@ -37,7 +53,9 @@ pub fn if_statement(place: Place, parts: Branches) -> Result<TStmt, Untyped> {
 }
 
 /// A `where` at its place.
-pub fn where_statement(site: Site, place: Place, parts: Branches) -> Result<TStmt, Untyped> {
+pub fn where_statement(site: Site, place: Place, parts: Branches) -> Result<TStmt, Untyped>
+    ensures { (program : Program) (returns : Returns) (here : Here) (e : Expr) (second : Box Stmt Global) (third : Option (Box Stmt Global)) → here.current ≡ site.current → AreBranches program returns here (S.Where place e second third) parts → IsAnswer program returns here (S.Where place e second third) result }
+{
     let shape = site.shape(place)?;
     if parts.test.ty().shape.is_none() {
         return Err(fault(Fault::ParallelWanted, place));

@@ -1,5 +1,18 @@
 //! Declarations of variables.
 
+ghost use Rattle.cstar_base.specs.declared.faults.Fault.TheVariants as Faults;
+ghost use Rattle.cstar_tree.specs.StatementTypes.{variable_info};
+ghost use Rattle.std.specs.Int.{w64};
+ghost use Rattle.std.specs.Prelude.{◌≡◌, true, FitsSigned, IfOk, IfSome, MatchResult, None, OnOk, Some};
+ghost use Rattle.cstar_tree.specs.Typed.{type_of};
+ghost use Rattle.type_scopes.specs.Answers.{told_by};
+ghost use Rattle.type_scopes.specs.Bindings.{bindings, type_meant, variable_type};
+ghost use Rattle.type_statements.specs.Declarators.{FitsArray, IsConstantNumber, IsInitial, IsInitialised, IsLength, IsVariable, type_with};
+ghost use Rattle.type_statements.specs.Places.{IsGrown};
+ghost use Rattle.type_expressions.specs.Instances.{Grows};
+ghost use Rattle.type_statements.specs.Walks.{AreDeclared, AreMore, IsLocal};
+
+use crate::branches::scalar_test;
 use crate::scopes::Scopes;
 use cstar_base::{Fault, Memory, Place, Word, numbers};
 use cstar_tree::syntax::{Declaration, Declarator, Expr};
@@ -33,7 +46,9 @@ pub struct Initial {
 impl Length {
     /// The type of a variable of the type that is written with this length. None where either has
     /// a fault.
-    pub fn variable(self, ty: Option<ValueType>) -> Option<VariableType> {
+    pub fn variable(self, ty: Option<ValueType>) -> Option<VariableType>
+        ensures { type_meant result ≡ type_with self ty }
+    {
         let ty = ty?;
         let array = match self {
             Length::Absent => None,
@@ -56,20 +71,45 @@ pub fn declarations(
     site: Site,
     scope: usize,
     declarations: &[Declaration],
-) -> Result<Option<Vec<LocalVar>>, Memory> {
+) -> Result<Option<Vec<LocalVar>>, Memory>
+    ensures grown { OnOk result (IsGrown (bindings scopes.old.locals) (bindings scopes.new.locals)) }
+    ensures typed { IfOk result (λ r. IfSome r (λ locals. AreDeclared found.new.instances file.now scopes.old scopes.new site scope declarations.now locals.items)) }
+    ensures met { OnOk result (Grows file.now found.old.instances found.new.instances) }
+{
     let mut locals = Vec::new(file.alloc);
     let mut complete = true;
-    for declaration in declarations {
-        let ty = file.value_type(&scopes.locals, site, &declaration.type_name);
-        let ty = found.faults.settle(ty)?;
-        for declarator in &declaration.variables {
-            match local(found, file, scopes, site, scope, ty, declarator)? {
-                Some(local) => locals.push(local)?,
-                None => complete = false,
-            }
-        }
+    for written in declarations {
+        let typed = declaration(found, file, scopes, site, scope, written, &mut locals)?;
+        complete = complete && typed;
     }
     Ok(if complete { Some(locals) } else { None })
+}
+
+/// The variables of a declaration, behind those that were declared before. Answers whether none has
+/// a fault.
+fn declaration(
+    found: &mut Found,
+    file: &File<'_>,
+    scopes: &mut Scopes,
+    site: Site,
+    scope: usize,
+    written: &Declaration,
+    locals: &mut Vec<LocalVar>,
+) -> Result<bool, Memory>
+    ensures grown { OnOk result (IsGrown (bindings scopes.old.locals) (bindings scopes.new.locals)) }
+    ensures typed { IfOk result (λ typed. typed ≡ true → AreMore found.new.instances file.now scopes.old scopes.new site scope written.now locals.old.items locals.new.items) }
+    ensures met { OnOk result (Grows file.now found.old.instances found.new.instances) }
+{
+    let ty = file.value_type(&scopes.locals, site, &written.type_name);
+    let ty = found.faults.settle(ty)?;
+    let mut complete = ty.is_some();
+    for declarator in &written.variables {
+        match local(found, file, scopes, site, scope, ty, declarator)? {
+            Some(local) => locals.push(local)?,
+            None => complete = false,
+        }
+    }
+    Ok(complete)
 }
 
 /// A variable of a block. Its name is known behind its length.
@@ -81,7 +121,11 @@ fn local(
     scope: usize,
     ty: Option<ValueType>,
     declarator: &Declarator,
-) -> Result<Option<LocalVar>, Memory> {
+) -> Result<Option<LocalVar>, Memory>
+    ensures grown { OnOk result (IsGrown (bindings scopes.old.locals) (bindings scopes.new.locals)) }
+    ensures typed { IfOk result (λ r. IfSome r (IsLocal found.new.instances file.now scopes.old scopes.new site scope ty declarator.now)) }
+    ensures met { OnOk result (Grows file.now found.old.instances found.new.instances) }
+{
     found.count(1);
     let length = array_length(found, file, &scopes.locals, site, &declarator.length)?;
     let fits = found.faults.settle(array_fits(ty, length, declarator))?;
@@ -107,7 +151,9 @@ fn local_variable(
     ty: VariableType,
     declarator: &Declarator,
     initial: Option<Initial>,
-) -> Result<LocalVar, Untyped> {
+) -> Result<LocalVar, Untyped>
+    ensures { IfOk result (IsVariable site ty declarator.now initial) }
+{
     let info = typed_info(alloc, &declarator.name.word, ty, 0)?;
     let initial = match initial {
         None => None,
@@ -126,19 +172,29 @@ fn initialised(
     place: Place,
     ty: VariableType,
     initial: Initial,
-) -> Result<Box<TExpr>, Untyped> {
+) -> Result<Box<TExpr>, Untyped>
+    ensures { IfOk result (λ f. IsInitialised site ty initial f.value) }
+{
     let Initial {
         place: equals,
-        value: Some(value),
-    } = initial
-    else {
+        value,
+    } = initial;
+    let Some(value) = value else {
         return Err(Untyped::Faulty);
     };
     site.holds(place, ty.shape)?;
-    if ty.shape.is_none() && value.ty().shape.is_some() {
-        return Err(fault(Fault::ScalarWanted, equals));
-    }
+    scalar_if(equals, ty.shape, &value)?;
     Ok(fitted(alloc, value, ty.value())?)
+}
+
+/// A variable of no shape takes a scalar value only. Another one is a fault at the place.
+fn scalar_if(place: Place, wanted: Option<u16>, value: &TExpr) -> Result<(), Untyped>
+    ensures { MatchResult result (λ _. wanted ≡ None → (type_of value.now).shape ≡ None) (λ u. told_by u ≡ Some (Faults.ScalarWanted, place)) }
+{
+    match wanted {
+        Some(_) => Ok(()),
+        None => scalar_test(place, value),
+    }
 }
 
 /// The initialiser of a variable, if it has one.
@@ -148,7 +204,10 @@ pub fn typed_initial(
     locals: &Locals,
     site: Site,
     declarator: &Declarator,
-) -> Result<Option<Initial>, Memory> {
+) -> Result<Option<Initial>, Memory>
+    ensures typed { IfOk result (IsInitial found.new.instances file.now locals.now site declarator.now.initial) }
+    ensures met { OnOk result (Grows file.now found.old.instances found.new.instances) }
+{
     let Some(initial) = &declarator.initial else {
         return Ok(None);
     };
@@ -166,7 +225,10 @@ pub fn array_length(
     locals: &Locals,
     site: Site,
     length: &Option<Expr>,
-) -> Result<Length, Memory> {
+) -> Result<Length, Memory>
+    ensures typed { IfOk result (IsLength found.new.instances file.now locals.now site length.now) }
+    ensures met { OnOk result (Grows file.now found.old.instances found.new.instances) }
+{
     let Some(length) = length else {
         return Ok(Length::Absent);
     };
@@ -179,7 +241,10 @@ pub fn array_length(
 }
 
 /// The number of a constant expression at the place.
-pub fn constant_number(place: Place, typed: Option<TypedExpr>) -> Result<i64, Untyped> {
+pub fn constant_number(place: Place, typed: Option<TypedExpr>) -> Result<i64, Untyped>
+    ensures number { IsConstantNumber place typed result }
+    ensures fits { IfOk result (FitsSigned w64) }
+{
     let Some(TypedExpr { expr, has_value }) = typed else {
         return Err(Untyped::Faulty);
     };
@@ -196,7 +261,9 @@ pub fn array_fits(
     ty: Option<ValueType>,
     length: Length,
     declarator: &Declarator,
-) -> Result<(), Untyped> {
+) -> Result<(), Untyped>
+    ensures { MatchResult result (λ _. FitsArray ty length declarator.now.initial) (λ u. (FitsArray ty length declarator.now.initial → ⊥) × (told_by u ≡ Some (Faults.ArrayDecl, declarator.now.name.place))) }
+{
     let outside = match length {
         Length::Absent => return Ok(()),
         Length::Faulty => false,
@@ -218,7 +285,9 @@ pub fn typed_info(
     name: &Word,
     ty: VariableType,
     start: u32,
-) -> Result<VarInfo, Memory> {
+) -> Result<VarInfo, Memory>
+    ensures { IfOk result (λ i. i ≡ variable_info name.now (variable_type ty) start) }
+{
     Ok(VarInfo {
         name: name.copied(alloc)?,
         elem: ty.elem,

@@ -1,6 +1,24 @@
 //! The walk over statements and blocks. It types the parts and hands them to the function of their
 //! kind.
 
+ghost use Rattle.cstar_tree.specs.declared.syntax.Expr.{Expr};
+ghost use Rattle.cstar_tree.specs.declared.syntax.Stmt as S;
+ghost use Rattle.cstar_tree.specs.declared.typed.TExpr.{TExpr};
+ghost use Rattle.cstar_tree.specs.declared.typed.TStmt as T;
+ghost use Rattle.cstar_tree.specs.Headers.{Program, Returns};
+ghost use Rattle.cstar_tree.specs.Scopes.{Here};
+ghost use Rattle.cstar_tree.specs.StatementTypes.{TypesValueIf};
+ghost use Rattle.std.specs.Option.{option_map};
+ghost use Rattle.std.specs.Prelude.{◌≡◌, ◌⊎◌, Box, Err, IfOk, IfSome, MatchOption, None, Ok, OnOk, Option, Some};
+ghost use Rattle.std.specs.declared.alloc.Global.{Global};
+ghost use Rattle.type_scopes.specs.Bindings.{bindings};
+ghost use Rattle.type_scopes.specs.Headers.{returned};
+ghost use Rattle.type_scopes.specs.declared.faults.Untyped.TheVariants as N;
+ghost use Rattle.type_statements.specs.Answers.{AreBranches, IsAnswer, IsEverywhere, IsOutcome, IsReturnAnswer, IsUnder, IsWholeBlock, value_of};
+ghost use Rattle.type_statements.specs.Places.{IsGrown};
+ghost use Rattle.type_expressions.specs.Instances.{Grows};
+ghost use Rattle.type_statements.specs.Walks.{IsEffectIf, IsTyped, IsTypedBlock, IsTypedHeading, IsTypedIf, IsValueIf};
+
 use crate::branches::{Branches, if_statement, where_statement};
 use crate::declarations::declarations;
 use crate::forms::{
@@ -12,7 +30,7 @@ use cstar_base::{Memory, Place};
 use cstar_tree::syntax::{Block, Expr, Stmt};
 use cstar_tree::typed::{LocalVar, TExpr, TStmt};
 use std::alloc::Global;
-use type_expressions::{Found, typed_expr, typed_value};
+use type_expressions::{Found, TypedExpr, typed_expr, typed_value};
 use type_scopes::faults::{Faults, Untyped};
 use type_scopes::file::File;
 use type_scopes::sites::Site;
@@ -22,7 +40,9 @@ pub type TypedStatement = Result<Option<Box<TStmt>>, Memory>;
 
 /// What a statement comes to. The fault that stands at it is recorded. The statement is boxed first,
 /// so that a pointer is handed on.
-fn outcome(faults: &mut Faults, alloc: Global, typed: Result<TStmt, Untyped>) -> TypedStatement {
+fn outcome(faults: &mut Faults, alloc: Global, typed: Result<TStmt, Untyped>) -> TypedStatement
+    ensures { IfOk result (IsOutcome typed faults.old.least faults.new.least) }
+{
     let typed = match typed {
         Ok(s) => Ok(Box::new(alloc, s)?),
         Err(untyped) => Err(untyped),
@@ -38,7 +58,11 @@ fn block(
     scopes: &mut Scopes,
     site: Site,
     block: &Block,
-) -> TypedStatement {
+) -> TypedStatement
+    ensures kept { OnOk result (bindings scopes.new.locals ≡ bindings scopes.old.locals) }
+    ensures typed { IfOk result (IsTypedIf found.new.instances file.now scopes.old scopes.new site (S.Block block.now)) }
+    ensures met { OnOk result (Grows file.now found.old.instances found.new.instances) }
+{
     let scope = scopes.locals.open();
     let typed = block_in(found, file, scopes, site, scope, block)?;
     scopes.locals.close(scope);
@@ -54,7 +78,11 @@ pub fn block_in(
     site: Site,
     scope: usize,
     block: &Block,
-) -> TypedStatement {
+) -> TypedStatement
+    ensures grown { OnOk result (IsGrown (bindings scopes.old.locals) (bindings scopes.new.locals)) }
+    ensures typed { IfOk result (λ r. IfSome r (λ b. IsTypedBlock found.new.instances file.now scopes.old scopes.new site scope block.now b.value)) }
+    ensures met { OnOk result (Grows file.now found.old.instances found.new.instances) }
+{
     found.count(1);
     let locals = declarations(found, file, scopes, site, scope, &block.declarations)?;
     let mut statements = Vec::new(file.alloc);
@@ -77,7 +105,9 @@ fn whole_block(
     alloc: Global,
     locals: Option<Vec<LocalVar>>,
     statements: Vec<TStmt>,
-) -> TypedStatement {
+) -> TypedStatement
+    ensures { IfOk result (IsWholeBlock locals statements) }
+{
     let Some(locals) = locals else {
         return Ok(None);
     };
@@ -93,7 +123,11 @@ fn statement(
     scopes: &mut Scopes,
     site: Site,
     s: &Stmt,
-) -> TypedStatement {
+) -> TypedStatement
+    ensures kept { OnOk result (bindings scopes.new.locals ≡ bindings scopes.old.locals) }
+    ensures typed { IfOk result (IsTypedIf found.new.instances file.now scopes.old scopes.new site s.now) }
+    ensures met { OnOk result (Grows file.now found.old.instances found.new.instances) }
+{
     match s {
         Stmt::Block(inner) => block(found, file, scopes, site, inner),
         Stmt::If { .. } | Stmt::Where { .. } => chosen(found, file, scopes, site, s),
@@ -117,7 +151,11 @@ fn chosen(
     scopes: &mut Scopes,
     site: Site,
     s: &Stmt,
-) -> TypedStatement {
+) -> TypedStatement
+    ensures kept { OnOk result (bindings scopes.new.locals ≡ bindings scopes.old.locals) }
+    ensures typed { IfOk result (IsTypedIf found.new.instances file.now scopes.old scopes.new site s.now) }
+    ensures met { OnOk result (Grows file.now found.old.instances found.new.instances) }
+{
     found.count(1);
     let (Stmt::If {
         test,
@@ -151,7 +189,9 @@ fn branches(
     test: Option<Box<TExpr>>,
     then: Option<Box<TStmt>>,
     otherwise: Option<Option<Box<TStmt>>>,
-) -> Option<Branches> {
+) -> Option<Branches>
+    ensures { MatchOption result ((test ≡ None) ⊎ (then ≡ None) ⊎ (otherwise ≡ Some None)) (λ parts. (test ≡ Some parts.test) × (then ≡ Some parts.then) × (otherwise ≡ option_map (λ t. Some t) parts.otherwise)) }
+{
     let otherwise = match otherwise {
         Some(otherwise) => Some(otherwise?),
         None => None,
@@ -163,7 +203,9 @@ fn branches(
     })
 }
 
-fn choosing(site: Site, s: &Stmt, parts: Branches) -> Result<TStmt, Untyped> {
+fn choosing(site: Site, s: &Stmt, parts: Branches) -> Result<TStmt, Untyped>
+    ensures { (program : Program) (returns : Returns) (here : Here) → here.current ≡ site.current → AreBranches program returns here s.now parts → IsAnswer program returns here s.now result }
+{
     match s {
         Stmt::If { place, .. } => if_statement(*place, parts),
         Stmt::Where { place, .. } => where_statement(site, *place, parts),
@@ -179,7 +221,11 @@ fn under(
     scopes: &mut Scopes,
     site: Site,
     s: &Stmt,
-) -> TypedStatement {
+) -> TypedStatement
+    ensures kept { OnOk result (bindings scopes.new.locals ≡ bindings scopes.old.locals) }
+    ensures typed { IfOk result (IsTypedIf found.new.instances file.now scopes.old scopes.new site s.now) }
+    ensures met { OnOk result (Grows file.now found.old.instances found.new.instances) }
+{
     found.count(1);
     match s {
         Stmt::With { shape, body, .. } => {
@@ -202,7 +248,9 @@ fn under(
     }
 }
 
-fn under_shape(alloc: Global, shape: u16, body: Option<Box<TStmt>>) -> TypedStatement {
+fn under_shape(alloc: Global, shape: u16, body: Option<Box<TStmt>>) -> TypedStatement
+    ensures { IfOk result (IsUnder shape body) }
+{
     let Some(body) = body else {
         return Ok(None);
     };
@@ -215,7 +263,9 @@ fn everywhere(
     site: Site,
     place: Place,
     body: Option<Box<TStmt>>,
-) -> TypedStatement {
+) -> TypedStatement
+    ensures { IfOk result (IsEverywhere site place body faults.old.least faults.new.least) }
+{
     let Some(body) = body else {
         return Ok(None);
     };
@@ -230,7 +280,11 @@ fn repeated(
     scopes: &mut Scopes,
     site: Site,
     s: &Stmt,
-) -> TypedStatement {
+) -> TypedStatement
+    ensures kept { OnOk result (bindings scopes.new.locals ≡ bindings scopes.old.locals) }
+    ensures typed { IfOk result (IsTypedIf found.new.instances file.now scopes.old scopes.new site s.now) }
+    ensures met { OnOk result (Grows file.now found.old.instances found.new.instances) }
+{
     found.count(1);
     match s {
         Stmt::While { place, test, body } => {
@@ -274,7 +328,10 @@ fn heading(
     scopes: &Scopes,
     site: Site,
     s: &Stmt,
-) -> Result<Option<Heading>, Memory> {
+) -> Result<Option<Heading>, Memory>
+    ensures typed { IfOk result (IsTypedHeading found.new.instances file.now scopes.now site s.now) }
+    ensures met { OnOk result (Grows file.now found.old.instances found.new.instances) }
+{
     let Stmt::For {
         first,
         test,
@@ -301,16 +358,17 @@ fn effect(
     scopes: &Scopes,
     site: Site,
     e: &Option<Expr>,
-) -> Result<Option<Option<Box<TExpr>>>, Memory> {
+) -> Result<Option<Option<Box<TExpr>>>, Memory>
+    ensures typed { IfOk result (IsEffectIf found.new.instances file.now scopes.now site e.now) }
+    ensures met { OnOk result (Grows file.now found.old.instances found.new.instances) }
+{
     let Some(e) = e else {
         return Ok(Some(None));
     };
-    Ok(
-        match typed_expr(found, file, &scopes.locals, site.statement(), e)? {
-            Some(typed) => Some(Some(typed.expr)),
-            None => None,
-        },
-    )
+    match typed_expr(found, file, &scopes.locals, site.statement(), e)? {
+        Some(typed) => Ok(Some(Some(typed.expr))),
+        None => Ok(None),
+    }
 }
 
 /// The second part of a `for` or the value of a `return`, which may be left out. None where it has
@@ -321,14 +379,17 @@ fn condition(
     scopes: &Scopes,
     site: Site,
     e: &Option<Expr>,
-) -> Result<Option<Option<Box<TExpr>>>, Memory> {
+) -> Result<Option<Option<Box<TExpr>>>, Memory>
+    ensures typed { IfOk result (IsValueIf found.new.instances file.now scopes.now site e.now) }
+    ensures met { OnOk result (Grows file.now found.old.instances found.new.instances) }
+{
     let Some(e) = e else {
         return Ok(Some(None));
     };
-    Ok(match typed_value(found, file, &scopes.locals, site, e)? {
-        Some(typed) => Some(Some(typed)),
-        None => None,
-    })
+    match typed_value(found, file, &scopes.locals, site, e)? {
+        Some(typed) => Ok(Some(Some(typed))),
+        None => Ok(None),
+    }
 }
 
 /// Types a statement that has no statement as a part.
@@ -338,29 +399,66 @@ fn simple(
     scopes: &Scopes,
     site: Site,
     s: &Stmt,
-) -> TypedStatement {
+) -> TypedStatement
+    ensures typed { IfOk result (IsTypedIf found.new.instances file.now scopes.now scopes.now site s.now) }
+    ensures met { OnOk result (Grows file.now found.old.instances found.new.instances) }
+{
     found.count(1);
-    let typed = match s {
-        Stmt::Expression { expr, .. } => {
-            match typed_expr(found, file, &scopes.locals, site.statement(), expr)? {
-                Some(typed) => Ok(TStmt::Expression(Box::into_inner(typed.expr))),
-                None => Err(Untyped::Faulty),
-            }
-        }
-        Stmt::Return { place, value } => match condition(found, file, scopes, site, value)? {
-            Some(Some(value)) => return_statement(file.alloc, site, *place, value),
-            Some(None) => Ok(TStmt::Return(None)),
-            None => Err(Untyped::Faulty),
-        },
-        Stmt::Break(place) => match loop_word(site, *place) {
-            Ok(()) => Ok(TStmt::Break),
-            Err(fault) => Err(fault),
-        },
-        Stmt::Continue(place) => match loop_word(site, *place) {
-            Ok(()) => Ok(TStmt::Continue),
-            Err(fault) => Err(fault),
-        },
-        _ => Ok(TStmt::Empty),
-    };
+    let typed = simple_form(found, file, scopes, site, s)?;
     outcome(&mut found.faults, file.alloc, typed)
+}
+
+/// What such a statement is, from its typed expression, if it has one.
+fn simple_form(
+    found: &mut Found,
+    file: &File<'_>,
+    scopes: &Scopes,
+    site: Site,
+    s: &Stmt,
+) -> Result<Result<TStmt, Untyped>, Memory>
+    ensures typed { IfOk result (λ typed. IfOk typed (IsTyped found.new.instances file.now scopes.now scopes.now site s.now)) }
+    ensures met { OnOk result (Grows file.now found.old.instances found.new.instances) }
+{
+    match s {
+        Stmt::Expression { expr, .. } => {
+            let typed = typed_expr(found, file, &scopes.locals, site.statement(), expr)?;
+            Ok(expression_statement(typed))
+        }
+        Stmt::Return { place, value } => {
+            let value = condition(found, file, scopes, site, value)?;
+            Ok(returning(file.alloc, site, *place, value))
+        }
+        Stmt::Break(place) => Ok(loop_word(site, *place, TStmt::Break)),
+        Stmt::Continue(place) => Ok(loop_word(site, *place, TStmt::Continue)),
+        Stmt::Empty(_) => Ok(Ok(TStmt::Empty)),
+        _ => Ok(Err(Untyped::Faulty)),
+    }
+}
+
+fn expression_statement(typed: Option<TypedExpr>) -> Result<TStmt, Untyped>
+    ensures { MatchOption typed (result ≡ Err N.Faulty) (λ t. result ≡ Ok (T.Expression t.expr.value)) }
+{
+    match typed {
+        Some(typed) => Ok(TStmt::Expression(Box::into_inner(typed.expr))),
+        None => Err(Untyped::Faulty),
+    }
+}
+
+/// A `return` of what was typed.
+fn returning(
+    alloc: Global,
+    site: Site,
+    place: Place,
+    value: Option<Option<Box<TExpr>>>,
+) -> Result<TStmt, Untyped>
+    ensures none { value ≡ None → result ≡ Err N.Faulty }
+    ensures typed { (program : Program) (here : Here) (e : Option Expr) (x : Option (Box TExpr Global)) → value ≡ Some x → here.current ≡ site.current → TypesValueIf program here e (value_of x) → IsReturnAnswer program (returned site.returns) here (S.Return place e) result }
+{
+    let Some(value) = value else {
+        return Err(Untyped::Faulty);
+    };
+    match value {
+        Some(value) => return_statement(alloc, site, place, value),
+        None => Ok(TStmt::Return(None)),
+    }
 }

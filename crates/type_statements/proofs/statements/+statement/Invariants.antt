@@ -1,4 +1,7 @@
-use Rattle.std.proofs.Common.{◌+◌, ◌*◌}
+use Rattle.std.proofs.Common.{◌≡◌, ◌+◌, ◌*◌, true}
+use Rattle.type_scopes.specs.Bindings.{bindings}
+use Rattle.type_expressions.specs.Instances.{Grows}
+use Rattle.type_statements.proofs.Listed.{AreTypedTo}
 use Rattle.type_statements.proofs.statements.+statement.Given as goal
 
 abbrev pub decreases-block : goal.decreases-block
@@ -18,3 +21,10 @@ decreases-under l = goal.size-under l * 8 + 0
 
 abbrev pub decreases-repeated : goal.decreases-repeated
 decreases-repeated l = goal.size-repeated l * 8 + 0
+
+abbrev pub invariant-block_in-loop-s : goal.invariant-block_in-loop-s
+invariant-block_in-loop-s l =
+    (bindings l.scopes.locals ≡ bindings l.initial.scopes.locals)
+    × (l.complete ≡ true → AreTypedTo l.found.instances l.file l.initial.scopes l.scopes l.site l.s-items l.s-index l.statements.items)
+    × (l.locals ≡ l.initial.locals)
+    × Grows l.file l.initial.found.instances l.found.instances

@@ -1,0 +1,5 @@
+pub mod Answers
+pub mod Declarators
+pub mod Places
+pub mod Ready
+pub mod Walks
