@@ -34,3 +34,11 @@ returns-clause-typed c =
     let fresh = sym c.in_ok-new.ensures.is_new ∙ c.in-Some-Some-true.is-2 in
     let ty = rw c.in-Some-Some-true.is-0 at c.variable-ty.ensures in
     IfOk-weaker c.settle-2.result _ _ (λ r m. local_settled _ _ c.args.file.now c.args.scopes.now _ c.args.site c.args.scope c.args.ty c.in_ok-length.length c.in-Some-Some-true.ty c.args.declarator.now c.in_ok-initial.initial c.local_variable-variable.result r (begins_both same c.in_ok-initial.ensures.met) c.in_ok-length.ensures.typed fits ty (rw c.in-Some-Some-true.is-0 at names) count fresh c.in_ok-initial.ensures.typed c.local_variable-variable.ensures m) c.settle-2.ensures.part
+
+pub returns-clause-met : goal.returns-clause-met
+returns-clause-met c =
+    let same : Grows c.args.file.now c.array_length.new.found.instances c.if-not-new.found.instances = elim c.if-not-new.branch [
+      | then-not-new w ↦ rw w.found-is (begins_same refl)
+      | else-not-new w ↦ rw w.found-is (begins_same refl)
+    ] in
+    settled_local c.settle-2.result (begins_both (begins_same c.count.ensures) (begins_both c.in_ok-length.ensures.met (begins_both same c.in_ok-initial.ensures.met)))

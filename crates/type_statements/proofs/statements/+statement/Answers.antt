@@ -76,3 +76,52 @@ under-returns-in_ok-body-in-With-clause-typed t c =
 pub under-returns-in_ok-body-in-Everywhere-clause-typed : goal.under-returns-in_ok-body-in-Everywhere-clause-typed
 under-returns-in_ok-body-in-Everywhere-clause-typed t c =
     rw c.in-Everywhere.is (IfOk-weaker c.everywhere.result _ _ (λ r m. everywhere_typed _ c.args.file.now c.args.scopes.now _ c.args.site c.in-Everywhere.place c.in-Everywhere.body c.in_ok-body-in-Everywhere.body r _ _ (rw c.deref-in-Everywhere.ensures at c.in_ok-body-in-Everywhere.ensures.typed) m) c.everywhere.ensures)
+
+pub block_in-returns-else-complete-clause-met : goal.block_in-returns-else-complete-clause-met
+block_in-returns-else-complete-clause-met t c = begins_both (begins_same c.count.ensures) (begins_both c.in_ok-locals.ensures.met c.loop-s.invariant.3)
+
+pub chosen-returns-in_default : goal.chosen-returns-in_default
+chosen-returns-in_default t c = record { kept = refl; typed = tt; met = begins_same c.count.ensures }
+
+pub chosen-returns-in-Some-branches-clause-met : goal.chosen-returns-in-Some-branches-clause-met
+chosen-returns-in-Some-branches-clause-met t c =
+    let later : Grows c.args.file.now c.statement.new.found.instances c.match-otherwise.found.instances = elim c.match-otherwise.branch [
+      | chosen-in-Some+in_ok-statement-in-Some w ↦ rw w.found-is w.in_ok-statement-in-Some.ensures.met
+      | chosen-in-None w ↦ rw w.found-is (begins_same refl)
+    ] in
+    settled_local c.outcome.result (begins_both (begins_same c.count.ensures) (begins_both c.in_ok-test.ensures.met (begins_both c.in_ok-then.ensures.met later)))
+
+pub chosen-returns-in-None-branches-clause-met : goal.chosen-returns-in-None-branches-clause-met
+chosen-returns-in-None-branches-clause-met t c =
+    let later : Grows c.args.file.now c.statement.new.found.instances c.match-otherwise.found.instances = elim c.match-otherwise.branch [
+      | chosen-in-Some+in_ok-statement-in-Some w ↦ rw w.found-is w.in_ok-statement-in-Some.ensures.met
+      | chosen-in-None w ↦ rw w.found-is (begins_same refl)
+    ] in
+    begins_both (begins_same c.count.ensures) (begins_both c.in_ok-test.ensures.met (begins_both c.in_ok-then.ensures.met later))
+
+pub repeated-returns-in_default : goal.repeated-returns-in_default
+repeated-returns-in_default t c = record { kept = refl; typed = tt; met = begins_same c.count.ensures }
+
+pub repeated-returns-in_default-2-clause-met : goal.repeated-returns-in_default-2-clause-met
+repeated-returns-in_default-2-clause-met t c = begins_both (begins_same c.count.ensures) (begins_both c.in_ok-test-in-While.ensures.met c.in_ok-body-in-While.ensures.met)
+
+pub repeated-returns-in_default-3-clause-met : goal.repeated-returns-in_default-3-clause-met
+repeated-returns-in_default-3-clause-met t c = begins_both (begins_same c.count.ensures) (begins_both c.in_ok-body-in-Do.ensures.met c.in_ok-test-in-Do.ensures.met)
+
+pub repeated-returns-in_default-4-clause-met : goal.repeated-returns-in_default-4-clause-met
+repeated-returns-in_default-4-clause-met t c = begins_both (begins_same c.count.ensures) (begins_both c.in_ok-heading-in-For.ensures.met c.in_ok-body-in-For.ensures.met)
+
+pub repeated-returns-in-Some-Some-clause-met : goal.repeated-returns-in-Some-Some-clause-met
+repeated-returns-in-Some-Some-clause-met t c = settled_local c.outcome.result (begins_both (begins_same c.count.ensures) (begins_both c.in_ok-test-in-While.ensures.met c.in_ok-body-in-While.ensures.met))
+
+pub repeated-returns-in-Some-Some-2-clause-met : goal.repeated-returns-in-Some-Some-2-clause-met
+repeated-returns-in-Some-Some-2-clause-met t c = settled_local c.outcome-in-Do.result (begins_both (begins_same c.count.ensures) (begins_both c.in_ok-body-in-Do.ensures.met c.in_ok-test-in-Do.ensures.met))
+
+pub repeated-returns-in-Some-Some-3-clause-met : goal.repeated-returns-in-Some-Some-3-clause-met
+repeated-returns-in-Some-Some-3-clause-met t c = settled_local c.outcome-in-For.result (begins_both (begins_same c.count.ensures) (begins_both c.in_ok-heading-in-For.ensures.met c.in_ok-body-in-For.ensures.met))
+
+pub under-returns-in_default : goal.under-returns-in_default
+under-returns-in_default t c = record { kept = refl; typed = tt; met = begins_same c.count.ensures }
+
+pub under-returns-in_default-2-clause-met : goal.under-returns-in_default-2-clause-met
+under-returns-in_default-2-clause-met t c = begins_same c.count.ensures
