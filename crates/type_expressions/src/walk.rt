@@ -18,6 +18,8 @@ ghost use Rattle.type_expressions.specs.Along.{IsAxisOf, number_of_constant};
 ghost use Rattle.type_expressions.specs.Names.{IsVariableMeant};
 ghost use Rattle.type_expressions.specs.Answers.{IsAssigned, OnBoth, OnThree};
 ghost use Rattle.type_expressions.specs.Instances.{Grows};
+ghost use Rattle.type_expressions.specs.Meetings.{Meets};
+ghost use Rattle.cstar_tree.specs.Calls.{calls_in};
 ghost use Rattle.type_expressions.specs.Walks.{AreFoundAlong, AreListed, AreMore, AreParts, HasItsSource, IsAround, IsFoundAlong, IsOperand, IsPart, IsSource, IsSourceValue, IsTyped, IsTypedAlong, IsTypedFrom, IsTypedFromList, IsValue, dot_at, rank_under};
 
 use crate::calls::{call, printf};
@@ -51,6 +53,7 @@ pub fn typed_value(
 ) -> Result<Option<Box<TExpr>>, Memory>
     ensures typed { IfOk result (IsValue found.new.instances file.now locals.now site e.now) }
     ensures met { OnOk result (Grows file.now found.old.instances found.new.instances) }
+    ensures calls { OnOk result (Meets found.old.instances found.new.instances file.now locals.now site (λ here. calls_in here e.now)) }
 {
     let typed = typed_expr(found, file, locals, site.part(), e)?;
     found.faults.settle(valued(e.place(), typed))
@@ -84,6 +87,7 @@ pub fn typed_constant(
 ) -> Typing
     ensures typed { IfOk result (IsTyped found.new.instances file.now locals.now (record site { whole = false }) e.now) }
     ensures met { OnOk result (Grows file.now found.old.instances found.new.instances) }
+    ensures calls { OnOk result (Meets found.old.instances found.new.instances file.now locals.now site (λ here. calls_in here e.now)) }
 {
     let earlier = found.set_aside();
     let typed = typed_expr(found, file, locals, site.part(), e)?;
@@ -116,6 +120,7 @@ pub fn typed_expr(
 ) -> Typing
     ensures typed { IfOk result (IsTyped found.new.instances file.now locals.now site e.now) }
     ensures met { OnOk result (Grows file.now found.old.instances found.new.instances) }
+    ensures calls { OnOk result (Meets found.old.instances found.new.instances file.now locals.now site (λ here. calls_in here e.now)) }
 {
     found.count(nodes(file, locals, site, e));
     match e {

@@ -10,6 +10,10 @@ ghost use Rattle.type_scopes.specs.Bindings.{bindings, type_meant, variable_type
 ghost use Rattle.type_statements.specs.Declarators.{FitsArray, IsConstantNumber, IsInitial, IsInitialised, IsLength, IsVariable, type_with};
 ghost use Rattle.type_statements.specs.Places.{IsGrown};
 ghost use Rattle.type_expressions.specs.Instances.{Grows};
+ghost use Rattle.type_expressions.specs.Meetings.{Meets};
+ghost use Rattle.cstar_tree.specs.Calls.{calls_in_each};
+ghost use Rattle.cstar_tree.specs.SyntaxParts.{initial_values};
+ghost use Rattle.cstar_tree.specs.TypedParts.{optional};
 ghost use Rattle.type_statements.specs.Walks.{AreDeclared, AreMore, IsLocal};
 
 use crate::branches::scalar_test;
@@ -207,6 +211,7 @@ pub fn typed_initial(
 ) -> Result<Option<Initial>, Memory>
     ensures typed { IfOk result (IsInitial found.new.instances file.now locals.now site declarator.now.initial) }
     ensures met { OnOk result (Grows file.now found.old.instances found.new.instances) }
+    ensures calls { OnOk result (Meets found.old.instances found.new.instances file.now locals.now site (λ here. calls_in_each here (initial_values declarator.now.initial))) }
 {
     let Some(initial) = &declarator.initial else {
         return Ok(None);
@@ -228,6 +233,7 @@ pub fn array_length(
 ) -> Result<Length, Memory>
     ensures typed { IfOk result (IsLength found.new.instances file.now locals.now site length.now) }
     ensures met { OnOk result (Grows file.now found.old.instances found.new.instances) }
+    ensures calls { OnOk result (Meets found.old.instances found.new.instances file.now locals.now site (λ here. calls_in_each here (optional length.now))) }
 {
     let Some(length) = length else {
         return Ok(Length::Absent);

@@ -15,6 +15,7 @@ ghost use Rattle.type_scopes.specs.Bindings.{bindings};
 ghost use Rattle.type_scopes.specs.Headers.{returned};
 ghost use Rattle.type_scopes.specs.declared.faults.Untyped.TheVariants as N;
 ghost use Rattle.type_statements.specs.Answers.{AreBranches, IsAnswer, IsEverywhere, IsOutcome, IsReturnAnswer, IsUnder, IsWholeBlock, value_of};
+ghost use Rattle.type_statements.specs.Meetings.{MeetsCallsOf};
 ghost use Rattle.type_statements.specs.Places.{IsGrown};
 ghost use Rattle.type_expressions.specs.Instances.{Grows};
 ghost use Rattle.type_statements.specs.Walks.{IsEffectIf, IsTyped, IsTypedBlock, IsTypedHeading, IsTypedIf, IsValueIf};
@@ -82,6 +83,7 @@ pub fn block_in(
     ensures grown { OnOk result (IsGrown (bindings scopes.old.locals) (bindings scopes.new.locals)) }
     ensures typed { IfOk result (λ r. IfSome r (λ b. IsTypedBlock found.new.instances file.now scopes.old scopes.new site scope block.now b.value)) }
     ensures met { OnOk result (Grows file.now found.old.instances found.new.instances) }
+    ensures calls { IfOk result (λ r. IfSome r (λ _. MeetsCallsOf found.old.instances found.new.instances file.now scopes.old site scope block.now)) }
 {
     found.count(1);
     let locals = declarations(found, file, scopes, site, scope, &block.declarations)?;
