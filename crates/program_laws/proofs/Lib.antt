@@ -1,2 +1,4 @@
 pub mod InBlocks
+mod Lists
 mod MetInstances
+mod SameCalls

@@ -10,6 +10,7 @@ use Rattle.cstar_tree.specs.TypedParts.{concat}
 use Rattle.type_expressions.specs.Instances.{IsBeginning, with_met}
 use Rattle.type_expressions.specs.Meetings.{meeting}
 use Rattle.type_expressions.proofs.CallsWithin.{beginning_both, beginning_same, begins_met}
+use Rattle.program_laws.proofs.Lists.{concat_both}
 use Rattle.program_laws.specs.MetInstances.{MetInstancesAreThePrograms, called_by, met_behind, with_called}
 
 -- ---- what is met in a list
@@ -60,16 +61,11 @@ meeting_begins before (r ∷ rest) = beginning_both (begins_met r before) (meeti
 
 -- ---- one and all that those of a list call
 
-each_called : (called : Reached → List Reached) (xs ys : List Reached) → concat (map called (xs ++ ys)) ≡ concat (map called xs) ++ concat (map called ys)
-unfolding concat
-each_called called [] ys = refl
-each_called called (x ∷ xs) ys = ap (λ (rs : List Reached). called x ++ rs) (each_called called xs ys) ∙ sym (append_assoc (called x) (concat (map called xs)) (concat (map called ys)))
-
 abbrev with_all_called : (Reached → List Reached) → Reached → List Reached → List Reached
 with_all_called called main list = meeting (main ∷ []) (concat (map called list))
 
 called_both : (called : Reached → List Reached) (main : Reached) (xs ys : List Reached) → with_all_called called main (xs ++ ys) ≡ meeting (with_all_called called main xs) (concat (map called ys))
-called_both called main xs ys = ap (meeting (main ∷ [])) (each_called called xs ys) ∙ meeting_both (main ∷ []) (concat (map called xs)) (concat (map called ys))
+called_both called main xs ys = ap (meeting (main ∷ [])) (concat_both called xs ys) ∙ meeting_both (main ∷ []) (concat (map called xs)) (concat (map called ys))
 
 called_one : (called : Reached → List Reached) (main : Reached) (xs : List Reached) (r : Reached) → with_all_called called main (xs ++ r ∷ []) ≡ meeting (with_all_called called main xs) (called r)
 unfolding concat
