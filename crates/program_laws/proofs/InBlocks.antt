@@ -1,13 +1,13 @@
 -- What is asked of the expressions of a block, each at its own place: what follows from it, what is
 -- asked beside it, and what all places have.
-use Rattle.std.proofs.Common.{ℕ, List, [], ◌∷◌, IfSome, Option, Some, None}
+use Rattle.std.proofs.Common.{ℕ, List, [], ◌∷◌, IfSome, Option, Some, None, sym, subst}
 use mathlib.Core.Former.{Count}
 use Rattle.cstar_tree.specs.declared.syntax.Block.{Block}
 use Rattle.cstar_tree.specs.declared.syntax.Declaration.{Declaration}
 use Rattle.cstar_tree.specs.declared.syntax.Declarator.{Declarator}
 use Rattle.cstar_tree.specs.declared.syntax.Expr.{Expr}
 use Rattle.cstar_tree.specs.declared.syntax.Initializer.{Initializer}
-use Rattle.cstar_tree.specs.declared.syntax.Stmt.{Stmt, Row_of-Stmt, end_of-Stmt, more_of-Stmt, Held-Stmt-If-3, None', Some'}
+use Rattle.cstar_tree.specs.declared.syntax.Stmt.{Stmt, Row_of-Stmt, end_of-Stmt, more_of-Stmt, items-the_row-Stmt, items_hidden-the_row-Stmt-0, Held-Stmt-If-3, None', Some'}
 use Rattle.cstar_tree.specs.declared.syntax.Stmt as S
 use Rattle.cstar_tree.specs.declared.typed.ValueType.{ValueType}
 use Rattle.cstar_tree.specs.BlockScopes.{behind, behind_declarations, behind_declarator, behind_declarators, block_place, in_loop}
@@ -20,10 +20,28 @@ pub in_block_map : (P Q : Here → Expr → Type 0) → ((here : Here) (e : Expr
 in_block_map P Q f here block h =
     (ready.declarations_brought f here block.declarations.items h.0, ready.statements_brought f (behind_declarations here block.declarations.items) block.statements.items h.1)
 
+-- ---- a block as a statement
+
+abbrev statement_row : Stmt → (n : Count) × Row_of-Stmt n
+statement_row (S.Block' _ _ _ row) = (_, row)
+statement_row _ = (_, end_of-Stmt)
+
+in_row : (P : Here → Expr → Type 0) (here : Here) (n : Count) (row : Row_of-Stmt n) → InStatements P here (items-the_row-Stmt n row) → InRow P here row
+unfolding InRow InStatements
+in_row P here n end_of-Stmt h = tt
+in_row P here n (more_of-Stmt s rest) h = (h.0, in_row P (behind here s) _ rest h.1)
+
+pub in_statement : (P : Here → Expr → Type 0) (here : Here) (block : Block) → InBlock P (block_place here) block → InStatement P here (S.Block block)
+unfolding InStatement
+in_statement P here block h =
+    let row = statement_row (S.Block block) in
+    let there = behind_declarations (block_place here) block.declarations.items in
+    (h.0, in_row P there row.0 row.1 (subst (InStatements P there) (sym (items_hidden-the_row-Stmt-0 block.statements)) h.1))
+
 -- ---- two things beside each other
 
 module _ (P Q : Here → Expr → Type 0) where
-  abbrev pub Both : Here → Expr → Type 0
+  abbrev Both : Here → Expr → Type 0
   Both here e = P here e × Q here e
 
   some_both : (here : Here) (e : Option Expr) → IfSome e (P here) → IfSome e (Q here) → IfSome e (Both here)

@@ -1,4 +1,6 @@
+mod AmongCalls
+pub mod Bodies
 pub mod InBlocks
 mod Lists
-mod MetInstances
+pub mod MetInstances
 mod SameCalls

@@ -22,7 +22,7 @@ use Rattle.cstar_tree.specs.BlockScopes.{behind_declarations, behind_declarator,
 use Rattle.cstar_tree.specs.Calls.{Call, at_each, block_step, call_of, call_step, calls_in, calls_in_block, calls_in_declarations, calls_in_declarators, calls_in_each, calls_in_statement, statement_step, untyped, within}
 use Rattle.cstar_tree.specs.Headers.{Placed, Reached, behind_parameter, behind_parameters, body_place, header_place, plain_type}
 use Rattle.cstar_tree.specs.Instances.{function_meant}
-use Rattle.cstar_tree.specs.Scopes.{Binding, Here, Meaning, Names, VariableType, a_function, a_shape, a_variable, declared, find, meaning, opened, shape_of, under, written_type}
+use Rattle.cstar_tree.specs.Scopes.{Here, Meaning, Names, VariableType, a_function, a_shape, a_variable, declared, find, meaning, shape_of, under, written_type}
 use Rattle.cstar_tree.specs.SyntaxParts.{initial_values}
 use Rattle.cstar_tree.specs.TypedParts.{concat, optional}
 
@@ -46,7 +46,7 @@ pub record AreAlike (a b : Names) : Type 0 where
 abbrev pub IsAlike : Here → Here → Type 0
 IsAlike here there = AreAlike here.names there.names
 
-alike_itself : (a : Names) → AreAlike a a
+pub alike_itself : (a : Names) → AreAlike a a
 alike_itself a = record { inner = λ word. refl; all = λ word. refl }
 
 pub alike_inside : (here there : Here) → IsAlike here there → IsAlike (block_place here) (block_place there)
