@@ -18,7 +18,7 @@ ghost use Rattle.type_expressions.specs.Along.{IsAxisOf, number_of_constant};
 ghost use Rattle.type_expressions.specs.Names.{IsVariableMeant};
 ghost use Rattle.type_expressions.specs.Answers.{IsAssigned, OnBoth, OnThree};
 ghost use Rattle.type_expressions.specs.Instances.{Grows};
-ghost use Rattle.type_expressions.specs.Meetings.{Meets};
+ghost use Rattle.type_expressions.specs.Meetings.{Meets, list_calls, operand_calls, own_calls, source_calls};
 ghost use Rattle.cstar_tree.specs.Calls.{calls_in};
 ghost use Rattle.type_expressions.specs.Walks.{AreFoundAlong, AreListed, AreMore, AreParts, HasItsSource, IsAround, IsFoundAlong, IsOperand, IsPart, IsSource, IsSourceValue, IsTyped, IsTypedAlong, IsTypedFrom, IsTypedFromList, IsValue, dot_at, rank_under};
 
@@ -70,6 +70,7 @@ fn axis_value(
 ) -> Result<Option<Box<TExpr>>, Memory>
     ensures typed { IfOk result (IsValue found.new.instances file.now locals.now site axis.now) }
     ensures met { OnOk result (Grows file.now found.old.instances found.new.instances) }
+    ensures calls { OnOk result (Meets found.old.instances found.new.instances file.now locals.now site (λ here. calls_in here axis.now)) }
 {
     let earlier = found.set_aside();
     let typed = typed_value(found, file, locals, site, axis)?;
@@ -147,15 +148,20 @@ pub fn typed_expr(
         | Expr::DimOf { axis, .. }
         | Expr::Scan { axis, .. }
         | Expr::Enumerate { axis, .. } => {
+            let source = source_value(found, file, locals, site, e)?;
             let axis = axis_value(found, file, locals, site, axis)?;
             let along = goes_along(&mut found.faults, file, locals, site, e, axis)?;
-            let source = source_value(found, file, locals, site, e)?;
             match along {
                 Some(along) => with_axis(&mut found.faults, file, site, e, along, source),
                 None => Ok(None),
             }
         }
-        _ => outcome(&mut found.faults, file.alloc, leaf(file, locals, site, e)),
+        Expr::Name(_)
+        | Expr::Number { .. }
+        | Expr::Dot(_)
+        | Expr::PositionsOf { .. }
+        | Expr::RankOf { .. }
+        | Expr::GetChar(_) => outcome(&mut found.faults, file.alloc, leaf(file, locals, site, e)),
     }
 }
 
@@ -170,6 +176,7 @@ fn source_value(
 ) -> Result<Option<Box<TExpr>>, Memory>
     ensures typed { IfOk result (IsSourceValue found.new.instances file.now locals.now site e.now) }
     ensures met { OnOk result (Grows file.now found.old.instances found.new.instances) }
+    ensures calls { OnOk result (Meets found.old.instances found.new.instances file.now locals.now site (λ here. source_calls here e.now)) }
 {
     match e {
         Expr::Scan { source, .. } => typed_value(found, file, locals, site, source),
@@ -195,6 +202,7 @@ fn nodes(file: &File<'_>, locals: &Locals, site: Site, e: &Expr) -> u64 {
 fn operands(found: &mut Found, file: &File<'_>, locals: &Locals, site: Site, e: &Expr) -> Typing
     ensures typed { IfOk result (IsTyped found.new.instances file.now locals.now site e.now) }
     ensures met { OnOk result (Grows file.now found.old.instances found.new.instances) }
+    ensures calls { OnOk result (Meets found.old.instances found.new.instances file.now locals.now site (λ here. operand_calls here e.now)) }
 {
     match e {
         Expr::Assign {
@@ -399,6 +407,7 @@ fn list(
 ) -> Result<Option<Vec<Box<TExpr>>>, Memory>
     ensures typed { IfOk result (AreListed found.new.instances file.now locals.now site e.now) }
     ensures met { OnOk result (Grows file.now found.old.instances found.new.instances) }
+    ensures calls { OnOk result (Meets found.old.instances found.new.instances file.now locals.now site (λ here. list_calls here e.now)) }
 {
     let (parts, indexed) = match e {
         Expr::Call { arguments, .. } | Expr::Printf { arguments, .. } => (arguments, None),
@@ -456,6 +465,7 @@ fn with_list(
 ) -> Typing
     ensures typed { IfOk result (IsTypedFromList found.new.instances parts file.now locals.now site e.now) }
     ensures met { OnOk result (Grows file.now found.old.instances found.new.instances) }
+    ensures calls { OnOk result (Meets found.old.instances found.new.instances file.now locals.now site (λ here. own_calls here e.now)) }
 {
     match e {
         Expr::Call { name, .. } => call(found, file, locals, site, name, parts),
