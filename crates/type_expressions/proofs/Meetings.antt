@@ -68,10 +68,10 @@ pub meets_both : {first second third : Instances} {file : File} {locals : Locals
 meets_both {first = first} {calls = calls} {more = more} m n = record {
   outside = λ is. n.outside is ∙ m.outside is;
   inside = λ here f a there.
-    n.inside here f a there
-    ∙ (ap (λ (before : List Reached). meeting before (reached_by (more here))) (m.inside here f a there)
-    ∙ (sym (meeting_append (met first) (reached_by (calls here)) (reached_by (more here)))
-    ∙ ap (meeting (met first)) (sym (reached_append (calls here) (more here)))));
+      n.inside here f a there
+      ∙ (ap (λ (before : List Reached). meeting before (reached_by (more here))) (m.inside here f a there)
+      ∙ (sym (meeting_append (met first) (reached_by (calls here)) (reached_by (more here)))
+      ∙ ap (meeting (met first)) (sym (reached_append (calls here) (more here)))));
 }
 
 -- where nothing was met in between
@@ -124,10 +124,10 @@ pub call_meets : {old new : Instances} {file : File} {locals : Locals} {site : S
 call_meets {old = old} {file = file} {locals = locals} {site = site} n called named f among settled found is = record {
   outside = λ none. is ∙ ap (λ (k : Option ℕ). behind_call k (record { function = f; current = site.current }) (met old)) none;
   inside = λ here around a there.
-    is ∙ (ap (λ (k : Option ℕ). behind_call k (record { function = f; current = site.current }) (met old)) (sym a.at_site.around ∙ there)
-    ∙ (ap (λ (c : Option ℕ). with_met (record { function = f; current = c }) (met old)) (sym a.at_site.current)
-    ∙ (sym (meeting_one (met old) f here.current)
-    ∙ ap (λ (m : Option Meaning). meeting (met old) (reached_by (call_of here m))) (sym (a.names n.word ∙ called_function (names_at file locals site.known) n called named among settled found)))));
+      is ∙ (ap (λ (k : Option ℕ). behind_call k (record { function = f; current = site.current }) (met old)) (sym a.at_site.around ∙ there)
+      ∙ (ap (λ (c : Option ℕ). with_met (record { function = f; current = c }) (met old)) (sym a.at_site.current)
+      ∙ (sym (meeting_one (met old) f here.current)
+      ∙ ap (λ (m : Option Meaning). meeting (met old) (reached_by (call_of here m))) (sym (a.names n.word ∙ called_function (names_at file locals site.known) n called named among settled found)))));
 }
 
 uncalled : (here : Here) (m : Option Meaning) (p : Place) (u : Untyped) → TellsNoFunction m p u → call_of here m ≡ []
@@ -142,6 +142,6 @@ none_called n (Ok f) named among settled never same = absurd (never f settled)
 none_called {old = old} {file = file} {locals = locals} {site = site} n (Err u) named among settled never same = record {
   outside = λ none. ap met same;
   inside = λ here f a there.
-    let names = a.names n.word in
-    ap met same ∙ meeting_none (met old) (call_of here (meaning here n.word)) (ap (call_of here) names ∙ uncalled here (find (names_at file locals site.known) n.word) n.place u among);
+      let names = a.names n.word in
+      ap met same ∙ meeting_none (met old) (call_of here (meaning here n.word)) (ap (call_of here) names ∙ uncalled here (find (names_at file locals site.known) n.word) n.place u among);
 }

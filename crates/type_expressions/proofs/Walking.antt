@@ -58,7 +58,7 @@ use Rattle.type_expressions.specs.declared.found.Instances.{Instances}
 use Rattle.type_expressions.specs.declared.found.TypedExpr.{TypedExpr}
 use Rattle.type_expressions.specs.declared.intrinsics.Axis.{Axis}
 use Rattle.type_expressions.specs.declared.intrinsics.Axis.TheVariants as A
-use Rattle.type_expressions.specs.declared.walk.Along.{Along}
+use Rattle.type_expressions.specs.declared.along.Along.{Along}
 use Rattle.type_expressions.proofs.CallsWithin.{AreCallsOf, earlier, in_assignment_target, in_assignment_value, in_binary_left, in_binary_right, in_brackets, in_casts, in_choice_second, in_choice_test, in_choice_third, in_dim, in_element, in_enumerate, in_parallel_cast, in_pcoord, in_postfix, in_prefix, in_scan_axis, in_scan_source, moved, narrowed}
 use Rattle.type_expressions.proofs.OfShapes.{rank_is}
 use Rattle.type_expressions.proofs.AtSites.{some_in}
