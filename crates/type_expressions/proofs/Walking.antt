@@ -30,7 +30,7 @@ use Rattle.constant_trees.specs.Words.{HasFewPositions, HasWords, IsCounted}
 use Rattle.constant_trees.proofs.Written.{in_part as constant_in_part, number_read, written as typed_as_written}
 use Rattle.cstar_tree.specs.Constants.{axis_among, axis_of, constant, constant_number, number_meant, product}
 use Rattle.cstar_tree.specs.Conversions.{int, unsigned}
-use Rattle.cstar_tree.specs.ExpressionTypes.{IsVariable, Types, TypesEach, TypesIndexes}
+use Rattle.cstar_tree.specs.ExpressionTypes.{IsVariable, Types, TypesIndexes}
 use Rattle.cstar_tree.specs.ExpressionTypes as X
 use Rattle.cstar_tree.specs.Headers.{Program}
 use Rattle.cstar_tree.specs.Scopes.{Here, Meaning, a_function, a_shape, a_variable, extents_of, find, meaning, part, shape_meant, shape_of, written_type}
