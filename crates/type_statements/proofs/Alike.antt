@@ -68,15 +68,15 @@ call_kind here (Some (a_shape s)) = refl
 call_kind here (Some (a_function f)) = refl
 call_kind here (Some (a_variable v t)) = refl
 
-call_under : {a b : Here} → a.current ≡ b.current → (m : Option Meaning) → call_of a m ≡ call_of b m
-call_under same None = refl
-call_under same (Some (a_shape s)) = refl
-call_under same (Some (a_function f)) = ap (λ (c : Option ℕ). record { function = f; current = c; typed = true } ∷ []) same
-call_under same (Some (a_variable v t)) = refl
+call_under : (a b : Here) → a.current ≡ b.current → (m : Option Meaning) → call_of a m ≡ call_of b m
+call_under a b same None = refl
+call_under a b same (Some (a_shape s)) = refl
+call_under a b same (Some (a_function f)) = ap (λ (c : Option ℕ). record { function = f; current = c; typed = true } ∷ []) same
+call_under a b same (Some (a_variable v t)) = refl
 
 step_alike : {a b : Here} → AreAlike a b → (node : Expr-F (List Call)) → call_step a node ≡ call_step b node
 step_alike {a} {b} same (Expr-F.Call n arguments) = ap (λ (cs : List Call). concat arguments.items ++ cs)
-    (call_kind a (meaning a n.word) ∙ ap (call_of a) (meant_alike same n.word) ∙ sym (call_kind a (meaning b n.word)) ∙ call_under same.current (meaning b n.word))
+    (call_kind a (meaning a n.word) ∙ ap (call_of a) (meant_alike same n.word) ∙ sym (call_kind a (meaning b n.word)) ∙ call_under a b same.current (meaning b n.word))
 step_alike same node = refl
 
 pub calls_alike : {a b : Here} → AreAlike a b → (e : Expr) → calls_in a e ≡ calls_in b e
@@ -131,29 +131,33 @@ declarator_alike {a} {b} ty of d same =
     let names = names_alike a.names b.names d.name.word (a_variable (V.Local a.locals) (declared_type a ty d.length)) (a_variable (V.Local b.locals) (declared_type b of d.length)) (same.inner, same.outer) refl in
     record { inner = names.0; outer = names.1; current = same.current }
 
-pub behind_alike : {a b : Here} (ty of : Option ValueType) (ds : List Declarator) → AreAlike a b → AreAlike (behind_declarators a ty ds) (behind_declarators b of ds)
+pub behind_alike : (ty of : Option ValueType) (ds : List Declarator) (a b : Here) → AreAlike a b → AreAlike (behind_declarators a ty ds) (behind_declarators b of ds)
 unfolding behind_declarators
-behind_alike ty of [] same = same
-behind_alike ty of (d ∷ ds) same = behind_alike ty of ds (declarator_alike ty of d same)
+behind_alike ty of [] a b same = same
+behind_alike ty of (d ∷ ds) a b same = behind_alike ty of ds (behind_declarator a ty d) (behind_declarator b of d) (declarator_alike ty of d same)
 
-declarators_alike : {a b : Here} (ty of : Option ValueType) (ds : List Declarator) → AreAlike a b → calls_in_declarators a ty ds ≡ calls_in_declarators b of ds
+declarators_alike : (ty of : Option ValueType) (ds : List Declarator) (a b : Here) → AreAlike a b → calls_in_declarators a ty ds ≡ calls_in_declarators b of ds
 unfolding calls_in_declarators
-declarators_alike ty of [] same = refl
-declarators_alike ty of (d ∷ ds) same =
-    ap₂ (λ (xs ys : List Call). xs ++ ys) (ap₂ (λ (xs ys : List Call). xs ++ ys) (each_alike same (optional d.length)) (each_alike (declarator_alike ty of d same) (initial_values d.initial)))
-    (declarators_alike ty of ds (declarator_alike ty of d same))
+declarators_alike ty of [] a b same = refl
+declarators_alike ty of (d ∷ ds) a b same =
+    let next = declarator_alike {a = a} {b = b} ty of d same in
+    ap₂ (λ (xs ys : List Call). xs ++ ys) (ap₂ (λ (xs ys : List Call). xs ++ ys) (each_alike same (optional d.length)) (each_alike next (initial_values d.initial)))
+    (declarators_alike ty of ds (behind_declarator a ty d) (behind_declarator b of d) next)
 
-pub behind_all_alike : {a b : Here} (ds : List Declaration) → AreAlike a b → AreAlike (behind_declarations a ds) (behind_declarations b ds)
+pub behind_all_alike : (ds : List Declaration) (a b : Here) → AreAlike a b → AreAlike (behind_declarations a ds) (behind_declarations b ds)
 unfolding behind_declarations
-behind_all_alike [] same = same
-behind_all_alike {a} {b} (d ∷ ds) same = behind_all_alike ds (behind_alike (written_type a d.type_name) (written_type b d.type_name) d.variables.items same)
+behind_all_alike [] a b same = same
+behind_all_alike (d ∷ ds) a b same =
+    behind_all_alike ds (behind_declarators a (written_type a d.type_name) d.variables.items) (behind_declarators b (written_type b d.type_name) d.variables.items)
+    (behind_alike (written_type a d.type_name) (written_type b d.type_name) d.variables.items a b same)
 
-pub declarations_alike : {a b : Here} (ds : List Declaration) → AreAlike a b → calls_in_declarations a ds ≡ calls_in_declarations b ds
+pub declarations_alike : (ds : List Declaration) (a b : Here) → AreAlike a b → calls_in_declarations a ds ≡ calls_in_declarations b ds
 unfolding calls_in_declarations
-declarations_alike [] same = refl
-declarations_alike {a} {b} (d ∷ ds) same =
-    ap₂ (λ (xs ys : List Call). xs ++ ys) (declarators_alike (written_type a d.type_name) (written_type b d.type_name) d.variables.items same)
-    (declarations_alike ds (behind_alike (written_type a d.type_name) (written_type b d.type_name) d.variables.items same))
+declarations_alike [] a b same = refl
+declarations_alike (d ∷ ds) a b same =
+    ap₂ (λ (xs ys : List Call). xs ++ ys) (declarators_alike (written_type a d.type_name) (written_type b d.type_name) d.variables.items a b same)
+    (declarations_alike ds (behind_declarators a (written_type a d.type_name) d.variables.items) (behind_declarators b (written_type b d.type_name) d.variables.items)
+    (behind_alike (written_type a d.type_name) (written_type b d.type_name) d.variables.items a b same))
 
 -- ---- statements
 
@@ -202,8 +206,8 @@ node_same (Stmt-F.Where p test second (Some third)) = λ a b same. ap₂ (λ (xs
 node_same node = λ a b same. ap₂ (λ (xs ys : List Call). xs ++ ys) (each_alike same (expressions_of node)) (row_same (statements_of node) a b same)
 
 block_same : (node : Block-F SameStatement SameBlock) → AreSame (block_calls (block_of node))
-block_same node = λ a b same. ap₂ (λ (xs ys : List Call). xs ++ ys) (declarations_alike node.declarations.items same)
-    (row_same node.statements.items (behind_declarations a node.declarations.items) (behind_declarations b node.declarations.items) (behind_all_alike node.declarations.items same))
+block_same node = λ a b same. ap₂ (λ (xs ys : List Call). xs ++ ys) (declarations_alike node.declarations.items a b same)
+    (row_same node.statements.items (behind_declarations a node.declarations.items) (behind_declarations b node.declarations.items) (behind_all_alike node.declarations.items a b same))
 
 all_same : (s : Stmt) → AreSame (calls_in_statement s)
 all_same = ind-Stmt (λ s. AreSame (calls_in_statement s)) (λ block. AreSame (calls_of block))

@@ -25,8 +25,10 @@ use Rattle.type_scopes.specs.declared.file.File.{File}
 use Rattle.type_scopes.specs.declared.locals.Locals.{Locals}
 use Rattle.type_scopes.specs.declared.sites.Site.{Site}
 use Rattle.type_scopes.specs.declared.standing.Standing.{Standing}
-use Rattle.type_expressions.specs.Instances.{Grows}
-use Rattle.type_expressions.specs.Meetings.{Meets}
+use Rattle.cstar_tree.specs.Headers as H
+use Rattle.cstar_tree.specs.Instances.{reached_by}
+use Rattle.type_expressions.specs.Instances.{Grows, met}
+use Rattle.type_expressions.specs.Meetings.{Meets, meeting}
 use Rattle.type_expressions.specs.declared.found.Instances.{Instances}
 use Rattle.type_expressions.proofs.Walking.{is_shape, shape_found}
 use Rattle.call_groups.proofs.Statements.{block_has, break_has, continue_has, do_has, empty_has, everywhere_has, expression_has, for_has, if_alone_has, if_else_has, return_has, where_alone_has, where_else_has, while_has, with_has}
@@ -44,8 +46,8 @@ use Rattle.type_statements.proofs.Ready.{brought, declarations_brought, earlier}
 use Rattle.type_statements.proofs.Ready as ready
 use Rattle.type_statements.proofs.Walking.{AreGiven, some_given, still_around, typed_of}
 
-met_there : {old new : Instances} {there here : Here} (s : Stmt) → AreAlike there here → AreMet old new (calls_in_statement s there) → AreMet old new (calls_in_statement s here)
-met_there s alike h = as_met (statement_alike s alike) h
+met_there : (old : Instances) {met_then : List H.Reached} {there here : Here} (s : Stmt) → AreAlike there here → met_then ≡ meeting (met old) (reached_by (calls_in_statement s there)) → met_then ≡ meeting (met old) (reached_by (calls_in_statement s here))
+met_there old s alike h = as_met old (statement_alike s alike) h
 
 looped : (here : Here) → AreAlike (in_loop here) here
 looped here = record { inner = refl; outer = refl; current = refl }
@@ -54,30 +56,30 @@ behind_alike : (here : Here) (s : Stmt) → AreAlike (behind here s) here
 behind_alike here s = record { inner = refl; outer = refl; current = refl }
 
 -- what is typed was met
-met_of : {P : Type 0} (r : Option (Box TStmt Global)) {b : Box TStmt Global} → IfSome r (λ _. P) → r ≡ Some b → P
+pub met_of : {A P : Type 0} (r : Option A) {b : A} → IfSome r (λ _. P) → r ≡ Some b → P
 met_of None h is = absurd (cc)
 met_of (Some b) h is = h
 
 -- ---- a block
 
-pub block_meets : {old new : Instances} (file : File) (scopes : Scopes) (site : Site) (scope : ℕ) (block : Block) (r : Option (Box TStmt Global)) → scope ≡ length (bindings scopes.locals) → IfSome r (λ _. MeetsCallsOf old new file scopes site scope block) → MeetsCallsIf old new file scopes site (S.Block block) r
-block_meets file scopes site scope block None is h = tt
-block_meets {new = new} file scopes site scope block (Some b) is h = λ program here f p plain around.
+pub block_meets : (old new : Instances) (file : File) (scopes : Scopes) (site : Site) (scope : ℕ) (block : Block) (r : Option (Box TStmt Global)) → scope ≡ length (bindings scopes.locals) → IfSome r (λ _. MeetsCallsOf old new file scopes site scope block) → MeetsCallsIf old new file scopes site (S.Block block) r
+block_meets old new file scopes site scope block None is h = tt
+block_meets old new file scopes site scope block (Some b) is h = λ program here f p plain around.
     let place = subst (λ (n : ℕ). IsInScope file scopes site n (block_place here)) (sym is) (in_block here p) in
-    as_met (sym ((block_has block refl).at_place here)) (h program (block_place here) f place (ready.in_block (IsReady new file program) here block plain) around)
+    as_met old (sym ((block_has block refl).at_place here)) (h program (block_place here) f place (ready.in_block (IsReady new file program) here block plain) around)
 
-pub whole_block_meets : {old mid new : Instances} (file : File) (scopes inner : Scopes) (site : Site) (scope : ℕ) (block : Block) (k : ℕ) (locals : Option (Vec LocalVar Global)) (statements : Vec TStmt Global) (r : Option (Box TStmt Global)) → k ≡ length block.statements.items
+pub whole_block_meets : {mid new : Instances} (old : Instances) (file : File) (scopes inner : Scopes) (site : Site) (scope : ℕ) (block : Block) (k : ℕ) (locals : Option (Vec LocalVar Global)) (statements : Vec TStmt Global) (r : Option (Box TStmt Global)) → k ≡ length block.statements.items
     → Grows file mid new → IfSome locals (λ ls. AreDeclared mid file scopes inner site scope block.declarations.items ls.items) → IfSome locals (λ _. MeetsDeclared old mid file scopes site scope block.declarations.items)
     → AreMetTo mid new file inner site block.statements.items k → IsWholeBlock locals statements r → IfSome r (λ _. MeetsCallsOf old new file scopes site scope block)
-whole_block_meets file scopes inner site scope block k None statements r all later typed declared h w = rw w tt
-whole_block_meets file scopes inner site scope block k (Some locals) statements None all later typed declared h w = absurd w
-whole_block_meets file scopes inner site scope block k (Some locals) statements (Some b) all later typed declared h w = λ program here f p plain around.
+whole_block_meets {mid = mid} old file scopes inner site scope block k None statements r all later typed declared h w = rw w tt
+whole_block_meets {mid = mid} old file scopes inner site scope block k (Some locals) statements None all later typed declared h w = absurd w
+whole_block_meets {mid = mid} old file scopes inner site scope block k (Some locals) statements (Some b) all later typed declared h w = λ program here f p plain around.
     let so_far = declarations_brought (earlier later) here block.declarations.items plain.0 in
     let there = behind_declarations here block.declarations.items in
     let place = (typed.typed program here p so_far).1 in
     let whole : take k block.statements.items ≡ block.statements.items = ap (λ (n : ℕ). take n block.statements.items) all ∙ take-length block.statements.items in
-    both_met (calls_in_declarations here block.declarations.items) (at_each there (map calls_in_statement block.statements.items)) (declared program here f p so_far around)
-    (as_met (ap (λ (ss : List Stmt). at_each there (map calls_in_statement ss)) whole) (h program there f place.place plain.1 (behind_all_around here block.declarations.items ∙ around)))
+    both_met old mid (calls_in_declarations here block.declarations.items) (at_each there (map calls_in_statement block.statements.items)) (declared program here f p so_far around)
+    (as_met mid (ap (λ (ss : List Stmt). at_each there (map calls_in_statement ss)) whole) (h program there f place.place plain.1 (behind_all_around here block.declarations.items ∙ around)))
 
 -- ---- `if` and `where`
 
@@ -90,79 +92,79 @@ pub if_meets : {old one two new : Instances} (file : File) (scopes inner : Scope
     → Grows file two new → Meets old one file scopes.locals site (λ here. calls_in here e) → IsTypedIf two file scopes inner site second.value a → MeetsCallsIf one two file scopes site second.value a → bindings inner.locals ≡ bindings scopes.locals → IsElseMet two new file inner site third b
     → AreGiven test a b parts → MeetsCalls old new file scopes site (S.If p e second third)
 unfolding InStatement InElse
-if_meets file scopes inner site p e second None test a b parts later v typed h same (none_else is) given = λ program here f place plain around.
+if_meets {old = old} {one = one} {two = two} file scopes inner site p e second None test a b parts later v typed h same (none_else is) given = λ program here f place plain around.
     let inside = met_of a h given.1 program here f place (brought (earlier later) here second.value plain.1) around in
-    as_met (sym ((if_alone_has refl).at_place here)) (both_met (calls_in here e) (calls_in_statement second.value here) (v.inside here f place.around around) (rw is inside))
-if_meets file scopes inner site p e second (Some third) test a b parts later v typed h same (else_met {r} _ k) given = λ program here f place plain around.
-    let one = typed_of file scopes inner site second.value a parts.then typed given.1 in
+    as_met old (sym ((if_alone_has refl).at_place here)) (both_met old one (calls_in here e) (calls_in_statement second.value here) (v.inside here f place.around around) (rw is inside))
+if_meets {old = old} {one = one} {two = two} file scopes inner site p e second (Some third) test a b parts later v typed h same (else_met {r} _ k) given = λ program here f place plain around.
+    let typed_one = typed_of file scopes inner site second.value a parts.then typed given.1 in
     let inside = met_of a h given.1 program here f place (brought (earlier later) here second.value plain.1) around in
-    let other = met_of r k (some_given r parts.otherwise given.2).1 program (behind here second.value) f (behind_more here (locals_in second.value) place same one.counted) plain.2 around in
-    as_met (sym ((if_else_has refl).at_place here))
-    (both_met (calls_in here e) (calls_in_statement second.value here ++ calls_in_statement third.value here) (v.inside here f place.around around)
-    (both_met (calls_in_statement second.value here) (calls_in_statement third.value here) inside (met_there third.value (behind_alike here second.value) other)))
+    let other = met_of r k (some_given r parts.otherwise given.2).1 program (behind here second.value) f (behind_more here (locals_in second.value) place same typed_one.counted) plain.2 around in
+    as_met old (sym ((if_else_has refl).at_place here))
+    (both_met old one (calls_in here e) (calls_in_statement second.value here ++ calls_in_statement third.value here) (v.inside here f place.around around)
+    (both_met one two (calls_in_statement second.value here) (calls_in_statement third.value here) inside (met_there two third.value (behind_alike here second.value) other)))
 
 pub where_meets : {old one two new : Instances} (file : File) (scopes inner : Scopes) (site : Site) (p : Place) (e : Expr) (second : Box Stmt Global) (third : Option (Box Stmt Global)) (test : Option (Box TExpr Global)) (a : Option (Box TStmt Global)) (b : Option (Option (Box TStmt Global))) (parts : Branches)
     → Grows file two new → Meets old one file scopes.locals site (λ here. calls_in here e) → IsTypedIf two file scopes inner site second.value a → MeetsCallsIf one two file scopes site second.value a → bindings inner.locals ≡ bindings scopes.locals → IsElseMet two new file inner site third b
     → AreGiven test a b parts → MeetsCalls old new file scopes site (S.Where p e second third)
 unfolding InStatement InElse
-where_meets file scopes inner site p e second None test a b parts later v typed h same (none_else is) given = λ program here f place plain around.
+where_meets {old = old} {one = one} {two = two} file scopes inner site p e second None test a b parts later v typed h same (none_else is) given = λ program here f place plain around.
     let inside = met_of a h given.1 program here f place (brought (earlier later) here second.value plain.1) around in
-    as_met (sym ((where_alone_has refl).at_place here)) (both_met (calls_in here e) (calls_in_statement second.value here) (v.inside here f place.around around) (rw is inside))
-where_meets file scopes inner site p e second (Some third) test a b parts later v typed h same (else_met {r} _ k) given = λ program here f place plain around.
-    let one = typed_of file scopes inner site second.value a parts.then typed given.1 in
+    as_met old (sym ((where_alone_has refl).at_place here)) (both_met old one (calls_in here e) (calls_in_statement second.value here) (v.inside here f place.around around) (rw is inside))
+where_meets {old = old} {one = one} {two = two} file scopes inner site p e second (Some third) test a b parts later v typed h same (else_met {r} _ k) given = λ program here f place plain around.
+    let typed_one = typed_of file scopes inner site second.value a parts.then typed given.1 in
     let inside = met_of a h given.1 program here f place (brought (earlier later) here second.value plain.1) around in
-    let other = met_of r k (some_given r parts.otherwise given.2).1 program (behind here second.value) f (behind_more here (locals_in second.value) place same one.counted) plain.2 around in
-    as_met (sym ((where_else_has refl).at_place here))
-    (both_met (calls_in here e) (calls_in_statement second.value here ++ calls_in_statement third.value here) (v.inside here f place.around around)
-    (both_met (calls_in_statement second.value here) (calls_in_statement third.value here) inside (met_there third.value (behind_alike here second.value) other)))
+    let other = met_of r k (some_given r parts.otherwise given.2).1 program (behind here second.value) f (behind_more here (locals_in second.value) place same typed_one.counted) plain.2 around in
+    as_met old (sym ((where_else_has refl).at_place here))
+    (both_met old one (calls_in here e) (calls_in_statement second.value here ++ calls_in_statement third.value here) (v.inside here f place.around around)
+    (both_met one two (calls_in_statement second.value here) (calls_in_statement third.value here) inside (met_there two third.value (behind_alike here second.value) other)))
 
 -- ---- under a shape
 
-pub with_meets : {old new : Instances} (file : File) (scopes : Scopes) (site : Site) (p : Place) (written : ShapeRef) (body : Box Stmt Global) (named : Result ℕ Untyped) (found : Option ℕ) (shape : ℕ) (b r : Option (Box TStmt Global)) → IsShapeAmong (names_at file scopes.locals site.known) site.current written named → found ≡ part_of named → found ≡ Some shape
+pub with_meets : (old new : Instances) (file : File) (scopes : Scopes) (site : Site) (p : Place) (written : ShapeRef) (body : Box Stmt Global) (named : Result ℕ Untyped) (found : Option ℕ) (shape : ℕ) (b r : Option (Box TStmt Global)) → IsShapeAmong (names_at file scopes.locals site.known) site.current written named → found ≡ part_of named → found ≡ Some shape
     → MeetsCallsIf old new file scopes (record site { current = Some shape }) body.value b → IsUnder shape b r → MeetsCallsIf old new file scopes site (S.With p written body) r
 unfolding InStatement
-with_meets file scopes site p written body named found shape b None n k is h m = tt
-with_meets file scopes site p written body named found shape None (Some t) n k is h m = absurd (cc)
-with_meets file scopes site p written body (Err u) found shape (Some b) (Some t) n k is h m = absurd (cc)
-with_meets file scopes site p written body (Ok s) found shape (Some b) (Some t) n k is h m = λ program here f place plain around.
+with_meets old new file scopes site p written body named found shape b None n k is h m = tt
+with_meets old new file scopes site p written body named found shape None (Some t) n k is h m = absurd (cc)
+with_meets old new file scopes site p written body (Err u) found shape (Some b) (Some t) n k is h m = absurd (cc)
+with_meets old new file scopes site p written body (Ok s) found shape (Some b) (Some t) n k is h m = λ program here f place plain around.
     let same : s ≡ shape = let e = sym k ∙ is in cc in
     let named = shape_found {here = here} written place.around (n ∙ ap (λ (k : ℕ). Some k) same) in
-    as_met (sym ((with_has refl).at_place here ∙ ap (λ (s : Option ℕ). within here s (calls_in_statement body.value)) named))
+    as_met old (sym ((with_has refl).at_place here ∙ ap (λ (s : Option ℕ). within here s (calls_in_statement body.value)) named))
     (h program (under here shape) f (in_shape here shape place (is_shape written place.around named)) (plain shape named) around)
 
-pub everywhere_meets : {old new : Instances} (file : File) (scopes : Scopes) (site : Site) (p : Place) (body : Box Stmt Global) (b r : Option (Box TStmt Global)) (before later : Option Standing) → MeetsCallsIf old new file scopes site body.value b → IsEverywhere site p b before later r → MeetsCallsIf old new file scopes site (S.Everywhere p body) r
+pub everywhere_meets : (old new : Instances) (file : File) (scopes : Scopes) (site : Site) (p : Place) (body : Box Stmt Global) (b r : Option (Box TStmt Global)) (before later : Option Standing) → MeetsCallsIf old new file scopes site body.value b → IsEverywhere site p b before later r → MeetsCallsIf old new file scopes site (S.Everywhere p body) r
 unfolding InStatement
-everywhere_meets file scopes site p body None r before later h m = rw m.0 tt
-everywhere_meets file scopes site p body (Some b) None before later h m = tt
-everywhere_meets file scopes site p body (Some b) (Some t) before later h m = λ program here f place plain around. as_met (sym ((everywhere_has refl).at_place here)) (h program here f place plain around)
+everywhere_meets old new file scopes site p body None r before later h m = rw m.0 tt
+everywhere_meets old new file scopes site p body (Some b) None before later h m = tt
+everywhere_meets old new file scopes site p body (Some b) (Some t) before later h m = λ program here f place plain around. as_met old (sym ((everywhere_has refl).at_place here)) (h program here f place plain around)
 
 -- ---- loops
 
-pub while_meets : {old mid new : Instances} (file : File) (scopes : Scopes) (site : Site) (p : Place) (e : Expr) (body : Box Stmt Global) (r : Option (Box TStmt Global)) {b : Box TStmt Global} → Meets old mid file scopes.locals site (λ here. calls_in here e) → MeetsCallsIf mid new file scopes (record site { in_loop = true }) body.value r → r ≡ Some b
+pub while_meets : {old mid : Instances} (new : Instances) (file : File) (scopes : Scopes) (site : Site) (p : Place) (e : Expr) (body : Box Stmt Global) (r : Option (Box TStmt Global)) {b : Box TStmt Global} → Meets old mid file scopes.locals site (λ here. calls_in here e) → MeetsCallsIf mid new file scopes (record site { in_loop = true }) body.value r → r ≡ Some b
     → MeetsCalls old new file scopes site (S.While p e body)
 unfolding InStatement
-while_meets file scopes site p e body r test h is = λ program here f place plain around.
-    as_met (sym ((while_has refl).at_place here)) (both_met (calls_in here e) (calls_in_statement body.value here) (test.inside here f place.around around)
-    (met_there body.value (looped here) (met_of r h is program (in_loop here) f (in_body here place) plain.1 around)))
+while_meets {old = old} {mid = mid} new file scopes site p e body r test h is = λ program here f place plain around.
+    as_met old (sym ((while_has refl).at_place here)) (both_met old mid (calls_in here e) (calls_in_statement body.value here) (test.inside here f place.around around)
+    (met_there mid body.value (looped here) (met_of r h is program (in_loop here) f (in_body here place) plain.1 around)))
 
-pub do_meets : {old mid new : Instances} (file : File) (scopes inner : Scopes) (site : Site) (p : Place) (body : Box Stmt Global) (e : Expr) (r : Option (Box TStmt Global)) {b : Box TStmt Global} → Grows file mid new → MeetsCallsIf old mid file scopes (record site { in_loop = true }) body.value r → r ≡ Some b
+pub do_meets : {mid new : Instances} (old : Instances) (file : File) (scopes inner : Scopes) (site : Site) (p : Place) (body : Box Stmt Global) (e : Expr) (r : Option (Box TStmt Global)) {b : Box TStmt Global} → Grows file mid new → MeetsCallsIf old mid file scopes (record site { in_loop = true }) body.value r → r ≡ Some b
     → bindings inner.locals ≡ bindings scopes.locals → Meets mid new file inner.locals site (λ here. calls_in here e) → MeetsCalls old new file scopes site (S.Do p body e)
 unfolding InStatement
-do_meets file scopes inner site p body e r later h is same test = λ program here f place plain around.
+do_meets {mid = mid} old file scopes inner site p body e r later h is same test = λ program here f place plain around.
     let inside = met_of r h is program (in_loop here) f (in_body here place) (brought (earlier later) (in_loop here) body.value plain.0) around in
-    as_met (sym ((do_has refl).at_place here)) (both_met (calls_in_statement body.value here) (calls_in here e) (met_there body.value (looped here) inside)
+    as_met old (sym ((do_has refl).at_place here)) (both_met old mid (calls_in_statement body.value here) (calls_in here e) (met_there old body.value (looped here) inside)
     (test.inside here f (still_around scopes.locals inner.locals same place.around) around))
 
-pub for_meets : {old mid new : Instances} (file : File) (scopes : Scopes) (site : Site) (p : Place) (first test step : Option Expr) (body : Box Stmt Global) (r : Option (Box TStmt Global)) {b : Box TStmt Global}
+pub for_meets : {old mid : Instances} (new : Instances) (file : File) (scopes : Scopes) (site : Site) (p : Place) (first test step : Option Expr) (body : Box Stmt Global) (r : Option (Box TStmt Global)) {b : Box TStmt Global}
     → Meets old mid file scopes.locals site (λ here. heading_calls here (S.For p first test step body)) → MeetsCallsIf mid new file scopes (record site { in_loop = true }) body.value r → r ≡ Some b → MeetsCalls old new file scopes site (S.For p first test step body)
 unfolding InStatement
-for_meets file scopes site p first test step body r heading h is = λ program here f place plain around.
+for_meets {old = old} {mid = mid} new file scopes site p first test step body r heading h is = λ program here f place plain around.
     let all = calls_in_statement body.value here in
     let one = calls_in_each here (optional first) in
     let two = calls_in_each here (optional test) in
     let three = calls_in_each here (optional step) in
-    as_met (append_assoc (one ++ two) three all ∙ append_assoc one two (three ++ all) ∙ sym ((for_has refl).at_place here)) (both_met (heading_calls here (S.For p first test step body)) all (heading.inside here f place.around around)
-    (met_there body.value (looped here) (met_of r h is program (in_loop here) f (in_body here place) plain.3 around)))
+    as_met old (append_assoc (one ++ two) three all ∙ append_assoc one two (three ++ all) ∙ sym ((for_has refl).at_place here)) (both_met old mid (heading_calls here (S.For p first test step body)) all (heading.inside here f place.around around)
+    (met_there mid body.value (looped here) (met_of r h is program (in_loop here) f (in_body here place) plain.3 around)))
 
 pub heading_meets : {one two three four : Instances} (file : File) (locals : Locals) (site : Site) (p : Place) (first test step : Option Expr) (body : Box Stmt Global) → Meets one two file locals site (λ here. calls_in_each here (optional first)) → Meets two three file locals site (λ here. calls_in_each here (optional test))
     → Meets three four file locals site (λ here. calls_in_each here (optional step)) → Meets one four file locals site (λ here. heading_calls here (S.For p first test step body))
@@ -173,24 +175,24 @@ heading_meets file locals site p first test step body h k l =
 -- ---- statements that have no statement as a part
 
 pub expression_meets : {old new : Instances} (file : File) (scopes : Scopes) (site : Site) (p : Place) (e : Expr) → Meets old new file scopes.locals site (λ here. calls_in here e) → MeetsCalls old new file scopes site (S.Expression p e)
-expression_meets file scopes site p e h = λ program here f place plain around. as_met (sym ((expression_has refl).at_place here)) (h.inside here f place.around around)
+expression_meets {old = old} file scopes site p e h = λ program here f place plain around. as_met old (sym ((expression_has refl).at_place here)) (h.inside here f place.around around)
 
 pub return_meets : {old new : Instances} (file : File) (scopes : Scopes) (site : Site) (p : Place) (value : Option Expr) → Meets old new file scopes.locals site (λ here. calls_in_each here (optional value)) → MeetsCalls old new file scopes site (S.Return p value)
-return_meets file scopes site p value h = λ program here f place plain around. as_met (sym ((return_has refl).at_place here)) (h.inside here f place.around around)
+return_meets {old = old} file scopes site p value h = λ program here f place plain around. as_met old (sym ((return_has refl).at_place here)) (h.inside here f place.around around)
 
-pub break_meets : {old new : Instances} (file : File) (scopes : Scopes) (site : Site) (p : Place) → new ≡ old → MeetsCalls old new file scopes site (S.Break p)
-break_meets file scopes site p same = λ program here f place plain around. as_met (sym ((break_has refl).at_place here)) (none_met same)
+pub break_meets : (so_far : Instances) (file : File) (scopes : Scopes) (site : Site) (p : Place) → MeetsCalls so_far so_far file scopes site (S.Break p)
+break_meets so_far file scopes site p = λ program here f place plain around. as_met so_far (sym ((break_has refl).at_place here)) (none_met {old = so_far} refl)
 
-pub continue_meets : {old new : Instances} (file : File) (scopes : Scopes) (site : Site) (p : Place) → new ≡ old → MeetsCalls old new file scopes site (S.Continue p)
-continue_meets file scopes site p same = λ program here f place plain around. as_met (sym ((continue_has refl).at_place here)) (none_met same)
+pub continue_meets : (so_far : Instances) (file : File) (scopes : Scopes) (site : Site) (p : Place) → MeetsCalls so_far so_far file scopes site (S.Continue p)
+continue_meets so_far file scopes site p = λ program here f place plain around. as_met so_far (sym ((continue_has refl).at_place here)) (none_met {old = so_far} refl)
 
-pub empty_meets : {old new : Instances} (file : File) (scopes : Scopes) (site : Site) (p : Place) → new ≡ old → MeetsCalls old new file scopes site (S.Empty p)
-empty_meets file scopes site p same = λ program here f place plain around. as_met (sym ((empty_has refl).at_place here)) (none_met same)
+pub empty_meets : (so_far : Instances) (file : File) (scopes : Scopes) (site : Site) (p : Place) → MeetsCalls so_far so_far file scopes site (S.Empty p)
+empty_meets so_far file scopes site p = λ program here f place plain around. as_met so_far (sym ((empty_has refl).at_place here)) (none_met {old = so_far} refl)
 
 -- ---- answers
 
 -- what is answered was typed before the fault that stands at it
-pub answered_calls : {P : Type 0} (typed : Result TStmt Untyped) (before later : Option Standing) (r : Option (Box TStmt Global)) → IsOutcome typed before later r → IfOk typed (λ _. P) → IfSome r (λ _. P)
-answered_calls typed before later None m h = tt
-answered_calls (Ok t) before later (Some b) m h = h
-answered_calls (Err u) before later (Some b) m h = absurd m
+pub answered_calls : (P : Type 0) (typed : Result TStmt Untyped) (before later : Option Standing) (r : Option (Box TStmt Global)) → IsOutcome typed before later r → IfOk typed (λ _. P) → IfSome r (λ _. P)
+answered_calls P typed before later None m h = tt
+answered_calls P (Ok t) before later (Some b) m h = h
+answered_calls P (Err u) before later (Some b) m h = absurd m

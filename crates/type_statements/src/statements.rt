@@ -341,7 +341,7 @@ fn heading(
 ) -> Result<Option<Heading>, Memory>
     ensures typed { IfOk result (IsTypedHeading found.new.instances file.now scopes.now site s.now) }
     ensures met { OnOk result (Grows file.now found.old.instances found.new.instances) }
-    ensures calls { OnOk result (Meets found.old.instances found.new.instances file.now scopes.now.locals site (λ here. heading_calls here s.now)) }
+    ensures calls { IfOk result (λ r. IfSome r (λ _. Meets found.old.instances found.new.instances file.now scopes.now.locals site (λ here. heading_calls here s.now))) }
 {
     let Stmt::For {
         first,

@@ -16,7 +16,3 @@ returns-in_default-2-clause-met c = begins_both c.in_ok-first.ensures.met (begin
 pub returns-clause-calls : goal.returns-clause-calls
 returns-clause-calls c =
     rw c.in-For.is (heading_meets c.args.file.now c.args.scopes.now.locals c.args.site c.in-For.place c.in-For.first c.in-For.test c.in-For.step c.in-For.body c.in_ok-first.ensures.calls c.in_ok-test.ensures.calls c.in_ok-step.ensures.calls)
-
-pub returns-in_default-2-clause-calls : goal.returns-in_default-2-clause-calls
-returns-in_default-2-clause-calls c =
-    rw c.in-For.is (heading_meets c.args.file.now c.args.scopes.now.locals c.args.site c.in-For.place c.in-For.first c.in-For.test c.in-For.step c.in-For.body c.in_ok-first.ensures.calls c.in_ok-test.ensures.calls c.in_ok-step.ensures.calls)

@@ -1,4 +1,3 @@
-use Rattle.std.proofs.Common.{refl}
 use Rattle.type_statements.proofs.Meetings.{ok_calls, whole_meets}
 use Rattle.type_statements.proofs.MetForms.{break_meets, continue_meets, empty_meets, expression_meets, return_meets}
 use Rattle.type_statements.proofs.Walking.{break_typed, continue_typed, empty_typed, expression_typed, return_typed}
@@ -29,10 +28,10 @@ pub returns-in_ok-value-in-Return-clause-calls : goal.returns-in_ok-value-in-Ret
 returns-in_ok-value-in-Return-clause-calls c = rw c.in-Return.is (ok_calls c.returning.result (return_meets c.args.file.now c.args.scopes.now c.args.site c.in-Return.place c.in-Return.value c.in_ok-value-in-Return.ensures.calls))
 
 pub returns-in-Break-clause-calls : goal.returns-in-Break-clause-calls
-returns-in-Break-clause-calls c = rw c.in-Break.is (ok_calls c.loop_word.result (break_meets c.args.file.now c.args.scopes.now c.args.site c.in-Break.place refl))
+returns-in-Break-clause-calls c = rw c.in-Break.is (ok_calls c.loop_word.result (break_meets c.args.found.now.instances c.args.file.now c.args.scopes.now c.args.site c.in-Break.place))
 
 pub returns-in-Continue-clause-calls : goal.returns-in-Continue-clause-calls
-returns-in-Continue-clause-calls c = rw c.in-Continue.is (ok_calls c.loop_word-in-Continue.result (continue_meets c.args.file.now c.args.scopes.now c.args.site c.in-Continue.place refl))
+returns-in-Continue-clause-calls c = rw c.in-Continue.is (ok_calls c.loop_word-in-Continue.result (continue_meets c.args.found.now.instances c.args.file.now c.args.scopes.now c.args.site c.in-Continue.place))
 
 pub returns-in-Empty-clause-calls : goal.returns-in-Empty-clause-calls
-returns-in-Empty-clause-calls c = rw c.in-Empty.is (empty_meets c.args.file.now c.args.scopes.now c.args.site c.in-Empty.field-0 refl)
+returns-in-Empty-clause-calls c = rw c.in-Empty.is (empty_meets c.args.found.now.instances c.args.file.now c.args.scopes.now c.args.site c.in-Empty.field-0)
