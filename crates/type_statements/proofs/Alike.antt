@@ -1,7 +1,6 @@
 -- Which calls a statement has is told by its names and the current shape: it has the same at places
 -- that differ in no more than the numbers and types of variables, and in whether a loop is around.
 use Rattle.std.proofs.Common.{◌≡◌, ℕ, Bool, true, false, List, [], ◌∷◌, ◌++◌, map, Option, Some, None, bytes_eq, if◌then◌else◌, is_some, refl, sym, ap, ap₂, subst, ◌∙◌}
-use Rattle.std.specs.Option.{option_map}
 use Rattle.std.proofs.Math.Path.{fun_ext}
 use Rattle.std.proofs.lemmas.List.{map-append}
 use Rattle.cstar_tree.specs.declared.syntax.Block.{Block}

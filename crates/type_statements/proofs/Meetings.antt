@@ -1,11 +1,10 @@
 -- What calls meet, one behind the other, and what the lists of a block meet.
-use Rattle.std.proofs.Common.{◌≡◌, ◌<◌, ◌+◌, ℕ, suc, Bool, true, false, List, [], ◌∷◌, ◌++◌, map, length, take, get_or, slice_get, Option, Some, None, IfOk, IfSome, OnOk, Result, Ok, Err, append-nil, add-one, refl, sym, ap, subst, ◌∙◌, if◌then◌else◌}
+use Rattle.std.proofs.Common.{◌≡◌, ◌<◌, ◌+◌, ℕ, Bool, true, false, List, [], ◌∷◌, ◌++◌, map, length, take, get_or, Option, Some, None, IfOk, IfSome, Result, Ok, Err, append-nil, add-one, refl, sym, ap, subst, ◌∙◌, if◌then◌else◌}
 use Rattle.std.proofs.Math.Seq.{take-length}
 use Rattle.std.proofs.lemmas.Option.{slice_get_read}
 use Rattle.cstar_tree.specs.declared.syntax.Declaration.{Declaration}
 use Rattle.cstar_tree.specs.declared.syntax.Declarator.{Declarator}
 use Rattle.cstar_tree.specs.declared.syntax.Expr.{Expr}
-use Rattle.cstar_tree.specs.declared.syntax.Initializer.{Initializer}
 use Rattle.cstar_tree.specs.declared.syntax.Stmt.{Stmt}
 use Rattle.cstar_tree.specs.declared.typed.LocalVar.{LocalVar}
 use Rattle.cstar_tree.specs.declared.typed.TStmt.{TStmt}
@@ -74,12 +73,6 @@ no_calls file locals site same = record { outside = λ none. ap met same; inside
 pub one_meets : {old new : Instances} (file : File) (locals : Locals) (site : Site) (e : Expr) → Meets old new file locals site (λ here. calls_in here e) → Meets old new file locals site (λ here. calls_in_each here (e ∷ []))
 unfolding concat
 one_meets {old = old} file locals site e h = record { outside = h.outside; inside = λ here f a around. as_met old (sym (append-nil (calls_in here e))) (h.inside here f a around) }
-
-pub both_meet : {first mid last : Instances} (file : File) (locals : Locals) (site : Site) (xs ys : Here → List Call) → Meets first mid file locals site xs → Meets mid last file locals site ys → Meets first last file locals site (λ here. xs here ++ ys here)
-both_meet {first = first} {mid = mid} file locals site xs ys h k = record {
-  outside = λ none. k.outside none ∙ h.outside none;
-  inside = λ here f a around. both_met first mid (xs here) (ys here) (h.inside here f a around) (k.inside here f a around);
-}
 
 whole_alike : (here : Here) → AreAlike (as_whole here) here
 whole_alike here = record { inner = refl; outer = refl; current = refl }

@@ -1,5 +1,5 @@
 -- What a statement of each kind meets, from what its parts meet.
-use Rattle.std.proofs.Common.{◌≡◌, ℕ, List, ◌∷◌, ◌++◌, length, map, take, Option, Some, None, true, IfOk, IfSome, MatchOption, Result, Ok, Err, Box, Vec, append_assoc, refl, sym, ap, subst, ◌∙◌, ◌+◌}
+use Rattle.std.proofs.Common.{◌≡◌, ℕ, List, ◌++◌, length, map, take, Option, Some, None, true, IfOk, IfSome, Result, Ok, Err, Box, Vec, append_assoc, refl, sym, ap, subst, ◌∙◌, ◌+◌}
 use Rattle.std.specs.declared.alloc.Global.{Global}
 use Rattle.std.proofs.Math.Seq.{take-length}
 use Rattle.cstar_base.specs.declared.operators.Place.{Place}
@@ -12,7 +12,7 @@ use Rattle.cstar_tree.specs.declared.typed.LocalVar.{LocalVar}
 use Rattle.cstar_tree.specs.declared.typed.TExpr.{TExpr}
 use Rattle.cstar_tree.specs.declared.typed.TStmt.{TStmt}
 use Rattle.cstar_tree.specs.BlockScopes.{behind, behind_declarations, block_place, in_loop}
-use Rattle.cstar_tree.specs.Calls.{Call, at_each, calls_in, calls_in_block, calls_in_declarations, calls_in_each, calls_in_statement, within}
+use Rattle.cstar_tree.specs.Calls.{at_each, calls_in, calls_in_declarations, calls_in_each, calls_in_statement, within}
 use Rattle.cstar_tree.specs.Scopes.{Here, under}
 use Rattle.cstar_tree.specs.SyntaxParts.{locals_in}
 use Rattle.cstar_tree.specs.TypedParts.{optional}
@@ -30,17 +30,18 @@ use Rattle.cstar_tree.specs.Instances.{reached_by}
 use Rattle.type_expressions.specs.Instances.{Grows, met}
 use Rattle.type_expressions.specs.Meetings.{Meets, meeting}
 use Rattle.type_expressions.specs.declared.found.Instances.{Instances}
+use Rattle.type_expressions.proofs.Meetings.{meets_both}
 use Rattle.type_expressions.proofs.Walking.{is_shape, shape_found}
 use Rattle.call_groups.proofs.Statements.{block_has, break_has, continue_has, do_has, empty_has, everywhere_has, expression_has, for_has, if_alone_has, if_else_has, return_has, where_alone_has, where_else_has, while_has, with_has}
 use Rattle.type_statements.specs.Answers.{IsEverywhere, IsOutcome, IsUnder, IsWholeBlock}
-use Rattle.type_statements.specs.Meetings.{AreMet, MeetsCalls, MeetsCallsIf, MeetsCallsOf, MeetsDeclared, heading_calls}
-use Rattle.type_statements.specs.Places.{IsInScope, IsPlace}
+use Rattle.type_statements.specs.Meetings.{MeetsCalls, MeetsCallsIf, MeetsCallsOf, MeetsDeclared, heading_calls}
+use Rattle.type_statements.specs.Places.{IsInScope}
 use Rattle.type_statements.specs.Ready.{InElse, InStatement, IsReady}
 use Rattle.type_statements.specs.Walks.{AreDeclared, IsTypedIf}
 use Rattle.type_statements.specs.declared.branches.Branches.{Branches}
 use Rattle.type_statements.specs.declared.scopes.Scopes.{Scopes}
 use Rattle.type_statements.proofs.Alike.{AreAlike, statement_alike}
-use Rattle.type_statements.proofs.Meetings.{AreMetTo, as_met, behind_all_around, both_meet, both_met, none_met}
+use Rattle.type_statements.proofs.Meetings.{AreMetTo, as_met, behind_all_around, both_met, none_met}
 use Rattle.type_statements.proofs.Places.{behind_more, in_block, in_body, in_shape}
 use Rattle.type_statements.proofs.Ready.{brought, declarations_brought, earlier}
 use Rattle.type_statements.proofs.Ready as ready
@@ -168,9 +169,7 @@ for_meets {old = old} {mid = mid} new file scopes site p first test step body r 
 
 pub heading_meets : {one two three four : Instances} (file : File) (locals : Locals) (site : Site) (p : Place) (first test step : Option Expr) (body : Box Stmt Global) → Meets one two file locals site (λ here. calls_in_each here (optional first)) → Meets two three file locals site (λ here. calls_in_each here (optional test))
     → Meets three four file locals site (λ here. calls_in_each here (optional step)) → Meets one four file locals site (λ here. heading_calls here (S.For p first test step body))
-heading_meets file locals site p first test step body h k l =
-    both_meet file locals site (λ here. calls_in_each here (optional first) ++ calls_in_each here (optional test)) (λ here. calls_in_each here (optional step))
-    (both_meet file locals site (λ here. calls_in_each here (optional first)) (λ here. calls_in_each here (optional test)) h k) l
+heading_meets file locals site p first test step body h k l = meets_both (meets_both h k) l
 
 -- ---- statements that have no statement as a part
 
