@@ -65,7 +65,7 @@ behind_next here ty [] i d is = cc
 behind_next here ty (e ∷ ds) zero d is = ap (behind_declarator here ty) (same_Some e d is)
 behind_next here ty (e ∷ ds) (suc i) d is = behind_next (behind_declarator here ty e) ty ds i d is
 
-calls_next : (here : Here) (ty : Option ValueType) (ds : List Declarator) (i : ℕ) (d : Declarator) → slice_get ds i ≡ Some d → calls_in_declarators here ty (take (suc i) ds) ≡ calls_in_declarators here ty (take i ds) ++ calls_in_declarators (behind_declarators here ty (take i ds)) ty (d ∷ [])
+pub calls_next : (here : Here) (ty : Option ValueType) (ds : List Declarator) (i : ℕ) (d : Declarator) → slice_get ds i ≡ Some d → calls_in_declarators here ty (take (suc i) ds) ≡ calls_in_declarators here ty (take i ds) ++ calls_in_declarators (behind_declarators here ty (take i ds)) ty (d ∷ [])
 unfolding behind_declarators calls_in_declarators
 calls_next here ty [] i d is = cc
 calls_next here ty (e ∷ ds) zero d is = ap (λ x. calls_in_declarators here ty (x ∷ [])) (same_Some e d is)
@@ -105,7 +105,7 @@ behind_more here [] i d is = cc
 behind_more here (e ∷ ds) zero d is = ap (λ x. behind_one x here) (same_Some e d is)
 behind_more here (e ∷ ds) (suc i) d is = behind_more (behind_one e here) ds i d is
 
-calls_more : (here : Here) (ds : List Declaration) (i : ℕ) (d : Declaration) → slice_get ds i ≡ Some d → calls_in_declarations here (take (suc i) ds) ≡ calls_in_declarations here (take i ds) ++ calls_in_one d (behind_declarations here (take i ds))
+pub calls_more : (here : Here) (ds : List Declaration) (i : ℕ) (d : Declaration) → slice_get ds i ≡ Some d → calls_in_declarations here (take (suc i) ds) ≡ calls_in_declarations here (take i ds) ++ calls_in_one d (behind_declarations here (take i ds))
 unfolding behind_declarations calls_in_declarations
 calls_more here [] i d is = cc
 calls_more here (e ∷ ds) zero d is = append-nil (calls_in_one e here) ∙ ap (λ x. calls_in_one x here) (same_Some e d is)

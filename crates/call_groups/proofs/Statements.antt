@@ -230,7 +230,7 @@ pub block_begins : (scope : ℕ) (old new : Calls) (block : Block) → Declarati
 unfolding at_each
 block_begins scope old new block walk = same_walk scope old new (λ here. calls_in_declarations here block.declarations.items) (so_far block []) (λ here. behind_declarations here block.declarations.items) (λ here. behind_declarations here block.declarations.items) walk (λ here. append-nil (calls_in_declarations here block.declarations.items)) (λ here. refl)
 
-each_more : (here : Here) (ss : List Stmt) (i : ℕ) (s : Stmt) → slice_get ss i ≡ Some s → at_each here (map calls_in_statement (take (suc i) ss)) ≡ at_each here (map calls_in_statement (take i ss)) ++ calls_in_statement s here
+pub each_more : (here : Here) (ss : List Stmt) (i : ℕ) (s : Stmt) → slice_get ss i ≡ Some s → at_each here (map calls_in_statement (take (suc i) ss)) ≡ at_each here (map calls_in_statement (take i ss)) ++ calls_in_statement s here
 unfolding at_each
 each_more here [] i s is = cc
 each_more here (x ∷ ss) zero s is = append-nil (calls_in_statement x here) ∙ ap (λ y. calls_in_statement y here) (same_Some x s is)

@@ -1,6 +1,9 @@
+pub mod Alike
 pub mod Counted
 pub mod Declared
 pub mod Listed
+pub mod Meetings
+pub mod MetForms
 pub mod Places
 pub mod Ready
 pub mod TypedForms

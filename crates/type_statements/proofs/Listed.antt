@@ -39,7 +39,7 @@ more_grown {a = a} f g = record { more = g.more ++ f.more; grown = g.grown ∙ (
 
 -- ---- the next of a list
 
-next_of : {A : Type 0} (items : List A) (k : ℕ) (x : A) → k < length items → x ≡ get_or items k x → take (k + 1) items ≡ take k items ++ x ∷ []
+pub next_of : {A : Type 0} (items : List A) (k : ℕ) (x : A) → k < length items → x ≡ get_or items k x → take (k + 1) items ≡ take k items ++ x ∷ []
 next_of {A} items k x within is =
     let next : k + 1 ≡ suc k = omega arith in
     ap (λ (n : ℕ). take n items) next ∙ (take-suc items k x within ∙ ap (λ (y : A). take k items ++ y ∷ []) (sym is))
@@ -51,12 +51,12 @@ unfolding behind_declarators
 behind_one_more here ty [] d = refl
 behind_one_more here ty (e ∷ ds) d = behind_one_more (behind_declarator here ty e) ty ds d
 
-shapes_are : (here : Here) (ty : Option ValueType) (ds : List Declarator) → (behind_declarators here ty ds).shapes ≡ here.shapes
+pub shapes_are : (here : Here) (ty : Option ValueType) (ds : List Declarator) → (behind_declarators here ty ds).shapes ≡ here.shapes
 unfolding behind_declarators
 shapes_are here ty [] = refl
 shapes_are here ty (d ∷ ds) = shapes_are (behind_declarator here ty d) ty ds
 
-shape_behind : (here there : Here) (of : ValueType) → there.shapes ≡ here.shapes → HasItsShape here of → HasItsShape there of
+pub shape_behind : (here there : Here) (of : ValueType) → there.shapes ≡ here.shapes → HasItsShape here of → HasItsShape there of
 unfolding extents_of
 shape_behind here there of same known = λ shape is. let k = known shape is in (k.0, rw same k.1)
 
@@ -65,7 +65,7 @@ unfolding behind_declarators
 locals_more Y.no_variable h = Y.next_variable h Y.no_variable
 locals_more (Y.next_variable first rest) h = Y.next_variable first (locals_more rest h)
 
-in_declarator_at : (P : Here → Expr → Type 0) (here : Here) (ty : Option ValueType) (ds : List Declarator) (k : ℕ) (d : Declarator) → k < length ds → d ≡ get_or ds k d → InDeclarators P here ty ds → InDeclarator P (behind_declarators here ty (take k ds)) ty d
+pub in_declarator_at : (P : Here → Expr → Type 0) (here : Here) (ty : Option ValueType) (ds : List Declarator) (k : ℕ) (d : Declarator) → k < length ds → d ≡ get_or ds k d → InDeclarators P here ty ds → InDeclarator P (behind_declarators here ty (take k ds)) ty d
 unfolding InDeclarators behind_declarators
 in_declarator_at P here ty [] k d within is h = absurd (omega (arith, within))
 in_declarator_at P here ty (e ∷ ds) zero d within is h = subst (InDeclarator P here ty) (sym is) h.0
@@ -151,7 +151,7 @@ declaration_typed {so_far} file old new site scope ty d k before locals all h wr
   };
 }
 
-in_declaration_at : (P : Here → Expr → Type 0) (here : Here) (ds : List Declaration) (k : ℕ) (d : Declaration) → k < length ds → d ≡ get_or ds k d → InDeclarations P here ds → InDeclarations P (behind_declarations here (take k ds)) (d ∷ [])
+pub in_declaration_at : (P : Here → Expr → Type 0) (here : Here) (ds : List Declaration) (k : ℕ) (d : Declaration) → k < length ds → d ≡ get_or ds k d → InDeclarations P here ds → InDeclarations P (behind_declarations here (take k ds)) (d ∷ [])
 unfolding InDeclarations behind_declarations
 in_declaration_at P here [] k d within is h = absurd (omega (arith, within))
 in_declaration_at P here (e ∷ ds) zero d within is h = subst (λ (x : Declaration). InDeclarations P here (x ∷ [])) (sym is) (h.0, tt)
@@ -211,7 +211,7 @@ statements_more {program} {returns} {s = s} {t = t} (Y.no_statement {here = here
 statements_more {program} {returns} {s = s} {t = t} (Y.next_statement {here = here} {s = first} {ss = ss} at more) h =
     Y.next_statement at (statements_more more (subst (λ (place : Here). TypesStatement program returns place s t) (after_both here (locals_in first) (all_locals ss)) h))
 
-in_statement_at : (P : Here → Expr → Type 0) (here : Here) (ss : List Stmt) (k : ℕ) (s : Stmt) → k < length ss → s ≡ get_or ss k s → InStatements P here ss → InStatement P (after here (all_locals (take k ss))) s
+pub in_statement_at : (P : Here → Expr → Type 0) (here : Here) (ss : List Stmt) (k : ℕ) (s : Stmt) → k < length ss → s ≡ get_or ss k s → InStatements P here ss → InStatement P (after here (all_locals (take k ss))) s
 unfolding InStatements total
 in_statement_at P here [] k s within is h = absurd (omega (arith, within))
 in_statement_at P here (e ∷ ss) zero s within is h = subst (λ (place : Here). InStatement P place s) (sym (after_none here)) (subst (InStatement P here) (sym is) h.0)

@@ -120,7 +120,7 @@ pub data IsElseTyped (so_far : Instances) (file : File) (old new : Scopes) (site
   no_else : new ≡ old → IsElseTyped so_far file old new site None None
   an_else : {r : Option (Box TStmt Global)} (s : Box Stmt Global) → IsTypedIf so_far file old new site s.value r → IsElseTyped so_far file old new site (Some s) (Some r)
 
-typed_of : {so_far : Instances} (file : File) (old new : Scopes) (site : Site) (s : Stmt) (r : Option (Box TStmt Global)) (b : Box TStmt Global) → IsTypedIf so_far file old new site s r → r ≡ Some b → IsTyped so_far file old new site s b.value
+pub typed_of : {so_far : Instances} (file : File) (old new : Scopes) (site : Site) (s : Stmt) (r : Option (Box TStmt Global)) (b : Box TStmt Global) → IsTypedIf so_far file old new site s r → r ≡ Some b → IsTyped so_far file old new site s b.value
 typed_of {so_far} file old new site s r b h is = subst (IsTypedIf so_far file old new site s) is h
 
 value_of_part : (so_far : Instances) {file : File} {scopes : Scopes} {site : Site} {program : Program} (here : Here) (e : Expr) (r : Option (Box TExpr Global)) (x : Box TExpr Global) → IsPlace file scopes site here → IsValue so_far file scopes.locals site e r → r ≡ Some x → IsReady so_far file program here e → Types program here e x.value true
@@ -130,7 +130,7 @@ none_given : (o : Option (Box TStmt Global)) → None ≡ option_map (λ (t : Bo
 none_given None is = refl
 none_given (Some b) is = absurd (cc)
 
-some_given : (r o : Option (Box TStmt Global)) → Some r ≡ option_map (λ (t : Box TStmt Global). Some t) o → (b : Box TStmt Global) × (r ≡ Some b) × (o ≡ Some b)
+pub some_given : (r o : Option (Box TStmt Global)) → Some r ≡ option_map (λ (t : Box TStmt Global). Some t) o → (b : Box TStmt Global) × (r ≡ Some b) × (o ≡ Some b)
 some_given r None is = absurd (cc)
 some_given r (Some b) is = (b, cc, refl)
 

@@ -3,11 +3,12 @@
 ghost use Rattle.cstar_base.specs.declared.faults.Fault.TheVariants as Faults;
 ghost use Rattle.cstar_tree.specs.StatementTypes.{variable_info};
 ghost use Rattle.std.specs.Int.{w64};
-ghost use Rattle.std.specs.Prelude.{◌≡◌, true, FitsSigned, IfOk, IfSome, MatchResult, None, OnOk, Some};
+ghost use Rattle.std.specs.Prelude.{◌≡◌, [], ◌∷◌, true, FitsSigned, IfOk, IfSome, MatchResult, None, OnOk, Some};
 ghost use Rattle.cstar_tree.specs.Typed.{type_of};
 ghost use Rattle.type_scopes.specs.Answers.{told_by};
 ghost use Rattle.type_scopes.specs.Bindings.{bindings, type_meant, variable_type};
 ghost use Rattle.type_statements.specs.Declarators.{FitsArray, IsConstantNumber, IsInitial, IsInitialised, IsLength, IsVariable, type_with};
+ghost use Rattle.type_statements.specs.Meetings.{MeetsDeclared, MeetsLocal};
 ghost use Rattle.type_statements.specs.Places.{IsGrown};
 ghost use Rattle.type_expressions.specs.Instances.{Grows};
 ghost use Rattle.type_expressions.specs.Meetings.{Meets};
@@ -79,6 +80,7 @@ pub fn declarations(
     ensures grown { OnOk result (IsGrown (bindings scopes.old.locals) (bindings scopes.new.locals)) }
     ensures typed { IfOk result (λ r. IfSome r (λ locals. AreDeclared found.new.instances file.now scopes.old scopes.new site scope declarations.now locals.items)) }
     ensures met { OnOk result (Grows file.now found.old.instances found.new.instances) }
+    ensures calls { IfOk result (λ r. IfSome r (λ _. MeetsDeclared found.old.instances found.new.instances file.now scopes.old site scope declarations.now)) }
 {
     let mut locals = Vec::new(file.alloc);
     let mut complete = true;
@@ -103,6 +105,7 @@ fn declaration(
     ensures grown { OnOk result (IsGrown (bindings scopes.old.locals) (bindings scopes.new.locals)) }
     ensures typed { IfOk result (λ typed. typed ≡ true → AreMore found.new.instances file.now scopes.old scopes.new site scope written.now locals.old.items locals.new.items) }
     ensures met { OnOk result (Grows file.now found.old.instances found.new.instances) }
+    ensures calls { IfOk result (λ typed. typed ≡ true → MeetsDeclared found.old.instances found.new.instances file.now scopes.old site scope (written.now ∷ [])) }
 {
     let ty = file.value_type(&scopes.locals, site, &written.type_name);
     let ty = found.faults.settle(ty)?;
@@ -129,6 +132,7 @@ fn local(
     ensures grown { OnOk result (IsGrown (bindings scopes.old.locals) (bindings scopes.new.locals)) }
     ensures typed { IfOk result (λ r. IfSome r (IsLocal found.new.instances file.now scopes.old scopes.new site scope ty declarator.now)) }
     ensures met { OnOk result (Grows file.now found.old.instances found.new.instances) }
+    ensures calls { IfOk result (λ r. IfSome r (λ _. MeetsLocal found.old.instances found.new.instances file.now scopes.old site scope ty declarator.now)) }
 {
     found.count(1);
     let length = array_length(found, file, &scopes.locals, site, &declarator.length)?;

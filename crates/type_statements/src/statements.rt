@@ -5,9 +5,11 @@ ghost use Rattle.cstar_tree.specs.declared.syntax.Expr.{Expr};
 ghost use Rattle.cstar_tree.specs.declared.syntax.Stmt as S;
 ghost use Rattle.cstar_tree.specs.declared.typed.TExpr.{TExpr};
 ghost use Rattle.cstar_tree.specs.declared.typed.TStmt as T;
+ghost use Rattle.cstar_tree.specs.Calls.{calls_in_each};
 ghost use Rattle.cstar_tree.specs.Headers.{Program, Returns};
 ghost use Rattle.cstar_tree.specs.Scopes.{Here};
 ghost use Rattle.cstar_tree.specs.StatementTypes.{TypesValueIf};
+ghost use Rattle.cstar_tree.specs.TypedParts.{optional};
 ghost use Rattle.std.specs.Option.{option_map};
 ghost use Rattle.std.specs.Prelude.{◌≡◌, ◌⊎◌, Box, Err, IfOk, IfSome, MatchOption, None, Ok, OnOk, Option, Some};
 ghost use Rattle.std.specs.declared.alloc.Global.{Global};
@@ -15,9 +17,10 @@ ghost use Rattle.type_scopes.specs.Bindings.{bindings};
 ghost use Rattle.type_scopes.specs.Headers.{returned};
 ghost use Rattle.type_scopes.specs.declared.faults.Untyped.TheVariants as N;
 ghost use Rattle.type_statements.specs.Answers.{AreBranches, IsAnswer, IsEverywhere, IsOutcome, IsReturnAnswer, IsUnder, IsWholeBlock, value_of};
-ghost use Rattle.type_statements.specs.Meetings.{MeetsCallsOf};
+ghost use Rattle.type_statements.specs.Meetings.{MeetsCalls, MeetsCallsIf, MeetsCallsOf, heading_calls};
 ghost use Rattle.type_statements.specs.Places.{IsGrown};
 ghost use Rattle.type_expressions.specs.Instances.{Grows};
+ghost use Rattle.type_expressions.specs.Meetings.{Meets};
 ghost use Rattle.type_statements.specs.Walks.{IsEffectIf, IsTyped, IsTypedBlock, IsTypedHeading, IsTypedIf, IsValueIf};
 
 use crate::branches::{Branches, if_statement, where_statement};
@@ -63,6 +66,7 @@ fn block(
     ensures kept { OnOk result (bindings scopes.new.locals ≡ bindings scopes.old.locals) }
     ensures typed { IfOk result (IsTypedIf found.new.instances file.now scopes.old scopes.new site (S.Block block.now)) }
     ensures met { OnOk result (Grows file.now found.old.instances found.new.instances) }
+    ensures calls { IfOk result (MeetsCallsIf found.old.instances found.new.instances file.now scopes.old site (S.Block block.now)) }
 {
     let scope = scopes.locals.open();
     let typed = block_in(found, file, scopes, site, scope, block)?;
@@ -129,6 +133,7 @@ fn statement(
     ensures kept { OnOk result (bindings scopes.new.locals ≡ bindings scopes.old.locals) }
     ensures typed { IfOk result (IsTypedIf found.new.instances file.now scopes.old scopes.new site s.now) }
     ensures met { OnOk result (Grows file.now found.old.instances found.new.instances) }
+    ensures calls { IfOk result (MeetsCallsIf found.old.instances found.new.instances file.now scopes.old site s.now) }
 {
     match s {
         Stmt::Block(inner) => block(found, file, scopes, site, inner),
@@ -157,6 +162,7 @@ fn chosen(
     ensures kept { OnOk result (bindings scopes.new.locals ≡ bindings scopes.old.locals) }
     ensures typed { IfOk result (IsTypedIf found.new.instances file.now scopes.old scopes.new site s.now) }
     ensures met { OnOk result (Grows file.now found.old.instances found.new.instances) }
+    ensures calls { IfOk result (MeetsCallsIf found.old.instances found.new.instances file.now scopes.old site s.now) }
 {
     found.count(1);
     let (Stmt::If {
@@ -227,6 +233,7 @@ fn under(
     ensures kept { OnOk result (bindings scopes.new.locals ≡ bindings scopes.old.locals) }
     ensures typed { IfOk result (IsTypedIf found.new.instances file.now scopes.old scopes.new site s.now) }
     ensures met { OnOk result (Grows file.now found.old.instances found.new.instances) }
+    ensures calls { IfOk result (MeetsCallsIf found.old.instances found.new.instances file.now scopes.old site s.now) }
 {
     found.count(1);
     match s {
@@ -286,6 +293,7 @@ fn repeated(
     ensures kept { OnOk result (bindings scopes.new.locals ≡ bindings scopes.old.locals) }
     ensures typed { IfOk result (IsTypedIf found.new.instances file.now scopes.old scopes.new site s.now) }
     ensures met { OnOk result (Grows file.now found.old.instances found.new.instances) }
+    ensures calls { IfOk result (MeetsCallsIf found.old.instances found.new.instances file.now scopes.old site s.now) }
 {
     found.count(1);
     match s {
@@ -333,6 +341,7 @@ fn heading(
 ) -> Result<Option<Heading>, Memory>
     ensures typed { IfOk result (IsTypedHeading found.new.instances file.now scopes.now site s.now) }
     ensures met { OnOk result (Grows file.now found.old.instances found.new.instances) }
+    ensures calls { IfOk result (λ r. IfSome r (λ _. Meets found.old.instances found.new.instances file.now scopes.now.locals site (λ here. heading_calls here s.now))) }
 {
     let Stmt::For {
         first,
@@ -363,6 +372,7 @@ fn effect(
 ) -> Result<Option<Option<Box<TExpr>>>, Memory>
     ensures typed { IfOk result (IsEffectIf found.new.instances file.now scopes.now site e.now) }
     ensures met { OnOk result (Grows file.now found.old.instances found.new.instances) }
+    ensures calls { OnOk result (Meets found.old.instances found.new.instances file.now scopes.now.locals site (λ here. calls_in_each here (optional e.now))) }
 {
     let Some(e) = e else {
         return Ok(Some(None));
@@ -384,6 +394,7 @@ fn condition(
 ) -> Result<Option<Option<Box<TExpr>>>, Memory>
     ensures typed { IfOk result (IsValueIf found.new.instances file.now scopes.now site e.now) }
     ensures met { OnOk result (Grows file.now found.old.instances found.new.instances) }
+    ensures calls { OnOk result (Meets found.old.instances found.new.instances file.now scopes.now.locals site (λ here. calls_in_each here (optional e.now))) }
 {
     let Some(e) = e else {
         return Ok(Some(None));
@@ -404,6 +415,7 @@ fn simple(
 ) -> TypedStatement
     ensures typed { IfOk result (IsTypedIf found.new.instances file.now scopes.now scopes.now site s.now) }
     ensures met { OnOk result (Grows file.now found.old.instances found.new.instances) }
+    ensures calls { IfOk result (MeetsCallsIf found.old.instances found.new.instances file.now scopes.now site s.now) }
 {
     found.count(1);
     let typed = simple_form(found, file, scopes, site, s)?;
@@ -420,6 +432,7 @@ fn simple_form(
 ) -> Result<Result<TStmt, Untyped>, Memory>
     ensures typed { IfOk result (λ typed. IfOk typed (IsTyped found.new.instances file.now scopes.now scopes.now site s.now)) }
     ensures met { OnOk result (Grows file.now found.old.instances found.new.instances) }
+    ensures calls { IfOk result (λ typed. IfOk typed (λ _. MeetsCalls found.old.instances found.new.instances file.now scopes.now site s.now)) }
 {
     match s {
         Stmt::Expression { expr, .. } => {

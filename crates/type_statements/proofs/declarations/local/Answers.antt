@@ -1,10 +1,11 @@
-use Rattle.std.proofs.Common.{refl, sym, ◌∙◌}
+use Rattle.std.proofs.Common.{◌≡◌, refl, sym, ◌∙◌}
 use Rattle.std.proofs.lemmas.Result.{IfOk-weaker}
 use Rattle.type_expressions.specs.Instances.{Grows}
 use Rattle.type_expressions.proofs.CallsWithin.{begins_both, begins_same}
 use Rattle.type_expressions.proofs.Walking.{found_of}
 use Rattle.type_statements.specs.Declarators.{FitsArray}
 use Rattle.type_statements.proofs.Declared.{declared_grown, local_settled, settled_local}
+use Rattle.type_statements.proofs.Meetings.{local_meets}
 use Rattle.type_statements.proofs.declarations.local.Goals as goal
 use Rattle.type_statements.proofs.declarations.local.Goals.{then-not-new, else-not-new}
 
@@ -42,3 +43,11 @@ returns-clause-met c =
       | else-not-new w ↦ rw w.found-is (begins_same refl)
     ] in
     settled_local c.settle-2.result (begins_both (begins_same c.count.ensures) (begins_both c.in_ok-length.ensures.met (begins_both same c.in_ok-initial.ensures.met)))
+
+pub returns-clause-calls : goal.returns-clause-calls
+returns-clause-calls c =
+    let same : c.if-not-new.found.instances ≡ c.array_length.new.found.instances = elim c.if-not-new.branch [
+      | then-not-new w ↦ rw w.found-is refl
+      | else-not-new w ↦ rw w.found-is refl
+    ] in
+    IfOk-weaker c.settle-2.result _ _ (λ r h. local_meets c.args.file.now c.args.scopes.now _ c.args.site c.args.scope c.args.ty c.args.declarator.now r (rw c.count.ensures at c.in_ok-length.ensures.calls) (rw same at c.in_ok-initial.ensures.calls) h) (returns-clause-typed c)

@@ -2,6 +2,7 @@ use Rattle.std.proofs.Common.{◌≡◌, ◌+◌, ◌*◌, true}
 use Rattle.type_scopes.specs.Bindings.{bindings}
 use Rattle.type_expressions.specs.Instances.{Grows}
 use Rattle.type_statements.proofs.Listed.{AreTypedTo}
+use Rattle.type_statements.proofs.Meetings.{AreMetTo}
 use Rattle.type_statements.proofs.statements.+statement.Given as goal
 
 abbrev pub decreases-block : goal.decreases-block
@@ -28,3 +29,4 @@ invariant-block_in-loop-s l =
     × (l.complete ≡ true → AreTypedTo l.found.instances l.file l.initial.scopes l.scopes l.site l.s-items l.s-index l.statements.items)
     × (l.locals ≡ l.initial.locals)
     × Grows l.file l.initial.found.instances l.found.instances
+    × (l.complete ≡ true → AreMetTo l.initial.found.instances l.found.instances l.file l.initial.scopes l.site l.s-items l.s-index)

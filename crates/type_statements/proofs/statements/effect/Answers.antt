@@ -1,5 +1,6 @@
-use Rattle.std.proofs.Common.{subst, true}
+use Rattle.std.proofs.Common.{refl, subst, true}
 use Rattle.type_expressions.specs.Walks.{IsTyped}
+use Rattle.type_statements.proofs.Meetings.{no_calls, one_meets, whole_meets}
 use Rattle.type_statements.proofs.Walking.{effect_typed, no_effect}
 use Rattle.type_statements.proofs.statements.effect.Goals as goal
 
@@ -9,3 +10,14 @@ returns-in_default-clause-typed c = rw c.in_default.is (no_effect c.args.found.n
 pub returns-in-Some-2-clause-typed : goal.returns-in-Some-2-clause-typed
 returns-in-Some-2-clause-typed c =
     rw c.in-Some.is (effect_typed _ c.args.file.now c.args.scopes.now c.args.site c.in-Some.e c.in-Some-2.typed (subst (IsTyped _ c.args.file.now c.args.scopes.now.locals (record c.args.site { whole = true }) c.in-Some.e) c.in-Some-2.is (rw c.statement.ensures at c.in_ok-typed.ensures.typed)))
+
+pub returns-in_default-clause-calls : goal.returns-in_default-clause-calls
+returns-in_default-clause-calls c = rw c.in_default.is (no_calls c.args.file.now c.args.scopes.now.locals c.args.site refl)
+
+pub returns-in-Some-2-clause-calls : goal.returns-in-Some-2-clause-calls
+returns-in-Some-2-clause-calls c =
+    rw c.in-Some.is (one_meets c.args.file.now c.args.scopes.now.locals c.args.site c.in-Some.e (whole_meets c.args.file.now c.args.scopes.now.locals c.args.site c.in-Some.e (rw c.statement.ensures at c.in_ok-typed.ensures.calls)))
+
+pub returns-in-None-clause-calls : goal.returns-in-None-clause-calls
+returns-in-None-clause-calls c =
+    rw c.in-Some.is (one_meets c.args.file.now c.args.scopes.now.locals c.args.site c.in-Some.e (whole_meets c.args.file.now c.args.scopes.now.locals c.args.site c.in-Some.e (rw c.statement.ensures at c.in_ok-typed.ensures.calls)))
