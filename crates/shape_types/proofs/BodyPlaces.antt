@@ -1,5 +1,5 @@
 -- The place of the body of an instance is the one that is kept for it.
-use Rattle.std.proofs.Common.{◌≡◌, ◌<◌, ◌≤◌, ◌+◌, ℕ, zero, suc, false, true, Bool, length, slice_get, List, [], ◌∷◌, ◌++◌, Option, Some, None, is_some, arith, refl, sym, ap, subst, ◌∙◌}
+use Rattle.std.proofs.Common.{◌≡◌, ◌⊎◌, inl, inr, bytes_eq, if◌then◌else◌, ◌<◌, ◌≤◌, ◌+◌, ℕ, zero, suc, false, true, Bool, length, slice_get, List, [], ◌∷◌, ◌++◌, Option, Some, None, is_some, arith, refl, sym, ap, subst, ◌∙◌}
 use Rattle.std.specs.Option.{option_or}
 use Rattle.std.proofs.lemmas.List.{length-map}
 use Rattle.cstar_tree.specs.declared.syntax.Parameter.{Parameter}
@@ -27,7 +27,6 @@ use Rattle.type_scopes.specs.declared.file.File.{File}
 use Rattle.type_scopes.specs.declared.file.FunctionInfo.{FunctionInfo}
 use Rattle.type_scopes.specs.declared.headers.Reached as Kept
 use Rattle.type_scopes.specs.declared.sites.Returns.{Returns}
-use Rattle.type_statements.proofs.Places.{shapes_behind}
 use Rattle.type_statements.specs.Places.{HasItsShape, IsInScope}
 use Rattle.type_statements.specs.declared.scopes.Scopes.{Scopes}
 
@@ -65,13 +64,38 @@ written_shape here written (Some (R.Current p)) ty known is s of = known.current
 plain_value : (ty : ValueType) (u : VariableType) → plain_type (Some ty) ≡ Some u → u.value ≡ ty
 plain_value ty u is = let e : record { value = ty; array = None } ≡ u = cc in sym (ap (λ (v : VariableType). v.value) e)
 
+-- a word stands for what it is declared as first, or for what it stands for before
+one_or_other : (c : Bool) (x y : Option Meaning) {m : Meaning} → (if c then x else y) ≡ Some m → (x ≡ Some m) ⊎ (y ≡ Some m)
+one_or_other true x y is = inl is
+one_or_other false x y is = inr is
+
+no_shape : (v : Variable) (t : Option VariableType) {shape : ℕ} → Some (a_variable v t) ≡ Some (a_shape shape) → ⊥
+no_shape v t is = cc
+
+its_type : (v w : Variable) (t : Option VariableType) {u : VariableType} → Some (a_variable v t) ≡ Some (a_variable w (Some u)) → t ≡ Some u
+its_type v w t is = cc
+
+shapes_behind : (here : Here) (word : List ℕ) (v : Variable) (of : ValueType) (t : Option VariableType) → HasItsShapes here → HasItsShape here of → ((u : VariableType) → t ≡ Some u → u.value ≡ of) → HasItsShapes (with_inner here (record { word = word; meaning = a_variable v t } ∷ here.names.inner))
+unfolding meaning extents_of find
+shapes_behind here word v of t known shape value = record {
+  named = λ w s is. elim (one_or_other (bytes_eq word w) _ _ is) [
+    | inl first ↦ absurd (no_shape v t first)
+    | inr rest ↦ known.named w s rest
+  ];
+  of_variable = λ w x u s is of_shape. elim (one_or_other (bytes_eq word w) _ _ is) [
+    | inl first ↦ shape s (subst (λ (k : ValueType). k.shape ≡ Some s) (value u (its_type v x t first)) of_shape)
+    | inr rest ↦ known.of_variable w x u s rest of_shape
+  ];
+  current = known.current;
+}
+
 shaped_behind : (here : Here) (number : ℕ) (p : Parameter) → HasItsShapes here → HasItsShapes (behind_parameter here number p)
 unfolding meaning extents_of
 shaped_behind here number p known = by (is_some (find here.names.inner p.name.word))
   where
     own : (ty : Option ValueType) → written_type here p.type_name ≡ ty → HasItsShapes (with_inner here (record { word = p.name.word; meaning = a_variable (V.Param number) (plain_type ty) } ∷ here.names.inner))
-    own None is = shapes_behind here p.name.word (V.Param number) (scalar int) None here.locals known (λ s of. absurd (cc)) (λ u none. absurd (cc))
-    own (Some ty) is = shapes_behind here p.name.word (V.Param number) ty (plain_type (Some ty)) here.locals known (written_shape here p.type_name p.type_name.shape ty known is) (plain_value ty)
+    own None is = shapes_behind here p.name.word (V.Param number) (scalar int) None known (λ s of. absurd (cc)) (λ u none. absurd (cc))
+    own (Some ty) is = shapes_behind here p.name.word (V.Param number) ty (plain_type (Some ty)) known (written_shape here p.type_name p.type_name.shape ty known is) (plain_value ty)
 
     by : (b : Bool) → HasItsShapes (record here { names = (if b then here.names else record { inner = record { word = p.name.word; meaning = a_variable (V.Param number) (plain_type (written_type here p.type_name)) } ∷ here.names.inner; outer = here.names.outer }) })
     by true = known

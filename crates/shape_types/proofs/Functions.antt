@@ -1,5 +1,7 @@
 -- A name of a file that stands for a function stands for one of the file's.
-use Rattle.std.proofs.Common.{◌≡◌, ◌<◌, ◌≤◌, ◌+◌, ◌-◌, ℕ, zero, suc, Bool, true, false, length, map, reverse, bytes_eq, is_some, length-append, List, [], ◌∷◌, ◌++◌, Option, Some, None, if◌then◌else◌, arith, refl, sym, ap, subst, ◌∙◌}
+use Rattle.std.proofs.Common.{◌≡◌, ◌<◌, ◌≤◌, ◌+◌, ◌-◌, ℕ, zero, suc, Bool, true, false, length, map, reverse, bytes_eq, is_some, length-append, slice_get, List, [], ◌∷◌, ◌++◌, Option, Some, None, if◌then◌else◌, arith, refl, sym, ap, subst, ◌∙◌}
+use Rattle.std.proofs.lemmas.Option.{same_Some}
+use Rattle.std.specs.List.{AllZip}
 use Rattle.cstar_tree.specs.declared.syntax.Declarator.{Declarator}
 use Rattle.cstar_tree.specs.declared.syntax.Function.{Function}
 use Rattle.cstar_tree.specs.declared.syntax.Item.{Item}
@@ -7,14 +9,22 @@ use Rattle.cstar_tree.specs.declared.syntax.Item.TheVariants as I
 use Rattle.cstar_tree.specs.declared.syntax.ShapeDefinition.{ShapeDefinition}
 use Rattle.cstar_tree.specs.declared.syntax.Tree.{Tree}
 use Rattle.cstar_tree.specs.declared.typed.ValueType.{ValueType}
-use Rattle.cstar_tree.specs.FileScopes.{Known, behind_function, behind_item, behind_items, behind_shape, behind_shapes, behind_variable, behind_variables, file_functions, file_known, functions_named, nothing_known, placed_from, placed_of}
-use Rattle.cstar_tree.specs.Scopes.{Binding, Meaning, a_function, a_shape, a_variable, find}
+use Rattle.cstar_tree.specs.FileScopes.{Known, behind_function, behind_item, behind_items, behind_shape, behind_shapes, behind_variable, behind_variables, file_functions, file_known, file_place, functions_named, nothing_known, placed_from, placed_of}
+use Rattle.cstar_tree.specs.Scopes.{Binding, Meaning, a_function, a_shape, a_variable, find, written_type}
 use Rattle.file_names.proofs.Steps.{one_more}
 use Rattle.file_names.specs.Numbers.{declared_as, in_text_order, name_of}
-use Rattle.type_scopes.specs.FileBindings.{file_binding, is_known, known_names}
+use Rattle.type_scopes.specs.FileBindings.{file_binding, file_meant, is_known, known_names}
 use Rattle.type_scopes.specs.declared.names.FileName.{FileName}
 use Rattle.type_scopes.specs.declared.names.FileName.TheVariants as N
 use Rattle.type_scopes.specs.declared.names.VariableType.{VariableType}
+
+-- what stands beside an item of the second list
+pub zipped : {A B : Type 0} (R : A → B → Type 0) (xs : List A) (ys : List B) (k : ℕ) (y : B) → AllZip R xs ys → slice_get ys k ≡ Some y → (x : A) × (slice_get xs k ≡ Some x) × R x y
+zipped R [] [] k y all is = absurd (cc)
+zipped R [] (z ∷ ys) k y all is = absurd all
+zipped R (x ∷ xs) [] k y all is = absurd all
+zipped R (x ∷ xs) (z ∷ ys) zero y all is = (x, refl, subst (R x) (same_Some z y is) all.0)
+zipped R (x ∷ xs) (z ∷ ys) (suc k) y all is = zipped R xs ys k y all.1 is
 
 -- the function that a name is declared as has a number below this one
 abbrev IsBelow : ℕ → FileName → Type 0
@@ -55,20 +65,20 @@ below_in_order n (b ∷ bs) h = subst (AreBelow n) (sym (one_more b bs)) (below_
 known_below : (types : List (Option VariableType)) (known : ℕ) (es : List (List ℕ × FileName)) (word : List ℕ) (f n : ℕ) → AreBelow n es → find (known_names types known es) word ≡ Some (a_function f) → f < n
 unfolding AreBelow known_names find
 known_below types known [] word f n h is = absurd (cc)
-known_below types known (e ∷ es) word f n h is = by (is_known known e.1) is
+known_below types known (e ∷ es) word f n h is = by (is_known known e.1) (known_below types (known - 1) es word f n h.1) is
   where
-    own : (name : FileName) → IsBelow n name → Some (file_binding types (e.0, name)).meaning ≡ Some (a_function f) → f < n
+    own : (name : FileName) → IsBelow n name → Some (file_meant types name) ≡ Some (a_function f) → f < n
     own (N.Shape s) below found = absurd (cc)
     own (N.Function g) below found = let same : g ≡ f = cc in omega (arith, same, below)
     own (N.Variable v) below found = absurd (cc)
 
-    named : (same : Bool) → (if same then Some (file_binding types e).meaning else find (known_names types (known - 1) es) word) ≡ Some (a_function f) → f < n
-    named true found = own e.1 h.0 found
-    named false found = known_below types (known - 1) es word f n h.1 found
+    named : (same : Bool) → (find (known_names types (known - 1) es) word ≡ Some (a_function f) → f < n) → (if same then Some (file_meant types e.1) else find (known_names types (known - 1) es) word) ≡ Some (a_function f) → f < n
+    named true rest found = own e.1 h.0 found
+    named false rest found = rest found
 
-    by : (b : Bool) → find (if b then file_binding types e ∷ known_names types (known - 1) es else known_names types (known - 1) es) word ≡ Some (a_function f) → f < n
-    by true found = named (bytes_eq e.0 word) found
-    by false found = known_below types (known - 1) es word f n h.1 found
+    by : (b : Bool) → (find (known_names types (known - 1) es) word ≡ Some (a_function f) → f < n) → find (if b then file_binding types e ∷ known_names types (known - 1) es else known_names types (known - 1) es) word ≡ Some (a_function f) → f < n
+    by true rest found = named (bytes_eq e.0 word) rest found
+    by false rest found = rest found
 
 -- ---- the functions are numbered as they are known
 
@@ -110,19 +120,23 @@ variables_counted functions ty known (d ∷ ds) h =
 -- one function more is placed where one more is known
 item_counted : (functions : List Binding) (known : Known) (item : Item) → AreCounted known → AreCounted (behind_item functions known item) × ((behind_item functions known item).functions ≡ length (placed_of functions known item) + known.functions)
 unfolding behind_item behind_function AreNamedBelow
-item_counted functions known (I.Shapes p shapes) h = shapes_counted functions known shapes.items h
-item_counted functions known (I.Variables d) h = variables_counted functions _ known d.variables.items h
+item_counted functions known (I.Shapes p shapes) h =
+    let own = shapes_counted functions known shapes.items h in
+    (own.0, let same : known.functions ≡ 0 + known.functions = omega arith in own.1 ∙ same)
+item_counted functions known (I.Variables d) h =
+    let own = variables_counted functions (written_type (file_place functions known) d.type_name) known d.variables.items h in
+    (own.0, let same : known.functions ≡ 0 + known.functions = omega arith in own.1 ∙ same)
 item_counted functions known (I.Function f) h = by (find known.names f.name.word) refl
   where
     by : (m : Option Meaning) → find known.names f.name.word ≡ m → AreCounted (behind_function known f) × ((behind_function known f).functions ≡ length (placed_of functions known (I.Function f)) + known.functions)
-    by (Some m) e = rw e (h, refl)
+    by (Some m) e = rw e (h, let same : known.functions ≡ 0 + known.functions = omega arith in same)
     by None e =
         let own : known.functions < known.functions + 1 = omega arith in
         rw e ((own, all_below_more known.functions (known.functions + 1) known.names (omega arith) h), omega arith)
 
 items_counted : (functions : List Binding) (known : Known) (items : List Item) → AreCounted known → AreCounted (behind_items functions known items) × ((behind_items functions known items).functions ≡ length (placed_from functions known items) + known.functions)
 unfolding behind_items placed_from
-items_counted functions known [] h = (h, refl)
+items_counted functions known [] h = (h, omega arith)
 items_counted functions known (item ∷ items) h =
     let first = item_counted functions known item h in
     let next = behind_item functions known item in

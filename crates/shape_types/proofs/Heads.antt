@@ -79,7 +79,7 @@ parameter_more start types ps i old new complete after infos more p ty kept is_n
       ∙ (same_declared (find old p.name.word) old (record { word = p.name.word; meaning = a_variable (V.Param i) (plain_type ty) })
       ∙ sym (names ∙ (ap (λ (b : Bool). if b then named p.name.word (V.Param i) kept ∷ old else old) (fresh ∙ ap (λ (bs : List Binding). is_none (find bs p.name.word)) (all_within old))
       ∙ ap (λ t. if is_none (find old p.name.word) then record { word = p.name.word; meaning = a_variable (V.Param i) t } ∷ old else old) meant)))));
-  types_left = rw add-one (heads.1 ∙ ap (λ (n : ℕ). parameter_types (behind_parameter so_far.here i p) n (drop (suc i) ps)) add-one-left);
+  types_left = rw add-one (rw add-one at heads.1);
   place = ap (λ (qs : List Parameter). behind_parameters so_far.here i qs) (sym rest) ∙ so_far.place;
   typed = λ whole later h. more_typed ty refl grows whole later h;
 }
@@ -89,9 +89,6 @@ parameter_more start types ps i old new complete after infos more p ty kept is_n
 
     rest : drop i ps ≡ p ∷ drop (i + 1) ps
     rest = rw add-one (drop-cons ps i p inside ∙ ap (λ (q : Parameter). q ∷ drop (suc i) ps) (sym is))
-
-    add-one-left : i + 1 ≡ suc i
-    add-one-left = omega arith
 
     heads : (slice_get types i ≡ Some written) × (drop (suc i) types ≡ parameter_types (behind_parameter so_far.here i p) (i + 1) (drop (i + 1) ps))
     heads = head_of types i written (parameter_types (behind_parameter so_far.here i p) (i + 1) (drop (i + 1) ps)) (so_far.types_left ∙ ap (λ (qs : List Parameter). parameter_types so_far.here i qs) rest)

@@ -1,5 +1,5 @@
 -- Where the machine has room, the needs are told as they are.
-use Rattle.std.proofs.Common.{◌≡◌, ◌<◌, ◌≤◌, ◌+◌, ◌*◌, ◌-◌, ◌^◌, ◌/◌, ◌×◌, ◌&&◌, nat_le, ℕ, zero, suc, ℤ, pos, negsuc, length, map, min, Bool, true, false, List, [], ◌∷◌, ◌++◌, Option, Some, None, if◌then◌else◌, arith, refl, sym, ap, subst, ◌∙◌}
+use Rattle.std.proofs.Common.{◌≡◌, ◌<◌, ◌≤◌, ◌+◌, ◌*◌, ◌-◌, ◌^◌, ◌/◌, ◌&&◌, nat_le, ℕ, zero, suc, ℤ, pos, negsuc, length, map, min, Bool, true, false, List, [], ◌∷◌, ◌++◌, Option, Some, None, if◌then◌else◌, arith, refl, sym, ap, subst, ◌∙◌}
 use Rattle.std.proofs.Math.Nat.{le-mul_of_pos_right, one-le-mul}
 use Rattle.cstar_tree.specs.declared.syntax.Expr.{Expr}
 use Rattle.cstar_tree.specs.declared.syntax.Item.{Item}
@@ -34,12 +34,12 @@ one_extent (Some (negsuc n)) k is = absurd (cc)
 full_extents : (here : Here) (es : List Expr) (ns : List ℕ) → extents_from here es ≡ Some ns → 1 ≤ product ns
 unfolding extents_from product
 full_extents here [] ns is = let e : [] ≡ ns = cc in subst (λ (l : List ℕ). 1 ≤ product l) e (omega arith)
-full_extents here (e ∷ es) ns is = next (extent_of (constant_number here e)) (extents_from here es) refl refl is
+full_extents here (e ∷ es) ns is = next (extent_of (constant_number here e)) (extents_from here es) refl (full_extents here es) is
   where
-    next : (first : Option ℕ) (rest : Option (List ℕ)) → extent_of (constant_number here e) ≡ first → extents_from here es ≡ rest → next_extent first rest ≡ Some ns → 1 ≤ product ns
+    next : (first : Option ℕ) (rest : Option (List ℕ)) → extent_of (constant_number here e) ≡ first → ((tail : List ℕ) → rest ≡ Some tail → 1 ≤ product tail) → next_extent first rest ≡ Some ns → 1 ≤ product ns
     next None rest a b is = absurd (cc)
     next (Some n) None a b is = absurd (cc)
-    next (Some n) (Some tail) a b is = let all : n ∷ tail ≡ ns = cc in subst (λ (l : List ℕ). 1 ≤ product l) all (one-le-mul (one_extent (constant_number here e) n a) (full_extents here es tail b))
+    next (Some n) (Some tail) a b is = let all : n ∷ tail ≡ ns = cc in subst (λ (l : List ℕ). 1 ≤ product l) all (one-le-mul (one_extent (constant_number here e) n a) (b tail refl))
 
 bounded_is : (extents : Option (List ℕ)) (ns : List ℕ) → bounded extents ≡ Some ns → extents ≡ Some ns
 bounded_is None ns is = absurd (cc)

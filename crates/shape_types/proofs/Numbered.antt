@@ -1,6 +1,6 @@
 -- The functions of a file, whose names are numbered, in their groups; and the file behind its
 -- declarations.
-use Rattle.std.proofs.Common.{◌≡◌, ◌<◌, ◌≤◌, ◌+◌, ◌-◌, ◌×◌, ℕ, zero, suc, add-one, append_assoc, drop, drop-cons, get_or, length, map, slice_get, bytes_eq, unwrap_or, Bool, true, false, List, [], ◌∷◌, ◌++◌, Option, Some, None, if◌then◌else◌, arith, refl, sym, ap, subst, ◌∙◌}
+use Rattle.std.proofs.Common.{◌≡◌, ◌<◌, ◌≤◌, ◌+◌, ◌-◌, ℕ, zero, suc, add-one, append_assoc, drop, drop-cons, get_or, length, map, slice_get, bytes_eq, unwrap_or, Bool, true, false, List, [], ◌∷◌, ◌++◌, Option, Some, None, if◌then◌else◌, arith, refl, sym, ap, subst, ◌∙◌}
 use Rattle.std.proofs.lemmas.List.{append-nil, drop_all}
 use Rattle.std.proofs.lemmas.Option.{same_Some}
 use Rattle.std.proofs.lemmas.Slice.Zip.{AllZip-long}
@@ -14,7 +14,7 @@ use Rattle.cstar_tree.specs.Headers.{Placed}
 use Rattle.cstar_tree.specs.Instances.{called_from, function_meant}
 use Rattle.cstar_tree.specs.Scopes.{Binding, Meaning, find}
 use Rattle.file_names.specs.Numbers.{StandsAt, first_names, in_text_order}
-use Rattle.shape_types.proofs.ReadyBodies.{listed_at, zipped}
+use Rattle.shape_types.proofs.Functions.{zipped}
 use Rattle.shape_types.specs.FileKnowledge.{IsDeclaredFile, IsKnownFile, IsNumberedFile, groups_in}
 use Rattle.shape_types.specs.Groups.{in_groups}
 use Rattle.shape_types.specs.Reached.{IsWholeFile}
@@ -115,20 +115,22 @@ numbered_file file grouped groups named stand many exact are tree names types sh
 same_functions : (types other : List (Option VariableType)) (known : ℕ) (es : List (List ℕ × FileName)) (word : List ℕ) → function_meant (find (known_names types known es) word) ≡ function_meant (find (known_names other known es) word)
 unfolding known_names find
 same_functions types other known [] word = refl
-same_functions types other known (e ∷ es) word = by (is_known known e.1)
+same_functions types other known (e ∷ es) word = by (is_known known e.1) (same_functions types other (known - 1) es word)
   where
     own : (name : FileName) → function_meant (Some (file_meant types name)) ≡ function_meant (Some (file_meant other name))
     own (N.Shape s) = refl
     own (N.Function f) = refl
     own (N.Variable v) = refl
 
-    named : (same : Bool) → function_meant (if same then Some (file_meant types e.1) else find (known_names types (known - 1) es) word) ≡ function_meant (if same then Some (file_meant other e.1) else find (known_names other (known - 1) es) word)
-    named true = own e.1
-    named false = same_functions types other (known - 1) es word
+    named : (same : Bool) → function_meant (find (known_names types (known - 1) es) word) ≡ function_meant (find (known_names other (known - 1) es) word)
+        → function_meant (if same then Some (file_meant types e.1) else find (known_names types (known - 1) es) word) ≡ function_meant (if same then Some (file_meant other e.1) else find (known_names other (known - 1) es) word)
+    named true rest = own e.1
+    named false rest = rest
 
-    by : (b : Bool) → function_meant (find (if b then file_binding types e ∷ known_names types (known - 1) es else known_names types (known - 1) es) word) ≡ function_meant (find (if b then file_binding other e ∷ known_names other (known - 1) es else known_names other (known - 1) es) word)
-    by true = named (bytes_eq e.0 word)
-    by false = same_functions types other (known - 1) es word
+    by : (b : Bool) → function_meant (find (known_names types (known - 1) es) word) ≡ function_meant (find (known_names other (known - 1) es) word)
+        → function_meant (find (if b then file_binding types e ∷ known_names types (known - 1) es else known_names types (known - 1) es) word) ≡ function_meant (find (if b then file_binding other e ∷ known_names other (known - 1) es else known_names other (known - 1) es) word)
+    by true rest = named (bytes_eq e.0 word) rest
+    by false rest = rest
 
 are_functions : (tree : Tree) (file last : File) → file.tree.now ≡ tree → AllZip (StandsAt tree) file.functions.items (file_functions tree) → IsKnownFile tree last → last.names ≡ file.names → AreFunctions file (file_functions tree)
 are_functions tree file last same stand known names = record {

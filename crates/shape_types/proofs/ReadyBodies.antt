@@ -1,6 +1,6 @@
 -- All that is asked of the expressions of a body is there: the program knows of their calls, and they
 -- are plain.
-use Rattle.std.proofs.Common.{◌≡◌, ◌<◌, ◌↔◌, ℕ, zero, suc, length, map, slice_get, List, [], ◌∷◌, Option, Some, None, get_or, arith, refl, sym, ap, subst, ◌∙◌}
+use Rattle.std.proofs.Common.{◌≡◌, ◌<◌, ◌+◌, ◌↔◌, ℕ, zero, suc, length, map, slice_get, List, [], ◌∷◌, Option, Some, None, get_or, arith, refl, sym, ap, subst, ◌∙◌}
 use Rattle.std.proofs.lemmas.List.{length-map}
 use Rattle.std.proofs.lemmas.List.Elements.{All-get_or}
 use Rattle.std.proofs.lemmas.Option.{get_or_from_slice_get, same_Some, slice_get-map, slice_get_within}
@@ -22,7 +22,7 @@ use Rattle.program_laws.proofs.Bodies.{bodies_call}
 use Rattle.program_laws.proofs.InBlocks.{in_block_both, in_block_map}
 use Rattle.program_laws.specs.Bodies.{IsInBody}
 use Rattle.shape_types.proofs.BodyPlaces.{is_placed}
-use Rattle.shape_types.proofs.Functions.{is_of_file}
+use Rattle.shape_types.proofs.Functions.{is_of_file, zipped}
 use Rattle.shape_types.specs.FileKnowledge.{groups_in}
 use Rattle.shape_types.specs.Plain.{IsPlainItem, IsPlainTree}
 use Rattle.shape_types.specs.Reached.{IsWholeFile, with_instances}
@@ -42,13 +42,6 @@ pub record IsListed (tree : Tree) (file : File) (f : ℕ) (placed : Placed) : Ty
   pub info : FunctionInfo
   pub is_listed : slice_get file.functions.items f ≡ Some info
   pub stands : StandsAt tree info placed
-
-pub zipped : {A B : Type 0} (R : A → B → Type 0) (xs : List A) (ys : List B) (k : ℕ) (y : B) → AllZip R xs ys → slice_get ys k ≡ Some y → (x : A) × (slice_get xs k ≡ Some x) × R x y
-zipped R [] [] k y all is = absurd (cc)
-zipped R [] (z ∷ ys) k y all is = absurd all
-zipped R (x ∷ xs) [] k y all is = absurd all
-zipped R (x ∷ xs) (z ∷ ys) zero y all is = (x, refl, subst (R x) (same_Some z y is) all.0)
-zipped R (x ∷ xs) (z ∷ ys) (suc k) y all is = zipped R xs ys k y all.1 is
 
 pub listed_at : (tree : Tree) (file : File) (f : ℕ) (placed : Placed) → IsWholeFile tree file → slice_get (file_functions tree) f ≡ Some placed → IsListed tree file f placed
 listed_at tree file f placed whole is =

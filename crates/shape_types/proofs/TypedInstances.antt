@@ -1,5 +1,5 @@
 -- An instance is typed from its head and its body.
-use Rattle.std.proofs.Common.{◌≡◌, ◌<◌, ◌×◌, ℕ, length, slice_get, List, [], ◌∷◌, Option, Some, None, arith, refl, sym, ap, subst, ◌∙◌}
+use Rattle.std.proofs.Common.{◌≡◌, ◌<◌, ℕ, length, slice_get, List, [], ◌∷◌, Option, Some, None, arith, refl, sym, ap, subst, ◌∙◌}
 use Rattle.std.proofs.lemmas.List.{length-map}
 use Rattle.std.proofs.lemmas.Option.{same_Some, some_pair_parts}
 use Rattle.cstar_tree.specs.declared.syntax.Function.{Function}
@@ -36,6 +36,7 @@ use Rattle.type_scopes.specs.declared.file.FunctionInfo.{FunctionInfo}
 use Rattle.type_scopes.specs.declared.headers.Header.{Header}
 use Rattle.type_scopes.specs.declared.headers.Reached as Kept
 use Rattle.type_statements.specs.Meetings.{MeetsCallsOf}
+use Rattle.type_statements.specs.Places.{IsInScope}
 use Rattle.type_statements.specs.Walks.{IsTypedBlock}
 use Rattle.type_statements.specs.declared.scopes.Scopes.{Scopes}
 
@@ -114,6 +115,7 @@ made tree file old new r info placed i whole plain headers listed is stands shap
     returns : returned m.header.returns ≡ returns_of head placed.function.result
     returns = its.returns (file_known tree).shapes
 
+    place : IsInScope file m.first (site_of info r m.header.returns) 0 here
     place = body_in_scope tree file m.first info placed r m.header.returns whole.known stands shape m.count (m.names head (sym m.none) types)
 
 pub instance_made : (tree : Tree) (file : File) (old new : Instances) (r : Kept.Reached) (info : FunctionInfo) (function : Function) (i : Instance) → IsWholeFile tree file → IsPlainTree tree → AreHeaders file old

@@ -1,26 +1,33 @@
 -- The walk over the instances that are met: when none is left, they are the program's.
-use Rattle.std.proofs.Common.{◌≡◌, ◌<◌, ◌≤◌, ◌+◌, ◌*◌, ◌×◌, ℕ, zero, suc, add-one, length, take, slice_get, List, [], ◌∷◌, ◌++◌, Option, Some, None, arith, refl, sym, ap, subst, ◌∙◌}
+use Rattle.std.proofs.Common.{◌≡◌, ◌<◌, ◌≤◌, ◌+◌, ◌-◌, ◌^◌, ◌*◌, min, is_some, false, length-append, ℕ, zero, suc, add-one, length, take, slice_get, List, [], ◌∷◌, ◌++◌, Option, Some, None, arith, refl, sym, ap, subst, ◌∙◌}
 use Rattle.std.proofs.Math.Seq.{take-length}
+use Rattle.std.proofs.Math.Nat.{mul-le-mul_left}
 use Rattle.std.proofs.lemmas.Option.{same_Some, slice_get_past}
+use Rattle.std.specs.Option.{option_map}
 use Rattle.cstar_tree.specs.declared.syntax.Tree.{Tree}
 use Rattle.cstar_tree.specs.declared.typed.Instance.{Instance}
 use Rattle.cstar_tree.specs.FileScopes.{file_functions, file_known}
 use Rattle.cstar_tree.specs.Headers.{Program, Reached}
-use Rattle.cstar_tree.specs.Instances.{instances_from, instances_of, main_of, program_of}
+use Rattle.cstar_tree.specs.Instances.{instances_from, instances_of, is_met, main_of, program_of}
 use Rattle.cstar_tree.specs.ProgramTypes.{TypesInstance, TypesInstances}
 use Rattle.cstar_tree.specs.ProgramTypes as P
 use Rattle.program_laws.proofs.MetInstances.{met_are_the_programs}
 use Rattle.program_laws.specs.MetInstances.{met_behind, with_called}
 use Rattle.shape_types.specs.Reached.{IsTypedInstance, called_in, with_instances}
 use Rattle.type_expressions.proofs.CallsWithin.{among_more, beginning_both, beginning_same}
-use Rattle.type_expressions.specs.Instances.{IsBeginning, met}
+use Rattle.type_expressions.specs.Instances.{IsBeginning, instance_of, met, with_met}
 use Rattle.type_expressions.specs.declared.found.Instances.{Instances}
+use Rattle.type_scopes.specs.declared.headers.Reached as Kept
 
 -- The first so many instances from `main` on were walked over: what was met is what the rules say, and
 -- these are typed, in each program that begins with what was met.
 pub record AreWalked (tree : Tree) (main : Reached) (found : Instances) (n : ℕ) (typed : List Instance) : Type 0 where
   pub met_so_far : met found ≡ met_behind (called_in tree) main n
   pub instances : (all : List Reached) → IsBeginning (met found) all → TypesInstances (with_instances tree all) (file_known tree).shapes (take n all) typed
+
+pub first_met : (r : Reached) → with_met r [] ≡ r ∷ []
+unfolding is_met
+first_met r = refl
 
 pub none_walked : (tree : Tree) (main : Reached) (found : Instances) → met found ≡ main ∷ [] → AreWalked tree main found 0 []
 unfolding met_behind
@@ -45,6 +52,26 @@ walked_more tree main old new n r i typed more is begins t pushed so_far = recor
       let next = take_more all n r (among_more n r (beginning_both begins behind) is) in
       rw (add-one, pushed) (subst (λ (l : List Reached). TypesInstances (with_instances tree all) (file_known tree).shapes l (typed ++ i ∷ [])) (sym next) (typed_more before (t.typed all behind)));
 }
+
+-- ---- the end of the walk
+
+pub longer : {first all : List Reached} → IsBeginning first all → length first ≤ length all
+longer {first} b = let long = ap (λ (l : List Reached). length l) b.whole ∙ length-append first b.rest in omega (arith, long)
+
+none_at : (xs : List Reached) (k : ℕ) → slice_get xs k ≡ None → length xs ≤ k
+none_at [] k is = omega arith
+none_at (x ∷ xs) zero is = absurd (cc)
+none_at (x ∷ xs) (suc k) is = let rest = none_at xs k is in omega (arith, rest)
+
+pub none_left : (instances : Instances) (k : ℕ) (r : Option Kept.Reached) → option_map instance_of r ≡ slice_get (met instances) k → is_some r ≡ false → length (met instances) ≤ k
+none_left instances k None is none = none_at (met instances) k (sym is)
+none_left instances k (Some r) is none = absurd (cc)
+
+pub few_walked : (n functions shapes all most : ℕ) → n ≤ most → all ≡ min (shapes + 1) (2 ^ 64 - 1) → most ≡ min (functions * all) (2 ^ 64 - 1) → n ≤ functions * (shapes + 1)
+few_walked n functions shapes all most within all_is most_is =
+    let less : all ≤ shapes + 1 = omega (arith, all_is) in
+    let more = mul-le-mul_left functions less in
+    omega (arith, within, most_is, more)
 
 pub whole_program : (tree : Tree) (main : ℕ) (found : Instances) (n : ℕ) (typed : List Instance) → AreWalked tree (record { function = main; current = None }) found n typed → n ≡ length (met found) → n ≤ length (file_functions tree) * (length (file_known tree).shapes + 1) → main_of tree ≡ Some main
     → TypesInstances (program_of tree) (file_known tree).shapes (program_of tree).instances typed

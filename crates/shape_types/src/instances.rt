@@ -1,16 +1,16 @@
 //! The instances that `main` reaches.
 
-ghost use Rattle.cstar_tree.specs.FileScopes.{file_functions, file_known};
-ghost use Rattle.cstar_tree.specs.Headers.{behind_parameters, parameter_types};
+ghost use Rattle.cstar_tree.specs.Headers.{behind_parameters, parameter_types, plain_type};
 ghost use Rattle.cstar_tree.specs.Instances.{main_of};
 ghost use Rattle.cstar_tree.specs.ProgramTypes.{TypesParameters, TypesResult, plain_info};
 ghost use Rattle.cstar_tree.specs.Scopes.{Here};
 ghost use Rattle.cstar_tree.specs.declared.syntax.Tree as Text;
 ghost use Rattle.shape_types.specs.Plain.{IsPlainTree};
 ghost use Rattle.shape_types.specs.Reached.{IsTypedInstance, IsTypedProgram, IsWholeFile, site_of};
-ghost use Rattle.std.specs.Prelude.{◌≡◌, ◌<◌, [], ℕ, IfOk, IfSome, OnOk, Some, length, true};
+ghost use Rattle.std.specs.Option.{option_flatten};
+ghost use Rattle.std.specs.Prelude.{◌≡◌, ◌<◌, [], ℕ, IfOk, IfSome, None, OnOk, Some, length, slice_get, true};
 ghost use Rattle.type_expressions.specs.Instances.{AreHeaders, Grows, instance_of, met};
-ghost use Rattle.type_scopes.specs.Bindings.{bindings, variable_type};
+ghost use Rattle.type_scopes.specs.Bindings.{bindings, type_meant};
 ghost use Rattle.type_scopes.specs.Headers.{returned};
 
 use cstar_base::Memory;
@@ -76,7 +76,7 @@ pub fn reached_instances(found: &mut Found, file: &File<'_>, main: u32) -> Resul
             instances.push(instance)?;
         }
     }
-    let is_whole = instances.len() == found.instances.len();
+    let is_whole = found.instances.instance(instances.len()).is_none();
     Ok(Program {
         instances,
         is_whole,
@@ -193,7 +193,7 @@ fn parameters(
     header: &Header,
     parameters: &[Parameter],
 ) -> Result<Option<Vec<VarInfo>>, Memory>
-    ensures count { scopes.new.count ≡ scopes.old.count }
+    ensures count { OnOk result (scopes.new.count ≡ scopes.old.count) }
     ensures names { (here : Here) → here.names.inner ≡ bindings scopes.old.locals → header.now.parameters.items ≡ parameter_types here 0 parameters.now → OnOk result ((behind_parameters here 0 parameters.now).names.inner ≡ bindings scopes.new.locals) }
     ensures typed { (here : Here) → here.names.inner ≡ bindings scopes.old.locals → header.now.parameters.items ≡ parameter_types here 0 parameters.now → IfOk result (λ r. IfSome r (λ infos. TypesParameters here 0 parameters.now infos.items)) }
 {
@@ -201,18 +201,38 @@ fn parameters(
     let mut complete = true;
     let types = header.parameters.as_slice();
     for (number, parameter) in parameters.iter().enumerate() {
-        let ty = types.get(number).copied().flatten();
-        let variable = Variable::Param(u32::try_from(number).map_err(|_error| Memory)?);
-        let declared = match ty {
-            Some(ty) => Some(plain(ty)),
-            None => None,
-        };
+        let ty = type_at(types, number);
+        let variable = Variable::Param(parameter_number(number)?);
         let word = &parameter.name.word;
-        scopes.locals.declare(alloc, 0, word, variable, declared)?;
+        scopes.locals.declare(alloc, 0, word, variable, plain_if(ty))?;
         match ty {
             Some(ty) => infos.push(value_info(alloc, &parameter.name, ty)?)?,
             None => complete = false,
         }
     }
     Ok(if complete { Some(infos) } else { None })
+}
+
+/// The type of the parameter of the number, where it has no fault.
+fn type_at(types: &[Option<ValueType>], number: usize) -> Option<ValueType>
+    ensures { result ≡ option_flatten (slice_get types.now number) }
+{
+    *types.get(number)?
+}
+
+/// The number of a parameter as the typed tree has it.
+fn parameter_number(number: usize) -> Result<u32, Memory>
+    ensures { IfOk result (λ parameter. parameter ≡ number) }
+{
+    u32::try_from(number).map_err(|_error| Memory)
+}
+
+/// The type of a variable that is no array, where it has no fault.
+fn plain_if(ty: Option<ValueType>) -> Option<VariableType>
+    ensures { type_meant result ≡ plain_type ty }
+{
+    match ty {
+        Some(ty) => Some(plain(ty)),
+        None => None,
+    }
 }
