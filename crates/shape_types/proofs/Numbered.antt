@@ -34,10 +34,10 @@ next_in_groups info rest [] (suc k) = refl
 next_in_groups info rest (g ∷ groups) zero = refl
 next_in_groups info rest (g ∷ groups) (suc k) = next_in_groups info rest groups k
 
-pub one_more_grouped : (functions : List FunctionInfo) (groups : List ℕ) (k : ℕ) (all more : List FunctionInfo) (info : FunctionInfo) → k < length functions → info ≡ get_or functions k info → more ≡ all ++ record info { group = unwrap_or (slice_get groups k) info.group } ∷ []
+pub one_more_grouped : (functions : List FunctionInfo) (groups : List ℕ) (k : ℕ) (all more : List FunctionInfo) (info default : FunctionInfo) → k < length functions → info ≡ get_or functions k default → more ≡ all ++ record info { group = unwrap_or (slice_get groups k) info.group } ∷ []
     → all ++ in_groups (drop k functions) (drop k groups) ≡ in_groups functions groups → more ++ in_groups (drop (k + 1) functions) (drop (k + 1) groups) ≡ in_groups functions groups
-one_more_grouped functions groups k all more info within is pushed so_far =
-    let rest : drop k functions ≡ info ∷ drop (suc k) functions = drop-cons functions k info within ∙ ap (λ (i : FunctionInfo). i ∷ drop (suc k) functions) (sym is) in
+one_more_grouped functions groups k all more info default within is pushed so_far =
+    let rest : drop k functions ≡ info ∷ drop (suc k) functions = drop-cons functions k default within ∙ ap (λ (i : FunctionInfo). i ∷ drop (suc k) functions) (sym is) in
     let own : FunctionInfo = record info { group = unwrap_or (slice_get groups k) info.group } in
     let left = in_groups (drop (suc k) functions) (drop (suc k) groups) in
     rw add-one (ap (λ (l : List FunctionInfo). l ++ left) pushed ∙ (append_assoc all (own ∷ []) left ∙ (ap (λ (l : List FunctionInfo). all ++ l) (sym (ap (λ (l : List FunctionInfo). in_groups l (drop k groups)) rest ∙ next_in_groups info (drop (suc k) functions) groups k)) ∙ so_far)))

@@ -8,7 +8,7 @@ ghost use Rattle.cstar_tree.specs.declared.syntax.Tree as Text;
 ghost use Rattle.shape_types.specs.Plain.{IsPlainTree};
 ghost use Rattle.shape_types.specs.Reached.{IsTypedInstance, IsTypedProgram, IsWholeFile, site_of};
 ghost use Rattle.std.specs.Option.{option_flatten};
-ghost use Rattle.std.specs.Prelude.{◌≡◌, ◌<◌, [], ℕ, IfOk, IfSome, None, OnOk, Some, length, slice_get, true};
+ghost use Rattle.std.specs.Prelude.{◌≡◌, ◌<◌, [], ℕ, IfOk, IfSome, None, OnOk, Some, false, length, slice_get, true};
 ghost use Rattle.type_expressions.specs.Instances.{AreHeaders, Grows, instance_of, met};
 ghost use Rattle.type_scopes.specs.Bindings.{bindings, type_meant};
 ghost use Rattle.type_scopes.specs.Headers.{returned};
@@ -37,7 +37,8 @@ pub struct Program {
 impl Program {
     /// That of a file without `main`: no instances, and no program.
     pub fn none(alloc: Global) -> Program
-        ensures { result.instances.items ≡ [] }
+        ensures instances { result.instances.items ≡ [] }
+        ensures whole { result.is_whole ≡ false }
     {
         Program {
             instances: Vec::new(alloc),

@@ -13,7 +13,7 @@ ghost use Rattle.shape_types.specs.Groups.{in_groups};
 ghost use Rattle.shape_types.specs.Plain.{IsPlainTree};
 ghost use Rattle.shape_types.specs.TypeFaults.{IsListedFault};
 ghost use Rattle.shape_types.specs.TypedFiles.{AreTyped, IsTypedFile};
-ghost use Rattle.std.specs.Prelude.{◌≡◌, [], ◌<◌, ◌≤◌, IfErr, IfOk, IsNone, OnOk, length};
+ghost use Rattle.std.specs.Prelude.{◌≡◌, [], ◌<◌, ◌≤◌, IfErr, IfOk, IsNone, OnOk, length, slice_get, unwrap_or};
 
 mod declarations;
 mod instances;
@@ -170,10 +170,20 @@ fn in_groups(
 {
     let mut all = Vec::new(alloc);
     for (number, info) in functions.iter().enumerate() {
-        let group = groups.get(number).copied().unwrap_or(info.group);
+        let group = group_at(groups, number, info.group);
         all.push(FunctionInfo { group, ..*info })?;
     }
     Ok(all)
+}
+
+/// The group of the number, or the own one where there is none.
+fn group_at(groups: &[usize], number: usize, own: usize) -> usize
+    ensures { result ≡ unwrap_or (slice_get groups.now number) own }
+{
+    match groups.get(number) {
+        Some(group) => *group,
+        None => own,
+    }
 }
 
 /// Records the faults of the file as a whole. A `main` that is there and is not typed has a fault

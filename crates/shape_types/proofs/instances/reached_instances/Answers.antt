@@ -57,14 +57,16 @@ returns c = record {
       let file = c.args.file.now in
       let before = c.loop-number.invariant in
       let end = none_left c.loop-number.found.instances c.len-3.result c.instance-2.result c.instance-2.ensures (c.is_none-is_whole.ensures ∙ ap not complete) in
-      let kept : c.len-3.result ≡ length c.loop-number.instances.items = c.len-3.ensures in
+      let kept : c.len-3.result ≡ length c.loop-number.instances.items = let own = c.loop-number.instances.ok.0 in let is = c.len-3.ensures in omega (arith, own, is) in
+      let all_shapes : c.len.result ≡ length file.shapes.items = let own = file.shapes.ok.0 in let is = c.len.ensures in omega (arith, own, is) in
+      let all_functions : c.len-2.result ≡ length file.functions.items = let own = file.functions.ok.0 in let is = c.len-2.ensures in omega (arith, own, is) in
       let few = before.few in
       let there = before.there in
       let functions = AllZip-long (StandsAt tree) file.functions.items (file_functions tree) whole.functions in
       let shapes : length (file_known tree).shapes ≡ length file.shapes.items = ap (λ (l : List (List ℕ)). length l) whole.known.shapes ∙ length-map file.shapes.items (λ (s : ShapeInfo). s.extents.items) in
       let most = few_walked c.loop-number.number (length (file_functions tree)) (length (file_known tree).shapes) c.saturating_add-shapes.result c.saturating_mul-most.result c.loop-number.auto.number-end
-        (c.saturating_add-shapes.ensures ∙ ap (λ (n : ℕ). min (n + 1) (2 ^ 64 - 1)) (c.len.ensures ∙ sym shapes))
-        (c.saturating_mul-most.ensures ∙ ap (λ (n : ℕ). min (n * c.saturating_add-shapes.result) (2 ^ 64 - 1)) (c.len-2.ensures ∙ sym functions))
+        (c.saturating_add-shapes.ensures ∙ ap (λ (n : ℕ). min (n + 1) (2 ^ 64 - 1)) (all_shapes ∙ sym shapes))
+        (c.saturating_mul-most.ensures ∙ ap (λ (n : ℕ). min (n * c.saturating_add-shapes.result) (2 ^ 64 - 1)) (all_functions ∙ sym functions))
       in
       whole_program tree c.args.main c.loop-number.found.instances c.loop-number.number c.loop-number.instances.items (before.walked tree whole plain none headers (omega (arith, end, kept, few, there))) (omega (arith, end, kept, few, there)) most is_main;
 }
