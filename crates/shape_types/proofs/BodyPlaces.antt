@@ -1,7 +1,6 @@
 -- The place of the body of an instance is the one that is kept for it.
-use Rattle.std.proofs.Common.{◌≡◌, ◌⊎◌, inl, inr, bytes_eq, if◌then◌else◌, ◌<◌, ◌≤◌, ◌+◌, ℕ, zero, suc, false, true, Bool, length, slice_get, List, [], ◌∷◌, ◌++◌, Option, Some, None, is_some, arith, refl, sym, ap, subst, ◌∙◌}
+use Rattle.std.proofs.Common.{◌≡◌, ◌⊎◌, inl, inr, bytes_eq, if◌then◌else◌, ◌<◌, ◌+◌, ℕ, zero, suc, false, true, Bool, length, slice_get, List, [], ◌∷◌, ◌++◌, Option, Some, None, is_some, arith, refl, sym, ap, subst, ◌∙◌}
 use Rattle.std.specs.Option.{option_or}
-use Rattle.std.proofs.lemmas.List.{length-map}
 use Rattle.cstar_tree.specs.declared.syntax.Parameter.{Parameter}
 use Rattle.cstar_tree.specs.declared.syntax.ShapeRef.{ShapeRef}
 use Rattle.cstar_tree.specs.declared.syntax.ShapeRef.TheVariants as R
@@ -13,12 +12,12 @@ use Rattle.cstar_tree.specs.declared.typed.Variable.TheVariants as V
 use Rattle.cstar_tree.specs.Conversions.{int, scalar}
 use Rattle.cstar_tree.specs.FileScopes.{file_known, functions_named}
 use Rattle.cstar_tree.specs.Headers.{Placed, Reached, behind_parameter, behind_parameters, body_place, header_place, plain_type}
-use Rattle.cstar_tree.specs.Scopes.{Binding, Here, Meaning, VariableType, a_function, a_shape, a_variable, declared, extents_of, find, meaning, of_shape, of_written, shape_meant, written_type}
+use Rattle.cstar_tree.specs.Scopes.{Binding, Here, Meaning, VariableType, a_function, a_shape, a_variable, extents_of, find, meaning, of_shape, of_written, shape_meant, written_type}
 use Rattle.file_names.specs.Numbers.{StandsAt, first_names}
-use Rattle.shape_types.specs.FileKnowledge.{IsKnownFile, IsOfShapes}
+use Rattle.shape_types.specs.FileKnowledge.{IsKnownFile}
 use Rattle.shape_types.specs.Reached.{site_of}
 use Rattle.shape_types.proofs.Heads.{all_within, declared_outer}
-use Rattle.type_expressions.specs.Walks.{HasItsShapes, IsShape}
+use Rattle.type_expressions.specs.Walks.{HasItsShapes}
 use Rattle.type_scopes.proofs.FileLemmas.{find_first}
 use Rattle.type_scopes.specs.Bindings.{bindings, within}
 use Rattle.type_scopes.specs.FileBindings.{file_bindings}

@@ -1,16 +1,15 @@
 -- A name of a file that stands for a function stands for one of the file's.
-use Rattle.std.proofs.Common.{◌≡◌, ◌<◌, ◌≤◌, ◌+◌, ◌-◌, ℕ, zero, suc, Bool, true, false, length, map, reverse, bytes_eq, is_some, length-append, slice_get, List, [], ◌∷◌, ◌++◌, Option, Some, None, if◌then◌else◌, arith, refl, sym, ap, subst, ◌∙◌}
+use Rattle.std.proofs.Common.{◌≡◌, ◌<◌, ◌≤◌, ◌+◌, ◌-◌, ℕ, zero, suc, Bool, true, false, length, map, reverse, bytes_eq, length-append, slice_get, List, [], ◌∷◌, ◌++◌, Option, Some, None, if◌then◌else◌, arith, refl, sym, subst, ◌∙◌}
 use Rattle.std.proofs.lemmas.Option.{same_Some}
 use Rattle.std.specs.List.{AllZip}
 use Rattle.cstar_tree.specs.declared.syntax.Declarator.{Declarator}
-use Rattle.cstar_tree.specs.declared.syntax.Function.{Function}
 use Rattle.cstar_tree.specs.declared.syntax.Item.{Item}
 use Rattle.cstar_tree.specs.declared.syntax.Item.TheVariants as I
 use Rattle.cstar_tree.specs.declared.syntax.ShapeDefinition.{ShapeDefinition}
 use Rattle.cstar_tree.specs.declared.syntax.Tree.{Tree}
 use Rattle.cstar_tree.specs.declared.typed.ValueType.{ValueType}
 use Rattle.cstar_tree.specs.FileScopes.{Known, behind_function, behind_item, behind_items, behind_shape, behind_shapes, behind_variable, behind_variables, file_functions, file_known, file_place, functions_named, nothing_known, placed_from, placed_of}
-use Rattle.cstar_tree.specs.Scopes.{Binding, Meaning, a_function, a_shape, a_variable, find, written_type}
+use Rattle.cstar_tree.specs.Scopes.{Binding, Meaning, a_function, find, written_type}
 use Rattle.file_names.proofs.Steps.{one_more}
 use Rattle.file_names.specs.Numbers.{declared_as, in_text_order, name_of}
 use Rattle.type_scopes.specs.FileBindings.{file_binding, file_meant, is_known, known_names}

@@ -11,7 +11,7 @@ use Rattle.cstar_tree.specs.Headers.{behind_parameter, behind_parameters, parame
 use Rattle.cstar_tree.specs.ProgramTypes.{TypesParameters, plain_info}
 use Rattle.cstar_tree.specs.ProgramTypes as P
 use Rattle.cstar_tree.specs.Scopes.{Binding, Here, Meaning, Names, a_variable, declared, find, written_type}
-use Rattle.type_scopes.specs.Bindings.{named, type_meant, variable_type, within}
+use Rattle.type_scopes.specs.Bindings.{named, type_meant, within}
 use Rattle.type_scopes.specs.declared.names.VariableType as Kept
 
 -- ---- names
@@ -55,9 +55,6 @@ no_parameters start types ps names complete all is = record { here = start; inne
 abbrev pub IsMore : Option ValueType → List ℕ → Bool → List VarInfo → Bool → List VarInfo → Type 0
 IsMore None word complete infos after more = after ≡ false
 IsMore (Some ty) word complete infos after more = (after ≡ complete) × (more ≡ infos ++ plain_info word ty ∷ [])
-
-pub type_kept : (ty : Option ValueType) (kept : Option Kept.VariableType) → Type 0
-type_kept ty kept = type_meant kept ≡ plain_type ty
 
 head_of : {A : Type 0} (xs : List A) (i : ℕ) (x : A) (rest : List A) → drop i xs ≡ x ∷ rest → (slice_get xs i ≡ Some x) × (drop (suc i) xs ≡ rest)
 head_of [] zero x rest is = absurd (cc)

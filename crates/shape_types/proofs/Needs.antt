@@ -1,5 +1,5 @@
 -- Where the machine has room, the needs are told as they are.
-use Rattle.std.proofs.Common.{◌≡◌, ◌<◌, ◌≤◌, ◌+◌, ◌*◌, ◌-◌, ◌^◌, ◌/◌, ◌&&◌, nat_le, ℕ, zero, suc, ℤ, pos, negsuc, length, map, min, Bool, true, false, List, [], ◌∷◌, ◌++◌, Option, Some, None, if◌then◌else◌, arith, refl, sym, ap, subst, ◌∙◌}
+use Rattle.std.proofs.Common.{◌≡◌, ◌≤◌, ◌+◌, ◌*◌, ◌^◌, ◌&&◌, nat_le, ℕ, zero, suc, ℤ, pos, negsuc, length, map, Bool, true, false, List, [], ◌∷◌, ◌++◌, Option, Some, None, if◌then◌else◌, arith, refl, ap, subst, ◌∙◌}
 use Rattle.std.proofs.Math.Nat.{le-mul_of_pos_right, one-le-mul}
 use Rattle.cstar_tree.specs.declared.syntax.Expr.{Expr}
 use Rattle.cstar_tree.specs.declared.syntax.Item.{Item}
@@ -13,7 +13,7 @@ use Rattle.cstar_tree.specs.Constants.{constant_number, product}
 use Rattle.cstar_tree.specs.FileScopes.{Known, bounded, defined_extents, extent_of, extents_from, file_place, next_extent}
 use Rattle.cstar_tree.specs.ProgramTypes.{TypesFile, TypesItems, TypesShapes}
 use Rattle.cstar_tree.specs.ProgramTypes as P
-use Rattle.cstar_tree.specs.Room.{HasRoom, blocks, machine_bits, need, needs, needs_from}
+use Rattle.cstar_tree.specs.Room.{HasRoom, blocks, machine_bits, need, needs_from}
 use Rattle.cstar_tree.specs.Scopes.{Binding, Here}
 use Rattle.shape_room.specs.Counted.{kept}
 use Rattle.shape_types.specs.TypedFiles.{IsTypedFile}

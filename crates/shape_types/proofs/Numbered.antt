@@ -1,24 +1,23 @@
 -- The functions of a file, whose names are numbered, in their groups; and the file behind its
 -- declarations.
-use Rattle.std.proofs.Common.{◌≡◌, ◌<◌, ◌≤◌, ◌+◌, ◌-◌, ℕ, zero, suc, add-one, append_assoc, drop, drop-cons, get_or, length, map, slice_get, bytes_eq, unwrap_or, Bool, true, false, List, [], ◌∷◌, ◌++◌, Option, Some, None, if◌then◌else◌, arith, refl, sym, ap, subst, ◌∙◌}
+use Rattle.std.proofs.Common.{◌≡◌, ◌<◌, ◌≤◌, ◌+◌, ◌-◌, ℕ, zero, suc, add-one, append_assoc, drop, drop-cons, get_or, length, slice_get, bytes_eq, unwrap_or, Bool, true, false, List, [], ◌∷◌, ◌++◌, Option, Some, if◌then◌else◌, arith, refl, sym, ap, subst, ◌∙◌}
 use Rattle.std.proofs.lemmas.List.{append-nil, drop_all}
 use Rattle.std.proofs.lemmas.Option.{same_Some}
 use Rattle.std.proofs.lemmas.Slice.Zip.{AllZip-long}
 use Rattle.std.specs.List.{AllZip}
 use Rattle.call_graph.specs.Graph.{AreGroups}
-use Rattle.call_groups.specs.Called.{AreFunctions, IsFunction}
+use Rattle.call_groups.specs.Called.{AreFunctions}
 use Rattle.cstar_tree.specs.declared.syntax.Tree.{Tree}
-use Rattle.cstar_tree.specs.declared.typed.VarInfo.{VarInfo}
-use Rattle.cstar_tree.specs.FileScopes.{file_functions, file_known, functions_named}
+use Rattle.cstar_tree.specs.FileScopes.{file_functions, file_known}
 use Rattle.cstar_tree.specs.Headers.{Placed}
 use Rattle.cstar_tree.specs.Instances.{called_from, function_meant}
-use Rattle.cstar_tree.specs.Scopes.{Binding, Meaning, find}
-use Rattle.file_names.specs.Numbers.{StandsAt, first_names, in_text_order}
+use Rattle.cstar_tree.specs.Scopes.{Binding, find}
+use Rattle.file_names.specs.Numbers.{StandsAt, in_text_order}
 use Rattle.shape_types.proofs.Functions.{zipped}
-use Rattle.shape_types.specs.FileKnowledge.{IsDeclaredFile, IsKnownFile, IsNumberedFile, groups_in}
+use Rattle.shape_types.specs.FileKnowledge.{IsKnownFile, IsNumberedFile, groups_in}
 use Rattle.shape_types.specs.Groups.{in_groups}
 use Rattle.shape_types.specs.Reached.{IsWholeFile}
-use Rattle.type_scopes.specs.FileBindings.{file_binding, file_bindings, file_meant, file_names, is_known, known_names}
+use Rattle.type_scopes.specs.FileBindings.{file_binding, file_meant, file_names, is_known, known_names}
 use Rattle.type_scopes.specs.declared.file.File.{File}
 use Rattle.type_scopes.specs.declared.file.FunctionInfo.{FunctionInfo}
 use Rattle.type_scopes.specs.declared.names.FileName.{FileName}

@@ -1,23 +1,19 @@
 -- All that is asked of the expressions of a body is there: the program knows of their calls, and they
 -- are plain.
-use Rattle.std.proofs.Common.{◌≡◌, ◌<◌, ◌+◌, ◌↔◌, ℕ, zero, suc, length, map, slice_get, List, [], ◌∷◌, Option, Some, None, get_or, arith, refl, sym, ap, subst, ◌∙◌}
-use Rattle.std.proofs.lemmas.List.{length-map}
+use Rattle.std.proofs.Common.{◌≡◌, ◌<◌, ◌+◌, ◌↔◌, ℕ, zero, suc, length, slice_get, List, [], ◌∷◌, Some, arith, refl, sym, ap, subst, ◌∙◌}
 use Rattle.std.proofs.lemmas.List.Elements.{All-get_or}
 use Rattle.std.proofs.lemmas.Option.{get_or_from_slice_get, same_Some, slice_get-map, slice_get_within}
-use Rattle.std.specs.List.{All, AllZip}
+use Rattle.std.specs.List.{AllZip}
 use Rattle.std.specs.Option.{option_map}
 use Rattle.std.specs.Prelude.{slice_index}
-use Rattle.call_graph.specs.Graph.{AreGroups}
 use Rattle.cstar_tree.specs.declared.syntax.Expr.{Expr}
-use Rattle.cstar_tree.specs.declared.syntax.Function.{Function}
-use Rattle.cstar_tree.specs.declared.syntax.Item.{Item}
 use Rattle.cstar_tree.specs.declared.syntax.Item.TheVariants as I
 use Rattle.cstar_tree.specs.declared.syntax.Tree.{Tree}
-use Rattle.cstar_tree.specs.FileScopes.{file_functions, file_known, functions_named}
+use Rattle.cstar_tree.specs.FileScopes.{file_functions, file_known}
 use Rattle.cstar_tree.specs.Headers.{Leads, Placed, Reached, body_place}
 use Rattle.cstar_tree.specs.Instances.{called_from}
-use Rattle.cstar_tree.specs.Scopes.{Binding, Here, a_function, find, meaning}
-use Rattle.file_names.specs.Numbers.{StandsAt, first_names}
+use Rattle.cstar_tree.specs.Scopes.{Binding, Here, a_function, find}
+use Rattle.file_names.specs.Numbers.{StandsAt}
 use Rattle.program_laws.proofs.Bodies.{bodies_call}
 use Rattle.program_laws.proofs.InBlocks.{in_block_both, in_block_map}
 use Rattle.program_laws.specs.Bodies.{IsInBody}
@@ -27,11 +23,11 @@ use Rattle.shape_types.specs.FileKnowledge.{groups_in}
 use Rattle.shape_types.specs.Plain.{IsPlainItem, IsPlainTree}
 use Rattle.shape_types.specs.Reached.{IsWholeFile, with_instances}
 use Rattle.type_expressions.specs.Instances.{AreHeaders, IsBeginning, met}
-use Rattle.type_expressions.specs.Programs.{HasItsCalls, IsFunctionOf}
+use Rattle.type_expressions.specs.Programs.{IsFunctionOf}
 use Rattle.type_expressions.specs.Walks.{IsPlain}
 use Rattle.type_expressions.specs.declared.found.Instances.{Instances}
 use Rattle.type_scopes.specs.FileBindings.{file_names, known_names}
-use Rattle.type_scopes.specs.Headers.{IsPlaced, group_of}
+use Rattle.type_scopes.specs.Headers.{group_of}
 use Rattle.type_scopes.specs.declared.file.File.{File}
 use Rattle.type_scopes.specs.declared.file.FunctionInfo.{FunctionInfo}
 use Rattle.type_statements.specs.Ready.{InBlock, IsReady}

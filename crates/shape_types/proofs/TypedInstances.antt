@@ -1,5 +1,5 @@
 -- An instance is typed from its head and its body.
-use Rattle.std.proofs.Common.{◌≡◌, ◌<◌, ℕ, length, slice_get, List, [], ◌∷◌, Option, Some, None, arith, refl, sym, ap, subst, ◌∙◌}
+use Rattle.std.proofs.Common.{◌≡◌, ◌<◌, ℕ, length, slice_get, List, [], Option, Some, None, refl, sym, ap, subst, ◌∙◌}
 use Rattle.std.proofs.lemmas.List.{length-map}
 use Rattle.std.proofs.lemmas.Option.{same_Some, some_pair_parts}
 use Rattle.cstar_tree.specs.declared.syntax.Function.{Function}
@@ -7,10 +7,8 @@ use Rattle.cstar_tree.specs.declared.syntax.Item.{Item}
 use Rattle.cstar_tree.specs.declared.syntax.Item.TheVariants as I
 use Rattle.cstar_tree.specs.declared.syntax.Tree.{Tree}
 use Rattle.cstar_tree.specs.declared.typed.Instance.{Instance}
-use Rattle.cstar_tree.specs.declared.typed.LocalVar.{LocalVar}
 use Rattle.cstar_tree.specs.declared.typed.ShapeInfo.{ShapeInfo}
-use Rattle.cstar_tree.specs.declared.typed.TStmt.{TStmt}
-use Rattle.cstar_tree.specs.Calls.{Call, calls_in_block}
+use Rattle.cstar_tree.specs.Calls.{Call}
 use Rattle.cstar_tree.specs.FileScopes.{file_functions, file_known}
 use Rattle.cstar_tree.specs.Headers as H
 use Rattle.cstar_tree.specs.Headers.{Placed, Reached, behind_parameters, body_place, header_place, parameter_types, returns_of}
@@ -26,7 +24,7 @@ use Rattle.shape_types.specs.Plain.{IsPlainTree}
 use Rattle.shape_types.specs.Reached.{IsTypedInstance, IsWholeFile, site_of, with_instances}
 use Rattle.type_expressions.proofs.CallsWithin.{beginning_same}
 use Rattle.type_expressions.proofs.KeptHeaders.{kept_of_file}
-use Rattle.type_expressions.specs.Instances.{AreHeaders, Grows, IsBeginning, instance_of, kept_header, met}
+use Rattle.type_expressions.specs.Instances.{AreHeaders, Grows, instance_of, kept_header, met}
 use Rattle.type_expressions.specs.Meetings.{meeting}
 use Rattle.type_expressions.specs.declared.found.Instances.{Instances}
 use Rattle.type_scopes.specs.Bindings.{bindings}

@@ -1,5 +1,5 @@
 -- The walk over the instances that are met: when none is left, they are the program's.
-use Rattle.std.proofs.Common.{◌≡◌, ◌<◌, ◌≤◌, ◌+◌, ◌-◌, ◌^◌, ◌*◌, min, is_some, false, length-append, ℕ, zero, suc, add-one, length, take, slice_get, List, [], ◌∷◌, ◌++◌, Option, Some, None, arith, refl, sym, ap, subst, ◌∙◌}
+use Rattle.std.proofs.Common.{◌≡◌, ◌≤◌, ◌+◌, ◌-◌, ◌^◌, ◌*◌, min, is_some, false, length-append, ℕ, zero, suc, add-one, length, take, slice_get, List, [], ◌∷◌, ◌++◌, Option, Some, None, arith, refl, sym, ap, subst, ◌∙◌}
 use Rattle.std.proofs.Math.Seq.{take-length}
 use Rattle.std.proofs.Math.Nat.{mul-le-mul_left}
 use Rattle.std.proofs.lemmas.Option.{same_Some, slice_get_past}
@@ -78,8 +78,8 @@ pub whole_program : (tree : Tree) (main : ℕ) (found : Instances) (n : ℕ) (ty
 whole_program tree main found n typed walked all few is =
     let none : slice_get (met_behind (called_in tree) (record { function = main; current = None }) n) n ≡ None = subst (λ (l : List Reached). slice_get l n ≡ None) walked.met_so_far (slice_get_past (met found) n (omega (arith, all))) in
     let same : instances_of tree ≡ met found =
-      ap (instances_from (file_known tree).shapes (file_functions tree)) is
-      ∙ (met_are_the_programs (file_known tree).shapes (file_functions tree) (record { function = main; current = None }) n (length (file_functions tree) * (length (file_known tree).shapes + 1)) few none ∙ sym walked.met_so_far)
+    ap (instances_from (file_known tree).shapes (file_functions tree)) is
+    ∙ (met_are_the_programs (file_known tree).shapes (file_functions tree) (record { function = main; current = None }) n (length (file_functions tree) * (length (file_known tree).shapes + 1)) few none ∙ sym walked.met_so_far)
     in
     let whole : take n (met found) ≡ met found = ap (λ (k : ℕ). take k (met found)) all ∙ take-length (met found) in
     subst (λ (rs : List Reached). TypesInstances (with_instances tree rs) (file_known tree).shapes rs typed) (sym same)

@@ -205,7 +205,9 @@ fn parameters(
         let ty = type_at(types, number);
         let variable = Variable::Param(parameter_number(number)?);
         let word = &parameter.name.word;
-        scopes.locals.declare(alloc, 0, word, variable, plain_if(ty))?;
+        scopes
+            .locals
+            .declare(alloc, 0, word, variable, plain_if(ty))?;
         match ty {
             Some(ty) => infos.push(value_info(alloc, &parameter.name, ty)?)?,
             None => complete = false,

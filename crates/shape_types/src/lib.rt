@@ -118,7 +118,12 @@ fn with_needs(
 {
     let Declared { vars, .. } = declared;
     let Program { instances, .. } = program;
-    let need = match needs(alloc, shapes.as_slice(), vars.as_slice(), instances.as_slice()) {
+    let need = match needs(
+        alloc,
+        shapes.as_slice(),
+        vars.as_slice(),
+        instances.as_slice(),
+    ) {
         Ok(need) => need,
         Err(_memory) => return Err(TypeFault::Memory),
     };

@@ -1,8 +1,6 @@
-use Rattle.std.proofs.Common.{◌≡◌, ◌∙◌, ℕ, List, Bor, Vec, ap, arith, length, refl, subst, sym}
+use Rattle.std.proofs.Common.{◌≡◌, ◌∙◌, ℕ, List, Bor, ap, arith, length, refl, subst, sym}
 use Rattle.std.specs.List.{AllZip}
-use Rattle.std.specs.declared.alloc.Global.{Global}
 use Rattle.cstar_tree.specs.declared.syntax.Tree.{Tree}
-use Rattle.cstar_tree.specs.declared.typed.ShapeInfo.{ShapeInfo}
 use Rattle.cstar_tree.specs.FileScopes.{file_functions, file_known}
 use Rattle.file_names.specs.Numbers.{StandsAt, in_text_order}
 use Rattle.type_scopes.specs.declared.file.FunctionInfo.{FunctionInfo}

@@ -1,4 +1,4 @@
-use Rattle.std.proofs.Common.{◌≡◌, ◌∙◌, List, Bor, ap, subst, sym, true, true≢false}
+use Rattle.std.proofs.Common.{◌≡◌, ◌∙◌, List, Bor, ap, subst, sym, true≢false}
 use Rattle.std.proofs.lemmas.List.Elements.{All-nil}
 use Rattle.std.specs.List.{All}
 use Rattle.cstar_tree.specs.declared.syntax.Tree.{Tree}

@@ -65,8 +65,8 @@ returns c = record {
       let functions = AllZip-long (StandsAt tree) file.functions.items (file_functions tree) whole.functions in
       let shapes : length (file_known tree).shapes ≡ length file.shapes.items = ap (λ (l : List (List ℕ)). length l) whole.known.shapes ∙ length-map file.shapes.items (λ (s : ShapeInfo). s.extents.items) in
       let most = few_walked c.loop-number.number (length (file_functions tree)) (length (file_known tree).shapes) c.saturating_add-shapes.result c.saturating_mul-most.result c.loop-number.auto.number-end
-        (c.saturating_add-shapes.ensures ∙ ap (λ (n : ℕ). min (n + 1) (2 ^ 64 - 1)) (all_shapes ∙ sym shapes))
-        (c.saturating_mul-most.ensures ∙ ap (λ (n : ℕ). min (n * c.saturating_add-shapes.result) (2 ^ 64 - 1)) (all_functions ∙ sym functions))
+      (c.saturating_add-shapes.ensures ∙ ap (λ (n : ℕ). min (n + 1) (2 ^ 64 - 1)) (all_shapes ∙ sym shapes))
+      (c.saturating_mul-most.ensures ∙ ap (λ (n : ℕ). min (n * c.saturating_add-shapes.result) (2 ^ 64 - 1)) (all_functions ∙ sym functions))
       in
       whole_program tree c.args.main c.loop-number.found.instances c.loop-number.number c.loop-number.instances.items (before.walked tree whole plain none headers (omega (arith, end, kept, few, there))) (omega (arith, end, kept, few, there)) most is_main;
 }

@@ -1,11 +1,10 @@
-use Rattle.std.proofs.Common.{◌≡◌, ◌∙◌, IfSome, Option, Some, Box, Vec, List, ap, refl, subst, sym}
+use Rattle.std.proofs.Common.{◌≡◌, ◌∙◌, IfSome, Option, Box, Vec, List, ap, refl, subst, sym}
 use Rattle.std.specs.declared.alloc.Global.{Global}
 use Rattle.cstar_tree.specs.declared.syntax.Parameter.{Parameter}
 use Rattle.cstar_tree.specs.declared.typed.TStmt.{TStmt}
 use Rattle.cstar_tree.specs.declared.typed.VarInfo.{VarInfo}
 use Rattle.cstar_tree.specs.Headers.{behind_parameters, parameter_types}
 use Rattle.cstar_tree.specs.ProgramTypes.{TypesParameters, TypesResult}
-use Rattle.cstar_tree.specs.Scopes.{Here}
 use Rattle.type_expressions.proofs.CallsWithin.{begins_both, begins_same}
 use Rattle.type_expressions.specs.Instances.{Grows, kept_header}
 use Rattle.type_expressions.specs.declared.found.Instances.{Instances}
