@@ -1,5 +1,12 @@
 //! The declarations of the file: its shapes and its variables.
 
+ghost use Rattle.cstar_tree.specs.FileScopes.{file_known};
+ghost use Rattle.file_names.specs.Numbers.{HasFewNames};
+ghost use Rattle.shape_types.specs.FileKnowledge.{IsDeclaredFile, IsNumberedFile};
+ghost use Rattle.shape_types.specs.Plain.{IsPlainTree};
+ghost use Rattle.std.specs.Prelude.{◌≡◌, [], IfOk, OnOk, true};
+ghost use Rattle.type_expressions.specs.Instances.{met};
+
 use cstar_base::{Fault, Memory, Place};
 use cstar_tree::syntax::{Declaration, Declarator, Expr, Item, Name, ShapeDefinition, TypeName};
 use cstar_tree::typed::{ShapeInfo, ValueType, VarInfo};
@@ -25,14 +32,23 @@ pub const SHAPES: usize = 64;
 pub struct Declared {
     pub vars: Vec<VarInfo>,
     pub extra_shape: Option<Place>,
+    pub is_whole: bool,
 }
 
 /// Types the declarations of the file in text order.
-pub fn file_scope(found: &mut Found, file: &mut File<'_>) -> Result<Declared, Memory> {
+pub fn file_scope(found: &mut Found, file: &mut File<'_>) -> Result<Declared, Memory>
+    ensures typed { HasFewNames (file_known file.old.tree.now) → IsNumberedFile file.old → IsPlainTree file.old.tree.now → IfOk result (λ d. d.is_whole ≡ true → IsDeclaredFile file.old.tree.now file.new d.vars.items) }
+    ensures functions { file.new.functions ≡ file.old.functions }
+    ensures names { file.new.names ≡ file.old.names }
+    ensures tree { file.new.tree ≡ file.old.tree }
+    ensures met { OnOk result (met found.new.instances ≡ []) }
+    ensures headers { OnOk result (found.new.instances.headers.entries ≡ []) }
+{
     let tree = file.tree;
     let mut declared = Declared {
         vars: Vec::new(file.alloc),
         extra_shape: None,
+        is_whole: true,
     };
     let mut known = 0usize;
     for item in &tree.items {

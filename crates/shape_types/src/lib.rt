@@ -1,9 +1,19 @@
 //! Typing: what every name means, the type of every expression, and the first fault of a file.
 #![tactic(auto)]
 
-ghost use Rattle.std.specs.Prelude.{◌≡◌, [], ◌<◌, ◌≤◌, IfErr, IfOk, IsNone, length};
+ghost use Rattle.cstar_tree.specs.FileScopes.{file_known, functions_named, nothing_known};
+ghost use Rattle.cstar_tree.specs.Instances.{program_of};
 ghost use Rattle.cstar_tree.specs.IsTyped.{IsTyped};
+ghost use Rattle.cstar_tree.specs.ProgramTypes.{TypesFile, TypesInstances, TypesItems};
+ghost use Rattle.cstar_tree.specs.Room.{HasRoom};
+ghost use Rattle.cstar_tree.specs.declared.syntax.Tree as Text;
+ghost use Rattle.file_names.specs.Numbers.{HasFewNames};
+ghost use Rattle.shape_types.specs.FileKnowledge.{IsNumberedFile};
+ghost use Rattle.shape_types.specs.Groups.{in_groups};
+ghost use Rattle.shape_types.specs.Plain.{IsPlainTree};
 ghost use Rattle.shape_types.specs.TypeFaults.{IsListedFault};
+ghost use Rattle.shape_types.specs.TypedFiles.{AreTyped, IsTypedFile};
+ghost use Rattle.std.specs.Prelude.{◌≡◌, [], ◌<◌, ◌≤◌, IfErr, IfOk, IsNone, OnOk, length, slice_get, unwrap_or};
 
 mod declarations;
 mod instances;
@@ -19,7 +29,7 @@ use shape_room::{has_room, needs};
 use std::alloc::Global;
 use type_expressions::Found;
 use type_scopes::faults::Faults;
-use type_scopes::file::File;
+use type_scopes::file::{File, FunctionInfo};
 use type_scopes::standing::Standing;
 
 /// Why a file has no types: the least of its faults by place and then number, or want of memory.
@@ -49,6 +59,8 @@ fn answered(fault: Standing) -> TypeFault
 pub fn check(alloc: Global, tree: &Tree) -> Result<Typed, TypeFault>
     ensures fault { IfErr result IsListedFault }
     ensures typed { IfOk result IsTyped }
+    ensures exact { HasFewNames (file_known tree.now) → IsPlainTree tree.now → IfOk result (TypesFile tree.now) }
+    ensures room { IfOk result (λ typed. HasRoom typed.shapes.items typed.need.items) }
 {
     let typed = types(alloc, tree)?;
     if has_room(typed.shapes.as_slice(), typed.need.as_slice()) {
@@ -66,6 +78,7 @@ pub fn check(alloc: Global, tree: &Tree) -> Result<Typed, TypeFault>
 pub fn types(alloc: Global, tree: &Tree) -> Result<Typed, TypeFault>
     ensures fault { IfErr result IsListedFault }
     ensures typed { IfOk result IsTyped }
+    ensures exact { HasFewNames (file_known tree.now) → IsPlainTree tree.now → IfOk result (IsTypedFile tree.now) }
 {
     let mut found = Found::new(alloc);
     let mut file = File::new(alloc, tree);
@@ -82,6 +95,11 @@ pub fn types(alloc: Global, tree: &Tree) -> Result<Typed, TypeFault>
     if let Some(fault) = faults.least {
         return Err(answered(fault));
     }
+    // Where something was not typed and no fault stands, typing gives up: no file is known where
+    // that happens, but it is not proved that there is none.
+    if !declared.is_whole || !program.is_whole {
+        return Err(TypeFault::Memory);
+    }
     with_needs(alloc, shapes, declared, program)
 }
 
@@ -96,15 +114,15 @@ fn with_needs(
     requires main { 0 < length program.instances.items }
     ensures fault { IfErr result IsListedFault }
     ensures typed { IfOk result IsTyped }
+    ensures exact { (tree : Text.Tree) → TypesItems (functions_named tree) nothing_known tree.items.items shapes.items declared.vars.items → TypesInstances (program_of tree) (file_known tree).shapes (program_of tree).instances program.instances.items → IfOk result (IsTypedFile tree) }
 {
     let Declared { vars, .. } = declared;
-    let Program { instances, called } = program;
+    let Program { instances, .. } = program;
     let need = match needs(
         alloc,
         shapes.as_slice(),
         vars.as_slice(),
         instances.as_slice(),
-        called.as_slice(),
     ) {
         Ok(need) => need,
         Err(_memory) => return Err(TypeFault::Memory),
@@ -119,19 +137,58 @@ fn with_needs(
 
 /// Types the declarations of the file and the instances that `main` reaches.
 fn type_file(found: &mut Found, file: &mut File<'_>) -> Result<(Declared, Program), Memory>
-    requires { file.old.functions.items ≡ [] }
+    requires functions { file.old.functions.items ≡ [] }
+    requires shapes { file.old.shapes.items ≡ [] }
+    requires types { file.old.types.items ≡ [] }
+    ensures typed { HasFewNames (file_known file.old.tree.now) → IsPlainTree file.old.tree.now → IfOk result (AreTyped file.old.tree.now file.new.shapes.items) }
 {
-    collect(&mut found.faults, file)?;
-    let groups = function_groups(file)?;
-    for (info, group) in file.functions.iter_mut().zip(&groups) {
-        info.group = *group;
-    }
+    number_names(&mut found.faults, file)?;
     let declared = file_scope(found, file)?;
     let program = match main_function(&mut found.faults, file) {
         Some(main) => reached_instances(found, file, main)?,
         None => Program::none(file.alloc),
     };
     Ok((declared, program))
+}
+
+/// Numbers the names of the file, and finds the groups of its functions.
+fn number_names(faults: &mut Faults, file: &mut File<'_>) -> Result<(), Memory>
+    requires functions { file.old.functions.items ≡ [] }
+    requires shapes { file.old.shapes.items ≡ [] }
+    requires types { file.old.types.items ≡ [] }
+    ensures numbered { HasFewNames (file_known file.old.tree.now) → OnOk result (IsNumberedFile file.new) }
+    ensures tree { file.new.tree ≡ file.old.tree }
+{
+    collect(faults, file)?;
+    let groups = function_groups(file)?;
+    file.functions = in_groups(file.alloc, file.functions.as_slice(), groups.as_slice())?;
+    Ok(())
+}
+
+/// The functions in these groups.
+fn in_groups(
+    alloc: Global,
+    functions: &[FunctionInfo],
+    groups: &[usize],
+) -> Result<Vec<FunctionInfo>, Memory>
+    ensures { IfOk result (λ all. all.items ≡ in_groups functions.now groups.now) }
+{
+    let mut all = Vec::new(alloc);
+    for (number, info) in functions.iter().enumerate() {
+        let group = group_at(groups, number, info.group);
+        all.push(FunctionInfo { group, ..*info })?;
+    }
+    Ok(all)
+}
+
+/// The group of the number, or the own one where there is none.
+fn group_at(groups: &[usize], number: usize, own: usize) -> usize
+    ensures { result ≡ unwrap_or (slice_get groups.now number) own }
+{
+    match groups.get(number) {
+        Some(group) => *group,
+        None => own,
+    }
 }
 
 /// Records the faults of the file as a whole. A `main` that is there and is not typed has a fault

@@ -1,5 +1,5 @@
 mod Alike
 mod Callees
 mod ExpressionCallees
-mod NoCycle
+pub mod NoCycle
 mod StatementCallees

@@ -1,0 +1,18 @@
+use Rattle.std.proofs.Common.{◌≡◌, Bool, false, not, refl, subst, sym, true, true≢false}
+use Rattle.cstar_tree.specs.declared.syntax.Tree.{Tree}
+use Rattle.cstar_tree.specs.FileScopes.{file_known}
+use Rattle.file_names.specs.Numbers.{HasFewNames}
+use Rattle.shape_types.specs.Plain.{IsPlainTree}
+use Rattle.shape_types.specs.TypedFiles.{AreTyped}
+use Rattle.shape_types.proofs.types.Goals as goal
+
+not_false : (b : Bool) → not b ≡ false → b ≡ true
+not_false true is = refl
+not_false false is = absurd (true≢false is)
+
+pub returns-clause-exact : goal.returns-clause-exact
+returns-clause-exact c few plain =
+    let same = c.new-file.ensures.tree in
+    let typed = subst (λ (t : Tree). AreTyped t c.type_file.new.file.shapes.items c.in-Ok.typing) same (c.in-Ok.ensures.typed (subst (λ (t : Tree). HasFewNames (file_known t)) (sym same) few) (subst IsPlainTree (sym same) plain)) in
+    let all = typed (not_false c.in-Ok.typing.0.is_whole c.if-not-declared.false) in
+    c.with_needs.ensures.exact c.args.tree.now all.0 (all.1 c.if-not-program.false)
