@@ -56,7 +56,7 @@ same_lists (x ∷ xs) [] same each = absurd (omega arith)
 same_lists (x ∷ xs) (y ∷ ys) same each =
     ap (λ z. z ∷ xs) (each 0 x y refl refl) ∙ ap (λ zs. y ∷ zs) (same_lists xs ys (omega arith) (λ k a b. each (suc k) a b))
 
-as_many : (shapes : List (List ℕ)) (functions : List Placed) (n : ℕ) (rest : List Placed) → length (called_from shapes functions n rest) ≡ length rest
+pub as_many : (shapes : List (List ℕ)) (functions : List Placed) (n : ℕ) (rest : List Placed) → length (called_from shapes functions n rest) ≡ length rest
 unfolding called_from
 as_many shapes functions n [] = refl
 as_many shapes functions n (p ∷ rest) = ap suc (as_many shapes functions (n + 1) rest)

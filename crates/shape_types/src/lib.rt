@@ -7,6 +7,7 @@ ghost use Rattle.shape_types.specs.TypeFaults.{IsListedFault};
 
 mod declarations;
 mod instances;
+mod variables;
 
 use crate::declarations::{Declared, SHAPES, file_scope};
 use crate::instances::{NODES, Program, reached_instances};

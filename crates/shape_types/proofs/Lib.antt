@@ -1,0 +1,7 @@
+pub mod FileConstants
+pub mod FileItems
+pub mod FileSteps
+pub mod FunctionNames
+pub mod KnownNames
+pub mod KnownPlace
+pub mod NamesFound
