@@ -80,7 +80,7 @@ around_there start k file n locals site knows none is = subst (λ (s : Site). Is
 -- ---- the program
 
 -- the functions with what is known in them by now
-placed_now : File → List FunctionInfo → List Placed → List Placed
+pub placed_now : File → List FunctionInfo → List Placed → List Placed
 placed_now file [] ps = []
 placed_now file (i ∷ is) [] = []
 placed_now file (i ∷ is) (p ∷ ps) = record { function = p.function; known = file_bindings file i.known } ∷ placed_now file is ps
@@ -96,6 +96,7 @@ program_now start file so_far = record {
 }
 
 as_many_now : (tree : Tree) (file : File) (infos : List FunctionInfo) (ps : List Placed) → AllZip (StandsAt tree) infos ps → length (placed_now file infos ps) ≡ length infos
+unfolding placed_now
 as_many_now tree file [] [] all = refl
 as_many_now tree file [] (p ∷ ps) all = absurd all
 as_many_now tree file (i ∷ is) [] all = absurd all
@@ -114,6 +115,7 @@ record IsPlacedNow (tree : Tree) (file : File) (functions : List Placed) (f : �
   known : placed.known ≡ file_bindings file info.known
 
 placed_there : (tree : Tree) (file : File) (infos : List FunctionInfo) (ps : List Placed) (f : ℕ) (info : FunctionInfo) → AllZip (StandsAt tree) infos ps → slice_get infos f ≡ Some info → IsPlacedNow tree file (placed_now file infos ps) f info
+unfolding placed_now
 placed_there tree file [] ps f info all is = absurd (cc)
 placed_there tree file (i ∷ is) [] f info all at_f = absurd all
 placed_there tree file (i ∷ is) (p ∷ ps) zero info all at_f =
@@ -168,7 +170,7 @@ apart_kept (b ∷ later) known word m apart is = by (bytes_eq b.word word) refl 
     by false e there = rw e there
 
 module _ (start : File) (k : Known) (file : File) (n : ℕ) (knows : Knows start k file n) (so_far : Instances) where
-  tree : Tree
+  abbrev tree : Tree
   tree = start.tree.now
 
   in_all : (word : List ℕ) (f : ℕ) → find (k.names ++ functions_named tree) word ≡ Some (a_function f) → find (file_known tree).names word ≡ Some (a_function f)
