@@ -1,5 +1,6 @@
 pub mod FileConstants
 pub mod FileItems
+pub mod FileLoops
 pub mod FileSteps
 pub mod FunctionNames
 pub mod KnownNames
