@@ -1,7 +1,8 @@
 -- The constant expressions of a file: extents, lengths and what variables hold at the start.
-use Rattle.std.proofs.Common.{◌≡◌, ℕ, ℤ, pos, negsuc, zero, suc, ◌<◌, ◌≤◌, ◌^◌, ◌-◌, ◌==◌, ◌&&◌, Bool, true, false, List, [], ◌∷◌, ◌++◌, length, Option, Some, None, Box, IfSome, MatchResult, Result, Ok, Err, is_some, nat_le, refl, sym, ap, subst, ◌∙◌, arith, if◌then◌else◌}
+use Rattle.std.proofs.Common.{◌≡◌, ℕ, ℤ, pos, negsuc, zero, suc, ◌<◌, ◌≤◌, ◌^◌, ◌-◌, ◌==◌, ◌&&◌, Bool, true, false, List, [], ◌∷◌, ◌++◌, length, Option, Some, None, Box, IfOk, IfSome, w64, MatchResult, Result, Ok, Err, is_some, nat_le, refl, sym, ap, subst, ◌∙◌, arith, if◌then◌else◌}
 use Rattle.std.proofs.lemmas.Bool.{eqb-true}
-use Rattle.std.specs.List.{All}
+use Rattle.std.proofs.lemmas.Option.{same_Some}
+use Rattle.std.specs.Prelude.{FitsSigned}
 use Rattle.std.specs.Option.{option_map, unwrap_or}
 use Rattle.std.specs.declared.alloc.Global.{Global}
 use Rattle.constant_trees.proofs.Bringing.{converted_none}
@@ -46,7 +47,7 @@ use Rattle.type_scopes.specs.declared.file.File.{File}
 use Rattle.type_scopes.specs.declared.locals.Locals.{Locals}
 use Rattle.type_scopes.specs.declared.names.VariableType as Names
 use Rattle.type_scopes.specs.declared.sites.Site.{Site}
-use Rattle.type_statements.proofs.Declared.{declarable, length_settled, type_there}
+use Rattle.type_statements.proofs.Declared.{declarable, fits_settled, length_settled, type_there}
 use Rattle.type_statements.specs.Declarators.{FitsArray, IsConstantNumber, IsInitial, IsLength, counted, type_with}
 use Rattle.type_statements.specs.Ready.{IsReady}
 use Rattle.type_statements.specs.declared.declarations.Initial.{Initial}
@@ -113,6 +114,11 @@ start_of program here i x t elem word few plain typed conversion is = by (consta
         absurd (let k : true ≡ false = sym (is_value t word is).0 ∙ none in cc)
     by (Some k) e = Y.at_constant e (brought conversion (subst (λ (k : Option Constant). IsAsWritten k x) e as_written) (is_value t word is).1)
 
+-- an extent that is found is a number of its type
+pub extent_fits : (number : Result ℤ Untyped) (r : Option ℤ) → IfOk number (FitsSigned w64) → r ≡ part_of number → is_some r ≡ true → FitsSigned w64 (unwrap_or r (pos 1))
+extent_fits number None fits settled has = absurd (cc)
+extent_fits number (Some z) fits settled has = fits_settled number (Some z) z fits settled refl
+
 -- ---- what is typed at file scope
 
 module _ (start : File) (k : Known) (file : File) (n : ℕ) (locals : Locals) (site : Site) (knows : Knows start k file n) (none : bindings locals ≡ []) (at_file : site ≡ file_site n) (old new : Instances) (empty : old.headers.entries ≡ []) (grows : Grows file old new) where
@@ -137,25 +143,28 @@ module _ (start : File) (k : Known) (file : File) (n : ℕ) (locals : Locals) (s
   some_ready (Some e) plain = ready e plain
 
   value_parts : (length : Length) (of : ValueType) (ty : Names.VariableType) → type_meant (Some ty) ≡ type_with length (Some of) → record { elem = ty.elem; shape = ty.shape } ≡ of
-  value_parts L.Absent of ty is = cc
+  value_parts L.Absent of ty is = ap (λ (v : S.VariableType). v.value) (same_Some (variable_type ty) (record { value = of; array = None }) is)
   value_parts L.Faulty of ty is = absurd (cc)
   value_parts (L.Of z) of ty is = by (counted z) is
     where
       by : (c : Option ℤ) → type_meant (Some ty) ≡ with_length of c → record { elem = ty.elem; shape = ty.shape } ≡ of
       by None is = absurd (cc)
-      by (Some (pos m)) is = cc
+      by (Some (pos m)) is = ap (λ (v : S.VariableType). v.value) (same_Some (variable_type ty) (record { value = of; array = Some m }) is)
       by (Some (negsuc m)) is = absurd (cc)
 
-  pub type_settled : (of : ValueType) (d : Declarator) (length : Length) (fits : Result (Unit {0}) Untyped) (r : Option (Unit {0})) (found : Option Names.VariableType) → IfSome d.length IsPlain → IsLength new file locals site d.length length → ((u : Unit {0}) → r ≡ Some u → FitsArray (Some of) length d.initial) → is_some r ≡ true → type_meant found ≡ type_with length (Some of) → is_some found ≡ true → HasItsType here of d found
-  type_settled of d length fits None found plain is fitting has typed whole = absurd (cc)
-  type_settled of d length fits (Some u) None plain is fitting has typed whole = absurd (cc)
-  type_settled of d length fits (Some u) (Some ty) plain is fitting has typed whole = record {
-    of = ty;
-    is_found = refl;
-    declared = sym (typed ∙ type_there new here of d.length length file locals site (program_now start file new) d.initial around (some_ready d.length plain) is (fitting u refl) (sym typed));
-    value = value_parts length of ty typed;
-    declarable = λ variable same. subst (λ (v : S.VariableType). IsDeclarable v d.initial) (let e : variable_type ty ≡ variable = cc in e) (declarable of length ty d.initial (fitting u refl) typed);
-  }
+  pub type_settled : {A : Type 0} (of : ValueType) (d : Declarator) (length : Length) (ty : Option ValueType) (r : Option A) (found : Option Names.VariableType) → ty ≡ Some of → IfSome d.length IsPlain → IsLength new file locals site d.length length → ((u : A) → r ≡ Some u → FitsArray ty length d.initial) → is_some r ≡ true → type_meant found ≡ type_with length ty → is_some found ≡ true → HasItsType here of d found
+  type_settled of d length ty None found ty_is plain is fitting has typed whole = absurd (cc)
+  type_settled of d length ty (Some u) None ty_is plain is fitting has typed whole = absurd (cc)
+  type_settled of d length ty (Some u) (Some t) ty_is plain is fitting has typed whole =
+      let fits = subst (λ (o : Option ValueType). FitsArray o length d.initial) ty_is (fitting u refl) in
+      let with_length = typed ∙ ap (type_with length) ty_is in
+      record {
+        of = t;
+        is_found = refl;
+        declared = sym (with_length ∙ type_there new here of d.length length file locals site (program_now start file new) d.initial around (some_ready d.length plain) is fits (sym with_length));
+        value = value_parts length of t with_length;
+        declarable = λ variable same. subst (λ (v : S.VariableType). IsDeclarable v d.initial) (let e : variable_type t ≡ variable = cc in e) (declarable of length t d.initial fits with_length);
+      }
 
   pub initial_settled : (written : Option Initializer) (initial : Option Initial) → IfSome written (λ (i : Initializer). IsPlain i.value) → IsInitial new file locals site written initial → StartsAs here written initial
   initial_settled None initial plain is elem word start_is = subst (Starts here elem None) (sym start_is) Y.at_zero

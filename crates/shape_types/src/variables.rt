@@ -125,7 +125,8 @@ fn variable_type(
         .faults
         .settle(array_fits(ty, length, declarator))?;
     let ty = length.variable(ty);
-    declared.require(fits.is_some() && ty.is_some());
+    declared.require(fits.is_some());
+    declared.require(ty.is_some());
     Ok(ty)
 }
 

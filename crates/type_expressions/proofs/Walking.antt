@@ -299,7 +299,7 @@ assigned_typed so_far file locals site p op target value (Some x) None old new (
 
 -- ---- intrinsics along an axis
 
-plain_words : (e : Expr) → IsPlain e → HasWords e
+pub plain_words : (e : Expr) → IsPlain e → HasWords e
 unfolding IsPlain HasWords
 plain_words (E.Number p value u) h = h
 plain_words (E.Brackets' p _ inner) h = plain_words inner h
