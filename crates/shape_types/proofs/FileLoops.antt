@@ -1,7 +1,8 @@
 -- The functions that walk over the declarations of a file: from what each part answers to what is
 -- answered behind it.
-use Rattle.std.proofs.Common.{◌≡◌, ℕ, ℤ, pos, ◌+◌, ◌-◌, ◌<◌, ◌≤◌, ◌^◌, Bool, true, false, ◌&&◌, List, [], ◌∷◌, ◌++◌, get_or, length, map, take, Option, Some, None, Vec, IfSome, Result, is_some, refl, sym, ap, subst, ◌∙◌, arith}
+use Rattle.std.proofs.Common.{◌≡◌, ℕ, ℤ, pos, ◌+◌, ◌-◌, ◌<◌, ◌≤◌, ◌^◌, Bool, true, false, ◌&&◌, List, [], ◌∷◌, ◌++◌, get_or, length, map, take, Option, Some, None, Vec, IfOk, IfSome, Result, Ok, Err, is_some, refl, sym, ap, subst, ◌∙◌, arith}
 use Rattle.std.proofs.lemmas.List.Elements.{All-get_or}
+use Rattle.std.proofs.lemmas.Option.{same_Some}
 use Rattle.std.specs.Int.{from_bool}
 use Rattle.std.specs.List.{All}
 use Rattle.std.specs.Option.{unwrap_or}
@@ -81,6 +82,24 @@ next_shapes old before file declared middle after definitions i s info shapes ne
 
 -- ---- variables
 
+-- what is settled of a start
+pub start_settled : (P : ℕ → Type 0) (r : Result ℕ Untyped) (o : Option ℕ) → IfOk r P → o ≡ part_of r → is_some o ≡ true → P (unwrap_or o 0)
+start_settled P (Ok n) None holds settled has = absurd (cc)
+start_settled P (Ok n) (Some m) holds settled has = subst P (same_Some n m (sym settled)) holds
+start_settled P (Err u) None holds settled has = absurd (cc)
+start_settled P (Err u) (Some m) holds settled has = absurd (cc)
+
+-- a variable, and what is known behind it
+pub variable_whole : (start : File) (k : Known) (of : ValueType) (file : File) (count more : ℕ) (d : Declarator) (found : Option Names.VariableType) (ty : Names.VariableType) (types : Vec (Option Names.VariableType) Global) (initial : Option Initial) (word : ℕ) (before : List VarInfo) (info : VarInfo) (vars : List VarInfo)
+    → Knows start k file count → find k.names d.name.word ≡ None → HasItsType (place_in start k) of d found → IsOfSome k.shapes of → AreFirst (behind_variable (functions_named start.tree.now) (Some of) k d).names (file_known start.tree.now).names
+    → types.items ≡ file.types.items ++ found ∷ [] → more ≡ min (count + from_bool true) (2 ^ 64 - 1) → found ≡ Some ty
+    → (Knows start (behind_variable (functions_named start.tree.now) (Some of) k d) (record file { types = types }) more → StartsAs (place_in start (behind_variable (functions_named start.tree.now) (Some of) k d)) d.initial initial)
+    → IsStartOf ty.elem initial d.initial word → info ≡ variable_info d.name.word (variable_type ty) word → vars ≡ before ++ info ∷ []
+    → AreVariables start k of (d ∷ []) before vars × Knows start (behind_variable (functions_named start.tree.now) (Some of) k d) (record file { types = types }) more
+variable_whole start k of file count more d found ty types initial word before info vars knows new is of_shape first pushed counted found_is starts start_is info_is vars_is =
+    let after = variable_known start k file count more of d found types knows new is of_shape first pushed counted in
+    (one_variable start k of d found ty.elem word ty before info vars is found_is (starts after ty.elem word start_is) info_is vars_is, after)
+
 -- the first variables of a declaration of this type are typed, and so much is known behind them
 pub record VariablesSo (start : File) (k : Known) (of : ValueType) (ds : List Declarator) (i : ℕ) (before : List VarInfo) (file : File) (declared : Declared) : Type 0 where
   pub typed : AreVariables start k of (take i ds) before declared.vars.items
@@ -96,7 +115,7 @@ no_variables start k of ds file declared vars same knows = record {
 pub next_variables : (start : File) (k : Known) (of : ValueType) (ds : List Declarator) (i : ℕ) (d : Declarator) (before : List VarInfo) (file after_file : File) (declared after : Declared) → VariablesSo start k of ds i before file declared → i < length ds → d ≡ get_or ds i d
     → All IsPlainDeclarator ds → AreFirst (behind_variables (functions_named start.tree.now) (Some of) k ds).names (file_known start.tree.now).names → IsOfSome k.shapes of
     → ((there : Known) → Knows start there file declared.known → IsPlainDeclarator d → AreFirst (behind_variable (functions_named start.tree.now) (Some of) there d).names (file_known start.tree.now).names → IsOfSome there.shapes of
-        → AreVariables start there of (d ∷ []) declared.vars.items after.vars.items × Knows start (behind_variable (functions_named start.tree.now) (Some of) there d) after_file after.known)
+    → AreVariables start there of (d ∷ []) declared.vars.items after.vars.items × Knows start (behind_variable (functions_named start.tree.now) (Some of) there d) after_file after.known)
     → VariablesSo start k of ds (i + 1) before after_file after
 next_variables start k of ds i d before file after_file declared after so within d_is plain first of_shape step =
     let functions = functions_named start.tree.now in

@@ -231,8 +231,7 @@ module _ (start : File) (k : Known) (file : File) (n : ℕ) (knows : Knows start
   groups_now f g less_f less_g =
       let size = as_many [] (functions_now start file) 0 (functions_now start file) in
       let many = as_many_now tree file start.functions.items (file_functions tree) knows.numbered.functions in
-      let are = knows.numbered.groups (functions_now start file) [] are_functions f g (omega (arith, less_f, size, many)) (omega (arith, less_g, size, many)) in
-      (
+      let are = knows.numbered.groups (functions_now start file) [] are_functions f g (omega (arith, less_f, size, many)) (omega (arith, less_g, size, many)) in (
         λ same. are.0 (same_Some (slice_index (groups_in start.functions.items) f) (slice_index (groups_in start.functions.items) g) (sym (group_is f less_f) ∙ (same ∙ group_is g less_g))),
         λ lead. group_is f less_f ∙ (ap (λ (m : ℕ). Some m) (are.1 lead) ∙ sym (group_is g less_g)),
       )

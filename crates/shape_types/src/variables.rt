@@ -121,9 +121,7 @@ fn variable_type(
     let none = Locals::new(file.alloc);
     let site = Site::file(declared.known);
     let length = array_length(found, file, &none, site, &declarator.length)?;
-    let fits = found
-        .faults
-        .settle(array_fits(ty, length, declarator))?;
+    let fits = found.faults.settle(array_fits(ty, length, declarator))?;
     let ty = length.variable(ty);
     declared.require(fits.is_some());
     declared.require(ty.is_some());
@@ -166,7 +164,10 @@ fn start(
     let Some(written) = &declarator.initial else {
         return Ok(0);
     };
-    let Some(Initial { value: Some(value), .. }) = initial else {
+    let Some(initial) = initial else {
+        return Err(Untyped::Faulty);
+    };
+    let Some(value) = initial.value else {
         return Err(Untyped::Faulty);
     };
     let value = converted(alloc, value, elem)?;
