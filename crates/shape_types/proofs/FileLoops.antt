@@ -1,8 +1,9 @@
 -- The functions that walk over the declarations of a file: from what each part answers to what is
 -- answered behind it.
-use Rattle.std.proofs.Common.{◌≡◌, ℕ, ℤ, pos, ◌+◌, ◌-◌, ◌<◌, ◌≤◌, ◌^◌, Bool, true, false, ◌&&◌, List, [], ◌∷◌, ◌++◌, get_or, length, map, take, Option, Some, None, Vec, IfOk, IfSome, Result, Ok, Err, is_some, refl, sym, ap, subst, ◌∙◌, arith}
+use Rattle.std.proofs.Common.{◌≡◌, ℕ, zero, suc, ℤ, pos, ◌+◌, ◌-◌, ◌<◌, ◌≤◌, ◌^◌, Bool, true, false, ◌&&◌, List, [], ◌∷◌, ◌++◌, get_or, length, map, take, Option, Some, None, Vec, IfOk, IfSome, Result, Ok, Err, is_some, refl, sym, ap, subst, ◌∙◌, arith}
+use Rattle.std.proofs.lemmas.List.{take_more}
 use Rattle.std.proofs.lemmas.List.Elements.{All-get_or}
-use Rattle.std.proofs.lemmas.Option.{same_Some}
+use Rattle.std.proofs.lemmas.Option.{same_Some, slice_get_within}
 use Rattle.std.specs.Int.{from_bool}
 use Rattle.std.specs.List.{All}
 use Rattle.std.specs.Option.{unwrap_or}
@@ -16,32 +17,41 @@ use Rattle.cstar_tree.specs.declared.syntax.Expr.{Expr}
 use Rattle.cstar_tree.specs.declared.syntax.Initializer.{Initializer}
 use Rattle.cstar_tree.specs.declared.syntax.Item.TheVariants as I
 use Rattle.cstar_tree.specs.declared.syntax.ShapeDefinition.{ShapeDefinition}
+use Rattle.cstar_tree.specs.declared.syntax.TypeName.{TypeName}
 use Rattle.cstar_tree.specs.declared.typed.ShapeInfo.{ShapeInfo}
 use Rattle.cstar_tree.specs.declared.typed.ValueType.{ValueType}
 use Rattle.cstar_tree.specs.declared.typed.VarInfo.{VarInfo}
 use Rattle.cstar_tree.specs.Constants.{constant_number}
 use Rattle.cstar_tree.specs.FileScopes.{Known, behind_item, behind_shapes, behind_variable, behind_variables, file_known, functions_named}
-use Rattle.cstar_tree.specs.Scopes.{Binding, Meaning, find, written_type}
+use Rattle.cstar_tree.specs.Scopes.{Binding, Here, Meaning, extents_of, find, written_type}
 use Rattle.cstar_tree.specs.StatementTypes.{variable_info}
 use Rattle.file_names.specs.Numbers.{name_of}
 use Rattle.type_expressions.specs.Walks.{IsPlain}
 use Rattle.type_scopes.specs.Answers.{part_of}
-use Rattle.type_scopes.specs.Bindings.{variable_type}
-use Rattle.type_scopes.specs.FileBindings.{file_names, numbered}
+use Rattle.type_scopes.specs.Bindings.{bindings, variable_type}
+use Rattle.type_scopes.specs.FileBindings.{file_names, names_at, numbered}
+use Rattle.type_scopes.specs.Named.{IsTypeAmong}
 use Rattle.type_scopes.specs.declared.faults.Untyped.{Untyped}
 use Rattle.type_scopes.specs.declared.file.File.{File}
+use Rattle.type_scopes.specs.declared.locals.Locals.{Locals}
 use Rattle.type_scopes.specs.declared.names.FileName.{FileName}
 use Rattle.type_scopes.specs.declared.names.VariableType as Names
+use Rattle.type_scopes.specs.declared.sites.Site.{Site}
+use Rattle.type_statements.proofs.Declared.{type_written}
 use Rattle.type_statements.specs.declared.declarations.Initial.{Initial}
 use Rattle.shape_types.specs.FileWalk.{AreDefined, AreFirst, AreVariables, HasItsType, IsDefined, IsOfSome, IsStartOf, IsTypedDeclaration, Knows, StartsAs, place_in}
 use Rattle.shape_types.specs.Plain.{IsPlainDeclarator}
 use Rattle.shape_types.specs.declared.declarations.Declared.{Declared}
-use Rattle.shape_types.proofs.FileSteps.{all_defined, next_behind, none_declared, none_defined, one_variable, shape_more, variable_known, variable_more, variables_first, variables_shapes}
+use Rattle.shape_types.proofs.FileSteps.{AreExtents, all_defined, extent_more, next_behind, none_declared, none_defined, one_variable, shape_more, variable_known, variable_more, variables_first, variables_shapes}
+use Rattle.shape_types.proofs.KnownPlace.{around_there, file_site}
 use Rattle.shape_types.proofs.NamesFound.{known_number}
 
 pub both_parts : (a b : Bool) → (a && b) ≡ true → (a ≡ true) × (b ≡ true)
 both_parts true b is = (refl, is)
 both_parts false b is = absurd (let other : false ≡ true = is in cc)
+
+pub not_both : (b : Bool) → b ≡ true → b ≡ false → ⊥
+not_both b holds fails = let other : true ≡ false = sym holds ∙ fails in cc
 
 -- a name whose number is that of the next one is not known yet
 pub new_name : (start : File) (k : Known) (file : File) (n : ℕ) (word : List ℕ) (number : ℕ) (name : FileName) → Knows start k file n → numbered 0 (file_names file.names) word ≡ Some (number, name) → number ≡ n → find k.names word ≡ None
@@ -79,6 +89,14 @@ next_shapes old before file declared middle after definitions i s info shapes ne
     let own = subst (λ (d : ShapeDefinition). All IsPlain d.extents.items) (sym s_is) (All-get_or (λ (d : ShapeDefinition). All IsPlain d.extents.items) definitions i s within plain) in
     shape_more start k file declared.known after.known i definitions old.shapes.items s info shapes there within s_is (is_new start _ there.knows is) (defined start _ there.knows own (whole_after whole)) first pushed
     (counted ∙ ap (λ (n : ℕ). min (n + from_bool true) (2 ^ 64 - 1)) same)
+
+-- one extent more, of this size
+pub next_extent : (here : Here) (es : List Expr) (i : ℕ) (e : Expr) (ns new : List ℕ) (size : ℕ) → i < length es → e ≡ get_or es i e → AreExtents here (take i es) ns → (0 < size → constant_number here e ≡ Some (pos size))
+    → 0 < size → size < 2 ^ 32 → new ≡ ns ++ size ∷ [] → AreExtents here (take (i + 1) es) new
+next_extent here es i e ns new zero within is are constant some few pushed = absurd (let no : 0 < 0 = some in omega (arith, no))
+next_extent here es i e ns new (suc m) within is are constant some few pushed =
+    let one : take (i + 1) es ≡ take i es ++ e ∷ [] = take_more es i e within ∙ ap (λ (x : Expr). take i es ++ x ∷ []) (sym is) in
+    rw (one, pushed) (extent_more here (take i es) ns e m are (constant some) few)
 
 -- ---- variables
 
@@ -129,3 +147,13 @@ next_variables start k of ds i d before file after_file declared after so within
       typed = variable_more start k of i ds d before declared.vars.items after.vars.items within d_is so.typed one.0;
       knows = subst (λ (x : Known). Knows start x after_file after.known) (sym next) one.1;
     }
+
+-- a type that is written has been found, and is scalar or of one of the shapes
+pub found_type : (start : File) (k : Known) (file : File) (n : ℕ) (locals : Locals) (site : Site) (written : TypeName) (typed : Result ValueType Untyped) (ty : Option ValueType) → Knows start k file n → bindings locals ≡ [] → site ≡ file_site n
+    → IsTypeAmong (names_at file locals site.known) site.current written typed → ty ≡ part_of typed → is_some ty ≡ true
+    → (of : ValueType) × (ty ≡ Some of) × (written_type (place_in start k) written ≡ Some of) × IsOfSome k.shapes of
+unfolding extents_of
+found_type start k file n locals site written typed None knows empty site_is among settled has = absurd (cc)
+found_type start k file n locals site written typed (Some of) knows empty site_is among settled has =
+    let there = type_written file locals site (place_in start k) written typed (Some of) of (around_there start k file n locals site knows empty site_is) among settled refl in
+    (of, refl, there.0, λ shape is. slice_get_within k.shapes shape _ (there.1 shape is).1)

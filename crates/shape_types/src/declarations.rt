@@ -2,8 +2,8 @@
 
 ghost use Rattle.std.specs.List.{All};
 ghost use Rattle.std.specs.Int.{from_bool};
-ghost use Rattle.std.specs.Prelude.{◌≡◌, ◌+◌, ◌-◌, ◌^◌, ◌&&◌, [], min, true, IfOk, OnOk, Some, None};
-ghost use Rattle.cstar_tree.specs.Constants.{constant_number};
+ghost use Rattle.std.specs.Prelude.{◌≡◌, ◌<◌, ◌≤◌, ◌+◌, ◌-◌, ◌^◌, ◌&&◌, [], length, min, pos, true, IfOk, OnOk, Some, None};
+ghost use Rattle.cstar_tree.specs.Constants.{constant_number, product};
 ghost use Rattle.cstar_tree.specs.FileScopes.{Known, behind_shapes, file_known, functions_named};
 ghost use Rattle.cstar_tree.specs.Scopes.{find};
 ghost use Rattle.file_names.specs.Numbers.{HasFewNames};
@@ -29,7 +29,7 @@ use type_statements::constant_number;
 /// The most shapes that a file can have.
 pub const SHAPES: usize = 64;
 
-/// The most positions that a shape can have, and so its greatest extent.
+/// The most positions that a shape can have.
 const POSITIONS: u64 = 1 << 20;
 
 /// What the declarations of the file come to: its variables, and the place of the name of the first
@@ -76,6 +76,18 @@ impl Declared {
         ensures vars { self.new.vars ≡ self.old.vars }
     {
         self.is_whole = self.is_whole && is_whole;
+    }
+
+    /// A shape is kept behind so many others. The place of the first that is one too many is told.
+    fn keep_shape(&mut self, before: usize, place: Place)
+        ensures whole { self.new.is_whole ≡ true → self.old.is_whole ≡ true }
+        ensures known { self.new.known ≡ self.old.known }
+        ensures vars { self.new.vars ≡ self.old.vars }
+    {
+        if before == SHAPES {
+            self.extra_shape = Some(place);
+        }
+        self.is_whole = before < SHAPES && self.is_whole;
     }
 
     /// A header that is kept tells what the file knew when it was typed, so while the declarations
@@ -149,10 +161,7 @@ fn shape_definitions(
         let info = shape_definition(found, file, declared, definition)?;
         declared.declare(new);
         if new {
-            if file.shapes.len() == SHAPES {
-                declared.extra_shape = Some(definition.name.place);
-            }
-            declared.require(file.shapes.len() < SHAPES);
+            declared.keep_shape(file.shapes.len(), definition.name.place);
             file.shapes.push(info)?;
         }
     }
@@ -175,15 +184,15 @@ fn shape_definition(
     let mut extents = Vec::new(file.alloc);
     let mut fits = true;
     for extent in definition.extents.as_slice() {
-        let number = extent_of(found, file, declared, extent)?;
-        fits = fits && 1 <= number && number <= POSITIONS as i64;
-        extents.push(u32::try_from(number).unwrap_or(0))?;
+        let size = extent_of(found, file, declared, extent)?;
+        fits = size > 0 && fits;
+        extents.push(size)?;
     }
     let info = ShapeInfo {
         name: definition.name.word.copied(file.alloc)?,
         extents,
     };
-    let fits = fits && info.extents.len() <= 4 && positions(&info) <= POSITIONS;
+    let fits = fits && is_small(&info);
     if !fits {
         found.faults.stands(Fault::Extent, definition.name.place);
     }
@@ -191,14 +200,22 @@ fn shape_definition(
     Ok(info)
 }
 
-/// The number of an extent, and 1 where it has a fault.
+/// Has the shape at most 4 axes and 2^20 positions?
+fn is_small(info: &ShapeInfo) -> bool
+    ensures { result ≡ true → (length info.now.extents.items ≤ 4) × (product info.now.extents.items ≤ 2 ^ 20) }
+{
+    info.extents.len() <= 4 && positions(info) <= POSITIONS
+}
+
+/// The size of an axis: the number of its extent, 0 where that is none, and 1 where it has a fault.
 fn extent_of(
     found: &mut Found,
     file: &File<'_>,
     declared: &mut Declared,
     extent: &Expr,
-) -> Result<i64, Memory>
-    ensures typed { (start : Files.File) (k : Known) → Knows start k file.now declared.old.known → IsPlain extent.now → IfOk result (λ n. declared.new.is_whole ≡ true → constant_number (place_in start k) extent.now ≡ Some n) }
+) -> Result<u32, Memory>
+    ensures typed { (start : Files.File) (k : Known) → Knows start k file.now declared.old.known → IsPlain extent.now → IfOk result (λ size. declared.new.is_whole ≡ true → 0 < size → constant_number (place_in start k) extent.now ≡ Some (pos size)) }
+    ensures small { IfOk result (λ size. size < 2 ^ 32) }
     ensures whole { OnOk result (declared.new.is_whole ≡ true → declared.old.is_whole ≡ true) }
     ensures known { OnOk result (declared.new.known ≡ declared.old.known) }
     ensures vars { OnOk result (declared.new.vars ≡ declared.old.vars) }
@@ -209,5 +226,12 @@ fn extent_of(
     let number = constant_number(extent.place(), typed);
     let number = found.faults.settle(number)?;
     declared.require(number.is_some());
-    Ok(number.unwrap_or(1))
+    Ok(size_of(number.unwrap_or(1)))
+}
+
+/// The number as the size of an axis, and 0 where it is none.
+fn size_of(number: i64) -> u32
+    ensures { 0 < result → number ≡ pos result }
+{
+    u32::try_from(number).unwrap_or(0)
 }
