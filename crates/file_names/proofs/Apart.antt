@@ -64,7 +64,7 @@ unfolding behind_items
 items_apart functions known [] apart = apart
 items_apart functions known (i ∷ is) apart = items_apart functions (behind_item functions known i) is (item_apart functions known i apart)
 
-file_apart : (tree : Tree) → AreApart (file_known tree).names
+pub file_apart : (tree : Tree) → AreApart (file_known tree).names
 unfolding AreApart
 file_apart tree = items_apart (functions_named tree) nothing_known tree.items.items tt
 

@@ -30,10 +30,10 @@ pub record Grows (known more : Known) : Type 0 where
   pub others : List (List ℕ)
   pub shapes : more.shapes ≡ known.shapes ++ others
 
-grows_none : (known : Known) → Grows known known
+pub grows_none : (known : Known) → Grows known known
 grows_none known = record { new = []; names = refl; others = []; shapes = sym (append-nil known.shapes) }
 
-grows_both : {a b c : Known} → Grows a b → Grows b c → Grows a c
+pub grows_both : {a b c : Known} → Grows a b → Grows b c → Grows a c
 grows_both {a} g h = record {
   new = h.new ++ g.new;
   names = h.names ∙ (ap (λ names. h.new ++ names) g.names ∙ sym (append_assoc h.new g.new a.names));
@@ -41,7 +41,7 @@ grows_both {a} g h = record {
   shapes = h.shapes ∙ (ap (λ shapes. shapes ++ h.others) g.shapes ∙ append_assoc a.shapes g.others h.others);
 }
 
-shape_grows : (functions : List Binding) (known : Known) (s : ShapeDefinition) → Grows known (behind_shape functions known s)
+pub shape_grows : (functions : List Binding) (known : Known) (s : ShapeDefinition) → Grows known (behind_shape functions known s)
 unfolding behind_shape
 shape_grows functions known s = by (find known.names s.name.word) refl
   where
@@ -49,7 +49,7 @@ shape_grows functions known s = by (find known.names s.name.word) refl
     by (Some m) e = rw e (grows_none known)
     by None e = rw e (record { new = _ ∷ []; names = refl; others = _ ∷ []; shapes = refl })
 
-variable_grows : (functions : List Binding) (ty : Option ValueType) (known : Known) (v : Declarator) → Grows known (behind_variable functions ty known v)
+pub variable_grows : (functions : List Binding) (ty : Option ValueType) (known : Known) (v : Declarator) → Grows known (behind_variable functions ty known v)
 unfolding behind_variable
 variable_grows functions ty known v = by (find known.names v.name.word) refl
   where
@@ -57,7 +57,7 @@ variable_grows functions ty known v = by (find known.names v.name.word) refl
     by (Some m) e = rw e (grows_none known)
     by None e = rw e (record { new = _ ∷ []; names = refl; others = []; shapes = sym (append-nil known.shapes) })
 
-function_grows : (known : Known) (f : Function) → Grows known (behind_function known f)
+pub function_grows : (known : Known) (f : Function) → Grows known (behind_function known f)
 unfolding behind_function
 function_grows known f = by (find known.names f.name.word) refl
   where
@@ -65,17 +65,17 @@ function_grows known f = by (find known.names f.name.word) refl
     by (Some m) e = rw e (grows_none known)
     by None e = rw e (record { new = _ ∷ []; names = refl; others = []; shapes = sym (append-nil known.shapes) })
 
-shapes_grow : (functions : List Binding) (known : Known) (shapes : List ShapeDefinition) → Grows known (behind_shapes functions known shapes)
+pub shapes_grow : (functions : List Binding) (known : Known) (shapes : List ShapeDefinition) → Grows known (behind_shapes functions known shapes)
 unfolding behind_shapes
 shapes_grow functions known [] = grows_none known
 shapes_grow functions known (s ∷ ss) = grows_both (shape_grows functions known s) (shapes_grow functions (behind_shape functions known s) ss)
 
-variables_grow : (functions : List Binding) (ty : Option ValueType) (known : Known) (variables : List Declarator) → Grows known (behind_variables functions ty known variables)
+pub variables_grow : (functions : List Binding) (ty : Option ValueType) (known : Known) (variables : List Declarator) → Grows known (behind_variables functions ty known variables)
 unfolding behind_variables
 variables_grow functions ty known [] = grows_none known
 variables_grow functions ty known (v ∷ vs) = grows_both (variable_grows functions ty known v) (variables_grow functions ty (behind_variable functions ty known v) vs)
 
-item_grows : (functions : List Binding) (known : Known) (item : Item) → Grows known (behind_item functions known item)
+pub item_grows : (functions : List Binding) (known : Known) (item : Item) → Grows known (behind_item functions known item)
 unfolding behind_item
 item_grows functions known (I.Shapes p shapes) = shapes_grow functions known shapes.items
 item_grows functions known (I.Variables d) = variables_grow functions _ known d.variables.items
@@ -115,7 +115,7 @@ one_behind R [] (b ∷ bs) x y all r = absurd all
 one_behind R (a ∷ as') [] x y all r = absurd all
 one_behind R (a ∷ as') (b ∷ bs) x y all r = (all.0, one_behind R as' bs x y all.1 r)
 
-items_more : (functions : List Binding) (known : Known) (items rest : List Item) → behind_items functions known (items ++ rest) ≡ behind_items functions (behind_items functions known items) rest
+pub items_more : (functions : List Binding) (known : Known) (items rest : List Item) → behind_items functions known (items ++ rest) ≡ behind_items functions (behind_items functions known items) rest
 unfolding behind_items
 items_more functions known [] rest = refl
 items_more functions known (i ∷ is) rest = items_more functions (behind_item functions known i) is rest
@@ -256,7 +256,7 @@ function_kept start file items i n after f known group functions within is befor
 }
 
 -- all items are the first ones
-behind_all : (tree : Tree) (n : ℕ) → length tree.items.items ≤ n → behind_first (functions_named tree) tree.items.items n ≡ file_known tree
+pub behind_all : (tree : Tree) (n : ℕ) → length tree.items.items ≤ n → behind_first (functions_named tree) tree.items.items n ≡ file_known tree
 behind_all tree n all = ap (behind_items (functions_named tree) nothing_known) (take_all n tree.items.items all)
 
 pub all_stand : (start file : File) (items : List Item) (n : ℕ) (numbering : Numbering) → Collected start items n file numbering → length items ≤ n → HasFewNames (file_known start.tree.now)

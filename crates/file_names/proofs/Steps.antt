@@ -47,7 +47,7 @@ has_first b bs word = step (bytes_eq b.word word) refl (is_some (find bs word)) 
     step false e true f = rw (e, f) refl
     step false e false f = rw (e, f, turned_round b.word word false e) refl
 
-has_number : (bs : List Binding) (word : List ℕ) → is_some (numbered 0 (map name_of (reverse bs)) word) ≡ is_some (find bs word)
+pub has_number : (bs : List Binding) (word : List ℕ) → is_some (numbered 0 (map name_of (reverse bs)) word) ≡ is_some (find bs word)
 unfolding numbered find
 has_number [] word = refl
 has_number (b ∷ bs) word =

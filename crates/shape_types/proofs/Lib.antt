@@ -1,6 +1,14 @@
 pub mod BodyPlaces
+pub mod FileConstants
+pub mod FileItems
+pub mod FileLoops
+pub mod FileSteps
+pub mod FunctionNames
 pub mod Functions
 pub mod Heads
+pub mod KnownNames
+pub mod KnownPlace
+pub mod NamesFound
 pub mod Needs
 pub mod Numbered
 pub mod ReadyBodies

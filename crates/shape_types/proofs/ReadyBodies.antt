@@ -74,7 +74,7 @@ named_function tree file all info placed word f whole stands is =
 
 -- ---- groups
 
-as_many : (shapes : List (List ℕ)) (functions : List Placed) (n : ℕ) (rest : List Placed) → length (called_from shapes functions n rest) ≡ length rest
+pub as_many : (shapes : List (List ℕ)) (functions : List Placed) (n : ℕ) (rest : List Placed) → length (called_from shapes functions n rest) ≡ length rest
 unfolding called_from
 as_many shapes functions n [] = refl
 as_many shapes functions n (p ∷ rest) = ap suc (as_many shapes functions (n + 1) rest)

@@ -17,6 +17,7 @@ ghost use Rattle.std.specs.Prelude.{◌≡◌, [], ◌<◌, ◌≤◌, IfErr, If
 
 mod declarations;
 mod instances;
+mod variables;
 
 use crate::declarations::{Declared, SHAPES, file_scope};
 use crate::instances::{NODES, Program, reached_instances};
