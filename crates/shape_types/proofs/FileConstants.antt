@@ -1,10 +1,9 @@
 -- The constant expressions of a file: extents, lengths and what variables hold at the start.
-use Rattle.std.proofs.Common.{◌≡◌, ℕ, ℤ, pos, negsuc, zero, suc, ◌<◌, ◌≤◌, ◌^◌, ◌-◌, ◌==◌, ◌&&◌, Bool, true, false, List, [], ◌∷◌, ◌++◌, length, Option, Some, None, Box, IfOk, IfSome, w64, MatchResult, Result, Ok, Err, is_some, nat_le, refl, sym, ap, subst, ◌∙◌, arith, if◌then◌else◌}
+use Rattle.std.proofs.Common.{◌≡◌, ℕ, ℤ, pos, negsuc, zero, suc, ◌<◌, ◌^◌, ◌==◌, Bool, true, false, [], length, Option, Some, None, IfOk, IfSome, w64, Result, is_some, refl, sym, ap, subst, ◌∙◌, arith}
 use Rattle.std.proofs.lemmas.Bool.{eqb-true}
 use Rattle.std.proofs.lemmas.Option.{same_Some}
 use Rattle.std.specs.Prelude.{FitsSigned}
 use Rattle.std.specs.Option.{option_map, unwrap_or}
-use Rattle.std.specs.declared.alloc.Global.{Global}
 use Rattle.constant_trees.proofs.Bringing.{converted_none}
 use Rattle.constant_trees.proofs.Words.{then_mapped}
 use Rattle.constant_trees.proofs.Written.{in_part, written as typed_as_written}
@@ -12,21 +11,20 @@ use Rattle.constant_trees.specs.Laws.{IsAsWritten, IsConstant}
 use Rattle.constant_trees.specs.Words.{HasFewPositions, HasWords}
 use Rattle.cstar_tree.specs.declared.syntax.Expr as E
 use Rattle.cstar_base.proofs.NumberLaws.{residue_of_number}
-use Rattle.cstar_base.specs.Numbers.{converted, number_of, residue, truth_of}
+use Rattle.cstar_base.specs.Numbers.{converted, number_of, truth_of}
 use Rattle.cstar_base.specs.declared.elem.Elem.{Elem}
 use Rattle.cstar_base.specs.declared.operators.Place.{Place}
 use Rattle.cstar_tree.specs.declared.syntax.Declarator.{Declarator}
 use Rattle.cstar_tree.specs.declared.syntax.Expr.{Expr}
 use Rattle.cstar_tree.specs.declared.syntax.Initializer.{Initializer}
 use Rattle.cstar_tree.specs.declared.typed.TExpr.{TExpr}
-use Rattle.cstar_tree.specs.declared.typed.TExpr as T
 use Rattle.cstar_tree.specs.declared.typed.ValueType.{ValueType}
-use Rattle.cstar_tree.specs.BlockScopes.{declared_type, with_length}
+use Rattle.cstar_tree.specs.BlockScopes.{with_length}
 use Rattle.cstar_tree.specs.Constants.{Constant, cast_to, constant, constant_number}
 use Rattle.cstar_tree.specs.Conversions.{IsConverted}
 use Rattle.cstar_tree.specs.Conversions as C
 use Rattle.cstar_tree.specs.ExpressionTypes.{Types}
-use Rattle.cstar_tree.specs.FileScopes.{Known, file_place}
+use Rattle.cstar_tree.specs.FileScopes.{Known}
 use Rattle.cstar_tree.specs.Headers.{Program}
 use Rattle.cstar_tree.specs.ProgramTypes.{Starts}
 use Rattle.cstar_tree.specs.ProgramTypes as Y
@@ -35,7 +33,6 @@ use Rattle.cstar_tree.specs.Scopes as S
 use Rattle.cstar_tree.specs.StatementTypes.{IsDeclarable}
 use Rattle.cstar_tree.specs.Typed.{type_of}
 use Rattle.source_meaning.specs.Constants.{constant_of, is_constant, value_of}
-use Rattle.type_expressions.proofs.Walking.{found_of}
 use Rattle.type_expressions.specs.Instances.{Grows}
 use Rattle.type_expressions.specs.Walks.{IsAround, IsPlain, IsValue}
 use Rattle.type_expressions.specs.Walks as X
@@ -54,7 +51,7 @@ use Rattle.type_statements.specs.Ready.{IsReady}
 use Rattle.type_statements.specs.declared.declarations.Initial.{Initial}
 use Rattle.type_statements.specs.declared.declarations.Length.{Length}
 use Rattle.type_statements.specs.declared.declarations.Length.TheVariants as L
-use Rattle.shape_types.specs.FileWalk.{HasItsType, IsStartOf, Knows, StartsAs, place_in}
+use Rattle.shape_types.specs.FileWalk.{HasItsType, Knows, StartsAs, place_in}
 use Rattle.shape_types.proofs.KnownPlace.{around_there, calls_there, file_site, headers_since, program_now}
 
 plain_words : (e : Expr) → IsPlain e → HasWords e

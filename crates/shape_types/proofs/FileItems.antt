@@ -1,9 +1,8 @@
 -- The items of a file one behind the other.
-use Rattle.std.proofs.Common.{◌≡◌, ℕ, ◌+◌, ◌-◌, ◌<◌, ◌≤◌, ◌^◌, true, List, [], ◌∷◌, ◌++◌, append_assoc, drop, get_or, length, map, take, Option, Some, None, Vec, refl, sym, ap, subst, ◌∙◌, arith}
+use Rattle.std.proofs.Common.{◌≡◌, ℕ, ◌+◌, ◌-◌, ◌<◌, ◌≤◌, ◌^◌, true, List, [], ◌∷◌, ◌++◌, append_assoc, drop, get_or, length, map, take, None, Vec, refl, sym, ap, subst, ◌∙◌, arith}
 use Rattle.std.proofs.lemmas.List.{append-nil, length-drop, take-append-drop, take_all, take_more}
-use Rattle.std.proofs.lemmas.List.Elements.{All-append, All-drop, All-get_or, All-nil}
+use Rattle.std.proofs.lemmas.List.Elements.{All-drop, All-get_or, All-nil}
 use Rattle.std.specs.Int.{from_bool}
-use Rattle.std.specs.List.{All}
 use Rattle.std.specs.Prelude.{min}
 use Rattle.std.specs.declared.alloc.Global.{Global}
 use Rattle.constant_trees.specs.Words.{IsCounted}
@@ -16,16 +15,16 @@ use Rattle.cstar_tree.specs.declared.syntax.ShapeDefinition.{ShapeDefinition}
 use Rattle.cstar_tree.specs.declared.syntax.Tree.{Tree}
 use Rattle.cstar_tree.specs.declared.typed.ShapeInfo.{ShapeInfo}
 use Rattle.cstar_tree.specs.declared.typed.VarInfo.{VarInfo}
-use Rattle.cstar_tree.specs.FileScopes.{Known, behind_function, behind_item, behind_items, behind_shapes, file_known, functions_named, nothing_known}
+use Rattle.cstar_tree.specs.FileScopes.{Known, behind_item, behind_items, file_known, functions_named, nothing_known}
 use Rattle.cstar_tree.specs.ProgramTypes.{TypesItems}
 use Rattle.cstar_tree.specs.ProgramTypes as Y
-use Rattle.cstar_tree.specs.Scopes.{Binding, Meaning, find}
+use Rattle.cstar_tree.specs.Scopes.{Binding, find}
 use Rattle.file_names.specs.Numbers.{HasFewNames, first_names}
 use Rattle.file_names.proofs.Items.{Grows, behind_all, behind_first, grows_both, grows_none, item_grows, items_more, next_known}
 use Rattle.type_scopes.specs.FileBindings.{file_names}
 use Rattle.type_scopes.specs.declared.file.File.{File}
-use Rattle.shape_types.specs.FileKnowledge.{IsDeclaredFile, IsKnownFile, IsNumberedFile, IsOfShapes}
-use Rattle.shape_types.specs.FileWalk.{AreDefined, AreFirst, IsKept, IsTypedDeclaration, Knows, place_in}
+use Rattle.shape_types.specs.FileKnowledge.{IsDeclaredFile, IsNumberedFile, IsOfShapes}
+use Rattle.shape_types.specs.FileWalk.{AreDefined, AreFirst, IsKept, IsTypedDeclaration, Knows}
 use Rattle.shape_types.specs.Plain.{IsPlainItem, IsPlainTree}
 use Rattle.shape_types.proofs.FileSteps.{first_before, function_known}
 use Rattle.shape_types.proofs.KnownNames.{names_known, shape_within, told_of}

@@ -1,6 +1,6 @@
 -- The functions that walk over the declarations of a file: from what each part answers to what is
 -- answered behind it.
-use Rattle.std.proofs.Common.{◌≡◌, ℕ, zero, suc, ℤ, pos, ◌+◌, ◌-◌, ◌<◌, ◌≤◌, ◌^◌, Bool, true, false, ◌&&◌, List, [], ◌∷◌, ◌++◌, get_or, length, map, take, Option, Some, None, Vec, IfOk, IfSome, Result, Ok, Err, is_some, refl, sym, ap, subst, ◌∙◌, arith}
+use Rattle.std.proofs.Common.{◌≡◌, ℕ, zero, suc, pos, ◌+◌, ◌-◌, ◌<◌, ◌^◌, Bool, true, false, ◌&&◌, List, [], ◌∷◌, ◌++◌, get_or, length, map, take, Option, Some, None, Vec, IfOk, Result, Ok, Err, is_some, refl, sym, ap, subst, ◌∙◌, arith}
 use Rattle.std.proofs.lemmas.List.{take_more}
 use Rattle.std.proofs.lemmas.List.Elements.{All-get_or}
 use Rattle.std.proofs.lemmas.Option.{same_Some, slice_get_within}
@@ -9,20 +9,15 @@ use Rattle.std.specs.List.{All}
 use Rattle.std.specs.Option.{unwrap_or}
 use Rattle.std.specs.Prelude.{min, reverse}
 use Rattle.std.specs.declared.alloc.Global.{Global}
-use Rattle.cstar_base.specs.declared.elem.Elem.{Elem}
-use Rattle.cstar_base.specs.declared.operators.Place.{Place}
-use Rattle.cstar_tree.specs.declared.syntax.Declaration.{Declaration}
 use Rattle.cstar_tree.specs.declared.syntax.Declarator.{Declarator}
 use Rattle.cstar_tree.specs.declared.syntax.Expr.{Expr}
-use Rattle.cstar_tree.specs.declared.syntax.Initializer.{Initializer}
-use Rattle.cstar_tree.specs.declared.syntax.Item.TheVariants as I
 use Rattle.cstar_tree.specs.declared.syntax.ShapeDefinition.{ShapeDefinition}
 use Rattle.cstar_tree.specs.declared.syntax.TypeName.{TypeName}
 use Rattle.cstar_tree.specs.declared.typed.ShapeInfo.{ShapeInfo}
 use Rattle.cstar_tree.specs.declared.typed.ValueType.{ValueType}
 use Rattle.cstar_tree.specs.declared.typed.VarInfo.{VarInfo}
 use Rattle.cstar_tree.specs.Constants.{constant_number}
-use Rattle.cstar_tree.specs.FileScopes.{Known, behind_item, behind_shapes, behind_variable, behind_variables, file_known, functions_named}
+use Rattle.cstar_tree.specs.FileScopes.{Known, behind_shapes, behind_variable, behind_variables, file_known, functions_named}
 use Rattle.cstar_tree.specs.Scopes.{Binding, Here, Meaning, extents_of, find, written_type}
 use Rattle.cstar_tree.specs.StatementTypes.{variable_info}
 use Rattle.file_names.specs.Numbers.{name_of}
@@ -39,10 +34,10 @@ use Rattle.type_scopes.specs.declared.names.VariableType as Names
 use Rattle.type_scopes.specs.declared.sites.Site.{Site}
 use Rattle.type_statements.proofs.Declared.{type_written}
 use Rattle.type_statements.specs.declared.declarations.Initial.{Initial}
-use Rattle.shape_types.specs.FileWalk.{AreDefined, AreFirst, AreVariables, HasItsType, IsDefined, IsOfSome, IsStartOf, IsTypedDeclaration, Knows, StartsAs, place_in}
+use Rattle.shape_types.specs.FileWalk.{AreDefined, AreFirst, AreVariables, HasItsType, IsDefined, IsOfSome, IsStartOf, Knows, StartsAs, place_in}
 use Rattle.shape_types.specs.Plain.{IsPlainDeclarator}
 use Rattle.shape_types.specs.declared.declarations.Declared.{Declared}
-use Rattle.shape_types.proofs.FileSteps.{AreExtents, all_defined, extent_more, next_behind, none_declared, none_defined, one_variable, shape_more, variable_known, variable_more, variables_first, variables_shapes}
+use Rattle.shape_types.proofs.FileSteps.{AreExtents, extent_more, next_behind, none_declared, none_defined, one_variable, shape_more, variable_known, variable_more, variables_first, variables_shapes}
 use Rattle.shape_types.proofs.KnownPlace.{around_there, file_site}
 use Rattle.shape_types.proofs.NamesFound.{known_number}
 

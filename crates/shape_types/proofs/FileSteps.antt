@@ -1,7 +1,7 @@
 -- One declaration more: what is known behind it, and that it is typed as the rules say.
-use Rattle.std.proofs.Common.{◌≡◌, ℕ, pos, zero, suc, ◌+◌, ◌-◌, ◌<◌, ◌≤◌, ◌^◌, Bool, true, false, List, [], ◌∷◌, ◌++◌, add-one, append_assoc, drop, get_or, length, length-append, map, take, Option, Some, None, Vec, is_some, refl, sym, ap, subst, ◌∙◌, arith, if◌then◌else◌}
-use Rattle.std.proofs.lemmas.List.{append-nil, length-drop, map_push, take-append-drop, take_all, take_more}
-use Rattle.std.proofs.lemmas.List.Elements.{All-append, All-cons, All-drop, All-nil, All-push, All-weaker}
+use Rattle.std.proofs.Common.{◌≡◌, ℕ, pos, zero, suc, ◌+◌, ◌-◌, ◌<◌, ◌≤◌, ◌^◌, Bool, true, false, List, [], ◌∷◌, ◌++◌, append_assoc, drop, get_or, length, length-append, map, take, Option, Some, None, Vec, is_some, refl, sym, ap, subst, ◌∙◌, arith, if◌then◌else◌}
+use Rattle.std.proofs.lemmas.List.{append-nil, map_push, take-append-drop, take_all, take_more}
+use Rattle.std.proofs.lemmas.List.Elements.{All-cons, All-nil, All-push, All-weaker}
 use Rattle.std.proofs.lemmas.Bool.{le-leb}
 use Rattle.std.specs.Int.{from_bool}
 use Rattle.std.specs.List.{All}
@@ -11,34 +11,28 @@ use Rattle.std.specs.declared.alloc.Global.{Global}
 use Rattle.constant_trees.proofs.Bringing.{both_true}
 use Rattle.constant_trees.specs.Words.{IsCounted}
 use Rattle.cstar_base.specs.declared.elem.Elem.{Elem}
-use Rattle.cstar_tree.specs.declared.syntax.Declaration.{Declaration}
 use Rattle.cstar_tree.specs.declared.syntax.Declarator.{Declarator}
 use Rattle.cstar_tree.specs.declared.syntax.Expr.{Expr}
 use Rattle.cstar_tree.specs.declared.syntax.Function.{Function}
-use Rattle.cstar_tree.specs.declared.syntax.Item.{Item}
-use Rattle.cstar_tree.specs.declared.syntax.Item.TheVariants as I
 use Rattle.cstar_tree.specs.declared.syntax.ShapeDefinition.{ShapeDefinition}
-use Rattle.cstar_tree.specs.declared.syntax.Tree.{Tree}
 use Rattle.cstar_tree.specs.declared.typed.ShapeInfo.{ShapeInfo}
 use Rattle.cstar_tree.specs.declared.typed.ValueType.{ValueType}
 use Rattle.cstar_tree.specs.declared.typed.VarInfo.{VarInfo}
-use Rattle.cstar_tree.specs.declared.typed.Variable.{Variable}
 use Rattle.cstar_tree.specs.declared.typed.Variable.TheVariants as V
 use Rattle.cstar_tree.specs.BlockScopes.{declared_type}
 use Rattle.cstar_tree.specs.Constants.{constant_number, product}
-use Rattle.cstar_tree.specs.FileScopes.{Known, behind_function, behind_item, behind_items, behind_shape, behind_shapes, behind_variable, behind_variables, bounded, defined_extents, extent_of, extents_from, file_known, file_place, functions_named, kept_extent, kept_extents, next_extent, nothing_known}
+use Rattle.cstar_tree.specs.FileScopes.{Known, behind_function, behind_shape, behind_shapes, behind_variable, behind_variables, bounded, defined_extents, extent_of, extents_from, file_known, file_place, functions_named, kept_extent, kept_extents}
 use Rattle.cstar_tree.specs.ProgramTypes.{Starts, TypesItems, TypesShapes, TypesVariables}
 use Rattle.cstar_tree.specs.ProgramTypes as Y
 use Rattle.cstar_tree.specs.Scopes.{Binding, Here, Meaning, a_function, a_shape, a_variable, find}
 use Rattle.cstar_tree.specs.StatementTypes.{variable_info}
-use Rattle.file_names.specs.Numbers.{HasFewNames, first_names}
-use Rattle.file_names.proofs.Items.{Grows, item_grows, shapes_grow, variables_grow}
+use Rattle.file_names.proofs.Items.{Grows, shapes_grow, variables_grow}
 use Rattle.file_names.proofs.Steps.{shapes_more, variables_more}
 use Rattle.type_scopes.specs.Bindings.{type_meant, variable_type}
 use Rattle.type_scopes.specs.declared.file.File.{File}
 use Rattle.type_scopes.specs.declared.names.VariableType as Names
-use Rattle.shape_types.specs.FileKnowledge.{IsKnownFile, IsOfShapes}
-use Rattle.shape_types.specs.FileWalk.{AreDefined, AreFirst, AreVariables, HasItsType, HasKeptType, IsDefined, IsKept, IsOfSome, IsStartOf, Knows, StartsAs, place_in}
+use Rattle.shape_types.specs.FileKnowledge.{IsOfShapes}
+use Rattle.shape_types.specs.FileWalk.{AreDefined, AreFirst, AreVariables, HasItsType, IsDefined, IsKept, IsOfSome, Knows, place_in}
 use Rattle.shape_types.proofs.FunctionNames.{function_behind}
 
 -- ---- which names are first

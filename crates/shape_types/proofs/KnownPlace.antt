@@ -1,35 +1,31 @@
 -- The place behind the first declarations of a file, and the program that it is in.
-use Rattle.std.proofs.Common.{◌≡◌, ◌↔◌, ℕ, zero, suc, ◌+◌, ◌-◌, ◌<◌, ◌≤◌, Bool, true, false, List, [], ◌∷◌, ◌++◌, drop, get_or, length, length-append, map, take, Option, Some, None, is_some, refl, sym, ap, subst, ◌∙◌, arith, if◌then◌else◌}
-use Rattle.std.proofs.lemmas.List.{length-drop, length-map, take-append-drop}
-use Rattle.std.proofs.lemmas.List.Elements.{All-append, All-cons, All-drop, All-head, All-nil, All-tail, All-weaker}
+use Rattle.std.proofs.Common.{◌≡◌, ◌↔◌, ℕ, zero, suc, ◌-◌, ◌<◌, Bool, true, false, List, [], ◌∷◌, ◌++◌, get_or, length, Option, Some, None, refl, sym, ap, subst, ◌∙◌, arith}
+use Rattle.std.proofs.lemmas.List.{length-map}
+use Rattle.std.proofs.lemmas.List.Elements.{All-nil}
 use Rattle.std.proofs.lemmas.Option.{same_Some, slice_get-get_or, slice_get-map, slice_get_within}
 use Rattle.std.proofs.lemmas.Slice.Eq.{bytes_eq-Decides}
 use Rattle.std.specs.List.{All, AllZip}
 use Rattle.std.specs.Option.{option_map, option_or}
-use Rattle.std.specs.Prelude.{bytes_eq, reverse, slice_get, slice_index}
+use Rattle.std.specs.Prelude.{bytes_eq, slice_get, slice_index}
 use denote.Bor.{Bor}
-use Rattle.call_graph.specs.Graph.{AreGroups}
 use Rattle.call_groups.specs.Called.{AreFunctions, IsFunction}
 use Rattle.cstar_tree.specs.declared.syntax.Expr.{Expr}
-use Rattle.cstar_tree.specs.declared.syntax.Item.{Item}
 use Rattle.cstar_tree.specs.declared.syntax.Item.TheVariants as I
 use Rattle.cstar_tree.specs.declared.syntax.Tree.{Tree}
-use Rattle.cstar_tree.specs.declared.typed.Variable.TheVariants as V
-use Rattle.cstar_tree.specs.FileScopes.{Known, file_functions, file_known, function_binding, function_names, function_word, functions_named, is_among, words_of}
-use Rattle.cstar_tree.specs.Headers.{Leads, Placed, Program, Reached}
+use Rattle.cstar_tree.specs.FileScopes.{Known, file_functions, file_known, functions_named}
+use Rattle.cstar_tree.specs.Headers.{Leads, Placed, Program}
 use Rattle.cstar_tree.specs.Instances.{called_from, function_meant}
-use Rattle.cstar_tree.specs.Scopes.{Binding, Here, Meaning, VariableType, a_function, a_shape, a_variable, extents_of, find, meaning}
-use Rattle.file_names.specs.Numbers.{AreApart, StandsAt, declared_as, first_names, in_text_order, name_of}
+use Rattle.cstar_tree.specs.Scopes.{Binding, Here, Meaning, a_function, a_shape, a_variable, extents_of, find, meaning}
+use Rattle.file_names.specs.Numbers.{AreApart, StandsAt}
 use Rattle.file_names.proofs.Apart.{file_apart}
-use Rattle.type_expressions.specs.Answers.{IsSite}
 use Rattle.type_expressions.specs.Instances.{AreHeaders, Grows, IsHeaderOf, met}
-use Rattle.type_expressions.specs.Programs.{HasItsCalls, IsFunctionOf, IsProgramOf}
-use Rattle.type_expressions.specs.Walks.{HasItsShapes, IsAround, IsShape}
+use Rattle.type_expressions.specs.Programs.{HasItsCalls, IsFunctionOf}
+use Rattle.type_expressions.specs.Walks.{IsAround, IsShape}
 use Rattle.type_expressions.specs.declared.found.Instances.{Instances}
 use Rattle.type_expressions.proofs.CallsWithin.{beginning_same}
-use Rattle.type_scopes.specs.Bindings.{bindings, type_meant}
-use Rattle.type_scopes.specs.FileBindings.{file_bindings, file_meant, file_names, is_known, known_names, names_at}
-use Rattle.type_scopes.specs.Headers.{IsPlaced, group_of}
+use Rattle.type_scopes.specs.Bindings.{bindings}
+use Rattle.type_scopes.specs.FileBindings.{file_bindings, file_meant, file_names, is_known, known_names}
+use Rattle.type_scopes.specs.Headers.{group_of}
 use Rattle.type_scopes.specs.declared.file.File.{File}
 use Rattle.type_scopes.specs.declared.file.FunctionInfo.{FunctionInfo}
 use Rattle.type_scopes.specs.declared.locals.Locals.{Locals}
@@ -40,8 +36,8 @@ use Rattle.type_scopes.specs.declared.names.VariableType as Names
 use Rattle.type_scopes.specs.declared.sites.Returns.TheVariants as R
 use Rattle.type_scopes.specs.declared.sites.Site.{Site}
 use Rattle.type_scopes.proofs.FileLemmas.{find_first}
-use Rattle.shape_types.specs.FileKnowledge.{IsOfShapes, groups_in}
-use Rattle.shape_types.specs.FileWalk.{AreFirst, IsKept, Knows, place_in}
+use Rattle.shape_types.specs.FileKnowledge.{groups_in}
+use Rattle.shape_types.specs.FileWalk.{Knows, place_in}
 use Rattle.shape_types.proofs.FunctionNames.{function_there, functions_are}
 use Rattle.shape_types.proofs.KnownNames.{names_known, shape_within, told_of}
 use Rattle.shape_types.proofs.NamesFound.{function_alone}

@@ -1,4 +1,5 @@
 pub mod BodyPlaces
+pub mod FewShapes
 pub mod FileConstants
 pub mod FileItems
 pub mod FileLoops

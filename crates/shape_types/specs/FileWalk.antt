@@ -1,14 +1,13 @@
 -- What is known behind the first declarations of a file, while it is typed.
 use Rattle.std.specs.List.{All}
 use Rattle.std.specs.Option.{option_flatten}
-use Rattle.std.specs.Prelude.{◌≡◌, ◌<◌, ◌++◌, ℕ, List, [], ◌∷◌, length, map, slice_get, Option, Some, None, Box}
+use Rattle.std.specs.Prelude.{◌≡◌, ◌<◌, ◌++◌, ℕ, List, length, map, slice_get, Option, Some, None, Box}
 use Rattle.std.specs.declared.alloc.Global.{Global}
 use Rattle.constant_trees.specs.Words.{IsCounted}
 use Rattle.cstar_base.specs.declared.elem.Elem.{Elem}
 use Rattle.cstar_tree.specs.declared.syntax.Declaration.{Declaration}
 use Rattle.cstar_tree.specs.declared.syntax.Declarator.{Declarator}
 use Rattle.cstar_tree.specs.declared.syntax.Initializer.{Initializer}
-use Rattle.cstar_tree.specs.declared.syntax.Item.TheVariants as I
 use Rattle.cstar_tree.specs.declared.syntax.ShapeDefinition.{ShapeDefinition}
 use Rattle.cstar_tree.specs.declared.typed.ShapeInfo.{ShapeInfo}
 use Rattle.cstar_tree.specs.declared.typed.TExpr.{TExpr}
@@ -18,7 +17,7 @@ use Rattle.cstar_tree.specs.declared.typed.Variable.{Variable}
 use Rattle.cstar_tree.specs.declared.typed.Variable.TheVariants as V
 use Rattle.cstar_tree.specs.BlockScopes.{declared_type}
 use Rattle.cstar_tree.specs.Conversions.{IsConverted}
-use Rattle.cstar_tree.specs.FileScopes.{Known, behind_item, behind_shapes, behind_variable, defined_extents, file_known, file_place, functions_named, kept_extents}
+use Rattle.cstar_tree.specs.FileScopes.{Known, behind_shapes, defined_extents, file_known, file_place, functions_named, kept_extents}
 use Rattle.cstar_tree.specs.ProgramTypes.{Starts, TypesShapes, TypesVariables}
 use Rattle.cstar_tree.specs.Scopes.{Binding, Here, Meaning, VariableType, a_function, a_shape, a_variable, written_type}
 use Rattle.cstar_tree.specs.StatementTypes.{IsDeclarable}

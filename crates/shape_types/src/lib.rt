@@ -13,13 +13,15 @@ ghost use Rattle.shape_types.specs.Groups.{in_groups};
 ghost use Rattle.shape_types.specs.Plain.{IsPlainTree};
 ghost use Rattle.shape_types.specs.TypeFaults.{IsListedFault};
 ghost use Rattle.shape_types.specs.TypedFiles.{AreTyped, IsTypedFile};
-ghost use Rattle.std.specs.Prelude.{◌≡◌, [], ◌<◌, ◌≤◌, IfErr, IfOk, IsNone, OnOk, length, slice_get, unwrap_or};
+ghost use Rattle.std.specs.Prelude.{◌≡◌, [], ◌<◌, ◌≤◌, ◌^◌, IfErr, IfOk, IsNone, OnOk, length, slice_get, unwrap_or};
 
 mod declarations;
+mod few_shapes;
 mod instances;
 mod variables;
 
 use crate::declarations::{Declared, SHAPES, file_scope};
+use crate::few_shapes::has_few_shapes;
 use crate::instances::{NODES, Program, reached_instances};
 use call_groups::function_groups;
 use cstar_base::{Fault, Memory, Place};
@@ -60,7 +62,7 @@ fn answered(fault: Standing) -> TypeFault
 pub fn check(alloc: Global, tree: &Tree) -> Result<Typed, TypeFault>
     ensures fault { IfErr result IsListedFault }
     ensures typed { IfOk result IsTyped }
-    ensures exact { HasFewNames (file_known tree.now) → IsPlainTree tree.now → IfOk result (TypesFile tree.now) }
+    ensures exact { length (file_known tree.now).names < 2 ^ 32 → IsPlainTree tree.now → IfOk result (TypesFile tree.now) }
     ensures room { IfOk result (λ typed. HasRoom typed.shapes.items typed.need.items) }
 {
     let typed = types(alloc, tree)?;
@@ -79,7 +81,7 @@ pub fn check(alloc: Global, tree: &Tree) -> Result<Typed, TypeFault>
 pub fn types(alloc: Global, tree: &Tree) -> Result<Typed, TypeFault>
     ensures fault { IfErr result IsListedFault }
     ensures typed { IfOk result IsTyped }
-    ensures exact { HasFewNames (file_known tree.now) → IsPlainTree tree.now → IfOk result (IsTypedFile tree.now) }
+    ensures exact { length (file_known tree.now).names < 2 ^ 32 → IsPlainTree tree.now → IfOk result (IsTypedFile tree.now) }
 {
     let mut found = Found::new(alloc);
     let mut file = File::new(alloc, tree);
@@ -97,8 +99,9 @@ pub fn types(alloc: Global, tree: &Tree) -> Result<Typed, TypeFault>
         return Err(answered(fault));
     }
     // Where something was not typed and no fault stands, typing gives up: no file is known where
-    // that happens, but it is not proved that there is none.
-    if !declared.is_whole || !program.is_whole {
+    // that happens, but it is not proved that there is none. A file with more shapes than 16 bits
+    // number has a fault.
+    if !has_few_shapes(tree) || !declared.is_whole || !program.is_whole {
         return Err(TypeFault::Memory);
     }
     with_needs(alloc, shapes, declared, program)

@@ -11,7 +11,8 @@ not_false true is = refl
 not_false false is = absurd (true≢false is)
 
 pub returns-clause-exact : goal.returns-clause-exact
-returns-clause-exact c few plain =
+returns-clause-exact c named plain =
+    let few : HasFewNames (file_known c.args.tree.now) = record { shapes = c.has_few_shapes.ensures c.if-not-has_few_shapes.false; all = named } in
     let same = c.new-file.ensures.tree in
     let typed = subst (λ (t : Tree). AreTyped t c.type_file.new.file.shapes.items c.in-Ok.typing) same (c.in-Ok.ensures.typed (subst (λ (t : Tree). HasFewNames (file_known t)) (sym same) few) (subst IsPlainTree (sym same) plain)) in
     let all = typed (not_false c.in-Ok.typing.0.is_whole c.if-not-declared.false) in

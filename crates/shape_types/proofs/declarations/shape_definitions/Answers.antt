@@ -1,4 +1,4 @@
-use Rattle.std.proofs.Common.{◌≡◌, ◌∙◌, ◌+◌, ◌-◌, ◌^◌, true, ap, refl, sym}
+use Rattle.std.proofs.Common.{◌∙◌, ◌+◌, ◌-◌, ◌^◌, ap, refl, sym}
 use Rattle.std.specs.Int.{from_bool}
 use Rattle.std.specs.Prelude.{min}
 use Rattle.shape_types.proofs.FileLoops.{both_parts, next_shapes, no_shapes}

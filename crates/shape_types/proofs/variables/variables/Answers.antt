@@ -1,4 +1,4 @@
-use Rattle.std.proofs.Common.{◌≡◌, ◌∙◌, List, Some, ap, refl, subst, sym}
+use Rattle.std.proofs.Common.{◌∙◌, List, Some, ap, refl, subst, sym}
 use Rattle.std.specs.List.{All}
 use Rattle.std.proofs.lemmas.List.{take_all}
 use Rattle.cstar_tree.specs.declared.syntax.Declarator.{Declarator}
@@ -25,8 +25,8 @@ loop-declarator-preserved c =
     let step = c.in_ok-variable.ensures in (
       λ start k of knows plain first ty_is of_shape whole.
           next_variables start k of c.as_slice-declarator-items.result.now c.loop-declarator.declarator-index c.declarator-item.result c.args.declared.now.vars.items c.loop-declarator.file c.variable.new.file c.loop-declarator.declared c.variable.new.declared
-              (before.0 start k of knows plain first ty_is of_shape (step.whole whole)) c.loop-declarator-test.true c.declarator-item.is plain first of_shape
-              (λ there known own names shaped. (step.typed start there of known own names ty_is shaped whole, step.knows start there of known own names ty_is shaped whole)),
+          (before.0 start k of knows plain first ty_is of_shape (step.whole whole)) c.loop-declarator-test.true c.declarator-item.is plain first of_shape
+          (λ there known own names shaped. (step.typed start there of known own names ty_is shaped whole, step.knows start there of known own names ty_is shaped whole)),
       λ w. before.1 (step.whole w),
       step.shapes ∙ before.2,
       step.functions ∙ before.3,
