@@ -2,7 +2,7 @@
 //! Readers find the laws here by name.
 #![tactic(auto)]
 
-ghost use Rattle.program_laws.specs.Bodies.{BodiesCallWhatIsCalled};
+ghost use Rattle.program_laws.specs.Bodies.{BlocksCallWhatIsCalled, BodiesCallWhatIsCalled};
 ghost use Rattle.program_laws.specs.MetInstances.{MetInstancesAreThePrograms};
 
 /// The instances of a program are those that are met from `main` on, where the bodies of those met are
@@ -15,4 +15,9 @@ pub fn met_instances_are_the_programs()
 /// function calls those that the expression calls.
 pub fn bodies_call_what_is_called()
     ensures { BodiesCallWhatIsCalled }
+{}
+
+/// A function of the file calls those that its body calls, under whatever shape it is reached.
+pub fn blocks_call_what_is_called()
+    ensures { BlocksCallWhatIsCalled }
 {}

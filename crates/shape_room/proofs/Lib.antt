@@ -1,5 +1,8 @@
+mod AddedCalls
 mod ByRules
+mod CallLists
 mod CallOrders
+pub mod CallsInParts
 mod Counting
 mod MachineRoom
 mod Orders

@@ -56,7 +56,7 @@ triple a b c = omega (arith, first_part (room_as false a))
 
 -- ---- the room of the parts, by the form
 
-abbrev IsPair : TExpr → Box TExpr Global → Box TExpr Global → Type 0
+abbrev pub IsPair : TExpr → Box TExpr Global → Box TExpr Global → Type 0
 IsPair e left right =
     ((ty : ValueType) × e ≡ T.LogicalOr ty left right)
     ⊎ (((ty : ValueType) × e ≡ T.LogicalAnd ty left right)
@@ -68,7 +68,7 @@ pair_parts shape t e left right (inl (ty, is)) = parts_by shape t (TExpr-F.Logic
 pair_parts shape t e left right (inr (inl (ty, is))) = parts_by shape t (TExpr-F.LogicalAnd ty left right) (rolls-LogicalAnd ty left right ∙ sym is) ∙ pair (room_of shape left.value) (room_of shape right.value)
 pair_parts shape t e left right (inr (inr (ty, place, op, is))) = parts_by shape t (TExpr-F.Binary ty place op left right) (rolls-Binary ty place op left right ∙ sym is) ∙ pair (room_of shape left.value) (room_of shape right.value)
 
-abbrev HasOperand : TExpr → Box TExpr Global → Type 0
+abbrev pub HasOperand : TExpr → Box TExpr Global → Type 0
 HasOperand e operand =
     ((ty : ValueType) × (op : UnaryOp) × e ≡ T.Unary ty op operand)
     ⊎ (((ty : ValueType) × (op : ReduceOp) × e ≡ T.Reduce ty op operand)
@@ -102,7 +102,7 @@ list_parts shape t e parts (inl (ty, instance, is)) = parts_by shape t (TExpr-F.
 list_parts shape t e parts (inr (inl (ty, place, variable, of, is))) = parts_by shape t (TExpr-F.LeftIndex ty place parts variable of) (rolls-LeftIndex ty place parts variable of ∙ sym is)
 list_parts shape t e parts (inr (inr (ty, pieces, is))) = parts_by shape t (TExpr-F.Printf ty pieces parts) (rolls-Printf ty pieces parts ∙ sym is)
 
-abbrev IsLeaf : TExpr → Type 0
+abbrev pub IsLeaf : TExpr → Type 0
 IsLeaf e =
     ((ty : ValueType) × (variable : Variable) × e ≡ T.Variable ty variable)
     ⊎ (((ty : ValueType) × (value : ℕ) × e ≡ T.Number ty value)

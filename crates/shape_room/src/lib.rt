@@ -3,14 +3,17 @@
 #![tactic(auto)]
 
 ghost use Rattle.cstar_tree.specs.Constants.{product};
-ghost use Rattle.call_graph.specs.Graph.{Successors};
 ghost use Rattle.cstar_tree.specs.Room.{HasRoom, blocks, machine_bits, needs};
+ghost use Rattle.cstar_tree.specs.TypedParts.{calls_within};
+ghost use Rattle.cstar_tree.specs.declared.typed.Instance.{Instance};
 ghost use Rattle.shape_room.specs.CallOrders.{HasCalls, HasNoCycle, IsCallOrder};
 ghost use Rattle.shape_room.specs.Counted.{counted, kept};
 ghost use Rattle.std.specs.Prelude.{◌≡◌, ◌*◌, ◌-◌, ◌^◌, ◌↔◌, min, map, IfOk, IsTrue, length, slice_index, vec_len};
 
+mod calls;
 mod room;
 
+use crate::calls::calls_of;
 use crate::room::need;
 use call_graph::finishing_order;
 use cstar_base::Memory;
@@ -22,23 +25,30 @@ const BITS: u64 = 1 << 30;
 /// How many positions a block of the machine has.
 const BLOCK: u64 = 512;
 
-/// The room that the program needs on each shape, in bits for each position. `called` has for each
-/// instance the numbers of those that it calls.
+/// The room that the program needs on each shape, in bits for each position.
 pub fn needs(
     alloc: Global,
     shapes: &[ShapeInfo],
     vars: &[VarInfo],
     instances: &[Instance],
-    called: &[Vec<u32>],
 ) -> Result<Vec<u32>, Memory>
     ensures length { IfOk result (λ found. vec_len found ≡ length shapes.now) }
-    ensures needs { HasCalls instances.now called.now → HasNoCycle (Successors called.now) → IfOk result (λ found. found.items ≡ map kept (needs shapes.now vars.now instances.now)) }
+    ensures needs { HasNoCycle (map (λ (i : Instance). calls_within i.body) instances.now) → IfOk result (λ found. found.items ≡ map kept (needs shapes.now vars.now instances.now)) }
 {
-    let order = finishing_order(alloc, called)?;
-    needs_by(alloc, shapes, vars, instances, called, order.as_slice())
+    let called = calls_of(alloc, instances)?;
+    let order = finishing_order(alloc, called.as_slice())?;
+    needs_by(
+        alloc,
+        shapes,
+        vars,
+        instances,
+        called.as_slice(),
+        order.as_slice(),
+    )
 }
 
-/// The same, where the instances are in an order in which those that are called come first.
+/// The same, where the instances are in an order in which those that are called come first. `called`
+/// has for each instance the numbers of those that it calls.
 fn needs_by(
     alloc: Global,
     shapes: &[ShapeInfo],

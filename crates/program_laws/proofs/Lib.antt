@@ -1,0 +1,6 @@
+mod AmongCalls
+pub mod Bodies
+pub mod InBlocks
+mod Lists
+pub mod MetInstances
+mod SameCalls

@@ -1,0 +1,5 @@
+mod Alike
+mod Callees
+mod ExpressionCallees
+mod NoCycle
+mod StatementCallees
