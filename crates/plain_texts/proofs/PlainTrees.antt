@@ -1,5 +1,5 @@
 -- The trees that tokens with words for numbers spell are plain.
-use Rattle.std.proofs.Common.{◌≡◌, ◌+◌, ◌<◌, ◌≤◌, ◌^◌, ◌++◌, ℕ, IfSome, List, [], ◌∷◌, length, slice_get, Option, None, Some, Vec, arith, refl, subst, sym}
+use Rattle.std.proofs.Common.{◌≡◌, ◌+◌, ◌<◌, ◌≤◌, ◌^◌, ℕ, IfSome, List, [], ◌∷◌, length, slice_get, Option, None, Some, Vec, arith, refl, subst, sym}
 use Rattle.std.specs.declared.alloc.Global.{Global}
 use Rattle.std.specs.List.{All}
 use Rattle.std.proofs.lemmas.List.{length-append}
@@ -31,7 +31,7 @@ use Rattle.cstar_tree.specs.Expressions.{IsExpr, GoesOn, IsRest, AreArguments, I
 use Rattle.cstar_tree.specs.Expressions as X
 use Rattle.cstar_tree.specs.Items.{IsShapeDefinition, AreShapeDefinitions, IsFunction, IsItem, AreItems, IsTree}
 use Rattle.cstar_tree.specs.Items as Z
-use Rattle.cstar_tree.specs.Positions.{Stands, token_kind}
+use Rattle.cstar_tree.specs.Positions.{token_kind}
 use Rattle.cstar_tree.specs.Scopes.{Here, under, written_type}
 use Rattle.cstar_tree.specs.Statements.{IsPart, IsTest, IsStmt, AreStmts, IsBlock}
 use Rattle.cstar_tree.specs.Statements as Y
@@ -39,7 +39,7 @@ use Rattle.plain_texts.specs.Laws.{HasWords}
 use Rattle.shape_types.specs.Plain.{IsPlainDeclarator, IsPlainItem, IsPlainTree}
 use Rattle.tree_places.proofs.Ending.{index_ends}
 use Rattle.type_expressions.specs.Walks.{ArePlain, IsPlain}
-use Rattle.type_statements.specs.Ready.{InBlock, InDeclarations, InDeclarators, InElse, InRow, InStatement, InStatements}
+use Rattle.type_statements.specs.Ready.{InBlock, InDeclarations, InDeclarators, InRow, InStatement, InStatements}
 
 -- ---- lists of expressions as they stand in a node
 
@@ -63,10 +63,10 @@ abbrev Plainly : Here → Expr → Type 0
 Plainly here e = IsPlain e
 
 -- a statement and declarations are plain at each place
-IsPlainStatement : Stmt → Type 0
+abbrev IsPlainStatement : Stmt → Type 0
 IsPlainStatement s = (here : Here) → InStatement Plainly here s
 
-IsPlainDeclaration : Declaration → Type 0
+abbrev IsPlainDeclaration : Declaration → Type 0
 IsPlainDeclaration d = All IsPlainDeclarator d.variables.items
 
 in_declarators : (here : Here) (ty : Option ValueType) (ds : List Declarator) → All IsPlainDeclarator ds → InDeclarators Plainly here ty ds
@@ -75,18 +75,18 @@ in_declarators here ty [] all = tt
 in_declarators here ty (d ∷ ds) all = (All-head IsPlainDeclarator d ds all, in_declarators (behind_declarator here ty d) ty ds (All-tail IsPlainDeclarator d ds all))
 
 in_declarations : (here : Here) (ds : List Declaration) → All IsPlainDeclaration ds → InDeclarations Plainly here ds
-unfolding InDeclarations IsPlainDeclaration
+unfolding InDeclarations
 in_declarations here [] all = tt
 in_declarations here (d ∷ ds) all =
     (in_declarators here (written_type here d.type_name) d.variables.items (All-head IsPlainDeclaration d ds all), in_declarations (behind_declarators here (written_type here d.type_name) d.variables.items) ds (All-tail IsPlainDeclaration d ds all))
 
 in_statements : (here : Here) (ss : List Stmt) → All IsPlainStatement ss → InStatements Plainly here ss
-unfolding InStatements IsPlainStatement
+unfolding InStatements
 in_statements here [] all = tt
 in_statements here (s ∷ ss) all = (All-head IsPlainStatement s ss all here, in_statements (behind here s) ss (All-tail IsPlainStatement s ss all))
 
 in_row : (here : Here) (n : Count) (row : Row_of-Stmt n) → All IsPlainStatement (items-the_row-Stmt n row) → InRow Plainly here row
-unfolding InStatement IsPlainStatement
+unfolding InStatement
 in_row here n end_of-Stmt all = tt
 in_row here n (more_of-Stmt s rest) all = (All-head IsPlainStatement s _ all here, in_row (behind here s) _ rest (All-tail IsPlainStatement s _ all))
 
@@ -95,18 +95,17 @@ text_statements (S.Block' _ _ _ row) = (_, row)
 text_statements _ = (_, end_of-Stmt)
 
 -- the declarations and the statements of a block
-IsPlainBlock : Block → Type 0
+abbrev IsPlainBlock : Block → Type 0
 IsPlainBlock block = All IsPlainDeclaration block.declarations.items × All IsPlainStatement block.statements.items
 
 statement_of_block : (block : Block) → IsPlainBlock block → IsPlainStatement (S.Block block)
-unfolding IsPlainBlock IsPlainStatement InStatement
+unfolding InStatement
 statement_of_block block plain = λ here.
     let row = text_statements (S.Block block) in
     (in_declarations (block_place here) block.declarations.items plain.0,
         in_row (behind_declarations (block_place here) block.declarations.items) row.0 row.1 (subst (All IsPlainStatement) (sym (items_hidden-the_row-Stmt-0 block.statements)) plain.1))
 
 in_block : (here : Here) (block : Block) → IsPlainBlock block → InBlock Plainly here block
-unfolding IsPlainBlock
 in_block here block plain = (in_declarations here block.declarations.items plain.0, in_statements (behind_declarations here block.declarations.items) block.statements.items plain.1)
 
 -- ---- what tokens spell
@@ -123,8 +122,8 @@ indexes_count (X.first_index a) = let fa = index_ends a in omega (arith, fa)
 indexes_count (X.next_index {list = list} {e = e} a b) = let fa = indexes_count a in let fb = index_ends b in let n = length-append list (e ∷ []) in omega (arith, fa, fb, n)
 
 module _ (tokens : List Token) (words : HasWords tokens) where
-  few_indexes : {from mid : ℕ} {list : Vec Expr Global} {row : List Expr} → from + length list.items ≤ mid → mid < length tokens → row ≡ list.items → length row < 2 ^ 32
-  few_indexes {list = list} count is same = subst (λ (es : List Expr). length es < 2 ^ 32) (sym same) (let few = words.few in omega (arith, count, is, few))
+  few_indexes : (from mid : ℕ) (list : Vec Expr Global) (row : List Expr) → from + length list.items ≤ mid → mid < length tokens → row ≡ list.items → length row < 2 ^ 32
+  few_indexes from mid list row count is same = subst (λ (es : List Expr). length es < 2 ^ 32) (sym same) (let few = words.few in omega (arith, count, is, few))
 
   mutual
     unfolding IsPlain
@@ -143,7 +142,7 @@ module _ (tokens : List Token) (words : HasWords tokens) where
     expression (X.dot a) = tt
     expression (X.brackets inner a b c) = expression b
     expression (X.call {n = n} list a b) = list_plain (E.Call n list) list (items_hidden-the_row-Expr-0 list) (arguments b)
-    expression (X.left_index {p = p} {n = n} list a b) = (few_indexes (indexes_count a) (within tokens _ _ b.kind_is) (items_hidden-the_row-Expr-0 list), list_plain (E.LeftIndex p list n) list (items_hidden-the_row-Expr-0 list) (indexes a))
+    expression (X.left_index {p = p} {n = n} list a b) = (few_indexes _ _ list _ (indexes_count a) (within tokens _ _ b.kind_is) (items_hidden-the_row-Expr-0 list), list_plain (E.LeftIndex p list n) list (items_hidden-the_row-Expr-0 list) (indexes a))
     expression (X.pcoord axis a b c d) = expression c
     expression (X.positions_of a b) = tt
     expression (X.rank_of a b) = tt
@@ -187,7 +186,6 @@ module _ (tokens : List Token) (words : HasWords tokens) where
   declarators (D.next_name {list = list} {d = d} a b c) = All-push IsPlainDeclarator list d (declarators a) (declarator c)
 
   declaration : {from to : ℕ} {d : Declaration} → IsDeclaration tokens from d to → IsPlainDeclaration d
-  unfolding IsPlainDeclaration
   declaration (D.declaration a b c) = declarators b
 
   declarations : {from to : ℕ} {list : List Declaration} → AreDeclarations tokens from list to → All IsPlainDeclaration list
@@ -202,7 +200,7 @@ module _ (tokens : List Token) (words : HasWords tokens) where
   test (Y.test a b c) = expression b
 
   mutual
-    unfolding IsPlainStatement InStatement IsPlainBlock
+    unfolding InStatement
 
     pub statement : {from to : ℕ} {s : Stmt} → IsStmt tokens from s to → IsPlainStatement s
     statement (Y.block_is {block = it} a) = statement_of_block it (block a)
@@ -242,7 +240,6 @@ module _ (tokens : List Token) (words : HasWords tokens) where
   function (Z.function f a b c d e g h) = block h
 
   item : {from to : ℕ} {i : Item} → IsItem tokens from i to → IsPlainItem i
-  unfolding IsPlainDeclaration
   item (Z.shapes a b c) = shapes b
   item (Z.variables a) = declaration a
   item (Z.function_is {f = f} a) = λ here. in_block here f.body (function a)

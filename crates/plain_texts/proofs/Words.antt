@@ -1,5 +1,5 @@
 -- The tokens of a text have words for numbers, and no more of them stand than bytes.
-use Rattle.std.proofs.Common.{◌≡◌, ℕ, zero, suc, ◌+◌, ◌<◌, ◌≤◌, ◌^◌, Bool, true, false, nat_lt, List, [], ◌∷◌, ◌++◌, length, drop, if◌then◌else◌, Option, Some, unwrap_or, arith, sym, ap, ◌∙◌, subst}
+use Rattle.std.proofs.Common.{◌≡◌, ℕ, zero, suc, ◌+◌, ◌<◌, ◌≤◌, ◌^◌, Bool, true, false, nat_lt, List, [], ◌∷◌, length, if◌then◌else◌, Option, Some, unwrap_or, arith, refl, sym, ap, ◌∙◌, subst}
 use Rattle.std.specs.List.{All}
 use Rattle.std.specs.Map.{lookup}
 use Rattle.std.proofs.lemmas.List.Elements.{All-nil, All-cons, All-head, All-tail, All-push, All-append}
@@ -22,19 +22,18 @@ use Rattle.cstar_tree.specs.Positions.{token_kind}
 use Rattle.plain_texts.specs.Laws.{HasWords}
 
 -- a defined number is a word, and so is the number of a token
-IsWord : List ℕ × Number → Type 0
+abbrev IsWord : List ℕ × Number → Type 0
 IsWord e = e.1.value < 2 ^ 32
 
-IsWordToken : Token → Type 0
+abbrev IsWordToken : Token → Type 0
 IsWordToken t = (value : ℕ) (unsigned : Bool) → t.kind ≡ K.Num value unsigned → value < 2 ^ 32
 
 found : (test : List ℕ → Bool) (names : Names) (number : Number) → All IsWord names → lookup test names ≡ Some number → number.value < 2 ^ 32
-unfolding IsWord
 found test [] number all s = absurd (cc)
-found test (e ∷ es) number all s = by (test e.0) refl where
-  by : (b : Bool) → test e.0 ≡ b → number.value < 2 ^ 32
-  by true is = subst (λ (n : Number). n.value < 2 ^ 32) (ap (λ (o : Option Number). unwrap_or o number) (sym (lookup_head test e es is) ∙ s)) (All-head IsWord e es all)
-  by false is = found test es number (All-tail IsWord e es all) (sym (lookup_tail test e es is) ∙ s)
+found test (e ∷ es) number all s = by (test e.0) refl (found test es number (All-tail IsWord e es all)) where
+  by : (b : Bool) → test e.0 ≡ b → (lookup test es ≡ Some number → number.value < 2 ^ 32) → number.value < 2 ^ 32
+  by true is rest = subst (λ (n : Number). n.value < 2 ^ 32) (ap (λ (o : Option Number). unwrap_or o number) (sym (lookup_head test e es is) ∙ s)) (All-head IsWord e es all)
+  by false is rest = rest (sym (lookup_tail test e es is) ∙ s)
 
 byte_word : (byte : ℕ) → byte < 256 → character byte < 2 ^ 32
 byte_word byte small = by (nat_lt byte 128) where
@@ -49,19 +48,18 @@ number_below : (number : Number) → number.value < 2 ^ 32 → is_below (K.Num n
 number_below number below value unsigned is = subst (λ (v : ℕ). v < 2 ^ 32) (cc (is)) below
 
 named_below : {names : Names} {word : List ℕ} {kind : Kind} → All IsWord names → IsNamed names word kind → is_below kind
-named_below all T.reserved value unsigned is = absurd (cc (is))
-named_below {names} all (T.defined {number = number} free s) value unsigned is = number_below number (found _ names number all s) value unsigned is
-named_below all (T.name free s) value unsigned is = absurd (cc (is))
+named_below all (T.reserved e) = λ value unsigned is. absurd (cc (is))
+named_below {names} all (T.defined {number = number} free s) = number_below number (found _ names number all s)
+named_below all (T.name free s) = λ value unsigned is. absurd (cc (is))
 
 token_below : {names : Names} {bytes : List ℕ} {n : ℕ} {kind : Kind} → All IsWord names → IsToken names bytes n kind → is_below kind
 token_below all (T.word w named) = named_below all named
-token_below all (T.constant {number = number} c) = number_below number c.stands_for.0
+token_below all (T.constant {number = number} c) = number_below number (subst (λ (v : ℕ). v < 2 ^ 32) (sym c.stands_for.1) c.stands_for.0)
 token_below all (T.character {number = number} c) = number_below number (subst (λ (v : ℕ). v < 2 ^ 32) (sym c.value) (byte_word c.byte c.small))
-token_below all (T.text q) value unsigned is = absurd (cc (is))
-token_below all (T.mark m) value unsigned is = absurd (cc (is))
+token_below all (T.text q) = λ value unsigned is. absurd (cc (is))
+token_below all (T.mark m) = λ value unsigned is. absurd (cc (is))
 
 defined : {old new : Names} {line : List ℕ} → All IsWord old → IsDirective old line new → All IsWord new
-unfolding IsWord
 defined all (D.include a same) = subst (All IsWord) (sym same) all
 defined {old} all (D.define {name = name} {number = number} a is none same) = subst (All IsWord) (sym same) (All-push IsWord old (name, number) all (subst (λ (v : ℕ). v < 2 ^ 32) (sym is.1) is.0))
 defined all (D.again a b c same) = subst (All IsWord) (sym same) all
