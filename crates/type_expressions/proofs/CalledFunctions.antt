@@ -70,7 +70,7 @@ call_types {program = program} {here = here} given None placed there is calls in
     (subst (λ (es : List TExpr). TypesEach program (part here) given.items es) (sym whole) each) (subst (λ (es : List TExpr). AreTaken known es) (sym whole) fit)
 call_types given (Some around) placed there is calls in_program head same apart reached each (C.outside values types gives fit whole) = absurd reached
 
-called_function : (names : List Binding) (n : Name) (called : Result ℕ Untyped) (o : Option ℕ) {f : ℕ} → IsFunctionAmong names n called → o ≡ part_of called → o ≡ Some f → find names n.word ≡ Some (a_function f)
+pub called_function : (names : List Binding) (n : Name) (called : Result ℕ Untyped) (o : Option ℕ) {f : ℕ} → IsFunctionAmong names n called → o ≡ part_of called → o ≡ Some f → find names n.word ≡ Some (a_function f)
 called_function names n (Ok g) o {f = f} is settled found = is ∙ (let e : Some (a_function g) ≡ Some (a_function f) = cc in e)
 called_function names n (Err u) o is settled found = absurd (cc)
 

@@ -15,7 +15,6 @@ use Rattle.cstar_tree.specs.declared.syntax.BinaryOp.{BinaryOp}
 use Rattle.cstar_tree.specs.declared.syntax.Cast.{Cast}
 use Rattle.cstar_tree.specs.declared.syntax.Expr.{Expr}
 use Rattle.cstar_tree.specs.declared.syntax.Expr as E
-use Rattle.cstar_tree.specs.declared.syntax.Expr.TheFolds.{fold-roll-Expr}
 use Rattle.cstar_tree.specs.declared.syntax.Expr.TheOpen.{Expr-F}
 use Rattle.cstar_tree.specs.declared.syntax.Expr.TheVariants as rolled
 use Rattle.cstar_tree.specs.declared.syntax.Name.{Name}
@@ -23,7 +22,7 @@ use Rattle.cstar_tree.specs.declared.syntax.PrefixOp.{PrefixOp}
 use Rattle.cstar_tree.specs.declared.syntax.ShapeRef.{ShapeRef}
 use Rattle.cstar_tree.specs.declared.syntax.StepOp.{StepOp}
 use Rattle.cstar_tree.specs.declared.syntax.TypeName.{TypeName}
-use Rattle.cstar_tree.specs.Calls.{Call, call_of, call_step, calls_in, calls_in_each}
+use Rattle.cstar_tree.specs.Calls.{Call, call_of, calls_in, calls_in_each}
 use Rattle.cstar_tree.specs.Headers.{Program, Reached}
 use Rattle.cstar_tree.specs.Instances.{is_met}
 use Rattle.cstar_tree.specs.Scopes.{Here, meaning}
@@ -33,6 +32,7 @@ use Rattle.type_scopes.specs.declared.file.File.{File}
 use Rattle.type_expressions.specs.Instances.{AreHeaders, Grows, IsBeginning, met, with_met}
 use Rattle.type_expressions.specs.Programs.{HasItsCalls}
 use Rattle.type_expressions.specs.declared.found.Instances.{Instances}
+use Rattle.type_expressions.proofs.NodeCalls.{by_node}
 
 -- ---- beginnings of lists
 
@@ -94,75 +94,75 @@ third_of before mid xs rest whole c is h = subst (λ (l : List Call). Contains l
 
 pub in_brackets : (p : Place) (inner : Box Expr Global) → AreCallsOf inner.value (E.Brackets p inner)
 unfolding concat
-in_brackets p inner here c = first_of (calls_in here inner.value) [] (calls_in here (E.Brackets p inner)) c (ap (calls_in here) (sym (rolled.rolls-Brackets p inner)) ∙ fold-roll-Expr (List Call) (call_step here) (Expr-F.Brackets p inner))
+in_brackets p inner here c = first_of (calls_in here inner.value) [] (calls_in here (E.Brackets p inner)) c (by_node here (Expr-F.Brackets p inner) (rolled.rolls-Brackets p inner))
 
 pub in_prefix : (p : Place) (op : PrefixOp) (operand : Box Expr Global) → AreCallsOf operand.value (E.Prefix p op operand)
 unfolding concat
-in_prefix p op operand here c = first_of (calls_in here operand.value) [] (calls_in here (E.Prefix p op operand)) c (ap (calls_in here) (sym (rolled.rolls-Prefix p op operand)) ∙ fold-roll-Expr (List Call) (call_step here) (Expr-F.Prefix p op operand))
+in_prefix p op operand here c = first_of (calls_in here operand.value) [] (calls_in here (E.Prefix p op operand)) c (by_node here (Expr-F.Prefix p op operand) (rolled.rolls-Prefix p op operand))
 
 pub in_casts : (chain : Vec Cast Global) (operand : Box Expr Global) → AreCallsOf operand.value (E.Casts chain operand)
 unfolding concat
-in_casts chain operand here c = first_of (calls_in here operand.value) [] (calls_in here (E.Casts chain operand)) c (ap (calls_in here) (sym (rolled.rolls-Casts chain operand)) ∙ fold-roll-Expr (List Call) (call_step here) (Expr-F.Casts chain operand))
+in_casts chain operand here c = first_of (calls_in here operand.value) [] (calls_in here (E.Casts chain operand)) c (by_node here (Expr-F.Casts chain operand) (rolled.rolls-Casts chain operand))
 
 pub in_parallel_cast : (p : Place) (written : TypeName) (operand : Box Expr Global) → AreCallsOf operand.value (E.ParallelCast p written operand)
 unfolding concat
-in_parallel_cast p written operand here c = first_of (calls_in here operand.value) [] (calls_in here (E.ParallelCast p written operand)) c (ap (calls_in here) (sym (rolled.rolls-ParallelCast p written operand)) ∙ fold-roll-Expr (List Call) (call_step here) (Expr-F.ParallelCast p written operand))
+in_parallel_cast p written operand here c = first_of (calls_in here operand.value) [] (calls_in here (E.ParallelCast p written operand)) c (by_node here (Expr-F.ParallelCast p written operand) (rolled.rolls-ParallelCast p written operand))
 
 pub in_postfix : (p : Place) (op : StepOp) (operand : Box Expr Global) → AreCallsOf operand.value (E.Postfix p op operand)
 unfolding concat
-in_postfix p op operand here c = first_of (calls_in here operand.value) [] (calls_in here (E.Postfix p op operand)) c (ap (calls_in here) (sym (rolled.rolls-Postfix p op operand)) ∙ fold-roll-Expr (List Call) (call_step here) (Expr-F.Postfix p op operand))
+in_postfix p op operand here c = first_of (calls_in here operand.value) [] (calls_in here (E.Postfix p op operand)) c (by_node here (Expr-F.Postfix p op operand) (rolled.rolls-Postfix p op operand))
 
 pub in_element : (n : Name) (p : Place) (index : Box Expr Global) → AreCallsOf index.value (E.Element n p index)
 unfolding concat
-in_element n p index here c = first_of (calls_in here index.value) [] (calls_in here (E.Element n p index)) c (ap (calls_in here) (sym (rolled.rolls-Element n p index)) ∙ fold-roll-Expr (List Call) (call_step here) (Expr-F.Element n p index))
+in_element n p index here c = first_of (calls_in here index.value) [] (calls_in here (E.Element n p index)) c (by_node here (Expr-F.Element n p index) (rolled.rolls-Element n p index))
 
 pub in_pcoord : (p : Place) (axis : Box Expr Global) → AreCallsOf axis.value (E.Pcoord p axis)
 unfolding concat
-in_pcoord p axis here c = first_of (calls_in here axis.value) [] (calls_in here (E.Pcoord p axis)) c (ap (calls_in here) (sym (rolled.rolls-Pcoord p axis)) ∙ fold-roll-Expr (List Call) (call_step here) (Expr-F.Pcoord p axis))
+in_pcoord p axis here c = first_of (calls_in here axis.value) [] (calls_in here (E.Pcoord p axis)) c (by_node here (Expr-F.Pcoord p axis) (rolled.rolls-Pcoord p axis))
 
 pub in_dim : (p : Place) (shape : ShapeRef) (axis : Box Expr Global) → AreCallsOf axis.value (E.DimOf p shape axis)
 unfolding concat
-in_dim p shape axis here c = first_of (calls_in here axis.value) [] (calls_in here (E.DimOf p shape axis)) c (ap (calls_in here) (sym (rolled.rolls-DimOf p shape axis)) ∙ fold-roll-Expr (List Call) (call_step here) (Expr-F.DimOf p shape axis))
+in_dim p shape axis here c = first_of (calls_in here axis.value) [] (calls_in here (E.DimOf p shape axis)) c (by_node here (Expr-F.DimOf p shape axis) (rolled.rolls-DimOf p shape axis))
 
 pub in_enumerate : (p : Place) (axis : Box Expr Global) (direction : Direction) (reach : Inclusion) (mode : SegmentMode) (bit : Option Name) → AreCallsOf axis.value (E.Enumerate p axis direction reach mode bit)
 unfolding concat
-in_enumerate p axis direction reach mode bit here c = first_of (calls_in here axis.value) [] (calls_in here (E.Enumerate p axis direction reach mode bit)) c (ap (calls_in here) (sym (rolled.rolls-Enumerate p axis direction reach mode bit)) ∙ fold-roll-Expr (List Call) (call_step here) (Expr-F.Enumerate p axis direction reach mode bit))
+in_enumerate p axis direction reach mode bit here c = first_of (calls_in here axis.value) [] (calls_in here (E.Enumerate p axis direction reach mode bit)) c (by_node here (Expr-F.Enumerate p axis direction reach mode bit) (rolled.rolls-Enumerate p axis direction reach mode bit))
 
 pub in_scan_source : (p : Place) (source axis : Box Expr Global) (combiner : Combiner) (direction : Direction) (mode : SegmentMode) (bit : Option Name) (reach : Inclusion) → AreCallsOf source.value (E.Scan p source axis combiner direction mode bit reach)
 unfolding concat
-in_scan_source p source axis combiner direction mode bit reach here c = first_of (calls_in here source.value) (calls_in here axis.value ++ []) (calls_in here (E.Scan p source axis combiner direction mode bit reach)) c (ap (calls_in here) (sym (rolled.rolls-Scan p source axis combiner direction mode bit reach)) ∙ fold-roll-Expr (List Call) (call_step here) (Expr-F.Scan p source axis combiner direction mode bit reach))
+in_scan_source p source axis combiner direction mode bit reach here c = first_of (calls_in here source.value) (calls_in here axis.value ++ []) (calls_in here (E.Scan p source axis combiner direction mode bit reach)) c (by_node here (Expr-F.Scan p source axis combiner direction mode bit reach) (rolled.rolls-Scan p source axis combiner direction mode bit reach))
 
 pub in_scan_axis : (p : Place) (source axis : Box Expr Global) (combiner : Combiner) (direction : Direction) (mode : SegmentMode) (bit : Option Name) (reach : Inclusion) → AreCallsOf axis.value (E.Scan p source axis combiner direction mode bit reach)
 unfolding concat
-in_scan_axis p source axis combiner direction mode bit reach here c = second_of (calls_in here source.value) (calls_in here axis.value) [] (calls_in here (E.Scan p source axis combiner direction mode bit reach)) c (ap (calls_in here) (sym (rolled.rolls-Scan p source axis combiner direction mode bit reach)) ∙ fold-roll-Expr (List Call) (call_step here) (Expr-F.Scan p source axis combiner direction mode bit reach))
+in_scan_axis p source axis combiner direction mode bit reach here c = second_of (calls_in here source.value) (calls_in here axis.value) [] (calls_in here (E.Scan p source axis combiner direction mode bit reach)) c (by_node here (Expr-F.Scan p source axis combiner direction mode bit reach) (rolled.rolls-Scan p source axis combiner direction mode bit reach))
 
 pub in_assignment_target : (p : Place) (op : AssignOp) (target value : Box Expr Global) → AreCallsOf target.value (E.Assign p op target value)
 unfolding concat
-in_assignment_target p op target value here c = first_of (calls_in here target.value) (calls_in here value.value ++ []) (calls_in here (E.Assign p op target value)) c (ap (calls_in here) (sym (rolled.rolls-Assign p op target value)) ∙ fold-roll-Expr (List Call) (call_step here) (Expr-F.Assign p op target value))
+in_assignment_target p op target value here c = first_of (calls_in here target.value) (calls_in here value.value ++ []) (calls_in here (E.Assign p op target value)) c (by_node here (Expr-F.Assign p op target value) (rolled.rolls-Assign p op target value))
 
 pub in_assignment_value : (p : Place) (op : AssignOp) (target value : Box Expr Global) → AreCallsOf value.value (E.Assign p op target value)
 unfolding concat
-in_assignment_value p op target value here c = second_of (calls_in here target.value) (calls_in here value.value) [] (calls_in here (E.Assign p op target value)) c (ap (calls_in here) (sym (rolled.rolls-Assign p op target value)) ∙ fold-roll-Expr (List Call) (call_step here) (Expr-F.Assign p op target value))
+in_assignment_value p op target value here c = second_of (calls_in here target.value) (calls_in here value.value) [] (calls_in here (E.Assign p op target value)) c (by_node here (Expr-F.Assign p op target value) (rolled.rolls-Assign p op target value))
 
 pub in_binary_left : (p : Place) (op : BinaryOp) (left right : Box Expr Global) → AreCallsOf left.value (E.Binary p op left right)
 unfolding concat
-in_binary_left p op left right here c = first_of (calls_in here left.value) (calls_in here right.value ++ []) (calls_in here (E.Binary p op left right)) c (ap (calls_in here) (sym (rolled.rolls-Binary p op left right)) ∙ fold-roll-Expr (List Call) (call_step here) (Expr-F.Binary p op left right))
+in_binary_left p op left right here c = first_of (calls_in here left.value) (calls_in here right.value ++ []) (calls_in here (E.Binary p op left right)) c (by_node here (Expr-F.Binary p op left right) (rolled.rolls-Binary p op left right))
 
 pub in_binary_right : (p : Place) (op : BinaryOp) (left right : Box Expr Global) → AreCallsOf right.value (E.Binary p op left right)
 unfolding concat
-in_binary_right p op left right here c = second_of (calls_in here left.value) (calls_in here right.value) [] (calls_in here (E.Binary p op left right)) c (ap (calls_in here) (sym (rolled.rolls-Binary p op left right)) ∙ fold-roll-Expr (List Call) (call_step here) (Expr-F.Binary p op left right))
+in_binary_right p op left right here c = second_of (calls_in here left.value) (calls_in here right.value) [] (calls_in here (E.Binary p op left right)) c (by_node here (Expr-F.Binary p op left right) (rolled.rolls-Binary p op left right))
 
 pub in_choice_test : (p : Place) (test second third : Box Expr Global) → AreCallsOf test.value (E.Choice p test second third)
 unfolding concat
-in_choice_test p test second third here c = first_of (calls_in here test.value) (calls_in here second.value ++ (calls_in here third.value ++ [])) (calls_in here (E.Choice p test second third)) c (ap (calls_in here) (sym (rolled.rolls-Choice p test second third)) ∙ fold-roll-Expr (List Call) (call_step here) (Expr-F.Choice p test second third))
+in_choice_test p test second third here c = first_of (calls_in here test.value) (calls_in here second.value ++ (calls_in here third.value ++ [])) (calls_in here (E.Choice p test second third)) c (by_node here (Expr-F.Choice p test second third) (rolled.rolls-Choice p test second third))
 
 pub in_choice_second : (p : Place) (test second third : Box Expr Global) → AreCallsOf second.value (E.Choice p test second third)
 unfolding concat
-in_choice_second p test second third here c = second_of (calls_in here test.value) (calls_in here second.value) (calls_in here third.value ++ []) (calls_in here (E.Choice p test second third)) c (ap (calls_in here) (sym (rolled.rolls-Choice p test second third)) ∙ fold-roll-Expr (List Call) (call_step here) (Expr-F.Choice p test second third))
+in_choice_second p test second third here c = second_of (calls_in here test.value) (calls_in here second.value) (calls_in here third.value ++ []) (calls_in here (E.Choice p test second third)) c (by_node here (Expr-F.Choice p test second third) (rolled.rolls-Choice p test second third))
 
 pub in_choice_third : (p : Place) (test second third : Box Expr Global) → AreCallsOf third.value (E.Choice p test second third)
 unfolding concat
-in_choice_third p test second third here c = third_of (calls_in here test.value) (calls_in here second.value) (calls_in here third.value) [] (calls_in here (E.Choice p test second third)) c (ap (calls_in here) (sym (rolled.rolls-Choice p test second third)) ∙ fold-roll-Expr (List Call) (call_step here) (Expr-F.Choice p test second third))
+in_choice_third p test second third here c = third_of (calls_in here test.value) (calls_in here second.value) (calls_in here third.value) [] (calls_in here (E.Choice p test second third)) c (by_node here (Expr-F.Choice p test second third) (rolled.rolls-Choice p test second third))
 
 -- a list of parts
 in_each : (here : Here) (es : List Expr) (c : Call) (k : ℕ) (d : Expr) → k < length es → Contains (calls_in here (get_or es k d)) c → Contains (calls_in_each here es) c
@@ -177,20 +177,20 @@ AreCallsOfEach es e = All (λ (x : Expr). AreCallsOf x e) es
 
 pub in_call : (n : Name) (arguments : Vec Expr Global) → AreCallsOfEach arguments.items (E.Call n arguments)
 in_call n arguments k d within here c h =
-    first_of (calls_in_each here arguments.items) (call_of here (meaning here n.word)) (calls_in here (E.Call n arguments)) c (ap (calls_in here) (sym (rolled.rolls-Call n arguments)) ∙ fold-roll-Expr (List Call) (call_step here) (Expr-F.Call n arguments)) (in_each here arguments.items c k d within h)
+    first_of (calls_in_each here arguments.items) (call_of here (meaning here n.word)) (calls_in here (E.Call n arguments)) c (by_node here (Expr-F.Call n arguments) (rolled.rolls-Call n arguments)) (in_each here arguments.items c k d within h)
 
 pub in_printf : (p : Place) (text : List ℕ) (arguments : Vec Expr Global) → AreCallsOfEach arguments.items (E.Printf p text arguments)
 in_printf p text arguments k d within here c h =
-    subst (λ (l : List Call). Contains l c) (sym (ap (calls_in here) (sym (rolled.rolls-Printf p text arguments)) ∙ fold-roll-Expr (List Call) (call_step here) (Expr-F.Printf p text arguments))) (in_each here arguments.items c k d within h)
+    subst (λ (l : List Call). Contains l c) (sym (by_node here (Expr-F.Printf p text arguments) (rolled.rolls-Printf p text arguments))) (in_each here arguments.items c k d within h)
 
 pub in_left_index : (p : Place) (indexes : Vec Expr Global) (n : Name) → AreCallsOfEach indexes.items (E.LeftIndex p indexes n)
 in_left_index p indexes n k d within here c h =
-    subst (λ (l : List Call). Contains l c) (sym (ap (calls_in here) (sym (rolled.rolls-LeftIndex p indexes n)) ∙ fold-roll-Expr (List Call) (call_step here) (Expr-F.LeftIndex p indexes n))) (in_each here indexes.items c k d within h)
+    subst (λ (l : List Call). Contains l c) (sym (by_node here (Expr-F.LeftIndex p indexes n) (rolled.rolls-LeftIndex p indexes n))) (in_each here indexes.items c k d within h)
 
 -- the call itself
 pub called_itself : (here : Here) (n : Name) (arguments : Vec Expr Global) (f : ℕ) → meaning here n.word ≡ Some (S.a_function f) → Contains (calls_in here (E.Call n arguments)) (record { function = f; current = here.current; typed = true })
 called_itself here n arguments f is =
-    let whole = ap (calls_in here) (sym (rolled.rolls-Call n arguments)) ∙ fold-roll-Expr (List Call) (call_step here) (Expr-F.Call n arguments) in
+    let whole = by_node here (Expr-F.Call n arguments) (rolled.rolls-Call n arguments) in
     let all : calls_in here (E.Call n arguments) ≡ calls_in_each here arguments.items ++ record { function = f; current = here.current; typed = true } ∷ [] = whole ∙ ap (λ (m : Option S.Meaning). calls_in_each here arguments.items ++ call_of here m) is in
     subst (λ (l : List Call). Contains l (record { function = f; current = here.current; typed = true })) (sym all) (Contains-push (calls_in_each here arguments.items) (record { function = f; current = here.current; typed = true }))
 

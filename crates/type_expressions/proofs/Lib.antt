@@ -8,7 +8,9 @@ pub mod Combined
 pub mod Indexed
 pub mod KeptHeaders
 pub mod Listing
+pub mod Meetings
 pub mod NamesInExpressions
+pub mod NodeCalls
 pub mod OfShapes
 pub mod OnOperands
 pub mod Printed

@@ -67,7 +67,7 @@ none_listed so_far file locals site e indexed items xs empty = λ program here a
 -- ---- one part more
 
 -- the place of a part of a list
-around_dot : {file : File} {locals : Locals} {site : Site} (here : Here) (dot : Option ℕ) → IsAround file locals site here → IsAround file locals (record site { dot = dot }) (record here { dot = dot })
+pub around_dot : {file : File} {locals : Locals} {site : Site} (here : Here) (dot : Option ℕ) → IsAround file locals site here → IsAround file locals (record site { dot = dot }) (record here { dot = dot })
 unfolding meaning extents_of
 around_dot here dot a = record {
   at_site = record { current = a.at_site.current; around = a.at_site.around; dot = refl; whole = a.at_site.whole };
@@ -106,13 +106,18 @@ typed_more so_far file locals site e (Some b) items es k axis x y ts program her
 trees_more : (values : List (Box TExpr Global)) (x : Box TExpr Global) → trees (values ++ x ∷ []) ≡ trees values ++ x.value ∷ []
 trees_more values x = map-append (λ (b : Box TExpr Global). b.value) values (x ∷ [])
 
+-- the first so many, and one more
+pub take_more : (items : List Expr) (k : ℕ) (x : Expr) → k < length items → x ≡ get_or items k x → take (k + 1) items ≡ take k items ++ x ∷ []
+take_more items k x within is =
+    let next : k + 1 ≡ suc k = omega arith in
+    ap (λ (m : ℕ). take m items) next ∙ (take-suc items k x within ∙ ap (λ (z : Expr). take k items ++ z ∷ []) (sym is))
+
 pub listed_more : (so_far : Instances) (file : File) (locals : Locals) (site : Site) (e : Expr) (indexed : Option Bool) (items : List Expr) (k axis : ℕ) (x : Expr) (typed : Option (Box TExpr Global)) (old new : Option (Vec (Box TExpr Global) Global)) → k < length items → x ≡ get_or items k x → axis ≡ min k (2 ^ 32 - 1) → IsToldIndexed file locals site e indexed → IsValue so_far file locals (record site { dot = dot_at indexed site.dot axis }) x typed → AreMore old typed new → AreListedTo so_far file locals site e indexed items k old → AreListedTo so_far file locals site e indexed items (k + 1) new
 listed_more so_far file locals site e indexed items k axis x typed old None within is axis_is told v more h = tt
 listed_more so_far file locals site e indexed items k axis x typed None (Some ys) within is axis_is told v more h = absurd more
 listed_more so_far file locals site e indexed items k axis x None (Some xs) (Some ys) within is axis_is told v more h = absurd more
 listed_more so_far file locals site e indexed items k axis x (Some y) (Some xs) (Some ys) within is axis_is told v more h = λ program here a calls plain few.
-    let next : k + 1 ≡ suc k = omega arith in
-    let all : take (k + 1) items ≡ take k items ++ x ∷ [] = ap (λ (m : ℕ). take m items) next ∙ (take-suc items k x within ∙ ap (λ (z : Expr). take k items ++ z ∷ []) (sym is)) in
+    let all = take_more items k x within is in
     let values = ap trees more ∙ trees_more xs.items y in
     let plain_x = subst IsPlain (sym is) (All-get_or IsPlain items k x within plain) in
     let calls_x = subst (HasItsCalls so_far file program here) (sym is) (All-get_or (HasItsCalls so_far file program here) items k x within calls) in

@@ -30,7 +30,7 @@ use Rattle.constant_trees.specs.Words.{HasFewPositions, HasWords, IsCounted}
 use Rattle.constant_trees.proofs.Written.{in_part as constant_in_part, number_read, written as typed_as_written}
 use Rattle.cstar_tree.specs.Constants.{axis_among, axis_of, constant, constant_number, number_meant, product}
 use Rattle.cstar_tree.specs.Conversions.{int, unsigned}
-use Rattle.cstar_tree.specs.ExpressionTypes.{IsVariable, Types, TypesEach, TypesIndexes}
+use Rattle.cstar_tree.specs.ExpressionTypes.{IsVariable, Types, TypesIndexes}
 use Rattle.cstar_tree.specs.ExpressionTypes as X
 use Rattle.cstar_tree.specs.Headers.{Program}
 use Rattle.cstar_tree.specs.Scopes.{Here, Meaning, a_function, a_shape, a_variable, extents_of, find, meaning, part, shape_meant, shape_of, written_type}
@@ -58,7 +58,7 @@ use Rattle.type_expressions.specs.declared.found.Instances.{Instances}
 use Rattle.type_expressions.specs.declared.found.TypedExpr.{TypedExpr}
 use Rattle.type_expressions.specs.declared.intrinsics.Axis.{Axis}
 use Rattle.type_expressions.specs.declared.intrinsics.Axis.TheVariants as A
-use Rattle.type_expressions.specs.declared.walk.Along.{Along}
+use Rattle.type_expressions.specs.declared.along.Along.{Along}
 use Rattle.type_expressions.proofs.CallsWithin.{AreCallsOf, earlier, in_assignment_target, in_assignment_value, in_binary_left, in_binary_right, in_brackets, in_casts, in_choice_second, in_choice_test, in_choice_third, in_dim, in_element, in_enumerate, in_parallel_cast, in_pcoord, in_postfix, in_prefix, in_scan_axis, in_scan_source, moved, narrowed}
 use Rattle.type_expressions.proofs.OfShapes.{rank_is}
 use Rattle.type_expressions.proofs.AtSites.{some_in}

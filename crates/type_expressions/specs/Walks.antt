@@ -23,7 +23,7 @@ use Rattle.type_expressions.specs.Programs.{HasItsCalls}
 use Rattle.type_expressions.specs.declared.found.Instances.{Instances}
 use Rattle.type_expressions.specs.declared.found.TypedExpr.{TypedExpr}
 use Rattle.type_expressions.specs.declared.intrinsics.Axis.TheVariants as A
-use Rattle.type_expressions.specs.declared.walk.Along.{Along}
+use Rattle.type_expressions.specs.declared.along.Along.{Along}
 
 -- the shape of this number is one of the file's
 abbrev pub IsShape : Here → ℕ → Type 0

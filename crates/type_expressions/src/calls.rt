@@ -1,9 +1,10 @@
 //! Calls of functions, and `printf`.
 
+ghost use Rattle.cstar_tree.specs.Calls.{call_of};
 ghost use Rattle.cstar_tree.specs.Conversions.{AreFitted, ArePromoted};
 ghost use Rattle.cstar_tree.specs.ExpressionTypes.{Types, TypesEach};
 ghost use Rattle.cstar_tree.specs.Headers.{Program};
-ghost use Rattle.cstar_tree.specs.Scopes.{Here, part};
+ghost use Rattle.cstar_tree.specs.Scopes.{Here, meaning, part};
 ghost use Rattle.cstar_tree.specs.declared.syntax.Expr as E;
 ghost use Rattle.cstar_tree.specs.declared.syntax.Expr.{Expr};
 ghost use Rattle.std.specs.Prelude.{◌≡◌, ◌↔◌, List, IfOk, IfSome, IsTrue, MatchResult, OnOk, Some, Bool, Vec, false, is_some, length, map};
@@ -15,6 +16,7 @@ ghost use Rattle.cstar_tree.specs.declared.typed.ValueType.{ValueType};
 ghost use Rattle.type_scopes.specs.Headers.{IsOfGroup, returned};
 ghost use Rattle.type_expressions.specs.Calls.{HasTypes, IsCallTo, IsGiven, IsReached, TakesParallel, is_unfit};
 ghost use Rattle.type_expressions.specs.Instances.{Grows, instance_of, met};
+ghost use Rattle.type_expressions.specs.Meetings.{Meets, behind_call};
 ghost use Rattle.type_expressions.specs.Walks.{IsTypedFromList};
 ghost use Rattle.type_expressions.specs.Answers.{IsFaultOrMemory, is_parallel, trees};
 
@@ -193,6 +195,7 @@ pub fn call(
 ) -> Typing
     ensures typed { (given : Vec Expr Global) → IfOk result (IsTypedFromList found.new.instances arguments file.now locals.now site (E.Call name.now given)) }
     ensures met { OnOk result (Grows file.now found.old.instances found.new.instances) }
+    ensures calls { OnOk result (Meets found.old.instances found.new.instances file.now locals.now site (λ here. call_of here (meaning here name.now.word))) }
 {
     let Some(function) = found.faults.settle(file.called(locals, site, name))? else {
         return Ok(None);
@@ -224,6 +227,7 @@ fn reach(
 ) -> Result<Option<u32>, Memory>
     ensures number { IfOk result (IsReached (met found.new.instances) site.function (instance_of reached)) }
     ensures met { OnOk result (Grows file.now found.old.instances found.new.instances) }
+    ensures calls { OnOk result (met found.new.instances ≡ behind_call site.function (instance_of reached) (met found.old.instances)) }
 {
     match site.function {
         Some(_) => Ok(Some(found.reach(file, reached)?)),

@@ -22,17 +22,15 @@ pub struct TypedExpr {
 /// A typed expression, or nothing where it has a fault or stands on a declaration that has one.
 pub type Typing = Result<Option<TypedExpr>, Memory>;
 
-/// The headers that were typed, the instances in the order in which they were met, and those that
-/// the present one calls.
+/// The headers that were typed, and the instances in the order in which they were met.
 #[derive(Drop)]
 pub struct Instances {
     headers: IndexMap<Reached, Header>,
     reached: IndexSet<Reached>,
-    callees: Vec<u32>,
 }
 
 impl Instances {
-    ghost use Rattle.std.specs.Prelude.{◌≡◌, ◌∷◌, ◌++◌, [], not, slice_get, Some, IfOk, IsSome, OnOk};
+    ghost use Rattle.std.specs.Prelude.{◌≡◌, [], not, slice_get, Some, IfOk, IsSome, OnOk};
     ghost use Rattle.std.specs.Option.{option_copied, option_map};
     ghost use Rattle.cstar_tree.specs.Instances.{is_met};
     ghost use Rattle.type_expressions.specs.Instances.{Grows, instance_of, kept_header, met, with_met};
@@ -40,12 +38,10 @@ impl Instances {
     pub fn new(alloc: Global) -> Instances
         ensures headers { result.headers.entries ≡ [] }
         ensures met { met result ≡ [] }
-        ensures callees { result.callees.items ≡ [] }
     {
         Instances {
             headers: IndexMap::new(alloc),
             reached: IndexSet::new(alloc),
-            callees: Vec::new(alloc),
         }
     }
 
@@ -61,17 +57,6 @@ impl Instances {
         ensures { option_copied result ≡ kept_header self.now reached }
     {
         self.headers.get(&reached)
-    }
-
-    /// The instances that the present one calls, each as often as it does. The next one calls none
-    /// yet.
-    pub fn callees(&mut self, alloc: Global) -> Vec<u32>
-        ensures callees { result.items ≡ self.old.callees.items }
-        ensures none { self.new.callees.items ≡ [] }
-        ensures met { met self.new ≡ met self.old }
-        ensures headers { self.new.headers ≡ self.old.headers }
-    {
-        std::mem::replace(&mut self.callees, Vec::new(alloc))
     }
 
     /// Types the header of the instance, unless that was done before.
@@ -93,12 +78,10 @@ impl Instances {
         ensures number { IfOk result (λ r. slice_get (met self.new) r.0 ≡ Some (instance_of reached)) }
         ensures is_new { IfOk result (λ r. r.1 ≡ not (is_met (instance_of reached) (met self.old))) }
         ensures met { IfOk result (λ r. met self.new ≡ with_met (instance_of reached) (met self.old)) }
-        ensures callees { IfOk result (λ r. self.new.callees.items ≡ self.old.callees.items ++ r.0 ∷ []) }
         ensures headers { self.new.headers ≡ self.old.headers }
     {
         let (number, is_new) = self.reached.insert_full(reached)?;
         let number = u32::try_from(number).map_err(|_error| Memory)?;
-        self.callees.push(number)?;
         Ok((number, is_new))
     }
 }

@@ -1,6 +1,7 @@
 //! The types of expressions: what each node is typed as, and the faults that stand at it.
 #![tactic(auto)]
 
+mod along;
 mod calls;
 mod found;
 mod intrinsics;

@@ -3,7 +3,7 @@
 
 ghost use Rattle.cstar_base.specs.declared.operators.Place.{Place};
 ghost use Rattle.cstar_tree.specs.declared.syntax.Expr as E;
-ghost use Rattle.std.specs.Prelude.{◌≡◌, true, false, IfOk, IfSome, OnOk, Ok, Some, Box, Vec};
+ghost use Rattle.std.specs.Prelude.{◌≡◌, true, false, IfOk, IfSome, OnOk, Some, Box, Vec};
 ghost use Rattle.std.specs.declared.alloc.Global.{Global};
 ghost use Rattle.cstar_tree.specs.ExpressionTypes.{Types};
 ghost use Rattle.cstar_tree.specs.Headers.{Program};
@@ -14,20 +14,17 @@ ghost use Rattle.cstar_tree.specs.declared.typed.TExpr.{TExpr};
 ghost use Rattle.type_scopes.specs.FileBindings.{names_at};
 ghost use Rattle.type_scopes.specs.declared.locals.Locals.{Locals};
 ghost use Rattle.type_scopes.specs.declared.sites.Site.{Site};
-ghost use Rattle.type_expressions.specs.Along.{IsAxisOf, number_of_constant};
 ghost use Rattle.type_expressions.specs.Names.{IsVariableMeant};
 ghost use Rattle.type_expressions.specs.Answers.{IsAssigned, OnBoth, OnThree};
 ghost use Rattle.type_expressions.specs.Instances.{Grows};
-ghost use Rattle.type_expressions.specs.Meetings.{Meets};
+ghost use Rattle.type_expressions.specs.Meetings.{Meets, list_calls, operand_calls, own_calls, source_calls};
 ghost use Rattle.cstar_tree.specs.Calls.{calls_in};
-ghost use Rattle.type_expressions.specs.Walks.{AreFoundAlong, AreListed, AreMore, AreParts, HasItsSource, IsAround, IsFoundAlong, IsOperand, IsPart, IsSource, IsSourceValue, IsTyped, IsTypedAlong, IsTypedFrom, IsTypedFromList, IsValue, dot_at, rank_under};
+ghost use Rattle.type_expressions.specs.Walks.{AreListed, AreMore, AreParts, IsAround, IsOperand, IsPart, IsSourceValue, IsTyped, IsTypedFrom, IsTypedFromList, IsValue, dot_at};
 
+use crate::along::{goes_along, with_axis};
 use crate::calls::{call, printf};
 use crate::found::{Found, TypedExpr, Typing, outcome};
-use crate::intrinsics::{
-    Axis, Walk, axis_of, dim_of, enumerate, parallel_cast, pcoord, positions_of, rank_of, scan,
-    segment_bit,
-};
+use crate::intrinsics::{parallel_cast, positions_of, rank_of};
 use crate::operators::{assign, bracketed, casts, prefix, sending, stepped};
 use crate::references::{array, dot, element, is_of_current, left_index, name, plain_variable};
 use cstar_base::{Elem, Fault, Memory, Place};
@@ -70,6 +67,7 @@ fn axis_value(
 ) -> Result<Option<Box<TExpr>>, Memory>
     ensures typed { IfOk result (IsValue found.new.instances file.now locals.now site axis.now) }
     ensures met { OnOk result (Grows file.now found.old.instances found.new.instances) }
+    ensures calls { OnOk result (Meets found.old.instances found.new.instances file.now locals.now site (λ here. calls_in here axis.now)) }
 {
     let earlier = found.set_aside();
     let typed = typed_value(found, file, locals, site, axis)?;
@@ -147,19 +145,24 @@ pub fn typed_expr(
         | Expr::DimOf { axis, .. }
         | Expr::Scan { axis, .. }
         | Expr::Enumerate { axis, .. } => {
+            let source = source_value(found, file, locals, site, e)?;
             let axis = axis_value(found, file, locals, site, axis)?;
             let along = goes_along(&mut found.faults, file, locals, site, e, axis)?;
-            let source = source_value(found, file, locals, site, e)?;
             match along {
                 Some(along) => with_axis(&mut found.faults, file, site, e, along, source),
                 None => Ok(None),
             }
         }
-        _ => outcome(&mut found.faults, file.alloc, leaf(file, locals, site, e)),
+        Expr::Name(_)
+        | Expr::Number { .. }
+        | Expr::Dot(_)
+        | Expr::PositionsOf { .. }
+        | Expr::RankOf { .. }
+        | Expr::GetChar(_) => outcome(&mut found.faults, file.alloc, leaf(file, locals, site, e)),
     }
 }
 
-/// Types the source of a scan. No other expression has one.
+/// Types the source of a scan, which stands before its axis. No other expression has one.
 #[cycle(expression)]
 fn source_value(
     found: &mut Found,
@@ -170,6 +173,7 @@ fn source_value(
 ) -> Result<Option<Box<TExpr>>, Memory>
     ensures typed { IfOk result (IsSourceValue found.new.instances file.now locals.now site e.now) }
     ensures met { OnOk result (Grows file.now found.old.instances found.new.instances) }
+    ensures calls { OnOk result (Meets found.old.instances found.new.instances file.now locals.now site (λ here. source_calls here e.now)) }
 {
     match e {
         Expr::Scan { source, .. } => typed_value(found, file, locals, site, source),
@@ -195,6 +199,7 @@ fn nodes(file: &File<'_>, locals: &Locals, site: Site, e: &Expr) -> u64 {
 fn operands(found: &mut Found, file: &File<'_>, locals: &Locals, site: Site, e: &Expr) -> Typing
     ensures typed { IfOk result (IsTyped found.new.instances file.now locals.now site e.now) }
     ensures met { OnOk result (Grows file.now found.old.instances found.new.instances) }
+    ensures calls { OnOk result (Meets found.old.instances found.new.instances file.now locals.now site (λ here. operand_calls here e.now)) }
 {
     match e {
         Expr::Assign {
@@ -399,6 +404,7 @@ fn list(
 ) -> Result<Option<Vec<Box<TExpr>>>, Memory>
     ensures typed { IfOk result (AreListed found.new.instances file.now locals.now site e.now) }
     ensures met { OnOk result (Grows file.now found.old.instances found.new.instances) }
+    ensures calls { OnOk result (Meets found.old.instances found.new.instances file.now locals.now site (λ here. list_calls here e.now)) }
 {
     let (parts, indexed) = match e {
         Expr::Call { arguments, .. } | Expr::Printf { arguments, .. } => (arguments, None),
@@ -456,6 +462,7 @@ fn with_list(
 ) -> Typing
     ensures typed { IfOk result (IsTypedFromList found.new.instances parts file.now locals.now site e.now) }
     ensures met { OnOk result (Grows file.now found.old.instances found.new.instances) }
+    ensures calls { OnOk result (Meets found.old.instances found.new.instances file.now locals.now site (λ here. own_calls here e.now)) }
 {
     match e {
         Expr::Call { name, .. } => call(found, file, locals, site, name, parts),
@@ -487,168 +494,6 @@ fn indexed(
         return Ok(None);
     };
     outcome(faults, file.alloc, left_index(file, place, variable, parts))
-}
-
-/// What an intrinsic goes along: its axis, the shape that it names, and its segment bit.
-#[derive(Clone, Copy)]
-struct Along {
-    axis: Axis,
-    shape: Option<u16>,
-    bit: Option<Variable>,
-}
-
-/// What an intrinsic goes along, from its typed axis. What its shape, its axis and its segment bit
-/// break stands, whatever the others are.
-fn goes_along(
-    faults: &mut Faults,
-    file: &File<'_>,
-    locals: &Locals,
-    site: Site,
-    e: &Expr,
-    axis: Option<Box<TExpr>>,
-) -> Result<Option<Along>, Memory>
-    ensures { IfOk result (AreFoundAlong file.now locals.now site e.now axis) }
-{
-    match e {
-        Expr::DimOf {
-            shape,
-            axis: written,
-            ..
-        } => {
-            let shape = faults.settle(file.shape(locals, site, shape))?;
-            let rank = rank_of_shape(file, shape);
-            let axis = settled_axis(faults, written.place(), axis, rank)?;
-            Ok(match shape {
-                Some(_) => known_along(axis, Some(None), shape),
-                None => None,
-            })
-        }
-        Expr::Scan {
-            axis: written,
-            bit,
-            ..
-        }
-        | Expr::Enumerate {
-            axis: written,
-            bit,
-            ..
-        } => {
-            let rank = rank_of_shape(file, site.current);
-            let axis = settled_axis(faults, written.place(), axis, rank)?;
-            let bit = faults.settle(segment_bit(file, locals, site, bit))?;
-            Ok(known_along(axis, bit, None))
-        }
-        Expr::Pcoord { axis: written, .. } => {
-            let rank = rank_of_shape(file, site.current);
-            let axis = settled_axis(faults, written.place(), axis, rank)?;
-            Ok(known_along(axis, Some(None), None))
-        }
-        _ => Ok(None),
-    }
-}
-
-fn known_along(
-    axis: Option<Axis>,
-    bit: Option<Option<Variable>>,
-    shape: Option<u16>,
-) -> Option<Along>
-    ensures { IfSome result (λ a. (axis ≡ Some a.axis) × (bit ≡ Some a.bit) × (a.shape ≡ shape)) }
-{
-    Some(Along {
-        axis: axis?,
-        shape,
-        bit: bit?,
-    })
-}
-
-/// An intrinsic along its axis, with the typed source of a scan.
-fn with_axis(
-    faults: &mut Faults,
-    file: &File<'_>,
-    site: Site,
-    e: &Expr,
-    along: Along,
-    source: Option<Box<TExpr>>,
-) -> Typing
-    ensures { (locals : Locals) → IfOk result (IsTypedAlong file.now locals site e.now along source) }
-{
-    outcome(faults, file.alloc, intrinsic(file, site, e, along, source))
-}
-
-/// The same as a tree, or why it has none.
-fn intrinsic(
-    file: &File<'_>,
-    site: Site,
-    e: &Expr,
-    along: Along,
-    source: Option<Box<TExpr>>,
-) -> Result<TExpr, Untyped>
-    ensures source { IfOk result (λ t. HasItsSource e.now source) }
-    ensures typed { (locals : Locals) → IfOk result (λ t. (program : Program) (here : Here) → IsAround file.now locals site here → IsFoundAlong program here e.now along → IsSource program here e.now source → Types program here e.now t true) }
-{
-    let Along { axis, shape, bit } = along;
-    match e {
-        Expr::DimOf { .. } => match shape {
-            Some(shape) => dim_of(file, shape, axis),
-            None => Err(Untyped::Faulty),
-        },
-        Expr::Pcoord { place, .. } => pcoord(site, *place, axis),
-        Expr::Enumerate {
-            place,
-            direction,
-            inclusion,
-            mode,
-            ..
-        } => {
-            let walk = Walk {
-                mode: *mode,
-                direction: *direction,
-                inclusion: *inclusion,
-            };
-            enumerate(site, *place, axis, walk, bit)
-        },
-        Expr::Scan {
-            place,
-            combiner,
-            direction,
-            mode,
-            inclusion,
-            ..
-        } => {
-            let Some(source) = source else {
-                return Err(Untyped::Faulty);
-            };
-            let walk = Walk {
-                mode: *mode,
-                direction: *direction,
-                inclusion: *inclusion,
-            };
-            scan(file.alloc, site, *place, source, axis, *combiner, walk, bit)
-        }
-        _ => Err(Untyped::Faulty),
-    }
-}
-
-/// The axis at the place, where its expression has no fault.
-fn settled_axis(
-    faults: &mut Faults,
-    place: Place,
-    axis: Option<Box<TExpr>>,
-    rank: Option<u32>,
-) -> Result<Option<Axis>, Memory>
-    ensures { IfOk result (λ r. IfSome r (λ a. (x : Box TExpr Global) × (axis ≡ Some x) × IsAxisOf (number_of_constant x.value) rank place (Ok a))) }
-{
-    match axis {
-        Some(axis) => faults.settle(axis_of(place, &axis, rank)),
-        None => Ok(None),
-    }
-}
-
-/// The rank of the shape, if there is one.
-fn rank_of_shape(file: &File<'_>, shape: Option<u16>) -> Option<u32>
-    ensures { result ≡ rank_under file.now.shapes.items shape }
-{
-    file.rank(shape?)
 }
 
 /// Types an expression without parts.

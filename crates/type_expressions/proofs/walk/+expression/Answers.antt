@@ -1,7 +1,9 @@
-use Rattle.std.proofs.Common.{◌≡◌, arith, inl, inr, length, refl}
-use Rattle.std.proofs.lemmas.Result.{IfOk-weaker}
+use Rattle.std.proofs.Common.{◌≡◌, arith, inl, inr, length, refl, sym}
+use Rattle.std.proofs.lemmas.Result.{IfOk-weaker, on_ok_weaker}
 use Rattle.type_expressions.proofs.CallsWithin.{begins_answer, begins_before, begins_both, begins_same}
 use Rattle.type_expressions.proofs.Listing.{call_listed, indexes_listed, listed_more, listed_to_later, none_listed, printed_listed, told_left}
+use Rattle.type_expressions.proofs.Meetings.{all_met, at_answer, meets_as, meets_both, meets_from, meets_none, meets_part, none_met, one_met}
+use Rattle.type_expressions.proofs.NodeCalls.{calls_of_axis, calls_of_brackets, calls_of_leaf, calls_of_list, calls_of_operand, calls_of_operands, list_of_call, list_of_index, list_of_printf, no_list, no_operands, no_source, operands_of_assign, operands_of_binary, operands_of_choice, source_of_scan}
 use Rattle.type_expressions.proofs.Walking.{assigned_typed, at_index_typed, both_typed, brackets_typed, casts_typed, dim_typed, enumerate_typed, list_typed, parallel_cast_typed, pcoord_typed, postfix_typed, prefix_typed, scan_typed, three_typed, value_later, value_typed}
 use Rattle.type_expressions.proofs.walk.+expression.Goals as goal
 use Rattle.type_expressions.proofs.walk.+expression.Goals.{list-in-LeftIndex, list-in-Call2}
@@ -15,6 +17,7 @@ list-loop-part-init t c = (
     | list-in-Call2 w ↦ rw w.indexed-is tt
   ],
   begins_same refl,
+  none_met c.deref-part-items.result.now refl,
 )
 
 pub list-loop-part-preserved : goal.list-loop-part-preserved
@@ -26,6 +29,7 @@ list-loop-part-preserved t c =
       omega (arith, before.1, c.saturating_add-axis.ensures),
       before.2,
       begins_both before.3 begins,
+      one_met c.deref-part-items.result.now c.loop-part.part-index c.part-item.result c.dot_at-dot.result c.loop-part-test.true c.part-item.is before.4 c.in_ok-part.ensures.calls,
     )
 
 pub list-returns-clause-typed : goal.list-returns-clause-typed
@@ -67,15 +71,15 @@ typed_expr-returns-in_ok-inner-in-Brackets-clause-typed t c =
 
 pub typed_expr-returns-in-Some-clause-typed : goal.typed_expr-returns-in-Some-clause-typed
 typed_expr-returns-in-Some-clause-typed t c =
-    let v = value_later c.args.file.now c.args.locals.now c.args.site c.in-Pcoord.axis.value c.in_ok-axis-in-Pcoord.axis c.in_ok-source-in-Pcoord.ensures.met (rw c.deref-in-Pcoord.ensures at c.in_ok-axis-in-Pcoord.ensures.typed) in
+    let v = rw c.deref-in-Pcoord.ensures at c.in_ok-axis-in-Pcoord.ensures.typed in
     let typed = c.with_axis.ensures c.args.locals.now in
     elim c.in-Pcoord.is [
-      | inl k ↦ rw k.1 (IfOk-weaker c.with_axis.result _ _ (λ r m. pcoord_typed _ c.args.file.now c.args.locals.now c.args.site k.0 c.in-Pcoord.axis c.in_ok-axis-in-Pcoord.axis c.in_ok-along-in-Pcoord.along c.in-Some.along c.in_ok-source-in-Pcoord.source r v (rw k.1 at c.in_ok-along-in-Pcoord.ensures) c.in-Some.is (rw k.1 at c.in_ok-source-in-Pcoord.ensures.typed) m) (rw k.1 at typed))
+      | inl k ↦ rw k.1 (IfOk-weaker c.with_axis.result _ _ (λ r m. pcoord_typed _ c.args.file.now c.args.locals.now c.args.site k.0 c.in-Pcoord.axis c.in_ok-axis-in-Pcoord.axis c.in_ok-along-in-Pcoord.along c.in-Some.along c.in_ok-source-in-Pcoord.source r v (rw k.1 at c.in_ok-along-in-Pcoord.ensures) c.in-Some.is tt m) (rw k.1 at typed))
       | inr a ↦ elim a [
-        | inl k ↦ rw k.2 (IfOk-weaker c.with_axis.result _ _ (λ r m. dim_typed _ c.args.file.now c.args.locals.now c.args.site k.0 k.1 c.in-Pcoord.axis c.in_ok-axis-in-Pcoord.axis c.in_ok-along-in-Pcoord.along c.in-Some.along c.in_ok-source-in-Pcoord.source r v (rw k.2 at c.in_ok-along-in-Pcoord.ensures) c.in-Some.is (rw k.2 at c.in_ok-source-in-Pcoord.ensures.typed) m) (rw k.2 at typed))
+        | inl k ↦ rw k.2 (IfOk-weaker c.with_axis.result _ _ (λ r m. dim_typed _ c.args.file.now c.args.locals.now c.args.site k.0 k.1 c.in-Pcoord.axis c.in_ok-axis-in-Pcoord.axis c.in_ok-along-in-Pcoord.along c.in-Some.along c.in_ok-source-in-Pcoord.source r v (rw k.2 at c.in_ok-along-in-Pcoord.ensures) c.in-Some.is tt m) (rw k.2 at typed))
         | inr b ↦ elim b [
-          | inl k ↦ rw k.7 (IfOk-weaker c.with_axis.result _ _ (λ r m. scan_typed _ c.args.file.now c.args.locals.now c.args.site k.0 k.1 c.in-Pcoord.axis k.2 k.3 k.4 k.5 k.6 c.in_ok-axis-in-Pcoord.axis c.in_ok-along-in-Pcoord.along c.in-Some.along c.in_ok-source-in-Pcoord.source r v (rw k.7 at c.in_ok-along-in-Pcoord.ensures) c.in-Some.is (rw k.7 at c.in_ok-source-in-Pcoord.ensures.typed) m) (rw k.7 at typed))
-          | inr k ↦ rw k.5 (IfOk-weaker c.with_axis.result _ _ (λ r m. enumerate_typed _ c.args.file.now c.args.locals.now c.args.site k.0 c.in-Pcoord.axis k.1 k.2 k.3 k.4 c.in_ok-axis-in-Pcoord.axis c.in_ok-along-in-Pcoord.along c.in-Some.along c.in_ok-source-in-Pcoord.source r v (rw k.5 at c.in_ok-along-in-Pcoord.ensures) c.in-Some.is (rw k.5 at c.in_ok-source-in-Pcoord.ensures.typed) m) (rw k.5 at typed))
+          | inl k ↦ rw k.7 (IfOk-weaker c.with_axis.result _ _ (λ r m. scan_typed _ c.args.file.now c.args.locals.now c.args.site k.0 k.1 c.in-Pcoord.axis k.2 k.3 k.4 k.5 k.6 c.in_ok-axis-in-Pcoord.axis c.in_ok-along-in-Pcoord.along c.in-Some.along c.in_ok-source-in-Pcoord.source r v (rw k.7 at c.in_ok-along-in-Pcoord.ensures) c.in-Some.is (value_later c.args.file.now c.args.locals.now c.args.site k.1.value c.in_ok-source-in-Pcoord.source c.in_ok-axis-in-Pcoord.ensures.met (rw k.7 at c.in_ok-source-in-Pcoord.ensures.typed)) m) (rw k.7 at typed))
+          | inr k ↦ rw k.5 (IfOk-weaker c.with_axis.result _ _ (λ r m. enumerate_typed _ c.args.file.now c.args.locals.now c.args.site k.0 c.in-Pcoord.axis k.1 k.2 k.3 k.4 c.in_ok-axis-in-Pcoord.axis c.in_ok-along-in-Pcoord.along c.in-Some.along c.in_ok-source-in-Pcoord.source r v (rw k.5 at c.in_ok-along-in-Pcoord.ensures) c.in-Some.is tt m) (rw k.5 at typed))
         ]
       ]
     ]
@@ -118,8 +122,8 @@ pub operands-returns-in_ok-right-in-Binary-clause-met : goal.operands-returns-in
 operands-returns-in_ok-right-in-Binary-clause-met t c =
     begins_answer c.combined.result (begins_both c.in_ok-left-in-Binary.ensures.met c.in_ok-right-in-Binary.ensures.met)
 
-pub typed_expr-returns-in_default-clause-met : goal.typed_expr-returns-in_default-clause-met
-typed_expr-returns-in_default-clause-met t c = begins_answer c.outcome.result (begins_same c.count.ensures)
+pub typed_expr-returns-in-Name-clause-met : goal.typed_expr-returns-in-Name-clause-met
+typed_expr-returns-in-Name-clause-met t c = begins_answer c.outcome.result (begins_same c.count.ensures)
 
 pub typed_expr-returns-in_ok-parts-in-Call-clause-met : goal.typed_expr-returns-in_ok-parts-in-Call-clause-met
 typed_expr-returns-in_ok-parts-in-Call-clause-met t c =
@@ -127,8 +131,80 @@ typed_expr-returns-in_ok-parts-in-Call-clause-met t c =
 
 pub typed_expr-returns-in-Some-clause-met : goal.typed_expr-returns-in-Some-clause-met
 typed_expr-returns-in-Some-clause-met t c =
-    begins_answer c.with_axis.result (begins_both (begins_same c.count.ensures) (begins_both c.in_ok-axis-in-Pcoord.ensures.met c.in_ok-source-in-Pcoord.ensures.met))
+    begins_answer c.with_axis.result (begins_both (begins_same c.count.ensures) (begins_both c.in_ok-source-in-Pcoord.ensures.met c.in_ok-axis-in-Pcoord.ensures.met))
 
 pub typed_expr-returns-in-None-clause-met : goal.typed_expr-returns-in-None-clause-met
 typed_expr-returns-in-None-clause-met t c =
-    begins_both (begins_same c.count.ensures) (begins_both c.in_ok-axis-in-Pcoord.ensures.met c.in_ok-source-in-Pcoord.ensures.met)
+    begins_both (begins_same c.count.ensures) (begins_both c.in_ok-source-in-Pcoord.ensures.met c.in_ok-axis-in-Pcoord.ensures.met)
+
+-- ---- what is met
+
+pub list-returns-clause-calls : goal.list-returns-clause-calls
+list-returns-clause-calls t c =
+    let end : c.loop-part.part-index ≡ length c.deref-part-items.result.now = omega (arith, c.loop-part-test.false, c.loop-part.auto.part-index-end) in
+    let whole = rw end at c.loop-part.invariant.4 in
+    let met = rw c.deref-part-items.ensures.value at whole in
+    elim c.match-e.branch [
+      | list-in-LeftIndex w ↦ all_met w.in-LeftIndex.indexes.items (λ here. list_of_index here w.in-LeftIndex.place w.in-LeftIndex.indexes w.in-LeftIndex.name w.in-LeftIndex.is) (rw w.indexed-is at met)
+      | list-in-Call2 w ↦
+          let parts = rw w.indexed-is at met in
+          elim w.in-Call.is [
+            | inl k ↦ all_met w.in-Call.arguments.items (λ here. list_of_call here k.0 w.in-Call.arguments k.1) parts
+            | inr k ↦ all_met w.in-Call.arguments.items (λ here. list_of_printf here k.0 k.1 w.in-Call.arguments k.2) parts
+          ]
+    ]
+
+pub list-returns-in_default-clause-calls : goal.list-returns-in_default-clause-calls
+list-returns-in_default-clause-calls t c = meets_none refl (λ here. no_list here c.args.e.now c.in_default.not-Call c.in_default.not-Printf c.in_default.not-LeftIndex)
+
+pub operands-returns-in_ok-value-in-Assign-clause-calls : goal.operands-returns-in_ok-value-in-Assign-clause-calls
+operands-returns-in_ok-value-in-Assign-clause-calls t c =
+    at_answer c.assigned.result (meets_as (λ here. sym (operands_of_assign here c.in-Assign.place c.in-Assign.op c.in-Assign.target c.in-Assign.value c.in-Assign.is)) (meets_both (rw c.deref.ensures at c.in_ok-target-in-Assign.ensures.calls) (rw c.deref-in-Assign.ensures at c.in_ok-value-in-Assign.ensures.calls)))
+
+pub operands-returns-in_ok-otherwise-in-Choice-clause-calls : goal.operands-returns-in_ok-otherwise-in-Choice-clause-calls
+operands-returns-in_ok-otherwise-in-Choice-clause-calls t c =
+    at_answer c.chosen.result (meets_as (λ here. sym (operands_of_choice here c.in-Choice.place c.in-Choice.test c.in-Choice.then c.in-Choice.otherwise c.in-Choice.is)) (meets_both (rw c.deref-in-Choice.ensures at c.in_ok-test-in-Choice.ensures.calls) (meets_both (rw c.deref-in-Choice-2.ensures at c.in_ok-then-in-Choice.ensures.calls) (rw c.deref-in-Choice-3.ensures at c.in_ok-otherwise-in-Choice.ensures.calls))))
+
+pub operands-returns-in_ok-right-in-Binary-clause-calls : goal.operands-returns-in_ok-right-in-Binary-clause-calls
+operands-returns-in_ok-right-in-Binary-clause-calls t c =
+    at_answer c.combined.result (meets_as (λ here. sym (operands_of_binary here c.in-Binary.place c.in-Binary.op c.in-Binary.left c.in-Binary.right c.in-Binary.is)) (meets_both (rw c.deref-in-Binary.ensures at c.in_ok-left-in-Binary.ensures.calls) (rw c.deref-in-Binary-2.ensures at c.in_ok-right-in-Binary.ensures.calls)))
+
+pub operands-returns-in_default-clause-calls : goal.operands-returns-in_default-clause-calls
+operands-returns-in_default-clause-calls t c = meets_none refl (λ here. no_operands here c.args.e.now c.in_default.not-Assign c.in_default.not-Choice c.in_default.not-Binary)
+
+pub source_value-returns-in-Scan-clause-calls : goal.source_value-returns-in-Scan-clause-calls
+source_value-returns-in-Scan-clause-calls t c =
+    on_ok_weaker c.typed_value.result (λ m. meets_as (λ here. sym (source_of_scan here c.in-Scan.place c.in-Scan.source c.in-Scan.axis c.in-Scan.combiner c.in-Scan.direction c.in-Scan.mode c.in-Scan.bit c.in-Scan.inclusion c.in-Scan.is)) (rw c.deref.ensures at m)) c.typed_value.ensures.calls
+
+pub source_value-returns-in_default-clause-calls : goal.source_value-returns-in_default-clause-calls
+source_value-returns-in_default-clause-calls t c = meets_none refl (λ here. no_source here c.args.e.now c.in_default.not-Scan)
+
+pub typed_expr-returns-in_ok-inner-in-Brackets-clause-calls : goal.typed_expr-returns-in_ok-inner-in-Brackets-clause-calls
+typed_expr-returns-in_ok-inner-in-Brackets-clause-calls t c =
+    at_answer c.bracketed.result (meets_from c.count.ensures (meets_as (λ here. sym (calls_of_brackets here c.in-Brackets.place c.in-Brackets.inner c.in-Brackets.is)) (rw c.deref.ensures at c.in_ok-inner-in-Brackets.ensures.calls)))
+
+pub typed_expr-returns-in-Assign-clause-calls : goal.typed_expr-returns-in-Assign-clause-calls
+typed_expr-returns-in-Assign-clause-calls t c =
+    on_ok_weaker c.operands.result (λ m. meets_from c.count.ensures (meets_as (λ here. sym (calls_of_operands here c.in-Assign.is)) m)) c.operands.ensures.calls
+
+pub typed_expr-returns-in_ok-part-in-Prefix-clause-calls : goal.typed_expr-returns-in_ok-part-in-Prefix-clause-calls
+typed_expr-returns-in_ok-part-in-Prefix-clause-calls t c =
+    at_answer c.with_operand.result (meets_from c.count.ensures (meets_as (λ here. sym (calls_of_operand here c.in-Prefix.part c.in-Prefix.is)) (rw c.deref-in-Prefix.ensures at c.in_ok-part-in-Prefix.ensures.calls)))
+
+pub typed_expr-returns-in_ok-parts-in-Call-clause-calls : goal.typed_expr-returns-in_ok-parts-in-Call-clause-calls
+typed_expr-returns-in_ok-parts-in-Call-clause-calls t c =
+    on_ok_weaker c.with_list.result (λ m. meets_as (λ here. sym (calls_of_list here c.in-Call.is)) (meets_both (meets_from c.count.ensures c.in_ok-parts-in-Call.ensures.calls) m)) c.with_list.ensures.calls
+
+pub typed_expr-returns-in-Some-clause-calls : goal.typed_expr-returns-in-Some-clause-calls
+typed_expr-returns-in-Some-clause-calls t c =
+    at_answer c.with_axis.result (meets_from c.count.ensures (meets_as (λ here. sym (calls_of_axis here c.in-Pcoord.axis c.in-Pcoord.is)) (meets_both c.in_ok-source-in-Pcoord.ensures.calls (rw c.deref-in-Pcoord.ensures at c.in_ok-axis-in-Pcoord.ensures.calls))))
+
+pub typed_expr-returns-in-None-clause-calls : goal.typed_expr-returns-in-None-clause-calls
+typed_expr-returns-in-None-clause-calls t c =
+    meets_from c.count.ensures (meets_as (λ here. sym (calls_of_axis here c.in-Pcoord.axis c.in-Pcoord.is)) (meets_both c.in_ok-source-in-Pcoord.ensures.calls (rw c.deref-in-Pcoord.ensures at c.in_ok-axis-in-Pcoord.ensures.calls)))
+
+pub typed_expr-returns-in-Name-clause-calls : goal.typed_expr-returns-in-Name-clause-calls
+typed_expr-returns-in-Name-clause-calls t c = at_answer c.outcome.result (meets_none c.count.ensures (λ here. calls_of_leaf here c.in-Name.is))
+
+pub typed_value-returns-clause-calls : goal.typed_value-returns-clause-calls
+typed_value-returns-clause-calls t c = at_answer c.settle.result (meets_part c.args.e.now c.part.ensures c.in_ok-typed.ensures.calls)

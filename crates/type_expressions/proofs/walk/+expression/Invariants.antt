@@ -1,5 +1,7 @@
-use Rattle.std.proofs.Common.{◌≡◌, ◌+◌, ◌*◌, ◌-◌, ◌^◌, min}
+use Rattle.std.proofs.Common.{◌≡◌, ◌+◌, ◌*◌, ◌-◌, ◌^◌, min, take}
+use Rattle.cstar_tree.specs.Calls.{calls_in_each}
 use Rattle.type_expressions.specs.Instances.{Grows}
+use Rattle.type_expressions.specs.Meetings.{Meets}
 use Rattle.type_expressions.proofs.Listing.{AreListedTo, IsToldIndexed}
 use Rattle.type_expressions.proofs.walk.+expression.Given as goal
 
@@ -27,3 +29,4 @@ invariant-list-loop-part l =
     × (l.axis ≡ min l.part-index (2 ^ 32 - 1))
     × IsToldIndexed l.file l.locals l.site l.e l.indexed
     × Grows l.file l.fn.found.instances l.found.instances
+    × Meets l.fn.found.instances l.found.instances l.file l.locals l.site (λ here. calls_in_each here (take l.part-index l.part-items))

@@ -1,9 +1,11 @@
-use Rattle.std.proofs.Common.{false}
-use Rattle.std.proofs.lemmas.Result.{IfOk-weaker}
+use Rattle.std.proofs.Common.{false, refl, sym}
+use Rattle.std.proofs.lemmas.Result.{IfOk-weaker, on_ok_weaker}
 use Rattle.cstar_tree.specs.Scopes.{find}
 use Rattle.cstar_tree.specs.declared.syntax.Expr as E
 use Rattle.type_scopes.specs.FileBindings.{names_at}
 use Rattle.type_expressions.specs.Names.{IsVariableMeant, TellsOther}
+use Rattle.type_expressions.proofs.Meetings.{at_answer, meets_as, meets_none}
+use Rattle.type_expressions.proofs.NodeCalls.{no_own, own_of_call, own_of_index, own_of_printf}
 use Rattle.type_expressions.proofs.Walking.{found_if, without_calls}
 use Rattle.type_expressions.proofs.walk.with_list.Goals as goal
 
@@ -15,3 +17,18 @@ returns-in_ok-variable-in-LeftIndex-clause-typed c =
     let m = find (names_at c.args.file.now c.args.locals.now c.args.site.known) c.in-LeftIndex.name.word in
     let found = found_if (IsVariableMeant false m) (TellsOther false m c.in-LeftIndex.name.place) c.plain_variable.result c.in_ok-variable-in-LeftIndex.variable c.plain_variable.ensures c.in_ok-variable-in-LeftIndex.ensures.part in
     rw c.in-LeftIndex.is (IfOk-weaker c.indexed.result _ _ (λ r m. without_calls c.args.found.now.instances c.args.parts c.args.file.now c.args.locals.now c.args.site (E.LeftIndex c.in-LeftIndex.place c.in-LeftIndex.indexes c.in-LeftIndex.name) r m) (c.indexed.ensures c.args.locals.now c.args.site c.in-LeftIndex.name c.in-LeftIndex.indexes found))
+
+pub returns-in-Call-clause-calls : goal.returns-in-Call-clause-calls
+returns-in-Call-clause-calls c = on_ok_weaker c.call.result (meets_as (λ here. sym (own_of_call here c.in-Call.name c.in-Call.arguments c.in-Call.is))) c.call.ensures.calls
+
+pub returns-in_ok-variable-in-LeftIndex-clause-calls : goal.returns-in_ok-variable-in-LeftIndex-clause-calls
+returns-in_ok-variable-in-LeftIndex-clause-calls c = at_answer c.indexed.result (meets_none refl (λ here. own_of_index here c.in-LeftIndex.place c.in-LeftIndex.indexes c.in-LeftIndex.name c.in-LeftIndex.is))
+
+pub returns-in-Some-clause-calls : goal.returns-in-Some-clause-calls
+returns-in-Some-clause-calls c = at_answer c.settle-in-Some.result (meets_none refl (λ here. own_of_printf here c.in-Printf.place c.in-Printf.text c.in-Printf.arguments c.in-Printf.is))
+
+pub returns-in-None-clause-calls : goal.returns-in-None-clause-calls
+returns-in-None-clause-calls c = meets_none refl (λ here. own_of_printf here c.in-Printf.place c.in-Printf.text c.in-Printf.arguments c.in-Printf.is)
+
+pub returns-in_default-clause-calls : goal.returns-in_default-clause-calls
+returns-in_default-clause-calls c = meets_none refl (λ here. no_own here c.args.e.now c.in_default.not-Call)

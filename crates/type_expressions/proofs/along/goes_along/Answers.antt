@@ -1,6 +1,6 @@
 use Rattle.std.proofs.Common.{inl, inr}
 use Rattle.type_expressions.proofs.Walking.{dim_along, enumerate_along, pcoord_along, scan_along}
-use Rattle.type_expressions.proofs.walk.goes_along.Goals as goal
+use Rattle.type_expressions.proofs.along.goes_along.Goals as goal
 
 pub returns-in-Some : goal.returns-in-Some
 returns-in-Some c =

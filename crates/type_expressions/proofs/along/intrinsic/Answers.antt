@@ -1,5 +1,5 @@
 use Rattle.type_expressions.proofs.Walking.{dim_ok}
-use Rattle.type_expressions.proofs.walk.intrinsic.Goals as goal
+use Rattle.type_expressions.proofs.along.intrinsic.Goals as goal
 
 pub returns-in-Some-clause-typed : goal.returns-in-Some-clause-typed
 returns-in-Some-clause-typed c locals =

@@ -1,6 +1,6 @@
 use Rattle.std.proofs.lemmas.Result.{IfOk-weaker}
 use Rattle.type_expressions.proofs.Walking.{told_along}
-use Rattle.type_expressions.proofs.walk.with_axis.Goals as goal
+use Rattle.type_expressions.proofs.along.with_axis.Goals as goal
 
 pub returns : goal.returns
 returns c locals =
