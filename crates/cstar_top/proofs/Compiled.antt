@@ -1,11 +1,36 @@
 -- What the compilation of an accepted text is.
-use Rattle.std.proofs.Common.{Result, Ok, Err, IfOk}
+use Rattle.std.proofs.Common.{ℕ, ◌<◌, ◌≤◌, ◌^◌, List, length, Result, Ok, Err, IfOk, arith}
 use Rattle.cstar_tree.specs.declared.typed.Typed.{Typed}
-use Rattle.cstar_tree.specs.IsTyped.{IsTyped}
 use Rattle.paris_code.specs.declared.program.Image.{Image}
-use Rattle.cstar_compile.specs.Compiled.{IsCompiled, IsOfProgram}
+use Rattle.cstar_compile.specs.Compiled.{IsCompiled}
+use Rattle.cstar_lexer.specs.Reading.{IsText}
+use Rattle.cstar_tree.specs.declared.syntax.Tree.{Tree}
+use Rattle.cstar_tree.specs.declared.token.Tokens.{Tokens}
+use Rattle.cstar_tree.specs.FileScopes.{file_known}
+use Rattle.cstar_tree.specs.Items.{IsTree}
+use Rattle.cstar_tree.specs.ProgramTypes.{TypesFile}
+use Rattle.cstar_tree.specs.Room.{HasRoom}
+use Rattle.plain_texts.proofs.FewNames.{few_names}
+use Rattle.plain_texts.proofs.PlainTrees.{tree_is_plain}
+use Rattle.plain_texts.proofs.Words.{text_has_words}
+use Rattle.shape_types.specs.Plain.{IsPlainTree}
+use Rattle.cstar_top.specs.Accepted.{IsImageOf, IsProgramOf}
 
--- an image that is compiled is that of a typed program
-pub of_program : {E : Type 0} (t : Typed) (r : Result Image E) → IsTyped t → IfOk r (λ image. IsCompiled t image) → IfOk r (λ image. IsOfProgram image)
-of_program t (Ok image) typed is = (t, typed, is)
-of_program t (Err e) typed is = tt
+-- a program that the rules give the tree of a text is the text's
+pub program_of_text : (text : List ℕ) (tokens : Tokens) (tree : Tree) (typed : Typed) → length text ≤ 1048576 → IsText text tokens.list.items → IsTree tokens tree
+    → (length (file_known tree).names < 2 ^ 32 → IsPlainTree tree → TypesFile tree typed) → HasRoom typed.shapes.items typed.need.items → IsProgramOf text typed
+program_of_text text tokens tree typed short read spelled types room =
+    let words = text_has_words text tokens.list.items (omega (arith, short)) read in
+    record {
+      tokens = tokens;
+      tree = tree;
+      read = read;
+      spelled = spelled;
+      types = types (few_names tokens tree words spelled) (tree_is_plain tokens tree words spelled);
+      room = room;
+    }
+
+-- an image that is compiled from the text's program is the text's
+pub image_of_text : {E : Type 0} (text : List ℕ) (typed : Typed) (r : Result Image E) → IsProgramOf text typed → IfOk r (λ image. IsCompiled typed image) → IfOk r (λ image. IsImageOf text image)
+image_of_text text typed (Ok image) of is = (typed, of, is)
+image_of_text text typed (Err e) of is = tt

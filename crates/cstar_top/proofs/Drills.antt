@@ -2,7 +2,6 @@
 use Rattle.std.proofs.Common.{◌≡◌, ◌∙◌, ℕ, ◌-◌, ◌%◌, ◌^◌, List, [], length, Option, Some, ap, subst, sym}
 use Rattle.std.specs.Prelude.{sum}
 use Rattle.cstar_base.specs.declared.operators.Winner.{Winner}
-use Rattle.cstar_compile.specs.Compiled.{IsOfProgram}
 use Rattle.cstar_lexer.specs.Reading.{IsText}
 use Rattle.cstar_tree.specs.declared.token.Token.{Token}
 use Rattle.drill_text.specs.Text.{drill}
@@ -13,14 +12,15 @@ use Rattle.paris_machine.specs.declared.outcome.End.TheVariants as E
 use Rattle.cstar_io.specs.declared.sink.SureSink.{SureSink}
 use Rattle.point_runs.specs.Courses.{Course, Feeds, IsCourse}
 use Rattle.point_runs.specs.Starts.{new_start}
+use Rattle.cstar_top.specs.Accepted.{IsImageOf}
 use Rattle.cstar_top.specs.Drills.{IsDrillLine, IsRunLine, drill_line}
 
 -- the line on a run of an image of the drill's text is that of the drill
-pub of_text : (seed : ℕ) (winner : Winner) (text : List ℕ) (count : ℕ) (line : List ℕ) → text ≡ drill seed → (tokens : List Token) × IsText text tokens × (count ≡ length tokens) → (image : Image) × IsSound image × IsOfProgram image × IsRunLine image winner count line → IsDrillLine seed winner line
+pub of_text : (seed : ℕ) (winner : Winner) (text : List ℕ) (count : ℕ) (line : List ℕ) → text ≡ drill seed → (tokens : List Token) × IsText text tokens × (count ≡ length tokens) → (image : Image) × IsSound image × IsImageOf text image × IsRunLine image winner count line → IsDrillLine seed winner line
 of_text seed winner text count line is read ran = (
   read.0,
   subst (λ (bytes : List ℕ). IsText bytes read.0) is read.1,
-  (ran.0, ran.1, ran.2, subst (λ (n : ℕ). IsRunLine ran.0 winner n line) read.2 ran.3),
+  (ran.0, ran.1, subst (λ (bytes : List ℕ). IsImageOf bytes ran.0) is ran.2, subst (λ (n : ℕ). IsRunLine ran.0 winner n line) read.2 ran.3),
 )
 
 -- the line on a run that came to its end

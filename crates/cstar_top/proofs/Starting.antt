@@ -3,7 +3,6 @@ use Rattle.std.proofs.Common.{◌≡◌, ◌≤◌, ℕ, List, Result, Ok, Err, 
 use Rattle.cstar_base.specs.declared.faults.Fault.{Fault}
 use Rattle.cstar_base.specs.declared.operators.Place.{Place}
 use Rattle.cstar_base.specs.declared.operators.Winner.{Winner}
-use Rattle.cstar_compile.specs.Compiled.{IsOfProgram}
 use Rattle.cstar_words.specs.declared.options.Mode.{Mode}
 use Rattle.cstar_words.specs.declared.options.Mode.TheVariants as M
 use Rattle.listed_images.specs.Meaning.{IsListable}
@@ -17,11 +16,12 @@ use Rattle.point_runs.specs.Assembled.{FitsMachine}
 use Rattle.point_runs.specs.Points.{RefusesPoint, Resumes}
 use Rattle.point_runs.specs.Refusals.{TellsWhy}
 use Rattle.point_runs.specs.Starts.{new_start, origin_of}
+use Rattle.cstar_top.specs.Accepted.{IsImageOf}
 use Rattle.cstar_top.specs.Refusals.{RefusesRun}
 use Rattle.cstar_top.specs.Reported.{Begins}
 
 -- a new run of the image of a program, and of a listing, and one that goes on from a point
-pub program_begins : (mode : Mode) (winner : Winner) (text : List ℕ) (image : Image) (r : Result Start NoImage) → mode ≡ M.Run → length text ≤ 1048576 → IsSound image → IsListable image → IsOfProgram image
+pub program_begins : (mode : Mode) (winner : Winner) (text : List ℕ) (image : Image) (r : Result Start NoImage) → mode ≡ M.Run → length text ≤ 1048576 → IsSound image → IsListable image → IsImageOf text image
     → IfOk r (λ start. origin_of start ≡ new_start image winner) → IfOk r (λ start. Begins mode winner text (origin_of start))
 program_begins mode winner text image (Ok start) is within sound listable of new =
     subst (λ (m : Mode). Begins m winner text (origin_of start)) (sym is) (image, within, sound, listable, of, new)

@@ -1,7 +1,6 @@
 -- What a drill puts.
 use Rattle.std.specs.Prelude.{◌≡◌, ℕ, ◌-◌, ◌%◌, ◌^◌, ◌⊎◌, List, [], ◌++◌, Option, Some, codes, decimal, length, sum}
 use Rattle.cstar_base.specs.declared.operators.Winner.{Winner}
-use Rattle.cstar_compile.specs.Compiled.{IsOfProgram}
 use Rattle.cstar_io.specs.Output.{Takes, TakesNothing, TakesPrefix}
 use Rattle.cstar_lexer.specs.Reading.{IsText}
 use Rattle.cstar_tree.specs.declared.token.Token.{Token}
@@ -13,6 +12,7 @@ use Rattle.paris_code.specs.Sound.{IsSound}
 use Rattle.paris_machine.specs.declared.outcome.End.TheVariants as E
 use Rattle.point_runs.specs.Courses.{Course, Feeds, IsCourse}
 use Rattle.point_runs.specs.Starts.{new_start}
+use Rattle.cstar_top.specs.Accepted.{IsImageOf}
 
 -- `tokens T turns K bytes B sum Z`
 unfoldable pub drill_line : ℕ → ℕ → ℕ → ℕ → List ℕ
@@ -29,11 +29,11 @@ IsRunLine image winner tokens line =
     × (line ≡ drill_line tokens (1000000 - course.left) (length course.printed % 2 ^ 64) (sum course.printed % 2 ^ 32))
 
 -- The line of the drill of a seed: its text is read as some tokens, which it counts, and the image is
--- one that keeps the image rules and that the compiler makes of a typed program.
+-- one that keeps the image rules and that the compiler makes of the text's program.
 abbrev pub IsDrillLine : ℕ → Winner → List ℕ → Type 0
 IsDrillLine seed winner line =
     (tokens : List Token) × IsText (drill seed) tokens
-    × ((image : Image) × IsSound image × IsOfProgram image × IsRunLine image winner (length tokens) line)
+    × ((image : Image) × IsSound image × IsImageOf (drill seed) image × IsRunLine image winner (length tokens) line)
 
 -- a sink took the line of the drill of a seed
 abbrev pub PutsDrill : {O : Type 0} → (O → List ℕ → Type 0) → O → O → ℕ → Winner → Type 0

@@ -1,6 +1,6 @@
 //! From the text of a file to a checked image, or to its first fault.
 
-ghost use Rattle.std.specs.Prelude.{◌≡◌, ◌<◌, ◌≤◌, Err, IfErr, IfOk, List, length, vec_len};
+ghost use Rattle.std.specs.Prelude.{◌≡◌, ◌<◌, ◌≤◌, ◌^◌, Err, IfErr, IfOk, List, length, vec_len};
 ghost use Rattle.cstar_base.specs.declared.faults.Fault.TheVariants as F;
 ghost use Rattle.cstar_lexer.specs.Reading.{IsText};
 ghost use Rattle.cstar_tree.specs.declared.token.Token.{Token};
@@ -10,6 +10,12 @@ ghost use Rattle.paris_code.specs.Sound.{IsSound};
 ghost use Rattle.point_runs.specs.declared.refusal.NoImage.TheVariants as N;
 ghost use Rattle.point_runs.specs.Refusals.{file_start};
 ghost use Rattle.cstar_compile.specs.Compiled.{IsCompiled};
+ghost use Rattle.cstar_tree.specs.FileScopes.{file_known};
+ghost use Rattle.cstar_tree.specs.Items.{IsTree};
+ghost use Rattle.cstar_tree.specs.ProgramTypes.{TypesFile};
+ghost use Rattle.cstar_tree.specs.Room.{HasRoom};
+ghost use Rattle.shape_types.specs.Plain.{IsPlainTree};
+ghost use Rattle.cstar_top.specs.Accepted.{IsProgramOf};
 ghost use Rattle.cstar_top.specs.Refusals.{IsOfText, NamesOnly};
 
 use cstar_base::{Fault, Place};
@@ -47,6 +53,7 @@ pub fn accepted(alloc: Global, text: &[u8]) -> Result<TypedText, NoImage>
     ensures within { IfOk result (λ program. length text.now ≤ FILE_LIMIT) }
     ensures read { IfOk result (λ program. (tokens : List Token) × IsText text.now tokens × (program.tokens ≡ length tokens)) }
     ensures typed { IfOk result (λ program. IsTyped program.typed) }
+    ensures program { IfOk result (λ program. IsProgramOf text.now program.typed) }
     ensures too_long { FILE_LIMIT < length text.now → result ≡ Err (N.Refused F.TooLong file_start) }
     ensures refused { IfErr result (NamesOnly IsOfText) }
 {
@@ -82,6 +89,7 @@ fn read_text(alloc: Global, text: &[u8]) -> Result<ReadText, NoImage>
     ensures within { IfOk result (λ read. length text.now ≤ FILE_LIMIT) }
     ensures read { IfOk result (λ read. IsText text.now read.tokens.list.items) }
     ensures typed { IfOk result (λ read. IsTyped read.typed) }
+    ensures program { IfOk result (λ read. IsProgramOf text.now read.typed) }
     ensures too_long { FILE_LIMIT < length text.now → result ≡ Err (N.Refused F.TooLong file_start) }
     ensures refused { IfErr result (NamesOnly IsOfText) }
 {
@@ -151,7 +159,8 @@ fn tokens_of(alloc: Global, text: &[u8]) -> Result<Tokens, NoImage>
 
 fn tree_of(alloc: Global, tokens: &Tokens) -> Result<Tree, NoImage>
     requires { vec_len tokens.now.list ≤ FILE_LIMIT }
-    ensures { IfErr result (NamesOnly IsOfText) }
+    ensures spelled { IfOk result (IsTree tokens.now) }
+    ensures refused { IfErr result (NamesOnly IsOfText) }
 {
     match parse(alloc, tokens) {
         Ok(tree) => Ok(tree),
@@ -172,6 +181,8 @@ fn place_of(tokens: &Tokens, number: u32) -> Place {
 #[tactic(auto, using(crate::proofs::TypingFaults::listed_is_of_text))]
 fn typed_of(alloc: Global, tree: &Tree) -> Result<Typed, NoImage>
     ensures typed { IfOk result IsTyped }
+    ensures exact { length (file_known tree.now).names < 2 ^ 32 → IsPlainTree tree.now → IfOk result (TypesFile tree.now) }
+    ensures room { IfOk result (λ typed. HasRoom typed.shapes.items typed.need.items) }
     ensures refused { IfErr result (NamesOnly IsOfText) }
 {
     match check(alloc, tree) {

@@ -1,7 +1,7 @@
 //! Mode drill: a program of a seed, run on no input, and a line on what it came to.
 
 ghost use Rattle.std.specs.Prelude.{◌≡◌, ◌≢◌, ◌⊎◌, ℕ, List, IfOk};
-ghost use Rattle.cstar_compile.specs.Compiled.{IsOfProgram};
+ghost use Rattle.cstar_top.specs.Accepted.{IsImageOf, IsProgramOf};
 ghost use Rattle.cstar_io.specs.Faults.{RisesBy};
 ghost use Rattle.cstar_io.specs.Output.{Takes, TakesNothing, TakesPrefix};
 ghost use Rattle.cstar_tree.specs.IsTyped.{IsTyped};
@@ -75,8 +75,10 @@ fn drill_program<R: Threads + Sync, O: Sink, G: Gate + Sync>(
     ensures readable { status_of result ≢ 5 }
     ensures input { status_of result ≢ 7 }
     ensures refused { status_of result ≡ 3 → out.new ≡ out.old }
-    ensures line { status_of result ≡ 0 → (line : List ℕ) × ((image : Image) × IsSound image × IsOfProgram image × IsRunLine image winner program.now.tokens line) × Takes O.agrees out.old out.new line }
-    ensures part { TakesNothing O.agrees out.old out.new ⊎ ((line : List ℕ) × ((image : Image) × IsSound image × IsOfProgram image × IsRunLine image winner program.now.tokens line) × TakesPrefix O.agrees out.old out.new line) }
+    ensures line { (text : List ℕ) → IsProgramOf text program.now.typed → status_of result ≡ 0
+        → (line : List ℕ) × ((image : Image) × IsSound image × IsImageOf text image × IsRunLine image winner program.now.tokens line) × Takes O.agrees out.old out.new line }
+    ensures part { (text : List ℕ) → IsProgramOf text program.now.typed → TakesNothing O.agrees out.old out.new
+        ⊎ ((line : List ℕ) × ((image : Image) × IsSound image × IsImageOf text image × IsRunLine image winner program.now.tokens line) × TakesPrefix O.agrees out.old out.new line) }
     ensures silent { status_of result ≢ 0 → status_of result ≢ 6 → out.new ≡ out.old }
     ensures write_fault { status_of result ≡ 6 → RisesBy (O.faults out.old) (O.faults out.new) }
     ensures count { status_of result ≢ 6 → O.faults out.new ≡ O.faults out.old }

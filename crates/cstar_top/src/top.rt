@@ -5,7 +5,6 @@ ghost use Rattle.std.specs.String.{string_bytes};
 ghost use Rattle.cstar_base.specs.declared.faults.Fault.{Fault};
 ghost use Rattle.cstar_base.specs.declared.faults.Fault.TheVariants as F;
 ghost use Rattle.cstar_base.specs.declared.operators.Place.{Place};
-ghost use Rattle.cstar_compile.specs.Compiled.{IsOfProgram};
 ghost use Rattle.cstar_io.specs.Faults.{RisesBy};
 ghost use Rattle.cstar_io.specs.Output.{Takes, TakesNothing};
 ghost use Rattle.cstar_words.specs.declared.options.Mode.{Mode};
@@ -19,6 +18,7 @@ ghost use Rattle.point_runs.specs.Refusals.{TellsWhy, file_start};
 ghost use Rattle.point_runs.specs.Starts.{CanStart, Origin, new_start, origin_of};
 ghost use Rattle.cstar_top.specs.declared.answer.Answer.{Answer};
 ghost use Rattle.cstar_top.specs.declared.answer.Answer.TheVariants as A;
+ghost use Rattle.cstar_top.specs.Accepted.{IsImageOf};
 ghost use Rattle.cstar_top.specs.Answers.{line_of, status_of, usage_line};
 ghost use Rattle.cstar_top.specs.Drills.{DrillPartTaken, DrillTaken, PutsDrill, PutsPartOfDrill};
 ghost use Rattle.cstar_top.specs.Listings.{TakesListing, TakesPartOfListing};
@@ -59,8 +59,10 @@ fn answer<R: Threads + Sync, S: Shelf, I: Source, O: Sink, G: Gate + Sync>(
         × CannotFetch S.faults S.last_failed shelf.old shelf.new options.now.file.now }
     ensures too_long { reads_file options.now.mode ≡ true → HoldsLong S.tells S.file shelf.old (limit_of options.now.mode) options.now.file.now
         → (result ≡ A.Refused F.TooLong file_start) ⊎ ((status_of result ≡ 5) ⊎ (status_of result ≡ 8)) }
-    ensures listed { options.now.mode ≡ M.List → status_of result ≡ 0 → TakesListing O.agrees out.old out.new }
-    ensures part { options.now.mode ≡ M.List → TakesPartOfListing O.agrees out.old out.new }
+    ensures listed { options.now.mode ≡ M.List → status_of result ≡ 0
+        → (text : List ℕ) × Holds S.tells S.file shelf.old options.now.file.now text × TakesListing O.agrees out.old out.new text }
+    ensures part { options.now.mode ≡ M.List → TakesNothing O.agrees out.old out.new
+        ⊎ ((text : List ℕ) × Holds S.tells S.file shelf.old options.now.file.now text × TakesPartOfListing O.agrees out.old out.new text) }
     ensures report { runs_image options.now.mode ≡ true → status_of result ≢ 3 → status_of result ≢ 5 → status_of result ≢ 6 → status_of result ≢ 8
         → (text : List ℕ) × Holds S.tells S.file shelf.old options.now.file.now text
         × ReportsText O.agrees out.old out.new (I.left input.old) (I.left input.new) options.now text result
@@ -130,8 +132,8 @@ fn compile_text<O: Sink>(alloc: Global, mode: Mode, text: &[u8], out: &mut O) ->
     ensures own { (status_of result ≡ 0) ⊎ ((status_of result ≡ 3) ⊎ ((status_of result ≡ 6) ⊎ (status_of result ≡ 8))) }
     ensures refused { status_of result ≡ 3 → out.new ≡ out.old }
     ensures too_long { 1048576 < length text.now → result ≡ A.Refused F.TooLong file_start }
-    ensures listed { mode ≡ M.List → status_of result ≡ 0 → TakesListing O.agrees out.old out.new }
-    ensures part { mode ≡ M.List → TakesPartOfListing O.agrees out.old out.new }
+    ensures listed { mode ≡ M.List → status_of result ≡ 0 → TakesListing O.agrees out.old out.new text.now }
+    ensures part { mode ≡ M.List → TakesNothing O.agrees out.old out.new ⊎ TakesPartOfListing O.agrees out.old out.new text.now }
     ensures silent { mode ≡ M.Check → out.new ≡ out.old }
     ensures write_fault { status_of result ≡ 6 → RisesBy (O.faults out.old) (O.faults out.new) }
     ensures count { status_of result ≢ 6 → O.faults out.new ≡ O.faults out.old }
@@ -222,7 +224,7 @@ fn new_run(alloc: Global, sound: Sound, winner: Winner) -> Result<Start, NoImage
 
 /// The image of a program.
 fn compiled(alloc: Global, text: &[u8]) -> Result<Sound, NoImage>
-    ensures compiled { IfOk result (λ sound. IsOfProgram sound) }
+    ensures compiled { IfOk result (λ sound. IsImageOf text.now sound) }
     ensures sound { IfOk result IsSound }
     ensures listable { IfOk result IsListable }
     ensures within { IfOk result (λ sound. length text.now ≤ FILE_LIMIT) }
@@ -281,8 +283,10 @@ pub fn cstar<R: Threads + Sync, S: Shelf, I: Source, O: Sink, E: Sink, G: Gate +
         → RefusesLong E.agrees err.old err.new (named (map string_bytes words.now)) result }
     ensures unreadable { result ≡ 5 → (out.new ≡ out.old) × (input.new ≡ input.old)
         × CannotFetch S.faults S.last_failed shelf.old shelf.new (named (map string_bytes words.now)) }
-    ensures listing { AsksFor M.List (map string_bytes words.now) → result ≡ 0 → TakesListing O.agrees out.old out.new }
-    ensures part_of_listing { AsksFor M.List (map string_bytes words.now) → TakesPartOfListing O.agrees out.old out.new }
+    ensures listing { AsksFor M.List (map string_bytes words.now) → result ≡ 0
+        → (text : List ℕ) × Holds S.tells S.file shelf.old (named (map string_bytes words.now)) text × TakesListing O.agrees out.old out.new text }
+    ensures part_of_listing { AsksFor M.List (map string_bytes words.now) → TakesNothing O.agrees out.old out.new
+        ⊎ ((text : List ℕ) × Holds S.tells S.file shelf.old (named (map string_bytes words.now)) text × TakesPartOfListing O.agrees out.old out.new text) }
     ensures report { AsksToRun (map string_bytes words.now) → IsWhole result
         → (options : Options) × Reads (rows_in (map string_bytes words.now)) options × ((text : List ℕ) × Holds S.tells S.file shelf.old options.file.now text
         × ((answer : Answer) × (status_of answer ≡ result) × Takes E.agrees err.old err.new (line_of (told_name options answer) answer)

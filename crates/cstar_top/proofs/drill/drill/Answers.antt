@@ -4,12 +4,12 @@ use Rattle.cstar_top.proofs.drill.drill.Goals as goal
 
 pub returns-in-Ok-accepted-clause-line : goal.returns-in-Ok-accepted-clause-line
 returns-in-Ok-accepted-clause-line g c done =
-    let put = c.drill_program.ensures.line done in
+    let put = c.drill_program.ensures.line c.as_slice.result.now c.in-Ok-accepted.ensures.program done in
     (put.0, of_text c.args.seed c.args.winner c.as_slice.result.now c.in-Ok-accepted.program.tokens put.0 (c.as_slice.ensures.value ∙ c.in-Ok.ensures) c.in-Ok-accepted.ensures.read put.1, put.2)
 
 pub returns-in-Ok-accepted-clause-part : goal.returns-in-Ok-accepted-clause-part
 returns-in-Ok-accepted-clause-part g c =
-    elim c.drill_program.ensures.part [
+    elim (c.drill_program.ensures.part c.as_slice.result.now c.in-Ok-accepted.ensures.program) [
       | inl nothing ↦ inl nothing
       | inr put ↦ inr (put.0, of_text c.args.seed c.args.winner c.as_slice.result.now c.in-Ok-accepted.program.tokens put.0 (c.as_slice.ensures.value ∙ c.in-Ok.ensures) c.in-Ok-accepted.ensures.read put.1, put.2)
     ]

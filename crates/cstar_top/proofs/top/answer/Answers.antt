@@ -4,12 +4,14 @@ use Rattle.cstar_io.specs.Faults.{RisesBy}
 use Rattle.cstar_io.specs.Output.{TakesNothing}
 use Rattle.cstar_top.specs.declared.answer.Answer.{Answer}
 use Rattle.cstar_top.specs.Answers.{status_of}
+use Rattle.cstar_top.specs.Listings.{TakesListing, TakesPartOfListing}
 use Rattle.cstar_top.specs.Modes.{budget, limit_of}
 use Rattle.cstar_top.specs.Outcomes.{CanAnswer}
 use Rattle.cstar_top.specs.Refusals.{AnswersWhy, RefusesRun}
 use Rattle.cstar_top.specs.Reported.{Begins, ReportsText, ReportsTextPart}
 use Rattle.cstar_top.specs.Saved.{IsSaved}
 use Rattle.cstar_top.proofs.Refusals.{budget_is, check_not_run, cut_is_long, held_or_long, left_not_run, list_not_run, long_why, text_limit}
+use Rattle.cstar_top.proofs.Listings.{refused_not_done}
 use Rattle.cstar_top.proofs.Reported.{reported_as}
 use Rattle.cstar_top.proofs.top.answer.Goals as goal
 
@@ -158,3 +160,42 @@ returns-else-runs_image-clause-files g c = inl (λ name. c.in-Ok.ensures.files n
 
 pub returns-else-runs_image-clause-stay : goal.returns-else-runs_image-clause-stay
 returns-else-runs_image-clause-stay g c four eight nine = λ name. c.in-Ok.ensures.files name
+
+pub returns-else-runs_image-clause-listed : goal.returns-else-runs_image-clause-listed
+returns-else-runs_image-clause-listed g c asks done =
+    let options = c.args.options.now in
+    let file = g.S.Shelf.file c.args.shelf.now options.file.now in
+    let held = held_or_long (g.S.Shelf.tells c.args.shelf.now) c.limit.result file c.in-Ok.text.items c.in-Ok.ensures.bytes in
+    let at : c.limit.result ≡ limit_of options.mode = c.limit.ensures in
+    let same : limit_of options.mode ≡ 1048576 = text_limit options.mode (sym c.runs_image.ensures ∙ c.if-runs_image.false) in
+    let slice : length c.as_slice.result.now ≡ length c.in-Ok.text.items = ap (λ (xs : List ℕ). length xs) c.as_slice.ensures.value in
+    elim held.2 [
+      | inl is ↦ (
+        held.0,
+        held.1,
+        subst (λ (text : List ℕ). TakesListing g.O.Sink.agrees c.args.out.now c.compile_text.new.out text) (c.as_slice.ensures.value ∙ sym is) (c.compile_text.ensures.listed asks done),
+      )
+      | inr long ↦ let cut = c.compile_text.ensures.too_long (omega (arith, at, same, slice, long.1)) in
+          absurd (refused_not_done c.compile_text.result cut done)
+    ]
+
+pub returns-else-runs_image-clause-part : goal.returns-else-runs_image-clause-part
+returns-else-runs_image-clause-part g c asks =
+    let options = c.args.options.now in
+    let file = g.S.Shelf.file c.args.shelf.now options.file.now in
+    let held = held_or_long (g.S.Shelf.tells c.args.shelf.now) c.limit.result file c.in-Ok.text.items c.in-Ok.ensures.bytes in
+    let at : c.limit.result ≡ limit_of options.mode = c.limit.ensures in
+    let same : limit_of options.mode ≡ 1048576 = text_limit options.mode (sym c.runs_image.ensures ∙ c.if-runs_image.false) in
+    let slice : length c.as_slice.result.now ≡ length c.in-Ok.text.items = ap (λ (xs : List ℕ). length xs) c.as_slice.ensures.value in
+    elim (c.compile_text.ensures.part asks) [
+      | inl nothing ↦ inl nothing
+      | inr part ↦ elim held.2 [
+        | inl is ↦ inr (
+          held.0,
+          held.1,
+          subst (λ (text : List ℕ). TakesPartOfListing g.O.Sink.agrees c.args.out.now c.compile_text.new.out text) (c.as_slice.ensures.value ∙ sym is) part,
+        )
+        | inr long ↦ let cut = c.compile_text.ensures.too_long (omega (arith, at, same, slice, long.1)) in
+            inl (subst (λ out. TakesNothing g.O.Sink.agrees c.args.out.now out) (sym (c.compile_text.ensures.refused (ap status_of cut))) (λ before is. is))
+      ]
+    ]

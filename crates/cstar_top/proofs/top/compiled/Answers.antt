@@ -3,13 +3,13 @@ use Rattle.cstar_words.specs.declared.options.Mode.TheVariants as M
 use Rattle.cstar_base.specs.declared.faults.Fault.{Fault}
 use Rattle.cstar_base.specs.declared.faults.Fault.TheVariants as F
 use Rattle.cstar_top.specs.Refusals.{CanName, IsOfText}
-use Rattle.cstar_top.proofs.Compiled.{of_program}
+use Rattle.cstar_top.proofs.Compiled.{image_of_text}
 use Rattle.cstar_top.proofs.Outcomes.{names_more, names_more_in}
 use Rattle.cstar_top.proofs.top.compiled.Goals as goal
 
 pub returns-in-Ok-clause-compiled : goal.returns-in-Ok-clause-compiled
 returns-in-Ok-clause-compiled c =
-    of_program c.in-Ok.program.typed c.compile.result c.in-Ok.ensures.typed c.compile.ensures.compiled
+    image_of_text c.args.text.now c.in-Ok.program.typed c.compile.result c.in-Ok.ensures.program c.compile.ensures.compiled
 
 pub returns-in-Ok-clause-refused : goal.returns-in-Ok-clause-refused
 returns-in-Ok-clause-refused c =

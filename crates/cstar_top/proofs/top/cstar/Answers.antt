@@ -82,13 +82,20 @@ returns-in-Ok-clause-unread g c leaves =
 
 pub returns-in-Ok-clause-listing : goal.returns-in-Ok-clause-listing
 returns-in-Ok-clause-listing g c asks none =
-    c.answer-answer.ensures.listed
-    (mode_is _ c.in-Ok.options _ c.in-Ok.ensures.reads asks)
-    (status_is 0 c.report.result (status_of c.answer-answer.result) (lit< tt) c.report.ensures.status none)
+    let name = named_is (map string_bytes c.args.words.now) c.in-Ok.options c.in-Ok.ensures.reads in
+    let listed =
+        c.answer-answer.ensures.listed
+        (mode_is _ c.in-Ok.options _ c.in-Ok.ensures.reads asks)
+        (status_is 0 c.report.result (status_of c.answer-answer.result) (lit< tt) c.report.ensures.status none) in
+    (listed.0, subst (λ (file : List ℕ). Holds g.S.Shelf.tells g.S.Shelf.file c.args.shelf.now file listed.0) (sym name) listed.1, listed.2)
 
 pub returns-in-Ok-clause-part_of_listing : goal.returns-in-Ok-clause-part_of_listing
 returns-in-Ok-clause-part_of_listing g c asks =
-    c.answer-answer.ensures.part (mode_is _ c.in-Ok.options _ c.in-Ok.ensures.reads asks)
+    let name = named_is (map string_bytes c.args.words.now) c.in-Ok.options c.in-Ok.ensures.reads in
+    elim (c.answer-answer.ensures.part (mode_is _ c.in-Ok.options _ c.in-Ok.ensures.reads asks)) [
+      | inl nothing ↦ inl nothing
+      | inr part ↦ inr (part.0, subst (λ (file : List ℕ). Holds g.S.Shelf.tells g.S.Shelf.file c.args.shelf.now file part.0) (sym name) part.1, part.2)
+    ]
 
 pub returns-in-Ok-clause-drill : goal.returns-in-Ok-clause-drill
 returns-in-Ok-clause-drill g c asks none = (

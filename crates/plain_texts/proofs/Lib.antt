@@ -1,0 +1,3 @@
+pub mod FewNames
+pub mod PlainTrees
+pub mod Words
