@@ -101,9 +101,10 @@ IsPlainBlock block = All IsPlainDeclaration block.declarations.items × All IsPl
 statement_of_block : (block : Block) → IsPlainBlock block → IsPlainStatement (S.Block block)
 unfolding InStatement
 statement_of_block block plain = λ here.
-    let row = text_statements (S.Block block) in
-    (in_declarations (block_place here) block.declarations.items plain.0,
-        in_row (behind_declarations (block_place here) block.declarations.items) row.0 row.1 (subst (All IsPlainStatement) (sym (items_hidden-the_row-Stmt-0 block.statements)) plain.1))
+    let row = text_statements (S.Block block) in (
+      in_declarations (block_place here) block.declarations.items plain.0,
+      in_row (behind_declarations (block_place here) block.declarations.items) row.0 row.1 (subst (All IsPlainStatement) (sym (items_hidden-the_row-Stmt-0 block.statements)) plain.1),
+    )
 
 in_block : (here : Here) (block : Block) → IsPlainBlock block → InBlock Plainly here block
 in_block here block plain = (in_declarations here block.declarations.items plain.0, in_statements (behind_declarations here block.declarations.items) block.statements.items plain.1)

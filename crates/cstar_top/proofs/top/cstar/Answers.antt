@@ -84,9 +84,9 @@ pub returns-in-Ok-clause-listing : goal.returns-in-Ok-clause-listing
 returns-in-Ok-clause-listing g c asks none =
     let name = named_is (map string_bytes c.args.words.now) c.in-Ok.options c.in-Ok.ensures.reads in
     let listed =
-        c.answer-answer.ensures.listed
-        (mode_is _ c.in-Ok.options _ c.in-Ok.ensures.reads asks)
-        (status_is 0 c.report.result (status_of c.answer-answer.result) (lit< tt) c.report.ensures.status none) in
+    c.answer-answer.ensures.listed
+    (mode_is _ c.in-Ok.options _ c.in-Ok.ensures.reads asks)
+    (status_is 0 c.report.result (status_of c.answer-answer.result) (lit< tt) c.report.ensures.status none) in
     (listed.0, subst (λ (file : List ℕ). Holds g.S.Shelf.tells g.S.Shelf.file c.args.shelf.now file listed.0) (sym name) listed.1, listed.2)
 
 pub returns-in-Ok-clause-part_of_listing : goal.returns-in-Ok-clause-part_of_listing
