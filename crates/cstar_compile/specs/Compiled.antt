@@ -1,7 +1,6 @@
 -- What the compiler makes of a typed program.
 use Rattle.cstar_link.specs.Linked.{IsLinked}
 use Rattle.cstar_tree.specs.declared.typed.Typed.{Typed}
-use Rattle.cstar_tree.specs.IsTyped.{IsTyped}
 use Rattle.field_alloc.specs.OverBits.{IsOverBits}
 use Rattle.lower_stmt.specs.Lowered.{IsLowered}
 use Rattle.paris_code.specs.declared.program.Image.{Image}
@@ -14,8 +13,3 @@ pub record IsCompiled (t : Typed) (image : Image) : Type 0 where
   pub lowered : IsLowered t before
   pub placed : IsOverBits before after
   pub linked : IsLinked after image
-
--- An image is what the compiler makes of some typed program. Which program that is, is not said: no
--- clause of the typing says yet that a typed program is that of the text.
-abbrev pub IsOfProgram : Image → Type 0
-IsOfProgram image = (t : Typed) × IsTyped t × IsCompiled t image

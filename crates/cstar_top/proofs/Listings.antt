@@ -1,5 +1,5 @@
 -- What a sink took of a listing.
-use Rattle.std.proofs.Common.{◌≡◌, ◌∙◌, ◌⊎◌, ⊥, ℕ, List, inl, ap, arith, sym}
+use Rattle.std.proofs.Common.{◌≡◌, ◌⊎◌, ℕ, List, inl, ap, arith}
 use Rattle.cstar_base.specs.declared.faults.Fault.TheVariants as F
 use Rattle.cstar_io.specs.Output.{TakesNothing}
 use Rattle.point_runs.specs.Refusals.{file_start}
@@ -13,6 +13,4 @@ nothing_taken agrees s = inl (λ before is. is)
 
 -- a refusal is no good end
 pub refused_not_done : (answer : Answer) → answer ≡ A.Refused F.TooLong file_start → status_of answer ≡ 0 → ⊥
-refused_not_done answer is done = no (sym (ap status_of is) ∙ done) where
-  no : 3 ≡ 0 → ⊥
-  no e = omega arith
+refused_not_done answer is done = let status : status_of answer ≡ 3 = ap status_of is in omega (arith, status, done)

@@ -1,5 +1,6 @@
 use Rattle.std.proofs.Common.{◌≡◌, ◌≤◌, ℕ, List, length, subst}
 use Rattle.paris_code.specs.Listing.{listing}
+use Rattle.cstar_top.specs.Accepted.{IsImageOf}
 use Rattle.cstar_top.specs.Refusals.{RefusesRun}
 use Rattle.cstar_top.proofs.Starting.{listing_begins, only_memory, point_begins, points_why, program_begins}
 use Rattle.cstar_top.proofs.top.start_of.Goals as goal
@@ -9,7 +10,7 @@ returns-in-Ok-clause-begins c =
     let options = c.args.options.now in
     let text = c.args.text.items in
     let within = subst (λ (xs : List ℕ). length xs ≤ 1048576) c.as_slice.ensures.value c.in-Ok.ensures.within in
-    program_begins options.mode options.winner text c.in-Ok.sound c.new_run.result c.in-Run.is within c.in-Ok.ensures.sound c.in-Ok.ensures.listable c.in-Ok.ensures.compiled c.new_run.ensures.new
+    program_begins options.mode options.winner text c.in-Ok.sound c.new_run.result c.in-Run.is within c.in-Ok.ensures.sound c.in-Ok.ensures.listable (subst (λ (bytes : List ℕ). IsImageOf bytes c.in-Ok.sound) c.as_slice.ensures.value c.in-Ok.ensures.compiled) c.new_run.ensures.new
 
 pub returns-in-Ok-clause-refused : goal.returns-in-Ok-clause-refused
 returns-in-Ok-clause-refused c =
