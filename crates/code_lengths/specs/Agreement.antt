@@ -1,6 +1,7 @@
 -- The code of an expression, and of a statement, is as long as described, and only appends: what the
 -- unit had is as it was, and the jumps that were written by these lengths lead behind the code.
 use Rattle.std.specs.Prelude.{◌≡◌, ◌≤◌, ℕ, ◌+◌, Bool, true, false, if◌then◌else◌, List, [], length}
+use Rattle.std.specs.List.{AllZip}
 use mathlib.Core.Former.{Count}
 use Rattle.cstar_tree.specs.declared.typed.Instance.{Instance}
 use Rattle.cstar_tree.specs.declared.typed.TExpr.{TExpr, Row_of-TExpr, items-the_row-TExpr}
@@ -24,27 +25,31 @@ use Rattle.lower_stmt.specs.Lengths.{body_length_of, statement_length_of}
 use Rattle.lower_stmt.specs.Programs.{begun, blank, body_frame, own_fields_of, own_result_of, unit_of}
 use Rattle.lower_stmt.specs.Statements.{ends_in_return, statement_of}
 use Rattle.code_lengths.specs.Growth.{Extended, Grows, Stands, Anything}
-use Rattle.code_lengths.specs.Shaped.{HasShape, IsShaped, IsTarget, AreShaped}
+use Rattle.code_lengths.specs.Lowerable.{GivesValue, InField, InRegister}
+use Rattle.code_lengths.specs.Ready.{Arrives, HasCode, HaveCode, IsPlace, IsReady}
+use Rattle.code_lengths.specs.Shaped.{HasShape}
 use Rattle.code_lengths.specs.ShapedStatements.{IsShapedStatement}
 
--- The code of an expression, however many bits of it are wanted: its value, which stands in a register
--- exactly where it is kept there; the same as an operand, copied or where it stands; the values of a
--- list; what locates a target; its effect, where the value is not used; its test; and its value put in a
--- register, if it stands in one, or in a field of any length, if it has a shape.
-pub record ExpressionLengths (t : Typed) (l : Layout) : Type 0 where
-  pub value : (bits : ℕ) (e : TExpr) (d : Draft) → IsShaped e → Grows d (length_of t l bits e) (Stands (is_kept e)) (value_of t l bits e d)
-  pub operand : (bits : ℕ) (quiet : Bool) (e : TExpr) (d : Draft) → IsShaped e →
-      Grows d (operand_length l bits (length_of t l bits e) quiet e) (Stands (is_kept e)) (operand_by t l bits (value_of t l bits e) quiet e d)
-  pub list : (own quiet : Bool) (n : Count) (row : Row_of-TExpr n) (d : Draft) → AreShaped row →
-      Grows d (lengths_of t l own quiet row) (λ (given : List Out). length given ≡ length (items-the_row-TExpr n row)) (values_of t l own quiet row [] d)
-  pub spot : (e : TExpr) (d : Draft) → IsTarget e → Grows d (spot_length_of t l e) (λ (s : Spot). Anything s) (spot_of t l e d)
-  pub effect : (e : TExpr) (d : Draft) → IsShaped e → Grows d (effect_length_of t l e) (λ (v : Out). Anything v) (effect_of t l e d)
-  pub test : (e : TExpr) (d : Draft) → IsShaped e → Grows d (tested_length t l e) (λ (u : Unit {0}). Anything u) (tested t l e d)
-  pub put_register : (r : ℕ) (e : TExpr) (d : Draft) → IsShaped e → is_kept e ≡ true → Grows d (put_length t l true 32 e) (Stands true) (put_to t l (O.Scalar r) e d)
-  pub put_field : (f : Field) (e : TExpr) (d : Draft) → IsShaped e → HasShape (type_of e) → Grows d (put_length t l false f.len e) (Stands false) (put_to t l (O.Field f) e d)
+-- The code of an expression that has some, in a unit that is ready for it, however many bits of it are
+-- wanted: its value, which stands in a register exactly where it is kept there; the same as an operand,
+-- copied or where it stands; the values of a list; what locates a target; its effect, where the value is
+-- not used; its test; and its value put in a register, if it stands in one, or in a field of any length,
+-- if it has a shape.
+pub record ExpressionLengths (t : Typed) (i : Instance) (l : Layout) : Type 0 where
+  pub value : (bits n : ℕ) (e : TExpr) (d : Draft) → HasCode t i n e → IsReady t i l n d → Grows d (length_of t l bits e) (Arrives t e) (value_of t l bits e d)
+  pub operand : (bits n : ℕ) (quiet : Bool) (e : TExpr) (d : Draft) → HasCode t i n e → IsReady t i l n d →
+      Grows d (operand_length l bits (length_of t l bits e) quiet e) (Arrives t e) (operand_by t l bits (value_of t l bits e) quiet e d)
+  pub list : (own quiet : Bool) (n : ℕ) (k : Count) (row : Row_of-TExpr k) (d : Draft) → HaveCode t i n row → IsReady t i l n d →
+      Grows d (lengths_of t l own quiet row) (λ (given : List Out). AllZip (Arrives t) (items-the_row-TExpr k row) given) (values_of t l own quiet row [] d)
+  pub spot : (n : ℕ) (e : TExpr) (d : Draft) → IsPlace t i n e → IsReady t i l n d → Grows d (spot_length_of t l e) (λ (s : Spot). Anything s) (spot_of t l e d)
+  pub effect : (n : ℕ) (e : TExpr) (d : Draft) → HasCode t i n e → IsReady t i l n d → Grows d (effect_length_of t l e) (λ (v : Out). Anything v) (effect_of t l e d)
+  pub test : (n : ℕ) (e : TExpr) (d : Draft) → HasCode t i n e → InField t e → IsReady t i l n d → Grows d (tested_length t l e) (λ (u : Unit {0}). Anything u) (tested t l e d)
+  pub put_register : (r n : ℕ) (e : TExpr) (d : Draft) → HasCode t i n e → InRegister t e → IsReady t i l n d → Grows d (put_length t l true 32 e) (Stands true) (put_to t l (O.Scalar r) e d)
+  pub put_field : (f : Field) (n : ℕ) (e : TExpr) (d : Draft) → HasCode t i n e → GivesValue t e → HasShape (type_of e) → IsReady t i l n d →
+      Grows d (put_length t l false f.len e) (Stands false) (put_to t l (O.Field f) e d)
 
 abbrev pub ExpressionsAreAsLongAsDescribed : Type 0
-ExpressionsAreAsLongAsDescribed = (t : Typed) (l : Layout) → ExpressionLengths t l
+ExpressionsAreAsLongAsDescribed = (t : Typed) (i : Instance) (l : Layout) → ExpressionLengths t i l
 
 -- a statement stands among as many saved contexts as its frame says
 pub record StandsAmong (f : Frame) (contexts : List Field) : Type 0 where

@@ -1,4 +1,5 @@
--- How a unit grows by a piece of code: what stood is as it was, and so many instructions stand behind it.
+-- How a unit grows by a piece of code: there is such code, what stood is as it was, and so many
+-- instructions stand behind it.
 use Rattle.std.specs.Prelude.{◌≡◌, ◌≤◌, ℕ, Bool, true, false, List, ◌++◌, length}
 use Rattle.paris_code.specs.declared.program.Virtual.{Virtual}
 use Rattle.lower_base.specs.declared.emit.Out.{Out}
@@ -18,16 +19,16 @@ pub record Extended (d : Draft) (n : ℕ) (e : Draft) : Type 0 where
   pub later : List ℕ
   pub homes : e.homes ≡ d.homes ++ later
 
--- a piece of code that is made has so many instructions, behind this draft, and its answer passes
+-- there is code, of so many instructions, behind this draft, and its answer passes
 unfoldable pub Grows : {A : Type 0} → Draft → ℕ → (A → Type 0) → Made A → Type 0
 Grows d n P (Makes x e) = P x × Extended d n e
-Grows d n P Fails = Unit {0}
+Grows d n P Fails = ⊥
 
--- whether a value stands in a register, or in a field; one that is nowhere counts as either
+-- a value stands in a register, or in a field
 abbrev pub Stands : Bool → Out → Type 0
 Stands kept (O.Scalar r) = kept ≡ true
 Stands kept (O.Field f) = kept ≡ false
-Stands kept O.Nothing = Unit {0}
+Stands kept O.Nothing = ⊥
 
 -- an answer of which nothing is said
 abbrev pub Anything : {A : Type 0} → A → Type 0

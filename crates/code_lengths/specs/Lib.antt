@@ -2,3 +2,8 @@ pub mod Agreement
 pub mod Growth
 pub mod Shaped
 pub mod ShapedStatements
+pub mod Lowerable
+pub mod LowerableStatements
+pub mod Naming
+pub mod NamingStatements
+pub mod Ready

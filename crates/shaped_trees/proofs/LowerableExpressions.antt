@@ -22,7 +22,7 @@ use Rattle.lower_expr.specs.Lengths.{is_send}
 use Rattle.lower_expr.specs.Steps.{is_kept}
 use Rattle.shaped_trees.specs.Casts.{ExpressionNamesShapes}
 use Rattle.shaped_trees.specs.Laws.{IsLowerableValue, IsShapedValue}
-use Rattle.shaped_trees.specs.Lowerable.{AreConditions, GivesValue, InRegister, IsLowerable, IsValueFor}
+use Rattle.code_lengths.specs.Lowerable.{AreConditions, GivesValue, InRegister, IsLowerable, IsValueFor}
 use Rattle.shaped_trees.specs.Places.{IsInside, IsSound}
 use Rattle.shaped_trees.proofs.Bringing.{converted_shape, spread_parallel}
 use Rattle.shaped_trees.proofs.ExpressionShapes.{given, written_parallel}

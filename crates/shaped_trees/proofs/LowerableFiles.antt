@@ -16,7 +16,7 @@ use Rattle.cstar_tree.specs.ProgramTypes as Y
 use Rattle.cstar_tree.specs.Scopes.{Here}
 use Rattle.shaped_trees.specs.Casts.{NamesShapes}
 use Rattle.shaped_trees.specs.Laws.{HasLowerableBody}
-use Rattle.shaped_trees.specs.LowerableStatements.{IsLowerableLocal, IsLowerableStatement}
+use Rattle.code_lengths.specs.LowerableStatements.{IsLowerableLocal, IsLowerableStatement}
 use Rattle.shaped_trees.specs.Places.{HasInstance, IsInside}
 use Rattle.shaped_trees.proofs.FileShapes.{IsFit, at_number, body_sound, functions_parallel, placed_fit}
 use Rattle.shaped_trees.proofs.LowerableStatements.{parts_lowerable}

@@ -24,8 +24,8 @@ use Rattle.cstar_tree.specs.StatementTypes.{IsReturned, TypesBlock, TypesDeclara
 use Rattle.cstar_tree.specs.StatementTypes as Y
 use Rattle.cstar_tree.specs.Typed.{type_of}
 use Rattle.shaped_trees.specs.Casts.{BlockNamesShapes, DeclarationNamesShapes, DeclaratorNamesShapes, ElseNamesShapes, ExpressionNamesShapes, StatementNamesShapes}
-use Rattle.shaped_trees.specs.Lowerable.{InField, IsLowerable, IsValueFor}
-use Rattle.shaped_trees.specs.LowerableStatements.{IsLowerableElse, IsLowerableLocal, IsLowerableStatement, IsTest}
+use Rattle.code_lengths.specs.Lowerable.{InField, IsLowerable, IsValueFor}
+use Rattle.code_lengths.specs.LowerableStatements.{IsLowerableElse, IsLowerableLocal, IsLowerableStatement, IsTest}
 use Rattle.shaped_trees.specs.Places.{IsInside, IsSound}
 use Rattle.shaped_trees.proofs.ExpressionShapes.{given}
 use Rattle.shaped_trees.proofs.Known.{behind_it, in_block, in_body, in_shape, in_whole}

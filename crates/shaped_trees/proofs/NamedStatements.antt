@@ -26,8 +26,8 @@ use Rattle.cstar_tree.specs.StatementTypes.{IsReturned, TypesBlock, TypesDeclara
 use Rattle.cstar_tree.specs.StatementTypes as Y
 use Rattle.cstar_tree.specs.TypedParts.{concat}
 use Rattle.cstar_tree.specs.Variables.{variables_of}
-use Rattle.shaped_trees.specs.Naming.{HasVariable, KnowsVariables, NamesVariables, variable_named}
-use Rattle.shaped_trees.specs.NamingStatements.{ElseNamesVariables, InitialNamesVariables, StandFrom, StatementNamesVariables}
+use Rattle.code_lengths.specs.Naming.{HasVariable, KnowsVariables, NamesVariables, variable_named}
+use Rattle.code_lengths.specs.NamingStatements.{ElseNamesVariables, InitialNamesVariables, StandFrom, StatementNamesVariables}
 use Rattle.shaped_trees.proofs.Counting.{as_many, of_block, of_do, of_else, of_everywhere, of_for, of_if, of_where, of_where_else, of_while, of_with}
 use Rattle.shaped_trees.proofs.NamedVariables.{fitted, named}
 use Rattle.shaped_trees.proofs.Rows.{block_names_variables}

@@ -18,7 +18,7 @@ use Rattle.cstar_tree.specs.ExpressionTypes.{IsBit, Types, TypesEach, TypesIndex
 use Rattle.cstar_tree.specs.ExpressionTypes as X
 use Rattle.cstar_tree.specs.Headers.{Program}
 use Rattle.cstar_tree.specs.Scopes.{Here, index_place, meaning}
-use Rattle.shaped_trees.specs.Naming.{HasBits, KnowsVariables, NamesVariables}
+use Rattle.code_lengths.specs.Naming.{HasBits, KnowsVariables, NamesVariables}
 use Rattle.shaped_trees.proofs.Rows.{list_names_variables}
 
 module _ (t : Typed) (i : Instance) where

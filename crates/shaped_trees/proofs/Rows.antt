@@ -19,11 +19,11 @@ use Rattle.cstar_tree.specs.declared.typed.Typed.{Typed}
 use Rattle.cstar_tree.specs.declared.typed.VarInfo.{VarInfo}
 use Rattle.code_lengths.specs.Shaped.{AreShaped, IsShaped}
 use Rattle.code_lengths.specs.ShapedStatements.{AreShapedLocals, AreShapedStatements, IsShapedStatement}
-use Rattle.shaped_trees.specs.Lowerable.{AreLowerable, IsLowerable}
-use Rattle.shaped_trees.specs.LowerableStatements.{AreLowerableStatements, IsLowerableLocal, IsLowerableStatement}
+use Rattle.code_lengths.specs.Lowerable.{AreLowerable, IsLowerable}
+use Rattle.code_lengths.specs.LowerableStatements.{AreLowerableStatements, IsLowerableLocal, IsLowerableStatement}
 use Rattle.shaped_trees.specs.Casts.{BlockNamesShapes, ExpressionNamesShapes, ExpressionsNameShapes, StatementNamesShapes, StatementsNameShapes}
-use Rattle.shaped_trees.specs.Naming.{AllNameVariables, NamesVariables}
-use Rattle.shaped_trees.specs.NamingStatements.{InitialNamesVariables, StatementNamesVariables, StatementsNameVariables}
+use Rattle.code_lengths.specs.Naming.{AllNameVariables, NamesVariables}
+use Rattle.code_lengths.specs.NamingStatements.{InitialNamesVariables, StatementNamesVariables, StatementsNameVariables}
 
 -- ---- typed expressions
 

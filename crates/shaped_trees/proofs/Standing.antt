@@ -25,7 +25,7 @@ use Rattle.lower_expr.specs.Lengths.{bare, is_send, is_sent}
 use Rattle.lower_expr.specs.Steps.{is_kept}
 use Rattle.code_lengths.specs.Shaped.{HasNoShape, HasShape}
 use Rattle.shaped_trees.specs.Laws.{IsLowerableValue, IsShapedValue}
-use Rattle.shaped_trees.specs.Lowerable.{GivesValue, InRegister, IsLowerable, IsValueFor}
+use Rattle.code_lengths.specs.Lowerable.{GivesValue, InRegister, IsLowerable, IsValueFor}
 use Rattle.shaped_trees.proofs.Bringing.{converted, converted_shape, spread_parallel}
 
 -- a part of an expression, whose value is wanted

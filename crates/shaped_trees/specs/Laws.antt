@@ -26,10 +26,10 @@ use Rattle.lower_expr.specs.Steps.{is_kept}
 use Rattle.code_lengths.specs.Shaped.{IsShaped, IsTarget}
 use Rattle.code_lengths.specs.ShapedStatements.{AreShapedLocals, IsShapedStatement}
 use Rattle.shaped_trees.specs.Casts.{DeclarationNamesShapes, ExpressionNamesShapes, NamesShapes, StatementNamesShapes}
-use Rattle.shaped_trees.specs.Lowerable.{GivesValue, IsLowerable}
-use Rattle.shaped_trees.specs.LowerableStatements.{IsLowerableLocal, IsLowerableStatement}
-use Rattle.shaped_trees.specs.Naming.{KnowsVariables, NamesVariables}
-use Rattle.shaped_trees.specs.NamingStatements.{StandFrom, StatementNamesVariables}
+use Rattle.code_lengths.specs.Lowerable.{GivesValue, IsLowerable}
+use Rattle.code_lengths.specs.LowerableStatements.{IsLowerableLocal, IsLowerableStatement}
+use Rattle.code_lengths.specs.Naming.{KnowsVariables, NamesVariables}
+use Rattle.code_lengths.specs.NamingStatements.{StandFrom, StatementNamesVariables}
 use Rattle.shaped_trees.specs.Places.{IsInside, IsSound}
 
 -- What an expression becomes, before it is brought to another type or shape: it is shaped, can be

@@ -8,7 +8,7 @@ use Rattle.cstar_tree.specs.declared.typed.TStmt.{TStmt, Row_of-TStmt, end_of-TS
 use Rattle.cstar_tree.specs.declared.typed.TStmt as S
 use Rattle.cstar_tree.specs.declared.typed.Typed.{Typed}
 use Rattle.cstar_tree.specs.declared.typed.VarInfo.{VarInfo}
-use Rattle.shaped_trees.specs.Lowerable.{InField, InRegister, IsLowerable, IsValueFor}
+use Rattle.code_lengths.specs.Lowerable.{InField, InRegister, IsLowerable, IsValueFor}
 
 -- a condition that stands in a register
 abbrev pub IsTest : Typed → TExpr → Type 0

@@ -1,0 +1,64 @@
+-- What the code of a tree relies on, so that there is such code: of the tree, and of the unit as it stands
+-- where the tree comes.
+use Rattle.std.specs.Prelude.{◌≡◌, ◌<◌, ℕ, false, length, Some, is_none}
+use Rattle.cstar_tree.specs.declared.typed.Instance.{Instance}
+use Rattle.cstar_tree.specs.declared.typed.TExpr.{TExpr, Row_of-TExpr, end_of-TExpr, more_of-TExpr}
+use Rattle.cstar_tree.specs.declared.typed.TStmt.{TStmt}
+use Rattle.cstar_tree.specs.declared.typed.Typed.{Typed}
+use Rattle.cstar_tree.specs.declared.typed.VarInfo.{VarInfo}
+use Rattle.cstar_tree.specs.declared.typed.Variable.{Variable}
+use Rattle.lower_base.specs.declared.emit.Out.{Out}
+use Rattle.lower_base.specs.declared.emit.Out.TheVariants as O
+use Rattle.lower_base.specs.Drafts.{Draft, Made, Makes, Fails}
+use Rattle.lower_base.specs.Layouts.{Layout, elements_of, entries_of, field_of, own_field}
+use Rattle.lower_expr.specs.Steps.{is_kept}
+use Rattle.code_lengths.specs.Growth.{Stands}
+use Rattle.code_lengths.specs.Lowerable.{GivesValue, IsLowerable}
+use Rattle.cstar_tree.specs.Variables.{variables_of}
+use Rattle.code_lengths.specs.LowerableStatements.{IsLowerableStatement}
+use Rattle.code_lengths.specs.Naming.{IsDeclared, NamesVariables, variable_named}
+use Rattle.code_lengths.specs.NamingStatements.{StandFrom, StatementNamesVariables}
+use Rattle.code_lengths.specs.Shaped.{IsShaped, IsTarget}
+use Rattle.code_lengths.specs.ShapedStatements.{IsShapedStatement}
+
+-- there is such code
+unfoldable pub IsMade : {A : Type 0} → Made A → Type 0
+IsMade (Makes x d) = Unit {0}
+IsMade Fails = ⊥
+
+-- Where so many variables of an instance's blocks are declared, each parallel variable has as many fields
+-- as it has elements, the parallel result has one, and each instance has its registers.
+pub record IsReady (t : Typed) (i : Instance) (l : Layout) (n : ℕ) (d : Draft) : Type 0 where
+  pub elements : (v : Variable) (info : VarInfo) → variable_named t i v ≡ Some info → IsDeclared n v → is_none info.shape ≡ false → elements_of t l v ≡ entries_of info
+  pub fields : (v : Variable) (info : VarInfo) (element : ℕ) →
+      variable_named t i v ≡ Some info → IsDeclared n v → is_none info.shape ≡ false → element < entries_of info → IsMade (field_of t l v element d)
+  pub result : (info : VarInfo) → i.result ≡ Some info → is_none info.shape ≡ false → IsMade (own_field l.outcome d)
+  pub bases : length l.bases ≡ length t.instances.items
+
+-- an expression that stands where so many variables are declared, and has code
+pub record HasCode (t : Typed) (i : Instance) (n : ℕ) (e : TExpr) : Type 0 where
+  pub shaped : IsShaped e
+  pub lowerable : IsLowerable t e
+  pub names : NamesVariables t i n e
+
+unfoldable pub HaveCode : {k : _} → Typed → Instance → ℕ → Row_of-TExpr k → Type 0
+HaveCode t i n end_of-TExpr = Unit {0}
+HaveCode t i n (more_of-TExpr e rest) = HasCode t i n e × HaveCode t i n rest
+
+-- the same of what can be assigned to
+pub record IsPlace (t : Typed) (i : Instance) (n : ℕ) (e : TExpr) : Type 0 where
+  pub target : IsTarget e
+  pub lowerable : IsLowerable t e
+  pub names : NamesVariables t i n e
+
+-- the same of a statement of the instance's body, whose variables have their numbers from there on
+pub record HasStatementCode (t : Typed) (i : Instance) (n : ℕ) (s : TStmt) : Type 0 where
+  pub shaped : IsShapedStatement s
+  pub lowerable : IsLowerableStatement t i.result s
+  pub names : StatementNamesVariables t i n s
+  pub stands : StandFrom (variables_of i.body) n (variables_of s)
+
+-- the value of an expression stands where the expression says; one that gives none may be nowhere
+unfoldable pub Arrives : Typed → TExpr → Out → Type 0
+Arrives t e O.Nothing = GivesValue t e → ⊥
+Arrives t e out = Stands (is_kept e) out
