@@ -1,5 +1,5 @@
 -- Drafts that grow: by so many instructions, with what was there unchanged.
-use Rattle.std.proofs.Common.{◌≡◌, ℕ, ◌+◌, Bool, true, false, List, [], ◌∷◌, ◌++◌, length, Option, Some, None, is_none, refl, ap, ◌∙◌, subst, arith, append_assoc, length-append}
+use Rattle.std.proofs.Common.{◌≡◌, ℕ, ◌+◌, Bool, true, false, List, [], ◌∷◌, ◌++◌, length, Option, Some, None, IsSome, is_none, refl, ap, ◌∙◌, subst, arith, append_assoc, length-append}
 use Rattle.paris_code.specs.declared.instr.Instr.{Instr}
 use Rattle.paris_code.specs.declared.operands.Field.{Field}
 use Rattle.paris_code.specs.declared.program.Owner.{Owner}
@@ -61,34 +61,41 @@ sized P d a b m h g = subst (λ k. Grows d k P m) h g
 pub behind : {A : Type 0} (P : A → Type 0) (d e : Draft) (a b : ℕ) (m : Made A) → Extended d a e → Grows e b P m → Grows d (a + b) P m
 unfolding Grows
 behind P d e a b (Makes x f) x1 g = (g.0, extended d e f a b x1 g.1)
-behind P d e a b Fails x1 g = tt
+behind P d e a b Fails x1 g = absurd g
 
 pub bind : {A B : Type 0} (P : A → Type 0) (Q : B → Type 0) (d : Draft) (a b : ℕ) (m : Made A) (next : A → Draft → Made B) → Grows d a P m → ((x : A) (e : Draft) → P x → Grows e b Q (next x e)) → Grows d (a + b) Q (then_make m next)
 unfolding Grows then_make
 bind P Q d a b (Makes x e) next g f = behind Q d e a b (next x e) g.1 (f x e g.0)
-bind P Q d a b Fails next g f = tt
+bind P Q d a b Fails next g f = absurd g
 
 pub weaker : {A : Type 0} (P Q : A → Type 0) (d : Draft) (n : ℕ) (m : Made A) → ((x : A) → P x → Q x) → Grows d n P m → Grows d n Q m
 unfolding Grows
 weaker P Q d n (Makes x e) f g = (f x g.0, g.1)
-weaker P Q d n Fails f g = tt
+weaker P Q d n Fails f g = absurd g
 
-pub in_register_grows : {B : Type 0} (Q : B → Type 0) (d : Draft) (n : ℕ) (k : Bool) (v : Out) (next : ℕ → Made B) → Stands k v → ((r : ℕ) → k ≡ true → Grows d n Q (next r)) → Grows d n Q (in_register v next)
+-- the same, where the rest may rely on the draft being longer
+pub bind_behind : {A B : Type 0} (P : A → Type 0) (Q : B → Type 0) (d : Draft) (a b : ℕ) (m : Made A) (next : A → Draft → Made B) → Grows d a P m → ((x : A) (e : Draft) → P x → Extended d a e → Grows e b Q (next x e)) → Grows d (a + b) Q (then_make m next)
+unfolding Grows then_make
+bind_behind P Q d a b (Makes x e) next g f = behind Q d e a b (next x e) g.1 (f x e g.0 g.1)
+bind_behind P Q d a b Fails next g f = absurd g
+
+-- what stands in a register, and in a field, and what is there
+pub in_register_grows : {B : Type 0} (Q : B → Type 0) (d : Draft) (n : ℕ) (v : Out) (next : ℕ → Made B) → Stands true v → ((r : ℕ) → Grows d n Q (next r)) → Grows d n Q (in_register v next)
 unfolding Grows in_register
-in_register_grows Q d n k (O.Scalar r) next s f = f r s
-in_register_grows Q d n k (O.Field g) next s f = tt
-in_register_grows Q d n k O.Nothing next s f = tt
+in_register_grows Q d n (O.Scalar r) next s f = f r
+in_register_grows Q d n (O.Field g) next s f = cc
+in_register_grows Q d n O.Nothing next s f = absurd s
 
-pub in_field_grows : {B : Type 0} (Q : B → Type 0) (d : Draft) (n : ℕ) (k : Bool) (v : Out) (next : Field → Made B) → Stands k v → ((r : Field) → k ≡ false → Grows d n Q (next r)) → Grows d n Q (in_field v next)
+pub in_field_grows : {B : Type 0} (Q : B → Type 0) (d : Draft) (n : ℕ) (v : Out) (next : Field → Made B) → Stands false v → ((f : Field) → Grows d n Q (next f)) → Grows d n Q (in_field v next)
 unfolding Grows in_field
-in_field_grows Q d n k (O.Scalar r) next s f = tt
-in_field_grows Q d n k (O.Field g) next s f = f g s
-in_field_grows Q d n k O.Nothing next s f = tt
+in_field_grows Q d n (O.Scalar r) next s f = cc
+in_field_grows Q d n (O.Field g) next s f = f g
+in_field_grows Q d n O.Nothing next s f = absurd s
 
-pub from_grows : {A B : Type 0} (Q : B → Type 0) (d : Draft) (n : ℕ) (o : Option A) (next : A → Made B) → ((x : A) → Grows d n Q (next x)) → Grows d n Q (from o next)
+pub from_grows : {A B : Type 0} (Q : B → Type 0) (d : Draft) (n : ℕ) (o : Option A) (next : A → Made B) → IsSome o → ((x : A) → o ≡ Some x → Grows d n Q (next x)) → Grows d n Q (from o next)
 unfolding Grows from
-from_grows Q d n (Some x) next f = f x
-from_grows Q d n None next f = tt
+from_grows Q d n (Some x) next there f = f x refl
+from_grows Q d n None next there f = absurd there
 
 pub register_grows : (d : Draft) → Grows d 0 Anything (a_register d)
 unfolding Grows a_register
@@ -112,13 +119,13 @@ IsAt kept bits O.Nothing = ⊥
 pub at_stands : (k : Bool) (bits : ℕ) (v : Out) → IsAt k bits v → Stands k v
 at_stands k bits (O.Scalar r) h = h
 at_stands k bits (O.Field f) h = h.0
-at_stands k bits O.Nothing h = tt
+at_stands k bits O.Nothing h = absurd h
 
-pub in_field_at : {B : Type 0} (Q : B → Type 0) (d : Draft) (n : ℕ) (k : Bool) (bits : ℕ) (v : Out) (next : Field → Made B) → IsAt k bits v → ((f : Field) → f.len ≡ bits → Grows d n Q (next f)) → Grows d n Q (in_field v next)
+pub in_field_at : {B : Type 0} (Q : B → Type 0) (d : Draft) (n : ℕ) (bits : ℕ) (v : Out) (next : Field → Made B) → IsAt false bits v → ((f : Field) → f.len ≡ bits → Grows d n Q (next f)) → Grows d n Q (in_field v next)
 unfolding Grows in_field
-in_field_at Q d n k bits (O.Scalar r) next s f = tt
-in_field_at Q d n k bits (O.Field g) next s f = f g s.1
-in_field_at Q d n k bits O.Nothing next s f = tt
+in_field_at Q d n bits (O.Scalar r) next s f = cc
+in_field_at Q d n bits (O.Field g) next s f = f g s.1
+in_field_at Q d n bits O.Nothing next s f = absurd s
 
 pub fresh_at : (shape : Option ℕ) (bits : ℕ) (d : Draft) → Grows d 0 (IsAt (is_none shape) bits) (fresh_for shape bits d)
 unfolding fresh_for
@@ -133,9 +140,9 @@ lowest_stand : (k : Bool) (bits : ℕ) (v : Out) → Stands k v → Stands k (sh
 unfolding shortened
 lowest_stand k bits (O.Scalar r) h = h
 lowest_stand k bits (O.Field f) h = h
-lowest_stand k bits O.Nothing h = h
+lowest_stand k bits O.Nothing h = absurd h
 
 pub lowest_grows : (k : Bool) (bits : ℕ) (d : Draft) (n : ℕ) (made : Made Out) → Grows d n (Stands k) made → Grows d n (Stands k) (lowest bits made)
 unfolding Grows lowest then_make
 lowest_grows k bits d n (Makes v e) g = (lowest_stand k bits v g.0, g.1)
-lowest_grows k bits d n Fails g = tt
+lowest_grows k bits d n Fails g = absurd g
