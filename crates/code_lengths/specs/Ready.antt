@@ -1,6 +1,7 @@
 -- What the code of a tree relies on, so that there is such code: of the tree, and of the unit as it stands
 -- where the tree comes.
-use Rattle.std.specs.Prelude.{◌≡◌, ◌<◌, ℕ, false, length, Some, is_none}
+use Rattle.std.specs.Prelude.{◌≡◌, ◌<◌, ℕ, false, length, slice_get, Some, None, is_none}
+use Rattle.std.specs.List.{All}
 use Rattle.cstar_tree.specs.declared.typed.Instance.{Instance}
 use Rattle.cstar_tree.specs.declared.typed.TExpr.{TExpr, Row_of-TExpr, end_of-TExpr, more_of-TExpr}
 use Rattle.cstar_tree.specs.declared.typed.TStmt.{TStmt}
@@ -57,6 +58,14 @@ pub record HasStatementCode (t : Typed) (i : Instance) (n : ℕ) (s : TStmt) : T
   pub lowerable : IsLowerableStatement t i.result s
   pub names : StatementNamesVariables t i n s
   pub stands : StandFrom (variables_of i.body) n (variables_of s)
+
+-- no parameter is an array
+abbrev pub HasPlainParameters : Instance → Type 0
+HasPlainParameters i = All (λ (info : VarInfo). info.array ≡ None) i.params.items
+
+-- a typed program whose instances have code
+abbrev pub IsCodable : Typed → Type 0
+IsCodable t = (number : ℕ) (i : Instance) → slice_get t.instances.items number ≡ Some i → HasPlainParameters i × HasStatementCode t i 0 i.body
 
 -- the value of an expression stands where the expression says; one that gives none may be nowhere
 unfoldable pub Arrives : Typed → TExpr → Out → Type 0
