@@ -1,6 +1,6 @@
 -- The bodies of a typed file name the variables that there are, where the names of the file stand for all
 -- of its variables. So there is code for each body.
-use Rattle.std.proofs.Common.{◌≡◌, ℕ, zero, suc, ◌+◌, ◌≤◌, ◌<◌, Bool, true, false, is_some, if◌then◌else◌, IfSome, List, [], ◌∷◌, ◌++◌, length, map, slice_get, Option, Some, None, arith, length-append, refl, ap, ◌∙◌, sym, subst}
+use Rattle.std.proofs.Common.{◌≡◌, ℕ, zero, suc, ◌+◌, ◌≤◌, ◌<◌, Bool, true, false, is_some, if◌then◌else◌, IfSome, IsSome, List, [], ◌∷◌, ◌++◌, length, map, slice_get, Option, Some, None, arith, length-append, refl, ap, ◌∙◌, sym, subst}
 use Rattle.std.specs.List.{All}
 use Rattle.std.proofs.lemmas.List.{append-nil}
 use Rattle.std.proofs.lemmas.List.Elements.{All-nil, All-cons, All-head, All-tail, All-weaker}
@@ -49,6 +49,11 @@ use Rattle.shaped_trees.proofs.Rows.{block_names_variables}
 
 stand_all : (all : List VarInfo) → StandFrom all 0 all
 stand_all all = record { before = []; behind = []; all_are = sym (append-nil all); number_is = refl }
+
+there_is : {A : Type 0} (xs : List A) (n : ℕ) → n < length xs → IsSome (slice_get xs n)
+there_is [] n less = absurd (omega arith)
+there_is (x ∷ xs) zero less = refl
+there_is (x ∷ xs) (suc n) less = there_is xs n (omega arith)
 
 -- ---- how many variables and shapes a file has declared
 
@@ -165,56 +170,44 @@ module _ (typed : Typed) where
         let one = one_shape functions known s in
         let first = one.0 in
         shapes_known more
-        (named known _ s.name.word (a_shape (length known.shapes)) (is_some (find known.names s.name.word)) before (within typed.shapes.items (length known.shapes) (omega (arith, room))) refl)
+        (named known _ s.name.word (a_shape (length known.shapes)) (is_some (find known.names s.name.word)) before (there_is typed.shapes.items (length known.shapes) (omega (arith, room))) refl)
         (omega (arith, room, first))
-      where
-        within : {A : Type 0} (xs : List A) (n : ℕ) → n < length xs → is_some (slice_get xs n) ≡ true
-        within [] n less = absurd (omega arith)
-        within (x ∷ xs) zero less = refl
-        within (x ∷ xs) (suc n) less = within xs n (omega arith)
 
     -- a variable of the file has the number of its name, where each is new
+    one_known : (ty : Option ValueType) (known : Known) (d : Declarator) (end rest : ℕ) → Knows known → MeansKnown (a_variable (V.File known.variables) (declared_type (file_place functions known) ty d.length)) →
+        end ≤ (behind_variable functions ty known d).variables + rest → end ≡ known.variables + (1 + rest) → Knows (behind_variable functions ty known d) × ((behind_variable functions ty known d).variables ≡ known.variables + 1)
+    unfolding behind_variable
+    one_known ty known d end rest before means least full =
+        by_name (is_some (find known.names d.name.word)) (record {
+          names = record { word = d.name.word; meaning = a_variable (V.File known.variables) (declared_type (file_place functions known) ty d.length) } ∷ known.names;
+          shapes = known.shapes;
+          variables = known.variables + 1;
+          functions = known.functions;
+        }) (with_name MeansKnown (known.names ++ functions) d.name.word (a_variable (V.File known.variables) (declared_type (file_place functions known) ty d.length)) before means) refl least
+      where
+        by_name : (b : Bool) (more : Known) → Knows more → more.variables ≡ known.variables + 1 → end ≤ (if b then known else more).variables + rest → Knows (if b then known else more) × ((if b then known else more).variables ≡ known.variables + 1)
+        by_name true more new many least = absurd (omega (arith, least, full))
+        by_name false more new many least = (new, many)
+
     variables_known : {ty : ValueType} {known : Known} {ds : List Declarator} {vars : List VarInfo} → TypesVariables functions ty known ds vars → Knows known → HasItsShape typed ty →
         StandFrom typed.vars.items known.variables vars → (behind_variables functions (Some ty) known ds).variables ≡ known.variables + length vars → Knows (behind_variables functions (Some ty) known ds)
-    unfolding behind_variables
+    unfolding behind_variables variable_named IsDeclared
     variables_known Y.TypesVariables.no_variable before shape stand full = before
     variables_known {ty = ty} (Y.TypesVariables.next_variable {known = known} {d = d} {ds = ds} {variable = variable} {start = start} {rest = rest} is allowed starts more) before shape stand full =
-        let counted = variables_counted functions more in
-        let others = counted.1 in
-        let new = one_known others in
-        variables_known more new.0 shape
-        (subst (λ (n : ℕ). StandFrom typed.vars.items n rest) (sym new.1) (second_part (variable_info d.name.word variable start ∷ []) rest stand))
-        (let many = new.1 in omega (arith, many, full))
-      where
-        means : MeansKnown (a_variable (V.File known.variables) (declared_type (file_place functions known) (Some ty) d.length))
-        unfolding variable_named IsDeclared
-        means = subst (λ (found : Option VariableType). MeansKnown (a_variable (V.File known.variables) found)) (sym is) (λ i n. record {
+        let means = subst (λ (found : Option VariableType). MeansKnown (a_variable (V.File known.variables) found)) (sym is) (λ (i : Instance) (n : ℕ). record {
           word = d.name.word;
           start = start;
           named = at_number (variable_info d.name.word variable start) rest stand;
           declared = tt;
           shape = subst (HasItsShape typed) (sym (same_value (file_place functions known) ty d.length variable is)) shape;
-        })
-
-        one_known : (behind_variables functions (Some ty) (behind_variable functions (Some ty) known d) ds).variables ≤ (behind_variable functions (Some ty) known d).variables + length rest →
-            Knows (behind_variable functions (Some ty) known d) × ((behind_variable functions (Some ty) known d).variables ≡ known.variables + 1)
-        unfolding behind_variable
-        one_known = by_name (is_some (find known.names d.name.word))
-          where
-            end : ℕ
-            end = (behind_variables functions (Some ty) (behind_variable functions (Some ty) known d) ds).variables
-
-            abbrev next : Bool → Known
-            next b = if b then known else record {
-              names = record { word = d.name.word; meaning = a_variable (V.File known.variables) (declared_type (file_place functions known) (Some ty) d.length) } ∷ known.names;
-              shapes = known.shapes;
-              variables = known.variables + 1;
-              functions = known.functions;
-            }
-
-            by_name : (b : Bool) → end ≤ (next b).variables + length rest → Knows (next b) × ((next b).variables ≡ known.variables + 1)
-            by_name true less = absurd (omega (arith, less, full))
-            by_name false less = (with_name MeansKnown (known.names ++ functions) d.name.word _ before means, refl)
+        }) in
+        let counted = variables_counted functions more in
+        let all : (behind_variables functions (Some ty) (behind_variable functions (Some ty) known d) ds).variables ≡ known.variables + (1 + length rest) = omega (arith, full) in
+        let new = one_known (Some ty) known d (behind_variables functions (Some ty) (behind_variable functions (Some ty) known d) ds).variables (length rest) before means counted.1 all in
+        let many = new.1 in
+        variables_known more new.0 shape
+        (subst (λ (n : ℕ). StandFrom typed.vars.items n rest) (sym many) (second_part (variable_info d.name.word variable start ∷ []) rest stand))
+        (omega (arith, many, all))
 
     function_known : (known : Known) (f : Function) → Knows known → Knows (behind_function known f)
     unfolding behind_function
@@ -240,18 +233,15 @@ module _ (typed : Typed) where
         let first = counted.1 in
         let rest = items_counted functions more in
         let long = length-append vars others in
-        let same : (after (written_type (file_place functions known) d.type_name)).variables ≡ (after (Some ty)).variables = ap (λ (of : Option ValueType). (after of).variables) is in
-        let own : (after (Some ty)).variables ≡ known.variables + length vars = omega (arith, first, rest, full, long, same) in
-        let shapes : (after (written_type (file_place functions known) d.type_name)).shapes ≡ known.shapes = ap (λ (of : Option ValueType). (after of).shapes) is ∙ counted.0 in
+        let same : (behind_variables functions (written_type (file_place functions known) d.type_name) known d.variables.items).variables ≡ (behind_variables functions (Some ty) known d.variables.items).variables = ap (λ (of : Option ValueType). (behind_variables functions of known d.variables.items).variables) is in
+        let own : (behind_variables functions (Some ty) known d.variables.items).variables ≡ known.variables + length vars = omega (arith, first, rest, full, long, same) in
+        let shapes : (behind_variables functions (written_type (file_place functions known) d.type_name) known d.variables.items).shapes ≡ known.shapes = ap (λ (of : Option ValueType). (behind_variables functions of known d.variables.items).shapes) is ∙ counted.0 in
         placed_know more
-        (subst (λ (of : Option ValueType). Knows (after of)) (sym is)
+        (subst (λ (of : Option ValueType). Knows (behind_variables functions of known d.variables.items)) (sym is)
         (variables_known are before (type_there typed (file_place functions known) d.type_name ty (file_shapes known before) is) (first_part vars others stand) own))
         (subst (λ (n : ℕ). StandFrom typed.vars.items n others) (sym (same ∙ own)) (second_part vars others stand))
         (omega (arith, full, long, same, own))
         (subst (λ (all : List (List ℕ)). length all + length infos ≤ length typed.shapes.items) (sym shapes) room)
-      where
-        abbrev after : Option ValueType → Known
-        after of = behind_variables functions of known d.variables.items
     placed_know (Y.TypesItems.function {known = known} {f = f} {items = items} {infos = infos} {vars = vars} more) before stand full room =
         let counted = one_function functions known f in
         let shapes = counted.0 in

@@ -209,8 +209,8 @@ module _ (t : Typed) (i : Instance) where
     test_names Y.TypesTestIf.absent k = tt
     test_names {here = here} (Y.TypesTestIf.present test) k = named t i here.locals program test.typed k
 
-    returned_names : {here : Here} {n : ℕ} {returns : Returns} {e f : TExpr} → IsReturned here returns e f → NamesVariables t i n e → NamesVariables t i n f
-    returned_names {n = n} (Y.returned at_hand takes fit) names = fitted t i n fit names
+    returned_names : {here : Here} {returns : Returns} {e f : TExpr} (n : ℕ) → IsReturned here returns e f → NamesVariables t i n e → NamesVariables t i n f
+    returned_names n (Y.returned at_hand takes fit) names = fitted t i n fit names
 
     module _ (returns : Returns) where
       -- the only part of a statement
@@ -221,6 +221,10 @@ module _ (t : Typed) (i : Instance) where
           StandFrom (variables_of i.body) (behind here s).locals other
       behind_part {here = here} {f = f} at other s =
           first_part other [] (subst (λ (n : ℕ). StandFrom (variables_of i.body) (here.locals + n) (other ++ [])) (as_many program returns at) (second_part (variables_of f) (other ++ []) s))
+
+      -- as many variables are declared behind a statement as it declares
+      behind_names : {here : Here} {s : Stmt} {f g : TStmt} → TypesStatement program returns here s f → StatementNamesVariables t i (behind here s).locals g → StatementNamesVariables t i (here.locals + length (variables_of f)) g
+      behind_names {here = here} {g = g} at names = subst (λ (n : ℕ). StatementNamesVariables t i (here.locals + n) g) (sym (as_many program returns at)) names
 
       mutual
         unfolding StatementNamesVariables ElseNamesVariables EachNamesVariables concat
@@ -237,7 +241,7 @@ module _ (t : Typed) (i : Instance) where
             let both = subst (StandFrom (variables_of i.body) here.locals) (of_else test_is a b) s in (
               named t i here.locals program test.typed k.variables,
               statement_names at k (first_part (variables_of a.value) (variables_of b.value ++ []) both),
-              other_names at other k both,
+              behind_names at (statement_names other (known_behind here second.value k) (behind_part at (variables_of b.value) both)),
             )
         statement_names (Y.while {here = here} {t = test_is} body b test at) k s =
             (named t i here.locals program test.typed k.variables, statement_names at (known_body here k) (only (variables_of b.value) (of_while test_is b) s))
@@ -248,7 +252,7 @@ module _ (t : Typed) (i : Instance) where
         statement_names (Y.break loop) k s = tt
         statement_names (Y.continue loop) k s = tt
         statement_names Y.return_alone k s = tt
-        statement_names (Y.return_value {here = here} at is) k s = returned_names is (named t i here.locals program at k.variables)
+        statement_names (Y.return_value {here = here} at is) k s = returned_names here.locals is (named t i here.locals program at k.variables)
         statement_names (Y.with {here = here} {written = written} {shape = shape} body b is at) k s =
             statement_names at (known_under here shape (shape_there t here written shape k.shapes is) k) (only (variables_of b.value) (of_with shape b) s)
         statement_names (Y.everywhere {shape = shape} body b is at) k s = statement_names at k (only (variables_of b.value) (of_everywhere shape b) s)
@@ -258,14 +262,8 @@ module _ (t : Typed) (i : Instance) where
             let both = subst (StandFrom (variables_of i.body) here.locals) (of_where_else shape test_is a b) s in (
               named t i here.locals program test k.variables,
               statement_names at k (first_part (variables_of a.value) (variables_of b.value ++ []) both),
-              other_names at other k both,
+              behind_names at (statement_names other (known_behind here second.value k) (behind_part at (variables_of b.value) both)),
             )
-
-        -- the statement behind another
-        other_names : {here : Here} {s other : Stmt} {f g : TStmt} → TypesStatement program returns here s f → TypesStatement program returns (behind here s) other g → IsKnown here →
-            StandFrom (variables_of i.body) here.locals (variables_of f ++ (variables_of g ++ [])) → StatementNamesVariables t i (here.locals + length (variables_of f)) g
-        other_names {here = here} {s = s} {g = g} at other k both =
-            subst (λ (n : ℕ). StatementNamesVariables t i (here.locals + n) g) (sym (as_many program returns at)) (statement_names other (known_behind here s k) (behind_part at (variables_of g) both))
 
         statements_name : {here : Here} {ss : List Stmt} {ts : List TStmt} → TypesStatements program returns here ss ts → IsKnown here → StandFrom (variables_of i.body) here.locals (concat (map variables_of ts)) → EachNamesVariables t i here.locals ts
         statements_name Y.no_statement k s = tt

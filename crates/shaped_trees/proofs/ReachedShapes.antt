@@ -218,20 +218,21 @@ module _ (t : Typed) where
   reached_under : (cs : List Call) → All IsUnder cs → All StandsUnder (reached_by cs)
   unfolding reached_by
   reached_under [] all = All-nil StandsUnder
-  reached_under (c ∷ cs) all = by_typed c.typed refl
+  reached_under (c ∷ cs) all = by_typed c.typed refl (reached_under cs (All-tail IsUnder c cs all))
     where
-      by_typed : (b : Bool) → c.typed ≡ b → All StandsUnder (if b then record { function = c.function; current = c.current } ∷ reached_by cs else reached_by cs)
-      by_typed true is = All-cons StandsUnder (record { function = c.function; current = c.current }) (reached_by cs) (All-head IsUnder c cs all is) (reached_under cs (All-tail IsUnder c cs all))
-      by_typed false is = reached_under cs (All-tail IsUnder c cs all)
+      by_typed : (b : Bool) → c.typed ≡ b → All StandsUnder (reached_by cs) → All StandsUnder (if b then record { function = c.function; current = c.current } ∷ reached_by cs else reached_by cs)
+      by_typed true is rest = All-cons StandsUnder (record { function = c.function; current = c.current }) (reached_by cs) (All-head IsUnder c cs all is) rest
+      by_typed false is rest = rest
 
   met_under : (before list : List Reached) → All StandsUnder list → All StandsUnder (first_met before list)
   unfolding first_met
   met_under before [] all = All-nil StandsUnder
-  met_under before (r ∷ rest) all = by_met (is_met r before)
+  met_under before (r ∷ rest) all =
+      by_met (is_met r before) (met_under before rest (All-tail StandsUnder r rest all)) (met_under (r ∷ before) rest (All-tail StandsUnder r rest all))
     where
-      by_met : (b : Bool) → All StandsUnder (if b then first_met before rest else r ∷ first_met (r ∷ before) rest)
-      by_met true = met_under before rest (All-tail StandsUnder r rest all)
-      by_met false = All-cons StandsUnder r (first_met (r ∷ before) rest) (All-head StandsUnder r rest all) (met_under (r ∷ before) rest (All-tail StandsUnder r rest all))
+      by_met : (b : Bool) → All StandsUnder (first_met before rest) → All StandsUnder (first_met (r ∷ before) rest) → All StandsUnder (if b then first_met before rest else r ∷ first_met (r ∷ before) rest)
+      by_met true old new = old
+      by_met false old new = All-cons StandsUnder r (first_met (r ∷ before) rest) (All-head StandsUnder r rest all) new
 
   module _ (shapes : List (List ℕ)) (functions : List Placed) (known : All KnowsItsShapes functions) where
     calls_under : (r : Reached) → StandsUnder r → All IsUnder (calls_of shapes functions r)
