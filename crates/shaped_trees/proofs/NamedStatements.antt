@@ -223,8 +223,8 @@ module _ (t : Typed) (i : Instance) where
           first_part other [] (subst (λ (n : ℕ). StandFrom (variables_of i.body) (here.locals + n) (other ++ [])) (as_many program returns at) (second_part (variables_of f) (other ++ []) s))
 
       -- as many variables are declared behind a statement as it declares
-      behind_names : {here : Here} {s : Stmt} {f g : TStmt} → TypesStatement program returns here s f → StatementNamesVariables t i (behind here s).locals g → StatementNamesVariables t i (here.locals + length (variables_of f)) g
-      behind_names {here = here} {g = g} at names = subst (λ (n : ℕ). StatementNamesVariables t i (here.locals + n) g) (sym (as_many program returns at)) names
+      behind_names : {here : Here} {s : Stmt} {f : TStmt} (g : TStmt) → TypesStatement program returns here s f → StatementNamesVariables t i (behind here s).locals g → StatementNamesVariables t i (here.locals + length (variables_of f)) g
+      behind_names {here = here} g at names = subst (λ (n : ℕ). StatementNamesVariables t i (here.locals + n) g) (sym (as_many program returns at)) names
 
       mutual
         unfolding StatementNamesVariables ElseNamesVariables EachNamesVariables concat
@@ -241,7 +241,7 @@ module _ (t : Typed) (i : Instance) where
             let both = subst (StandFrom (variables_of i.body) here.locals) (of_else test_is a b) s in (
               named t i here.locals program test.typed k.variables,
               statement_names at k (first_part (variables_of a.value) (variables_of b.value ++ []) both),
-              behind_names at (statement_names other (known_behind here second.value k) (behind_part at (variables_of b.value) both)),
+              behind_names b.value at (statement_names other (known_behind here second.value k) (behind_part at (variables_of b.value) both)),
             )
         statement_names (Y.while {here = here} {t = test_is} body b test at) k s =
             (named t i here.locals program test.typed k.variables, statement_names at (known_body here k) (only (variables_of b.value) (of_while test_is b) s))
@@ -262,7 +262,7 @@ module _ (t : Typed) (i : Instance) where
             let both = subst (StandFrom (variables_of i.body) here.locals) (of_where_else shape test_is a b) s in (
               named t i here.locals program test k.variables,
               statement_names at k (first_part (variables_of a.value) (variables_of b.value ++ []) both),
-              behind_names at (statement_names other (known_behind here second.value k) (behind_part at (variables_of b.value) both)),
+              behind_names b.value at (statement_names other (known_behind here second.value k) (behind_part at (variables_of b.value) both)),
             )
 
         statements_name : {here : Here} {ss : List Stmt} {ts : List TStmt} → TypesStatements program returns here ss ts → IsKnown here → StandFrom (variables_of i.body) here.locals (concat (map variables_of ts)) → EachNamesVariables t i here.locals ts
