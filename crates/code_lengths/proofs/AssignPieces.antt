@@ -1,10 +1,12 @@
 -- The code of assignments and steps, over the code of their parts, is as long as described.
 use denote.Hole.Carrier
-use Rattle.std.proofs.Common.{◌≡◌, ℕ, ◌+◌, Bool, true, false, List, [], ◌∷◌, Option, Some, None, is_none, is_some, refl, sym, ap, ◌∙◌, subst, arith, if◌then◌else◌}
+use Rattle.std.proofs.Common.{◌≡◌, ℕ, ◌+◌, Bool, true, false, List, [], ◌∷◌, Option, Some, None, IfSome, IsSome, is_none, is_some, slice_get, unwrap_or, ◌⊎◌, inl, inr, refl, sym, ap, ◌∙◌, subst, arith, if◌then◌else◌}
 use Rattle.cstar_base.specs.declared.operators.Op.{Op}
 use Rattle.cstar_base.specs.declared.operators.Place.{Place}
 use Rattle.cstar_tree.specs.declared.syntax.AssignOp.{AssignOp}
+use Rattle.cstar_tree.specs.declared.syntax.AssignOp.TheVariants as A
 use Rattle.cstar_tree.specs.declared.syntax.StepOp.{StepOp}
+use Rattle.cstar_tree.specs.declared.typed.Instance.{Instance}
 use Rattle.cstar_tree.specs.declared.typed.StepOrder.{StepOrder}
 use Rattle.cstar_tree.specs.declared.typed.StepOrder.TheVariants as Or
 use Rattle.cstar_tree.specs.declared.typed.TExpr.{TExpr, out-TExpr}
@@ -12,13 +14,15 @@ use Rattle.cstar_tree.specs.declared.typed.TExpr as T
 use Rattle.cstar_tree.specs.declared.typed.Typed.{Typed}
 use Rattle.cstar_tree.specs.declared.typed.ValueType.{ValueType}
 use Rattle.cstar_tree.specs.declared.typed.Variable.{Variable}
+use Rattle.cstar_tree.specs.Operations.{folds}
 use Rattle.cstar_tree.specs.Typed.{type_of}
 use Rattle.paris_code.specs.declared.operands.Field.{Field}
 use Rattle.lower_base.specs.declared.emit.Out.{Out}
 use Rattle.lower_base.specs.declared.emit.Out.TheVariants as O
-use Rattle.lower_base.specs.Drafts.{Draft, Made, in_register}
+use Rattle.lower_base.specs.Drafts.{Draft, Made, fresh_for, in_register}
 use Rattle.lower_base.specs.Layouts.{Layout, elements_of}
 use Rattle.lower_comm.specs.Messages.{communicated, assigned}
+use Rattle.lower_comm.specs.Messages as M
 use Rattle.lower_base.specs.Kinds.{fold_length}
 use Rattle.lower_base.specs.Operators.{assign_op_of}
 use Rattle.lower_expr.specs.Kinds.{operator_bits}
@@ -27,17 +31,19 @@ use Rattle.lower_expr.specs.declared.spots.Spot.TheVariants as S
 use Rattle.lower_expr.specs.declared.steps.Right.{Right}
 use Rattle.lower_expr.specs.Lengths.{conversion_length, operate_length, spread_length, bare, is_sent, is_send, index_check_length, load_length, store_length, send_length, set_length, compound_length, assign_length, step_once_length, step_length}
 use Rattle.lower_expr.specs.Operands.{operand_by, operand_length}
-use Rattle.lower_expr.specs.Spots.{stored}
+use Rattle.lower_expr.specs.Spots.{loaded, stored}
 use Rattle.lower_expr.specs.Steps.{is_kept}
 use Rattle.lower_expr.specs.Values.{Code, lowest, spread_by, element_spot, read_to, read_by, set_by, sent_by, field_updated, register_updated, register_folded, updated_by, plainly_set_by, assigned_by, assign_by, stepped_once, stepped_at, stepped_in, step_by}
-use Rattle.code_lengths.specs.Shaped.{HasNoShape, HasShape}
 use Rattle.code_lengths.specs.Growth.{Grows, Stands, Anything}
-use Rattle.code_lengths.proofs.Drafting.{IsAt, at_stands, field_grows, fresh_at, as_it_was, and_instr, register_grows, entry_grows}
-use Rattle.code_lengths.proofs.Basis.{Basis, GrowsOn, nothing_more, plainly, makes, sized, behind, bind, weaker, in_register_grows, in_field_grows, lowest_grows}
-use Rattle.code_lengths.proofs.Pieces.{InRegister, InField, fails_grow, word_in_grows, in_place_grows, operated_more}
-use Rattle.code_lengths.proofs.Communication.{Is, nothing_more, one_part_stored_grows, sent_grows, folded_length, folded_onto_grows}
+use Rattle.code_lengths.specs.Naming.{HasItsShape, NamesVariables}
+use Rattle.code_lengths.specs.Ready.{IsReady}
+use Rattle.code_lengths.specs.Shaped.{HasShape}
+use Rattle.code_lengths.proofs.Drafting.{nothing_more, IsAt, at_stands, field_grows, fresh_at, as_it_was, and_instr, register_grows, entry_grows}
+use Rattle.code_lengths.proofs.Basis.{Basis, GrowsOn, ready, if_ready, plainly, makes, sized, behind, bind, weaker, in_register_grows, in_field_grows, lowest_grows, fresh_as}
+use Rattle.code_lengths.proofs.Pieces.{InRegister, InField, word_in_grows, in_place_grows, operated_more}
+use Rattle.code_lengths.proofs.Communication.{IsAddress, one_part_stored_grows, sent_grows, folded_length, folded_onto_grows}
 use Rattle.code_lengths.proofs.SpotPieces.{Fits, loaded_grows, stored_grows, index_checked_grows}
-use Rattle.code_lengths.proofs.ValuePieces.{IsCode, spread_by_grows, IsRight, before_length, after_length, right_by_grows, right_operated_grows, right_together}
+use Rattle.code_lengths.proofs.ValuePieces.{IsCode, of_code, spread_by_grows, IsRight, before_length, after_length, right_by_grows, right_operated_grows, right_together}
 
 -- is the bare target scalar
 abbrev pub is_single : TExpr → Bool
@@ -139,7 +145,7 @@ Folds on t l e n = (v : Out) (old dest : ℕ) (d : Draft) → InField v → Grow
 
 pub assign_folds : {on : Basis} (t : Typed) (l : Layout) (ty : ValueType) (place : Place) (op : AssignOp) (p : _) (target : TExpr) (q : _) (value : TExpr) → Folds on t l (T.Assign' ty place op p target q value) (folded_length (assign_op_of op) value)
 unfolding communicated assigned out-TExpr Carrier.out
-assign_folds t l ty place op p target q value v old dest d s = plainly (folded_onto_grows (assign_op_of op) value (type_of target).elem v old dest d s)
+assign_folds t l ty place op p target q value v old dest d s = plainly (folded_onto_grows (assign_op_of op) value (type_of target).elem v (O.Scalar old) (O.Scalar dest) d s refl refl)
 
 register_folded_grows : {on : Basis} (n : ℕ) (t : Typed) (l : Layout) (e target : TExpr) (dest : ℕ) (there : Spot) (v : Out) (d : Draft) → is_single target ≡ true → Reads on t l target → Writes on t l e target → Folds on t l e n → Fits (bare target) there → InField v →
     GrowsOn on d (load_length t l 32 target + (n + store_length t l target)) (Stands (is_single target)) (register_folded t l e target dest there v d)
@@ -185,24 +191,24 @@ spot_of_send (T.LeftIndex' ty place p indexes x of) (S.Whole y) s h = absurd h
 spot_of_send (T.LeftIndex' ty place p indexes x of) (S.Element a r) s h = absurd h
 spot_of_send _ spot s h = cc
 
-abbrev pub Sends : Basis → Typed → Layout → TExpr → ℕ → Type 0
-Sends on t l e n = (f : Field) (v : Out) (d : Draft) → InField v → GrowsOn on d n Anything (communicated t l e (O.Field f) (v ∷ []) O.Nothing d)
+abbrev pub Sends : Basis → Typed → Layout → TExpr → TExpr → ℕ → Type 0
+Sends on t l e target n = (f : Field) (v : Out) (d : Draft) → Fits (bare target) (S.Indexed (O.Field f)) → InField v → GrowsOn on d n Anything (communicated t l e (O.Field f) (v ∷ []) O.Nothing d)
 
-sent_stored : {on : Basis} (t : Typed) (l : Layout) (e : TExpr) (n : ℕ) (spot : Spot) (f : Field) (v : Out) (d : Draft) → spot ≡ S.Indexed (O.Field f) → Sends on t l e n → InField v → GrowsOn on d n Anything (stored t l e spot v d)
+sent_stored : {on : Basis} (t : Typed) (l : Layout) (e target : TExpr) (n : ℕ) (spot : Spot) (f : Field) (v : Out) (d : Draft) → spot ≡ S.Indexed (O.Field f) → Fits (bare target) spot → Sends on t l e target n → InField v → GrowsOn on d n Anything (stored t l e spot v d)
 unfolding stored
-sent_stored {on} t l e n spot f v d h g s = subst (λ x. GrowsOn on d n Anything (stored t l e x v d)) (sym h)
-    (sized _ d _ _ _ (and_nothing n) (bind Anything Anything d n 0 _ _ (g f v d s) (λ _ after _. makes Anything v after after 0 tt (as_it_was after))))
+sent_stored {on} t l e target n spot f v d h fits g s = subst (λ x. GrowsOn on d n Anything (stored t l e x v d)) (sym h)
+    (sized _ d _ _ _ (and_nothing n) (bind Anything Anything d n 0 _ _ (g f v d (subst (λ x. Fits (bare target) x) h fits) s) (λ _ after _. makes Anything v after after 0 tt (as_it_was after))))
   where
     and_nothing : (n : ℕ) → n + 0 ≡ n
     and_nothing n = omega arith
 
-sent_by_grows : {on : Basis} (Q : Out → Type 0) (t : Typed) (l : Layout) (e target : TExpr) (spot : Draft → Made Spot) (code : Code) (n m i : ℕ) (d : Draft) → is_send target ≡ true → Q O.Nothing → Sends on t l e i → IsSpotCode on n (bare target) spot → IsCode on m false code →
+sent_by_grows : {on : Basis} (Q : Out → Type 0) (t : Typed) (l : Layout) (e target : TExpr) (spot : Draft → Made Spot) (code : Code) (n m i : ℕ) (d : Draft) → is_send target ≡ true → Q O.Nothing → Sends on t l e target i → IsSpotCode on n (bare target) spot → IsCode on m false code →
     GrowsOn on d ((n + m) + i) Q (sent_by t l e spot code d)
 unfolding sent_by is_send
 sent_by_grows Q t l e target spot code n m i d s q g a c =
     sized _ d _ _ _ (sum n m i) (bind (Fits (bare target)) Q d n _ _ _ (a d) (λ there between h. bind InField Q between m _ _ _ (c between) (λ v after at.
     let f = spot_of_send (bare target) there s h in
-    bind Anything Q after i 0 _ _ (sent_stored t l e i there f.0 v after f.1 g at) (λ _ last _. makes Q O.Nothing last last 0 q (as_it_was last)))))
+    bind Anything Q after i 0 _ _ (sent_stored t l e target i there f.0 v after f.1 h g at) (λ _ last _. makes Q O.Nothing last last 0 q (as_it_was last)))))
   where
     sum : (n m i : ℕ) → n + (m + (i + 0)) ≡ (n + m) + i
     sum n m i = omega arith
@@ -230,7 +236,7 @@ assigned_grows (Some o) t l e target bits value place shape spot code n m i d h 
 
 assign_rest : {on : Basis} (b : Bool) (Q : Out → Type 0) (t : Typed) (l : Layout) (e target : TExpr) (bits taken : ℕ) (value : TExpr) (op : AssignOp) (place : Place) (spot : Draft → Made Spot) (code : Code) (n m : ℕ) (o : Op → ℕ) (d : Draft) → is_send target ≡ b → is_single target ≡ is_none (type_of target).shape →
     (is_none (type_of target).shape ≡ true → (is_kept value ≡ true) ⊎ (folds op ≡ true)) → (is_send target ≡ true → Q O.Nothing) → (is_send target ≡ false → (v : Out) → Stands (is_single target) v → Q v) →
-    Reads on t l target → (is_send target ≡ false → Writes on t l e target) → Folds on t l e (folded_length (assign_op_of op) value) → Sends on t l e (send_length op) → IsSpotCode on n (bare target) spot → IsCode on m (is_kept value) code →
+    Reads on t l target → (is_send target ≡ false → Writes on t l e target) → Folds on t l e (folded_length (assign_op_of op) value) → Sends on t l e target (send_length op) → IsSpotCode on n (bare target) spot → IsCode on m (is_kept value) code →
     ((act : Op) → IsCode on (o act) (is_kept value) (operand_by t l (operator_bits act (type_of target).shape value) code true value)) → (set : ℕ) →
     GrowsOn on d (if b then (n + spread_length m value) + send_length op else elim (assign_op_of op) as (λ _. ℕ) [
       | None ↦ set_length (is_none (type_of target).shape) (n + store_length t l target) m value
@@ -244,7 +250,7 @@ assign_rest false Q t l e target bits taken value op place spot code n m o d s h
 
 pub assign_grows : {on : Basis} (Q : Out → Type 0) (t : Typed) (l : Layout) (ty : ValueType) (bits : ℕ) (place : Place) (op : AssignOp) (p : _) (target : TExpr) (q : _) (value : TExpr) (spot : Draft → Made Spot) (code : Code) (n m : ℕ) (d : Draft) → type_of (bare target) ≡ type_of target →
     (is_none (type_of target).shape ≡ true → (is_kept value ≡ true) ⊎ (folds op ≡ true)) → (is_send target ≡ true → Q O.Nothing) → (is_send target ≡ false → (v : Out) → Stands (is_single target) v → Q v) →
-    Reads on t l target → (is_send target ≡ false → Writes on t l (T.Assign' ty place op p target q value) target) → Sends on t l (T.Assign' ty place op p target q value) (send_length op) → IsSpotCode on n (bare target) spot → IsCode on m (is_kept value) code →
+    Reads on t l target → (is_send target ≡ false → Writes on t l (T.Assign' ty place op p target q value) target) → Sends on t l (T.Assign' ty place op p target q value) target (send_length op) → IsSpotCode on n (bare target) spot → IsCode on m (is_kept value) code →
     ((act : Op) → IsCode on (operand_length l (operator_bits act (type_of target).shape value) m true value) (is_kept value) (operand_by t l (operator_bits act (type_of target).shape value) code true value)) →
     GrowsOn on d (assign_length t l op target n m value) Q (assign_by t l (T.Assign' ty place op p target q value) bits op place target value spot code d)
 unfolding assign_by assign_length
@@ -282,15 +288,67 @@ stepped_in_grows t l e op Or.Postfix target there first second d r g fits sf ss 
 pub step_grows : {on : Basis} (t : Typed) (l : Layout) (ty : ValueType) (op : StepOp) (order : StepOrder) (p : _) (target : TExpr) (bits : ℕ) (spot : Draft → Made Spot) (n : ℕ) (d : Draft) → is_single target ≡ is_none (type_of target).shape → Reads on t l target → Writes on t l (T.Step' ty op order p target) target → IsSpotCode on n (bare target) spot →
     GrowsOn on d (step_length t l target n) (Stands (is_single target)) (step_by t l (T.Step' ty op order p target) bits op order target spot d)
 unfolding step_by step_length
-step_grows {on} t l ty op order p target bits spot n d h r g a =
+step_grows t l ty op order p target bits spot n d h r g a =
     let k = is_single target in
     sized _ d _ _ _ (sum n (load_length t l 32 target) (step_once_length l k) (conversion_length k (type_of target).elem) (store_length t l target) ∙ ap (λ (b : Bool). (n + (step_once_length l b + conversion_length b (type_of target).elem)) + (load_length t l 32 target + store_length t l target)) h)
-    (bind (IsAt k 32) (Stands k) d 0 _ _ _ (plainly (fresh d)) (λ first begun sf. bind (IsAt k 32) (Stands k) begun 0 _ _ _ (plainly (fresh begun)) (λ second next ss.
+    (bind (IsAt k 32) (Stands k) d 0 _ _ _ (fresh_as k (type_of target).shape 32 d (sym h)) (λ first begun sf. bind (IsAt k 32) (Stands k) begun 0 _ _ _ (fresh_as k (type_of target).shape 32 begun (sym h)) (λ second next ss.
     bind (Fits (bare target)) (Stands k) next n _ _ _ (a next) (λ there after fits. lowest_grows k bits after _ _
     (stepped_in_grows t l (T.Step' ty op order p target) op order target there first second after r g fits sf ss)))))
   where
     sum : (n load once conversion store : ℕ) → 0 + (0 + (n + ((load + (once + (conversion + store))) + 0))) ≡ (n + (once + conversion)) + (load + store)
     sum n load once conversion store = omega arith
 
-    fresh : (b : Draft) → Grows b 0 (IsAt (is_single target) 32) (fresh_for (type_of target).shape 32 b)
-    fresh b = subst (λ k. Grows b 0 (IsAt k 32) (fresh_for (type_of target).shape 32 b)) (sym h) (fresh_at (type_of target).shape 32 b)
+-- located places, read and written in a unit that is ready
+pub reads : (t : Typed) (i : Instance) (l : Layout) (n : ℕ) (target : TExpr) → NamesVariables t i n target → Reads (ready t i l n) t l target
+reads t i l n target v bits spot dest d h s = if_ready (λ r. loaded_grows (is_single target) bits t i l n target spot dest d r v refl h s)
+
+-- where left indexes lead
+address_of : (b : TExpr) (at : Out) → Fits b (S.Indexed at) → IsAddress b at × Stands (is_none (type_of b).shape) at
+address_of (T.LeftIndex' ty place p indexes x of) at h = (h, h)
+address_of _ at h = absurd h
+
+one_address : (b : TExpr) (at : Out) → is_sent b ≡ false → Fits b (S.Indexed at) → is_none (type_of b).shape ≡ true
+unfolding is_sent
+one_address (T.LeftIndex' ty place p indexes x of) at s h = by ty.shape s
+  where
+    by : (o : Option ℕ) → is_some o ≡ false → is_none o ≡ true
+    by None e = refl
+    by (Some n) e = cc
+one_address _ at s h = absurd h
+
+-- an assignment that is no send stores one value there
+assigned_there : (t : Typed) (i : Instance) (l : Layout) (n : ℕ) (target : TExpr) (op : Option Op) (value : TExpr) (at v : Out) (d : Draft) → IsReady t i l n d → NamesVariables t i n target → IsAddress (bare target) at → InRegister at → InRegister v →
+    Grows d 1 Anything (assigned t l target op value at (v ∷ []) O.Nothing d)
+unfolding assigned
+assigned_there t i l n target op value (O.Scalar r) v d ready names a at s = one_part_stored_grows t i l n target (O.Scalar r) r v d ready names a s
+assigned_there t i l n target op value (O.Field f) v d ready names a at s = cc
+assigned_there t i l n target op value O.Nothing v d ready names a at s = absurd at
+
+pub assign_writes : (t : Typed) (i : Instance) (l : Layout) (n : ℕ) (ty : ValueType) (place : Place) (op : AssignOp) (p : _) (target : TExpr) (q : _) (value : TExpr) → NamesVariables t i n target → is_send target ≡ false →
+    Writes (ready t i l n) t l (T.Assign' ty place op p target q value) target
+unfolding communicated is_send out-TExpr Carrier.out
+assign_writes t i l n ty place op p target q value names single spot v d h s =
+    if_ready (λ r. stored_grows t i l n (T.Assign' ty place op p target q value) target spot v d r names h s (λ at fits.
+    let a = address_of (bare target) at fits in
+    let one = one_address (bare target) at single fits in
+    assigned_there t i l n target (assign_op_of op) value at v d r names a.0 (subst (λ b. Stands b at) one a.1) (subst (λ b. Stands b v) one s)))
+
+stepped_there : (t : Typed) (i : Instance) (l : Layout) (n : ℕ) (target : TExpr) (at v : Out) (d : Draft) → IsReady t i l n d → NamesVariables t i n target → IsAddress (bare target) at → InRegister at → InRegister v →
+    Grows d 1 Anything (in_register at (λ processor. M.stored t l target processor (v ∷ []) d))
+unfolding in_register
+stepped_there t i l n target (O.Scalar r) v d ready names a at s = one_part_stored_grows t i l n target (O.Scalar r) r v d ready names a s
+stepped_there t i l n target (O.Field f) v d ready names a at s = cc
+stepped_there t i l n target O.Nothing v d ready names a at s = absurd at
+
+pub step_writes : (t : Typed) (i : Instance) (l : Layout) (n : ℕ) (ty : ValueType) (op : StepOp) (order : StepOrder) (p : _) (target : TExpr) → NamesVariables t i n target → is_send target ≡ false →
+    Writes (ready t i l n) t l (T.Step' ty op order p target) target
+unfolding communicated is_send out-TExpr Carrier.out
+step_writes t i l n ty op order p target names single spot v d h s =
+    if_ready (λ r. stored_grows t i l n (T.Step' ty op order p target) target spot v d r names h s (λ at fits.
+    let a = address_of (bare target) at fits in
+    let one = one_address (bare target) at single fits in
+    stepped_there t i l n target at v d r names a.0 (subst (λ b. Stands b at) one a.1) (subst (λ b. Stands b v) one s)))
+
+pub assign_sends : (t : Typed) (i : Instance) (l : Layout) (n : ℕ) (ty : ValueType) (place : Place) (op : AssignOp) (p : _) (target : TExpr) (q : _) (value : TExpr) → NamesVariables t i n target → Sends (ready t i l n) t l (T.Assign' ty place op p target q value) target (send_length op)
+unfolding communicated assigned out-TExpr Carrier.out
+assign_sends t i l n ty place op p target q value names f v d fits s = if_ready (λ r. sent_grows t i l n target (O.Field f) op _ f v d r names (address_of (bare target) (O.Field f) fits).0 s)

@@ -1,6 +1,6 @@
 -- Code that relies on what the unit has where the code comes: what stays as the unit grows, as the fields
 -- of its variables do. The pieces of such code are put together as those that rely on nothing.
-use Rattle.std.proofs.Common.{◌≡◌, ℕ, ◌+◌, Bool, true, false, Option, is_none, refl, subst, arith, if◌then◌else◌}
+use Rattle.std.proofs.Common.{◌≡◌, ℕ, ◌+◌, Bool, true, false, Option, is_none, refl, subst, if◌then◌else◌}
 use Rattle.cstar_tree.specs.declared.typed.Instance.{Instance}
 use Rattle.cstar_tree.specs.declared.typed.Typed.{Typed}
 use Rattle.paris_code.specs.declared.operands.Field.{Field}
@@ -70,6 +70,3 @@ fresh_as k shape bits d h = plainly (subst (λ b. Grows d 0 (IsAt b bits) (fresh
 pub either_grows : {A : Type 0} {on : Basis} (P : A → Type 0) (b : Bool) (d : Draft) (x y : ℕ) (m n : Made A) → (b ≡ true → GrowsOn on d x P m) → (b ≡ false → GrowsOn on d y P n) → GrowsOn on d (if b then x else y) P (if b then m else n)
 either_grows P true d x y m n f g = f refl
 either_grows P false d x y m n f g = g refl
-
-pub nothing_more : (n : ℕ) → 0 + n ≡ n
-nothing_more n = omega arith

@@ -1,4 +1,5 @@
 pub mod Drafting
+pub mod Readiness
 pub mod Basis
 pub mod Pieces
 pub mod Communication

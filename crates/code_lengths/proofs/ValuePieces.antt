@@ -29,8 +29,8 @@ use Rattle.lower_expr.specs.Operands.{is_plus}
 use Rattle.lower_expr.specs.Steps.{is_kept, has_word, register_word, word_for, word_put, word_of, word_taken, put_value, right_operated, in_a_field, negated}
 use Rattle.lower_expr.specs.Values.{Code, Test, Arm, Condition, spread_into, spread_by, right_given, right_by, coordinate_in, byte_in, casts_put, extended, truth_put, cast_by, register_cast_by, unary_by, registers_by, fields_by, spare_for, parallel_binary_by, binary_by, jump_if_decided, narrowed_by, decided, limited, logical_ended, scalar_logical_by, nonzero_tested, zero_tested, tested_by, compared, relation_by, decided_by, jumped, jumped_over, narrowed_again, limited_by, flag_of, joined_by, narrowing_by, parallel_logical_by, logical_by, arm_by, scalar_choice_by, turned_over, parallel_choice_by, choice_by}
 use Rattle.code_lengths.specs.Growth.{Extended, Grows, Stands, Anything}
-use Rattle.code_lengths.proofs.Drafting.{IsAt, field_grows, fresh_at, as_it_was, resized, and_instr, register_grows, entry_grows, fresh_grows}
-use Rattle.code_lengths.proofs.Basis.{Basis, GrowsOn, nothing_more, plainly, makes, sized, behind, bind, weaker, in_register_grows, in_field_grows, lowest_grows, either_grows}
+use Rattle.code_lengths.proofs.Drafting.{nothing_more, IsAt, field_grows, as_it_was, resized, and_instr, register_grows, entry_grows, fresh_grows}
+use Rattle.code_lengths.proofs.Basis.{Basis, GrowsOn, plainly, makes, sized, behind, bind, weaker, in_register_grows, in_field_grows, lowest_grows, fresh_as, either_grows}
 use Rattle.code_lengths.proofs.Pieces.{InRegister, InField, constant_grows, test_grows, put_value_grows, operated_more, register_in_place_grows, fields_operated_grows, word_grows, number_grows, in_a_field_grows, negated_grows}
 
 -- of what the test flags become nothing is said
@@ -443,7 +443,7 @@ joined_by_grows is_or dest left right d a b lk rk =
     sum n m put = omega arith
 
 -- what is joined stands in fields
-joined_fields : (left right : TExpr) → joins left right ≡ true → (is_kept left ≡ false) × (is_kept right ≡ false)
+pub joined_fields : (left right : TExpr) → joins left right ≡ true → (is_kept left ≡ false) × (is_kept right ≡ false)
 unfolding joins
 joined_fields left right h = by (is_kept left) (is_kept right) _ h
   where
@@ -581,7 +581,7 @@ unary_rest : {on : Basis} (b : Bool) (l : Layout) (ty : ValueType) (bits : ℕ) 
     GrowsOn on d ((if b then n else m) + unary_length l bits op k) (Stands k) (if b then code d else then_make (fresh_for ty.shape bits d) (λ dest between. then_make (operand between) (λ v after. negated l op dest v after)))
 unary_rest true l ty bits op k code operand n m d h e c o = sized _ d _ _ _ (plus_length l bits op k n h) (c d)
 unary_rest false l ty bits op k code operand n m d h e c o =
-    sized _ d _ _ _ (nothing_more _) (bind (IsAt k bits) _ d 0 _ _ _ (plainly (subst (λ b. Grows d 0 (IsAt b bits) (fresh_for ty.shape bits d)) e (fresh_at ty.shape bits d))) (λ dest between s.
+    sized _ d _ _ _ (nothing_more _) (bind (IsAt k bits) _ d 0 _ _ _ (fresh_as k ty.shape bits d e) (λ dest between s.
     bind (Stands k) _ between m _ _ _ (o between) (λ v after t. plainly (negated_grows l bits op k dest v after h s t))))
 
 -- the operand of `+` is the value, and that of another operator may stand where it is
