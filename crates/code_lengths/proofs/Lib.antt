@@ -2,6 +2,7 @@ pub mod Drafting
 pub mod Readiness
 pub mod Basis
 pub mod Pieces
+pub mod Readiness
 pub mod Communication
 pub mod SpotPieces
 pub mod CallPieces
