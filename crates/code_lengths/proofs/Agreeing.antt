@@ -29,7 +29,7 @@ unfolding bits_for
 expressions t i l = record {
   value = λ bits n e d c r. once_ready (value_grows t i l n bits e c.shaped c.lowerable c.names d) r;
   operand = λ bits n quiet e d c r. once_ready (next_comes t i l n bits quiet e c d) r;
-  list = λ own quiet n k row d c r. let h = row_code t i n row c in once_ready (all_codes _ _ (λ b. values_grow t i l n own quiet row h.0 h.1 h.2 [] b) d) r;
+  list = λ own quiet n k row d c r. let h = row_code t i n row c in once_ready (all_codes t l own quiet row (λ b. values_grow t i l n own quiet row h.0 h.1 h.2 [] b) d) r;
   spot = λ n e d p r. weaker _ _ d _ _ (λ s _. tt) (once_ready (spot_grows t i l n e p.target p.lowerable p.names d) r);
   effect = λ n e d c r. once_ready (effect_grows t i l n e d c.shaped c.lowerable c.names) r;
   test = λ n e d c f r. once_ready (tested_grows t i l n e c f d) r;

@@ -160,6 +160,11 @@ scalar_rest : {on : Basis} (b : Bool) (n : ℕ) (t : Typed) (l : Layout) (e targ
 scalar_rest true n t l e target op signed place dest there v d sh r g f h s = register_updated_grows t l e target op signed place dest there v d sh r g h s
 scalar_rest false n t l e target op signed place dest there v d sh r g f h s = register_folded_grows n t l e target dest there v d sh r g f h s
 
+compound_sum : (b : Bool) (n m load store operate conversion fold : ℕ) →
+    n + (m + (if b then load + (operate + (conversion + store)) else load + (fold + store))) ≡ (if b then (((n + store) + load) + (m + operate)) + conversion else (((n + store) + load) + m) + fold)
+compound_sum true n m load store operate conversion fold = omega arith
+compound_sum false n m load store operate conversion fold = omega arith
+
 updated_grows : {on : Basis} (t : Typed) (l : Layout) (e target value : TExpr) (op : Op) (place : Place) (shape : Option ℕ) (spot : Draft → Made Spot) (code : Code) (n m : ℕ) (d : Draft) → is_single target ≡ is_none shape → Reads on t l target → Writes on t l e target → Folds on t l e (2 + fold_length op value) → IsSpotCode on n (bare target) spot → IsCode on m (is_kept value) (operand_by t l (operator_bits op shape value) code true value) →
     GrowsOn on d (compound_length (is_none shape) (type_of target).elem ((n + store_length t l target) + load_length t l 32 target) op m value) (Stands (is_single target)) (updated_by t l e op place target value shape spot code d)
 unfolding updated_by compound_length operator_bits

@@ -302,7 +302,7 @@ computed_grows k t i l n dest (T.Scan' ty p source axis combiner direction mode 
     (next_at false t i l n 32 true source (has_code h w.2 v.1) w.1.0 w.1.1) (standing_as k false dest (sides k (T.Scan' ty p source axis combiner direction mode bit within) u refl ∙ w.0) s) (scan_grows t i l n ty p source axis combiner direction mode bit within v.0)))
     (λ _. moved_grows k t i l n dest (T.Scan' ty p source axis combiner direction mode bit within) d s (has_code h w v) g (kept_if k (T.Scan' ty p source axis combiner direction mode bit within) u))
 computed_grows k t i l n dest (T.Call' ty instance p arguments) d s h w v u g =
-    gone_grows k (Arrives t (T.Call' ty instance p arguments)) dest _ _ d s (call_to_grows t i l n ty instance p arguments _ _ dest d w.0 (all_codes _ _ (λ b. values_grow t i l n true _ arguments h w.1 v [] b)) (standing_as k _ dest (sides k (T.Call' ty instance p arguments) u refl) s))
+    gone_grows k (Arrives t (T.Call' ty instance p arguments)) dest _ _ d s (call_to_grows t i l n ty instance p arguments _ _ dest d w.0 (all_codes t l true _ arguments (λ b. values_grow t i l n true _ arguments h w.1 v [] b)) (standing_as k _ dest (sides k (T.Call' ty instance p arguments) u refl) s))
 computed_grows k t i l n dest e d s h w v u g = moved_grows k t i l n dest e d s (has_code h w v) g (kept_if k e u)
 
 -- a value becomes that of a register or a field

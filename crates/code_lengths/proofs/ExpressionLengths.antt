@@ -1,7 +1,8 @@
 -- The code of every expression is as long as described, and its value stands where the expression says.
 use denote.Hole.Carrier
-use Rattle.std.proofs.Common.{◌≡◌, ℕ, suc, ◌+◌, Bool, true, false, List, [], ◌∷◌, ◌++◌, length, Option, Some, None, is_none, is_some, slice_get, refl, sym, ap, ◌∙◌, subst, arith, if◌then◌else◌, append_assoc}
+use Rattle.std.proofs.Common.{◌≡◌, ℕ, suc, ◌+◌, Bool, true, false, ◌&&◌, List, [], ◌∷◌, ◌++◌, length, Option, Some, None, is_none, is_some, slice_get, refl, sym, ap, ◌∙◌, subst, arith, if◌then◌else◌, append_assoc}
 use Rattle.std.specs.List.{All, AllZip}
+use Rattle.std.proofs.lemmas.List.Elements.{All-cons, All-head, All-nil, All-tail}
 use mathlib.Core.Former.{Count}
 use Rattle.cstar_base.specs.declared.operators.Place.{Place}
 use Rattle.cstar_tree.specs.declared.syntax.AssignOp.{AssignOp}
@@ -28,7 +29,7 @@ use Rattle.lower_comm.specs.News.{goes_by_news}
 use Rattle.lower_expr.specs.declared.spots.Spot.{Spot}
 use Rattle.lower_expr.specs.declared.spots.Spot.TheVariants as S
 use Rattle.lower_expr.specs.Lengths.{cast_length, conversion_length, length_of, truth_length_of, tested_length, tested_by_length, arm_length_of, used_length_of, is_send, spot_length_of, lengths_of, call_length, bare, load_length, load_length_of, located_length, moves_length, read_length, reduce_length, news_length, news_moves, news_checked, elements_length, index_check_length}
-use Rattle.lower_expr.specs.Operands.{operand_by, operand_length}
+use Rattle.lower_expr.specs.Operands.{are_quiet, operand_by, operand_length}
 use Rattle.lower_expr.specs.Positions.{known_position}
 use Rattle.lower_expr.specs.Spots.{variable_spot}
 use Rattle.lower_expr.specs.Steps.{has_truth, is_kept, pieces_printed}
@@ -164,8 +165,9 @@ one_behind t e es outs v given a b = (v ∷ b.0, b.1 ∙ append_assoc outs (v �
 behind_nothing : (t : Typed) (es : List TExpr) (given : List Out) → Behind t es [] given → AllZip (Arrives t) es given
 behind_nothing t es given b = subst (λ (vs : List Out). AllZip (Arrives t) es vs) (sym b.1) b.2
 
-pub all_codes : {on : Basis} {t : Typed} {es : List TExpr} (n : ℕ) (codes : Codes) → ((d : Draft) → GrowsOn on d n (Behind t es []) (codes [] d)) → AreCodes on t es n codes
-all_codes {t = t} {es = es} n codes c d = weaker (Behind t es []) _ d n _ (λ given b. behind_nothing t es given b) (c d)
+pub all_codes : {on : Basis} (t : Typed) (l : Layout) (own quiet : Bool) {k : Count} (row : Row_of-TExpr k) → ((d : Draft) → GrowsOn on d (lengths_of t l own quiet row) (Behind t (items-the_row-TExpr k row) []) (values_of t l own quiet row [] d)) →
+    AreCodes on t (items-the_row-TExpr k row) (lengths_of t l own quiet row) (values_of t l own quiet row)
+all_codes t l own quiet row c d = weaker (Behind t (items-the_row-TExpr _ row) []) _ d _ _ (λ given b. behind_nothing t _ given b) (c d)
 
 -- calls
 pub call_to_grows : (t : Typed) (i : Instance) (l : Layout) (n : ℕ) (ty : ValueType) (instance : ℕ) (p : _) (arguments : Row_of-TExpr _) (codes : Codes) (m : ℕ) (dest : Out) (d : Draft) → Calls t instance ty (items-the_row-TExpr _ arguments) →
@@ -239,12 +241,13 @@ left_index_value t i l n ty bits place p indexes x of es codes m d v c =
 
 -- what is printed stands in registers
 all_printed : (t : Typed) (es : List TExpr) (given : List Out) → AllZip (Arrives t) es given → All (L.InRegister t) es → All InRegister given × (length es ≡ length given)
-all_printed t [] [] a r = (tt, refl)
+all_printed t [] [] a r = (All-nil InRegister, refl)
 all_printed t [] (v ∷ vs) a r = absurd a
 all_printed t (e ∷ es) [] a r = absurd a
 all_printed t (e ∷ es) (v ∷ vs) a r =
-    let rest = all_printed t es vs a.1 r.1 in
-    ((subst (λ b. Stands b v) r.0.1 (arrived t e v r.0.0 a.0), rest.0), ap suc rest.1)
+    let first = All-head (L.InRegister t) e es r in
+    let rest = all_printed t es vs a.1 (All-tail (L.InRegister t) e es r) in
+    (All-cons InRegister v vs (subst (λ b. Stands b v) first.1 (arrived t e v first.0 a.0)) rest.0, ap suc rest.1)
 
 printed_value : {on : Basis} (t : Typed) (pieces : List Piece) (es : List TExpr) (codes : Codes) (n : ℕ) (d : Draft) → conversions pieces ≡ length es → All (L.InRegister t) es → AreCodes on t es n codes →
     GrowsOn on d (length pieces + n) (λ (v : Out). v ≡ O.Nothing) (then_make (codes [] d) (λ given after. pieces_printed pieces given after))
@@ -273,7 +276,7 @@ unfolding communicated out-TExpr Carrier.out
 enumerate_grows t i l n ty axis direction within mode bit into b names s = if_ready (λ r. enumerated_grows t i l n _ bit into b r names s)
 
 -- an operand of `&&` or `||`
-condition_grows : {on : Basis} (t : Typed) (l : Layout) (e : TExpr) (code : Code) (truth : Test) → IsCode on (used_length_of t l (bits_of (kind_of e)) true e) (is_kept e) (operand_by t l (bits_of (kind_of e)) code true e) → (is_kept e ≡ false → has_truth e ≡ true → IsTest on (truth_length_of t l e) truth) →
+pub condition_grows : {on : Basis} (t : Typed) (l : Layout) (e : TExpr) (code : Code) (truth : Test) → IsCode on (used_length_of t l (bits_of (kind_of e)) true e) (is_kept e) (operand_by t l (bits_of (kind_of e)) code true e) → (is_kept e ≡ false → has_truth e ≡ true → IsTest on (truth_length_of t l e) truth) →
     IsCondition on (condition_by t l code truth e)
 unfolding condition_by tested_length tested_by_length
 condition_grows t l e code truth c f =
@@ -368,9 +371,9 @@ mutual
   value_grows t i l n bits (T.Number ty value) h w v d = as_said t true _ d _ _ (sym h) (plainly (constant_grows value d))
   value_grows t i l n bits (T.Dot ty axis) h w v d = as_said t false _ d _ _ (sym h) (coordinate_grows ty.shape bits axis d)
   value_grows t i l n bits (T.Brackets' ty p inner) h w v d = weaker (Arrives t inner) _ d _ _ (λ x a. in_brackets t ty p inner x a) (value_grows t i l n bits inner h.1 w v d)
-  value_grows t i l n bits (T.Call' ty instance p arguments) h w v d = call_value t i l n ty bits instance p arguments _ _ d w.0 (all_codes _ _ (λ b. values_grow t i l n true _ arguments h w.1 v [] b))
+  value_grows t i l n bits (T.Call' ty instance p arguments) h w v d = call_value t i l n ty bits instance p arguments _ _ d w.0 (all_codes t l true _ arguments (λ b. values_grow t i l n true _ arguments h w.1 v [] b))
   value_grows t i l n bits (T.LeftIndex' ty place p indexes x of) h w v d =
-      as_said t (is_none ty.shape) _ d _ _ refl (left_index_value t i l n ty bits place p indexes x of _ _ _ d v (all_codes _ _ (λ b. values_grow t i l n false _ indexes h w.2 v.1 [] b)))
+      as_said t (is_none ty.shape) _ d _ _ refl (left_index_value t i l n ty bits place p indexes x of _ _ _ d v (all_codes t l false _ indexes (λ b. values_grow t i l n false _ indexes h w.2 v.1 [] b)))
   value_grows t i l n bits (T.Pcoord ty axis) h w v d = as_said t false _ d _ _ (sym h) (coordinate_grows ty.shape bits axis d)
   value_grows t i l n bits (T.PositionsOf ty shape value) h w v d = as_said t true _ d _ _ (sym h) (plainly (constant_grows value d))
   value_grows t i l n bits (T.RankOf ty shape value) h w v d = as_said t true _ d _ _ (sym h) (plainly (constant_grows value d))
@@ -381,7 +384,7 @@ mutual
   value_grows t i l n bits (T.Enumerate ty axis direction within mode bit) h w v d =
       as_said t false _ d _ _ (sym w) (bind (IsAt false 32) InField d 0 2 _ _ (fresh_as false ty.shape 32 d w) (λ dest after s. lowest_grows false bits after _ _ (enumerate_grows t i l n ty axis direction within mode bit dest after v (at_stands false 32 dest s))))
   value_grows t i l n bits (T.Printf' ty pieces p arguments) h w v d =
-      weaker (λ (x : Out). x ≡ O.Nothing) _ d _ _ (λ x e. printed_nowhere t ty pieces p arguments x e) (printed_value t pieces.items _ _ _ d w.0 w.1 (all_codes _ _ (λ b. values_grow t i l n false _ arguments h w.2 v [] b)))
+      weaker (λ (x : Out). x ≡ O.Nothing) _ d _ _ (λ x e. printed_nowhere t ty pieces p arguments x e) (printed_value t pieces.items _ (values_of t l false (are_quiet arguments) arguments) _ d w.0 w.1 (all_codes t l false _ arguments (λ b. values_grow t i l n false _ arguments h w.2 v [] b)))
   value_grows t i l n bits (T.GetChar ty) h w v d = as_said t true _ d _ _ (sym h) (byte_grows d)
 
   -- the test flags of a value that stands in a field and has a truth without its value
@@ -400,7 +403,7 @@ mutual
   spot_grows t i l n (T.Element' ty place array p index) h w v d =
       element_spot_grows t l ty place array p index _ _ d h.0 v.0.1.shape (of_code (is_kept index) true _ _ w.0.1 (given_code t i l n index _ _ w.0.0 (value_grows t i l n 32 index h.1 w.1 v.1)))
   spot_grows t i l n (T.LeftIndex' ty place p indexes x of) h w v d =
-      indexed_spot_grows t l (T.LeftIndex' ty place p indexes x of) _ _ _ d refl (all_codes _ _ (λ b. values_grow t i l n false _ indexes h w.2 v.1 [] b)) (known_scalar t ty place p indexes x of) (λ at k. k)
+      indexed_spot_grows t l (T.LeftIndex' ty place p indexes x of) _ _ _ d refl (all_codes t l false _ indexes (λ b. values_grow t i l n false _ indexes h w.2 v.1 [] b)) (known_scalar t ty place p indexes x of) (λ at k. k)
   spot_grows t i l n (T.Brackets' ty p inner) h w v d = spot_grows t i l n inner h.1 w v d
   spot_grows t i l n _ h w v d = absurd h
 

@@ -2,7 +2,6 @@ pub mod Drafting
 pub mod Readiness
 pub mod Basis
 pub mod Pieces
-pub mod Readiness
 pub mod Communication
 pub mod SpotPieces
 pub mod CallPieces

@@ -50,7 +50,7 @@ no_constant b _ h = refl
 
 -- the same where it is known where the value stands
 pub of_code : {on : Basis} (k b : Bool) (n : ℕ) (code : Code) → k ≡ b → IsCode on n k code → IsCode on n b code
-of_code k b n code e c = subst (λ x. IsCode _ n x code) e c
+of_code {on} k b n code e c = subst (λ x. IsCode on n x code) e c
 
 -- parallel operands
 spread_into_by : {on : Basis} (w : Option ℕ) (code : Code) (n : ℕ) (k : Bool) (dest : Field) (d : Draft) → IsCode on n k code →
