@@ -264,10 +264,10 @@ pub reduce_grows : {on : Basis} (t : Typed) (l : Layout) (ty : ValueType) (op : 
 unfolding communicated out-TExpr Carrier.out
 reduce_grows t l ty op p operand v into b at s = plainly (reduced_grows op operand v into b at s)
 
-pub scan_grows : (t : Typed) (i : Instance) (l : Layout) (n : ℕ) (ty : ValueType) (p : _) (source : TExpr) (axis : _) (combiner : _) (direction : _) (mode : _) (bit : _) (within : _) (v into : Out) (b : Draft) → HasBits t i n bit → InField v → InField into →
+pub scan_grows : (t : Typed) (i : Instance) (l : Layout) (n : ℕ) (ty : ValueType) (p : _) (source : TExpr) (axis : _) (combiner : _) (direction : _) (mode : _) (bit : _) (within : _) → HasBits t i n bit → (v into : Out) (b : Draft) → InField v → InField into →
     GrowsOn (ready t i l n) b 1 InField (communicated t l (T.Scan' ty p source axis combiner direction mode bit within) O.Nothing (v ∷ []) into b)
 unfolding communicated part_field from out-TExpr Carrier.out
-scan_grows t i l n ty p source axis combiner direction mode bit within v into b names at s =
+scan_grows t i l n ty p source axis combiner direction mode bit within names v into b at s =
     in_field_grows _ b 1 v _ at (λ values. bind Anything _ b 0 1 _ _ (if_ready (λ r. segment_field_grows t i l n bit b r names)) (λ bits after _. plainly (scanned_grows _ values _ bits into after s)))
 
 enumerate_grows : (t : Typed) (i : Instance) (l : Layout) (n : ℕ) (ty : ValueType) (axis : _) (direction : _) (within : _) (mode : _) (bit : _) (into : Out) (b : Draft) → HasBits t i n bit → InField into →
