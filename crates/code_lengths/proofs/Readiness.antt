@@ -1,23 +1,22 @@
 -- In a unit that is ready for a tree the fields of its variables are there, and stay so as it grows.
-use Rattle.std.proofs.Common.{◌≡◌, ℕ, zero, suc, ◌+◌, ◌<◌, ◌≤◌, Bool, false, List, [], ◌∷◌, ◌++◌, slice_get, Option, Some, None, is_none, refl, sym, ap, ◌∙◌, subst, arith}
+use Rattle.std.proofs.Common.{◌≡◌, ℕ, zero, suc, ◌+◌, ◌<◌, ◌≤◌, false, List, [], ◌∷◌, ◌++◌, slice_get, Option, Some, None, is_none, refl, sym, ap, ◌∙◌, subst, arith}
 use Rattle.cstar_tree.specs.declared.typed.Instance.{Instance}
 use Rattle.cstar_tree.specs.declared.typed.TExpr.{TExpr}
 use Rattle.cstar_tree.specs.declared.typed.Typed.{Typed}
 use Rattle.cstar_tree.specs.declared.typed.ValueType.{ValueType}
 use Rattle.cstar_tree.specs.declared.typed.Variable.{Variable}
 use Rattle.cstar_tree.specs.declared.typed.Variable.TheVariants as V
-use Rattle.cstar_tree.specs.declared.typed.VarInfo.{VarInfo}
 use Rattle.cstar_tree.specs.Scopes.{VariableType}
 use Rattle.cstar_tree.specs.StatementTypes.{variable_info}
 use Rattle.paris_code.specs.declared.program.Virtual.{Virtual}
 use Rattle.lower_base.specs.declared.emit.Out.{Out}
 use Rattle.lower_base.specs.declared.emit.Out.TheVariants as O
-use Rattle.lower_base.specs.Drafts.{Draft, Made, Makes, Fails, from, an_entry}
+use Rattle.lower_base.specs.Drafts.{Draft, Made, from, an_entry}
 use Rattle.lower_base.specs.Layouts.{Layout, elements_of, entries_of, field_of, own_field}
 use Rattle.lower_expr.specs.Steps.{is_kept}
 use Rattle.code_lengths.specs.Growth.{Extended, Grows, Stands, Anything}
 use Rattle.code_lengths.specs.Lowerable.{GivesValue}
-use Rattle.code_lengths.specs.Naming.{HasVariable, IsDeclared, plain, variable_named}
+use Rattle.code_lengths.specs.Naming.{HasVariable, IsDeclared, plain}
 use Rattle.code_lengths.specs.Ready.{Arrives, IsMade, IsReady}
 use Rattle.code_lengths.specs.Shaped.{HasShape}
 use Rattle.code_lengths.proofs.Drafting.{append_nothing, as_it_was, makes, found_grows, entry_grows}
@@ -28,7 +27,7 @@ unfolding IsMade from
 found (Some x) next m = (x, refl, m)
 found None next m = absurd m
 
-made_from : {A B : Type 0} (o : Option A) (next : A → Made B) (x : A) → o ≡ Some x → IsMade (next x) → IsMade (from o next)
+pub made_from : {A B : Type 0} (o : Option A) (next : A → Made B) (x : A) → o ≡ Some x → IsMade (next x) → IsMade (from o next)
 unfolding from
 made_from o next x e m = subst (λ y. IsMade (from y next)) (sym e) m
 
@@ -118,7 +117,7 @@ field_of_grows t i l n v ty element d r x h below =
     let same = r.elements v (variable_info x.word ty x.start) x.named x.declared h in
     made_field_grows t l v element d (r.fields v (variable_info x.word ty x.start) element x.named x.declared h (subst (λ (m : ℕ). element < m) same below))
 
-one_entry : (shape : Option ℕ) → is_none shape ≡ false → (elim shape as (λ _. ℕ) [ None ↦ 0 | Some s ↦ 1 ]) ≡ 1
+pub one_entry : (shape : Option ℕ) → is_none shape ≡ false → (elim shape as (λ _. ℕ) [ None ↦ 0 | Some s ↦ 1 ]) ≡ 1
 one_entry None h = cc
 one_entry (Some s) h = refl
 
