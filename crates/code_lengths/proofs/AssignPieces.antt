@@ -1,6 +1,6 @@
 -- The code of assignments and steps, over the code of their parts, is as long as described.
 use denote.Hole.Carrier
-use Rattle.std.proofs.Common.{◌≡◌, ℕ, ◌+◌, Bool, true, false, List, [], ◌∷◌, Option, Some, None, IfSome, IsSome, is_none, is_some, slice_get, unwrap_or, ◌⊎◌, inl, inr, refl, sym, ap, ◌∙◌, subst, arith, if◌then◌else◌}
+use Rattle.std.proofs.Common.{◌≡◌, ℕ, ◌+◌, Bool, true, false, [], ◌∷◌, Option, Some, None, IfSome, IsSome, is_none, is_some, slice_get, unwrap_or, ◌⊎◌, inl, inr, refl, sym, ap, ◌∙◌, subst, arith, if◌then◌else◌}
 use Rattle.cstar_base.specs.declared.operators.Op.{Op}
 use Rattle.cstar_base.specs.declared.operators.Place.{Place}
 use Rattle.cstar_tree.specs.declared.syntax.AssignOp.{AssignOp}
@@ -19,7 +19,7 @@ use Rattle.cstar_tree.specs.Typed.{type_of}
 use Rattle.paris_code.specs.declared.operands.Field.{Field}
 use Rattle.lower_base.specs.declared.emit.Out.{Out}
 use Rattle.lower_base.specs.declared.emit.Out.TheVariants as O
-use Rattle.lower_base.specs.Drafts.{Draft, Made, fresh_for, in_register}
+use Rattle.lower_base.specs.Drafts.{Draft, Made, in_register}
 use Rattle.lower_base.specs.Layouts.{Layout, elements_of}
 use Rattle.lower_comm.specs.Messages.{communicated, assigned}
 use Rattle.lower_comm.specs.Messages as M
@@ -140,10 +140,10 @@ register_updated_grows t l e target op signed place dest there v d sh f g h s =
     assoc : (a b c : ℕ) → (a + b) + c ≡ a + (b + c)
     assoc a b c = omega arith
 
-abbrev pub Folds : Basis → Typed → Layout → TExpr → ℕ → Type 0
+abbrev Folds : Basis → Typed → Layout → TExpr → ℕ → Type 0
 Folds on t l e n = (v : Out) (old dest : ℕ) (d : Draft) → InField v → GrowsOn on d n InRegister (communicated t l e O.Nothing (v ∷ O.Scalar old ∷ []) (O.Scalar dest) d)
 
-pub assign_folds : {on : Basis} (t : Typed) (l : Layout) (ty : ValueType) (place : Place) (op : AssignOp) (p : _) (target : TExpr) (q : _) (value : TExpr) → Folds on t l (T.Assign' ty place op p target q value) (folded_length (assign_op_of op) value)
+assign_folds : {on : Basis} (t : Typed) (l : Layout) (ty : ValueType) (place : Place) (op : AssignOp) (p : _) (target : TExpr) (q : _) (value : TExpr) → Folds on t l (T.Assign' ty place op p target q value) (folded_length (assign_op_of op) value)
 unfolding communicated assigned out-TExpr Carrier.out
 assign_folds t l ty place op p target q value v old dest d s = plainly (folded_onto_grows (assign_op_of op) value (type_of target).elem v (O.Scalar old) (O.Scalar dest) d s refl refl)
 

@@ -29,7 +29,7 @@ use Rattle.lower_expr.specs.Joined.{joins}
 use Rattle.lower_expr.specs.Lengths.{joined_length_of, length_of, used_length_of, test_put_length, spot_length_of, load_length, load_length_of, bare, arm_length_of, choice_length, tested_length, tested_by_length, operate_length, reduce_length, unary_length, right_length, binary_length}
 use Rattle.lower_expr.specs.Operands.{is_plus, is_quiet, own_of, in_place, operand_length}
 use Rattle.lower_expr.specs.Steps.{is_kept, has_truth, has_word, register_word, word_of, word_for, word_put, negated}
-use Rattle.lower_expr.specs.Values.{Code, value_of, next_of, tested, truth_put, extended, register_binary_of, field_binary_of, condition_by, condition_of, joined_of, arm_of, scalar_choice_of}
+use Rattle.lower_expr.specs.Values.{Code, value_of, next_of, tested, register_binary_of, field_binary_of, condition_by, condition_of, joined_of, arm_of, scalar_choice_of}
 use Rattle.code_lengths.specs.Growth.{Extended, Stands, Anything}
 use Rattle.code_lengths.specs.Lowerable.{GivesValue, IsLowerable, IsValueFor}
 use Rattle.code_lengths.specs.Lowerable as L
@@ -100,7 +100,7 @@ own_bits_at k (O.Field f) h = (h, refl)
 own_bits_at k O.Nothing h = h
 
 -- a value moved there
-pub moved_grows : (k : Bool) (t : Typed) (i : Instance) (l : Layout) (n : ℕ) (dest : Out) (e : TExpr) (d : Draft) → Stands k dest → HasCode t i n e → GivesValue t e → (k ≡ true → is_kept e ≡ true) →
+moved_grows : (k : Bool) (t : Typed) (i : Instance) (l : Layout) (n : ℕ) (dest : Out) (e : TExpr) (d : Draft) → Stands k dest → HasCode t i n e → GivesValue t e → (k ≡ true → is_kept e ≡ true) →
     GrowsOn (ready t i l n) d (used_length_of t l (bits_for dest) true e + 1) (Stands k) (moved t l dest e d)
 unfolding moved
 moved_grows k t i l n dest e d s c g f =

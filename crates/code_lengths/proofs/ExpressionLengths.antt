@@ -17,7 +17,6 @@ use Rattle.cstar_tree.specs.declared.typed.Variable.{Variable}
 use Rattle.cstar_tree.specs.Conversions.{parallel}
 use Rattle.cstar_tree.specs.Formats.{conversions}
 use Rattle.cstar_tree.specs.Typed.{type_of}
-use Rattle.paris_code.specs.declared.operands.Field.{Field}
 use Rattle.lower_base.specs.declared.emit.Out.{Out}
 use Rattle.lower_base.specs.declared.emit.Out.TheVariants as O
 use Rattle.lower_base.specs.Drafts.{Draft, Made, Makes, then_make, from, fresh_for}
@@ -33,16 +32,16 @@ use Rattle.lower_expr.specs.Operands.{are_quiet, operand_by, operand_length}
 use Rattle.lower_expr.specs.Positions.{known_position}
 use Rattle.lower_expr.specs.Spots.{variable_spot}
 use Rattle.lower_expr.specs.Steps.{has_truth, is_kept, pieces_printed}
-use Rattle.lower_expr.specs.Values.{Code, Codes, Test, cast_from, condition_by, register_cast_by, value_of, truth_of, spot_of, values_of, element_spot, indexed_spot, news_to, read_to, read_by, index_read_to, index_read_by, message_to, message_by, call_to}
+use Rattle.lower_expr.specs.Values.{Code, Codes, Test, cast_from, condition_by, register_cast_by, value_of, truth_of, spot_of, values_of, element_spot, indexed_spot, news_to, read_by, index_read_to, index_read_by, message_to, message_by, call_to}
 use Rattle.code_lengths.specs.Growth.{Grows, Stands, Anything}
 use Rattle.code_lengths.specs.Lowerable.{AreLowerable, Calls, GivesValue, IsLowerable}
 use Rattle.code_lengths.specs.Lowerable as L
 use Rattle.code_lengths.specs.Naming.{AllNameVariables, HasBits, HasItsShape, HasVariable, NamesVariables, plain}
 use Rattle.code_lengths.specs.Ready.{Arrives}
-use Rattle.code_lengths.specs.Shaped.{HasNoShape, HasShape, IsShaped, IsTarget, AreShaped}
+use Rattle.code_lengths.specs.Shaped.{HasShape, IsShaped, IsTarget, AreShaped}
 use Rattle.code_lengths.proofs.Drafting.{nothing_more, IsAt, append_nothing, at_stands, fresh_at, fresh_grows, as_it_was, and_instr}
 use Rattle.code_lengths.proofs.Drafting as D
-use Rattle.code_lengths.proofs.Basis.{Basis, GrowsOn, ready, if_ready, once_ready, plainly, makes, sized, bind, weaker, in_register_grows, in_field_grows, lowest_grows, fresh_as, either_grows}
+use Rattle.code_lengths.proofs.Basis.{Basis, GrowsOn, ready, if_ready, once_ready, plainly, makes, sized, bind, weaker, in_field_grows, lowest_grows, fresh_as, either_grows}
 use Rattle.code_lengths.proofs.Readiness.{arrives, arrived, variable_field_grows}
 use Rattle.code_lengths.proofs.Pieces.{InRegister, InField, constant_grows, word_in_grows, printed_grows}
 use Rattle.code_lengths.proofs.Communication.{located_grows, read_by_news_grows, grid_check_more, grid_checked, reduced_grows, scanned_grows, segment_field_grows, enumerated_grows}
@@ -72,7 +71,7 @@ pub operand_comes : (t : Typed) (i : Instance) (l : Layout) (n bits : ℕ) (quie
 operand_comes t i l n bits quiet e code m h w v c d =
     if_ready (λ r. operand_grows t i l n bits quiet e code m d (record { shaped = h; lowerable = w; names = v }) r (once_ready (c d) r))
 
-pub operand_code : (t : Typed) (i : Instance) (l : Layout) (n bits : ℕ) (quiet : Bool) (e : TExpr) (code : Code) (m : ℕ) → IsShaped e → IsLowerable t e → NamesVariables t i n e → GivesValue t e → Comes t i l n e m code →
+operand_code : (t : Typed) (i : Instance) (l : Layout) (n bits : ℕ) (quiet : Bool) (e : TExpr) (code : Code) (m : ℕ) → IsShaped e → IsLowerable t e → NamesVariables t i n e → GivesValue t e → Comes t i l n e m code →
     IsCode (ready t i l n) (operand_length l bits m quiet e) (is_kept e) (operand_by t l bits code quiet e)
 operand_code t i l n bits quiet e code m h w v g c = given_code t i l n e _ _ g (operand_comes t i l n bits quiet e code m h w v c)
 
