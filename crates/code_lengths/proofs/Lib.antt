@@ -1,4 +1,6 @@
 pub mod Drafting
+pub mod Readiness
+pub mod Basis
 pub mod Pieces
 pub mod Communication
 pub mod SpotPieces

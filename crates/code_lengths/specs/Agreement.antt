@@ -17,7 +17,6 @@ use Rattle.lower_expr.specs.declared.spots.Spot.{Spot}
 use Rattle.lower_expr.specs.Effects.{effect_of, effect_length_of, put_to, put_length}
 use Rattle.lower_expr.specs.Lengths.{length_of, lengths_of, spot_length_of, tested_length}
 use Rattle.lower_expr.specs.Operands.{operand_by, operand_length}
-use Rattle.lower_expr.specs.Steps.{is_kept}
 use Rattle.lower_expr.specs.Values.{value_of, values_of, spot_of, tested}
 use Rattle.lower_stmt.specs.declared.statement.Frame.{Frame}
 use Rattle.lower_stmt.specs.Frames.{has_result}
