@@ -8,6 +8,7 @@ pub mod ValuePieces
 pub mod AssignPieces
 pub mod ExpressionLengths
 pub mod EffectLengths
+pub mod Declaring
 pub mod StatementLengths
 pub mod UnitLengths
 pub mod Agreeing

@@ -26,3 +26,8 @@ pub fn units_are_as_long_as_described()
 pub fn code_ends_where_its_length_says()
     ensures { CodeEndsWhereItsLengthSays }
 {}
+
+/// try
+pub fn try_declaring()
+    ensures { CodeEndsWhereItsLengthSays }
+{}

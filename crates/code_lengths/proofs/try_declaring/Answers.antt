@@ -1,0 +1,5 @@
+use Rattle.code_lengths.proofs.Homes.{clears}
+use Rattle.code_lengths.proofs.try_declaring.Goals as goal
+
+pub returns : goal.returns
+returns c = ?
