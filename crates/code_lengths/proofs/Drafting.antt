@@ -1,5 +1,5 @@
 -- Drafts that grow: by so many instructions, with what was there unchanged.
-use Rattle.std.proofs.Common.{◌≡◌, ℕ, ◌+◌, Bool, true, false, List, [], ◌∷◌, ◌++◌, length, Option, Some, None, IsSome, is_none, refl, ap, ◌∙◌, subst, arith, append_assoc, length-append}
+use Rattle.std.proofs.Common.{◌≡◌, ℕ, ◌+◌, Bool, true, false, List, [], ◌∷◌, ◌++◌, length, Option, Some, None, IsSome, is_none, refl, sym, ap, ◌∙◌, subst, arith, append_assoc, length-append}
 use Rattle.paris_code.specs.declared.instr.Instr.{Instr}
 use Rattle.paris_code.specs.declared.operands.Field.{Field}
 use Rattle.paris_code.specs.declared.program.Owner.{Owner}
@@ -13,6 +13,9 @@ use Rattle.code_lengths.specs.Growth.{Extended, Grows, Stands, Anything}
 pub append_nothing : {A : Type 0} (xs : List A) → xs ≡ xs ++ []
 append_nothing [] = refl
 append_nothing (x ∷ xs) = ap (λ ys. x ∷ ys) (append_nothing xs)
+
+pub nothing_more : (n : ℕ) → 0 + n ≡ n
+nothing_more n = omega arith
 
 pub as_it_was : (d : Draft) → Extended d 0 d
 as_it_was d = record { name = refl; more = []; code = append_nothing d.code; long = refl; entries = []; fields = append_nothing d.fields; regs = omega arith; homes = refl }
@@ -93,7 +96,11 @@ in_field_grows Q d n O.Nothing next s f = absurd s
 pub from_grows : {A B : Type 0} (Q : B → Type 0) (d : Draft) (n : ℕ) (o : Option A) (next : A → Made B) → IsSome o → ((x : A) → o ≡ Some x → Grows d n Q (next x)) → Grows d n Q (from o next)
 unfolding Grows from
 from_grows Q d n (Some x) next there f = f x refl
-from_grows Q d n None next there f = absurd there
+from_grows Q d n None next there f = cc
+
+pub found_grows : {A B : Type 0} (Q : B → Type 0) (d : Draft) (n : ℕ) (o : Option A) (x : A) (next : A → Made B) → o ≡ Some x → Grows d n Q (next x) → Grows d n Q (from o next)
+unfolding from
+found_grows Q d n o x next e g = subst (λ y. Grows d n Q (from y next)) (sym e) g
 
 pub register_grows : (d : Draft) → Grows d 0 Anything (a_register d)
 unfolding Grows a_register

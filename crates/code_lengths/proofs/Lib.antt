@@ -1,5 +1,6 @@
 pub mod Drafting
 pub mod Pieces
+pub mod Readiness
 pub mod Communication
 pub mod SpotPieces
 pub mod CallPieces
