@@ -3,13 +3,14 @@ use Rattle.std.proofs.Common.{ℕ, ◌+◌, true, false, [], length, length-appe
 use Rattle.lower_base.specs.declared.emit.Out.TheVariants as O
 use Rattle.lower_base.specs.Drafts.{here}
 use Rattle.lower_expr.specs.Effects.{bits_for}
-use Rattle.code_lengths.specs.Agreement.{ExpressionsAreAsLongAsDescribed, StatementsAreAsLongAsDescribed, CodeEndsWhereItsLengthSays}
+use Rattle.code_lengths.specs.Agreement.{ExpressionsAreAsLongAsDescribed, StatementsAreAsLongAsDescribed, UnitsAreAsLongAsDescribed, ProgramsHaveCode, CodeEndsWhereItsLengthSays}
 use Rattle.code_lengths.proofs.Drafting.{weaker}
 use Rattle.code_lengths.proofs.Communication.{nothing_more}
 use Rattle.code_lengths.proofs.OperandPieces.{operand_grows}
 use Rattle.code_lengths.proofs.ExpressionLengths.{value_grows, values_grow, spot_grows}
 use Rattle.code_lengths.proofs.EffectLengths.{put_grows, effect_grows, tested_grows}
-use Rattle.code_lengths.proofs.StatementLengths.{statement_grows}
+use Rattle.code_lengths.proofs.StatementLengths.{statement_lead}
+use Rattle.code_lengths.proofs.UnitLengths.{unit_made, programs}
 
 pub expressions : ExpressionsAreAsLongAsDescribed
 unfolding bits_for
@@ -25,7 +26,14 @@ expressions t l = record {
 }
 
 pub statements : StatementsAreAsLongAsDescribed
-statements t l s f contexts n d h k = statement_grows t l s f contexts n d h k
+statements t i l s f contexts n d numbers outcome among code known =
+    statement_lead t i l numbers (expressions t i l) s f contexts n d code.shaped code.lowerable code.names code.stands outcome among known
+
+pub units : UnitsAreAsLongAsDescribed
+units t words number is_main regs instance is plain code = unit_made t words number is_main regs instance (expressions t instance _) is plain code
+
+pub all_units : ProgramsHaveCode
+all_units = programs expressions
 
 pub places : CodeEndsWhereItsLengthSays
 unfolding here

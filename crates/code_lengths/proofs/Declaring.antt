@@ -1,16 +1,22 @@
 -- What statements declare, part by part, and where that stands among all variables of the blocks.
 use Rattle.std.proofs.Common.{◌≡◌, ℕ, suc, zero, ◌+◌, ◌<◌, List, [], ◌∷◌, ◌++◌, length, map, take, slice_get, Option, Some, None, Vec, Global, refl, sym, ap, ◌∙◌, subst, arith, append_assoc, length-append}
+use Rattle.std.specs.List.{All}
 use Rattle.std.proofs.Math.Seq.{take-append_seam}
+use Rattle.std.proofs.lemmas.List.Elements.{All-get_or}
+use Rattle.std.proofs.lemmas.Option.{get_or_from_slice_get, slice_get_within}
 use mathlib.Core.Former.{Count}
 use denote.Hole.Carrier
 use Rattle.cstar_tree.specs.declared.typed.LocalVar.{LocalVar}
 use Rattle.cstar_tree.specs.declared.typed.TExpr.{TExpr}
-use Rattle.cstar_tree.specs.declared.typed.TStmt.{TStmt, out-TStmt, Row_of-TStmt, end_of-TStmt, more_of-TStmt, items-the_row-TStmt, Held-TStmt-If-2, None', Some'}
+use Rattle.cstar_tree.specs.declared.typed.TStmt.{TStmt, out-TStmt, roll-TStmt, roll-out-TStmt, Row_of-TStmt, end_of-TStmt, more_of-TStmt, items-the_row-TStmt, items_hidden-the_row-TStmt-0, Held-TStmt-If-2, None', Some'}
 use Rattle.cstar_tree.specs.declared.typed.TStmt as S
 use Rattle.cstar_tree.specs.declared.typed.TStmt.TheFolds.{fold_out-TStmt}
+use Rattle.cstar_tree.specs.declared.typed.TStmt.TheOpen.{TStmt-F}
+use Rattle.cstar_tree.specs.declared.typed.TStmt.TheVariants as tree
 use Rattle.cstar_tree.specs.declared.typed.VarInfo.{VarInfo}
 use Rattle.cstar_tree.specs.TypedParts.{concat, statements_of}
 use Rattle.cstar_tree.specs.Variables.{declared_by, variables_of, variables_step}
+use Rattle.lower_base.proofs.Numbering.{variables_block}
 use Rattle.code_lengths.specs.NamingStatements.{StandFrom}
 use Rattle.code_lengths.proofs.Drafting.{append_nothing}
 
@@ -86,9 +92,36 @@ pub of_return : (e : Option TExpr) → variables_of (S.Return e) ≡ []
 unfolding variables_step declared_by concat out-TStmt Carrier.out
 of_return e = fold_out-TStmt (List VarInfo) variables_step (S.Return e)
 
+-- a block, by its statements in a list and in a row
+abbrev block_parts : TStmt → List VarInfo
+block_parts (S.Block' locals p row) = map info_of locals.items ++ row_variables row
+block_parts _ = []
+
+abbrev IsAsItsParts : TStmt → Type 0
+IsAsItsParts s = variables_of s ≡ block_parts s
+
+abbrev IfBlock : TStmt-F TStmt → Type 0
+IfBlock (TStmt-F.Block locals statements) = IsAsItsParts (roll-TStmt (TStmt-F.Block locals statements))
+IfBlock _ = Unit {0}
+
+abbrev row_of : TStmt → (k : Count) × Row_of-TStmt k
+row_of (S.Block' locals p row) = (_, row)
+row_of _ = (_, end_of-TStmt)
+
+listed_block : (locals : Vec LocalVar Global) (statements : Vec TStmt Global) → IsAsItsParts (S.Block locals statements)
+listed_block locals statements =
+    let row = row_of (S.Block locals statements) in
+    variables_block locals statements
+    ∙ ap (λ (ss : List TStmt). map info_of locals.items ++ concat (map variables_of ss)) (sym (items_hidden-the_row-TStmt-0 statements))
+    ∙ ap (λ (xs : List VarInfo). map info_of locals.items ++ xs) (row_concat row.0 row.1)
+
+if_block : (x : TStmt-F TStmt) → IfBlock x
+if_block (TStmt-F.Block locals statements) = subst IsAsItsParts (sym (tree.rolls-Block locals statements)) (listed_block locals statements)
+if_block _ = tt
+
 pub of_block : (locals : Vec LocalVar Global) (p : Vec (Unit {0}) Global) (row : _) → variables_of (S.Block' locals p row) ≡ map info_of locals.items ++ row_variables row
-unfolding variables_step declared_by out-TStmt Carrier.out
-of_block locals p row = fold_out-TStmt (List VarInfo) variables_step (S.Block' locals p row) ∙ ap (λ (xs : List VarInfo). map info_of locals.items ++ xs) (row_concat _ row)
+unfolding out-TStmt Carrier.out
+of_block locals p row = subst IsAsItsParts (roll-out-TStmt (S.Block' locals p row)) (if_block (out-TStmt (S.Block' locals p row)))
 
 -- ---- where they stand among all
 
@@ -100,7 +133,7 @@ first_part own rest s = record {
   number_is = s.number_is;
 }
 
-pub second_part : {all : List VarInfo} {n : ℕ} (own rest : List VarInfo) → StandFrom all n (own ++ rest) → StandFrom all (n + length own) rest
+unfoldable pub second_part : {all : List VarInfo} {n : ℕ} (own rest : List VarInfo) → StandFrom all n (own ++ rest) → StandFrom all (n + length own) rest
 second_part own rest s = record {
   before = s.before ++ own;
   behind = s.behind;
@@ -120,11 +153,6 @@ pub at_length : {A : Type 0} (before : List A) (x : A) (rest : List A) → slice
 at_length [] x rest = refl
 at_length (b ∷ before) x rest = at_length before x rest
 
-pub kept_at : {A : Type 0} (xs more : List A) (k : ℕ) (x : A) → slice_get xs k ≡ Some x → slice_get (xs ++ more) k ≡ Some x
-kept_at [] more k x is = cc
-kept_at (y ∷ xs) more zero x is = is
-kept_at (y ∷ xs) more (suc k) x is = kept_at xs more k x is
-
 pub found : {A : Type 0} (xs : List A) (k : ℕ) → k < length xs → (x : A) × (slice_get xs k ≡ Some x)
 found [] k less = absurd (none k less)
   where
@@ -138,3 +166,6 @@ at_number {n = n} info rest s =
     ap (λ (xs : List VarInfo). slice_get xs n) s.all_are
     ∙ ap (λ (k : ℕ). slice_get (s.before ++ info ∷ (rest ++ s.behind)) k) (sym s.number_is)
     ∙ at_length s.before info (rest ++ s.behind)
+
+pub all_at : {A : Type 0} (P : A → Type 0) (xs : List A) (n : ℕ) (x : A) → All P xs → slice_get xs n ≡ Some x → P x
+all_at P xs n x all is = subst P (get_or_from_slice_get xs n x x is) (All-get_or P xs n x (slice_get_within xs n x is) all)

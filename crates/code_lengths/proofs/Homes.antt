@@ -25,72 +25,15 @@ use Rattle.code_lengths.specs.Naming.{IsDeclared, variable_named}
 use Rattle.code_lengths.specs.NamingStatements.{StandFrom}
 use Rattle.code_lengths.specs.Ready.{HasDeclared, IsMade, IsReady, NumbersVariables, homes_of}
 use Rattle.code_lengths.proofs.Advancing.{advanced, leads, leads_sized, leads_then}
-use Rattle.code_lengths.proofs.Declaring.{at_length, at_number, found, info_of, kept_at, second_part, taken}
-use Rattle.code_lengths.proofs.Drafting.{and_instr, append_nothing, as_it_was, entry_grows, extended, resized}
+use Rattle.code_lengths.proofs.Declaring.{at_length, at_number, found, info_of, second_part, taken}
+use Rattle.code_lengths.proofs.Readiness.{made_from, ready_behind, ready_still}
+use Rattle.code_lengths.proofs.Drafting.{and_instr, append_nothing, as_it_was, entry_grows, extended, nothing_more, resized}
 
--- ---- what is made by what is looked up
-
-pub made_at : {A B : Type 0} (o : Option A) (x : A) (next : A → Made B) → o ≡ Some x → IsMade (next x) → IsMade (from o next)
-unfolding from
-made_at o x next is made = subst (λ (o : Option _). IsMade (from o next)) (sym is) made
-
-pub looked_up : {A B : Type 0} (o : Option A) (next : A → Made B) → IsMade (from o next) → (x : A) × (o ≡ Some x) × IsMade (next x)
-unfolding from IsMade
-looked_up (Some x) next made = (x, refl, made)
-looked_up None next made = absurd made
-
-own_made : (index : ℕ) (d e : Draft) (more : List Virtual) → e.fields ≡ d.fields ++ more → IsMade (own_field index d) → IsMade (own_field index e)
-unfolding own_field IsMade
-own_made index d e more is made =
-    let entry = looked_up (slice_get d.fields index) _ made in
-    made_at (slice_get e.fields index) entry.0 _ (ap (λ (fields : List Virtual). slice_get fields index) is ∙ kept_at d.fields more index entry.0 entry.1) tt
-
-field_made : (t : Typed) (l : Layout) (v : Variable) (element : ℕ) (d e : Draft) (more : List Virtual) (later : List ℕ) → e.fields ≡ d.fields ++ more → e.homes ≡ d.homes ++ later →
-    IsMade (field_of t l v element d) → IsMade (field_of t l v element e)
-unfolding field_of an_entry IsMade
-field_made t l (V.File k) element d e more later is homes made =
-    let info = looked_up (slice_get t.vars.items k) _ made in
-    let first = looked_up (slice_get l.files k) _ info.2 in
-    let set = looked_up info.0.shape _ first.2 in
-    made_at (slice_get t.vars.items k) info.0 _ info.1 (made_at (slice_get l.files k) first.0 _ first.1 (made_at info.0.shape set.0 _ set.1 tt))
-field_made t l (V.Param k) element d e more later is homes made =
-    let index = looked_up (slice_get l.params k) _ made in
-    made_at (slice_get l.params k) index.0 _ index.1 (own_made index.0 d e more is index.2)
-field_made t l (V.Local k) element d e more later is homes made =
-    let name = looked_up (slice_get l.locals k) _ made in
-    let home = looked_up (slice_get d.homes name.0.home) _ name.2 in
-    made_at (slice_get l.locals k) name.0 _ name.1
-    (made_at (slice_get e.homes name.0.home) home.0 _ (ap (λ (homes : List ℕ). slice_get homes name.0.home) homes ∙ kept_at d.homes later name.0.home home.0 home.1)
-    (own_made (home.0 + element) d e more is home.2))
-
--- ---- a unit stays ready
-
-pub ready_behind : (t : Typed) (i : Instance) (l : Layout) (n : ℕ) (d e : Draft) (k : ℕ) → Advanced d k e → IsReady t i l n d → IsReady t i l n e
-ready_behind t i l n d e k x ready = record {
-  elements = ready.elements;
-  fields = λ v info element named declared shape within.
-    field_made t l v element d e x.1.entries x.0 x.1.fields x.1.homes (ready.fields v info element named declared shape within);
-  result = λ info is shape. own_made l.outcome d e x.1.entries x.1.fields (ready.result info is shape);
-  bases = ready.bases;
-}
-
-declared_still : (m n : ℕ) (v : Variable) → m ≤ n → IsDeclared m v → IsDeclared n v
-unfolding IsDeclared
-declared_still m n (V.File k) less declared = tt
-declared_still m n (V.Param k) less declared = tt
-declared_still m n (V.Local k) less declared = omega (arith, less, declared)
-
-pub ready_before : (t : Typed) (i : Instance) (l : Layout) (m n : ℕ) (d : Draft) → m ≤ n → IsReady t i l n d → IsReady t i l m d
-ready_before t i l m n d less ready = record {
-  elements = λ v info named declared shape. ready.elements v info named (declared_still m n v less declared) shape;
-  fields = λ v info element named declared shape within. ready.fields v info element named (declared_still m n v less declared) shape within;
-  result = ready.result;
-  bases = ready.bases;
-}
+-- ---- a unit stays as it is
 
 pub still_declared : (t : Typed) (i : Instance) (l : Layout) (n : ℕ) (d e : Draft) (k : ℕ) → Extended d k e → HasDeclared t i l n d → HasDeclared t i l n e
 still_declared t i l n d e k x known = record {
-  ready = ready_behind t i l n d e k (advanced d e k x) known.ready;
+  ready = ready_behind t i l n k d e x known.ready;
   homes = ap length x.homes ∙ known.homes;
 }
 
@@ -162,14 +105,14 @@ name_at all n info rest s =
     let listed : (numbered all nothing_numbered).locals ≡ before.locals ++ name_of before info ∷ on.0 =
     ap (λ (infos : List VarInfo). (numbered infos nothing_numbered).locals) s.all_are
     ∙ ap (λ (n : Numbering). n.locals) (numbered_append s.before (info ∷ (rest ++ s.behind)) nothing_numbered) ∙ on.1 in
-    let number : length before.locals ≡ n = numbered_long s.before nothing_numbered ∙ s.number_is in
+    let number : length before.locals ≡ n = numbered_long s.before nothing_numbered ∙ nothing_more (length s.before) ∙ s.number_is in
     ap (λ (names : List LocalName). slice_get names n) listed
     ∙ ap (λ (k : ℕ). slice_get (before.locals ++ name_of before info ∷ on.0) k) (sym number)
     ∙ at_length before.locals (name_of before info) on.0
 
 -- how many parallel ones there are behind it
 homes_behind : (all : List VarInfo) (n : ℕ) (info : VarInfo) (rest : List VarInfo) (s : StandFrom all n (info ∷ rest)) → homes_of (take (n + 1) all) ≡ Y.behind (homes_of s.before) info
-unfolding numbered with_local
+unfolding numbered with_local second_part
 homes_behind all n info rest s =
     ap homes_of (taken rest (second_part (info ∷ []) rest s))
     ∙ ap (λ (n : Numbering). n.homes) (numbered_append s.before (info ∷ []) nothing_numbered)
@@ -208,7 +151,7 @@ behind_parallel k info set is = ap (λ (o : Option ℕ). elim o as (λ _. ℕ) [
 
 pub own_at : (index : ℕ) (d : Draft) → index < length d.fields → IsMade (own_field index d)
 unfolding own_field IsMade
-own_at index d less = let entry = found d.fields index less in made_at (slice_get d.fields index) entry.0 _ entry.1 tt
+own_at index d less = let entry = found d.fields index less in made_from (slice_get d.fields index) _ entry.0 entry.1 tt
 
 declared_scalar : (t : Typed) (i : Instance) (l : Layout) (n : ℕ) (d : Draft) (info : VarInfo) (rest : List VarInfo) → StandFrom (variables_of i.body) n (info ∷ rest) → info.shape ≡ None →
     HasDeclared t i l n d → HasDeclared t i l (n + 1) d
@@ -228,9 +171,9 @@ declared_parallel t i l n d e info rest set s numbers parallel known x long =
     ap (λ (homes : List ℕ). slice_get homes (homes_of s.before)) x.homes
     ∙ ap (λ (k : ℕ). slice_get (d.homes ++ length d.fields ∷ []) k) (sym count) ∙ at_length d.homes (length d.fields) [] in
     record {
-      ready = next_ready t i l n e info (at_number info rest s) (ready_behind t i l n d e (entries_of info) (length d.fields ∷ [], x) known.ready)
+      ready = next_ready t i l n e info (at_number info rest s) (ready_still t i l n d e (x.entries, length d.fields ∷ [], x.fields, x.homes) known.ready)
         (λ shape. ap (λ (o : Option LocalName). elim o as (λ _. ℕ) [ None ↦ 0 | Some name ↦ name.entries ]) named)
-        (λ shape element within. made_at (slice_get l.locals n) name _ named (made_at (slice_get e.homes name.home) (length d.fields) _ home (own_at (length d.fields + element) e (omega (arith, long, within)))));
+        (λ shape element within. made_from (slice_get l.locals n) _ name named (made_from (slice_get e.homes name.home) _ (length d.fields) home (own_at (length d.fields + element) e (omega (arith, long, within)))));
       homes = ap length x.homes ∙ length-append d.homes (length d.fields ∷ []) ∙ ap (λ (k : ℕ). k + 1) count
         ∙ sym (homes_behind (variables_of i.body) n info rest s ∙ behind_parallel (homes_of s.before) info set parallel);
     }

@@ -28,7 +28,7 @@ unfolding IsMade from
 found (Some x) next m = (x, refl, m)
 found None next m = absurd m
 
-made_from : {A B : Type 0} (o : Option A) (next : A → Made B) (x : A) → o ≡ Some x → IsMade (next x) → IsMade (from o next)
+pub made_from : {A B : Type 0} (o : Option A) (next : A → Made B) (x : A) → o ≡ Some x → IsMade (next x) → IsMade (from o next)
 unfolding from
 made_from o next x e m = subst (λ y. IsMade (from y next)) (sym e) m
 
@@ -96,7 +96,7 @@ pub own_field_grows : (index : ℕ) (d : Draft) → IsMade (own_field index d) �
 unfolding own_field
 own_field_grows index d m = let f = found (slice_get d.fields index) _ m in found_grows Anything d 0 _ f.0 _ f.1 (makes Anything _ d d 0 tt (as_it_was d))
 
-made_field_grows : (t : Typed) (l : Layout) (v : Variable) (element : ℕ) (d : Draft) → IsMade (field_of t l v element d) → Grows d 0 Anything (field_of t l v element d)
+pub made_field_grows : (t : Typed) (l : Layout) (v : Variable) (element : ℕ) (d : Draft) → IsMade (field_of t l v element d) → Grows d 0 Anything (field_of t l v element d)
 unfolding field_of
 made_field_grows t l (V.File k) element d m =
     let info = found (slice_get t.vars.items k) _ m in
@@ -118,7 +118,7 @@ field_of_grows t i l n v ty element d r x h below =
     let same = r.elements v (variable_info x.word ty x.start) x.named x.declared h in
     made_field_grows t l v element d (r.fields v (variable_info x.word ty x.start) element x.named x.declared h (subst (λ (m : ℕ). element < m) same below))
 
-one_entry : (shape : Option ℕ) → is_none shape ≡ false → (elim shape as (λ _. ℕ) [ None ↦ 0 | Some s ↦ 1 ]) ≡ 1
+pub one_entry : (shape : Option ℕ) → is_none shape ≡ false → (elim shape as (λ _. ℕ) [ None ↦ 0 | Some s ↦ 1 ]) ≡ 1
 one_entry None h = cc
 one_entry (Some s) h = refl
 

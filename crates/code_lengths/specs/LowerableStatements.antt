@@ -1,6 +1,6 @@
 -- What the code of a statement relies on beside its shapes, in a function with this result, or none: that
 -- of its expressions, and where their values stand.
-use Rattle.std.specs.Prelude.{Option, IfSome}
+use Rattle.std.specs.Prelude.{◌≡◌, Option, None, IfSome}
 use Rattle.std.specs.List.{All}
 use Rattle.cstar_tree.specs.declared.typed.LocalVar.{LocalVar}
 use Rattle.cstar_tree.specs.declared.typed.TExpr.{TExpr}
@@ -14,9 +14,9 @@ use Rattle.code_lengths.specs.Lowerable.{InField, InRegister, IsLowerable, IsVal
 abbrev pub IsTest : Typed → TExpr → Type 0
 IsTest t e = InRegister t e × IsLowerable t e
 
--- an initialiser is a value for its variable
+-- an initialiser is a value for its variable, which is no array
 abbrev pub IsLowerableLocal : Typed → LocalVar → Type 0
-IsLowerableLocal t local = IfSome local.initial (λ (e : TExpr). IsValueFor t local.info.shape e × IsLowerable t e)
+IsLowerableLocal t local = IfSome local.initial (λ (e : TExpr). (local.info.array ≡ None) × IsValueFor t local.info.shape e × IsLowerable t e)
 
 -- what is given back is a value for the function's result
 abbrev pub IsGivenBack : Typed → Option VarInfo → TExpr → Type 0

@@ -1,6 +1,7 @@
 -- What the code of a tree relies on, so that there is such code: of the tree, and of the unit as it stands
 -- where the tree comes.
-use Rattle.std.specs.Prelude.{◌≡◌, ◌<◌, ℕ, false, List, length, take, Some, is_none}
+use Rattle.std.specs.Prelude.{◌≡◌, ◌<◌, ℕ, false, List, length, take, slice_get, Some, None, is_none}
+use Rattle.std.specs.List.{All}
 use Rattle.cstar_tree.specs.declared.typed.Instance.{Instance}
 use Rattle.cstar_tree.specs.declared.typed.TExpr.{TExpr, Row_of-TExpr, end_of-TExpr, more_of-TExpr}
 use Rattle.cstar_tree.specs.declared.typed.TStmt.{TStmt}
@@ -80,3 +81,12 @@ pub record HasStatementCode (t : Typed) (i : Instance) (n : ℕ) (s : TStmt) : T
 unfoldable pub Arrives : Typed → TExpr → Out → Type 0
 Arrives t e O.Nothing = GivesValue t e → ⊥
 Arrives t e out = Stands (is_kept e) out
+
+-- no parameter is an array
+abbrev pub HasPlainParameters : Instance → Type 0
+HasPlainParameters instance = All (λ (info : VarInfo). info.array ≡ None) instance.params.items
+
+-- each instance of a program has code
+abbrev pub IsCodable : Typed → Type 0
+IsCodable t =
+    (number : ℕ) (instance : Instance) → slice_get t.instances.items number ≡ Some instance → HasPlainParameters instance × HasStatementCode t instance 0 instance.body

@@ -1,4 +1,4 @@
-use Rattle.code_lengths.proofs.Homes.{clears}
+use Rattle.code_lengths.proofs.UnitLengths.{programs}
 use Rattle.code_lengths.proofs.try_declaring.Goals as goal
 
 pub returns : goal.returns
