@@ -1,5 +1,5 @@
 -- The code of a call is as long as described.
-use Rattle.std.proofs.Common.{◌≡◌, ℕ, suc, ◌+◌, ◌-◌, ◌<◌, Bool, true, false, ◌==◌, List, [], ◌∷◌, length, slice_get, Option, Some, None, IfSome, is_none, is_some, refl, sym, ap, ◌∙◌, subst, arith, if◌then◌else◌}
+use Rattle.std.proofs.Common.{◌≡◌, ℕ, suc, ◌+◌, ◌-◌, Bool, true, false, ◌==◌, List, [], ◌∷◌, length, slice_get, Option, Some, None, IfSome, is_none, is_some, refl, sym, ap, ◌∙◌, subst, arith, if◌then◌else◌}
 use Rattle.std.specs.List.{AllZip}
 use Rattle.std.proofs.lemmas.Option.{same_Some, slice_get-get_or, slice_get_within}
 use Rattle.std.proofs.lemmas.Slice.Zip.{AllZip-long}
@@ -52,7 +52,7 @@ result_by P None unit info register index dest d p s = register_given_grows P un
 result_by P (Some set) unit info register index dest d p s = field_given_grows P unit info set index dest d p s
 
 -- what is answered passes: where the result goes, if there is one
-abbrev pub IsReturned : (Out → Type 0) → Option VarInfo → Out → Type 0
+abbrev IsReturned : (Out → Type 0) → Option VarInfo → Out → Type 0
 IsReturned P None dest = P O.Nothing
 IsReturned P (Some info) dest = P dest × Stands (is_none info.shape) dest
 
@@ -63,7 +63,7 @@ finished_grows P unit None register index dest d p = makes P O.Nothing d _ 2 p (
 finished_grows P unit (Some info) register index dest d p = result_by P info.shape unit info register index dest d p.0 p.1
 
 -- an argument stands in a register for a scalar parameter, and anywhere for a parallel one
-abbrev pub IsArgument : VarInfo → Out → Type 0
+abbrev IsArgument : VarInfo → Out → Type 0
 IsArgument param v = (kept : Bool) × Stands kept v × (is_none param.shape ≡ true → kept ≡ true)
 
 argument_by : (shape : Option ℕ) (kept : Bool) (unit : ℕ) (param : VarInfo) (register index : ℕ) (v : Out) (d : Draft) → Stands kept v → (is_none shape ≡ true → kept ≡ true) →

@@ -26,9 +26,9 @@ use Rattle.lower_base.specs.declared.emit.Out.{Out}
 use Rattle.lower_base.specs.declared.emit.Out.TheVariants as O
 use Rattle.lower_comm.specs.declared.gets.Hop.{Hop}
 use Rattle.lower_comm.specs.declared.news.NewsStep.{NewsStep}
-use Rattle.lower_base.specs.Drafts.{Draft, Made, Makes, then_make, from, in_register, in_field, with_instr, an_entry, first_bits}
+use Rattle.lower_base.specs.Drafts.{Draft, Made, Makes, then_make, from, with_instr, an_entry, first_bits}
 use Rattle.lower_base.specs.Kinds.{fold_kind, fold_length}
-use Rattle.lower_base.specs.Layouts.{Layout, field_of}
+use Rattle.lower_base.specs.Layouts.{Layout}
 use Rattle.lower_comm.specs.Messages.{front_located, each_located, located_at, located, is_left_index, checked_part, grid_steps, with_grid_check, hopped, is_extended, moving_part, moving_steps, stepwise, with_hop, gotten_by_steps, read_at, part_register, part_field, with_sign, with_fold, folded_onto, negated_by, reduced, indexed, indexed_field, stored, sent_value, sent_to, sent, scanned, segment_field, enumerated, communicated}
 use Rattle.lower_comm.specs.News.{step_of}
 use Rattle.lower_base.specs.Operators.{assign_op_of}
@@ -149,7 +149,7 @@ steps_grow of indexes elem source dest d =
     makes InField (O.Field dest) c _ _ refl (resized c _ _ _ (ap (moves_length dest.len elem) (moves_counted of 0 indexes)) (stepwise_more elem dest (moving_steps of 0 indexes) _ c))))))
 
 -- a read through a left index
-pub read_grows : (bits : ℕ) (ty : ValueType) (of : ℕ) (indexes : List TExpr) (source : Field) (at into : Out) (d : Draft) → Stands (is_none ty.shape) at → IsAt (is_none ty.shape) bits into →
+read_grows : (bits : ℕ) (ty : ValueType) (of : ℕ) (indexes : List TExpr) (source : Field) (at into : Out) (d : Draft) → Stands (is_none ty.shape) at → IsAt (is_none ty.shape) bits into →
     Grows d (read_length bits ty) (Stands (is_none ty.shape)) (read_at of indexes ty.elem source at into d)
 unfolding read_at read_length is_extended
 read_grows bits ty of indexes source at into d h s = by ty.shape at h s

@@ -24,7 +24,7 @@ use Rattle.lower_base.specs.declared.emit.Out.TheVariants as O
 use Rattle.lower_base.specs.declared.operators.Machine.{Machine}
 use Rattle.lower_base.specs.declared.operators.Machine.TheVariants as M
 use Rattle.lower_base.specs.Constants.{constant_register, word_in, word_length}
-use Rattle.lower_base.specs.Drafts.{Draft, Made, Makes, Fails, then_make, with_instr, a_register, a_flag, in_register, in_field}
+use Rattle.lower_base.specs.Drafts.{Draft, Made, Makes, then_make, with_instr, a_register, a_flag, in_register}
 use Rattle.lower_base.specs.Layouts.{Layout}
 use Rattle.lower_base.specs.Operators.{machine_of, relates}
 use Rattle.lower_expr.specs.declared.steps.Right.TheVariants as R

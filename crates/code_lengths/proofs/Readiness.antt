@@ -1,23 +1,22 @@
 -- In a unit that is ready for a tree the fields of its variables are there, and stay so as it grows.
-use Rattle.std.proofs.Common.{◌≡◌, ℕ, zero, suc, ◌+◌, ◌<◌, ◌≤◌, Bool, false, List, [], ◌∷◌, ◌++◌, slice_get, Option, Some, None, is_none, refl, sym, ap, ◌∙◌, subst, arith}
+use Rattle.std.proofs.Common.{◌≡◌, ℕ, zero, suc, ◌+◌, ◌<◌, ◌≤◌, false, List, [], ◌∷◌, ◌++◌, slice_get, Option, Some, None, is_none, refl, sym, ap, ◌∙◌, subst, arith}
 use Rattle.cstar_tree.specs.declared.typed.Instance.{Instance}
 use Rattle.cstar_tree.specs.declared.typed.TExpr.{TExpr}
 use Rattle.cstar_tree.specs.declared.typed.Typed.{Typed}
 use Rattle.cstar_tree.specs.declared.typed.ValueType.{ValueType}
 use Rattle.cstar_tree.specs.declared.typed.Variable.{Variable}
 use Rattle.cstar_tree.specs.declared.typed.Variable.TheVariants as V
-use Rattle.cstar_tree.specs.declared.typed.VarInfo.{VarInfo}
 use Rattle.cstar_tree.specs.Scopes.{VariableType}
 use Rattle.cstar_tree.specs.StatementTypes.{variable_info}
 use Rattle.paris_code.specs.declared.program.Virtual.{Virtual}
 use Rattle.lower_base.specs.declared.emit.Out.{Out}
 use Rattle.lower_base.specs.declared.emit.Out.TheVariants as O
-use Rattle.lower_base.specs.Drafts.{Draft, Made, Makes, Fails, from, an_entry}
+use Rattle.lower_base.specs.Drafts.{Draft, Made, from, an_entry}
 use Rattle.lower_base.specs.Layouts.{Layout, elements_of, entries_of, field_of, own_field}
 use Rattle.lower_expr.specs.Steps.{is_kept}
 use Rattle.code_lengths.specs.Growth.{Extended, Grows, Stands, Anything}
 use Rattle.code_lengths.specs.Lowerable.{GivesValue}
-use Rattle.code_lengths.specs.Naming.{HasVariable, IsDeclared, plain, variable_named}
+use Rattle.code_lengths.specs.Naming.{HasVariable, IsDeclared, plain}
 use Rattle.code_lengths.specs.Ready.{Arrives, IsMade, IsReady}
 use Rattle.code_lengths.specs.Shaped.{HasShape}
 use Rattle.code_lengths.proofs.Drafting.{append_nothing, as_it_was, makes, found_grows, entry_grows}

@@ -92,7 +92,7 @@ elements_stored_grow t i l n array index v (suc more) element d r a s =
     elements_stored_grow t i l n array index v more (element + 1) after (ready_behind t i l n 1 between after y ready) (next_element t i l n array more element a) s)))
 
 -- the variables that a bare target names are those of the target
-pub bare_names : (t : Typed) (i : Instance) (n : ℕ) (target : TExpr) → NamesVariables t i n target → NamesVariables t i n (bare target)
+bare_names : (t : Typed) (i : Instance) (n : ℕ) (target : TExpr) → NamesVariables t i n target → NamesVariables t i n (bare target)
 unfolding bare NamesVariables
 bare_names t i n (T.Brackets' ty p inner) h = bare_names t i n inner h
 bare_names t i n _ h = h
@@ -142,7 +142,7 @@ unfolding load_length_of
 all_read t l bits (T.Element' ty place array p index) a r h = ap (λ (y : Variable). elements_length l (elements_of t l y) 0) h.0
 all_read t l bits _ a r h = absurd h
 
-is_address : (b : TExpr) (at : Out) → Fits b (S.Indexed at) → IsAddress b at
+pub is_address : (b : TExpr) (at : Out) → Fits b (S.Indexed at) → IsAddress b at
 is_address (T.LeftIndex' ty place p indexes x of) at h = h
 is_address _ at h = absurd h
 
