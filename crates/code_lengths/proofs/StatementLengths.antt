@@ -34,7 +34,7 @@ use Rattle.lower_stmt.specs.Programs.{outcome_of}
 use Rattle.lower_stmt.specs.Statements as L
 use Rattle.lower_stmt.specs.Statements.{body_of, statement_of, statements_of, else_of, otherwise_of, part_of, condition_of, jump_back_of, stored_result, given_back, returned, closing}
 use Rattle.lower_stmt.specs.Variables.{all_initialised, declared, initialised, variable_of}
-use Rattle.code_lengths.specs.Agreement.{ExpressionLengths, StandsAmong}
+use Rattle.code_lengths.specs.Agreement.{ExpressionLengths, StandsAmong, StatementsAreAsLongAsDescribed}
 use Rattle.code_lengths.specs.Growth.{Advanced, Anything, Extended, Grows, Leads, Stands}
 use Rattle.code_lengths.specs.Lowerable.{GivesValue, InField, InRegister, IsLowerable, IsValueFor}
 use Rattle.code_lengths.specs.LowerableStatements.{AreLowerableStatements, IsLowerableElse, IsGivenBack, IsLowerableLocal, IsLowerableStatement, IsTest}
@@ -43,6 +43,7 @@ use Rattle.code_lengths.specs.NamingStatements.{ElseNamesVariables, InitialNames
 use Rattle.code_lengths.specs.Ready.{Arrives, Declares, HasCode, HasDeclared, IsMade, IsReady, NumbersVariables}
 use Rattle.code_lengths.specs.Shaped.{IsShaped}
 use Rattle.code_lengths.specs.ShapedStatements.{IsShapedPart, IsShapedInitial, AreShapedLocals, IsShapedStatement, AreShapedStatements, IsShapedElse}
+use Rattle.code_lengths.proofs.Agreeing.{expressions}
 use Rattle.code_lengths.proofs.Advancing.{advanced, leads, leads_behind, leads_from, leads_sized, leads_then}
 use Rattle.code_lengths.proofs.Declaring.{at_number, else_variables, first_part, info_of, of_block, of_break, of_continue, of_do, of_empty, of_everywhere, of_expression, of_for, of_if, of_return, of_where, of_while, of_with, row_variables, second_part}
 use Rattle.code_lengths.proofs.Drafting.{IsAt, as_it_was, resized, and_instr, makes, sized, bind, bind_behind, weaker, in_register_grows, entry_grows, nothing_more}
@@ -216,7 +217,7 @@ row_more n first second = let all = length-append first second in omega (arith, 
 block_rest : (all : List VarInfo) (n : ℕ) (locals : List LocalVar) (rest : List VarInfo) → StandFrom all n (map info_of locals ++ rest) → StandFrom all (n + length locals) rest
 block_rest all n locals rest z = subst (λ (k : ℕ). StandFrom all (n + k) rest) (length-map locals info_of) (second_part (map info_of locals) rest z)
 
-module _ (t : Typed) (i : Instance) (l : Layout) (numbers : NumbersVariables i l) (expressions : ExpressionLengths t i l) where
+module _ (t : Typed) (i : Instance) (l : Layout) (numbers : NumbersVariables i l) (codes : ExpressionLengths t i l) where
 
   -- ---- code that declares nothing
 
@@ -225,12 +226,12 @@ module _ (t : Typed) (i : Instance) (l : Layout) (numbers : NumbersVariables i l
   unfolding part_length_of part_of
   part_grows n None d code ready = makes Anything tt d d 0 tt (as_it_was d)
   part_grows n (Some e) d code ready =
-      sized Anything d _ _ _ (and_nothing _) (bind Anything Anything d (effect_length_of t l e) 0 _ _ (expressions.effect n e d code ready) (λ v after _. makes Anything tt after after 0 tt (as_it_was after)))
+      sized Anything d _ _ _ (and_nothing _) (bind Anything Anything d (effect_length_of t l e) 0 _ _ (codes.effect n e d code ready) (λ v after _. makes Anything tt after after 0 tt (as_it_was after)))
 
   condition_grows : (n : ℕ) (e : TExpr) (d : Draft) → IsCondition t i n e → IsReady t i l n d → Grows d (used_length_of t l 32 true e) Anything (condition_of t l e d)
   unfolding condition_of
   condition_grows n e d code ready =
-      sized Anything d _ _ _ (and_nothing _) (bind (Arrives t e) Anything d (used_length_of t l 32 true e) 0 _ _ (expressions.operand 32 n true e d code.0 ready)
+      sized Anything d _ _ _ (and_nothing _) (bind (Arrives t e) Anything d (used_length_of t l 32 true e) 0 _ _ (codes.operand 32 n true e d code.0 ready)
       (λ v after a. in_register_grows Anything after 0 v _ (subst (λ (kept : Bool). Stands kept v) code.1.1 (arrived t e v code.1.0 a)) (λ r. makes Anything r after after 0 tt (as_it_was after))))
 
   back_grows : (n : ℕ) (e : Option TExpr) (turn : ℕ) (d : Draft) → IfSome e (IsCondition t i n) → IsReady t i l n d → Grows d (condition_length_of t l e + 1) Anything (jump_back_of t l e turn d)
@@ -263,7 +264,7 @@ module _ (t : Typed) (i : Instance) (l : Layout) (numbers : NumbersVariables i l
   unfolding returned given_back returned_length
   returned_grows n None d code ready = makes Anything tt d d 0 tt (as_it_was d)
   returned_grows n (Some e) d code ready =
-      bind_behind (Arrives t e) Anything d (used_length_of t l (type_of e).elem.bits true e) _ _ _ (expressions.operand (type_of e).elem.bits n true e d code.0 ready)
+      bind_behind (Arrives t e) Anything d (used_length_of t l (type_of e).elem.bits true e) _ _ _ (codes.operand (type_of e).elem.bits n true e d code.0 ready)
       (λ v after a x. result_grows i.result n e v after refl code.1 a (ready_behind t i l n _ d after x ready))
 
   -- initialisers
@@ -286,11 +287,11 @@ module _ (t : Typed) (i : Instance) (l : Layout) (numbers : NumbersVariables i l
   unfolding own_bits
   initial_put_grows n info (O.Scalar r) e d at code value ready =
       subst (λ (kept : Bool). Grows d (put_length t l kept (if kept then 32 else info.elem.bits) e) Anything (put_to t l (O.Scalar r) e d)) (sym at)
-      (weaker (Stands true) Anything d _ _ (λ _ _. tt) (expressions.put_register r n e d code (value.gives, value.in_register at) ready))
+      (weaker (Stands true) Anything d _ _ (λ _ _. tt) (codes.put_register r n e d code (value.gives, value.in_register at) ready))
   initial_put_grows n info (O.Field f) e d at code value ready =
       subst (λ (kept : Bool). Grows d (put_length t l kept (if kept then 32 else info.elem.bits) e) Anything (put_to t l (O.Field f) e d)) (sym at.0)
       (sized Anything d _ _ _ (ap (λ (bits : ℕ). put_length t l false bits e) at.1)
-      (weaker (Stands false) Anything d _ _ (λ _ _. tt) (expressions.put_field f n e d code value.gives (value.parallel at.0) ready)))
+      (weaker (Stands false) Anything d _ _ (λ _ _. tt) (codes.put_field f n e d code value.gives (value.parallel at.0) ready)))
   initial_put_grows n info O.Nothing e d at code value ready = absurd at
 
   initial_by : (e : Option TExpr) (all : ℕ) (info : VarInfo) (n : ℕ) (d : Draft) → IsShapedInitial info e → IfSome e (λ (e : TExpr). (info.array ≡ None) × IsValueFor t info.shape e × IsLowerable t e) →
@@ -440,7 +441,7 @@ module _ (t : Typed) (i : Instance) (l : Layout) (numbers : NumbersVariables i l
         recounted _ _ d _ _ (both_more n (S.Where' shape test p first second) (variables_of first) (else_variables second) (of_where shape test p first second))
         (leads_sized _ d _ _ _ (where_sum (tested_length t l test) (kept_length second) (statement_length_of t l (has_result f) (one_more f.saved) first) (else_length_of t l (has_result f) (one_more f.saved) 3 second) (else_length_of t l (has_result f) (one_more f.saved) 4 second) (kept_and_other t l (has_result f) (one_more f.saved) second))
         (code_then Anything _ n d 0 _ _ _ y (entry_grows shape 1 _ d) (λ saved begun y. code_then Anything _ n begun 0 _ _ _ y (entry_grows shape 1 _ begun) (λ holds ready y.
-        leads_sized _ ready _ _ _ (add_assoc (tested_length t l test) _ _) (code_then Anything _ n ready _ _ _ _ y (expressions.test n test ready (record { shaped = h.0; lowerable = w.1; names = v.0 }) w.0 y.ready) (λ _ known y.
+        leads_sized _ ready _ _ _ (add_assoc (tested_length t l test) _ _) (code_then Anything _ n ready _ _ _ _ y (codes.test n test ready (record { shaped = h.0; lowerable = w.1; names = v.0 }) w.0 y.ready) (λ _ known y.
         declares_then _ (behind n first) known _ _ _ _ (declares_then _ (behind n first) known _ 1 _ _
         (instr_then _ n known _ _ _ _ y (narrowed_more second shape saved holds known)
         (λ y. statement_lead first (in_context f) (contexts ++ saved ∷ []) n _ h.1 w.2 v.1 (first_part _ _ z') o (deeper f contexts saved k) y))
@@ -481,3 +482,7 @@ module _ (t : Typed) (i : Instance) (l : Layout) (numbers : NumbersVariables i l
       (declares_then _ (0 + length locals.items) d _ _ _ _ (declared_lead f.is_main locals.items 0 d h.0 w.0 v.0 (first_part _ _ z') y)
       (λ after y. statements_lead statements f [] (0 + length locals.items) after h.1 w.1 v.1 (block_rest _ 0 locals.items _ z') o k y))
   body_lead s f d h w v z o k y = statement_lead s f [] 0 d h w v z o k y
+
+pub statements : StatementsAreAsLongAsDescribed
+statements t i l s f contexts n d numbers outcome among code known =
+    statement_lead t i l numbers (expressions t i l) s f contexts n d code.shaped code.lowerable code.names code.stands outcome among known

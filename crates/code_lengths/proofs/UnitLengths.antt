@@ -20,10 +20,11 @@ use Rattle.lower_base.specs.Layouts as Y
 use Rattle.lower_stmt.specs.Frames.{with_end}
 use Rattle.lower_stmt.specs.Programs.{begun, blank, body_frame, constants_put, elements_begun, joined, own_field_of, own_fields_of, own_result_of, scalar_begun, start_value_of, start_values_of, unit_of, units_of}
 use Rattle.lower_stmt.specs.Statements.{body_of, ended, ends_in_return}
-use Rattle.code_lengths.specs.Agreement.{ExpressionLengths, HasUnit, ProgramsHaveCode, StandsAmong, UnitsAreAsLongAsDescribed, end_length, opening_of, whole_length}
+use Rattle.code_lengths.specs.Agreement.{HasUnit, ProgramsHaveCode, StandsAmong, UnitsAreAsLongAsDescribed, end_length, opening_of, whole_length}
 use Rattle.code_lengths.specs.Growth.{Advanced, Anything, Extended, Grows, Leads}
 use Rattle.code_lengths.specs.Naming.{IsDeclared, variable_named}
 use Rattle.code_lengths.specs.Ready.{HasDeclared, HasPlainParameters, HasStatementCode, IsCodable, IsMade, IsReady, NumbersVariables, homes_of}
+use Rattle.code_lengths.proofs.Agreeing.{expressions}
 use Rattle.code_lengths.proofs.Advancing.{advanced, leads, leads_then}
 use Rattle.code_lengths.proofs.Declaring.{all_at, at_length}
 use Rattle.code_lengths.proofs.Drafting.{and_instr, append_nothing, as_it_was, behind, bind, entry_grows, extended, makes, nothing_more, resized, sized}
@@ -365,23 +366,22 @@ opening_made t words number is_main regs instance =
     ∙ first_made (own_result_of instance.result params.behind) (λ _ ready. begun t l is_main ready) result.behind result.made ∙ start.1,
     record { entries = omega (arith, fields, entries); homes = start.2.homes ∙ result.homes ∙ params.homes })
 
-body_made : (t : Typed) (words : List ℕ) (number : ℕ) (is_main : Bool) (instance : Instance) (start : Draft) → ExpressionLengths t instance (layout_of t words number) → slice_get t.instances.items number ≡ Some instance →
+body_made : (t : Typed) (words : List ℕ) (number : ℕ) (is_main : Bool) (instance : Instance) (start : Draft) → slice_get t.instances.items number ≡ Some instance →
     HasPlainParameters instance → HasStatementCode t instance 0 instance.body → IsBegun instance start →
     Leads start (whole_length t (layout_of t words number) (body_frame is_main instance) instance.body) (λ (x : Unit {0}) (e : Draft). Unit {0}) (rest_of t (layout_of t words number) is_main instance tt start)
 unfolding rest_of whole_length body_frame numbered
-body_made t words number is_main instance start expressions is plain code begun =
+body_made t words number is_main instance start is plain code begun =
     let l = layout_of t words number in
     let known : HasDeclared t instance l 0 start = record { ready = body_ready t words number instance start is plain begun; homes = ap length begun.homes } in
     leads_then _ _ start _ _ _ _
-    (body_lead t instance l (locals_are t words number instance is) expressions instance.body (body_frame is_main instance) start code.shaped code.lowerable code.names code.stands refl (no_context is_main instance) known)
+    (body_lead t instance l (locals_are t words number instance is) (expressions t instance l) instance.body (body_frame is_main instance) start code.shaped code.lowerable code.names code.stands refl (no_context is_main instance) known)
     (λ _ end _. leads _ tt end _ _ tt (advanced end _ _ (ended_more is_main instance.body end)))
 
-pub unit_made : (t : Typed) (words : List ℕ) (number : ℕ) (is_main : Bool) (regs : ℕ) (instance : Instance) → ExpressionLengths t instance (layout_of t words number) → slice_get t.instances.items number ≡ Some instance →
-    HasPlainParameters instance → HasStatementCode t instance 0 instance.body → HasUnit t (layout_of t words number) is_main regs instance
-unit_made t words number is_main regs instance expressions is plain code =
+pub units : UnitsAreAsLongAsDescribed
+units t words number is_main regs instance is plain code =
     let l = layout_of t words number in
     let start = opening_made t words number is_main regs instance in
-    let rest = led_made start.0 _ (rest_of t l is_main instance tt start.0) (body_made t words number is_main instance start.0 expressions is plain code start.2) in
+    let rest = led_made start.0 _ (rest_of t l is_main instance tt start.0) (body_made t words number is_main instance start.0 is plain code start.2) in
     record {
       start = start.0;
       unit = rest.0;
@@ -396,18 +396,18 @@ joined_made : (m : Made (Unit {0})) (rest : Draft → List Draft) (d : Draft) �
 unfolding joined
 joined_made m rest d is = ap (λ (m : Made (Unit {0})). joined m rest) is
 
-as_many_units : (t : Typed) (words : List ℕ) (before instances : List Instance) (regs : ℕ) → ((i : Instance) (l : Layout) → ExpressionLengths t i l) → IsCodable t → t.instances.items ≡ before ++ instances →
+as_many_units : (t : Typed) (words : List ℕ) (before instances : List Instance) (regs : ℕ) → IsCodable t → t.instances.items ≡ before ++ instances →
     length (units_of t words instances (length before) regs) ≡ length instances
 unfolding units_of
-as_many_units t words before [] regs expressions codable all = refl
-as_many_units t words before (instance ∷ instances) regs expressions codable all =
+as_many_units t words before [] regs codable all = refl
+as_many_units t words before (instance ∷ instances) regs codable all =
     let number = length before in
     let is : slice_get t.instances.items number ≡ Some instance = ap (λ (instances : List Instance). slice_get instances number) all ∙ at_length before instance instances in
     let code = codable number instance is in
-    let unit = unit_made t words number (number == 0) regs instance (expressions instance (layout_of t words number)) is code.0 code.1 in
-    let rest = as_many_units t words (before ++ instance ∷ []) instances unit.unit.regs expressions codable (all ∙ sym (append_assoc before (instance ∷ []) instances)) in
+    let unit = units t words number (number == 0) regs instance is code.0 code.1 in
+    let rest = as_many_units t words (before ++ instance ∷ []) instances unit.unit.regs codable (all ∙ sym (append_assoc before (instance ∷ []) instances)) in
     ap length (joined_made (unit_of t (layout_of t words number) (number == 0) regs instance) (λ d. units_of t words instances (number + 1) d.regs) unit.unit unit.made)
     ∙ ap suc (ap (λ (k : ℕ). length (units_of t words instances k unit.unit.regs)) (sym (length-append before (instance ∷ []))) ∙ rest)
 
-pub programs : ((t : Typed) (i : Instance) (l : Layout) → ExpressionLengths t i l) → ProgramsHaveCode
-programs expressions t words regs codable = as_many_units t words [] t.instances.items regs (expressions t) codable refl
+pub programs : ProgramsHaveCode
+programs t words regs codable = as_many_units t words [] t.instances.items regs codable refl

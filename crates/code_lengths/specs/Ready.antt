@@ -77,16 +77,15 @@ pub record HasStatementCode (t : Typed) (i : Instance) (n : ℕ) (s : TStmt) : T
   pub names : StatementNamesVariables t i n s
   pub stands : StandFrom (variables_of i.body) n (variables_of s)
 
+-- no parameter is an array
+abbrev pub HasPlainParameters : Instance → Type 0
+HasPlainParameters i = All (λ (info : VarInfo). info.array ≡ None) i.params.items
+
+-- a typed program whose instances have code
+abbrev pub IsCodable : Typed → Type 0
+IsCodable t = (number : ℕ) (i : Instance) → slice_get t.instances.items number ≡ Some i → HasPlainParameters i × HasStatementCode t i 0 i.body
+
 -- the value of an expression stands where the expression says; one that gives none may be nowhere
 unfoldable pub Arrives : Typed → TExpr → Out → Type 0
 Arrives t e O.Nothing = GivesValue t e → ⊥
 Arrives t e out = Stands (is_kept e) out
-
--- no parameter is an array
-abbrev pub HasPlainParameters : Instance → Type 0
-HasPlainParameters instance = All (λ (info : VarInfo). info.array ≡ None) instance.params.items
-
--- each instance of a program has code
-abbrev pub IsCodable : Typed → Type 0
-IsCodable t =
-    (number : ℕ) (instance : Instance) → slice_get t.instances.items number ≡ Some instance → HasPlainParameters instance × HasStatementCode t instance 0 instance.body

@@ -33,8 +33,3 @@ pub fn code_ends_where_its_length_says()
 pub fn programs_have_code()
     ensures { ProgramsHaveCode }
 {}
-
-/// try
-pub fn try_declaring()
-    ensures { CodeEndsWhereItsLengthSays }
-{}
