@@ -1,8 +1,8 @@
 -- Units that go on behind statements: what is said of the draft behind is passed on.
-use Rattle.std.proofs.Common.{◌≡◌, ℕ, ◌+◌, List, [], ◌++◌, refl, sym, ap, ◌∙◌, subst, append_assoc}
+use Rattle.std.proofs.Common.{◌≡◌, ℕ, ◌+◌, List, [], ◌++◌, ap, ◌∙◌, subst, append_assoc}
 use Rattle.lower_base.specs.Drafts.{Draft, Made, Makes, Fails, then_make}
 use Rattle.code_lengths.specs.Growth.{Advanced, Extended, Grows, Leads, with_homes}
-use Rattle.code_lengths.proofs.Drafting.{append_nothing, as_it_was, extended, resized}
+use Rattle.code_lengths.proofs.Drafting.{append_nothing, extended}
 
 -- the same with other homes before and behind
 rehomed : (d e : Draft) (n : ℕ) (before after : List ℕ) → after ≡ before → Extended d n e → Extended (record d { homes = before }) n (record e { homes = after })

@@ -1,6 +1,6 @@
 -- Units in which the first variables of an instance's blocks are declared: they stay so as they grow, and
 -- one that is cleared is declared then.
-use Rattle.std.proofs.Common.{◌≡◌, ℕ, suc, zero, ◌+◌, ◌<◌, ◌≤◌, ◌⊎◌, inl, inr, Bool, true, false, List, [], ◌∷◌, ◌++◌, length, map, take, slice_get, Option, Some, None, is_none, if◌then◌else◌, refl, sym, ap, ◌∙◌, subst, arith, append_assoc, length-append}
+use Rattle.std.proofs.Common.{◌≡◌, ℕ, suc, zero, ◌+◌, ◌<◌, ◌⊎◌, inl, inr, Bool, true, false, List, [], ◌∷◌, ◌++◌, length, map, take, slice_get, Option, Some, None, is_none, if◌then◌else◌, refl, sym, ap, ◌∙◌, subst, arith, append_assoc, length-append}
 use Rattle.std.proofs.Math.Nat.{eq-or-lt_of_le}
 use Rattle.cstar_tree.specs.declared.typed.Instance.{Instance}
 use Rattle.cstar_tree.specs.declared.typed.LocalVar.{LocalVar}
@@ -10,21 +10,20 @@ use Rattle.cstar_tree.specs.declared.typed.Variable.{Variable}
 use Rattle.cstar_tree.specs.declared.typed.Variable.TheVariants as V
 use Rattle.cstar_tree.specs.Variables.{variables_of}
 use Rattle.paris_code.specs.declared.instr.Instr.TheVariants as I
-use Rattle.paris_code.specs.declared.operands.Field.{Field}
 use Rattle.paris_code.specs.declared.program.Owner.TheVariants as W
 use Rattle.paris_code.specs.declared.program.Virtual.{Virtual}
 use Rattle.lower_base.specs.declared.names.LocalName.{LocalName}
-use Rattle.lower_base.specs.Drafts.{Draft, Made, Makes, Fails, from, then_make, with_instr, with_step, an_entry}
+use Rattle.lower_base.specs.Drafts.{Draft, Made, Makes, then_make, with_instr, with_step, an_entry}
 use Rattle.lower_base.specs.Layouts.{Layout, Numbering, elements_of, entries_of, field_of, nothing_numbered, numbered, own_field, register_of, with_local}
 use Rattle.lower_base.specs.Layouts as Y
 use Rattle.lower_base.proofs.Numbering.{numbered_append}
 use Rattle.lower_stmt.specs.Lengths.{clear_length_of}
 use Rattle.lower_stmt.specs.Variables.{all_cleared, cleared, cleared_fields, is_kept_so, with_home}
-use Rattle.code_lengths.specs.Growth.{Advanced, Extended, Grows, Leads, Anything}
+use Rattle.code_lengths.specs.Growth.{Extended, Grows, Leads}
 use Rattle.code_lengths.specs.Naming.{IsDeclared, variable_named}
 use Rattle.code_lengths.specs.NamingStatements.{StandFrom}
 use Rattle.code_lengths.specs.Ready.{HasDeclared, IsMade, IsReady, NumbersVariables, homes_of}
-use Rattle.code_lengths.proofs.Advancing.{advanced, leads, leads_sized, leads_then}
+use Rattle.code_lengths.proofs.Advancing.{advanced, leads, leads_then}
 use Rattle.code_lengths.proofs.Declaring.{at_length, at_number, found, info_of, second_part, taken}
 use Rattle.code_lengths.proofs.Readiness.{made_from, ready_behind, ready_still}
 use Rattle.code_lengths.proofs.Drafting.{and_instr, append_nothing, as_it_was, entry_grows, extended, nothing_more, resized}

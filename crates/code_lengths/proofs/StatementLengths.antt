@@ -1,6 +1,6 @@
 -- The code of every statement is made, and as long as described, and behind it the variables of its
 -- blocks are declared.
-use Rattle.std.proofs.Common.{◌≡◌, ℕ, suc, zero, ◌+◌, ◌<◌, ◌≤◌, Bool, true, false, List, [], ◌∷◌, ◌++◌, length, map, reverse, take, Option, Some, None, IfSome, is_none, refl, sym, ap, ◌∙◌, subst, arith, if◌then◌else◌, length-append, add_comm}
+use Rattle.std.proofs.Common.{◌≡◌, ℕ, suc, zero, ◌+◌, ◌≤◌, Bool, true, false, List, [], ◌∷◌, ◌++◌, length, map, reverse, take, Option, Some, None, IfSome, is_none, refl, sym, ap, ◌∙◌, subst, arith, if◌then◌else◌, length-append, add_comm}
 use Rattle.std.specs.List.{All}
 use Rattle.std.proofs.lemmas.List.{length-map, length-reverse}
 use Rattle.std.proofs.lemmas.List.Elements.{All-head, All-tail}
@@ -14,16 +14,15 @@ use Rattle.cstar_tree.specs.declared.typed.VarInfo.{VarInfo}
 use Rattle.cstar_tree.specs.declared.typed.Variable.TheVariants as V
 use Rattle.cstar_tree.specs.Typed.{type_of}
 use Rattle.cstar_tree.specs.Variables.{variables_of}
-use Rattle.paris_code.specs.declared.instr.Instr.TheVariants as I
 use Rattle.paris_code.specs.declared.operands.Field.{Field}
 use Rattle.lower_base.specs.declared.emit.Out.{Out}
 use Rattle.lower_base.specs.declared.emit.Out.TheVariants as O
-use Rattle.lower_base.specs.Drafts.{Draft, Made, Makes, first_bits, then_make, with_instr}
+use Rattle.lower_base.specs.Drafts.{Draft, Made, Makes, first_bits, then_make}
 use Rattle.lower_base.specs.Layouts.{Layout, entries_of, field_of, register_of, result_register}
 use Rattle.lower_expr.specs.Effects.{put_to, put_length, own_bits, effect_length_of}
 use Rattle.lower_expr.specs.Lengths.{tested_length, used_length_of}
 use Rattle.lower_expr.specs.Operands.{standing}
-use Rattle.lower_expr.specs.Steps.{is_kept, put_value}
+use Rattle.lower_expr.specs.Steps.{is_kept}
 use Rattle.lower_stmt.specs.declared.length.Saved.{Saved}
 use Rattle.lower_stmt.specs.declared.statement.Frame.{Frame}
 use Rattle.lower_stmt.specs.declared.statement.Outcome.{Outcome}
@@ -35,13 +34,12 @@ use Rattle.lower_stmt.specs.Statements as L
 use Rattle.lower_stmt.specs.Statements.{body_of, statement_of, statements_of, else_of, otherwise_of, part_of, condition_of, jump_back_of, stored_result, given_back, returned, closing}
 use Rattle.lower_stmt.specs.Variables.{all_initialised, declared, initialised, variable_of}
 use Rattle.code_lengths.specs.Agreement.{ExpressionLengths, StandsAmong, StatementsAreAsLongAsDescribed}
-use Rattle.code_lengths.specs.Growth.{Advanced, Anything, Extended, Grows, Leads, Stands}
-use Rattle.code_lengths.specs.Lowerable.{GivesValue, InField, InRegister, IsLowerable, IsValueFor}
+use Rattle.code_lengths.specs.Growth.{Anything, Extended, Grows, Leads, Stands}
+use Rattle.code_lengths.specs.Lowerable.{InRegister, IsLowerable, IsValueFor}
 use Rattle.code_lengths.specs.LowerableStatements.{AreLowerableStatements, IsLowerableElse, IsGivenBack, IsLowerableLocal, IsLowerableStatement, IsTest}
 use Rattle.code_lengths.specs.Naming.{IsDeclared, NamesVariables, variable_named}
 use Rattle.code_lengths.specs.NamingStatements.{ElseNamesVariables, InitialNamesVariables, StandFrom, StatementNamesVariables, StatementsNameVariables, behind}
 use Rattle.code_lengths.specs.Ready.{Arrives, Declares, HasCode, HasDeclared, IsMade, IsReady, NumbersVariables}
-use Rattle.code_lengths.specs.Shaped.{IsShaped}
 use Rattle.code_lengths.specs.ShapedStatements.{IsShapedPart, IsShapedInitial, AreShapedLocals, IsShapedStatement, AreShapedStatements, IsShapedElse}
 use Rattle.code_lengths.proofs.Agreeing.{expressions}
 use Rattle.code_lengths.proofs.Advancing.{advanced, leads, leads_behind, leads_from, leads_sized, leads_then}

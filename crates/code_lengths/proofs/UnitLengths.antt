@@ -1,8 +1,6 @@
 -- The unit of an instance: behind what it begins with it is ready for its body, which is made then. So no
 -- unit of a program is left out.
-use Rattle.std.proofs.Common.{◌≡◌, ℕ, suc, zero, ◌+◌, ◌<◌, ◌≤◌, ◌==◌, Bool, true, false, List, [], ◌∷◌, ◌++◌, length, take, fold, slice_get, Option, Some, None, is_none, refl, sym, ap, ◌∙◌, subst, arith, append_assoc, length-append, if◌then◌else◌}
-use Rattle.std.specs.List.{All}
-use Rattle.std.proofs.lemmas.List.Elements.{All-head, All-tail}
+use Rattle.std.proofs.Common.{◌≡◌, ℕ, suc, zero, ◌+◌, ◌<◌, ◌≤◌, ◌==◌, Bool, true, false, List, [], ◌∷◌, ◌++◌, length, fold, slice_get, Option, Some, None, is_none, refl, sym, ap, ◌∙◌, subst, arith, append_assoc, length-append, if◌then◌else◌}
 use Rattle.cstar_tree.specs.declared.typed.Instance.{Instance}
 use Rattle.cstar_tree.specs.declared.typed.TStmt.{TStmt}
 use Rattle.cstar_tree.specs.declared.typed.Typed.{Typed}
@@ -10,11 +8,9 @@ use Rattle.cstar_tree.specs.declared.typed.VarInfo.{VarInfo}
 use Rattle.cstar_tree.specs.declared.typed.Variable.{Variable}
 use Rattle.cstar_tree.specs.declared.typed.Variable.TheVariants as V
 use Rattle.cstar_tree.specs.Variables.{variables_of}
-use Rattle.paris_code.specs.declared.instr.Instr.TheVariants as I
-use Rattle.paris_code.specs.declared.operands.Konst.TheVariants as K
 use Rattle.paris_code.specs.declared.program.Owner.TheVariants as W
 use Rattle.paris_code.specs.declared.program.Virtual.{Virtual}
-use Rattle.lower_base.specs.Drafts.{Draft, Made, Makes, Fails, an_entry, then_make, with_instr}
+use Rattle.lower_base.specs.Drafts.{Draft, Made, Makes, Fails, an_entry, then_make}
 use Rattle.lower_base.specs.Layouts.{Layout, Registers, elements_of, entered, entries_of, earlier_base, field_of, first_fields, layout_of, nothing_numbered, numbered, own_field, param_entries, registers_of, with_instance}
 use Rattle.lower_base.specs.Layouts as Y
 use Rattle.lower_stmt.specs.Frames.{with_end}
@@ -23,12 +19,12 @@ use Rattle.lower_stmt.specs.Statements.{body_of, ended, ends_in_return}
 use Rattle.code_lengths.specs.Agreement.{HasUnit, ProgramsHaveCode, StandsAmong, UnitsAreAsLongAsDescribed, end_length, opening_of, whole_length}
 use Rattle.code_lengths.specs.Growth.{Advanced, Anything, Extended, Grows, Leads}
 use Rattle.code_lengths.specs.Naming.{IsDeclared, variable_named}
-use Rattle.code_lengths.specs.Ready.{HasDeclared, HasPlainParameters, HasStatementCode, IsCodable, IsMade, IsReady, NumbersVariables, homes_of}
+use Rattle.code_lengths.specs.Ready.{HasDeclared, HasPlainParameters, HasStatementCode, IsCodable, IsMade, IsReady, NumbersVariables}
 use Rattle.code_lengths.proofs.Agreeing.{expressions}
 use Rattle.code_lengths.proofs.Advancing.{advanced, leads, leads_then}
 use Rattle.code_lengths.proofs.Declaring.{all_at, at_length}
-use Rattle.code_lengths.proofs.Drafting.{and_instr, append_nothing, as_it_was, behind, bind, entry_grows, extended, makes, nothing_more, resized, sized}
-use Rattle.code_lengths.proofs.Homes.{own_at, still_declared}
+use Rattle.code_lengths.proofs.Drafting.{and_instr, as_it_was, behind, bind, makes, nothing_more, resized, sized}
+use Rattle.code_lengths.proofs.Homes.{own_at}
 use Rattle.code_lengths.proofs.Readiness.{made_field_grows, made_from}
 use Rattle.code_lengths.proofs.StatementLengths.{body_lead, end_more, one_entry_of}
 
@@ -396,18 +392,54 @@ joined_made : (m : Made (Unit {0})) (rest : Draft → List Draft) (d : Draft) �
 unfolding joined
 joined_made m rest d is = ap (λ (m : Made (Unit {0})). joined m rest) is
 
+-- the first of the units that are left, and those behind it
+first_unit : (t : Typed) (words : List ℕ) (before : List Instance) (instance : Instance) (instances : List Instance) (regs : ℕ) → IsCodable t → t.instances.items ≡ before ++ instance ∷ instances →
+    (own : HasUnit t (layout_of t words (length before)) (length before == 0) regs instance)
+    × (units_of t words (instance ∷ instances) (length before) regs ≡ own.unit ∷ units_of t words instances (length (before ++ instance ∷ [])) own.unit.regs)
+unfolding units_of
+first_unit t words before instance instances regs codable all =
+    let number = length before in
+    let is : slice_get t.instances.items number ≡ Some instance = ap (λ (instances : List Instance). slice_get instances number) all ∙ at_length before instance instances in
+    let code = codable number instance is in
+    let own = units t words number (number == 0) regs instance is code.0 code.1 in
+    (own, joined_made (unit_of t (layout_of t words number) (number == 0) regs instance) (λ d. units_of t words instances (number + 1) d.regs) own.unit own.made
+    ∙ ap (λ (k : ℕ). own.unit ∷ units_of t words instances k own.unit.regs) (sym (length-append before (instance ∷ []))))
+
 as_many_units : (t : Typed) (words : List ℕ) (before instances : List Instance) (regs : ℕ) → IsCodable t → t.instances.items ≡ before ++ instances →
     length (units_of t words instances (length before) regs) ≡ length instances
 unfolding units_of
 as_many_units t words before [] regs codable all = refl
 as_many_units t words before (instance ∷ instances) regs codable all =
-    let number = length before in
-    let is : slice_get t.instances.items number ≡ Some instance = ap (λ (instances : List Instance). slice_get instances number) all ∙ at_length before instance instances in
-    let code = codable number instance is in
-    let unit = units t words number (number == 0) regs instance is code.0 code.1 in
-    let rest = as_many_units t words (before ++ instance ∷ []) instances unit.unit.regs codable (all ∙ sym (append_assoc before (instance ∷ []) instances)) in
-    ap length (joined_made (unit_of t (layout_of t words number) (number == 0) regs instance) (λ d. units_of t words instances (number + 1) d.regs) unit.unit unit.made)
-    ∙ ap suc (ap (λ (k : ℕ). length (units_of t words instances k unit.unit.regs)) (sym (length-append before (instance ∷ []))) ∙ rest)
+    let first = first_unit t words before instance instances regs codable all in
+    ap length first.1 ∙ ap suc (as_many_units t words (before ++ instance ∷ []) instances first.0.unit.regs codable (all ∙ sym (append_assoc before (instance ∷ []) instances)))
+
+-- the unit of an instance stands at its number
+abbrev IsUnitAt : Typed → List ℕ → List Draft → ℕ → ℕ → Instance → Type 0
+IsUnitAt t words all k number instance = (first : ℕ) × (own : HasUnit t (layout_of t words number) (number == 0) first instance) × (slice_get all k ≡ Some own.unit)
+
+unit_at : (t : Typed) (words : List ℕ) (before instances : List Instance) (regs k number : ℕ) (instance : Instance) → IsCodable t → t.instances.items ≡ before ++ instances → number ≡ length before + k →
+    slice_get instances k ≡ Some instance → IsUnitAt t words (units_of t words instances (length before) regs) k number instance
+unit_at t words before [] regs k number instance codable all numbered is = let no : ⊥ = cc in absurd no
+unit_at t words before (other ∷ instances) regs zero number instance codable all numbered is =
+    let first = first_unit t words before other instances regs codable all in
+    let units = units_of t words (other ∷ instances) (length before) regs in
+    let same : other ≡ instance = cc in
+    subst (λ (number : ℕ). IsUnitAt t words units zero number instance) (sym (numbered ∙ nothing_behind (length before)))
+    (subst (λ (instance : Instance). IsUnitAt t words units zero (length before) instance) same (regs, first.0, ap (λ (all : List Draft). slice_get all zero) first.1))
+  where
+    nothing_behind : (n : ℕ) → n + 0 ≡ n
+    nothing_behind n = omega arith
+unit_at t words before (other ∷ instances) regs (suc k) number instance codable all numbered is =
+    let first = first_unit t words before other instances regs codable all in
+    let rest = unit_at t words (before ++ other ∷ []) instances first.0.unit.regs k number instance codable (all ∙ sym (append_assoc before (other ∷ []) instances))
+      (numbered ∙ next (length before) k ∙ ap (λ (n : ℕ). n + k) (sym (length-append before (other ∷ [])))) is in
+    (rest.0, rest.1, ap (λ (all : List Draft). slice_get all (suc k)) first.1 ∙ rest.2)
+  where
+    next : (n k : ℕ) → n + suc k ≡ (n + 1) + k
+    next n k = omega arith
 
 pub programs : ProgramsHaveCode
-programs t words regs codable = as_many_units t words [] t.instances.items regs codable refl
+programs t words regs codable = record {
+  all = as_many_units t words [] t.instances.items regs codable refl;
+  each = λ number instance is. unit_at t words [] t.instances.items regs number number instance codable refl (sym (nothing_more number)) is;
+}

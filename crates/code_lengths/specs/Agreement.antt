@@ -1,6 +1,6 @@
 -- The code of an expression, and of a statement, is as long as described, and only appends: what the
 -- unit had is as it was, and the jumps that were written by these lengths lead behind the code.
-use Rattle.std.specs.Prelude.{◌≡◌, ◌≤◌, ℕ, ◌+◌, Bool, true, false, if◌then◌else◌, List, [], length, slice_get, Some}
+use Rattle.std.specs.Prelude.{◌≡◌, ◌≤◌, ◌==◌, ℕ, ◌+◌, Bool, true, false, if◌then◌else◌, List, [], length, slice_get, Some}
 use Rattle.std.specs.List.{AllZip}
 use mathlib.Core.Former.{Count}
 use Rattle.cstar_tree.specs.declared.typed.Instance.{Instance}
@@ -17,7 +17,6 @@ use Rattle.lower_expr.specs.declared.spots.Spot.{Spot}
 use Rattle.lower_expr.specs.Effects.{effect_of, effect_length_of, put_to, put_length}
 use Rattle.lower_expr.specs.Lengths.{length_of, lengths_of, spot_length_of, tested_length}
 use Rattle.lower_expr.specs.Operands.{operand_by, operand_length}
-use Rattle.lower_expr.specs.Steps.{is_kept}
 use Rattle.lower_expr.specs.Values.{value_of, values_of, spot_of, tested}
 use Rattle.lower_stmt.specs.declared.statement.Frame.{Frame}
 use Rattle.lower_stmt.specs.Frames.{has_result}
@@ -92,10 +91,14 @@ UnitsAreAsLongAsDescribed =
     (t : Typed) (words : List ℕ) (number : ℕ) (is_main : Bool) (regs : ℕ) (instance : Instance) → slice_get t.instances.items number ≡ Some instance →
     HasPlainParameters instance → HasStatementCode t instance 0 instance.body → HasUnit t (layout_of t words number) is_main regs instance
 
--- no unit of a program is left out
+-- The units of a program: no instance is left out, and the unit of each stands at its number.
+pub record HasUnits (t : Typed) (words : List ℕ) (regs : ℕ) : Type 0 where
+  pub all : length (units_of t words t.instances.items 0 regs) ≡ length t.instances.items
+  pub each : (number : ℕ) (instance : Instance) → slice_get t.instances.items number ≡ Some instance →
+      (first : ℕ) × (own : HasUnit t (layout_of t words number) (number == 0) first instance) × (slice_get (units_of t words t.instances.items 0 regs) number ≡ Some own.unit)
+
 abbrev pub ProgramsHaveCode : Type 0
-ProgramsHaveCode =
-    (t : Typed) (words : List ℕ) (regs : ℕ) → IsCodable t → length (units_of t words t.instances.items 0 regs) ≡ length t.instances.items
+ProgramsHaveCode = (t : Typed) (words : List ℕ) (regs : ℕ) → IsCodable t → HasUnits t words regs
 
 -- the place behind a piece of code, to which a jump over it leads, is that before it and its length
 abbrev pub CodeEndsWhereItsLengthSays : Type 0

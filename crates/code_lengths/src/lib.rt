@@ -29,7 +29,7 @@ pub fn code_ends_where_its_length_says()
     ensures { CodeEndsWhereItsLengthSays }
 {}
 
-/// No unit of a program is left out: each instance that has code has its unit.
+/// No unit of a program is left out: where each instance has code, the unit of each stands at its number.
 pub fn programs_have_code()
     ensures { ProgramsHaveCode }
 {}
