@@ -12,10 +12,12 @@ pub advanced : (d e : Draft) (n : ℕ) → Extended d n e → Advanced d n e
 advanced d e n x = ([], rehomed d e n (d.homes ++ []) e.homes (x.homes ∙ append_nothing d.homes) x)
 
 pub further : (d e f : Draft) (a b : ℕ) → Advanced d a e → Advanced e b f → Advanced d (a + b) f
-further d e f a b x y =
-    (x.0 ++ y.0, extended (with_homes (x.0 ++ y.0) d) (with_homes y.0 e) f a b
-    (rehomed (with_homes x.0 d) e a (d.homes ++ (x.0 ++ y.0)) (e.homes ++ y.0) (ap (λ (homes : List ℕ). homes ++ y.0) x.1.homes ∙ append_assoc d.homes x.0 y.0) x.1)
-    y.1)
+further d e f a b x y = (
+  x.0 ++ y.0,
+  extended (with_homes (x.0 ++ y.0) d) (with_homes y.0 e) f a b
+      (rehomed (with_homes x.0 d) e a (d.homes ++ (x.0 ++ y.0)) (e.homes ++ y.0) (ap (λ (homes : List ℕ). homes ++ y.0) x.1.homes ∙ append_assoc d.homes x.0 y.0) x.1)
+      y.1,
+)
 
 pub leads : {A : Type 0} (P : A → Draft → Type 0) (x : A) (d e : Draft) (n : ℕ) → P x e → Advanced d n e → Leads d n P (Makes x e)
 unfolding Leads

@@ -64,8 +64,8 @@ pub next_ready : (t : Typed) (i : Instance) (l : Layout) (n : ℕ) (d : Draft) (
 next_ready t i l n d info is ready elements fields = record {
   elements = and_next t i n info (λ v known. is_none known.shape ≡ false → elements_of t l v ≡ entries_of known) is ready.elements elements;
   fields = λ v known element named declared.
-    and_next t i n info (λ v known. is_none known.shape ≡ false → element < entries_of known → IsMade (field_of t l v element d)) is
-    (λ v known named declared. ready.fields v known element named declared) (λ shape. fields shape element) v known named declared;
+      and_next t i n info (λ v known. is_none known.shape ≡ false → element < entries_of known → IsMade (field_of t l v element d)) is
+      (λ v known named declared. ready.fields v known element named declared) (λ shape. fields shape element) v known named declared;
   result = ready.result;
   bases = ready.bases;
 }
@@ -129,9 +129,12 @@ cleared_entries (suc n) set len d =
     let own : Virtual = record { set = set; len = len; owner = W.Own } in
     let begun : Draft = record d { fields = d.fields ++ own ∷ [] } in
     let next : Draft = with_instr (I.MoveZeroAlways (record { set = set; offset = length d.fields; len = len })) begun in
-    let rest = cleared_entries n set len next in
-    (rest.0, rest.1, resized d rest.0 ((0 + 1) + n) (suc n) (one_and n) (extended d next rest.0 (0 + 1) n (and_instr _ d begun 0 (entry_grows set len W.Own d).1) rest.2),
-    entries_sum (length rest.0.fields) (length next.fields) (length d.fields) n rest.3 (length-append d.fields (own ∷ [])))
+    let rest = cleared_entries n set len next in (
+      rest.0,
+      rest.1,
+      resized d rest.0 ((0 + 1) + n) (suc n) (one_and n) (extended d next rest.0 (0 + 1) n (and_instr _ d begun 0 (entry_grows set len W.Own d).1) rest.2),
+      entries_sum (length rest.0.fields) (length next.fields) (length d.fields) n rest.3 (length-append d.fields (own ∷ [])),
+    )
   where
     one_and : (n : ℕ) → (0 + 1) + n ≡ suc n
     one_and n = omega arith
@@ -171,10 +174,10 @@ declared_parallel t i l n d e info rest set s numbers parallel known x long =
     ∙ ap (λ (k : ℕ). slice_get (d.homes ++ length d.fields ∷ []) k) (sym count) ∙ at_length d.homes (length d.fields) [] in
     record {
       ready = next_ready t i l n e info (at_number info rest s) (ready_still t i l n d e (x.entries, length d.fields ∷ [], x.fields, x.homes) known.ready)
-        (λ shape. ap (λ (o : Option LocalName). elim o as (λ _. ℕ) [ None ↦ 0 | Some name ↦ name.entries ]) named)
-        (λ shape element within. made_from (slice_get l.locals n) _ name named (made_from (slice_get e.homes name.home) _ (length d.fields) home (own_at (length d.fields + element) e (omega (arith, long, within)))));
+          (λ shape. ap (λ (o : Option LocalName). elim o as (λ _. ℕ) [ None ↦ 0 | Some name ↦ name.entries ]) named)
+          (λ shape element within. made_from (slice_get l.locals n) _ name named (made_from (slice_get e.homes name.home) _ (length d.fields) home (own_at (length d.fields + element) e (omega (arith, long, within)))));
       homes = ap length x.homes ∙ length-append d.homes (length d.fields ∷ []) ∙ ap (λ (k : ℕ). k + 1) count
-        ∙ sym (homes_behind (variables_of i.body) n info rest s ∙ behind_parallel (homes_of s.before) info set parallel);
+          ∙ sym (homes_behind (variables_of i.body) n info rest s ∙ behind_parallel (homes_of s.before) info set parallel);
     }
 
 cleared_by : (kept : Bool) (shape : Option ℕ) (t : Typed) (i : Instance) (l : Layout) (info : VarInfo) (rest : List VarInfo) (n : ℕ) (d : Draft) → info.shape ≡ shape →

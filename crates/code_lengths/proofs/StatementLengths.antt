@@ -216,7 +216,6 @@ block_rest : (all : List VarInfo) (n : ℕ) (locals : List LocalVar) (rest : Lis
 block_rest all n locals rest z = subst (λ (k : ℕ). StandFrom all (n + k) rest) (length-map locals info_of) (second_part (map info_of locals) rest z)
 
 module _ (t : Typed) (i : Instance) (l : Layout) (numbers : NumbersVariables i l) (codes : ExpressionLengths t i l) where
-
   -- ---- code that declares nothing
 
   -- parts

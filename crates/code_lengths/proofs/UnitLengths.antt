@@ -266,12 +266,13 @@ module _ (t : Typed) (words : List ℕ) (number : ℕ) where
   start_values_grow before (info ∷ infos) d all =
       let one = start_value_grows info (length before) d (ap (λ (infos : List VarInfo). slice_get infos (length before)) all ∙ at_length before info infos) in
       let first = grown_made d one.0 _ one.1 in
-      let rest = start_values_grow (before ++ info ∷ []) infos first.0 (all ∙ sym (append_assoc before (info ∷ []) infos)) in
-      (one.0 + rest.0,
-      subst (λ (m : Made (Unit {0})). Grows d (one.0 + rest.0) Anything m)
-      (sym (first_made (start_value_of t own_layout info (length before) d) (λ _ after. start_values_of t own_layout infos (length before + 1) after) first.0 first.1))
-      (behind Anything d first.0 one.0 rest.0 _ first.2
-      (subst (λ (k : ℕ). Grows first.0 rest.0 Anything (start_values_of t own_layout infos k first.0)) (length-append before (info ∷ [])) rest.1)))
+      let rest = start_values_grow (before ++ info ∷ []) infos first.0 (all ∙ sym (append_assoc before (info ∷ []) infos)) in (
+        one.0 + rest.0,
+        subst (λ (m : Made (Unit {0})). Grows d (one.0 + rest.0) Anything m)
+            (sym (first_made (start_value_of t own_layout info (length before) d) (λ _ after. start_values_of t own_layout infos (length before + 1) after) first.0 first.1))
+            (behind Anything d first.0 one.0 rest.0 _ first.2
+            (subst (λ (k : ℕ). Grows first.0 rest.0 Anything (start_values_of t own_layout infos k first.0)) (length-append before (info ∷ [])) rest.1)),
+      )
 
   begun_grows : (is_main : Bool) (d : Draft) → Begins d (begun t own_layout is_main d)
   unfolding begun
@@ -356,11 +357,12 @@ opening_made t words number is_main regs instance =
     let start = grown_made result.behind begins.0 (begun t l is_main result.behind) begins.1 in
     let fields : length start.0.fields ≡ length result.behind.fields + length start.2.entries = ap length start.2.fields ∙ length-append result.behind.fields start.2.entries in
     let entries : length result.behind.fields ≡ with_result (fold Y.behind 0 instance.params.items) instance.result =
-    result.entries ∙ ap (λ (n : ℕ). with_result n instance.result) params.entries in
-    (start.0,
-    first_made (own_fields_of instance.params.items (blank instance.name regs)) (λ _ d. then_make (own_result_of instance.result d) (λ _ ready. begun t l is_main ready)) params.behind params.made
-    ∙ first_made (own_result_of instance.result params.behind) (λ _ ready. begun t l is_main ready) result.behind result.made ∙ start.1,
-    record { entries = omega (arith, fields, entries); homes = start.2.homes ∙ result.homes ∙ params.homes })
+    result.entries ∙ ap (λ (n : ℕ). with_result n instance.result) params.entries in (
+      start.0,
+      first_made (own_fields_of instance.params.items (blank instance.name regs)) (λ _ d. then_make (own_result_of instance.result d) (λ _ ready. begun t l is_main ready)) params.behind params.made
+          ∙ first_made (own_result_of instance.result params.behind) (λ _ ready. begun t l is_main ready) result.behind result.made ∙ start.1,
+      record { entries = omega (arith, fields, entries); homes = start.2.homes ∙ result.homes ∙ params.homes },
+    )
 
 body_made : (t : Typed) (words : List ℕ) (number : ℕ) (is_main : Bool) (instance : Instance) (start : Draft) → slice_get t.instances.items number ≡ Some instance →
     HasPlainParameters instance → HasStatementCode t instance 0 instance.body → IsBegun instance start →
@@ -401,9 +403,11 @@ first_unit t words before instance instances regs codable all =
     let number = length before in
     let is : slice_get t.instances.items number ≡ Some instance = ap (λ (instances : List Instance). slice_get instances number) all ∙ at_length before instance instances in
     let code = codable number instance is in
-    let own = units t words number (number == 0) regs instance is code.0 code.1 in
-    (own, joined_made (unit_of t (layout_of t words number) (number == 0) regs instance) (λ d. units_of t words instances (number + 1) d.regs) own.unit own.made
-    ∙ ap (λ (k : ℕ). own.unit ∷ units_of t words instances k own.unit.regs) (sym (length-append before (instance ∷ []))))
+    let own = units t words number (number == 0) regs instance is code.0 code.1 in (
+      own,
+      joined_made (unit_of t (layout_of t words number) (number == 0) regs instance) (λ d. units_of t words instances (number + 1) d.regs) own.unit own.made
+          ∙ ap (λ (k : ℕ). own.unit ∷ units_of t words instances k own.unit.regs) (sym (length-append before (instance ∷ []))),
+    )
 
 as_many_units : (t : Typed) (words : List ℕ) (before instances : List Instance) (regs : ℕ) → IsCodable t → t.instances.items ≡ before ++ instances →
     length (units_of t words instances (length before) regs) ≡ length instances
@@ -432,7 +436,7 @@ unit_at t words before (other ∷ instances) regs zero number instance codable a
 unit_at t words before (other ∷ instances) regs (suc k) number instance codable all numbered is =
     let first = first_unit t words before other instances regs codable all in
     let rest = unit_at t words (before ++ other ∷ []) instances first.0.unit.regs k number instance codable (all ∙ sym (append_assoc before (other ∷ []) instances))
-      (numbered ∙ next (length before) k ∙ ap (λ (n : ℕ). n + k) (sym (length-append before (other ∷ [])))) is in
+    (numbered ∙ next (length before) k ∙ ap (λ (n : ℕ). n + k) (sym (length-append before (other ∷ [])))) is in
     (rest.0, rest.1, ap (λ (all : List Draft). slice_get all (suc k)) first.1 ∙ rest.2)
   where
     next : (n k : ℕ) → n + suc k ≡ (n + 1) + k
