@@ -95,7 +95,7 @@ pub own_field_grows : (index : ℕ) (d : Draft) → IsMade (own_field index d) �
 unfolding own_field
 own_field_grows index d m = let f = found (slice_get d.fields index) _ m in found_grows Anything d 0 _ f.0 _ f.1 (makes Anything _ d d 0 tt (as_it_was d))
 
-made_field_grows : (t : Typed) (l : Layout) (v : Variable) (element : ℕ) (d : Draft) → IsMade (field_of t l v element d) → Grows d 0 Anything (field_of t l v element d)
+pub made_field_grows : (t : Typed) (l : Layout) (v : Variable) (element : ℕ) (d : Draft) → IsMade (field_of t l v element d) → Grows d 0 Anything (field_of t l v element d)
 unfolding field_of
 made_field_grows t l (V.File k) element d m =
     let info = found (slice_get t.vars.items k) _ m in
