@@ -1,6 +1,6 @@
--- The code of a value that goes to a variable, of a test, and of an expression whose value is not
--- used, is as long as described.
-use Rattle.std.proofs.Common.{◌≡◌, ℕ, ◌+◌, Bool, true, false, not, ◌&&◌, ◌||◌, ◌==◌, [], Option, Some, None, is_none, refl, sym, ap, ◌∙◌, subst, arith, if◌then◌else◌}
+-- A value that goes to a variable, a test, and an expression whose value is not used have code, and it is
+-- as long as described.
+use Rattle.std.proofs.Common.{◌≡◌, ℕ, ◌+◌, Bool, true, false, not, ◌&&◌, ◌||◌, ◌==◌, [], Option, Some, None, is_none, refl, sym, ap, ◌∙◌, arith, if◌then◌else◌}
 use Rattle.cstar_base.specs.declared.elem.Elem.{Elem}
 use Rattle.cstar_base.specs.declared.operators.Op.{Op}
 use Rattle.cstar_base.specs.declared.operators.Place.{Place}
@@ -37,7 +37,7 @@ use Rattle.code_lengths.specs.Naming.{NamesVariables}
 use Rattle.code_lengths.specs.Ready.{Arrives, HasCode}
 use Rattle.code_lengths.specs.Shaped.{HasNoShape, HasShape, IsShaped}
 use Rattle.code_lengths.proofs.Drafting.{nothing_more, IsAt, at_stands, as_it_was, resized, and_instr, register_grows, entry_grows}
-use Rattle.code_lengths.proofs.Basis.{Basis, GrowsOn, ready, if_ready, plainly, makes, sized, bind, weaker, in_register_grows, in_field_grows, either_grows}
+use Rattle.code_lengths.proofs.Basis.{Basis, GrowsOn, standing_as, ready, if_ready, plainly, makes, sized, bind, weaker, in_register_grows, in_field_grows, either_grows}
 use Rattle.code_lengths.proofs.Pieces.{InRegister, InField, word_in_grows, put_value_grows, operated_more, negated_grows}
 use Rattle.code_lengths.proofs.ValuePieces.{IsCode, IsCondition, IsRight, IsTest, of_code, joined_fields, truth_put_grows, extended_grows, right_by_grows, right_operated_grows, right_together, registers_grow, fields_grow, word_put_grows, arm_grows, scalar_choice_grows, tested_by_grows, joined_by_grows}
 use Rattle.code_lengths.proofs.OperandPieces.{OwnFits, OwnNamed, choice_kept, not_held, own_named, own_target_fits, standing_grows}
@@ -216,9 +216,6 @@ gone_grows k P dest n made d s g =
 sides : (k : Bool) (e : TExpr) → Suits k e → is_kept e ≡ is_none (type_of e).shape → k ≡ is_none (type_of e).shape
 sides true e u h = sym u ∙ h
 sides false e u h = sym u
-
-standing_as : (k b : Bool) (v : Out) → k ≡ b → Stands k v → Stands b v
-standing_as k b v e s = subst (λ x. Stands x v) e s
 
 one_more_unless : (b : Bool) (n : ℕ) → (if b then n else n + 1) ≡ n + (if b then 0 else 1)
 one_more_unless true n = omega arith

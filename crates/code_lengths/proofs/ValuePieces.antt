@@ -1,4 +1,4 @@
--- The code of the forms of expressions, over the code of their parts, is as long as described.
+-- The forms of expressions have code, over that of their parts, and it is as long as described.
 use Rattle.std.proofs.Common.{◌≡◌, ℕ, suc, ◌+◌, Bool, true, false, not, ◌&&◌, ◌||◌, ◌==◌, nat_lt, List, [], ◌∷◌, length, Option, Some, None, is_none, is_some, refl, sym, ap, ◌∙◌, subst, arith, if◌then◌else◌}
 use Rattle.cstar_base.specs.declared.elem.Elem.{Elem}
 use Rattle.cstar_base.specs.declared.operators.Op.{Op}
@@ -41,16 +41,16 @@ Known u = Unit {0}
 abbrev pub IsCode : Basis → ℕ → Bool → Code → Type 0
 IsCode on n kept code = (d : Draft) → GrowsOn on d n (Stands kept) (code d)
 
+-- the same, where it is known which of the two that is
+pub of_code : {on : Basis} (k b : Bool) (n : ℕ) (code : Code) → k ≡ b → IsCode on n k code → IsCode on n b code
+of_code {on} k b n code e c = subst (λ x. IsCode on n x code) e c
+
 -- a promoted constant stands in a register
 no_constant : (b : Bool) (e : TExpr) → is_kept e ≡ false → word_of e ≡ None
 unfolding word_of is_kept
 no_constant b (T.Promote' ty p operand) h = cc
 no_constant b (T.Brackets' ty p inner) h = no_constant b inner h
 no_constant b _ h = refl
-
--- the same where it is known where the value stands
-pub of_code : {on : Basis} (k b : Bool) (n : ℕ) (code : Code) → k ≡ b → IsCode on n k code → IsCode on n b code
-of_code {on} k b n code e c = subst (λ x. IsCode on n x code) e c
 
 -- parallel operands
 spread_into_by : {on : Basis} (w : Option ℕ) (code : Code) (n : ℕ) (k : Bool) (dest : Field) (d : Draft) → IsCode on n k code →
