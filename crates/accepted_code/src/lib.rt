@@ -1,0 +1,17 @@
+//! The program of each accepted text has code, and its image has all of it.
+//! Readers find the laws here by name.
+#![tactic(auto)]
+
+ghost use Rattle.accepted_code.specs.Laws.{AcceptedProgramsHaveCode, ImagesHaveEveryUnit};
+
+/// The program of each accepted text has code: that of each function that it reaches, whichever numbers
+/// stand in registers.
+pub fn accepted_program_has_code()
+    ensures { AcceptedProgramsHaveCode }
+{}
+
+/// An image that the compiler makes of an accepted text has a unit for each instance of the text's program:
+/// none is left out.
+pub fn image_has_every_unit()
+    ensures { ImagesHaveEveryUnit }
+{}
