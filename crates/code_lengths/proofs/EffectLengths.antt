@@ -35,7 +35,7 @@ use Rattle.code_lengths.specs.Lowerable.{GivesValue, IsLowerable, IsValueFor}
 use Rattle.code_lengths.specs.Lowerable as L
 use Rattle.code_lengths.specs.Naming.{NamesVariables}
 use Rattle.code_lengths.specs.Ready.{Arrives, HasCode}
-use Rattle.code_lengths.specs.Shaped.{HasNoShape, HasShape, IsShaped}
+use Rattle.code_lengths.specs.Shaped.{HasShape, IsShaped}
 use Rattle.code_lengths.proofs.Drafting.{nothing_more, IsAt, at_stands, as_it_was, resized, and_instr, register_grows, entry_grows}
 use Rattle.code_lengths.proofs.Basis.{Basis, GrowsOn, standing_as, ready, if_ready, plainly, makes, sized, bind, weaker, in_register_grows, in_field_grows, either_grows}
 use Rattle.code_lengths.proofs.Pieces.{InRegister, InField, word_in_grows, put_value_grows, operated_more, negated_grows}
@@ -48,7 +48,7 @@ use Rattle.code_lengths.proofs.ExpressionLengths.{Comes, given_code, operand_com
 pub next_comes : (t : Typed) (i : Instance) (l : Layout) (n bits : ℕ) (quiet : Bool) (e : TExpr) → HasCode t i n e → Comes t i l n e (used_length_of t l bits quiet e) (next_of t l bits quiet e)
 next_comes t i l n bits quiet e c = operand_comes t i l n bits quiet e _ _ c.shaped c.lowerable c.names (value_grows t i l n bits e c.shaped c.lowerable c.names)
 
-pub next_code : (t : Typed) (i : Instance) (l : Layout) (n bits : ℕ) (quiet : Bool) (e : TExpr) → HasCode t i n e → GivesValue t e → IsCode (ready t i l n) (used_length_of t l bits quiet e) (is_kept e) (next_of t l bits quiet e)
+next_code : (t : Typed) (i : Instance) (l : Layout) (n bits : ℕ) (quiet : Bool) (e : TExpr) → HasCode t i n e → GivesValue t e → IsCode (ready t i l n) (used_length_of t l bits quiet e) (is_kept e) (next_of t l bits quiet e)
 next_code t i l n bits quiet e c g = given_code t i l n e _ _ g (next_comes t i l n bits quiet e c)
 
 next_at : (k : Bool) (t : Typed) (i : Instance) (l : Layout) (n bits : ℕ) (quiet : Bool) (e : TExpr) → HasCode t i n e → GivesValue t e → is_kept e ≡ k → IsCode (ready t i l n) (used_length_of t l bits quiet e) k (next_of t l bits quiet e)
@@ -65,7 +65,7 @@ abbrev pub Suits : Bool → TExpr → Type 0
 Suits true e = is_kept e ≡ true
 Suits false e = HasShape (type_of e)
 
-pub suits_by : (k : Bool) (e : TExpr) → (k ≡ true → is_kept e ≡ true) → (k ≡ false → HasShape (type_of e)) → Suits k e
+suits_by : (k : Bool) (e : TExpr) → (k ≡ true → is_kept e ≡ true) → (k ≡ false → HasShape (type_of e)) → Suits k e
 suits_by true e f g = f refl
 suits_by false e f g = g refl
 
@@ -77,14 +77,7 @@ through : (k : Bool) (e inner : TExpr) → is_kept e ≡ is_kept inner → is_no
 through true e inner a b u = sym a ∙ u
 through false e inner a b u = sym b ∙ u
 
--- a scalar value stands in a register, and what stands in none has a shape
-pub scalar_kept : (e : TExpr) → IsShaped e → HasNoShape (type_of e) → is_kept e ≡ true
-unfolding is_kept IsShaped
-scalar_kept (T.Promote' ty p operand) h s = refl
-scalar_kept (T.Convert' ty p operand) h s = scalar_kept operand h.1 (sym h.0 ∙ s)
-scalar_kept (T.Brackets' ty p inner) h s = scalar_kept inner h.1 (sym h.0 ∙ s)
-scalar_kept _ h s = s
-
+-- what stands in no register has a shape
 shape_of_field : (e : TExpr) → IsShaped e → is_kept e ≡ false → HasShape (type_of e)
 unfolding is_kept IsShaped
 shape_of_field (T.Promote' ty p operand) h k = cc
@@ -392,7 +385,7 @@ kept_unless_folded true true c h e = refl
 kept_unless_folded true false c h e = cc
 kept_unless_folded false b c h e = cc
 
-pub bits_of_own : (k : Bool) (elem : Elem) (dest : Out) → IsAt k elem.bits dest → bits_for dest ≡ own_bits k elem
+bits_of_own : (k : Bool) (elem : Elem) (dest : Out) → IsAt k elem.bits dest → bits_for dest ≡ own_bits k elem
 unfolding bits_for own_bits
 bits_of_own true elem (O.Scalar r) s = refl
 bits_of_own false elem (O.Field f) s = s.1
