@@ -1,9 +1,8 @@
 -- Lengths, as the laws say them.
-use Rattle.std.proofs.Common.{ℕ, ◌+◌, true, false, List, [], length, length-append, refl, ap, ◌∙◌}
+use Rattle.std.proofs.Common.{ℕ, ◌+◌, true, false, [], length, length-append, refl, ap, ◌∙◌}
 use mathlib.Core.Former.{Count}
-use Rattle.std.specs.List.{AllZip}
 use Rattle.cstar_tree.specs.declared.typed.Instance.{Instance}
-use Rattle.cstar_tree.specs.declared.typed.TExpr.{Row_of-TExpr, end_of-TExpr, more_of-TExpr, items-the_row-TExpr}
+use Rattle.cstar_tree.specs.declared.typed.TExpr.{Row_of-TExpr, end_of-TExpr, more_of-TExpr}
 use Rattle.cstar_tree.specs.declared.typed.Typed.{Typed}
 use Rattle.lower_base.specs.declared.emit.Out.TheVariants as O
 use Rattle.lower_base.specs.Drafts.{here}

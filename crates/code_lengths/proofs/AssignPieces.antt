@@ -1,6 +1,6 @@
--- The code of assignments and steps, over the code of their parts, is as long as described.
+-- Assignments and steps have code, over that of their parts, and it is as long as described.
 use denote.Hole.Carrier
-use Rattle.std.proofs.Common.{◌≡◌, ℕ, ◌+◌, Bool, true, false, List, [], ◌∷◌, Option, Some, None, IfSome, IsSome, is_none, is_some, slice_get, unwrap_or, ◌⊎◌, inl, inr, refl, sym, ap, ◌∙◌, subst, arith, if◌then◌else◌}
+use Rattle.std.proofs.Common.{◌≡◌, ℕ, ◌+◌, Bool, true, false, [], ◌∷◌, Option, Some, None, IfSome, IsSome, is_none, is_some, slice_get, unwrap_or, ◌⊎◌, inl, inr, refl, sym, ap, ◌∙◌, subst, arith, if◌then◌else◌}
 use Rattle.cstar_base.specs.declared.operators.Op.{Op}
 use Rattle.cstar_base.specs.declared.operators.Place.{Place}
 use Rattle.cstar_tree.specs.declared.syntax.AssignOp.{AssignOp}
@@ -19,7 +19,7 @@ use Rattle.cstar_tree.specs.Typed.{type_of}
 use Rattle.paris_code.specs.declared.operands.Field.{Field}
 use Rattle.lower_base.specs.declared.emit.Out.{Out}
 use Rattle.lower_base.specs.declared.emit.Out.TheVariants as O
-use Rattle.lower_base.specs.Drafts.{Draft, Made, fresh_for, in_register}
+use Rattle.lower_base.specs.Drafts.{Draft, Made, in_register}
 use Rattle.lower_base.specs.Layouts.{Layout, elements_of}
 use Rattle.lower_comm.specs.Messages.{communicated, assigned}
 use Rattle.lower_comm.specs.Messages as M
@@ -39,10 +39,10 @@ use Rattle.code_lengths.specs.Naming.{HasItsShape, NamesVariables}
 use Rattle.code_lengths.specs.Ready.{IsReady}
 use Rattle.code_lengths.specs.Shaped.{HasShape}
 use Rattle.code_lengths.proofs.Drafting.{nothing_more, IsAt, at_stands, field_grows, fresh_at, as_it_was, and_instr, register_grows, entry_grows}
-use Rattle.code_lengths.proofs.Basis.{Basis, GrowsOn, ready, if_ready, plainly, makes, sized, behind, bind, weaker, in_register_grows, in_field_grows, lowest_grows, fresh_as}
+use Rattle.code_lengths.proofs.Basis.{Basis, GrowsOn, standing_as, ready, if_ready, plainly, makes, sized, behind, bind, weaker, in_register_grows, in_field_grows, lowest_grows, fresh_as}
 use Rattle.code_lengths.proofs.Pieces.{InRegister, InField, word_in_grows, in_place_grows, operated_more}
 use Rattle.code_lengths.proofs.Communication.{IsAddress, one_part_stored_grows, sent_grows, folded_length, folded_onto_grows}
-use Rattle.code_lengths.proofs.SpotPieces.{Fits, loaded_grows, stored_grows, index_checked_grows}
+use Rattle.code_lengths.proofs.SpotPieces.{Fits, is_address, loaded_grows, stored_grows, index_checked_grows}
 use Rattle.code_lengths.proofs.ValuePieces.{IsCode, of_code, spread_by_grows, IsRight, before_length, after_length, right_by_grows, right_operated_grows, right_together}
 
 -- is the bare target scalar
@@ -79,7 +79,7 @@ pub read_to_grows : {on : Basis} (k : Bool) (bits : ℕ) (t : Typed) (l : Layout
     GrowsOn on d (n + load_length t l bits e) (Stands k) (read_to t l e spot dest d)
 unfolding read_to
 read_to_grows k bits t l e spot dest n d g f c s =
-    bind (Fits (bare e)) _ d n _ _ _ (c d) (λ there after h. weaker (Stands (is_single e)) (Stands k) after _ _ (λ v q. subst (λ b. Stands b v) g q)
+    bind (Fits (bare e)) _ d n _ _ _ (c d) (λ there after h. weaker (Stands (is_single e)) (Stands k) after _ _ (λ v q. standing_as _ k v g q)
     (f bits there dest after h (subst (λ b. IsAt b bits dest) (sym g) s)))
 
 pub read_by_grows : {on : Basis} (t : Typed) (l : Layout) (e : TExpr) (ty : ValueType) (bits : ℕ) (spot : Draft → Made Spot) (n : ℕ) (d : Draft) → is_single e ≡ is_none ty.shape → Reads on t l e → IsSpotCode on n (bare e) spot →
@@ -93,15 +93,12 @@ store_grows : {on : Basis} (t : Typed) (l : Layout) (e target : TExpr) (spot : S
     GrowsOn on d (store_length t l target) (Stands (is_single target)) (stored t l e spot v d)
 store_grows t l e target spot v d g h s = weaker (λ w. w ≡ v) _ d _ _ (λ w q. subst (λ x. Stands (is_single target) x) (sym q) s) (g spot v d h s)
 
-of_target : (k b : Bool) (v : Out) → k ≡ b → Stands b v → Stands k v
-of_target k b v e s = subst (λ x. Stands x v) (sym e) s
-
 -- an assignment without an operator
 set_grows : {on : Basis} (t : Typed) (l : Layout) (e target : TExpr) (k : Bool) (spot : Draft → Made Spot) (code : Code) (n m : ℕ) (d : Draft) → is_single target ≡ k → Writes on t l e target → IsSpotCode on n (bare target) spot → IsCode on m k code →
     GrowsOn on d (n + (m + store_length t l target)) (Stands (is_single target)) (set_by t l e spot code d)
 unfolding set_by
 set_grows t l e target k spot code n m d f g a c =
-    bind (Fits (bare target)) _ d n _ _ _ (a d) (λ there between h. bind (Stands k) _ between m _ _ _ (c between) (λ v after s. store_grows t l e target there v after g h (of_target _ k v f s)))
+    bind (Fits (bare target)) _ d n _ _ _ (a d) (λ there between h. bind (Stands k) _ between m _ _ _ (c between) (λ v after s. store_grows t l e target there v after g h (standing_as k _ v (sym f) s)))
 
 swapped : (a b c : ℕ) → a + (b + c) ≡ (a + c) + b
 swapped a b c = omega arith
@@ -140,10 +137,10 @@ register_updated_grows t l e target op signed place dest there v d sh f g h s =
     assoc : (a b c : ℕ) → (a + b) + c ≡ a + (b + c)
     assoc a b c = omega arith
 
-abbrev pub Folds : Basis → Typed → Layout → TExpr → ℕ → Type 0
+abbrev Folds : Basis → Typed → Layout → TExpr → ℕ → Type 0
 Folds on t l e n = (v : Out) (old dest : ℕ) (d : Draft) → InField v → GrowsOn on d n InRegister (communicated t l e O.Nothing (v ∷ O.Scalar old ∷ []) (O.Scalar dest) d)
 
-pub assign_folds : {on : Basis} (t : Typed) (l : Layout) (ty : ValueType) (place : Place) (op : AssignOp) (p : _) (target : TExpr) (q : _) (value : TExpr) → Folds on t l (T.Assign' ty place op p target q value) (folded_length (assign_op_of op) value)
+assign_folds : {on : Basis} (t : Typed) (l : Layout) (ty : ValueType) (place : Place) (op : AssignOp) (p : _) (target : TExpr) (q : _) (value : TExpr) → Folds on t l (T.Assign' ty place op p target q value) (folded_length (assign_op_of op) value)
 unfolding communicated assigned out-TExpr Carrier.out
 assign_folds t l ty place op p target q value v old dest d s = plainly (folded_onto_grows (assign_op_of op) value (type_of target).elem v (O.Scalar old) (O.Scalar dest) d s refl refl)
 
@@ -308,9 +305,9 @@ pub reads : (t : Typed) (i : Instance) (l : Layout) (n : ℕ) (target : TExpr) �
 reads t i l n target v bits spot dest d h s = if_ready (λ r. loaded_grows (is_single target) bits t i l n target spot dest d r v refl h s)
 
 -- where left indexes lead
-address_of : (b : TExpr) (at : Out) → Fits b (S.Indexed at) → IsAddress b at × Stands (is_none (type_of b).shape) at
-address_of (T.LeftIndex' ty place p indexes x of) at h = (h, h)
-address_of _ at h = absurd h
+address_kind : (b : TExpr) (at : Out) → IsAddress b at → Stands (is_none (type_of b).shape) at
+address_kind (T.LeftIndex' ty place p indexes x of) at h = h
+address_kind _ at h = absurd h
 
 one_address : (b : TExpr) (at : Out) → is_sent b ≡ false → Fits b (S.Indexed at) → is_none (type_of b).shape ≡ true
 unfolding is_sent
@@ -334,9 +331,9 @@ pub assign_writes : (t : Typed) (i : Instance) (l : Layout) (n : ℕ) (ty : Valu
 unfolding communicated is_send out-TExpr Carrier.out
 assign_writes t i l n ty place op p target q value names single spot v d h s =
     if_ready (λ r. stored_grows t i l n (T.Assign' ty place op p target q value) target spot v d r names h s (λ at fits.
-    let a = address_of (bare target) at fits in
+    let a = is_address (bare target) at fits in
     let one = one_address (bare target) at single fits in
-    assigned_there t i l n target (assign_op_of op) value at v d r names a.0 (subst (λ b. Stands b at) one a.1) (subst (λ b. Stands b v) one s)))
+    assigned_there t i l n target (assign_op_of op) value at v d r names a (standing_as _ true at one (address_kind (bare target) at a)) (standing_as _ true v one s)))
 
 stepped_there : (t : Typed) (i : Instance) (l : Layout) (n : ℕ) (target : TExpr) (at v : Out) (d : Draft) → IsReady t i l n d → NamesVariables t i n target → IsAddress (bare target) at → InRegister at → InRegister v →
     Grows d 1 Anything (in_register at (λ processor. M.stored t l target processor (v ∷ []) d))
@@ -350,10 +347,10 @@ pub step_writes : (t : Typed) (i : Instance) (l : Layout) (n : ℕ) (ty : ValueT
 unfolding communicated is_send out-TExpr Carrier.out
 step_writes t i l n ty op order p target names single spot v d h s =
     if_ready (λ r. stored_grows t i l n (T.Step' ty op order p target) target spot v d r names h s (λ at fits.
-    let a = address_of (bare target) at fits in
+    let a = is_address (bare target) at fits in
     let one = one_address (bare target) at single fits in
-    stepped_there t i l n target at v d r names a.0 (subst (λ b. Stands b at) one a.1) (subst (λ b. Stands b v) one s)))
+    stepped_there t i l n target at v d r names a (standing_as _ true at one (address_kind (bare target) at a)) (standing_as _ true v one s)))
 
 pub assign_sends : (t : Typed) (i : Instance) (l : Layout) (n : ℕ) (ty : ValueType) (place : Place) (op : AssignOp) (p : _) (target : TExpr) (q : _) (value : TExpr) → NamesVariables t i n target → Sends (ready t i l n) t l (T.Assign' ty place op p target q value) target (send_length op)
 unfolding communicated assigned out-TExpr Carrier.out
-assign_sends t i l n ty place op p target q value names f v d fits s = if_ready (λ r. sent_grows t i l n target (O.Field f) op _ f v d r names (address_of (bare target) (O.Field f) fits).0 s)
+assign_sends t i l n ty place op p target q value names f v d fits s = if_ready (λ r. sent_grows t i l n target (O.Field f) op _ f v d r names (is_address (bare target) (O.Field f) fits) s)

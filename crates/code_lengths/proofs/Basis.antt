@@ -62,6 +62,10 @@ in_field_grows Q d n v next at f = record { grows = λ h. D.in_field_grows Q d n
 pub lowest_grows : {on : Basis} (k : Bool) (bits : ℕ) (d : Draft) (n : ℕ) (made : Made Out) → GrowsOn on d n (Stands k) made → GrowsOn on d n (Stands k) (lowest bits made)
 lowest_grows k bits d n made g = record { grows = λ h. D.lowest_grows k bits d n made (g.grows h) }
 
+-- where a value stands, said otherwise
+pub standing_as : (k b : Bool) (v : Out) → k ≡ b → Stands k v → Stands b v
+standing_as k b v e s = subst (λ x. Stands x v) e s
+
 -- a fresh place for a value that is scalar or parallel
 pub fresh_as : {on : Basis} (k : Bool) (shape : Option ℕ) (bits : ℕ) (d : Draft) → is_none shape ≡ k → GrowsOn on d 0 (IsAt k bits) (fresh_for shape bits d)
 fresh_as k shape bits d h = plainly (subst (λ b. Grows d 0 (IsAt b bits) (fresh_for shape bits d)) h (D.fresh_at shape bits d))

@@ -1,6 +1,6 @@
--- The code of a value that goes to a variable, of a test, and of an expression whose value is not
--- used, is as long as described.
-use Rattle.std.proofs.Common.{◌≡◌, ℕ, ◌+◌, Bool, true, false, not, ◌&&◌, ◌||◌, ◌==◌, [], Option, Some, None, is_none, refl, sym, ap, ◌∙◌, subst, arith, if◌then◌else◌}
+-- A value that goes to a variable, a test, and an expression whose value is not used have code, and it is
+-- as long as described.
+use Rattle.std.proofs.Common.{◌≡◌, ℕ, ◌+◌, Bool, true, false, not, ◌&&◌, ◌||◌, ◌==◌, [], Option, Some, None, is_none, refl, sym, ap, ◌∙◌, arith, if◌then◌else◌}
 use Rattle.cstar_base.specs.declared.elem.Elem.{Elem}
 use Rattle.cstar_base.specs.declared.operators.Op.{Op}
 use Rattle.cstar_base.specs.declared.operators.Place.{Place}
@@ -29,7 +29,7 @@ use Rattle.lower_expr.specs.Joined.{joins}
 use Rattle.lower_expr.specs.Lengths.{joined_length_of, length_of, used_length_of, test_put_length, spot_length_of, load_length, load_length_of, bare, arm_length_of, choice_length, tested_length, tested_by_length, operate_length, reduce_length, unary_length, right_length, binary_length}
 use Rattle.lower_expr.specs.Operands.{is_plus, is_quiet, own_of, in_place, operand_length}
 use Rattle.lower_expr.specs.Steps.{is_kept, has_truth, has_word, register_word, word_of, word_for, word_put, negated}
-use Rattle.lower_expr.specs.Values.{Code, value_of, next_of, tested, truth_put, extended, register_binary_of, field_binary_of, condition_by, condition_of, joined_of, arm_of, scalar_choice_of}
+use Rattle.lower_expr.specs.Values.{Code, value_of, next_of, tested, register_binary_of, field_binary_of, condition_by, condition_of, joined_of, arm_of, scalar_choice_of}
 use Rattle.code_lengths.specs.Growth.{Extended, Stands, Anything}
 use Rattle.code_lengths.specs.Lowerable.{GivesValue, IsLowerable, IsValueFor}
 use Rattle.code_lengths.specs.Lowerable as L
@@ -37,7 +37,7 @@ use Rattle.code_lengths.specs.Naming.{NamesVariables}
 use Rattle.code_lengths.specs.Ready.{Arrives, HasCode}
 use Rattle.code_lengths.specs.Shaped.{HasNoShape, HasShape, IsShaped}
 use Rattle.code_lengths.proofs.Drafting.{nothing_more, IsAt, at_stands, as_it_was, resized, and_instr, register_grows, entry_grows}
-use Rattle.code_lengths.proofs.Basis.{Basis, GrowsOn, ready, if_ready, plainly, makes, sized, bind, weaker, in_register_grows, in_field_grows, either_grows}
+use Rattle.code_lengths.proofs.Basis.{Basis, GrowsOn, standing_as, ready, if_ready, plainly, makes, sized, bind, weaker, in_register_grows, in_field_grows, either_grows}
 use Rattle.code_lengths.proofs.Pieces.{InRegister, InField, word_in_grows, put_value_grows, operated_more, negated_grows}
 use Rattle.code_lengths.proofs.ValuePieces.{IsCode, IsCondition, IsRight, IsTest, of_code, joined_fields, truth_put_grows, extended_grows, right_by_grows, right_operated_grows, right_together, registers_grow, fields_grow, word_put_grows, arm_grows, scalar_choice_grows, tested_by_grows, joined_by_grows}
 use Rattle.code_lengths.proofs.OperandPieces.{OwnFits, OwnNamed, choice_kept, not_held, own_named, own_target_fits, standing_grows}
@@ -100,7 +100,7 @@ own_bits_at k (O.Field f) h = (h, refl)
 own_bits_at k O.Nothing h = h
 
 -- a value moved there
-pub moved_grows : (k : Bool) (t : Typed) (i : Instance) (l : Layout) (n : ℕ) (dest : Out) (e : TExpr) (d : Draft) → Stands k dest → HasCode t i n e → GivesValue t e → (k ≡ true → is_kept e ≡ true) →
+moved_grows : (k : Bool) (t : Typed) (i : Instance) (l : Layout) (n : ℕ) (dest : Out) (e : TExpr) (d : Draft) → Stands k dest → HasCode t i n e → GivesValue t e → (k ≡ true → is_kept e ≡ true) →
     GrowsOn (ready t i l n) d (used_length_of t l (bits_for dest) true e + 1) (Stands k) (moved t l dest e d)
 unfolding moved
 moved_grows k t i l n dest e d s c g f =
@@ -216,9 +216,6 @@ gone_grows k P dest n made d s g =
 sides : (k : Bool) (e : TExpr) → Suits k e → is_kept e ≡ is_none (type_of e).shape → k ≡ is_none (type_of e).shape
 sides true e u h = sym u ∙ h
 sides false e u h = sym u
-
-standing_as : (k b : Bool) (v : Out) → k ≡ b → Stands k v → Stands b v
-standing_as k b v e s = subst (λ x. Stands x v) e s
 
 one_more_unless : (b : Bool) (n : ℕ) → (if b then n else n + 1) ≡ n + (if b then 0 else 1)
 one_more_unless true n = omega arith

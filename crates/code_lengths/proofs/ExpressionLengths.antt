@@ -1,4 +1,5 @@
--- The code of every expression is as long as described, and its value stands where the expression says.
+-- Every expression has code, in a unit that is ready for it: it is as long as described, and the value
+-- stands where the expression says.
 use denote.Hole.Carrier
 use Rattle.std.proofs.Common.{◌≡◌, ℕ, suc, ◌+◌, Bool, true, false, ◌&&◌, List, [], ◌∷◌, ◌++◌, length, Option, Some, None, is_none, is_some, slice_get, refl, sym, ap, ◌∙◌, subst, arith, if◌then◌else◌, append_assoc}
 use Rattle.std.specs.List.{All, AllZip}
@@ -17,7 +18,6 @@ use Rattle.cstar_tree.specs.declared.typed.Variable.{Variable}
 use Rattle.cstar_tree.specs.Conversions.{parallel}
 use Rattle.cstar_tree.specs.Formats.{conversions}
 use Rattle.cstar_tree.specs.Typed.{type_of}
-use Rattle.paris_code.specs.declared.operands.Field.{Field}
 use Rattle.lower_base.specs.declared.emit.Out.{Out}
 use Rattle.lower_base.specs.declared.emit.Out.TheVariants as O
 use Rattle.lower_base.specs.Drafts.{Draft, Made, Makes, then_make, from, fresh_for}
@@ -33,16 +33,16 @@ use Rattle.lower_expr.specs.Operands.{are_quiet, operand_by, operand_length}
 use Rattle.lower_expr.specs.Positions.{known_position}
 use Rattle.lower_expr.specs.Spots.{variable_spot}
 use Rattle.lower_expr.specs.Steps.{has_truth, is_kept, pieces_printed}
-use Rattle.lower_expr.specs.Values.{Code, Codes, Test, cast_from, condition_by, register_cast_by, value_of, truth_of, spot_of, values_of, element_spot, indexed_spot, news_to, read_to, read_by, index_read_to, index_read_by, message_to, message_by, call_to}
+use Rattle.lower_expr.specs.Values.{Code, Codes, Test, cast_from, condition_by, register_cast_by, value_of, truth_of, spot_of, values_of, element_spot, indexed_spot, news_to, read_by, index_read_to, index_read_by, message_to, message_by, call_to}
 use Rattle.code_lengths.specs.Growth.{Grows, Stands, Anything}
 use Rattle.code_lengths.specs.Lowerable.{AreLowerable, Calls, GivesValue, IsLowerable}
 use Rattle.code_lengths.specs.Lowerable as L
 use Rattle.code_lengths.specs.Naming.{AllNameVariables, HasBits, HasItsShape, HasVariable, NamesVariables, plain}
 use Rattle.code_lengths.specs.Ready.{Arrives}
-use Rattle.code_lengths.specs.Shaped.{HasNoShape, HasShape, IsShaped, IsTarget, AreShaped}
+use Rattle.code_lengths.specs.Shaped.{HasShape, IsShaped, IsTarget, AreShaped}
 use Rattle.code_lengths.proofs.Drafting.{nothing_more, IsAt, append_nothing, at_stands, fresh_at, fresh_grows, as_it_was, and_instr}
 use Rattle.code_lengths.proofs.Drafting as D
-use Rattle.code_lengths.proofs.Basis.{Basis, GrowsOn, ready, if_ready, once_ready, plainly, makes, sized, bind, weaker, in_register_grows, in_field_grows, lowest_grows, fresh_as, either_grows}
+use Rattle.code_lengths.proofs.Basis.{Basis, GrowsOn, standing_as, ready, if_ready, once_ready, plainly, makes, sized, bind, weaker, in_field_grows, lowest_grows, fresh_as, either_grows}
 use Rattle.code_lengths.proofs.Readiness.{arrives, arrived, variable_field_grows}
 use Rattle.code_lengths.proofs.Pieces.{InRegister, InField, constant_grows, word_in_grows, printed_grows}
 use Rattle.code_lengths.proofs.Communication.{located_grows, read_by_news_grows, grid_check_more, grid_checked, reduced_grows, scanned_grows, segment_field_grows, enumerated_grows}
@@ -62,7 +62,7 @@ Comes t i l n e m code = (d : Draft) → GrowsOn (ready t i l n) d m (Arrives t 
 
 -- a value that stands where its expression says arrives, and one that is given stands there
 as_said : {on : Basis} (t : Typed) (k : Bool) (e : TExpr) (d : Draft) (m : ℕ) (made : Made Out) → k ≡ is_kept e → GrowsOn on d m (Stands k) made → GrowsOn on d m (Arrives t e) made
-as_said t k e d m made h g = weaker (Stands k) (Arrives t e) d m made (λ v s. arrives t e v (subst (λ x. Stands x v) h s)) g
+as_said t k e d m made h g = weaker (Stands k) (Arrives t e) d m made (λ v s. arrives t e v (standing_as k _ v h s)) g
 
 pub given_code : (t : Typed) (i : Instance) (l : Layout) (n : ℕ) (e : TExpr) (m : ℕ) (code : Code) → GivesValue t e → Comes t i l n e m code → IsCode (ready t i l n) m (is_kept e) code
 given_code t i l n e m code g c d = weaker (Arrives t e) (Stands (is_kept e)) d m _ (λ v a. arrived t e v g a) (c d)
@@ -72,7 +72,7 @@ pub operand_comes : (t : Typed) (i : Instance) (l : Layout) (n bits : ℕ) (quie
 operand_comes t i l n bits quiet e code m h w v c d =
     if_ready (λ r. operand_grows t i l n bits quiet e code m d (record { shaped = h; lowerable = w; names = v }) r (once_ready (c d) r))
 
-pub operand_code : (t : Typed) (i : Instance) (l : Layout) (n bits : ℕ) (quiet : Bool) (e : TExpr) (code : Code) (m : ℕ) → IsShaped e → IsLowerable t e → NamesVariables t i n e → GivesValue t e → Comes t i l n e m code →
+operand_code : (t : Typed) (i : Instance) (l : Layout) (n bits : ℕ) (quiet : Bool) (e : TExpr) (code : Code) (m : ℕ) → IsShaped e → IsLowerable t e → NamesVariables t i n e → GivesValue t e → Comes t i l n e m code →
     IsCode (ready t i l n) (operand_length l bits m quiet e) (is_kept e) (operand_by t l bits code quiet e)
 operand_code t i l n bits quiet e code m h w v g c = given_code t i l n e _ _ g (operand_comes t i l n bits quiet e code m h w v c)
 
@@ -228,7 +228,7 @@ unfolding index_read_to load_length load_length_of bare NamesVariables
 index_read_to_grows k t i l n bits ty place p indexes x of spot m dest d e v c s =
     either_grows (Stands k) (goes_by_news (T.LeftIndex' ty place p indexes x of)) d _ _ _ _
     (λ g. let f : k ≡ false = sym e ∙ news_shape ty place p indexes x of g in
-    weaker InField (Stands k) d _ _ (λ w q. subst (λ b. Stands b w) (sym f) q) (news_to_grows t i l n bits ty place p indexes x of dest d v.0 (subst (λ b. IsAt b bits dest) f s)))
+    weaker InField (Stands k) d _ _ (λ w q. standing_as false k w (sym f) q) (news_to_grows t i l n bits ty place p indexes x of dest d v.0 (subst (λ b. IsAt b bits dest) f s)))
     (λ _. read_to_grows k bits t l (T.LeftIndex' ty place p indexes x of) spot dest m d e (reads t i l n (T.LeftIndex' ty place p indexes x of) v) c s)
 
 left_index_value : (t : Typed) (i : Instance) (l : Layout) (n : ℕ) (ty : ValueType) (bits : ℕ) (place : Place) (p : _) (indexes : Row_of-TExpr _) (x : Variable) (of : ℕ) (es : List TExpr) (codes : Codes) (m : ℕ) (d : Draft) → NamesVariables t i n (T.LeftIndex' ty place p indexes x of) → AreCodes (ready t i l n) t es m codes →
@@ -247,7 +247,7 @@ all_printed t (e ∷ es) [] a r = absurd a
 all_printed t (e ∷ es) (v ∷ vs) a r =
     let first = All-head (L.InRegister t) e es r in
     let rest = all_printed t es vs a.1 (All-tail (L.InRegister t) e es r) in
-    (All-cons InRegister v vs (subst (λ b. Stands b v) first.1 (arrived t e v first.0 a.0)) rest.0, ap suc rest.1)
+    (All-cons InRegister v vs (standing_as _ true v first.1 (arrived t e v first.0 a.0)) rest.0, ap suc rest.1)
 
 printed_value : {on : Basis} (t : Typed) (pieces : List Piece) (es : List TExpr) (codes : Codes) (n : ℕ) (d : Draft) → conversions pieces ≡ length es → All (L.InRegister t) es → AreCodes on t es n codes →
     GrowsOn on d (length pieces + n) (λ (v : Out). v ≡ O.Nothing) (then_make (codes [] d) (λ given after. pieces_printed pieces given after))
@@ -308,8 +308,8 @@ converted_grows : {on : Basis} (t : Typed) (l : Layout) (bits : ℕ) (ty : Value
     (if is_kept e then register_cast_by ty.elem (code bits) d else cast_from t l bits ty e truth code d)
 converted_grows t l bits ty e truth code m own d c o f =
     either_grows (Stands (is_kept e)) (is_kept e) d _ _ _ _
-    (λ k. weaker InRegister _ d _ _ (λ v s. subst (λ b. Stands b v) (sym k) s) (register_cast_grows ty.elem (code bits) (own bits) d (of_code (is_kept e) true _ _ k (c bits))))
-    (λ k. weaker InField _ d _ _ (λ v s. subst (λ b. Stands b v) (sym k) s) (cast_grows t l bits ty e truth code m own d c o (f k)))
+    (λ k. weaker InRegister _ d _ _ (λ v s. standing_as true _ v (sym k) s) (register_cast_grows ty.elem (code bits) (own bits) d (of_code (is_kept e) true _ _ k (c bits))))
+    (λ k. weaker InField _ d _ _ (λ v s. standing_as false _ v (sym k) s) (cast_grows t l bits ty e truth code m own d c o (f k)))
 
 -- an assignment that sends is nowhere, and neither is `printf`
 sent_nowhere : (t : Typed) (ty : ValueType) (place : Place) (op : AssignOp) (p : _) (target : TExpr) (q : _) (value : TExpr) → is_send target ≡ true → Arrives t (T.Assign' ty place op p target q value) O.Nothing
@@ -326,7 +326,7 @@ mutual
   pub value_grows : (t : Typed) (i : Instance) (l : Layout) (n bits : ℕ) (e : TExpr) → IsShaped e → IsLowerable t e → NamesVariables t i n e → Comes t i l n e (length_of t l bits e) (value_of t l bits e)
   value_grows t i l n bits (T.Assign' ty place op p target q value) h w v d =
       assign_grows (Arrives t (T.Assign' ty place op p target q value)) t l ty bits place op p target q value _ _ _ _ d (bare_type target h.2) w.1 (λ s. sent_nowhere t ty place op p target q value s)
-      (λ s x at. arrives t (T.Assign' ty place op p target q value) x (subst (λ b. Stands b x) (ap (λ (y : ValueType). is_none y.shape) (bare_type target h.2) ∙ ap is_none (sym h.0)) at))
+      (λ s x at. arrives t (T.Assign' ty place op p target q value) x (standing_as (is_single target) _ x (ap (λ (y : ValueType). is_none y.shape) (bare_type target h.2) ∙ ap is_none (sym h.0)) at))
       (reads t i l n target v.0) (λ s. assign_writes t i l n ty place op p target q value v.0 s) (assign_sends t i l n ty place op p target q value v.0) (spot_grows t i l n target h.2 w.2 v.0)
       (given_code t i l n value _ _ w.0 (value_grows t i l n _ value h.3 w.3 v.1)) (λ act. operand_code t i l n _ true value _ _ h.3 w.3 v.1 w.0 (value_grows t i l n _ value h.3 w.3 v.1))
   value_grows t i l n bits (T.Choice' ty p test q first r second) h w v d =

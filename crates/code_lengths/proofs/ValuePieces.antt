@@ -1,4 +1,4 @@
--- The code of the forms of expressions, over the code of their parts, is as long as described.
+-- The forms of expressions have code, over that of their parts, and it is as long as described.
 use Rattle.std.proofs.Common.{◌≡◌, ℕ, suc, ◌+◌, Bool, true, false, not, ◌&&◌, ◌||◌, ◌==◌, nat_lt, List, [], ◌∷◌, length, Option, Some, None, is_none, is_some, refl, sym, ap, ◌∙◌, subst, arith, if◌then◌else◌}
 use Rattle.cstar_base.specs.declared.elem.Elem.{Elem}
 use Rattle.cstar_base.specs.declared.operators.Op.{Op}
@@ -18,7 +18,7 @@ use Rattle.lower_base.specs.declared.emit.Out.TheVariants as O
 use Rattle.lower_base.specs.declared.operators.Machine.{Machine}
 use Rattle.lower_base.specs.declared.operators.Machine.TheVariants as M
 use Rattle.lower_base.specs.Operators.{machine_of, relates}
-use Rattle.lower_base.specs.Drafts.{Draft, Made, Makes, Fails, then_make, from, with_instr, in_register, in_field, a_field, a_flag, first_bits, fresh_for}
+use Rattle.lower_base.specs.Drafts.{Draft, Made, Makes, then_make, from, with_instr, in_register, in_field, a_field, a_flag, first_bits, fresh_for}
 use Rattle.lower_expr.specs.declared.steps.Right.{Right}
 use Rattle.lower_expr.specs.declared.steps.Right.TheVariants as R
 use Rattle.lower_expr.specs.Joined.{joins, is_flag, flag_by, flag_length, operation_of, cleared, joined}
@@ -28,7 +28,7 @@ use Rattle.lower_base.specs.Layouts.{Layout}
 use Rattle.lower_expr.specs.Operands.{is_plus}
 use Rattle.lower_expr.specs.Steps.{is_kept, has_word, register_word, word_for, word_put, word_of, word_taken, put_value, right_operated, in_a_field, negated}
 use Rattle.lower_expr.specs.Values.{Code, Test, Arm, Condition, spread_into, spread_by, right_given, right_by, coordinate_in, byte_in, casts_put, extended, truth_put, cast_by, register_cast_by, unary_by, registers_by, fields_by, spare_for, parallel_binary_by, binary_by, jump_if_decided, narrowed_by, decided, limited, logical_ended, scalar_logical_by, nonzero_tested, zero_tested, tested_by, compared, relation_by, decided_by, jumped, jumped_over, narrowed_again, limited_by, flag_of, joined_by, narrowing_by, parallel_logical_by, logical_by, arm_by, scalar_choice_by, turned_over, parallel_choice_by, choice_by}
-use Rattle.code_lengths.specs.Growth.{Extended, Grows, Stands, Anything}
+use Rattle.code_lengths.specs.Growth.{Extended, Stands, Anything}
 use Rattle.code_lengths.proofs.Drafting.{nothing_more, IsAt, field_grows, as_it_was, resized, and_instr, register_grows, entry_grows, fresh_grows}
 use Rattle.code_lengths.proofs.Basis.{Basis, GrowsOn, plainly, makes, sized, behind, bind, weaker, in_register_grows, in_field_grows, lowest_grows, fresh_as, either_grows}
 use Rattle.code_lengths.proofs.Pieces.{InRegister, InField, constant_grows, test_grows, put_value_grows, operated_more, register_in_place_grows, fields_operated_grows, word_grows, number_grows, in_a_field_grows, negated_grows}
@@ -41,16 +41,16 @@ Known u = Unit {0}
 abbrev pub IsCode : Basis → ℕ → Bool → Code → Type 0
 IsCode on n kept code = (d : Draft) → GrowsOn on d n (Stands kept) (code d)
 
+-- the same, where it is known which of the two that is
+pub of_code : {on : Basis} (k b : Bool) (n : ℕ) (code : Code) → k ≡ b → IsCode on n k code → IsCode on n b code
+of_code {on} k b n code e c = subst (λ x. IsCode on n x code) e c
+
 -- a promoted constant stands in a register
 no_constant : (b : Bool) (e : TExpr) → is_kept e ≡ false → word_of e ≡ None
 unfolding word_of is_kept
 no_constant b (T.Promote' ty p operand) h = cc
 no_constant b (T.Brackets' ty p inner) h = no_constant b inner h
 no_constant b _ h = refl
-
--- the same where it is known where the value stands
-pub of_code : {on : Basis} (k b : Bool) (n : ℕ) (code : Code) → k ≡ b → IsCode on n k code → IsCode on n b code
-of_code {on} k b n code e c = subst (λ x. IsCode on n x code) e c
 
 -- parallel operands
 spread_into_by : {on : Basis} (w : Option ℕ) (code : Code) (n : ℕ) (k : Bool) (dest : Field) (d : Draft) → IsCode on n k code →
@@ -59,7 +59,7 @@ spread_into_by : {on : Basis} (w : Option ℕ) (code : Code) (n : ℕ) (k : Bool
 spread_into_by (Some word) code n k dest d h = makes _ dest d _ 1 tt (and_instr _ d d 0 (as_it_was d))
 spread_into_by None code n k dest d h = bind (Stands k) _ d n _ _ _ (h d) (λ v after s. plainly (in_a_field_grows k v dest after s))
 
-pub spread_into_grows : {on : Basis} (code : Code) (e : TExpr) (n : ℕ) (dest : Field) (d : Draft) → IsCode on n (is_kept e) code → GrowsOn on d (spread_length n e) (λ (f : Field). Unit {0}) (spread_into code e dest d)
+spread_into_grows : {on : Basis} (code : Code) (e : TExpr) (n : ℕ) (dest : Field) (d : Draft) → IsCode on n (is_kept e) code → GrowsOn on d (spread_length n e) (λ (f : Field). Unit {0}) (spread_into code e dest d)
 unfolding spread_into spread_length
 spread_into_grows code e n dest d h = spread_into_by (word_of e) code n (is_kept e) dest d h
 
@@ -274,7 +274,7 @@ tested_by_grows false m n truth code f c d = nonzero_grows n code c d
 
 -- relations
 -- a relation is one of the machine
-abbrev pub Relates : Machine → Type 0
+abbrev Relates : Machine → Type 0
 Relates (M.Operate act) = ⊥
 Relates (M.Compare relation) = Unit {0}
 

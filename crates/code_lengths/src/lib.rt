@@ -4,8 +4,9 @@
 
 ghost use Rattle.code_lengths.specs.Agreement.{CodeEndsWhereItsLengthSays, ExpressionsAreAsLongAsDescribed, ProgramsHaveCode, StatementsAreAsLongAsDescribed, UnitsAreAsLongAsDescribed};
 
-/// The code of every expression, as a value, an operand, an effect, a test or put in its place, has
-/// as many instructions as its length says, behind those that stood.
+/// Every expression that is shaped, gives values where they are wanted and names variables that are
+/// declared has code in a unit that is ready for it, as a value, an operand, an effect, a test or put
+/// in its place: as many instructions as its length says, behind those that stood.
 pub fn expressions_are_as_long_as_described()
     ensures { ExpressionsAreAsLongAsDescribed }
 {}
