@@ -41,7 +41,7 @@ use Rattle.shaped_trees.proofs.FileShapes.{file_shaped}
 use Rattle.shaped_trees.proofs.FileShapes as files
 use Rattle.shaped_trees.proofs.KnownShapes.{behind_name, type_there}
 use Rattle.shaped_trees.proofs.LowerableFiles.{file_lowerable}
-use Rattle.shaped_trees.proofs.Meanings.{AllMean, with_name}
+use Rattle.shaped_trees.proofs.Meanings.{AllMean, functions_mean, named, with_name}
 use Rattle.shaped_trees.proofs.NamedStatements.{IsKnown, MeansVariable, at_number, first_part, info_of, parts_name, same_value, second_part}
 use Rattle.shaped_trees.proofs.NamedStatements as statements
 use Rattle.shaped_trees.proofs.ReachedShapes.{KnowsItsShapes, StandsUnder, body_shapes, instances_under}
@@ -136,20 +136,6 @@ module _ (typed : Typed) where
   MeansKnown (a_function number) = Unit {0}
   MeansKnown (a_variable v ty) = IfSome ty (λ (ty : VariableType). (i : Instance) (n : ℕ) → HasVariable typed i n v ty)
 
-  function_bound : (before : List (List ℕ)) (number : ℕ) (word : Option (List ℕ)) (rest : List Binding) → AllMean MeansKnown rest → AllMean MeansKnown (function_binding before number word ++ rest)
-  function_bound before number None rest known = known
-  function_bound before number (Some word) rest known = by_word (is_among word before)
-    where
-      by_word : (b : Bool) → AllMean MeansKnown ((if b then [] else record { word = word; meaning = a_function number } ∷ []) ++ rest)
-      by_word true = known
-      by_word false = with_name MeansKnown rest word (a_function number) known tt
-
-  functions_known : (before : List (List ℕ)) (number : ℕ) (items : List Item) → AllMean MeansKnown (function_names before number items)
-  unfolding function_names find
-  functions_known before number [] = λ word m is. elim (none-some m is) [ ]
-  functions_known before number (item ∷ items) =
-      function_bound before number (function_word item) _ (functions_known (words_of item ++ before) (number + length (function_binding before number (function_word item))) items)
-
   -- a body knows what stands for such
   abbrev KnowsFile : Placed → Type 0
   KnowsFile placed = AllMean MeansKnown placed.known
@@ -158,11 +144,6 @@ module _ (typed : Typed) where
     abbrev Knows : Known → Type 0
     Knows known = AllMean MeansKnown (known.names ++ functions)
 
-    -- where a name is new, it is added
-    named : (known more : Known) (word : List ℕ) (m : Meaning) (b : Bool) → Knows known → MeansKnown m → more.names ≡ record { word = word; meaning = m } ∷ known.names → Knows (if b then known else more)
-    named known more word m true before new is = before
-    named known more word m false before new is = subst (λ names. AllMean MeansKnown (names ++ functions)) (sym is) (with_name MeansKnown (known.names ++ functions) word m before new)
-
     shapes_known : {known : Known} {ss : List ShapeDefinition} {infos : List ShapeInfo} → TypesShapes functions known ss infos → Knows known → length known.shapes + length infos ≤ length typed.shapes.items → Knows (behind_shapes functions known ss)
     unfolding behind_shapes behind_shape
     shapes_known Y.no_shape before room = before
@@ -170,7 +151,7 @@ module _ (typed : Typed) where
         let one = one_shape functions known s in
         let first = one.0 in
         shapes_known more
-        (named known _ s.name.word (a_shape (length known.shapes)) (is_some (find known.names s.name.word)) before (there_is typed.shapes.items (length known.shapes) (omega (arith, room))) refl)
+        (named MeansKnown functions known _ s.name.word (a_shape (length known.shapes)) (is_some (find known.names s.name.word)) before (there_is typed.shapes.items (length known.shapes) (omega (arith, room))) refl)
         (omega (arith, room, first))
 
     -- a variable of the file has the number of its name, where each is new
@@ -211,7 +192,7 @@ module _ (typed : Typed) where
 
     function_known : (known : Known) (f : Function) → Knows known → Knows (behind_function known f)
     unfolding behind_function
-    function_known known f before = named known _ f.name.word (a_function known.functions) (is_some (find known.names f.name.word)) before tt refl
+    function_known known f before = named MeansKnown functions known _ f.name.word (a_function known.functions) (is_some (find known.names f.name.word)) before tt refl
 
     file_shapes : (known : Known) → Knows known → KnowsShapes typed (file_place functions known)
     unfolding meaning
@@ -291,10 +272,10 @@ module _ (typed : Typed) (i : Instance) where
   unfolding meaning
   instance_names {program = program} {shapes = shapes} {r = r} known under is =
       let own = files.at_number (KnowsFile typed) program.functions r.function is.placed known is.is_function in
-      let named = λ (word : List ℕ) (number : ℕ) (found : find is.placed.known word ≡ Some (a_shape number)). own word (a_shape number) found in
+      let shapes_are = λ (word : List ℕ) (number : ℕ) (found : find is.placed.known word ≡ Some (a_shape number)). own word (a_shape number) found in
       body_names is.block is.body refl (same_locals (header_place shapes is.placed r) 0 is.placed.function.parameters.items) (record {
-        variables = parameters_known is.parameters (λ word v ty found. own word (a_variable v (Some ty)) found i 0) (record { named = named; current = under }) (stand_all i.params.items);
-        shapes = body_shapes typed shapes is.placed r named under;
+        variables = parameters_known is.parameters (λ word v ty found. own word (a_variable v (Some ty)) found i 0) (record { named = shapes_are; current = under }) (stand_all i.params.items);
+        shapes = body_shapes typed shapes is.placed r shapes_are under;
       })
 
 parameters_plain : {here : Here} {number : ℕ} {ps : List Parameter} {infos : List VarInfo} → TypesParameters here number ps infos → All (λ (info : VarInfo). info.array ≡ None) infos
@@ -319,7 +300,7 @@ instances_code typed known under shaped lowerable (Y.next_instance {r = r} {rs =
 
 pub file_code : TypedFilesHaveCode
 file_code tree typed spelled all file number i found =
-    let known = placed_know typed (functions_named tree) file.items (functions_known typed [] 0 tree.items.items) (stand_all typed.vars.items) (omega (arith, all)) (omega arith) in
+    let known = placed_know typed (functions_named tree) file.items (functions_mean (MeansKnown typed) (λ (number : ℕ). tt) [] 0 tree.items.items) (stand_all typed.vars.items) (omega (arith, all)) (omega arith) in
     let shapes = All-weaker (KnowsFile typed) (KnowsItsShapes typed) (λ placed own word number found. own word (a_shape number) found) (file_functions tree) known in
     let each = instances_code typed known (instances_under typed tree shapes) (file_shaped tree typed spelled file) (file_lowerable tree typed spelled file) file.instances in
     files.at_number (HasBodyCode typed) typed.instances.items number i each found
