@@ -1,5 +1,5 @@
 -- The instances of a typed file have shaped bodies.
-use Rattle.std.proofs.Common.{◌≡◌, ℕ, ◌+◌, Bool, true, false, is_some, if◌then◌else◌, List, [], ◌∷◌, ◌++◌, length, slice_get, Option, Some, None, refl, ◌∙◌, sym, subst}
+use Rattle.std.proofs.Common.{◌≡◌, ℕ, ◌+◌, Bool, true, false, is_some, if◌then◌else◌, List, [], ◌∷◌, ◌++◌, length, slice_get, Option, Some, refl, ◌∙◌, sym, subst}
 use Rattle.std.specs.List.{All}
 use Rattle.std.proofs.lemmas.List.Elements.{All-nil, All-cons, All-head, All-tail, All-get_or}
 use Rattle.std.proofs.lemmas.Option.{get_or_from_slice_get, none-some, slice_get_within}
@@ -23,7 +23,7 @@ use Rattle.cstar_tree.specs.FileScopes.{Known, behind_function, behind_item, beh
 use Rattle.cstar_tree.specs.Headers.{Placed, Program, Reached, behind_parameter, behind_parameters, body_place, header_place, plain_type}
 use Rattle.cstar_tree.specs.ProgramTypes.{IsBody, TypesFile, TypesInstance, TypesInstances, TypesItems, TypesVariables}
 use Rattle.cstar_tree.specs.ProgramTypes as Y
-use Rattle.cstar_tree.specs.Scopes.{Binding, Here, Meaning, a_function, a_shape, a_variable, find, written_type}
+use Rattle.cstar_tree.specs.Scopes.{Binding, Here, a_function, a_shape, a_variable, find, written_type}
 use Rattle.code_lengths.specs.ShapedStatements.{AreShapedLocals, IsShapedStatement}
 use Rattle.shaped_trees.specs.Casts.{BlockNamesShapes, ItemNamesShapes, NamesShapes}
 use Rattle.shaped_trees.specs.Laws.{HasShapedBody}

@@ -4,14 +4,12 @@ use Rattle.std.proofs.Common.{◌≡◌, ℕ, zero, suc, ◌+◌, ◌≤◌, ◌
 use Rattle.std.specs.List.{All}
 use Rattle.std.proofs.lemmas.List.{append-nil}
 use Rattle.std.proofs.lemmas.List.Elements.{All-nil, All-cons, All-head, All-tail, All-weaker}
-use Rattle.std.proofs.lemmas.Option.{none-some}
 use Rattle.cstar_tree.specs.declared.syntax.Block.{Block}
 use Rattle.cstar_tree.specs.declared.syntax.Declarator.{Declarator}
 use Rattle.cstar_tree.specs.declared.syntax.Function.{Function}
 use Rattle.cstar_tree.specs.declared.syntax.Item.{Item}
 use Rattle.cstar_tree.specs.declared.syntax.Parameter.{Parameter}
 use Rattle.cstar_tree.specs.declared.syntax.ShapeDefinition.{ShapeDefinition}
-use Rattle.cstar_tree.specs.declared.syntax.Tree.{Tree}
 use Rattle.cstar_tree.specs.declared.typed.Instance.{Instance}
 use Rattle.cstar_tree.specs.declared.typed.LocalVar.{LocalVar}
 use Rattle.cstar_tree.specs.declared.typed.ShapeInfo.{ShapeInfo}
@@ -22,7 +20,7 @@ use Rattle.cstar_tree.specs.declared.typed.ValueType.{ValueType}
 use Rattle.cstar_tree.specs.declared.typed.VarInfo.{VarInfo}
 use Rattle.cstar_tree.specs.declared.typed.Variable.TheVariants as V
 use Rattle.cstar_tree.specs.BlockScopes.{declared_type}
-use Rattle.cstar_tree.specs.FileScopes.{Known, behind_function, behind_item, behind_items, behind_shape, behind_shapes, behind_variable, behind_variables, file_functions, file_place, function_binding, function_names, function_word, functions_named, is_among, nothing_known, placed_from, words_of}
+use Rattle.cstar_tree.specs.FileScopes.{Known, behind_function, behind_item, behind_items, behind_shape, behind_shapes, behind_variable, behind_variables, file_functions, file_place, functions_named, placed_from}
 use Rattle.cstar_tree.specs.Headers.{Placed, Program, Reached, Returns, behind_parameter, behind_parameters, header_place, plain_type}
 use Rattle.cstar_tree.specs.ProgramTypes.{IsBody, TypesFile, TypesInstance, TypesInstances, TypesItems, TypesParameters, TypesShapes, TypesVariables, plain_info}
 use Rattle.cstar_tree.specs.ProgramTypes as Y
@@ -33,7 +31,6 @@ use Rattle.cstar_tree.specs.Variables.{variables_of}
 use Rattle.code_lengths.specs.Naming.{HasItsShape, HasVariable, IsDeclared, KnowsVariables, variable_named}
 use Rattle.code_lengths.specs.NamingStatements.{StandFrom, StatementNamesVariables}
 use Rattle.code_lengths.specs.Ready.{HasPlainParameters, HasStatementCode}
-use Rattle.shaped_trees.specs.Casts.{NamesShapes}
 use Rattle.shaped_trees.specs.Laws.{HasLowerableBody, HasShapedBody, TypedFilesHaveCode}
 use Rattle.shaped_trees.specs.Places.{IsShapeOf, KnowsShapes}
 use Rattle.shaped_trees.proofs.Counting.{of_block}
@@ -290,12 +287,15 @@ instances_code : {program : Program} {shapes : List (List ℕ)} {rs : List Reach
     TypesInstances program shapes rs is → All (HasBodyCode typed) is
 instances_code typed known under shaped lowerable Y.no_instance = All-nil (HasBodyCode typed)
 instances_code typed known under shaped lowerable (Y.next_instance {r = r} {rs = rs} {i = i} {is = is} own more) =
-    All-cons (HasBodyCode typed) i is (parameters_plain own.parameters, record {
-      shaped = All-head HasShapedBody i is shaped;
-      lowerable = All-head (HasLowerableBody typed) i is lowerable;
-      names = instance_names typed i known (All-head (StandsUnder typed) r rs under) own;
-      stands = stand_all (variables_of i.body);
-    })
+    All-cons (HasBodyCode typed) i is (
+      parameters_plain own.parameters,
+      record {
+        shaped = All-head HasShapedBody i is shaped;
+        lowerable = All-head (HasLowerableBody typed) i is lowerable;
+        names = instance_names typed i known (All-head (StandsUnder typed) r rs under) own;
+        stands = stand_all (variables_of i.body);
+      },
+    )
     (instances_code typed known (All-tail (StandsUnder typed) r rs under) (All-tail HasShapedBody i is shaped) (All-tail (HasLowerableBody typed) i is lowerable) more)
 
 pub file_code : TypedFilesHaveCode
