@@ -1,5 +1,5 @@
 -- The items of a file one behind the other.
-use Rattle.std.proofs.Common.{◌≡◌, ℕ, ◌+◌, ◌-◌, ◌<◌, ◌≤◌, ◌^◌, true, List, [], ◌∷◌, ◌++◌, append_assoc, drop, get_or, length, map, take, None, Vec, refl, sym, ap, subst, ◌∙◌, arith}
+use Rattle.std.proofs.Common.{◌≡◌, ℕ, ◌+◌, ◌-◌, ◌<◌, ◌≤◌, ◌^◌, Bool, true, false, if◌then◌else◌, is_some, List, [], ◌∷◌, ◌++◌, append_assoc, drop, get_or, length, length-append, map, take, Option, None, Vec, refl, sym, ap, subst, ◌∙◌, arith}
 use Rattle.std.proofs.lemmas.List.{append-nil, length-drop, take-append-drop, take_all, take_more}
 use Rattle.std.proofs.lemmas.List.Elements.{All-drop, All-get_or, All-nil}
 use Rattle.std.specs.Int.{from_bool}
@@ -14,8 +14,9 @@ use Rattle.cstar_tree.specs.declared.syntax.Item.TheVariants as I
 use Rattle.cstar_tree.specs.declared.syntax.ShapeDefinition.{ShapeDefinition}
 use Rattle.cstar_tree.specs.declared.syntax.Tree.{Tree}
 use Rattle.cstar_tree.specs.declared.typed.ShapeInfo.{ShapeInfo}
+use Rattle.cstar_tree.specs.declared.typed.ValueType.{ValueType}
 use Rattle.cstar_tree.specs.declared.typed.VarInfo.{VarInfo}
-use Rattle.cstar_tree.specs.FileScopes.{Known, behind_item, behind_items, file_known, functions_named, nothing_known}
+use Rattle.cstar_tree.specs.FileScopes.{Known, behind_item, behind_items, behind_shape, behind_shapes, behind_variables, file_known, functions_named, nothing_known}
 use Rattle.cstar_tree.specs.ProgramTypes.{TypesItems}
 use Rattle.cstar_tree.specs.ProgramTypes as Y
 use Rattle.cstar_tree.specs.Scopes.{Binding, find}
@@ -27,6 +28,7 @@ use Rattle.shape_types.specs.FileKnowledge.{IsDeclaredFile, IsNumberedFile, IsOf
 use Rattle.shape_types.specs.FileWalk.{AreDefined, AreFirst, IsKept, IsTypedDeclaration, Knows}
 use Rattle.shape_types.specs.Plain.{IsPlainItem, IsPlainTree}
 use Rattle.shape_types.proofs.FileSteps.{first_before, function_known}
+use Rattle.shape_types.proofs.FunctionNames.{function_behind}
 use Rattle.shape_types.proofs.KnownNames.{names_known, shape_within, told_of}
 
 items_grow : (functions : List Binding) (k : Known) (items : List Item) → Grows k (behind_items functions k items)
@@ -51,10 +53,25 @@ items_behind {functions = functions} js more others (Y.variables {known = k} {d 
     subst (λ (xs : List VarInfo). TypesItems functions k (I.Variables d ∷ items ++ js) (infos ++ more) xs) (sym (append_assoc vars rest others)) (Y.variables {known = k} {d = d} {items = items ++ js} written own (items_behind js more others typed_items typed))
 items_behind js more others (Y.function typed_items) typed = Y.function (items_behind js more others typed_items typed)
 
+-- shapes and functions are no variables
+shape_leaves : (functions : List Binding) (k : Known) (s : ShapeDefinition) → (behind_shape functions k s).variables ≡ k.variables
+unfolding behind_shape
+shape_leaves functions k s = by_name (is_some (find k.names s.name.word)) _ refl
+  where
+    by_name : (b : Bool) (more : Known) → more.variables ≡ k.variables → (if b then k else more).variables ≡ k.variables
+    by_name true more same = refl
+    by_name false more same = same
+
+shapes_leave : (functions : List Binding) (k : Known) (ss : List ShapeDefinition) → (behind_shapes functions k ss).variables ≡ k.variables
+unfolding behind_shapes
+shapes_leave functions k [] = refl
+shapes_leave functions k (s ∷ ss) = shapes_leave functions (behind_shape functions k s) ss ∙ shape_leaves functions k s
+
 -- the first items of the file are typed, and so much is known behind them
 pub record AreItems (start : File) (n : ℕ) (file : File) (count : ℕ) (vars : List VarInfo) : Type 0 where
   pub knows : Knows start (behind_first (functions_named start.tree.now) start.tree.now.items.items n) file count
   pub typed : TypesItems (functions_named start.tree.now) nothing_known (take n start.tree.now.items.items) file.shapes.items vars
+  pub new : (behind_first (functions_named start.tree.now) start.tree.now.items.items n).variables ≡ length vars
 
 pub no_items : (start : File) (vars : List VarInfo) → vars ≡ [] → HasFewNames (file_known start.tree.now) → IsNumberedFile start → AreItems start 0 start 0 vars
 unfolding behind_items
@@ -74,6 +91,7 @@ no_items start vars none few numbered = record {
     shaped = All-nil (λ (b : Binding). IsOfShapes [] b.meaning);
   };
   typed = subst (λ (xs : List ShapeInfo). TypesItems (functions_named start.tree.now) nothing_known [] xs vars) (sym numbered.no_shapes) (subst (λ (xs : List VarInfo). TypesItems (functions_named start.tree.now) nothing_known [] [] xs) (sym none) Y.no_item);
+  new = ap length (sym none);
 }
 
 module _ (start : File) (n : ℕ) (file : File) (count : ℕ) (vars : List VarInfo) (are : AreItems start n file count vars) (item : Item) (within : n < length start.tree.now.items.items) (is : item ≡ get_or start.tree.now.items.items n item) where
@@ -93,10 +111,15 @@ module _ (start : File) (n : ℕ) (file : File) (count : ℕ) (vars : List VarIn
   item_first = subst (λ (k : Known). AreFirst k.names (file_known start.tree.now).names) (next_known functions items n item within is) (items_first start.tree.now (n + 1))
 
   pub item_more : (after : File) (more : ℕ) (all : List VarInfo) (infos : List ShapeInfo) (own : List VarInfo) → after.shapes.items ≡ file.shapes.items ++ infos → all ≡ vars ++ own → TypesItems functions there (item ∷ []) infos own → Knows start (behind_item functions there item) after more
-      → AreItems start (n + 1) after more all
-  item_more after more all infos own shapes_are all_are typed knows = record {
+      → (behind_item functions there item).variables ≡ there.variables + length own → AreItems start (n + 1) after more all
+  item_more after more all infos own shapes_are all_are typed knows new = record {
     knows = subst (λ (k : Known). Knows start k after more) (sym (next_known functions items n item within is)) knows;
     typed = rw (one_taken, shapes_are, all_are) (items_behind (item ∷ []) infos own are.typed typed);
+    new =
+        let behind = ap (λ (k : Known). k.variables) (next_known functions items n item within is) in
+        let first = are.new in
+        let long = ap length all_are ∙ length-append vars own in
+        omega (arith, behind, first, new, long);
   }
 
 pub shapes_item : (start : File) (n : ℕ) (file : File) (count : ℕ) (vars : List VarInfo) (p : Place) (list : Vec ShapeDefinition Global) (after : File) (more : ℕ) (all : List VarInfo) → AreItems start n file count vars
@@ -105,13 +128,21 @@ pub shapes_item : (start : File) (n : ℕ) (file : File) (count : ℕ) (vars : L
 unfolding behind_item
 shapes_item start n file count vars p list after more all are within is same defined =
     item_more start n file count vars are (I.Shapes p list) within is after more all (defined.own ++ []) [] (defined.behind ∙ ap (λ (xs : List ShapeInfo). file.shapes.items ++ xs) (sym (append-nil defined.own))) (same ∙ sym (append-nil vars)) (Y.shapes defined.typed Y.no_item) defined.knows
+    (let same = shapes_leave (functions_named start.tree.now) (behind_first (functions_named start.tree.now) start.tree.now.items.items n) list.items in omega (arith, same))
 
 pub variables_item : (start : File) (n : ℕ) (file : File) (count : ℕ) (vars : List VarInfo) (d : Declaration) (after : File) (more : ℕ) (all : List VarInfo) → AreItems start n file count vars
     → n < length start.tree.now.items.items → I.Variables d ≡ get_or start.tree.now.items.items n (I.Variables d) → after.shapes ≡ file.shapes
     → IsTypedDeclaration start (behind_first (functions_named start.tree.now) start.tree.now.items.items n) d vars all
     → Knows start (behind_item (functions_named start.tree.now) (behind_first (functions_named start.tree.now) start.tree.now.items.items n) (I.Variables d)) after more → AreItems start (n + 1) after more all
+unfolding behind_item
 variables_item start n file count vars d after more all are within is same typed knows =
+    let functions = functions_named start.tree.now in
+    let there = behind_first functions start.tree.now.items.items n in
     item_more start n file count vars are (I.Variables d) within is after more all [] (typed.variables.own ++ []) (ap (λ s. s.items) same ∙ sym (append-nil file.shapes.items)) (typed.variables.behind ∙ ap (λ (xs : List VarInfo). vars ++ xs) (sym (append-nil typed.variables.own))) (Y.variables typed.written typed.variables.typed Y.no_item) knows
+    (let written = ap (λ (ty : Option ValueType). (behind_variables functions ty there d.variables.items).variables) typed.written in
+    let own = typed.variables.new in
+    let long = length-append typed.variables.own [] in
+    omega (arith, written, own, long))
 
 pub function_item : (start : File) (n : ℕ) (file : File) (count : ℕ) (vars : List VarInfo) (f : Function) (more : ℕ) (all : List VarInfo) → AreItems start n file count vars
     → n < length start.tree.now.items.items → I.Function f ≡ get_or start.tree.now.items.items n (I.Function f) → all ≡ vars
@@ -120,6 +151,7 @@ unfolding behind_item
 function_item start n file count vars f more all are within is same new counted =
     item_more start n file count vars are (I.Function f) within is file more all [] [] (sym (append-nil file.shapes.items)) (same ∙ sym (append-nil vars)) (Y.function Y.no_item)
     (function_known start _ file count more f are.knows new (item_first start n file count vars are (I.Function f) within is) counted)
+    (let same = ap (λ (k : Known). k.variables) (function_behind (behind_first (functions_named start.tree.now) start.tree.now.items.items n) f new) in omega (arith, same))
 
 -- the whole file
 pub all_items : (start : File) (n : ℕ) (file : File) (count : ℕ) (vars : List VarInfo) → length start.tree.now.items.items ≤ n → AreItems start n file count vars → IsDeclaredFile start.tree.now file vars
@@ -142,6 +174,7 @@ all_items start n file count vars all are =
             let names = (file_known tree).names in
             shape_within tree (file_known tree).shapes (first_names known names) word m (All-drop (λ (b : Binding). IsOfShapes (file_known tree).shapes b.meaning) (length names - known) names knows.shaped) is;
       };
+      new = subst (λ (k : Known). k.variables ≡ length vars) (behind_all tree n all) are.new;
     }
 
 pub item_plain : (tree : Tree) (n : ℕ) (item : Item) → n < length tree.items.items → item ≡ get_or tree.items.items n item → IsPlainTree tree → IsPlainItem item

@@ -111,7 +111,7 @@ pub variable_whole : (start : File) (k : Known) (of : ValueType) (file : File) (
     → AreVariables start k of (d ∷ []) before vars × Knows start (behind_variable (functions_named start.tree.now) (Some of) k d) (record file { types = types }) more
 variable_whole start k of file count more d found ty types initial word before info vars knows new is of_shape first pushed counted found_is starts start_is info_is vars_is =
     let after = variable_known start k file count more of d found types knows new is of_shape first pushed counted in
-    (one_variable start k of d found ty.elem word ty before info vars is found_is (starts after ty.elem word start_is) info_is vars_is, after)
+    (one_variable start k of d found ty.elem word ty before info vars new is found_is (starts after ty.elem word start_is) info_is vars_is, after)
 
 -- the first variables of a declaration of this type are typed, and so much is known behind them
 pub record VariablesSo (start : File) (k : Known) (of : ValueType) (ds : List Declarator) (i : ℕ) (before : List VarInfo) (file : File) (declared : Declared) : Type 0 where

@@ -253,12 +253,14 @@ variable_known start k file count more of d found types knows new is of_shape fi
     })
 
 pub one_variable : (start : File) (k : Known) (of : ValueType) (d : Declarator) (found : Option Names.VariableType) (elem : Elem) (word : ℕ) (ty : Names.VariableType) (before : List VarInfo) (info : VarInfo) (vars : List VarInfo)
-    → HasItsType (place_in start k) of d found → found ≡ Some ty → Starts (place_in start (behind_variable (functions_named start.tree.now) (Some of) k d)) ty.elem d.initial word
+    → find k.names d.name.word ≡ None → HasItsType (place_in start k) of d found → found ≡ Some ty → Starts (place_in start (behind_variable (functions_named start.tree.now) (Some of) k d)) ty.elem d.initial word
     → info ≡ variable_info d.name.word (variable_type ty) word → vars ≡ before ++ info ∷ [] → AreVariables start k of (d ∷ []) before vars
-one_variable start k of d found elem word ty before info vars is found_is starts info_is pushed = record {
+unfolding behind_variables
+one_variable start k of d found elem word ty before info vars new is found_is starts info_is pushed = record {
   own = variable_info d.name.word (variable_type ty) word ∷ [];
   behind = pushed ∙ ap (λ (i : VarInfo). before ++ i ∷ []) info_is;
   typed = Y.next_variable (is.declared ∙ ap type_meant found_is) (is.declarable (variable_type ty) (ap type_meant found_is)) starts Y.no_variable;
+  new = ap (λ (x : Known). x.variables) (variable_behind (functions_named start.tree.now) (Some of) k d new);
 }
 
 variables_behind : {functions : List Binding} {ty : ValueType} {k : Known} {ds : List Declarator} {vars : List VarInfo} (es : List Declarator) (more : List VarInfo) → TypesVariables functions ty k ds vars → TypesVariables functions ty (behind_variables functions (Some ty) k ds) es more → TypesVariables functions ty k (ds ++ es) (vars ++ more)
@@ -267,7 +269,8 @@ variables_behind es more Y.no_variable typed = typed
 variables_behind es more (Y.next_variable declared allowed starts rest) typed = Y.next_variable declared allowed starts (variables_behind es more rest typed)
 
 pub none_declared : (start : File) (k : Known) (of : ValueType) (ds : List Declarator) (before : List VarInfo) → AreVariables start k of (take 0 ds) before before
-none_declared start k of ds before = record { own = []; behind = sym (append-nil before); typed = Y.no_variable }
+unfolding behind_variables
+none_declared start k of ds before = record { own = []; behind = sym (append-nil before); typed = Y.no_variable; new = omega arith }
 
 module _ (functions : List Binding) (ty : Option ValueType) (k : Known) (ds : List Declarator) (i : ℕ) (d : Declarator) (within : i < length ds) (is : d ≡ get_or ds i d) where
   pub one_taken : take (i + 1) ds ≡ take i ds ++ d ∷ []
@@ -284,6 +287,13 @@ variable_more start k of i ds d before middle vars within d_is are one =
       own = are.own ++ one.own;
       behind = one.behind ∙ (ap (λ (xs : List VarInfo). xs ++ one.own) are.behind ∙ append_assoc before are.own one.own);
       typed = variables_behind (d ∷ []) one.own are.typed one.typed;
+      new =
+          let functions = functions_named start.tree.now in
+          let behind = ap (λ (x : Known). x.variables) (variables_more functions (Some of) k (take i ds) (d ∷ [])) in
+          let first = are.new in
+          let next = one.new in
+          let long = length-append are.own one.own in
+          omega (arith, behind, first, next, long);
     })
 
 -- ---- functions

@@ -44,7 +44,8 @@ pub record IsKnownFile (tree : Tree) (file : File) : Type 0 where
   pub few : All IsCounted (file_known tree).shapes
   pub shaped : (known : ℕ) (word : List ℕ) (m : Meaning) → known ≤ length (file_known tree).names → find (first_names known (file_known tree).names ++ functions_named tree) word ≡ Some m → IsOfShapes (file_known tree).shapes m
 
--- the declarations of the file are typed as the rules say
+-- the declarations of the file are typed as the rules say, and none of its variables is declared twice
 pub record IsDeclaredFile (tree : Tree) (file : File) (vars : List VarInfo) : Type 0 where
   pub items : TypesItems (functions_named tree) nothing_known tree.items.items file.shapes.items vars
   pub known : IsKnownFile tree file
+  pub new : (file_known tree).variables ≡ length vars

@@ -1,7 +1,7 @@
 -- What is known behind the first declarations of a file, while it is typed.
 use Rattle.std.specs.List.{All}
 use Rattle.std.specs.Option.{option_flatten}
-use Rattle.std.specs.Prelude.{◌≡◌, ◌<◌, ◌++◌, ℕ, List, length, map, slice_get, Option, Some, None, Box}
+use Rattle.std.specs.Prelude.{◌≡◌, ◌<◌, ◌+◌, ◌++◌, ℕ, List, length, map, slice_get, Option, Some, None, Box}
 use Rattle.std.specs.declared.alloc.Global.{Global}
 use Rattle.constant_trees.specs.Words.{IsCounted}
 use Rattle.cstar_base.specs.declared.elem.Elem.{Elem}
@@ -17,7 +17,7 @@ use Rattle.cstar_tree.specs.declared.typed.Variable.{Variable}
 use Rattle.cstar_tree.specs.declared.typed.Variable.TheVariants as V
 use Rattle.cstar_tree.specs.BlockScopes.{declared_type}
 use Rattle.cstar_tree.specs.Conversions.{IsConverted}
-use Rattle.cstar_tree.specs.FileScopes.{Known, behind_shapes, defined_extents, file_known, file_place, functions_named, kept_extents}
+use Rattle.cstar_tree.specs.FileScopes.{Known, behind_shapes, behind_variables, defined_extents, file_known, file_place, functions_named, kept_extents}
 use Rattle.cstar_tree.specs.ProgramTypes.{Starts, TypesShapes, TypesVariables}
 use Rattle.cstar_tree.specs.Scopes.{Binding, Here, Meaning, VariableType, a_function, a_shape, a_variable, written_type}
 use Rattle.cstar_tree.specs.StatementTypes.{IsDeclarable}
@@ -101,11 +101,12 @@ IsStartOf elem (Some initial) (Some written) word =
 abbrev pub StartsAs : Here → Option Initializer → Option Initial → Type 0
 StartsAs here written initial = (elem : Elem) (word : ℕ) → IsStartOf elem initial written word → Starts here elem written word
 
--- the variables of a declaration, behind those before
+-- the variables of a declaration, behind those before, each of a new name
 pub record AreVariables (start : File) (known : Known) (ty : ValueType) (ds : List Declarator) (before : List VarInfo) (vars : List VarInfo) : Type 0 where
   pub own : List VarInfo
   pub behind : vars ≡ before ++ own
   pub typed : TypesVariables (functions_named start.tree.now) ty known ds own
+  pub new : (behind_variables (functions_named start.tree.now) (Some ty) known ds).variables ≡ known.variables + length own
 
 -- so are those of a declaration whose written type is known
 pub record IsTypedDeclaration (start : File) (known : Known) (d : Declaration) (before : List VarInfo) (vars : List VarInfo) : Type 0 where

@@ -3,11 +3,15 @@ pub mod Counting
 pub mod ExpressionShapes
 pub mod FileShapes
 pub mod Known
+pub mod KnownShapes
 pub mod LowerableExpressions
 pub mod LowerableFiles
 pub mod LowerableStatements
+pub mod Meanings
+pub mod NamedFiles
 pub mod NamedStatements
 pub mod NamedVariables
+pub mod ReachedShapes
 pub mod Rows
 pub mod SpelledCasts
 pub mod Standing

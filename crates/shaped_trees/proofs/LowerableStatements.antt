@@ -1,5 +1,5 @@
 -- What the rules of typing give statements and declarations is lowerable.
-use Rattle.std.proofs.Common.{◌≡◌, ℕ, Bool, true, false, is_none, IfSome, List, Option, Some, ap, ◌∙◌, sym, subst}
+use Rattle.std.proofs.Common.{◌≡◌, ℕ, Bool, true, false, is_none, is_some, IfSome, List, Option, Some, None, refl, ap, ◌∙◌, sym, subst}
 use Rattle.std.specs.List.{All}
 use Rattle.std.proofs.lemmas.List.Elements.{All-append, All-nil, All-cons, All-head, All-tail}
 use Rattle.cstar_tree.specs.declared.syntax.Block.{Block}
@@ -19,8 +19,8 @@ use Rattle.cstar_tree.specs.ExpressionTypes.{Types}
 use Rattle.cstar_tree.specs.Headers.{Program, Returns}
 use Rattle.cstar_tree.specs.ProgramTypes.{TypesResult}
 use Rattle.cstar_tree.specs.ProgramTypes as P
-use Rattle.cstar_tree.specs.Scopes.{Here, as_whole, under}
-use Rattle.cstar_tree.specs.StatementTypes.{IsReturned, TypesBlock, TypesDeclarations, TypesEffectIf, TypesInitial, TypesLocal, TypesLocals, TypesStatement, TypesStatements, TypesTest, TypesTestIf}
+use Rattle.cstar_tree.specs.Scopes.{Here, VariableType, as_whole, under}
+use Rattle.cstar_tree.specs.StatementTypes.{IsDeclarable, IsReturned, TypesBlock, TypesDeclarations, TypesEffectIf, TypesInitial, TypesLocal, TypesLocals, TypesStatement, TypesStatements, TypesTest, TypesTestIf}
 use Rattle.cstar_tree.specs.StatementTypes as Y
 use Rattle.cstar_tree.specs.Typed.{type_of}
 use Rattle.shaped_trees.specs.Casts.{BlockNamesShapes, DeclarationNamesShapes, DeclaratorNamesShapes, ElseNamesShapes, ExpressionNamesShapes, StatementNamesShapes}
@@ -54,13 +54,18 @@ module _ (program : Program) (typed : Typed) where
 
   -- ---- declarations
 
-  initial_lowerable : {here : Here} {ty : ValueType} {i : Option Initializer} {f : Option TExpr} → TypesInitial program here ty i f → IsPlace here → IfSome i (λ (i : Initializer). ExpressionNamesShapes i.value) →
-      IfSome f (λ (e : TExpr). IsValueFor typed ty.shape e × IsLowerable typed e)
-  initial_lowerable Y.no_initial p w = tt
-  initial_lowerable {ty = ty} (Y.initial at at_hand takes fit) p w =
+  -- a variable with an initialiser is no array
+  no_array : {variable : VariableType} {initial : Option Initializer} → IsDeclarable variable initial → is_some initial ≡ true → variable.array ≡ None
+  no_array Y.plain is = refl
+  no_array (Y.array shape least most) is = absurd (cc)
+
+  initial_lowerable : {here : Here} {variable : VariableType} {i : Option Initializer} {f : Option TExpr} → IsDeclarable variable i → TypesInitial program here variable.value i f → IsPlace here →
+      IfSome i (λ (i : Initializer). ExpressionNamesShapes i.value) → IfSome f (λ (e : TExpr). (variable.array ≡ None) × IsValueFor typed variable.value.shape e × IsLowerable typed e)
+  initial_lowerable allowed Y.no_initial p w = tt
+  initial_lowerable {variable = variable} allowed (Y.initial at at_hand takes fit) p w =
       let g = value at p w in
       let brought = part_fitted fit g in
-      (value_for ty fit g takes, brought.lowerable)
+      (no_array allowed refl, value_for variable.value fit g takes, brought.lowerable)
 
   behind_name_place : (here : Here) (ty : ValueType) (d : Declarator) (local : LocalVar) → TypesLocal program here ty d local → IsPlace here → IsPlace (behind_declarator here (Some ty) d)
   behind_name_place here ty d local at p =
@@ -69,8 +74,8 @@ module _ (program : Program) (typed : Typed) where
   local_lowerable : (here : Here) (ty : ValueType) (d : Declarator) (local : LocalVar) → TypesLocal program here ty d local → IsPlace here → DeclaratorNamesShapes d → IsLowerableLocal typed local
   unfolding DeclaratorNamesShapes
   local_lowerable here ty d local at p w =
-      subst (λ (info : VarInfo). IfSome local.initial (λ (e : TExpr). IsValueFor typed info.shape e × IsLowerable typed e)) (sym at.info)
-      (initial_lowerable at.initial (behind_name_place here ty d local at p) w.1)
+      subst (λ (info : VarInfo). IfSome local.initial (λ (e : TExpr). (info.array ≡ None) × IsValueFor typed info.shape e × IsLowerable typed e)) (sym at.info)
+      (initial_lowerable at.declarable at.initial (behind_name_place here ty d local at p) w.1)
 
   record Declares (behind_them : Here) (locals : List LocalVar) : Type 0 where
     place : IsPlace behind_them

@@ -1,9 +1,10 @@
 -- What the rules of typing give statements and declarations names the variables of its instance, where
 -- those that it declares stand among them from the number on that its place has.
-use Rattle.std.proofs.Common.{◌≡◌, ℕ, ◌+◌, Bool, true, false, if◌then◌else◌, is_some, bytes_eq, IfSome, List, [], ◌∷◌, ◌++◌, length, map, slice_get, Option, Some, None, arith, length-append, refl, ap, ◌∙◌, sym, subst}
+use Rattle.std.proofs.Common.{◌≡◌, ℕ, ◌+◌, ◌≤◌, ℤ, pos, negsuc, IfSome, List, [], ◌∷◌, ◌++◌, length, map, slice_get, Option, Some, None, arith, length-append, refl, ap, ◌∙◌, sym, subst}
 use Rattle.std.specs.List.{All}
 use Rattle.std.proofs.lemmas.List.{append_assoc, length-map, map-append}
 use Rattle.std.proofs.lemmas.List.Elements.{All-append, All-nil, All-cons}
+use Rattle.std.proofs.lemmas.Option.{none-some, same_Some}
 use Rattle.cstar_tree.specs.declared.syntax.Block.{Block}
 use Rattle.cstar_tree.specs.declared.syntax.Declaration.{Declaration}
 use Rattle.cstar_tree.specs.declared.syntax.Declarator.{Declarator}
@@ -19,25 +20,29 @@ use Rattle.cstar_tree.specs.declared.typed.ValueType.{ValueType}
 use Rattle.cstar_tree.specs.declared.typed.VarInfo.{VarInfo}
 use Rattle.cstar_tree.specs.declared.typed.Variable.{Variable}
 use Rattle.cstar_tree.specs.declared.typed.Variable.TheVariants as V
-use Rattle.cstar_tree.specs.BlockScopes.{behind, behind_declarations, behind_declarator, behind_declarators, block_place, declared_type, in_loop}
+use Rattle.cstar_tree.specs.BlockScopes.{behind, behind_declarations, behind_declarator, behind_declarators, block_place, declared_type, in_loop, with_length}
+use Rattle.cstar_tree.specs.Constants.{constant_number}
 use Rattle.cstar_tree.specs.Headers.{Program, Returns}
-use Rattle.cstar_tree.specs.Scopes.{Binding, Here, Meaning, Names, VariableType, a_function, a_shape, a_variable, declared, find, meaning}
+use Rattle.cstar_tree.specs.Scopes.{Binding, Here, Meaning, VariableType, a_function, a_shape, a_variable, as_whole, declared, find, meaning, under}
 use Rattle.cstar_tree.specs.StatementTypes.{IsReturned, TypesBlock, TypesDeclarations, TypesEffectIf, TypesInitial, TypesLocal, TypesLocals, TypesStatement, TypesStatements, TypesTestIf}
 use Rattle.cstar_tree.specs.StatementTypes as Y
 use Rattle.cstar_tree.specs.TypedParts.{concat}
 use Rattle.cstar_tree.specs.Variables.{variables_of}
-use Rattle.code_lengths.specs.Naming.{HasVariable, KnowsVariables, NamesVariables, variable_named}
+use Rattle.code_lengths.specs.Naming.{HasItsShape, HasVariable, IsDeclared, KnowsVariables, NamesVariables, variable_named}
 use Rattle.code_lengths.specs.NamingStatements.{ElseNamesVariables, InitialNamesVariables, StandFrom, StatementNamesVariables}
+use Rattle.shaped_trees.specs.Places.{IsShapeOf, KnowsShapes}
 use Rattle.shaped_trees.proofs.Counting.{as_many, of_block, of_do, of_else, of_everywhere, of_for, of_if, of_where, of_where_else, of_while, of_with}
-use Rattle.shaped_trees.proofs.NamedVariables.{fitted, named}
-use Rattle.shaped_trees.proofs.Rows.{block_names_variables}
+use Rattle.shaped_trees.proofs.KnownShapes.{behind_all, behind_each, in_block, shape_there, type_there, under_shape}
+use Rattle.shaped_trees.proofs.Meanings.{AllMean, declared_one}
+use Rattle.shaped_trees.proofs.NamedVariables.{Knows, fitted, named}
+use Rattle.shaped_trees.proofs.Rows.{EachNamesVariables, block_names_variables}
 
-abbrev info_of : LocalVar → VarInfo
+abbrev pub info_of : LocalVar → VarInfo
 info_of local = local.info
 
 -- ---- parts of the list of all variables
 
-first_part : {all : List VarInfo} {n : ℕ} (own rest : List VarInfo) → StandFrom all n (own ++ rest) → StandFrom all n own
+pub first_part : {all : List VarInfo} {n : ℕ} (own rest : List VarInfo) → StandFrom all n (own ++ rest) → StandFrom all n own
 first_part own rest s = record {
   before = s.before;
   behind = rest ++ s.behind;
@@ -45,7 +50,7 @@ first_part own rest s = record {
   number_is = s.number_is;
 }
 
-second_part : {all : List VarInfo} {n : ℕ} (own rest : List VarInfo) → StandFrom all n (own ++ rest) → StandFrom all (n + length own) rest
+pub second_part : {all : List VarInfo} {n : ℕ} (own rest : List VarInfo) → StandFrom all n (own ++ rest) → StandFrom all (n + length own) rest
 second_part own rest s = record {
   before = s.before ++ own;
   behind = s.behind;
@@ -57,141 +62,155 @@ at_length : (before : List VarInfo) (info : VarInfo) (rest : List VarInfo) → s
 at_length [] info rest = refl
 at_length (b ∷ before) info rest = at_length before info rest
 
-at_number : {all : List VarInfo} {n : ℕ} (info : VarInfo) (rest : List VarInfo) → StandFrom all n (info ∷ rest) → slice_get all n ≡ Some info
+pub at_number : {all : List VarInfo} {n : ℕ} (info : VarInfo) (rest : List VarInfo) → StandFrom all n (info ∷ rest) → slice_get all n ≡ Some info
 at_number {n = n} info rest s =
     ap (λ (xs : List VarInfo). slice_get xs n) s.all_are ∙ ap (λ (k : ℕ). slice_get (s.before ++ info ∷ (rest ++ s.behind)) k) (sym s.number_is) ∙ at_length s.before info (rest ++ s.behind)
 
 -- ---- names
 
-variable_meant : Variable → Meaning → Variable
-variable_meant other (a_shape s) = other
-variable_meant other (a_function f) = other
-variable_meant other (a_variable v ty) = v
-
-type_meant : Meaning → Option VariableType
-type_meant (a_shape s) = None
-type_meant (a_function f) = None
-type_meant (a_variable v ty) = ty
-
-type_or : VariableType → Option VariableType → VariableType
-type_or other None = other
-type_or other (Some ty) = ty
-
-meant : Meaning → Option Meaning → Meaning
-meant other None = other
-meant other (Some m) = m
+-- the written type, and that of a variable with its length, have the same shape
+pub same_value : (here : Here) (ty : ValueType) (length : Option Expr) (variable : VariableType) → declared_type here (Some ty) length ≡ Some variable → variable.value ≡ ty
+same_value here ty None variable is = ap (λ (v : VariableType). v.value) (sym (same_Some (record { value = ty; array = None }) variable is))
+same_value here ty (Some e) variable is = by_length (constant_number here e) is
+  where
+    by_length : (length : Option ℤ) → with_length ty length ≡ Some variable → variable.value ≡ ty
+    by_length None is = elim (none-some variable is) [ ]
+    by_length (Some (pos k)) is = ap (λ (v : VariableType). v.value) (sym (same_Some (record { value = ty; array = Some k }) variable is))
+    by_length (Some (negsuc k)) is = elim (none-some variable is) [ ]
 
 module _ (t : Typed) (i : Instance) where
-  abbrev MeansVariable : Meaning → Type 0
-  MeansVariable m = (v : Variable) (ty : VariableType) → m ≡ a_variable v (Some ty) → HasVariable t i v ty
+  -- a variable that is declared stays so
+  still_declared : {n m : ℕ} (v : Variable) → n ≤ m → IsDeclared n v → IsDeclared m v
+  unfolding IsDeclared
+  still_declared (V.File k) more is = tt
+  still_declared (V.Param k) more is = tt
+  still_declared (V.Local k) more is = omega (arith, more, is)
 
-  abbrev KnowsNames : List Binding → Type 0
-  KnowsNames names = (word : List ℕ) (v : Variable) (ty : VariableType) → find names word ≡ Some (a_variable v (Some ty)) → HasVariable t i v ty
+  still_there : {n m : ℕ} {v : Variable} {ty : VariableType} → n ≤ m → HasVariable t i n v ty → HasVariable t i m v ty
+  still_there {v = v} more has = record { word = has.word; start = has.start; named = has.named; declared = still_declared v more has.declared; shape = has.shape }
 
-  with_name : (names : List Binding) (word : List ℕ) (m : Meaning) → KnowsNames names → MeansVariable m → KnowsNames (record { word = word; meaning = m } ∷ names)
-  unfolding find meant
-  with_name names word m before new other v ty found = by_word (bytes_eq word other) found (new v ty) (before other v ty)
-    where
-      by_word : {x : Meaning} {rest : Option Meaning} {P : Type 0} (b : Bool) → (if b then Some m else rest) ≡ Some x → (m ≡ x → P) → (rest ≡ Some x → P) → P
-      by_word true is first second = first (ap (meant m) is)
-      by_word false is first second = second is
+  -- a name that stands for a variable stands for one that is there, where so many are declared
+  abbrev pub MeansVariable : ℕ → Meaning → Type 0
+  MeansVariable n (a_shape number) = Unit {0}
+  MeansVariable n (a_function number) = Unit {0}
+  MeansVariable n (a_variable v ty) = IfSome ty (HasVariable t i n v)
 
-  declared_one : (names : Names) (word : List ℕ) (m : Meaning) → KnowsNames (names.inner ++ names.outer) → MeansVariable m → KnowsNames ((declared names word m).inner ++ (declared names word m).outer)
-  declared_one names word m before new = by_word (is_some (find names.inner word))
-    where
-      by_word : (b : Bool) → KnowsNames ((if b then names else record { inner = record { word = word; meaning = m } ∷ names.inner; outer = names.outer }).inner ++ (if b then names else record { inner = record { word = word; meaning = m } ∷ names.inner; outer = names.outer }).outer)
-      by_word true = before
-      by_word false = with_name (names.inner ++ names.outer) word m before new
+  abbrev KnowsNames : ℕ → List Binding → Type 0
+  KnowsNames n names = (word : List ℕ) (v : Variable) (ty : VariableType) → find names word ≡ Some (a_variable v (Some ty)) → HasVariable t i n v ty
 
-  -- a local variable means the one of its number
-  means_local : (program : Program) (here : Here) (ty : ValueType) (d : Declarator) (local : LocalVar) → TypesLocal program here ty d local → slice_get (variables_of i.body) here.locals ≡ Some local.info →
-      MeansVariable (a_variable (V.Local here.locals) (declared_type here (Some ty) d.length))
-  unfolding variable_named variable_meant type_meant type_or
-  means_local program here ty d local typed found v known is =
-      let its_type : typed.variable ≡ known = ap (type_or known) (sym typed.its_type ∙ ap type_meant is) in
-      subst (λ (v : Variable). HasVariable t i v known) (ap (variable_meant v) is)
-      (subst (λ (known : VariableType). HasVariable t i (V.Local here.locals) known) its_type (d.name.word, 0, found ∙ ap (λ (info : VarInfo). Some info) typed.info))
+  all_mean : (n : ℕ) (names : List Binding) → KnowsNames n names → AllMean (MeansVariable n) names
+  all_mean n names known word (a_shape number) found = tt
+  all_mean n names known word (a_function number) found = tt
+  all_mean n names known word (a_variable v None) found = tt
+  all_mean n names known word (a_variable v (Some ty)) found = known word v ty found
 
-  behind_one : (program : Program) (here : Here) (ty : ValueType) (d : Declarator) (local : LocalVar) → TypesLocal program here ty d local → slice_get (variables_of i.body) here.locals ≡ Some local.info →
-      KnowsVariables t i here → KnowsVariables t i (behind_declarator here (Some ty) d)
+  pub behind_name : (here : Here) (word : List ℕ) (v : Variable) (ty : Option VariableType) (locals : ℕ) → here.locals ≤ locals → MeansVariable locals (a_variable v ty) → KnowsVariables t i here →
+      KnowsVariables t i (record here { names = declared here.names word (a_variable v ty); locals = locals })
   unfolding meaning
-  behind_one program here ty d local typed found k = declared_one here.names d.name.word _ k (means_local program here ty d local typed found)
+  behind_name here word v ty locals more new k other w of found =
+      declared_one (MeansVariable locals) here.names word (a_variable v ty) (all_mean locals _ (λ x u f is. still_there more (k x u f is))) new other (a_variable w (Some of)) found
 
-  in_block : (here : Here) → KnowsVariables t i here → KnowsVariables t i (block_place here)
-  unfolding meaning
-  in_block here k = k
+  -- ---- places: the variables that they know are there, and their shapes are the program's
 
-  in_body : (here : Here) → KnowsVariables t i here → KnowsVariables t i (in_loop here)
-  unfolding meaning
-  in_body here k = k
+  pub record IsKnown (here : Here) : Type 0 where
+    pub variables : KnowsVariables t i here
+    pub shapes : KnowsShapes t here
 
-  as_whole_place : (here : Here) → KnowsVariables t i here → KnowsVariables t i (record here { whole = true })
+  known_block : (here : Here) → IsKnown here → IsKnown (block_place here)
   unfolding meaning
-  as_whole_place here k = k
+  known_block here k = record { variables = k.variables; shapes = in_block t here k.shapes }
 
-  behind_it : (here : Here) (s : Stmt) → KnowsVariables t i here → KnowsVariables t i (behind here s)
+  known_body : (here : Here) → IsKnown here → IsKnown (in_loop here)
   unfolding meaning
-  behind_it here s k = k
+  known_body here k = record { variables = k.variables; shapes = record { named = k.shapes.named; current = k.shapes.current } }
 
-  under_shape : (here : Here) (shape : ℕ) → KnowsVariables t i here → KnowsVariables t i (record here { current = Some shape })
+  known_whole : (here : Here) → KnowsVariables t i here → KnowsVariables t i (as_whole here)
   unfolding meaning
-  under_shape here shape k = k
+  known_whole here k = k
+
+  known_behind : (here : Here) (s : Stmt) → IsKnown here → IsKnown (behind here s)
+  unfolding meaning
+  known_behind here s k = record {
+    variables = λ word v ty found. still_there (omega arith) (k.variables word v ty found);
+    shapes = record { named = k.shapes.named; current = k.shapes.current };
+  }
+
+  known_under : (here : Here) (shape : ℕ) → IsShapeOf t shape → IsKnown here → IsKnown (under here shape)
+  unfolding meaning
+  known_under here shape is k = record { variables = k.variables; shapes = under_shape t here shape is k.shapes }
 
   -- ---- declarations
 
-  record Declares (behind_them : Here) (number : ℕ) (locals : List LocalVar) : Type 0 where
-    knows : KnowsVariables t i behind_them
-    initials : All (InitialNamesVariables t i) locals
-    number_is : number + length locals ≡ behind_them.locals
-
   module _ (program : Program) where
-    initial_names : {here : Here} {ty : ValueType} {initial : Option Initializer} {f : Option TExpr} → TypesInitial program here ty initial f → KnowsVariables t i here → IfSome f (NamesVariables t i)
-    initial_names Y.no_initial k = tt
-    initial_names (Y.initial at at_hand takes fit) k = fitted t i fit (named t i program at k)
+    behind_one : (here : Here) (ty : ValueType) (d : Declarator) (local : LocalVar) → TypesLocal program here ty d local → HasItsShape t ty → slice_get (variables_of i.body) here.locals ≡ Some local.info →
+        KnowsVariables t i here → KnowsVariables t i (behind_declarator here (Some ty) d)
+    unfolding variable_named IsDeclared
+    behind_one here ty d local typed shape found k =
+        behind_name here d.name.word (V.Local here.locals) (declared_type here (Some ty) d.length) (here.locals + 1) (omega arith)
+        (subst (λ (known : Option VariableType). IfSome known (HasVariable t i (here.locals + 1) (V.Local here.locals))) (sym typed.its_type) (record {
+          word = d.name.word;
+          start = 0;
+          named = found ∙ ap (λ (info : VarInfo). Some info) typed.info;
+          declared = omega arith;
+          shape = subst (HasItsShape t) (sym (same_value here ty d.length typed.variable typed.its_type)) shape;
+        })) k
 
-    locals_name : {here : Here} {ty : ValueType} {ds : List Declarator} {ls : List LocalVar} → TypesLocals program here ty ds ls → KnowsVariables t i here → StandFrom (variables_of i.body) here.locals (map info_of ls) → Declares (behind_declarators here (Some ty) ds) here.locals ls
+    -- so many variables are declared behind declarations, and as many at least in all
+    record Declares (behind_them : Here) (number last : ℕ) (locals : List LocalVar) : Type 0 where
+      knows : KnowsVariables t i behind_them
+      initials : All (InitialNamesVariables t i last) locals
+      number_is : number + length locals ≡ behind_them.locals
+
+    initial_names : {here : Here} {n : ℕ} {ty : ValueType} {initial : Option Initializer} {f : Option TExpr} → TypesInitial program here ty initial f → Knows t i n here → IfSome f (NamesVariables t i n)
+    initial_names Y.no_initial k = tt
+    initial_names {n = n} (Y.initial at at_hand takes fit) k = fitted t i n fit (named t i n program at k)
+
+    locals_name : {here : Here} {ty : ValueType} {ds : List Declarator} {ls : List LocalVar} → TypesLocals program here ty ds ls → HasItsShape t ty → KnowsVariables t i here →
+        (last : ℕ) → here.locals + length ls ≤ last → StandFrom (variables_of i.body) here.locals (map info_of ls) → Declares (behind_declarators here (Some ty) ds) here.locals last ls
     unfolding behind_declarators
-    locals_name Y.no_variable k s = record { knows = k; initials = All-nil (InitialNamesVariables t i); number_is = omega arith }
-    locals_name (Y.next_variable {here = here} {ty = ty} {d = d} {ds = ds} {l = l} {ls = ls} at more) k s =
-        let there = behind_one program here ty d l at (at_number l.info (map info_of ls) s) k in
-        let rest = locals_name more there (second_part (l.info ∷ []) (map info_of ls) s) in
+    locals_name Y.no_variable shape k last least s = record { knows = k; initials = All-nil (InitialNamesVariables t i last); number_is = omega arith }
+    locals_name (Y.next_variable {here = here} {ty = ty} {d = d} {ds = ds} {l = l} {ls = ls} at more) shape k last least s =
+        let there = behind_one here ty d l at shape (at_number l.info (map info_of ls) s) k in
+        let less : here.locals + 1 ≤ last = omega (arith, least) in
+        let rest = locals_name more shape there last (omega (arith, least)) (second_part (l.info ∷ []) (map info_of ls) s) in
         let number = rest.number_is in
         record {
           knows = rest.knows;
-          initials = All-cons (InitialNamesVariables t i) l ls (initial_names at.initial there) rest.initials;
+          initials = All-cons (InitialNamesVariables t i last) l ls (initial_names at.initial (λ word v of found. still_there less (there word v of found))) rest.initials;
           number_is = omega (arith, number);
         }
 
-    declarations_name : {here : Here} {ds : List Declaration} {ls : List LocalVar} → TypesDeclarations program here ds ls → KnowsVariables t i here → StandFrom (variables_of i.body) here.locals (map info_of ls) → Declares (behind_declarations here ds) here.locals ls
+    declarations_name : {here : Here} {ds : List Declaration} {ls : List LocalVar} → TypesDeclarations program here ds ls → IsKnown here →
+        (last : ℕ) → here.locals + length ls ≤ last → StandFrom (variables_of i.body) here.locals (map info_of ls) → Declares (behind_declarations here ds) here.locals last ls
     unfolding behind_declarations
-    declarations_name Y.no_declaration k s = record { knows = k; initials = All-nil (InitialNamesVariables t i); number_is = omega arith }
-    declarations_name (Y.next_declaration {here = here} {ty = ty} {d = d} {ds = ds} {ls = ls} {rest = rest} is at more) k s =
+    declarations_name Y.no_declaration k last least s = record { knows = k.variables; initials = All-nil (InitialNamesVariables t i last); number_is = omega arith }
+    declarations_name (Y.next_declaration {here = here} {ty = ty} {d = d} {ds = ds} {ls = ls} {rest = rest} is at more) k last least s =
+        let long = length-append ls rest in
         let both = subst (StandFrom (variables_of i.body) here.locals) (map-append info_of ls rest) s in
-        let first = locals_name at k (first_part (map info_of ls) (map info_of rest) both) in
+        let first = locals_name at (type_there t here d.type_name ty k.shapes is) k.variables last (omega (arith, least, long)) (first_part (map info_of ls) (map info_of rest) both) in
+        let number_is = first.number_is in
         let number = ap (λ (n : ℕ). here.locals + n) (length-map ls info_of) ∙ first.number_is in
-        let others = declarations_name more first.knows (subst (λ (n : ℕ). StandFrom (variables_of i.body) n (map info_of rest)) number (second_part (map info_of ls) (map info_of rest) both)) in
+        let others = declarations_name more (record { variables = first.knows; shapes = behind_all t here (Some ty) d.variables.items k.shapes }) last (omega (arith, least, long, number_is))
+        (subst (λ (n : ℕ). StandFrom (variables_of i.body) n (map info_of rest)) number (second_part (map info_of ls) (map info_of rest) both)) in
+        let others_is = others.number_is in
         record {
           knows = subst (λ (known : Option ValueType). KnowsVariables t i (behind_declarations (behind_declarators here known d.variables.items) ds)) (sym is) others.knows;
-          initials = All-append (InitialNamesVariables t i) ls rest first.initials others.initials;
-          number_is = subst (λ (known : Option ValueType). here.locals + length (ls ++ rest) ≡ (behind_declarations (behind_declarators here known d.variables.items) ds).locals) (sym is)
-              (ap (λ (n : ℕ). here.locals + n) (length-append ls rest) ∙ add_assoc here.locals (length ls) (length rest) ∙ ap (λ (n : ℕ). n + length rest) first.number_is ∙ others.number_is);
+          initials = All-append (InitialNamesVariables t i last) ls rest first.initials others.initials;
+          number_is = subst (λ (known : Option ValueType). here.locals + length (ls ++ rest) ≡ (behind_declarations (behind_declarators here known d.variables.items) ds).locals) (sym is) (omega (arith, long, number_is, others_is));
         }
-      where
-        add_assoc : (a b c : ℕ) → a + (b + c) ≡ (a + b) + c
-        add_assoc a b c = omega arith
 
     -- ---- statements
 
-    effect_names : {here : Here} {e : Option Expr} {f : Option TExpr} → TypesEffectIf program here e f → KnowsVariables t i here → IfSome f (NamesVariables t i)
+    effect_names : {here : Here} {e : Option Expr} {f : Option TExpr} → TypesEffectIf program here e f → KnowsVariables t i here → IfSome f (NamesVariables t i here.locals)
     effect_names Y.TypesEffectIf.absent k = tt
-    effect_names {here = here} (Y.TypesEffectIf.present at) k = named t i program at (as_whole_place here k)
+    effect_names {here = here} (Y.TypesEffectIf.present at) k = named t i here.locals program at (known_whole here k)
 
-    test_names : {here : Here} {e : Option Expr} {f : Option TExpr} → TypesTestIf program here e f → KnowsVariables t i here → IfSome f (NamesVariables t i)
+    test_names : {here : Here} {e : Option Expr} {f : Option TExpr} → TypesTestIf program here e f → KnowsVariables t i here → IfSome f (NamesVariables t i here.locals)
     test_names Y.TypesTestIf.absent k = tt
-    test_names (Y.TypesTestIf.present test) k = named t i program test.typed k
+    test_names {here = here} (Y.TypesTestIf.present test) k = named t i here.locals program test.typed k
 
-    returned_names : {here : Here} {returns : Returns} {e f : TExpr} → IsReturned here returns e f → NamesVariables t i e → NamesVariables t i f
-    returned_names (Y.returned at_hand takes fit) n = fitted t i fit n
+    returned_names : {here : Here} {returns : Returns} {e f : TExpr} (n : ℕ) → IsReturned here returns e f → NamesVariables t i n e → NamesVariables t i n f
+    returned_names n (Y.returned at_hand takes fit) names = fitted t i n fit names
 
     module _ (returns : Returns) where
       -- the only part of a statement
@@ -203,51 +222,67 @@ module _ (t : Typed) (i : Instance) where
       behind_part {here = here} {f = f} at other s =
           first_part other [] (subst (λ (n : ℕ). StandFrom (variables_of i.body) (here.locals + n) (other ++ [])) (as_many program returns at) (second_part (variables_of f) (other ++ []) s))
 
-      mutual
-        unfolding StatementNamesVariables ElseNamesVariables concat
+      -- as many variables are declared behind a statement as it declares
+      behind_names : {here : Here} {s : Stmt} {f : TStmt} (g : TStmt) → TypesStatement program returns here s f → StatementNamesVariables t i (behind here s).locals g → StatementNamesVariables t i (here.locals + length (variables_of f)) g
+      behind_names {here = here} g at names = subst (λ (n : ℕ). StatementNamesVariables t i (here.locals + n) g) (sym (as_many program returns at)) names
 
-        pub statement_names : {here : Here} {s : Stmt} {f : TStmt} → TypesStatement program returns here s f → KnowsVariables t i here → StandFrom (variables_of i.body) here.locals (variables_of f) → StatementNamesVariables t i f
+      mutual
+        unfolding StatementNamesVariables ElseNamesVariables EachNamesVariables concat
+
+        pub statement_names : {here : Here} {s : Stmt} {f : TStmt} → TypesStatement program returns here s f → IsKnown here → StandFrom (variables_of i.body) here.locals (variables_of f) → StatementNamesVariables t i here.locals f
         statement_names (Y.block_is {here = here} locals statements at) k s =
-            let parts = parts_name at (in_block here k) (subst (StandFrom (variables_of i.body) here.locals) (of_block locals statements) s) in
-            block_names_variables t i locals statements parts.0 parts.1
-        statement_names (Y.expression {here = here} at) k s = named t i program at (as_whole_place here k)
+            let parts = parts_name at (known_block here k) (subst (StandFrom (variables_of i.body) here.locals) (of_block locals statements) s) in
+            block_names_variables t i here.locals locals statements parts.0 parts.1
+        statement_names (Y.expression {here = here} at) k s = named t i here.locals program at (known_whole here k.variables)
         statement_names Y.empty k s = tt
-        statement_names (Y.if_alone {t = test_is} second a test at) k s = (named t i program test.typed k, statement_names at k (only (variables_of a.value) (of_if test_is a) s), tt)
+        statement_names (Y.if_alone {here = here} {t = test_is} second a test at) k s =
+            (named t i here.locals program test.typed k.variables, statement_names at k (only (variables_of a.value) (of_if test_is a) s), tt)
         statement_names (Y.if_else {here = here} {t = test_is} second third a b test at other) k s =
             let both = subst (StandFrom (variables_of i.body) here.locals) (of_else test_is a b) s in (
-              named t i program test.typed k,
+              named t i here.locals program test.typed k.variables,
               statement_names at k (first_part (variables_of a.value) (variables_of b.value ++ []) both),
-              statement_names other (behind_it here second.value k) (behind_part at (variables_of b.value) both),
+              behind_names b.value at (statement_names other (known_behind here second.value k) (behind_part at (variables_of b.value) both)),
             )
-        statement_names (Y.while {here = here} {t = test_is} body b test at) k s = (named t i program test.typed k, statement_names at (in_body here k) (only (variables_of b.value) (of_while test_is b) s))
-        statement_names (Y.do_while {here = here} {t = test_is} body b at test) k s = (statement_names at (in_body here k) (only (variables_of b.value) (of_do b test_is) s), named t i program test.typed k)
+        statement_names (Y.while {here = here} {t = test_is} body b test at) k s =
+            (named t i here.locals program test.typed k.variables, statement_names at (known_body here k) (only (variables_of b.value) (of_while test_is b) s))
+        statement_names (Y.do_while {here = here} {t = test_is} body b at test) k s =
+            (statement_names at (known_body here k) (only (variables_of b.value) (of_do b test_is) s), named t i here.locals program test.typed k.variables)
         statement_names (Y.for {here = here} {f = f} {t = u} {s = step_is} body b first test step at) k s =
-            (effect_names first k, test_names test k, effect_names step k, statement_names at (in_body here k) (only (variables_of b.value) (of_for f u step_is b) s))
+            (effect_names first k.variables, test_names test k.variables, effect_names step k.variables, statement_names at (known_body here k) (only (variables_of b.value) (of_for f u step_is b) s))
         statement_names (Y.break loop) k s = tt
         statement_names (Y.continue loop) k s = tt
         statement_names Y.return_alone k s = tt
-        statement_names (Y.return_value at is) k s = returned_names is (named t i program at k)
-        statement_names (Y.with {here = here} {shape = shape} body b is at) k s = statement_names at (under_shape here shape k) (only (variables_of b.value) (of_with shape b) s)
+        statement_names (Y.return_value {here = here} at is) k s = returned_names here.locals is (named t i here.locals program at k.variables)
+        statement_names (Y.with {here = here} {written = written} {shape = shape} body b is at) k s =
+            statement_names at (known_under here shape (shape_there t here written shape k.shapes is) k) (only (variables_of b.value) (of_with shape b) s)
         statement_names (Y.everywhere {shape = shape} body b is at) k s = statement_names at k (only (variables_of b.value) (of_everywhere shape b) s)
-        statement_names (Y.where_alone {t = test_is} {shape = shape} second a is test parallel at) k s =
-            (named t i program test k, statement_names at k (only (variables_of a.value) (of_where shape test_is a) s), tt)
+        statement_names (Y.where_alone {here = here} {t = test_is} {shape = shape} second a is test parallel at) k s =
+            (named t i here.locals program test k.variables, statement_names at k (only (variables_of a.value) (of_where shape test_is a) s), tt)
         statement_names (Y.where_else {here = here} {t = test_is} {shape = shape} second third a b is test parallel at other) k s =
             let both = subst (StandFrom (variables_of i.body) here.locals) (of_where_else shape test_is a b) s in (
-              named t i program test k,
+              named t i here.locals program test k.variables,
               statement_names at k (first_part (variables_of a.value) (variables_of b.value ++ []) both),
-              statement_names other (behind_it here second.value k) (behind_part at (variables_of b.value) both),
+              behind_names b.value at (statement_names other (known_behind here second.value k) (behind_part at (variables_of b.value) both)),
             )
 
-        statements_name : {here : Here} {ss : List Stmt} {ts : List TStmt} → TypesStatements program returns here ss ts → KnowsVariables t i here → StandFrom (variables_of i.body) here.locals (concat (map variables_of ts)) → All (StatementNamesVariables t i) ts
-        statements_name Y.no_statement k s = All-nil (StatementNamesVariables t i)
+        statements_name : {here : Here} {ss : List Stmt} {ts : List TStmt} → TypesStatements program returns here ss ts → IsKnown here → StandFrom (variables_of i.body) here.locals (concat (map variables_of ts)) → EachNamesVariables t i here.locals ts
+        statements_name Y.no_statement k s = tt
         statements_name (Y.next_statement {here = here} {s = stmt} {t = f} {ts = ts} at more) k s =
-            All-cons (StatementNamesVariables t i) f ts (statement_names at k (first_part (variables_of f) (concat (map variables_of ts)) s))
-            (statements_name more (behind_it here stmt k)
-            (subst (λ (n : ℕ). StandFrom (variables_of i.body) (here.locals + n) (concat (map variables_of ts))) (as_many program returns at) (second_part (variables_of f) (concat (map variables_of ts)) s)))
+            let many = as_many program returns at in (
+              statement_names at k (first_part (variables_of f) (concat (map variables_of ts)) s),
+              subst (λ (n : ℕ). EachNamesVariables t i (here.locals + n) ts) (sym many)
+                  (statements_name more (known_behind here stmt k)
+                  (subst (λ (n : ℕ). StandFrom (variables_of i.body) (here.locals + n) (concat (map variables_of ts))) many (second_part (variables_of f) (concat (map variables_of ts)) s))),
+            )
 
-        parts_name : {here : Here} {block : Block} {locals : List LocalVar} {statements : List TStmt} → TypesBlock program returns here block locals statements → KnowsVariables t i here →
-            StandFrom (variables_of i.body) here.locals (map info_of locals ++ concat (map variables_of statements)) → All (InitialNamesVariables t i) locals × All (StatementNamesVariables t i) statements
+        pub parts_name : {here : Here} {block : Block} {locals : List LocalVar} {statements : List TStmt} → TypesBlock program returns here block locals statements → IsKnown here →
+            StandFrom (variables_of i.body) here.locals (map info_of locals ++ concat (map variables_of statements)) →
+            All (InitialNamesVariables t i (here.locals + length locals)) locals × EachNamesVariables t i (here.locals + length locals) statements
         parts_name {here = here} {locals = locals} {statements = statements} (Y.block block declarations at) k s =
-            let d = declarations_name declarations k (first_part (map info_of locals) (concat (map variables_of statements)) s) in
-            let number = ap (λ (n : ℕ). here.locals + n) (length-map locals info_of) ∙ d.number_is in
-            (d.initials, statements_name at d.knows (subst (λ (n : ℕ). StandFrom (variables_of i.body) n (concat (map variables_of statements))) number (second_part (map info_of locals) (concat (map variables_of statements)) s)))
+            let d = declarations_name declarations k (here.locals + length locals) (omega arith) (first_part (map info_of locals) (concat (map variables_of statements)) s) in
+            let number = ap (λ (n : ℕ). here.locals + n) (length-map locals info_of) ∙ d.number_is in (
+              d.initials,
+              subst (λ (n : ℕ). EachNamesVariables t i n statements) (sym d.number_is)
+                  (statements_name at (record { variables = d.knows; shapes = behind_each t here block.declarations.items k.shapes })
+                  (subst (λ (n : ℕ). StandFrom (variables_of i.body) n (concat (map variables_of statements))) number (second_part (map info_of locals) (concat (map variables_of statements)) s))),
+            )

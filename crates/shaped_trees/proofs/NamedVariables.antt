@@ -1,5 +1,5 @@
 -- What the rules of typing give an expression names the variables that its place knows.
-use Rattle.std.proofs.Common.{ℕ, Bool, List, Option, Some, None, refl, sym, subst}
+use Rattle.std.proofs.Common.{◌≡◌, ℕ, Bool, List, Option, Some, None, refl, sym, subst}
 use Rattle.std.specs.List.{All}
 use Rattle.std.proofs.lemmas.List.Elements.{All-nil, All-cons, All-head, All-tail}
 use Rattle.cstar_base.specs.declared.elem.Elem.{Elem}
@@ -17,61 +17,65 @@ use Rattle.cstar_tree.specs.Conversions as C
 use Rattle.cstar_tree.specs.ExpressionTypes.{IsBit, Types, TypesEach, TypesIndexes}
 use Rattle.cstar_tree.specs.ExpressionTypes as X
 use Rattle.cstar_tree.specs.Headers.{Program}
-use Rattle.cstar_tree.specs.Scopes.{Here, index_place, meaning}
-use Rattle.code_lengths.specs.Naming.{HasBits, KnowsVariables, NamesVariables}
+use Rattle.cstar_tree.specs.Scopes.{Here, VariableType, a_variable, index_place, meaning}
+use Rattle.code_lengths.specs.Naming.{HasBits, HasVariable, NamesVariables}
 use Rattle.shaped_trees.proofs.Rows.{list_names_variables}
 
-module _ (t : Typed) (i : Instance) where
-  converted : {e f : TExpr} {elem : Elem} → IsConverted e elem f → NamesVariables t i e → NamesVariables t i f
+module _ (t : Typed) (i : Instance) (n : ℕ) where
+  -- the variables that a place knows are there, where so many are declared
+  abbrev pub Knows : Here → Type 0
+  Knows here = (word : List ℕ) (v : Variable) (ty : VariableType) → meaning here word ≡ Some (a_variable v (Some ty)) → HasVariable t i n v ty
+
+  converted : {e f : TExpr} {elem : Elem} → IsConverted e elem f → NamesVariables t i n e → NamesVariables t i n f
   unfolding NamesVariables
-  converted (C.as_it_is same) n = n
-  converted (C.by_node operand is other) n = subst (NamesVariables t i) (sym is) n
+  converted (C.as_it_is same) names = names
+  converted (C.by_node operand is other) names = subst (NamesVariables t i n) (sym is) names
 
-  spread : {e f : TExpr} {wanted : Option ℕ} → IsSpread e wanted f → NamesVariables t i e → NamesVariables t i f
+  spread : {e f : TExpr} {wanted : Option ℕ} → IsSpread e wanted f → NamesVariables t i n e → NamesVariables t i n f
   unfolding NamesVariables
-  spread C.none_wanted n = n
-  spread (C.is_parallel shape) n = n
-  spread (C.at_each_position operand is none) n = subst (NamesVariables t i) (sym is) n
+  spread C.none_wanted names = names
+  spread (C.is_parallel shape) names = names
+  spread (C.at_each_position operand is none) names = subst (NamesVariables t i n) (sym is) names
 
-  pub fitted : {e f : TExpr} {ty : ValueType} → IsFitted e ty f → NamesVariables t i e → NamesVariables t i f
-  fitted fit n = spread fit.spread (converted fit.conversion n)
+  pub fitted : {e f : TExpr} {ty : ValueType} → IsFitted e ty f → NamesVariables t i n e → NamesVariables t i n f
+  fitted fit names = spread fit.spread (converted fit.conversion names)
 
-  each_promoted : {es fs : List TExpr} → ArePromoted es fs → All (NamesVariables t i) es → All (NamesVariables t i) fs
-  each_promoted C.none ns = All-nil (NamesVariables t i)
+  each_promoted : {es fs : List TExpr} → ArePromoted es fs → All (NamesVariables t i n) es → All (NamesVariables t i n) fs
+  each_promoted C.none ns = All-nil (NamesVariables t i n)
   each_promoted (C.next {e = e} {p = f} {es = es} {ps = fs} c more) ns =
-      All-cons (NamesVariables t i) f fs (converted c (All-head (NamesVariables t i) e es ns)) (each_promoted more (All-tail (NamesVariables t i) e es ns))
+      All-cons (NamesVariables t i n) f fs (converted c (All-head (NamesVariables t i n) e es ns)) (each_promoted more (All-tail (NamesVariables t i n) e es ns))
 
-  each_spread : {shape : Option ℕ} {es fs : List TExpr} → AreSpread shape es fs → All (NamesVariables t i) es → All (NamesVariables t i) fs
-  each_spread C.none ns = All-nil (NamesVariables t i)
+  each_spread : {shape : Option ℕ} {es fs : List TExpr} → AreSpread shape es fs → All (NamesVariables t i n) es → All (NamesVariables t i n) fs
+  each_spread C.none ns = All-nil (NamesVariables t i n)
   each_spread (C.next {e = e} {p = f} {es = es} {ps = fs} s more) ns =
-      All-cons (NamesVariables t i) f fs (spread s (All-head (NamesVariables t i) e es ns)) (each_spread more (All-tail (NamesVariables t i) e es ns))
+      All-cons (NamesVariables t i n) f fs (spread s (All-head (NamesVariables t i n) e es ns)) (each_spread more (All-tail (NamesVariables t i n) e es ns))
 
-  each_fitted : {types : List ValueType} {es fs : List TExpr} → AreFitted types es fs → All (NamesVariables t i) es → All (NamesVariables t i) fs
-  each_fitted C.none ns = All-nil (NamesVariables t i)
+  each_fitted : {types : List ValueType} {es fs : List TExpr} → AreFitted types es fs → All (NamesVariables t i n) es → All (NamesVariables t i n) fs
+  each_fitted C.none ns = All-nil (NamesVariables t i n)
   each_fitted (C.next {e = e} {f = f} {es = es} {fs = fs} takes fit more) ns =
-      All-cons (NamesVariables t i) f fs (fitted fit (All-head (NamesVariables t i) e es ns)) (each_fitted more (All-tail (NamesVariables t i) e es ns))
+      All-cons (NamesVariables t i n) f fs (fitted fit (All-head (NamesVariables t i n) e es ns)) (each_fitted more (All-tail (NamesVariables t i n) e es ns))
 
-  bits : {here : Here} {mode : SegmentMode} {n : Option Name} {v : Option Variable} → IsBit here mode n v → KnowsVariables t i here → HasBits t i v
+  bits : {here : Here} {mode : SegmentMode} {name : Option Name} {v : Option Variable} → IsBit here mode name v → Knows here → HasBits t i n v
   bits X.no_bit k = tt
-  bits (X.bit {n = n} {v = v} {elem = elem} {shape = shape} segments is one current) k = (parallel elem shape, refl, k n.word v (record { value = parallel elem shape; array = None }) is)
+  bits (X.bit {n = name} {v = v} {elem = elem} {shape = shape} segments is one current) k = (parallel elem shape, refl, k name.word v (record { value = parallel elem shape; array = None }) is)
 
   module _ (program : Program) where
     -- the same names are known at the place of an index
-    in_index : (here : Here) (word : List ℕ) (axis : ℕ) → KnowsVariables t i here → KnowsVariables t i (index_place here word axis)
+    in_index : (here : Here) (word : List ℕ) (axis : ℕ) → Knows here → Knows (index_place here word axis)
     unfolding index_place meaning
     in_index here word axis k = k
 
     mutual
       unfolding NamesVariables meaning
 
-      pub named : {here : Here} {e : Expr} {f : TExpr} {has_value : Bool} → Types program here e f has_value → KnowsVariables t i here → NamesVariables t i f
+      pub named : {here : Here} {e : Expr} {f : TExpr} {has_value : Bool} → Types program here e f has_value → Knows here → NamesVariables t i n f
       named X.number k = tt
-      named (X.name {n = n} {v = v} {ty = ty} is at_hand) k = k n.word v (record { value = ty; array = None }) is
-      named (X.element {n = n} {v = v} {ty = ty} {length = length} index j is at none at_hand) k = ((length, k n.word v (record { value = ty; array = Some length }) is), named at k)
+      named (X.name {n = name} {v = v} {ty = ty} is at_hand) k = k name.word v (record { value = ty; array = None }) is
+      named (X.element {n = name} {v = v} {ty = ty} {length = length} index j is at none at_hand) k = ((length, k name.word v (record { value = ty; array = Some length }) is), named at k)
       named (X.dot is) k = tt
-      named (X.left_index {here = here} {p = p} {n = n} {v = v} {elem = elem} {of = of} {given = ts} indexes ss is known as_many are spreads) k = (
-        k n.word v (record { value = parallel elem of; array = None }) is,
-        list_names_variables t i (T.LeftIndex (record { elem = elem; shape = shape_among ts }) p ss v of) ss (items_hidden-the_row-TExpr-0 ss) (each_spread spreads (named_indexes are k)),
+      named (X.left_index {here = here} {p = p} {n = name} {v = v} {elem = elem} {of = of} {given = ts} indexes ss is known as_many are spreads) k = (
+        k name.word v (record { value = parallel elem of; array = None }) is,
+        list_names_variables t i n (T.LeftIndex (record { elem = elem; shape = shape_among ts }) p ss v of) ss (items_hidden-the_row-TExpr-0 ss) (each_spread spreads (named_indexes are k)),
       )
       named (X.brackets inner j at) k = named at k
       named (X.assign target value u f at at_value place storable fit) k = (named at k, fitted fit (named at_value k))
@@ -87,9 +91,9 @@ module _ (t : Typed) (i : Instance) where
       named (X.casts chain operand elems x at none are) k = named at k
       named (X.parallel_cast operand x is at_hand at sp) k = spread sp (named at k)
       named (X.call {instance = instance} {ty = ty} arguments fs means is around leads reached types callable gives are fits) k =
-          list_names_variables t i (T.Call ty instance fs) fs (items_hidden-the_row-TExpr-0 fs) (each_fitted fits (named_each are k))
+          list_names_variables t i n (T.Call ty instance fs) fs (items_hidden-the_row-TExpr-0 fs) (each_fitted fits (named_each are k))
       named (X.call_outside {ty = ty} arguments ts means is around types callable gives are taken) k =
-          list_names_variables t i (T.Call ty 0 ts) ts (items_hidden-the_row-TExpr-0 ts) (named_each are k)
+          list_names_variables t i n (T.Call ty 0 ts) ts (items_hidden-the_row-TExpr-0 ts) (named_each are k)
       named (X.pcoord axis current known is) k = tt
       named (X.positions_of is known) k = tt
       named (X.rank_of is known) k = tt
@@ -97,14 +101,14 @@ module _ (t : Typed) (i : Instance) where
       named (X.scan source axis x current known is segments at parallel conversion) k = (bits segments k, converted conversion (named at k))
       named (X.enumerate axis current known is segments) k = bits segments k
       named (X.printf arguments pieces values are none pieces_are as_many promoted) k =
-          list_names_variables t i (T.Printf (scalar int) pieces values) values (items_hidden-the_row-TExpr-0 values) (each_promoted promoted (named_each are k))
+          list_names_variables t i n (T.Printf (scalar int) pieces values) values (items_hidden-the_row-TExpr-0 values) (each_promoted promoted (named_each are k))
       named X.getchar k = tt
 
-      named_each : {here : Here} {es : List Expr} {ts : List TExpr} → TypesEach program here es ts → KnowsVariables t i here → All (NamesVariables t i) ts
-      named_each X.no_expression k = All-nil (NamesVariables t i)
-      named_each (X.next_expression {t = f} {ts = ts} at more) k = All-cons (NamesVariables t i) f ts (named at k) (named_each more k)
+      named_each : {here : Here} {es : List Expr} {ts : List TExpr} → TypesEach program here es ts → Knows here → All (NamesVariables t i n) ts
+      named_each X.no_expression k = All-nil (NamesVariables t i n)
+      named_each (X.next_expression {t = f} {ts = ts} at more) k = All-cons (NamesVariables t i n) f ts (named at k) (named_each more k)
 
-      named_indexes : {here : Here} {n : Name} {axis : ℕ} {es : List Expr} {ts : List TExpr} → TypesIndexes program here n axis es ts → KnowsVariables t i here → All (NamesVariables t i) ts
-      named_indexes X.no_index k = All-nil (NamesVariables t i)
-      named_indexes (X.next_index {here = here} {n = n} {axis = axis} {t = f} {ts = ts} at more) k =
-          All-cons (NamesVariables t i) f ts (named at (in_index here n.word axis k)) (named_indexes more k)
+      named_indexes : {here : Here} {name : Name} {axis : ℕ} {es : List Expr} {ts : List TExpr} → TypesIndexes program here name axis es ts → Knows here → All (NamesVariables t i n) ts
+      named_indexes X.no_index k = All-nil (NamesVariables t i n)
+      named_indexes (X.next_index {here = here} {n = name} {axis = axis} {t = f} {ts = ts} at more) k =
+          All-cons (NamesVariables t i n) f ts (named at (in_index here name.word axis k)) (named_indexes more k)

@@ -1,5 +1,5 @@
 -- Lists as they stand in nodes: what is said of the row of a node is said of each thing of its list.
-use Rattle.std.proofs.Common.{◌≡◌, Option, Vec, sym, subst}
+use Rattle.std.proofs.Common.{◌≡◌, ℕ, ◌+◌, List, [], ◌∷◌, length, Option, Vec, sym, subst}
 use Rattle.std.specs.declared.alloc.Global.{Global}
 use Rattle.std.specs.List.{All}
 use Rattle.std.proofs.lemmas.List.Elements.{All-nil, All-cons, All-head, All-tail}
@@ -23,7 +23,7 @@ use Rattle.code_lengths.specs.Lowerable.{AreLowerable, IsLowerable}
 use Rattle.code_lengths.specs.LowerableStatements.{AreLowerableStatements, IsLowerableLocal, IsLowerableStatement}
 use Rattle.shaped_trees.specs.Casts.{BlockNamesShapes, ExpressionNamesShapes, ExpressionsNameShapes, StatementNamesShapes, StatementsNameShapes}
 use Rattle.code_lengths.specs.Naming.{AllNameVariables, NamesVariables}
-use Rattle.code_lengths.specs.NamingStatements.{InitialNamesVariables, StatementNamesVariables, StatementsNameVariables}
+use Rattle.code_lengths.specs.NamingStatements.{InitialNamesVariables, StatementNamesVariables, StatementsNameVariables, behind}
 
 -- ---- typed expressions
 
@@ -49,15 +49,15 @@ row_lowerable t n (more_of-TExpr e rest) all = (All-head (IsLowerable t) e _ all
 pub list_lowerable : (t : Typed) (node : TExpr) (list : Vec TExpr Global) → items-the_row-TExpr (typed_row node).0 (typed_row node).1 ≡ list.items → All (IsLowerable t) list.items → AreLowerable t (typed_row node).1
 list_lowerable t node list same all = row_lowerable t (typed_row node).0 (typed_row node).1 (subst (All (IsLowerable t)) (sym same) all)
 
-row_names_variables : (t : Typed) (i : Instance) (n : Count) (row : Row_of-TExpr n) → All (NamesVariables t i) (items-the_row-TExpr n row) → AllNameVariables t i row
+row_names_variables : (t : Typed) (i : Instance) (n : ℕ) (k : Count) (row : Row_of-TExpr k) → All (NamesVariables t i n) (items-the_row-TExpr k row) → AllNameVariables t i n row
 unfolding AllNameVariables
-row_names_variables t i n end_of-TExpr all = tt
-row_names_variables t i n (more_of-TExpr e rest) all =
-    (All-head (NamesVariables t i) e _ all, row_names_variables t i _ rest (All-tail (NamesVariables t i) e _ all))
+row_names_variables t i n k end_of-TExpr all = tt
+row_names_variables t i n k (more_of-TExpr e rest) all =
+    (All-head (NamesVariables t i n) e _ all, row_names_variables t i n _ rest (All-tail (NamesVariables t i n) e _ all))
 
-pub list_names_variables : (t : Typed) (i : Instance) (node : TExpr) (list : Vec TExpr Global) → items-the_row-TExpr (typed_row node).0 (typed_row node).1 ≡ list.items →
-    All (NamesVariables t i) list.items → AllNameVariables t i (typed_row node).1
-list_names_variables t i node list same all = row_names_variables t i (typed_row node).0 (typed_row node).1 (subst (All (NamesVariables t i)) (sym same) all)
+pub list_names_variables : (t : Typed) (i : Instance) (n : ℕ) (node : TExpr) (list : Vec TExpr Global) → items-the_row-TExpr (typed_row node).0 (typed_row node).1 ≡ list.items →
+    All (NamesVariables t i n) list.items → AllNameVariables t i n (typed_row node).1
+list_names_variables t i n node list same all = row_names_variables t i n (typed_row node).0 (typed_row node).1 (subst (All (NamesVariables t i n)) (sym same) all)
 
 -- ---- expressions of the text
 
@@ -113,18 +113,22 @@ block_lowerable t result locals statements declared all =
     let row = typed_statements (R.Block locals statements) in
     (declared, statements_lowerable t result row.0 row.1 (subst (All (IsLowerableStatement t result)) (sym (items_hidden-the_row-TStmt-0 statements)) all))
 
-statements_name_variables : (t : Typed) (i : Instance) (n : Count) (row : Row_of-TStmt n) → All (StatementNamesVariables t i) (items-the_row-TStmt n row) → StatementsNameVariables t i row
-unfolding StatementsNameVariables
-statements_name_variables t i n end_of-TStmt all = tt
-statements_name_variables t i n (more_of-TStmt s rest) all =
-    (All-head (StatementNamesVariables t i) s _ all, statements_name_variables t i _ rest (All-tail (StatementNamesVariables t i) s _ all))
+-- statements one behind the other, the first where so many variables are declared
+unfoldable pub EachNamesVariables : Typed → Instance → ℕ → List TStmt → Type 0
+EachNamesVariables t i n [] = Unit {0}
+EachNamesVariables t i n (s ∷ ss) = StatementNamesVariables t i n s × EachNamesVariables t i (behind n s) ss
 
-pub block_names_variables : (t : Typed) (i : Instance) (locals : Vec LocalVar Global) (statements : Vec TStmt Global) →
-    All (InitialNamesVariables t i) locals.items → All (StatementNamesVariables t i) statements.items → StatementNamesVariables t i (R.Block locals statements)
+statements_name_variables : (t : Typed) (i : Instance) (n : ℕ) (k : Count) (row : Row_of-TStmt k) → EachNamesVariables t i n (items-the_row-TStmt k row) → StatementsNameVariables t i n row
+unfolding StatementsNameVariables EachNamesVariables
+statements_name_variables t i n k end_of-TStmt all = tt
+statements_name_variables t i n k (more_of-TStmt s rest) all = (all.0, statements_name_variables t i (behind n s) _ rest all.1)
+
+pub block_names_variables : (t : Typed) (i : Instance) (n : ℕ) (locals : Vec LocalVar Global) (statements : Vec TStmt Global) →
+    All (InitialNamesVariables t i (n + length locals.items)) locals.items → EachNamesVariables t i (n + length locals.items) statements.items → StatementNamesVariables t i n (R.Block locals statements)
 unfolding StatementNamesVariables
-block_names_variables t i locals statements declared all =
+block_names_variables t i n locals statements declared all =
     let row = typed_statements (R.Block locals statements) in
-    (declared, statements_name_variables t i row.0 row.1 (subst (All (StatementNamesVariables t i)) (sym (items_hidden-the_row-TStmt-0 statements)) all))
+    (declared, statements_name_variables t i (n + length locals.items) row.0 row.1 (subst (EachNamesVariables t i (n + length locals.items)) (sym (items_hidden-the_row-TStmt-0 statements)) all))
 
 -- ---- blocks of the text
 

@@ -1,5 +1,5 @@
 -- The laws: what the rules of typing give is shaped and lowerable, and names the variables that there are.
-use Rattle.std.specs.Prelude.{◌≡◌, ℕ, Bool, true, false, List, Option, Some, is_none}
+use Rattle.std.specs.Prelude.{◌≡◌, ℕ, Bool, true, false, List, Option, Some, is_none, length}
 use Rattle.std.specs.List.{All}
 use Rattle.cstar_tree.specs.declared.syntax.Declaration.{Declaration}
 use Rattle.cstar_tree.specs.declared.syntax.Expr.{Expr}
@@ -14,6 +14,7 @@ use Rattle.cstar_tree.specs.declared.typed.Typed.{Typed}
 use Rattle.cstar_tree.specs.declared.typed.VarInfo.{VarInfo}
 use Rattle.cstar_tree.specs.BlockScopes.{behind_declarations}
 use Rattle.cstar_tree.specs.ExpressionTypes.{Types}
+use Rattle.cstar_tree.specs.FileScopes.{file_known}
 use Rattle.cstar_tree.specs.Headers.{Program, Returns}
 use Rattle.cstar_tree.specs.Items.{IsTree}
 use Rattle.cstar_tree.specs.Operations.{Target, target_of}
@@ -30,7 +31,8 @@ use Rattle.code_lengths.specs.Lowerable.{GivesValue, IsLowerable}
 use Rattle.code_lengths.specs.LowerableStatements.{IsLowerableLocal, IsLowerableStatement}
 use Rattle.code_lengths.specs.Naming.{KnowsVariables, NamesVariables}
 use Rattle.code_lengths.specs.NamingStatements.{StandFrom, StatementNamesVariables}
-use Rattle.shaped_trees.specs.Places.{IsInside, IsSound}
+use Rattle.code_lengths.specs.Ready.{IsCodable}
+use Rattle.shaped_trees.specs.Places.{IsInside, IsSound, KnowsShapes}
 
 -- What an expression becomes, before it is brought to another type or shape: it is shaped, can be
 -- assigned to where typing takes it as a target, and is kept in a register exactly where it has no shape.
@@ -57,7 +59,7 @@ TypedExpressionsAreLowerable =
 abbrev pub TypedExpressionsNameVariables : Type 0
 TypedExpressionsNameVariables =
     (program : Program) (typed : Typed) (instance : Instance) (here : Here) (e : Expr) (t : TExpr) (has_value : Bool) → KnowsVariables typed instance here → Types program here e t has_value →
-    NamesVariables typed instance t
+    NamesVariables typed instance here.locals t
 
 -- declarations, and the place behind them
 abbrev pub TypedDeclarationsAreShaped : Type 0
@@ -86,7 +88,8 @@ TypedStatementsAreLowerable =
 abbrev pub TypedStatementsNameVariables : Type 0
 TypedStatementsNameVariables =
     (program : Program) (typed : Typed) (instance : Instance) (returns : Returns) (here : Here) (s : Stmt) (t : TStmt) →
-    KnowsVariables typed instance here → StandFrom (variables_of instance.body) here.locals (variables_of t) → TypesStatement program returns here s t → StatementNamesVariables typed instance t
+    KnowsVariables typed instance here → KnowsShapes typed here → StandFrom (variables_of instance.body) here.locals (variables_of t) → TypesStatement program returns here s t →
+    StatementNamesVariables typed instance here.locals t
 
 -- what the laws of code lengths ask of an instance
 abbrev pub HasShapedBody : Instance → Type 0
@@ -103,3 +106,12 @@ HasLowerableBody typed instance = IsLowerableStatement typed instance.result ins
 
 abbrev pub TypedFilesAreLowerable : Type 0
 TypedFilesAreLowerable = (tree : Tree) (typed : Typed) → NamesShapes tree → TypesFile tree typed → All (HasLowerableBody typed) typed.instances.items
+
+-- The names of a file stand for all variables of its program, so that each has the number of its name:
+-- none of these names is declared twice.
+abbrev pub NamesAllVariables : Tree → Typed → Type 0
+NamesAllVariables tree typed = (file_known tree).variables ≡ length typed.vars.items
+
+-- so the instances of its program have code
+abbrev pub TypedFilesHaveCode : Type 0
+TypedFilesHaveCode = (tree : Tree) (typed : Typed) → NamesShapes tree → NamesAllVariables tree typed → TypesFile tree typed → IsCodable typed

@@ -1,12 +1,12 @@
 -- What has to be known at a place for a typed tree that stands there to be shaped, and lowerable.
-use Rattle.std.specs.Prelude.{◌≡◌, ℕ, List, ◌++◌, Some, IsSome, is_none, false, slice_get}
+use Rattle.std.specs.Prelude.{◌≡◌, ℕ, List, ◌++◌, Some, IfSome, IsSome, is_none, false, slice_get}
 use Rattle.cstar_tree.specs.declared.typed.Instance.{Instance}
 use Rattle.cstar_tree.specs.declared.typed.Typed.{Typed}
 use Rattle.cstar_tree.specs.declared.typed.ValueType.{ValueType}
 use Rattle.cstar_tree.specs.declared.typed.Variable.{Variable}
 use Rattle.cstar_tree.specs.Headers.{Placed, Program, Reached, header_place, returns_of}
 use Rattle.cstar_tree.specs.ProgramTypes.{TypesParameters, TypesResult}
-use Rattle.cstar_tree.specs.Scopes.{Binding, Here, a_variable, find}
+use Rattle.cstar_tree.specs.Scopes.{Binding, Here, a_shape, a_variable, find, meaning}
 use Rattle.code_lengths.specs.Shaped.{HasShape}
 
 -- a name that stands for an array stands for a parallel one
@@ -18,6 +18,15 @@ ArraysAreParallel names =
 pub record IsSound (here : Here) : Type 0 where
   pub arrays : ArraysAreParallel (here.names.inner ++ here.names.outer)
   pub dot : (axis : ℕ) → here.dot ≡ Some axis → is_none here.current ≡ false
+
+-- a shape of the program
+abbrev pub IsShapeOf : Typed → ℕ → Type 0
+IsShapeOf t number = IsSome (slice_get t.shapes.items number)
+
+-- the shapes that names stand for at a place, and the current one, are the program's
+pub record KnowsShapes (t : Typed) (here : Here) : Type 0 where
+  pub named : (word : List ℕ) (number : ℕ) → meaning here word ≡ Some (a_shape number) → IsShapeOf t number
+  pub current : IfSome here.current (IsShapeOf t)
 
 -- a function under a current shape has an instance of this number, with its parameters and its result
 pub record HasInstance (t : Typed) (shapes : List (List ℕ)) (number : ℕ) (r : Reached) (placed : Placed) : Type 0 where

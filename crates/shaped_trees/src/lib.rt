@@ -3,7 +3,7 @@
 //! Readers find the laws here by name.
 #![tactic(auto)]
 
-ghost use Rattle.shaped_trees.specs.Laws.{SpelledTreesNameShapes, TypedDeclarationsAreLowerable, TypedDeclarationsAreShaped, TypedExpressionsAreLowerable, TypedExpressionsAreShaped, TypedExpressionsNameVariables, TypedFilesAreLowerable, TypedFilesAreShaped, TypedStatementsAreLowerable, TypedStatementsAreShaped, TypedStatementsNameVariables};
+ghost use Rattle.shaped_trees.specs.Laws.{SpelledTreesNameShapes, TypedDeclarationsAreLowerable, TypedDeclarationsAreShaped, TypedExpressionsAreLowerable, TypedExpressionsAreShaped, TypedExpressionsNameVariables, TypedFilesAreLowerable, TypedFilesAreShaped, TypedFilesHaveCode, TypedStatementsAreLowerable, TypedStatementsAreShaped, TypedStatementsNameVariables};
 
 /// What an expression becomes by the rules is shaped, at a place that knows no array without a shape,
 /// and can be assigned to where the rules take it as a target. Its value is kept in a register exactly
@@ -60,6 +60,12 @@ pub fn typed_file_is_shaped()
 /// What a file becomes by the rules has lowerable bodies.
 pub fn typed_file_is_lowerable()
     ensures { TypedFilesAreLowerable }
+{}
+
+/// The instances of what a file becomes by the rules have code, as the laws of code lengths ask for it, where
+/// no name of its variables is declared twice.
+pub fn typed_file_has_code()
+    ensures { TypedFilesHaveCode }
 {}
 
 /// In a tree that tokens spell each parallel cast names a shape, as the laws above ask.

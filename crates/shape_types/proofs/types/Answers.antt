@@ -16,4 +16,4 @@ returns-clause-exact c named plain =
     let same = c.new-file.ensures.tree in
     let typed = subst (λ (t : Tree). AreTyped t c.type_file.new.file.shapes.items c.in-Ok.typing) same (c.in-Ok.ensures.typed (subst (λ (t : Tree). HasFewNames (file_known t)) (sym same) few) (subst IsPlainTree (sym same) plain)) in
     let all = typed (not_false c.in-Ok.typing.0.is_whole c.if-not-declared.false) in
-    c.with_needs.ensures.exact c.args.tree.now all.0 (all.1 c.if-not-program.false)
+    c.with_needs.ensures.exact c.args.tree.now all.0 all.1 (all.2 c.if-not-program.false)
