@@ -11,7 +11,7 @@ rehomed d e n before after is x = record { name = x.name; more = x.more; code = 
 pub advanced : (d e : Draft) (n : ℕ) → Extended d n e → Advanced d n e
 advanced d e n x = ([], rehomed d e n (d.homes ++ []) e.homes (x.homes ∙ append_nothing d.homes) x)
 
-pub further : (d e f : Draft) (a b : ℕ) → Advanced d a e → Advanced e b f → Advanced d (a + b) f
+further : (d e f : Draft) (a b : ℕ) → Advanced d a e → Advanced e b f → Advanced d (a + b) f
 further d e f a b x y = (
   x.0 ++ y.0,
   extended (with_homes (x.0 ++ y.0) d) (with_homes y.0 e) f a b

@@ -58,7 +58,7 @@ and_next t i n next P is old new (V.Local k) info named declared = elim (either 
         let known : next ≡ info = cc in
         subst (λ (k : ℕ). P (V.Local k) info) (sym same) (subst (λ (info : VarInfo). P (V.Local n) info) known new)
 
-pub next_ready : (t : Typed) (i : Instance) (l : Layout) (n : ℕ) (d : Draft) (info : VarInfo) → slice_get (variables_of i.body) n ≡ Some info → IsReady t i l n d →
+next_ready : (t : Typed) (i : Instance) (l : Layout) (n : ℕ) (d : Draft) (info : VarInfo) → slice_get (variables_of i.body) n ≡ Some info → IsReady t i l n d →
     (is_none info.shape ≡ false → elements_of t l (V.Local n) ≡ entries_of info) →
     (is_none info.shape ≡ false → (element : ℕ) → element < entries_of info → IsMade (field_of t l (V.Local n) element d)) → IsReady t i l (n + 1) d
 next_ready t i l n d info is ready elements fields = record {

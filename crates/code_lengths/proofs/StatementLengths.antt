@@ -107,7 +107,7 @@ locals_sum t l at_start (local ∷ locals) = swap (clear_length_of at_start loca
     swap a b c d = omega arith
 
 -- how many contexts a jump loads is how many are saved
-pub deeper : (f : Frame) (contexts : List Field) (saved : Field) → StandsAmong f contexts → StandsAmong (in_context f) (contexts ++ saved ∷ [])
+deeper : (f : Frame) (contexts : List Field) (saved : Field) → StandsAmong f contexts → StandsAmong (in_context f) (contexts ++ saved ∷ [])
 unfolding in_context one_more
 deeper f contexts saved h =
     let l : length (contexts ++ saved ∷ []) ≡ length contexts + 1 = length-append contexts (saved ∷ []) in
@@ -115,7 +115,7 @@ deeper f contexts saved h =
     let b = h.all in
     record { loop = omega (arith, l, a); all = omega (arith, l, b) }
 
-pub looped : (f : Frame) (contexts : List Field) (next after : ℕ) → StandsAmong f contexts → StandsAmong (in_loop next after f) contexts
+looped : (f : Frame) (contexts : List Field) (next after : ℕ) → StandsAmong f contexts → StandsAmong (in_loop next after f) contexts
 unfolding in_loop at_loop
 looped f contexts next after h = record { loop = omega arith; all = h.all }
 
@@ -373,7 +373,7 @@ module _ (t : Typed) (i : Instance) (l : Layout) (numbers : NumbersVariables i l
   mutual
     unfolding statement_of statements_of else_of otherwise_of statement_length_of statements_length_of else_length_of IsShapedStatement AreShapedStatements IsShapedElse IsShapedPart IsLowerableStatement AreLowerableStatements IsLowerableElse StatementNamesVariables StatementsNameVariables ElseNamesVariables row_variables else_variables closing has_result in_loop in_context L.widened L.turned part_length_of condition_length_of
 
-    pub statement_lead : (s : TStmt) (f : Frame) (contexts : List Field) (n : ℕ) (d : Draft) → IsShapedStatement s → IsLowerableStatement t i.result s → StatementNamesVariables t i n s → StandFrom (variables_of i.body) n (variables_of s) →
+    statement_lead : (s : TStmt) (f : Frame) (contexts : List Field) (n : ℕ) (d : Draft) → IsShapedStatement s → IsLowerableStatement t i.result s → StatementNamesVariables t i n s → StandFrom (variables_of i.body) n (variables_of s) →
         f.outcome ≡ outcome_of i.result → StandsAmong f contexts → HasDeclared t i l n d → Leads d (statement_length_of t l (has_result f) f.saved s) (Declares t i l (behind n s)) (statement_of t l s f contexts n d)
     statement_lead (S.Block' locals p statements) f contexts n d h w v z o k y =
         let z' = subst (StandFrom (variables_of i.body) n) (of_block locals p statements) z in
@@ -445,7 +445,7 @@ module _ (t : Typed) (i : Instance) (l : Layout) (numbers : NumbersVariables i l
         (λ last y. ends (behind n first) last _ 1 y (and_instr _ last last 0 (as_it_was last))))
         (λ last y. otherwise_lead second f contexts shape saved holds (behind n first) last h.2 w.3 v.2 (second_part _ _ z') o k y)))))))
 
-    pub statements_lead : {j : _} (row : Row_of-TStmt j) (f : Frame) (contexts : List Field) (n : ℕ) (d : Draft) → AreShapedStatements row → AreLowerableStatements t i.result row → StatementsNameVariables t i n row →
+    statements_lead : {j : _} (row : Row_of-TStmt j) (f : Frame) (contexts : List Field) (n : ℕ) (d : Draft) → AreShapedStatements row → AreLowerableStatements t i.result row → StatementsNameVariables t i n row →
         StandFrom (variables_of i.body) n (row_variables row) → f.outcome ≡ outcome_of i.result → StandsAmong f contexts → HasDeclared t i l n d →
         Leads d (statements_length_of t l (has_result f) f.saved row) (Declares t i l (n + length (row_variables row))) (statements_of t l row f contexts n d)
     statements_lead end_of-TStmt f contexts n d h w v z o k y = recounted _ _ d _ _ (sym (and_nothing n)) (ends n d d 0 y (as_it_was d))
@@ -453,14 +453,14 @@ module _ (t : Typed) (i : Instance) (l : Layout) (numbers : NumbersVariables i l
         recounted _ _ d _ _ (row_more n (variables_of s) (row_variables rest))
         (declares_then _ (behind n s) d _ _ _ _ (statement_lead s f contexts n d h.0 w.0 v.0 (first_part _ _ z) o k y) (λ after y. statements_lead rest f contexts (behind n s) after h.1 w.1 v.1 (second_part _ _ z) o k y))
 
-    pub else_lead : (e : Held-TStmt-If-2) (f : Frame) (contexts : List Field) (place n : ℕ) (d : Draft) → IsShapedElse e → IsLowerableElse t i.result e → ElseNamesVariables t i n e →
+    else_lead : (e : Held-TStmt-If-2) (f : Frame) (contexts : List Field) (place n : ℕ) (d : Draft) → IsShapedElse e → IsLowerableElse t i.result e → ElseNamesVariables t i n e →
         StandFrom (variables_of i.body) n (else_variables e) → f.outcome ≡ outcome_of i.result → StandsAmong f contexts → HasDeclared t i l n d →
         Leads d (else_length_of t l (has_result f) f.saved 1 e) (Declares t i l (n + length (else_variables e))) (else_of t l e f contexts place n d)
     else_lead None' f contexts place n d h w v z o k y = recounted _ _ d _ _ (sym (and_nothing n)) (ends n d d 0 y (as_it_was d))
     else_lead (Some' p s) f contexts place n d h w v z o k y =
         leads_sized _ d _ _ _ (add_comm 1 _) (instr_then _ n d _ 1 _ _ y (and_instr _ d d 0 (as_it_was d)) (λ y. statement_lead s f contexts n _ h w v z o k y))
 
-    pub otherwise_lead : (e : Held-TStmt-If-2) (f : Frame) (contexts : List Field) (shape : ℕ) (saved holds : Field) (n : ℕ) (d : Draft) → IsShapedElse e → IsLowerableElse t i.result e → ElseNamesVariables t i n e →
+    otherwise_lead : (e : Held-TStmt-If-2) (f : Frame) (contexts : List Field) (shape : ℕ) (saved holds : Field) (n : ℕ) (d : Draft) → IsShapedElse e → IsLowerableElse t i.result e → ElseNamesVariables t i n e →
         StandFrom (variables_of i.body) n (else_variables e) → f.outcome ≡ outcome_of i.result → StandsAmong f contexts → HasDeclared t i l n d →
         Leads d (else_length_of t l (has_result f) (one_more f.saved) 3 e) (Declares t i l (n + length (else_variables e))) (otherwise_of t l e f contexts shape saved holds n d)
     otherwise_lead None' f contexts shape saved holds n d h w v z o k y = recounted _ _ d _ _ (sym (and_nothing n)) (ends n d d 0 y (as_it_was d))

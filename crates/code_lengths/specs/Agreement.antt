@@ -1,5 +1,6 @@
--- The code of an expression, and of a statement, is as long as described, and only appends: what the
--- unit had is as it was, and the jumps that were written by these lengths lead behind the code.
+-- There is code for an expression, a statement and a unit that has what it relies on. It is as long as
+-- described, and only appends: what the unit had is as it was, and the jumps that were written by these
+-- lengths lead behind the code.
 use Rattle.std.specs.Prelude.{◌≡◌, ◌≤◌, ◌==◌, ℕ, ◌+◌, Bool, true, false, if◌then◌else◌, List, [], length, slice_get, Some}
 use Rattle.std.specs.List.{AllZip}
 use mathlib.Core.Former.{Count}

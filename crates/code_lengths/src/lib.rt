@@ -1,5 +1,5 @@
-//! The code of every expression and statement is as long as its described length, by which its jumps
-//! are written, and only appends. Readers find the laws here by name.
+//! There is code for every expression, statement and unit that has what it relies on; it is as long as its
+//! described length, by which its jumps are written, and only appends. Readers find the laws here by name.
 #![tactic(auto)]
 
 ghost use Rattle.code_lengths.specs.Agreement.{CodeEndsWhereItsLengthSays, ExpressionsAreAsLongAsDescribed, ProgramsHaveCode, StatementsAreAsLongAsDescribed, UnitsAreAsLongAsDescribed};
@@ -11,15 +11,16 @@ pub fn expressions_are_as_long_as_described()
     ensures { ExpressionsAreAsLongAsDescribed }
 {}
 
-/// The code of every statement is made, and has as many instructions as its length says, behind those that
-/// stood; behind it the variables of its blocks are declared.
+/// Every statement that is shaped, gives values where they are wanted and names variables that are
+/// declared has code in a unit that has declared the variables before it: as many instructions as its
+/// length says, behind those that stood. Behind it the variables of its blocks are declared too.
 pub fn statements_are_as_long_as_described()
     ensures { StatementsAreAsLongAsDescribed }
 {}
 
-/// The unit of every instance is made, and has, behind what it begins with, its body, as long as described,
-/// and the instruction that ends it where it does not end itself: the places to which its jumps lead are
-/// counted from its start.
+/// Every instance whose body has such code, and none of whose parameters is an array, has its unit: behind
+/// what it begins with, its body, as long as described, and the instruction that ends it where it does not
+/// end itself. The places to which its jumps lead are counted from its start.
 pub fn units_are_as_long_as_described()
     ensures { UnitsAreAsLongAsDescribed }
 {}

@@ -1,5 +1,5 @@
 -- The instances of a typed file have shaped bodies.
-use Rattle.std.proofs.Common.{◌≡◌, ℕ, ◌+◌, Bool, true, false, is_some, if◌then◌else◌, List, [], ◌∷◌, ◌++◌, length, slice_get, Option, Some, None, refl, ◌∙◌, sym, subst}
+use Rattle.std.proofs.Common.{◌≡◌, ℕ, ◌+◌, Bool, true, false, is_some, if◌then◌else◌, List, [], ◌∷◌, ◌++◌, length, slice_get, Option, Some, refl, ◌∙◌, sym, subst}
 use Rattle.std.specs.List.{All}
 use Rattle.std.proofs.lemmas.List.Elements.{All-nil, All-cons, All-head, All-tail, All-get_or}
 use Rattle.std.proofs.lemmas.Option.{get_or_from_slice_get, none-some, slice_get_within}
@@ -19,62 +19,44 @@ use Rattle.cstar_tree.specs.declared.typed.ValueType.{ValueType}
 use Rattle.cstar_tree.specs.declared.typed.VarInfo.{VarInfo}
 use Rattle.cstar_tree.specs.declared.typed.Variable.TheVariants as V
 use Rattle.cstar_tree.specs.BlockScopes.{declared_type}
-use Rattle.cstar_tree.specs.FileScopes.{Known, behind_function, behind_item, behind_shape, behind_shapes, behind_variable, behind_variables, file_place, function_binding, function_names, function_word, is_among, placed_from, words_of}
+use Rattle.cstar_tree.specs.FileScopes.{Known, behind_function, behind_item, behind_shape, behind_shapes, behind_variable, behind_variables, file_place, placed_from}
 use Rattle.cstar_tree.specs.Headers.{Placed, Program, Reached, behind_parameter, behind_parameters, body_place, header_place, plain_type}
 use Rattle.cstar_tree.specs.ProgramTypes.{IsBody, TypesFile, TypesInstance, TypesInstances, TypesItems, TypesVariables}
 use Rattle.cstar_tree.specs.ProgramTypes as Y
-use Rattle.cstar_tree.specs.Scopes.{Binding, Here, Meaning, a_function, a_shape, a_variable, find, written_type}
+use Rattle.cstar_tree.specs.Scopes.{Binding, Here, a_function, a_shape, a_variable, find, written_type}
 use Rattle.code_lengths.specs.ShapedStatements.{AreShapedLocals, IsShapedStatement}
 use Rattle.shaped_trees.specs.Casts.{BlockNamesShapes, ItemNamesShapes, NamesShapes}
 use Rattle.shaped_trees.specs.Laws.{HasShapedBody}
 use Rattle.shaped_trees.specs.Places.{ArraysAreParallel, IsSound}
-use Rattle.shaped_trees.proofs.Known.{MeansParallel, behind_name, declarable, of_type, plain_is_parallel, shape_is_parallel, function_is_parallel, with_name}
+use Rattle.shaped_trees.proofs.Known.{MeansParallel, behind_name, declarable, of_type, plain_is_parallel, shape_is_parallel, function_is_parallel}
+use Rattle.shaped_trees.proofs.Meanings.{AllMean, functions_mean, named}
 use Rattle.shaped_trees.proofs.Rows.{block_shaped}
 use Rattle.shaped_trees.proofs.StatementShapes.{parts_shaped}
 
 -- ---- the names of a file
 
-function_bound : (before : List (List ℕ)) (number : ℕ) (word : Option (List ℕ)) (rest : List Binding) → ArraysAreParallel rest → ArraysAreParallel (function_binding before number word ++ rest)
-function_bound before number None rest known = known
-function_bound before number (Some word) rest known = by_word (is_among word before)
-  where
-    by_word : (b : Bool) → ArraysAreParallel ((if b then [] else record { word = word; meaning = a_function number } ∷ []) ++ rest)
-    by_word true = known
-    by_word false = with_name rest word (a_function number) known (function_is_parallel number)
-
-pub functions_parallel : (before : List (List ℕ)) (number : ℕ) (items : List Item) → ArraysAreParallel (function_names before number items)
-unfolding function_names find
-functions_parallel before number [] = λ word v ty length is. elim (none-some _ is) [ ]
-functions_parallel before number (item ∷ items) =
-    function_bound before number (function_word item) _ (functions_parallel (words_of item ++ before) (number + length (function_binding before number (function_word item))) items)
-
 -- what a file knows, and the functions that it names
 abbrev KnowsParallel : List Binding → Known → Type 0
-KnowsParallel functions known = ArraysAreParallel (known.names ++ functions)
-
--- where a name is new, it is added
-named : (functions : List Binding) (known more : Known) (word : List ℕ) (m : Meaning) (b : Bool) → KnowsParallel functions known → MeansParallel m → more.names ≡ record { word = word; meaning = m } ∷ known.names → KnowsParallel functions (if b then known else more)
-named functions known more word m true before new is = before
-named functions known more word m false before new is = subst (λ names. ArraysAreParallel (names ++ functions)) (sym is) (with_name (known.names ++ functions) word m before new)
+KnowsParallel functions known = AllMean MeansParallel (known.names ++ functions)
 
 shapes_known : (functions : List Binding) (known : Known) (shapes : List ShapeDefinition) → KnowsParallel functions known → KnowsParallel functions (behind_shapes functions known shapes)
 unfolding behind_shapes behind_shape
 shapes_known functions known [] before = before
 shapes_known functions known (s ∷ shapes) before =
     shapes_known functions (behind_shape functions known s) shapes
-    (named functions known _ s.name.word (a_shape (length known.shapes)) (is_some (find known.names s.name.word)) before (shape_is_parallel (length known.shapes)) refl)
+    (named MeansParallel functions known _ s.name.word (a_shape (length known.shapes)) (is_some (find known.names s.name.word)) before (shape_is_parallel (length known.shapes)) refl)
 
 variables_known : {functions : List Binding} {ty : ValueType} {known : Known} {ds : List Declarator} {vars : List VarInfo} → TypesVariables functions ty known ds vars → KnowsParallel functions known → KnowsParallel functions (behind_variables functions (Some ty) known ds)
 unfolding behind_variables behind_variable
 variables_known Y.TypesVariables.no_variable before = before
 variables_known {functions = functions} {ty = ty} (Y.TypesVariables.next_variable {known = known} {d = d} {variable = variable} is allowed starts more) before =
-    variables_known more (named functions known _ d.name.word (a_variable (V.File known.variables) (declared_type (file_place functions known) (Some ty) d.length)) (is_some (find known.names d.name.word)) before
+    variables_known more (named MeansParallel functions known _ d.name.word (a_variable (V.File known.variables) (declared_type (file_place functions known) (Some ty) d.length)) (is_some (find known.names d.name.word)) before
     (of_type (V.File known.variables) (declared_type (file_place functions known) (Some ty) d.length) (λ given length same. declarable allowed given length (sym is ∙ same))) refl)
 
 function_known : (functions : List Binding) (known : Known) (f : Function) → KnowsParallel functions known → KnowsParallel functions (behind_function known f)
 unfolding behind_function
 function_known functions known f before =
-    named functions known _ f.name.word (a_function known.functions) (is_some (find known.names f.name.word)) before (function_is_parallel known.functions) refl
+    named MeansParallel functions known _ f.name.word (a_function known.functions) (is_some (find known.names f.name.word)) before (function_is_parallel known.functions) refl
 
 -- ---- its functions
 
@@ -93,7 +75,7 @@ placed_fit {functions = functions} (Y.TypesItems.function {known = known} {f = f
     by_name (is_some (find known.names f.name.word)) _ (placed_fit more (function_known functions known f before) (All-tail ItemNamesShapes (I.Function f) items w))
   where
     own : IsFit (record { function = f; known = known.names ++ functions })
-    own = record { arrays = before; casts = All-head ItemNamesShapes (I.Function f) items w }
+    own = record { arrays = λ word v ty length found. before word _ found v ty length refl; casts = All-head ItemNamesShapes (I.Function f) items w }
 
     by_name : (b : Bool) (rest : List Placed) → All IsFit rest → All IsFit ((if b then [] else record { function = f; known = known.names ++ functions } ∷ []) ++ rest)
     by_name true rest all = all
@@ -133,4 +115,4 @@ instances_shaped {program = program} {shapes = shapes} all (Y.next_instance {r =
 
 pub file_shaped : (tree : Tree) (typed : Typed) → NamesShapes tree → TypesFile tree typed → All HasShapedBody typed.instances.items
 file_shaped tree typed w file =
-    instances_shaped (placed_fit file.items (functions_parallel [] 0 tree.items.items) w) file.instances
+    instances_shaped (placed_fit file.items (functions_mean MeansParallel function_is_parallel [] 0 tree.items.items) w) file.instances

@@ -1,33 +1,22 @@
 -- Places at which arrays are parallel: around the parts of an expression, and behind names that are no
 -- arrays without a shape.
-use Rattle.std.proofs.Common.{◌≡◌, ℕ, Bool, true, false, if◌then◌else◌, is_none, is_some, List, ◌∷◌, ◌++◌, Option, Some, None, bytes_eq, refl, ap, ◌∙◌, sym}
+use Rattle.std.proofs.Common.{◌≡◌, ℕ, false, if◌then◌else◌, is_none, List, Option, Some, None, refl, ap, ◌∙◌, sym}
 use Rattle.std.proofs.lemmas.Option.{none-some}
 use Rattle.cstar_tree.specs.declared.syntax.Initializer.{Initializer}
 use Rattle.cstar_tree.specs.declared.typed.ValueType.{ValueType}
 use Rattle.cstar_tree.specs.declared.typed.Variable.{Variable}
 use Rattle.cstar_tree.specs.BlockScopes.{block_place, in_loop}
 use Rattle.cstar_tree.specs.Headers.{plain_type}
-use Rattle.cstar_tree.specs.Scopes.{Binding, Here, Meaning, Names, VariableType, a_function, a_shape, a_variable, as_whole, declared, find, index_place, meaning, part, stands_under, under}
+use Rattle.cstar_tree.specs.Scopes.{Here, Meaning, VariableType, a_function, a_shape, a_variable, as_whole, declared, index_place, meaning, part, stands_under, under}
 use Rattle.cstar_tree.specs.StatementTypes.{IsDeclarable}
 use Rattle.cstar_tree.specs.StatementTypes as S
 use Rattle.code_lengths.specs.Shaped.{HasShape}
-use Rattle.shaped_trees.specs.Places.{ArraysAreParallel, IsSound}
+use Rattle.shaped_trees.specs.Places.{IsSound}
+use Rattle.shaped_trees.proofs.Meanings.{declared_one}
 
 -- a name that means this means no array, or a parallel one
 abbrev pub MeansParallel : Meaning → Type 0
 MeansParallel m = (v : Variable) (ty : ValueType) (length : ℕ) → m ≡ a_variable v (Some (record { value = ty; array = Some length })) → HasShape ty
-
-meant : Meaning → Option Meaning → Meaning
-meant other None = other
-meant other (Some m) = m
-
-pub with_name : (names : List Binding) (word : List ℕ) (m : Meaning) → ArraysAreParallel names → MeansParallel m → ArraysAreParallel (record { word = word; meaning = m } ∷ names)
-unfolding find meant
-with_name names word m before new other v ty length found = by_word (bytes_eq word other) found (new v ty length) (before other v ty length)
-  where
-    by_word : {x : Meaning} {rest : Option Meaning} {P : Type 0} (b : Bool) → (if b then Some m else rest) ≡ Some x → (m ≡ x → P) → (rest ≡ Some x → P) → P
-    by_word true is first second = first (ap (meant m) is)
-    by_word false is first second = second is
 
 -- the place of a part, and that of an index
 pub in_part : (here : Here) → IsSound here → IsSound (part here)
@@ -58,15 +47,11 @@ pub in_shape : (here : Here) (shape : ℕ) → IsSound here → IsSound (under h
 in_shape here shape s = record { arrays = s.arrays; dot = λ axis is. refl }
 
 -- a name declared in the innermost scope
-declared_one : (names : Names) (word : List ℕ) (m : Meaning) → ArraysAreParallel (names.inner ++ names.outer) → MeansParallel m → ArraysAreParallel ((declared names word m).inner ++ (declared names word m).outer)
-declared_one names word m before new = by_word (is_some (find names.inner word))
-  where
-    by_word : (b : Bool) → ArraysAreParallel ((if b then names else record { inner = record { word = word; meaning = m } ∷ names.inner; outer = names.outer }).inner ++ (if b then names else record { inner = record { word = word; meaning = m } ∷ names.inner; outer = names.outer }).outer)
-    by_word true = before
-    by_word false = with_name (names.inner ++ names.outer) word m before new
-
 pub behind_name : (here : Here) (word : List ℕ) (m : Meaning) (locals : ℕ) → IsSound here → MeansParallel m → IsSound (record here { names = declared here.names word m; locals = locals })
-behind_name here word m locals s new = record { arrays = declared_one here.names word m s.arrays new; dot = s.dot }
+behind_name here word m locals s new = record {
+  arrays = λ other v ty length found. declared_one MeansParallel here.names word m (λ x u known w of long is. s.arrays x w of long (known ∙ ap (λ (n : Meaning). Some n) is)) new other _ found v ty length refl;
+  dot = s.dot;
+}
 
 -- what is declarable is no array without a shape
 type_meant : Meaning → Option VariableType

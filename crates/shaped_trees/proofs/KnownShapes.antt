@@ -1,6 +1,6 @@
 -- Places at which the shapes that names stand for are the program's: within a function they go on, and
 -- so are the shapes that are written there.
-use Rattle.std.proofs.Common.{◌≡◌, ℕ, ◌+◌, true, IfSome, List, [], ◌∷◌, Option, Some, None, refl, subst}
+use Rattle.std.proofs.Common.{◌≡◌, ℕ, ◌+◌, IfSome, List, [], ◌∷◌, Option, Some, None, refl, subst}
 use Rattle.std.proofs.lemmas.Option.{none-some, same_Some}
 use Rattle.cstar_tree.specs.declared.syntax.Declaration.{Declaration}
 use Rattle.cstar_tree.specs.declared.syntax.Declarator.{Declarator}

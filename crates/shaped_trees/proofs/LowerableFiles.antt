@@ -18,8 +18,10 @@ use Rattle.shaped_trees.specs.Casts.{NamesShapes}
 use Rattle.shaped_trees.specs.Laws.{HasLowerableBody}
 use Rattle.code_lengths.specs.LowerableStatements.{IsLowerableLocal, IsLowerableStatement}
 use Rattle.shaped_trees.specs.Places.{HasInstance, IsInside}
-use Rattle.shaped_trees.proofs.FileShapes.{IsFit, at_number, body_sound, functions_parallel, placed_fit}
+use Rattle.shaped_trees.proofs.FileShapes.{IsFit, at_number, body_sound, placed_fit}
+use Rattle.shaped_trees.proofs.Known.{MeansParallel, function_is_parallel}
 use Rattle.shaped_trees.proofs.LowerableStatements.{parts_lowerable}
+use Rattle.shaped_trees.proofs.Meanings.{functions_mean}
 use Rattle.shaped_trees.proofs.Rows.{block_lowerable}
 
 -- the instance of a number
@@ -70,4 +72,4 @@ module _ (program : Program) (shapes : List (List ℕ)) (typed : Typed) (all : T
 
 pub file_lowerable : (tree : Tree) (typed : Typed) → NamesShapes tree → TypesFile tree typed → All (HasLowerableBody typed) typed.instances.items
 file_lowerable tree typed w file =
-    instances_lowerable _ _ typed file.instances (placed_fit file.items (functions_parallel [] 0 tree.items.items) w) file.instances
+    instances_lowerable _ _ typed file.instances (placed_fit file.items (functions_mean MeansParallel function_is_parallel [] 0 tree.items.items) w) file.instances

@@ -1,8 +1,10 @@
--- A thing that holds of whatever the names around a place stand for goes on behind a declaration of one
--- more name of which it holds.
-use Rattle.std.proofs.Common.{◌≡◌, ℕ, Bool, true, false, if◌then◌else◌, is_some, List, ◌∷◌, ◌++◌, Option, Some, bytes_eq, subst}
-use Rattle.std.proofs.lemmas.Option.{same_Some}
-use Rattle.cstar_tree.specs.Scopes.{Binding, Meaning, Names, declared, find}
+-- A thing that holds of whatever the names around a place, or in a file, stand for goes on behind a
+-- declaration of one more name of which it holds.
+use Rattle.std.proofs.Common.{◌≡◌, ℕ, ◌+◌, Bool, true, false, if◌then◌else◌, is_some, List, [], ◌∷◌, ◌++◌, length, Option, Some, None, bytes_eq, subst, sym}
+use Rattle.std.proofs.lemmas.Option.{none-some, same_Some}
+use Rattle.cstar_tree.specs.declared.syntax.Item.{Item}
+use Rattle.cstar_tree.specs.FileScopes.{Known, function_binding, function_names, function_word, is_among, words_of}
+use Rattle.cstar_tree.specs.Scopes.{Binding, Meaning, Names, a_function, declared, find}
 
 module _ (P : Meaning → Type 0) where
   abbrev pub AllMean : List Binding → Type 0
@@ -22,3 +24,25 @@ module _ (P : Meaning → Type 0) where
       by_word : (b : Bool) → AllMean ((if b then names else record { inner = record { word = word; meaning = m } ∷ names.inner; outer = names.outer }).inner ++ (if b then names else record { inner = record { word = word; meaning = m } ∷ names.inner; outer = names.outer }).outer)
       by_word true = before
       by_word false = with_name (names.inner ++ names.outer) word m before new
+
+  -- ---- the names of a file
+
+  -- where a name is new, it is added
+  pub named : (functions : List Binding) (known more : Known) (word : List ℕ) (m : Meaning) (b : Bool) → AllMean (known.names ++ functions) → P m → more.names ≡ record { word = word; meaning = m } ∷ known.names → AllMean ((if b then known else more).names ++ functions)
+  named functions known more word m true before new is = before
+  named functions known more word m false before new is = subst (λ (names : List Binding). AllMean (names ++ functions)) (sym is) (with_name (known.names ++ functions) word m before new)
+
+  module _ (functions_are : (number : ℕ) → P (a_function number)) where
+    function_bound : (before : List (List ℕ)) (number : ℕ) (word : Option (List ℕ)) (rest : List Binding) → AllMean rest → AllMean (function_binding before number word ++ rest)
+    function_bound before number None rest known = known
+    function_bound before number (Some word) rest known = by_word (is_among word before)
+      where
+        by_word : (b : Bool) → AllMean ((if b then [] else record { word = word; meaning = a_function number } ∷ []) ++ rest)
+        by_word true = known
+        by_word false = with_name rest word (a_function number) known (functions_are number)
+
+    pub functions_mean : (before : List (List ℕ)) (number : ℕ) (items : List Item) → AllMean (function_names before number items)
+    unfolding function_names find
+    functions_mean before number [] = λ word m is. elim (none-some m is) [ ]
+    functions_mean before number (item ∷ items) =
+        function_bound before number (function_word item) _ (functions_mean (words_of item ++ before) (number + length (function_binding before number (function_word item))) items)

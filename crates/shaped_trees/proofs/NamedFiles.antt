@@ -4,14 +4,12 @@ use Rattle.std.proofs.Common.{◌≡◌, ℕ, zero, suc, ◌+◌, ◌≤◌, ◌
 use Rattle.std.specs.List.{All}
 use Rattle.std.proofs.lemmas.List.{append-nil}
 use Rattle.std.proofs.lemmas.List.Elements.{All-nil, All-cons, All-head, All-tail, All-weaker}
-use Rattle.std.proofs.lemmas.Option.{none-some}
 use Rattle.cstar_tree.specs.declared.syntax.Block.{Block}
 use Rattle.cstar_tree.specs.declared.syntax.Declarator.{Declarator}
 use Rattle.cstar_tree.specs.declared.syntax.Function.{Function}
 use Rattle.cstar_tree.specs.declared.syntax.Item.{Item}
 use Rattle.cstar_tree.specs.declared.syntax.Parameter.{Parameter}
 use Rattle.cstar_tree.specs.declared.syntax.ShapeDefinition.{ShapeDefinition}
-use Rattle.cstar_tree.specs.declared.syntax.Tree.{Tree}
 use Rattle.cstar_tree.specs.declared.typed.Instance.{Instance}
 use Rattle.cstar_tree.specs.declared.typed.LocalVar.{LocalVar}
 use Rattle.cstar_tree.specs.declared.typed.ShapeInfo.{ShapeInfo}
@@ -22,7 +20,7 @@ use Rattle.cstar_tree.specs.declared.typed.ValueType.{ValueType}
 use Rattle.cstar_tree.specs.declared.typed.VarInfo.{VarInfo}
 use Rattle.cstar_tree.specs.declared.typed.Variable.TheVariants as V
 use Rattle.cstar_tree.specs.BlockScopes.{declared_type}
-use Rattle.cstar_tree.specs.FileScopes.{Known, behind_function, behind_item, behind_items, behind_shape, behind_shapes, behind_variable, behind_variables, file_functions, file_place, function_binding, function_names, function_word, functions_named, is_among, nothing_known, placed_from, words_of}
+use Rattle.cstar_tree.specs.FileScopes.{Known, behind_function, behind_item, behind_items, behind_shape, behind_shapes, behind_variable, behind_variables, file_functions, file_place, functions_named, placed_from}
 use Rattle.cstar_tree.specs.Headers.{Placed, Program, Reached, Returns, behind_parameter, behind_parameters, header_place, plain_type}
 use Rattle.cstar_tree.specs.ProgramTypes.{IsBody, TypesFile, TypesInstance, TypesInstances, TypesItems, TypesParameters, TypesShapes, TypesVariables, plain_info}
 use Rattle.cstar_tree.specs.ProgramTypes as Y
@@ -33,7 +31,6 @@ use Rattle.cstar_tree.specs.Variables.{variables_of}
 use Rattle.code_lengths.specs.Naming.{HasItsShape, HasVariable, IsDeclared, KnowsVariables, variable_named}
 use Rattle.code_lengths.specs.NamingStatements.{StandFrom, StatementNamesVariables}
 use Rattle.code_lengths.specs.Ready.{HasPlainParameters, HasStatementCode}
-use Rattle.shaped_trees.specs.Casts.{NamesShapes}
 use Rattle.shaped_trees.specs.Laws.{HasLowerableBody, HasShapedBody, TypedFilesHaveCode}
 use Rattle.shaped_trees.specs.Places.{IsShapeOf, KnowsShapes}
 use Rattle.shaped_trees.proofs.Counting.{of_block}
@@ -41,7 +38,7 @@ use Rattle.shaped_trees.proofs.FileShapes.{file_shaped}
 use Rattle.shaped_trees.proofs.FileShapes as files
 use Rattle.shaped_trees.proofs.KnownShapes.{behind_name, type_there}
 use Rattle.shaped_trees.proofs.LowerableFiles.{file_lowerable}
-use Rattle.shaped_trees.proofs.Meanings.{AllMean, with_name}
+use Rattle.shaped_trees.proofs.Meanings.{AllMean, functions_mean, named, with_name}
 use Rattle.shaped_trees.proofs.NamedStatements.{IsKnown, MeansVariable, at_number, first_part, info_of, parts_name, same_value, second_part}
 use Rattle.shaped_trees.proofs.NamedStatements as statements
 use Rattle.shaped_trees.proofs.ReachedShapes.{KnowsItsShapes, StandsUnder, body_shapes, instances_under}
@@ -136,20 +133,6 @@ module _ (typed : Typed) where
   MeansKnown (a_function number) = Unit {0}
   MeansKnown (a_variable v ty) = IfSome ty (λ (ty : VariableType). (i : Instance) (n : ℕ) → HasVariable typed i n v ty)
 
-  function_bound : (before : List (List ℕ)) (number : ℕ) (word : Option (List ℕ)) (rest : List Binding) → AllMean MeansKnown rest → AllMean MeansKnown (function_binding before number word ++ rest)
-  function_bound before number None rest known = known
-  function_bound before number (Some word) rest known = by_word (is_among word before)
-    where
-      by_word : (b : Bool) → AllMean MeansKnown ((if b then [] else record { word = word; meaning = a_function number } ∷ []) ++ rest)
-      by_word true = known
-      by_word false = with_name MeansKnown rest word (a_function number) known tt
-
-  functions_known : (before : List (List ℕ)) (number : ℕ) (items : List Item) → AllMean MeansKnown (function_names before number items)
-  unfolding function_names find
-  functions_known before number [] = λ word m is. elim (none-some m is) [ ]
-  functions_known before number (item ∷ items) =
-      function_bound before number (function_word item) _ (functions_known (words_of item ++ before) (number + length (function_binding before number (function_word item))) items)
-
   -- a body knows what stands for such
   abbrev KnowsFile : Placed → Type 0
   KnowsFile placed = AllMean MeansKnown placed.known
@@ -158,11 +141,6 @@ module _ (typed : Typed) where
     abbrev Knows : Known → Type 0
     Knows known = AllMean MeansKnown (known.names ++ functions)
 
-    -- where a name is new, it is added
-    named : (known more : Known) (word : List ℕ) (m : Meaning) (b : Bool) → Knows known → MeansKnown m → more.names ≡ record { word = word; meaning = m } ∷ known.names → Knows (if b then known else more)
-    named known more word m true before new is = before
-    named known more word m false before new is = subst (λ names. AllMean MeansKnown (names ++ functions)) (sym is) (with_name MeansKnown (known.names ++ functions) word m before new)
-
     shapes_known : {known : Known} {ss : List ShapeDefinition} {infos : List ShapeInfo} → TypesShapes functions known ss infos → Knows known → length known.shapes + length infos ≤ length typed.shapes.items → Knows (behind_shapes functions known ss)
     unfolding behind_shapes behind_shape
     shapes_known Y.no_shape before room = before
@@ -170,7 +148,7 @@ module _ (typed : Typed) where
         let one = one_shape functions known s in
         let first = one.0 in
         shapes_known more
-        (named known _ s.name.word (a_shape (length known.shapes)) (is_some (find known.names s.name.word)) before (there_is typed.shapes.items (length known.shapes) (omega (arith, room))) refl)
+        (named MeansKnown functions known _ s.name.word (a_shape (length known.shapes)) (is_some (find known.names s.name.word)) before (there_is typed.shapes.items (length known.shapes) (omega (arith, room))) refl)
         (omega (arith, room, first))
 
     -- a variable of the file has the number of its name, where each is new
@@ -211,7 +189,7 @@ module _ (typed : Typed) where
 
     function_known : (known : Known) (f : Function) → Knows known → Knows (behind_function known f)
     unfolding behind_function
-    function_known known f before = named known _ f.name.word (a_function known.functions) (is_some (find known.names f.name.word)) before tt refl
+    function_known known f before = named MeansKnown functions known _ f.name.word (a_function known.functions) (is_some (find known.names f.name.word)) before tt refl
 
     file_shapes : (known : Known) → Knows known → KnowsShapes typed (file_place functions known)
     unfolding meaning
@@ -291,10 +269,10 @@ module _ (typed : Typed) (i : Instance) where
   unfolding meaning
   instance_names {program = program} {shapes = shapes} {r = r} known under is =
       let own = files.at_number (KnowsFile typed) program.functions r.function is.placed known is.is_function in
-      let named = λ (word : List ℕ) (number : ℕ) (found : find is.placed.known word ≡ Some (a_shape number)). own word (a_shape number) found in
+      let shapes_are = λ (word : List ℕ) (number : ℕ) (found : find is.placed.known word ≡ Some (a_shape number)). own word (a_shape number) found in
       body_names is.block is.body refl (same_locals (header_place shapes is.placed r) 0 is.placed.function.parameters.items) (record {
-        variables = parameters_known is.parameters (λ word v ty found. own word (a_variable v (Some ty)) found i 0) (record { named = named; current = under }) (stand_all i.params.items);
-        shapes = body_shapes typed shapes is.placed r named under;
+        variables = parameters_known is.parameters (λ word v ty found. own word (a_variable v (Some ty)) found i 0) (record { named = shapes_are; current = under }) (stand_all i.params.items);
+        shapes = body_shapes typed shapes is.placed r shapes_are under;
       })
 
 parameters_plain : {here : Here} {number : ℕ} {ps : List Parameter} {infos : List VarInfo} → TypesParameters here number ps infos → All (λ (info : VarInfo). info.array ≡ None) infos
@@ -309,17 +287,20 @@ instances_code : {program : Program} {shapes : List (List ℕ)} {rs : List Reach
     TypesInstances program shapes rs is → All (HasBodyCode typed) is
 instances_code typed known under shaped lowerable Y.no_instance = All-nil (HasBodyCode typed)
 instances_code typed known under shaped lowerable (Y.next_instance {r = r} {rs = rs} {i = i} {is = is} own more) =
-    All-cons (HasBodyCode typed) i is (parameters_plain own.parameters, record {
-      shaped = All-head HasShapedBody i is shaped;
-      lowerable = All-head (HasLowerableBody typed) i is lowerable;
-      names = instance_names typed i known (All-head (StandsUnder typed) r rs under) own;
-      stands = stand_all (variables_of i.body);
-    })
+    All-cons (HasBodyCode typed) i is (
+      parameters_plain own.parameters,
+      record {
+        shaped = All-head HasShapedBody i is shaped;
+        lowerable = All-head (HasLowerableBody typed) i is lowerable;
+        names = instance_names typed i known (All-head (StandsUnder typed) r rs under) own;
+        stands = stand_all (variables_of i.body);
+      },
+    )
     (instances_code typed known (All-tail (StandsUnder typed) r rs under) (All-tail HasShapedBody i is shaped) (All-tail (HasLowerableBody typed) i is lowerable) more)
 
 pub file_code : TypedFilesHaveCode
 file_code tree typed spelled all file number i found =
-    let known = placed_know typed (functions_named tree) file.items (functions_known typed [] 0 tree.items.items) (stand_all typed.vars.items) (omega (arith, all)) (omega arith) in
+    let known = placed_know typed (functions_named tree) file.items (functions_mean (MeansKnown typed) (λ (number : ℕ). tt) [] 0 tree.items.items) (stand_all typed.vars.items) (omega (arith, all)) (omega arith) in
     let shapes = All-weaker (KnowsFile typed) (KnowsItsShapes typed) (λ placed own word number found. own word (a_shape number) found) (file_functions tree) known in
     let each = instances_code typed known (instances_under typed tree shapes) (file_shaped tree typed spelled file) (file_lowerable tree typed spelled file) file.instances in
     files.at_number (HasBodyCode typed) typed.instances.items number i each found

@@ -271,8 +271,8 @@ module _ (t : Typed) (i : Instance) where
             let many = as_many program returns at in (
               statement_names at k (first_part (variables_of f) (concat (map variables_of ts)) s),
               subst (λ (n : ℕ). EachNamesVariables t i (here.locals + n) ts) (sym many)
-              (statements_name more (known_behind here stmt k)
-              (subst (λ (n : ℕ). StandFrom (variables_of i.body) (here.locals + n) (concat (map variables_of ts))) many (second_part (variables_of f) (concat (map variables_of ts)) s))),
+                  (statements_name more (known_behind here stmt k)
+                  (subst (λ (n : ℕ). StandFrom (variables_of i.body) (here.locals + n) (concat (map variables_of ts))) many (second_part (variables_of f) (concat (map variables_of ts)) s))),
             )
 
         pub parts_name : {here : Here} {block : Block} {locals : List LocalVar} {statements : List TStmt} → TypesBlock program returns here block locals statements → IsKnown here →
@@ -283,6 +283,6 @@ module _ (t : Typed) (i : Instance) where
             let number = ap (λ (n : ℕ). here.locals + n) (length-map locals info_of) ∙ d.number_is in (
               d.initials,
               subst (λ (n : ℕ). EachNamesVariables t i n statements) (sym d.number_is)
-              (statements_name at (record { variables = d.knows; shapes = behind_each t here block.declarations.items k.shapes })
-              (subst (λ (n : ℕ). StandFrom (variables_of i.body) n (concat (map variables_of statements))) number (second_part (map info_of locals) (concat (map variables_of statements)) s))),
+                  (statements_name at (record { variables = d.knows; shapes = behind_each t here block.declarations.items k.shapes })
+                  (subst (λ (n : ℕ). StandFrom (variables_of i.body) n (concat (map variables_of statements))) number (second_part (map info_of locals) (concat (map variables_of statements)) s))),
             )
