@@ -1,18 +1,27 @@
 -- The code of a call is as long as described.
-use Rattle.std.proofs.Common.{◌≡◌, ℕ, suc, ◌+◌, ◌-◌, Bool, true, false, ◌==◌, List, [], ◌∷◌, length, slice_get, Option, Some, None, is_some, refl, sym, ap, ◌∙◌, arith, if◌then◌else◌}
+use Rattle.std.proofs.Common.{◌≡◌, ℕ, suc, ◌+◌, ◌-◌, Bool, true, false, ◌==◌, List, [], ◌∷◌, length, slice_get, Option, Some, None, IfSome, is_none, is_some, refl, sym, ap, ◌∙◌, subst, arith, if◌then◌else◌}
+use Rattle.std.specs.List.{AllZip}
+use Rattle.std.proofs.lemmas.Option.{same_Some, slice_get-get_or, slice_get_within}
+use Rattle.std.proofs.lemmas.Slice.Zip.{AllZip-long}
 use Rattle.cstar_tree.specs.declared.typed.Instance.{Instance}
+use Rattle.cstar_tree.specs.declared.typed.TExpr.{TExpr, Row_of-TExpr, items-the_row-TExpr}
+use Rattle.cstar_tree.specs.declared.typed.TExpr as T
 use Rattle.cstar_tree.specs.declared.typed.Typed.{Typed}
+use Rattle.cstar_tree.specs.declared.typed.ValueType.{ValueType}
 use Rattle.cstar_tree.specs.declared.typed.VarInfo.{VarInfo}
 use Rattle.lower_base.specs.declared.emit.Out.{Out}
 use Rattle.lower_base.specs.declared.emit.Out.TheVariants as O
-use Rattle.lower_base.specs.Drafts.{Draft, Makes, then_make, from}
+use Rattle.lower_base.specs.Drafts.{Draft, Makes, then_make}
 use Rattle.lower_base.specs.Layouts.{Layout}
 use Rattle.lower_expr.specs.Frames.{turn_and_call, zeroed_entry, register_given, field_given, result_given, finished, argument_passed, passed, called}
 use Rattle.lower_expr.specs.Lengths.{params_length, call_length}
-use Rattle.lower_expr.specs.Steps.{put_value, put_in_field}
+use Rattle.lower_expr.specs.Steps.{is_kept, put_value, put_in_field}
 use Rattle.code_lengths.specs.Growth.{Extended, Grows, Stands, Anything}
-use Rattle.code_lengths.proofs.Drafting.{as_it_was, resized, and_instr, makes, sized, bind, in_register_grows, in_field_grows, entry_grows}
-use Rattle.code_lengths.proofs.Pieces.{InRegister, InField, fails_grow, put_in_field_grows, put_value_grows}
+use Rattle.code_lengths.specs.Lowerable.{Calls, GivesValue, IsValueFor}
+use Rattle.code_lengths.specs.Ready.{Arrives, IsReady}
+use Rattle.code_lengths.proofs.Drafting.{as_it_was, resized, and_instr, makes, sized, bind, in_register_grows, in_field_grows, found_grows, entry_grows}
+use Rattle.code_lengths.proofs.Pieces.{InRegister, InField, put_in_field_grows, put_value_grows}
+use Rattle.code_lengths.proofs.Readiness.{arrives, arrived}
 
 turn_more : (unit n : ℕ) (d e : Draft) → Extended d n e → Extended d (n + 2) (turn_and_call unit e)
 unfolding turn_and_call
@@ -26,39 +35,48 @@ unfolding zeroed_entry
 zeroed_grows unit set bits index d =
     bind Anything Anything d 0 1 _ _ (entry_grows _ _ _ d) (λ f after _. makes Anything f after _ 1 tt (and_instr _ after after 0 (as_it_was after)))
 
-register_given_grows : (k : Bool) (unit source : ℕ) (dest : Out) (d : Draft) → Stands k dest → Grows d 4 (Stands k) (register_given unit source dest d)
+register_given_grows : (P : Out → Type 0) (unit source : ℕ) (dest : Out) (d : Draft) → P dest → InRegister dest → Grows d 4 P (register_given unit source dest d)
 unfolding register_given
-register_given_grows k unit source dest d s =
-    in_register_grows _ d 4 k dest _ s (λ r _. makes (Stands k) dest d _ 4 s (and_instr _ d _ 3 (turn_more unit 1 d _ (and_instr _ d d 0 (as_it_was d)))))
+register_given_grows P unit source dest d p s =
+    in_register_grows P d 4 dest _ s (λ r. makes P dest d _ 4 p (and_instr _ d _ 3 (turn_more unit 1 d _ (and_instr _ d d 0 (as_it_was d)))))
 
-field_given_grows : (k : Bool) (unit : ℕ) (info : VarInfo) (set index : ℕ) (dest : Out) (d : Draft) → Stands k dest → Grows d 4 (Stands k) (field_given unit info set index dest d)
+field_given_grows : (P : Out → Type 0) (unit : ℕ) (info : VarInfo) (set index : ℕ) (dest : Out) (d : Draft) → P dest → InField dest → Grows d 4 P (field_given unit info set index dest d)
 unfolding field_given
-field_given_grows k unit info set index dest d s =
-    bind Anything (Stands k) d 1 3 _ _ (zeroed_grows unit set _ index d) (λ source after _. in_field_grows _ after 3 k dest _ s (λ f _.
-    makes (Stands k) dest after _ 3 s (and_instr _ after _ 2 (turn_more unit 0 after after (as_it_was after)))))
+field_given_grows P unit info set index dest d p s =
+    bind Anything P d 1 3 _ _ (zeroed_grows unit set _ index d) (λ source after _. in_field_grows P after 3 dest _ s (λ f.
+    makes P dest after _ 3 p (and_instr _ after _ 2 (turn_more unit 0 after after (as_it_was after)))))
 
-result_by : (k : Bool) (shape : Option ℕ) (unit : ℕ) (info : VarInfo) (register index : ℕ) (dest : Out) (d : Draft) → Stands k dest →
-    Grows d 4 (Stands k) (elim shape [ None ↦ register_given unit register dest d | Some set ↦ field_given unit info set index dest d ])
-result_by k None unit info register index dest d s = register_given_grows k unit register dest d s
-result_by k (Some set) unit info register index dest d s = field_given_grows k unit info set index dest d s
+result_by : (P : Out → Type 0) (shape : Option ℕ) (unit : ℕ) (info : VarInfo) (register index : ℕ) (dest : Out) (d : Draft) → P dest → Stands (is_none shape) dest →
+    Grows d 4 P (elim shape [ None ↦ register_given unit register dest d | Some set ↦ field_given unit info set index dest d ])
+result_by P None unit info register index dest d p s = register_given_grows P unit register dest d p s
+result_by P (Some set) unit info register index dest d p s = field_given_grows P unit info set index dest d p s
 
-finished_grows : (k : Bool) (unit : ℕ) (outcome : Option VarInfo) (register index : ℕ) (dest : Out) (d : Draft) → Stands k dest →
-    Grows d (if is_some outcome then 4 else 2) (Stands k) (finished unit outcome register index dest d)
+-- what is answered passes: where the result goes, if there is one
+abbrev IsReturned : (Out → Type 0) → Option VarInfo → Out → Type 0
+IsReturned P None dest = P O.Nothing
+IsReturned P (Some info) dest = P dest × Stands (is_none info.shape) dest
+
+finished_grows : (P : Out → Type 0) (unit : ℕ) (outcome : Option VarInfo) (register index : ℕ) (dest : Out) (d : Draft) → IsReturned P outcome dest →
+    Grows d (if is_some outcome then 4 else 2) P (finished unit outcome register index dest d)
 unfolding finished result_given
-finished_grows k unit None register index dest d s = makes (Stands k) O.Nothing d _ 2 tt (turn_more unit 0 d d (as_it_was d))
-finished_grows k unit (Some info) register index dest d s = result_by k info.shape unit info register index dest d s
+finished_grows P unit None register index dest d p = makes P O.Nothing d _ 2 p (turn_more unit 0 d d (as_it_was d))
+finished_grows P unit (Some info) register index dest d p = result_by P info.shape unit info register index dest d p.0 p.1
 
-argument_by : (shape : Option ℕ) (unit : ℕ) (param : VarInfo) (register index : ℕ) (v : Out) (d : Draft) →
+-- an argument stands in a register for a scalar parameter, and anywhere for a parallel one
+abbrev IsArgument : VarInfo → Out → Type 0
+IsArgument param v = (kept : Bool) × Stands kept v × (is_none param.shape ≡ true → kept ≡ true)
+
+argument_by : (shape : Option ℕ) (kept : Bool) (unit : ℕ) (param : VarInfo) (register index : ℕ) (v : Out) (d : Draft) → Stands kept v → (is_none shape ≡ true → kept ≡ true) →
     Grows d (if is_some shape then 2 else 1) Anything (elim shape [
       | None ↦ then_make (put_value (O.Scalar register) v d) (λ _ after. Makes index after)
       | Some set ↦ then_make (zeroed_entry unit set param.elem.bits index d) (λ place between.
           then_make (put_in_field place v between) (λ _ after. Makes (index + 1) after))
     ])
-argument_by None unit param register index v d =
-    bind InRegister Anything d 1 0 _ _ (put_value_grows true (O.Scalar register) v d refl) (λ _ after _. makes Anything index after after 0 tt (as_it_was after))
-argument_by (Some set) unit param register index v d =
+argument_by None kept unit param register index v d s h =
+    bind InRegister Anything d 1 0 _ _ (put_value_grows true kept (O.Scalar register) v d refl s h) (λ _ after _. makes Anything index after after 0 tt (as_it_was after))
+argument_by (Some set) kept unit param register index v d s h =
     bind Anything Anything d 1 1 _ _ (zeroed_grows unit set _ index d) (λ place between _.
-    bind InField Anything between 1 0 _ _ (put_in_field_grows place v between) (λ _ after _. makes Anything (index + 1) after after 0 tt (as_it_was after)))
+    bind InField Anything between 1 0 _ _ (put_in_field_grows kept place v between s) (λ _ after _. makes Anything (index + 1) after after 0 tt (as_it_was after)))
 
 -- what is added to the sum is added to the length
 params_more : (params : List VarInfo) (given more sum : ℕ) → params_length params given (sum + more) ≡ more + params_length params given sum
@@ -88,24 +106,49 @@ passed_one param rest n sum =
     chosen true x m e = cc
     chosen false x m e = refl
 
-pub passed_grows : (k : Bool) (unit : ℕ) (outcome : Option VarInfo) (params : List VarInfo) (vs : List Out) (register index : ℕ) (dest : Out) (d : Draft) → Stands k dest →
-    Grows d (params_length params (length vs) (if is_some outcome then 4 else 2)) (Stands k) (passed unit outcome params vs register index dest d)
+passed_grows : (P : Out → Type 0) (unit : ℕ) (outcome : Option VarInfo) (params : List VarInfo) (vs : List Out) (register index : ℕ) (dest : Out) (d : Draft) → AllZip IsArgument params vs → IsReturned P outcome dest →
+    Grows d (params_length params (length vs) (if is_some outcome then 4 else 2)) P (passed unit outcome params vs register index dest d)
 unfolding passed params_length argument_passed
-passed_grows k unit outcome [] vs register index dest d s = finished_grows k unit outcome register index dest d s
-passed_grows k unit outcome (param ∷ params) [] register index dest d s = finished_grows k unit outcome register index dest d s
-passed_grows k unit outcome (param ∷ params) (v ∷ vs) register index dest d s =
-    sized (Stands k) d _ _ _ (passed_one param params (length vs) (if is_some outcome then 4 else 2))
-    (bind Anything (Stands k) d _ _ _ _ (argument_by param.shape unit param register index v d)
-    (λ next after _. passed_grows k unit outcome params vs (register + 1) next dest after s))
+passed_grows P unit outcome [] vs register index dest d a p = finished_grows P unit outcome register index dest d p
+passed_grows P unit outcome (param ∷ params) [] register index dest d a p = absurd a
+passed_grows P unit outcome (param ∷ params) (v ∷ vs) register index dest d a p =
+    sized P d _ _ _ (passed_one param params (length vs) (if is_some outcome then 4 else 2))
+    (bind Anything P d _ _ _ _ (argument_by param.shape a.0.0 unit param register index v d a.0.1 a.0.2)
+    (λ next after _. passed_grows P unit outcome params vs (register + 1) next dest after a.1 p))
 
-called_by : (k : Bool) (callee : Option Instance) (base : Option ℕ) (unit : ℕ) (vs : List Out) (dest : Out) (d : Draft) → Stands k dest →
-    Grows d (call_length callee (length vs)) (Stands k) (from callee (λ callee. from base (λ base. passed unit callee.result callee.params.items vs base 0 dest d)))
-unfolding call_length from
-called_by k None base unit vs dest d s = fails_grow _ d _
-called_by k (Some callee) None unit vs dest d s = fails_grow _ d _
-called_by k (Some callee) (Some base) unit vs dest d s = passed_grows k unit callee.result callee.params.items vs base 0 dest d s
+-- the values of expressions that are given are arguments
+arguments_given : (t : Typed) (params : List VarInfo) (es : List TExpr) (vs : List Out) → AllZip (λ (param : VarInfo) (e : TExpr). IsValueFor t param.shape e) params es → AllZip (Arrives t) es vs → AllZip IsArgument params vs
+arguments_given t [] [] [] g a = tt
+arguments_given t [] [] (v ∷ vs) g a = absurd a
+arguments_given t [] (e ∷ es) vs g a = absurd g
+arguments_given t (param ∷ params) [] vs g a = absurd g
+arguments_given t (param ∷ params) (e ∷ es) [] g a = absurd a
+arguments_given t (param ∷ params) (e ∷ es) (v ∷ vs) g a = ((is_kept e, arrived t e v g.0.gives a.0, g.0.in_register), arguments_given t params es vs g.1 a.1)
 
-pub called_grows : (k : Bool) (t : Typed) (l : Layout) (unit : ℕ) (vs : List Out) (dest : Out) (d : Draft) → Stands k dest →
-    Grows d (call_length (slice_get t.instances.items unit) (length vs)) (Stands k) (called t l unit vs dest d)
-unfolding called
-called_grows k t l unit vs dest d s = called_by k (slice_get t.instances.items unit) (slice_get l.bases unit) unit vs dest d s
+-- a call gives a value only if what it calls has a result
+returned : (t : Typed) (ty : ValueType) (number : ℕ) (p : _) (arguments : Row_of-TExpr _) (dest : Out) (callee : Instance) → slice_get t.instances.items number ≡ Some callee → (outcome : Option VarInfo) → callee.result ≡ outcome →
+    IfSome outcome (λ (info : VarInfo). info.shape ≡ ty.shape) → Stands (is_none ty.shape) dest → IsReturned (Arrives t (T.Call' ty number p arguments)) outcome dest
+unfolding Arrives GivesValue is_kept
+returned t ty number p arguments dest callee found None e h s =
+    λ g. no (sym g.2 ∙ ap (λ (it : Instance). is_some it.result) (same_Some g.0 callee (sym g.1 ∙ found)) ∙ ap is_some e)
+  where
+    no : true ≡ false → ⊥
+    no e = cc
+returned t ty number p arguments dest callee found (Some info) e h s =
+    (arrives t (T.Call' ty number p arguments) dest s, subst (λ (shape : Option ℕ). Stands (is_none shape) dest) (sym h) s)
+
+-- a call, whose result goes there
+pub called_grows : (t : Typed) (i : Instance) (l : Layout) (n : ℕ) (ty : ValueType) (number : ℕ) (p : _) (arguments : Row_of-TExpr _) (vs : List Out) (dest : Out) (d : Draft) → Calls t number ty (items-the_row-TExpr _ arguments) → IsReady t i l n d →
+    AllZip (Arrives t) (items-the_row-TExpr _ arguments) vs → Stands (is_none ty.shape) dest →
+    Grows d (call_length (slice_get t.instances.items number) (length (items-the_row-TExpr _ arguments))) (Arrives t (T.Call' ty number p arguments)) (called t l number vs dest d)
+unfolding called call_length
+called_grows t i l n ty number p arguments vs dest d c r a s =
+    let es = items-the_row-TExpr _ arguments in
+    let instance = slice_get t.instances.items number in
+    let P = Arrives t (T.Call' ty number p arguments) in
+    let bases = r.bases in
+    let there = slice_get_within t.instances.items number c.callee c.found in
+    sized P d _ _ _ (ap (λ (o : Option Instance). call_length o (length vs)) (sym c.found) ∙ ap (call_length instance) (AllZip-long (Arrives t) es vs a))
+    (found_grows P d _ instance c.callee _ c.found (found_grows P d _ (slice_get l.bases number) _ _ (slice_get-get_or l.bases number 0 (omega (arith, bases, there)))
+    (passed_grows P number c.callee.result c.callee.params.items vs _ 0 dest d (arguments_given t c.callee.params.items es vs c.given a)
+    (returned t ty number p arguments dest c.callee c.found c.callee.result refl c.result s))))

@@ -9,12 +9,14 @@ use Rattle.cstar_tree.specs.declared.syntax.AssignOp.{AssignOp}
 use Rattle.cstar_tree.specs.declared.syntax.AssignOp.TheVariants as A
 use Rattle.cstar_tree.specs.declared.syntax.ReduceOp.{ReduceOp}
 use Rattle.cstar_tree.specs.declared.syntax.ReduceOp.TheVariants as Rd
+use Rattle.cstar_tree.specs.declared.typed.Instance.{Instance}
 use Rattle.cstar_tree.specs.declared.typed.TExpr.{TExpr, out-TExpr}
 use Rattle.cstar_tree.specs.declared.typed.TExpr as T
 use Rattle.cstar_tree.specs.declared.typed.Typed.{Typed}
 use Rattle.cstar_tree.specs.declared.typed.ValueType.{ValueType}
 use Rattle.cstar_tree.specs.declared.typed.Variable.{Variable}
-use Rattle.cstar_tree.specs.declared.typed.Variable.TheVariants as V
+use Rattle.cstar_tree.specs.Conversions.{parallel}
+use Rattle.cstar_tree.specs.Typed.{type_of}
 use Rattle.paris_code.specs.declared.instr.Instr.TheVariants as I
 use Rattle.paris_code.specs.declared.operands.Field.{Field}
 use Rattle.paris_code.specs.declared.operands.GridStep.{GridStep}
@@ -24,59 +26,31 @@ use Rattle.lower_base.specs.declared.emit.Out.{Out}
 use Rattle.lower_base.specs.declared.emit.Out.TheVariants as O
 use Rattle.lower_comm.specs.declared.gets.Hop.{Hop}
 use Rattle.lower_comm.specs.declared.news.NewsStep.{NewsStep}
-use Rattle.lower_base.specs.Drafts.{Draft, Made, Makes, then_make, from, in_register, fresh_for, in_field, with_instr, an_entry, first_bits}
+use Rattle.lower_base.specs.Drafts.{Draft, Made, Makes, then_make, from, with_instr, an_entry, first_bits}
 use Rattle.lower_base.specs.Kinds.{fold_kind, fold_length}
-use Rattle.lower_base.specs.Layouts.{Layout, field_of, own_field}
-use Rattle.lower_comm.specs.Messages.{front_located, each_located, located_at, located, checked_part, grid_steps, with_grid_check, hopped, is_extended, moving_part, moving_steps, stepwise, with_hop, gotten_by_steps, read_at, part_register, part_field, with_sign, with_fold, folded_onto, negated_by, reduced, indexed_field, stored, sent_value, sent_to, sent, scanned, segment_field, enumerated, communicated}
+use Rattle.lower_base.specs.Layouts.{Layout}
+use Rattle.lower_comm.specs.Messages.{front_located, each_located, located_at, located, is_left_index, checked_part, grid_steps, with_grid_check, hopped, is_extended, moving_part, moving_steps, stepwise, with_hop, gotten_by_steps, read_at, part_register, part_field, with_sign, with_fold, folded_onto, negated_by, reduced, indexed, indexed_field, stored, sent_value, sent_to, sent, scanned, segment_field, enumerated, communicated}
 use Rattle.lower_comm.specs.News.{step_of}
 use Rattle.lower_base.specs.Operators.{assign_op_of}
-use Rattle.lower_expr.specs.Lengths.{load_length_of, negative_length, reduce_length, send_length, read_length, moves_length, news_move, is_checked, news_moves, news_checked}
+use Rattle.lower_expr.specs.Lengths.{bare, load_length_of, negative_length, reduce_length, send_length, read_length, moves_length, news_move, is_checked, news_moves, news_checked}
 use Rattle.code_lengths.specs.Growth.{Extended, Grows, Stands, Anything}
-use Rattle.code_lengths.proofs.Drafting.{IsAt, at_stands, in_field_at, fresh_at, as_it_was, extended, resized, and_step, and_instr, makes, sized, behind, bind, weaker, in_register_grows, in_field_grows, from_grows, register_grows, entry_grows}
-use Rattle.code_lengths.proofs.Pieces.{InRegister, InField, kind_of_out, stands, fails_grow}
-
--- a value that stands in a register, or in a field
-abbrev pub Is : Bool → Out → Type 0
-Is kept (O.Scalar r) = kept ≡ true
-Is kept (O.Field f) = kept ≡ false
-Is kept O.Nothing = ⊥
-
-pub is_stands : (k : Bool) (v : Out) → Is k v → Stands k v
-is_stands k (O.Scalar r) h = h
-is_stands k (O.Field f) h = h
-is_stands k O.Nothing h = tt
-
-pub at_is : (k : Bool) (bits : ℕ) (v : Out) → IsAt k bits v → Is k v
-at_is k bits (O.Scalar r) h = h
-at_is k bits (O.Field f) h = h.0
-at_is k bits O.Nothing h = h
-
-pub fresh_is : (shape : Option ℕ) (bits : ℕ) (d : Draft) → Grows d 0 (Is (is_none shape)) (fresh_for shape bits d)
-fresh_is shape bits d = weaker (IsAt (is_none shape) bits) _ d 0 _ (λ v s. at_is (is_none shape) bits v s) (fresh_at shape bits d)
-
--- fields of variables have no code
-pub own_field_grows : (index : ℕ) (d : Draft) → Grows d 0 Anything (own_field index d)
-unfolding own_field
-own_field_grows index d = from_grows Anything d 0 _ _ (λ entry. makes Anything _ d d 0 tt (as_it_was d))
-
-pub field_of_grows : (t : Typed) (l : Layout) (x : Variable) (element : ℕ) (d : Draft) → Grows d 0 Anything (field_of t l x element d)
-unfolding field_of
-field_of_grows t l (V.File k) element d =
-    from_grows Anything d 0 _ _ (λ info. from_grows Anything d 0 _ _ (λ first. from_grows Anything d 0 _ _ (λ set. entry_grows _ _ _ d)))
-field_of_grows t l (V.Param k) element d = from_grows Anything d 0 _ _ (λ index. own_field_grows index d)
-field_of_grows t l (V.Local k) element d = from_grows Anything d 0 _ _ (λ name. from_grows Anything d 0 _ _ (λ home. own_field_grows _ d))
+use Rattle.code_lengths.specs.Naming.{HasBits, NamesVariables}
+use Rattle.code_lengths.specs.Ready.{IsReady}
+use Rattle.code_lengths.proofs.Drafting.{IsAt, nothing_more, at_stands, in_field_at, as_it_was, extended, resized, and_step, and_instr, makes, sized, behind, bind, bind_behind, in_register_grows, in_field_grows, register_grows, entry_grows}
+use Rattle.code_lengths.proofs.Pieces.{InRegister, InField}
+use Rattle.code_lengths.proofs.Readiness.{ready_behind, variable_field_grows}
 
 -- an address
-located_at_grows : (k : Bool) (place : Place) (of : ℕ) (indexes : List TExpr) (outs : List Out) (at : Out) (d : Draft) → Is k at → Grows d 2 (Is k) (located_at place of indexes outs at d)
+located_at_grows : (k : Bool) (place : Place) (of : ℕ) (indexes : List TExpr) (outs : List Out) (at : Out) (d : Draft) → Stands k at → Grows d 2 (Stands k) (located_at place of indexes outs at d)
 unfolding located_at front_located each_located
-located_at_grows k place of indexes outs (O.Scalar r) d h = makes (Is k) (O.Scalar r) d _ 2 h (and_step _ d _ 1 (and_step _ d d 0 (as_it_was d)))
-located_at_grows k place of indexes outs (O.Field f) d h = makes (Is k) (O.Field f) d _ 2 h (and_step _ d _ 1 (and_step _ d d 0 (as_it_was d)))
-located_at_grows k place of indexes outs O.Nothing d h = fails_grow _ d 2
+located_at_grows k place of indexes outs (O.Scalar r) d h = makes (Stands k) (O.Scalar r) d _ 2 h (and_step _ d _ 1 (and_step _ d d 0 (as_it_was d)))
+located_at_grows k place of indexes outs (O.Field f) d h = makes (Stands k) (O.Field f) d _ 2 h (and_step _ d _ 1 (and_step _ d d 0 (as_it_was d)))
+located_at_grows k place of indexes outs O.Nothing d h = absurd h
 
-pub located_grows : (k : Bool) (e : TExpr) (outs : List Out) (at : Out) (d : Draft) → Is k at → Grows d 2 (Is k) (located e outs at d)
-unfolding located out-TExpr Carrier.out
-located_grows k (T.LeftIndex' ty place p indexes x of) outs at d h = located_at_grows k place of _ outs at d h
-located_grows k _ outs at d h = fails_grow _ d 2
+pub located_grows : (k : Bool) (e : TExpr) (outs : List Out) (at : Out) (d : Draft) → is_left_index e ≡ true → Stands k at → Grows d 2 (Stands k) (located e outs at d)
+unfolding located is_left_index out-TExpr Carrier.out
+located_grows k (T.LeftIndex' ty place p indexes x of) outs at d i h = located_at_grows k place of _ outs at d h
+located_grows k _ outs at d i h = cc
 
 -- the check of a get by NEWS
 pub some_in : {A : Type 0} → List A → Bool
@@ -168,57 +142,39 @@ stepwise_more elem dest (step ∷ (next ∷ steps)) hop d =
 steps_grow : (of : ℕ) (indexes : List TExpr) (elem : Elem) (source dest : Field) (d : Draft) → Grows d (moves_length dest.len elem (news_moves of 0 indexes)) InField (gotten_by_steps of indexes elem source dest d)
 unfolding gotten_by_steps
 steps_grow of indexes elem source dest d =
-    sized InField d _ _ _ (nothing_before _)
+    sized InField d _ _ _ (nothing_more _)
     (bind Anything InField d 0 _ _ _ (entry_grows _ _ _ d) (λ one b _.
-    sized InField b _ _ _ (nothing_before _)
+    sized InField b _ _ _ (nothing_more _)
     (bind Anything InField b 0 _ _ _ (entry_grows _ _ _ b) (λ other c _.
     makes InField (O.Field dest) c _ _ refl (resized c _ _ _ (ap (moves_length dest.len elem) (moves_counted of 0 indexes)) (stepwise_more elem dest (moving_steps of 0 indexes) _ c))))))
-  where
-    nothing_before : (n : ℕ) → 0 + n ≡ n
-    nothing_before n = omega arith
 
 -- a read through a left index
-pub nothing_more : (n : ℕ) → 0 + n ≡ n
-nothing_more n = omega arith
-
-pub read_grows : (k : Bool) (bits : ℕ) (ty : ValueType) (of : ℕ) (indexes : List TExpr) (source : Field) (at into : Out) (d : Draft) → Is (is_none ty.shape) at → IsAt k bits into →
-    Grows d (read_length bits ty) (Stands k) (read_at of indexes ty.elem source at into d)
+read_grows : (bits : ℕ) (ty : ValueType) (of : ℕ) (indexes : List TExpr) (source : Field) (at into : Out) (d : Draft) → Stands (is_none ty.shape) at → IsAt (is_none ty.shape) bits into →
+    Grows d (read_length bits ty) (Stands (is_none ty.shape)) (read_at of indexes ty.elem source at into d)
 unfolding read_at read_length is_extended
-read_grows k bits ty of indexes source at into d h s = by ty.shape at h
+read_grows bits ty of indexes source at into d h s = by ty.shape at h s
   where
-    extended_or_not : (b : Bool) (to dest : Field) → Grows d (if b then 2 else 1) (Stands k) (if b then then_make (an_entry dest.set source.len W.Own d)
+    extended_or_not : (b : Bool) (to dest : Field) → InField into → Grows d (if b then 2 else 1) InField (if b then then_make (an_entry dest.set source.len W.Own d)
         (λ got after. Makes into (with_instr (I.Move ty.elem.signed dest got) (with_instr (I.Get got to source) after)))
         else Makes into (with_instr (I.Get dest to (first_bits dest.len source)) d))
-    extended_or_not true to dest =
-        bind Anything (Stands k) d 0 2 _ _ (entry_grows _ _ _ d)
-        (λ got after _. makes (Stands k) into after _ 2 (at_stands k bits into s) (and_instr _ after _ 1 (and_instr _ after after 0 (as_it_was after))))
-    extended_or_not false to dest = makes (Stands k) into d _ 1 (at_stands k bits into s) (and_instr _ d d 0 (as_it_was d))
+    extended_or_not true to dest g =
+        bind Anything InField d 0 2 _ _ (entry_grows _ _ _ d)
+        (λ got after _. makes InField into after _ 2 g (and_instr _ after _ 1 (and_instr _ after after 0 (as_it_was after))))
+    extended_or_not false to dest g = makes InField into d _ 1 g (and_instr _ d d 0 (as_it_was d))
 
-    by : (shape : Option ℕ) (at : Out) → Is (is_none shape) at → Grows d (if not (is_none shape) && nat_lt ty.elem.bits bits then 2 else 1) (Stands k) (read_at of indexes ty.elem source at into d)
-    by None (O.Scalar r) h = in_register_grows _ d 1 k into _ (at_stands k bits into s) (λ dest _. makes (Stands k) into d _ 1 (at_stands k bits into s) (and_instr _ d d 0 (as_it_was d)))
-    by (Some _) (O.Scalar r) h = cc
-    by None (O.Field f) h = cc
-    by (Some _) (O.Field f) h =
-        in_field_at _ d _ k bits into _ s (λ dest e. sized (Stands k) d _ _ _ (ap (λ (n : ℕ). if nat_lt ty.elem.bits n then 2 else 1) e) (extended_or_not (nat_lt ty.elem.bits dest.len) f dest))
-    by shape O.Nothing h = absurd h
+    by : (shape : Option ℕ) (at : Out) → Stands (is_none shape) at → IsAt (is_none shape) bits into → Grows d (if not (is_none shape) && nat_lt ty.elem.bits bits then 2 else 1) (Stands (is_none shape)) (read_at of indexes ty.elem source at into d)
+    by None (O.Scalar r) h s = let g = at_stands true bits into s in in_register_grows InRegister d 1 into _ g (λ dest. makes InRegister into d _ 1 g (and_instr _ d d 0 (as_it_was d)))
+    by (Some _) (O.Scalar r) h s = cc
+    by None (O.Field f) h s = cc
+    by (Some _) (O.Field f) h s =
+        in_field_at InField d _ bits into _ s (λ dest e. sized InField d _ _ _ (ap (λ (n : ℕ). if nat_lt ty.elem.bits n then 2 else 1) e) (extended_or_not (nat_lt ty.elem.bits dest.len) f dest (at_stands false bits into s)))
+    by shape O.Nothing h s = absurd h
 
-pub read_by_news_grows : (k : Bool) (bits : ℕ) (of : ℕ) (indexes : List TExpr) (elem : Elem) (source : Field) (into : Out) (d : Draft) → IsAt k bits into →
-    Grows d (moves_length bits elem (news_moves of 0 indexes)) (Stands k) (read_at of indexes elem source O.Nothing into d)
-unfolding read_at in_field
-read_by_news_grows k bits of indexes elem source (O.Field dest) d s =
-    sized (Stands k) d _ _ _ (ap (λ (n : ℕ). moves_length n elem (news_moves of 0 indexes)) s.1)
-    (weaker InField (Stands k) d _ _ (λ v f. subst (λ b. Stands b v) (sym s.0) f) (steps_grow of indexes elem source dest d))
-read_by_news_grows k bits of indexes elem source (O.Scalar r) d s = fails_grow _ d _
-read_by_news_grows k bits of indexes elem source O.Nothing d s = absurd s
-
--- parts
-pub part_register_grows : {B : Type 0} (Q : B → Type 0) (d : Draft) (n : ℕ) (parts : List Out) (k : ℕ) (next : ℕ → Made B) → ((r : ℕ) → Grows d n Q (next r)) → Grows d n Q (part_register parts k next)
-unfolding part_register
-part_register_grows Q d n parts k next f = from_grows Q d n _ _ (λ out. in_register_grows Q d n (kind_of_out out) out next (stands out) (λ r _. f r))
-
-pub part_field_grows : {B : Type 0} (Q : B → Type 0) (d : Draft) (n : ℕ) (parts : List Out) (k : ℕ) (next : Field → Made B) → ((r : Field) → Grows d n Q (next r)) → Grows d n Q (part_field parts k next)
-unfolding part_field
-part_field_grows Q d n parts k next f = from_grows Q d n _ _ (λ out. in_field_grows Q d n (kind_of_out out) out next (stands out) (λ r _. f r))
+pub read_by_news_grows : (bits : ℕ) (of : ℕ) (indexes : List TExpr) (elem : Elem) (source : Field) (into : Out) (d : Draft) → IsAt false bits into →
+    Grows d (moves_length bits elem (news_moves of 0 indexes)) InField (read_at of indexes elem source O.Nothing into d)
+unfolding read_at
+read_by_news_grows bits of indexes elem source into d s =
+    in_field_at InField d _ bits into _ s (λ dest e. sized InField d _ _ _ (ap (λ (n : ℕ). moves_length n elem (news_moves of 0 indexes)) e) (steps_grow of indexes elem source dest d))
 
 -- folds, onto a register, and unary reductions
 sign_more : (kind : Option Elem) (dest : ℕ) (d e : Draft) → Extended d 1 e → Extended d (if is_none kind then 1 else 2) (with_sign kind dest e)
@@ -234,13 +190,14 @@ fold_more op e dest source d = sign_more (fold_kind op e) dest d _ (and_instr _ 
 abbrev pub folded_length : Option Op → TExpr → ℕ
 folded_length op value = 2 + fold_length (elim op as (λ _. Op) [ None ↦ P.Add | Some given ↦ given ]) value
 
-pub folded_onto_grows : (k : Bool) (op : Option Op) (value : TExpr) (elem : Elem) (parts : List Out) (into : Out) (d : Draft) → Stands k into →
-    Grows d (folded_length op value) (Stands k) (folded_onto op value elem parts into d)
-unfolding folded_onto
-folded_onto_grows k op value elem parts into d s =
-    part_field_grows _ d _ parts 0 _ (λ source. part_register_grows _ d _ parts 1 _ (λ old. in_register_grows _ d _ k into _ s (λ dest _.
-    sized (Stands k) d _ _ _ (two_behind _) (bind Anything (Stands k) d 0 _ _ _ (register_grows d) (λ folded after _.
-    makes (Stands k) into after _ _ s (and_instr _ after _ _ (and_instr _ after _ _ (fold_more _ value folded source after))))))))
+-- a value that stands in a field is folded onto an old one, in a register
+pub folded_onto_grows : (op : Option Op) (value : TExpr) (elem : Elem) (v old into : Out) (d : Draft) → InField v → InRegister old → InRegister into →
+    Grows d (folded_length op value) InRegister (folded_onto op value elem (v ∷ old ∷ []) into d)
+unfolding folded_onto part_field part_register from
+folded_onto_grows op value elem v old into d sv so s =
+    in_field_grows _ d _ v _ sv (λ source. in_register_grows _ d _ old _ so (λ was. in_register_grows _ d _ into _ s (λ dest.
+    sized InRegister d _ _ _ (two_behind _) (bind Anything InRegister d 0 _ _ _ (register_grows d) (λ folded after _.
+    makes InRegister into after _ _ s (and_instr _ after _ _ (and_instr _ after _ _ (fold_more _ value folded source after))))))))
   where
     two_behind : (n : ℕ) → 0 + ((n + 1) + 1) ≡ 2 + n
     two_behind n = omega arith
@@ -253,27 +210,32 @@ negated_more _ dest n d e x = resized d e _ _ (and_nothing n) x
     and_nothing : (n : ℕ) → n ≡ n + 0
     and_nothing n = omega arith
 
-pub reduced_grows : (k : Bool) (op : ReduceOp) (operand : TExpr) (parts : List Out) (into : Out) (d : Draft) → Stands k into →
-    Grows d (reduce_length op operand) (Stands k) (reduced op operand parts into d)
-unfolding reduced reduce_length
-reduced_grows k op operand parts into d s =
-    part_field_grows _ d _ parts 0 _ (λ source. in_register_grows _ d _ k into _ s (λ dest _.
-    makes (Stands k) into d _ _ s (negated_more op dest _ d _ (fold_more _ operand dest source d))))
+pub reduced_grows : (op : ReduceOp) (operand : TExpr) (v into : Out) (d : Draft) → InField v → InRegister into →
+    Grows d (reduce_length op operand) InRegister (reduced op operand (v ∷ []) into d)
+unfolding reduced reduce_length part_field from
+reduced_grows op operand v into d sv s =
+    in_field_grows _ d _ v _ sv (λ source. in_register_grows _ d _ into _ s (λ dest.
+    makes InRegister into d _ _ s (negated_more op dest _ d _ (fold_more _ operand dest source d))))
+
+-- what a left index reads, or is assigned to, is located there
+abbrev pub IsAddress : TExpr → Out → Type 0
+IsAddress (T.LeftIndex' ty place p indexes x of) at = Stands (is_none ty.shape) at
+IsAddress _ at = ⊥
 
 -- stores to one element, and sends
-indexed_field_grows : (t : Typed) (l : Layout) (e : TExpr) (d : Draft) → Grows d 0 Anything (indexed_field t l e d)
-unfolding indexed_field
-indexed_field_grows t l e d = from_grows Anything d 0 _ _ (λ x. field_of_grows t l x 0 d)
+indexed_field_grows : (t : Typed) (i : Instance) (l : Layout) (n : ℕ) (e : TExpr) (at : Out) (d : Draft) → IsReady t i l n d → NamesVariables t i n e → IsAddress (bare e) at → Grows d 0 Anything (indexed_field t l e d)
+unfolding indexed_field indexed bare from NamesVariables
+indexed_field_grows t i l n (T.LeftIndex' ty place p indexes x of) at d r h a = variable_field_grows t i l n x (parallel ty.elem of) d r h.0 refl
+indexed_field_grows t i l n (T.Brackets' ty p inner) at d r h a = indexed_field_grows t i l n inner at d r h a
+indexed_field_grows t i l n _ at d r h a = absurd a
 
 -- a store to one element is of a part that stands in a register
-pub one_part_stored_grows : (t : Typed) (l : Layout) (target : TExpr) (processor : ℕ) (v : Out) (d : Draft) → Grows d 1 (λ (w : Out). InRegister v) (stored t l target processor (v ∷ []) d)
-unfolding stored part_register from in_register
-one_part_stored_grows t l target processor (O.Scalar r) d =
-    bind Anything _ d 0 1 _ _ (indexed_field_grows t l target d) (λ dest after _. makes _ O.Nothing after _ 1 refl (and_instr _ after after 0 (as_it_was after)))
-one_part_stored_grows t l target processor (O.Field f) d =
-    bind Anything _ d 0 1 _ _ (indexed_field_grows t l target d) (λ dest after _. fails_grow _ after 1)
-one_part_stored_grows t l target processor O.Nothing d =
-    bind Anything _ d 0 1 _ _ (indexed_field_grows t l target d) (λ dest after _. fails_grow _ after 1)
+pub one_part_stored_grows : (t : Typed) (i : Instance) (l : Layout) (n : ℕ) (target : TExpr) (at : Out) (processor : ℕ) (v : Out) (d : Draft) → IsReady t i l n d → NamesVariables t i n target → IsAddress (bare target) at → InRegister v →
+    Grows d 1 Anything (stored t l target processor (v ∷ []) d)
+unfolding stored part_register from
+one_part_stored_grows t i l n target at processor v d r h a s =
+    bind Anything Anything d 0 1 _ _ (indexed_field_grows t i l n target at d r h a) (λ dest after _. in_register_grows Anything after 1 v _ s (λ value.
+    makes Anything O.Nothing after _ 1 tt (and_instr _ after after 0 (as_it_was after))))
 
 combined_grows : (op : Op) (n : ℕ) (value : Field) (d : Draft) (next : Field → Draft → Made Out) → Grows d n (λ (f : Field). Unit {0}) (sent_value op value d) →
     ((f : Field) (e : Draft) → Grows e 1 (λ (v : Out). Unit {0}) (next f e)) → Grows d (n + 1) (λ (v : Out). Unit {0}) (then_make (sent_value op value d) next)
@@ -291,38 +253,34 @@ send_to_grows A.Sub signed kind dest to value d =
 send_to_grows _ signed kind dest to value d =
     bind (λ (f : Field). Unit {0}) _ d 0 1 (Makes value d) _ (makes _ value d d 0 tt (as_it_was d)) (λ source after _. makes _ O.Nothing after _ 1 tt (and_instr _ after after 0 (as_it_was after)))
 
-pub sent_grows : (t : Typed) (l : Layout) (target : TExpr) (op : AssignOp) (signed : Bool) (to : Field) (parts : List Out) (d : Draft) → Grows d (send_length op) (λ (v : Out). Unit {0}) (sent t l target (assign_op_of op) signed to parts d)
-unfolding sent
-sent_grows t l target op signed to parts d =
-    sized _ d _ _ _ (nothing_more (send_length op)) (bind Anything _ d 0 _ _ _ (indexed_field_grows t l target d)
-    (λ dest after _. part_field_grows _ after _ parts 0 _ (λ value. send_to_grows op signed _ dest to value after)))
+pub sent_grows : (t : Typed) (i : Instance) (l : Layout) (n : ℕ) (target : TExpr) (at : Out) (op : AssignOp) (signed : Bool) (to : Field) (v : Out) (d : Draft) → IsReady t i l n d → NamesVariables t i n target → IsAddress (bare target) at → InField v →
+    Grows d (send_length op) Anything (sent t l target (assign_op_of op) signed to (v ∷ []) d)
+unfolding sent part_field from
+sent_grows t i l n target at op signed to v d r h a s =
+    sized _ d _ _ _ (nothing_more (send_length op)) (bind Anything _ d 0 _ _ _ (indexed_field_grows t i l n target at d r h a)
+    (λ dest after _. in_field_grows _ after _ v _ s (λ value. send_to_grows op signed _ dest to value after)))
 
 -- scans
-pub scanned_grows : (k : Bool) (combiner : Reduction) (source : Field) (line : _) (bit : Option Field) (into : Out) (d : Draft) → Stands k into → Grows d 1 (Stands k) (scanned combiner source line bit into d)
+pub scanned_grows : (combiner : Reduction) (source : Field) (line : _) (bit : Option Field) (into : Out) (d : Draft) → InField into → Grows d 1 InField (scanned combiner source line bit into d)
 unfolding scanned
-scanned_grows k combiner source line bit into d s =
-    in_field_grows _ d 1 k into _ s (λ dest _. makes (Stands k) into d _ 1 s (and_instr _ d d 0 (as_it_was d)))
+scanned_grows combiner source line bit into d s =
+    in_field_grows _ d 1 into _ s (λ dest. makes InField into d _ 1 s (and_instr _ d d 0 (as_it_was d)))
 
-pub segment_field_grows : (t : Typed) (l : Layout) (x : Option Variable) (d : Draft) → Grows d 0 (λ (f : Option Field). Unit {0}) (segment_field t l x d)
+pub segment_field_grows : (t : Typed) (i : Instance) (l : Layout) (n : ℕ) (x : Option Variable) (d : Draft) → IsReady t i l n d → HasBits t i n x → Grows d 0 Anything (segment_field t l x d)
 unfolding segment_field
-segment_field_grows t l None d = makes _ None d d 0 tt (as_it_was d)
-segment_field_grows t l (Some x) d = bind Anything _ d 0 0 _ _ (field_of_grows t l x 0 d) (λ f after _. makes _ (Some f) after after 0 tt (as_it_was after))
+segment_field_grows t i l n None d r h = makes Anything None d d 0 tt (as_it_was d)
+segment_field_grows t i l n (Some x) d r h = bind Anything Anything d 0 0 _ _ (variable_field_grows t i l n x h.0 d r h.2 h.1) (λ f after _. makes Anything (Some f) after after 0 tt (as_it_was after))
 
-pub enumerated_grows : (k : Bool) (t : Typed) (l : Layout) (line : _) (bit : Option Variable) (into : Out) (d : Draft) → Stands k into → Grows d 2 (Stands k) (enumerated t l line bit into d)
+pub enumerated_grows : (t : Typed) (i : Instance) (l : Layout) (n : ℕ) (line : _) (bit : Option Variable) (into : Out) (d : Draft) → IsReady t i l n d → HasBits t i n bit → InField into → Grows d 2 InField (enumerated t l line bit into d)
 unfolding enumerated
-enumerated_grows k t l line bit into d s =
-    in_field_grows _ d 2 k into _ s (λ dest _. bind Anything (Stands k) d 0 2 _ _ (entry_grows _ _ _ d)
-    (λ ones b _. behind (Stands k) b _ 1 1 _ (and_instr _ b b 0 (as_it_was b))
-    (bind (λ (f : Option Field). Unit {0}) (Stands k) _ 0 1 _ _ (segment_field_grows t l bit _) (λ bits after _. scanned_grows k _ ones line bits into after s))))
+enumerated_grows t i l n line bit into d r h s =
+    in_field_grows _ d 2 into _ s (λ dest. bind_behind Anything InField d 0 2 _ _ (entry_grows _ _ _ d)
+    (λ ones b _ x. behind InField b _ 1 1 _ (and_instr _ b b 0 (as_it_was b))
+    (bind Anything InField _ 0 1 _ _ (segment_field_grows t i l n bit _ (ready_behind t i l n _ d _ (and_instr _ d b 0 x) r) h) (λ bits after _. scanned_grows _ ones line bits into after s))))
 
--- a read through a left index that is located there
-abbrev pub IsAddress : TExpr → Out → Type 0
-IsAddress (T.LeftIndex' ty place p indexes x of) at = Is (is_none ty.shape) at
-IsAddress _ at = ⊥
-
-pub left_index_read_grows : (k : Bool) (bits : ℕ) (t : Typed) (l : Layout) (b : TExpr) (at into : Out) (d : Draft) → IsAddress b at → IsAt k bits into →
-    Grows d (load_length_of t l bits b) (Stands k) (communicated t l b at [] into d)
-unfolding communicated load_length_of out-TExpr Carrier.out
-left_index_read_grows k bits t l (T.LeftIndex' ty place p indexes x of) at into d h s =
-    sized _ d _ _ _ (nothing_more (read_length bits ty)) (bind Anything (Stands k) d 0 _ _ _ (field_of_grows t l x 0 d) (λ source after _. read_grows k bits ty of _ source at into after h s))
-left_index_read_grows k bits t l _ at into d h s = absurd h
+pub left_index_read_grows : (bits : ℕ) (t : Typed) (i : Instance) (l : Layout) (n : ℕ) (b : TExpr) (at into : Out) (d : Draft) → IsReady t i l n d → NamesVariables t i n b → IsAddress b at → IsAt (is_none (type_of b).shape) bits into →
+    Grows d (load_length_of t l bits b) (Stands (is_none (type_of b).shape)) (communicated t l b at [] into d)
+unfolding communicated load_length_of NamesVariables out-TExpr Carrier.out
+left_index_read_grows bits t i l n (T.LeftIndex' ty place p indexes x of) at into d r v h s =
+    sized _ d _ _ _ (nothing_more (read_length bits ty)) (bind Anything (Stands (is_none ty.shape)) d 0 _ _ _ (variable_field_grows t i l n x (parallel ty.elem of) d r v.0 refl) (λ source after _. read_grows bits ty of _ source at into after h s))
+left_index_read_grows bits t i l n _ at into d r v h s = absurd h

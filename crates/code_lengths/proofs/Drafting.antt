@@ -1,5 +1,5 @@
 -- Drafts that grow: by so many instructions, with what was there unchanged.
-use Rattle.std.proofs.Common.{◌≡◌, ℕ, ◌+◌, Bool, true, false, List, [], ◌∷◌, ◌++◌, length, Option, Some, None, IsSome, is_none, refl, ap, ◌∙◌, subst, arith, append_assoc, length-append}
+use Rattle.std.proofs.Common.{◌≡◌, ℕ, ◌+◌, Bool, true, false, List, [], ◌∷◌, ◌++◌, length, Option, Some, None, IsSome, is_none, refl, sym, ap, ◌∙◌, subst, arith, append_assoc, length-append}
 use Rattle.paris_code.specs.declared.instr.Instr.{Instr}
 use Rattle.paris_code.specs.declared.operands.Field.{Field}
 use Rattle.paris_code.specs.declared.program.Owner.{Owner}
@@ -14,8 +14,11 @@ pub append_nothing : {A : Type 0} (xs : List A) → xs ≡ xs ++ []
 append_nothing [] = refl
 append_nothing (x ∷ xs) = ap (λ ys. x ∷ ys) (append_nothing xs)
 
+pub nothing_more : (n : ℕ) → 0 + n ≡ n
+nothing_more n = omega arith
+
 pub as_it_was : (d : Draft) → Extended d 0 d
-as_it_was d = record { name = refl; more = []; code = append_nothing d.code; long = refl; entries = []; fields = append_nothing d.fields; regs = omega arith; later = []; homes = append_nothing _ }
+as_it_was d = record { name = refl; more = []; code = append_nothing d.code; long = refl; entries = []; fields = append_nothing d.fields; regs = omega arith; homes = refl }
 
 pub extended : (d e f : Draft) (a b : ℕ) → Extended d a e → Extended e b f → Extended d (a + b) f
 extended d e f a b x y = record {
@@ -26,8 +29,7 @@ extended d e f a b x y = record {
   entries = x.entries ++ y.entries;
   fields = y.fields ∙ ap (λ (c : List Virtual). c ++ y.entries) x.fields ∙ append_assoc d.fields x.entries y.entries;
   regs = let r1 = x.regs in let r2 = y.regs in omega (arith, r1, r2);
-  later = x.later ++ y.later;
-  homes = y.homes ∙ ap (λ (c : List ℕ). c ++ y.later) x.homes ∙ append_assoc d.homes x.later y.later;
+  homes = y.homes ∙ x.homes;
 }
 
 pub resized : (d e : Draft) (a b : ℕ) → a ≡ b → Extended d a e → Extended d b e
@@ -43,8 +45,7 @@ and_step s d e n x = extended d e (with_step s e) n 1 x (record {
   entries = [];
   fields = append_nothing e.fields;
   regs = omega arith;
-  later = [];
-  homes = append_nothing _;
+  homes = refl;
 })
 
 pub and_instr : (i : Instr) (d e : Draft) (n : ℕ) → Extended d n e → Extended d (n + 1) (with_instr i e)
@@ -95,20 +96,24 @@ in_field_grows Q d n O.Nothing next s f = absurd s
 pub from_grows : {A B : Type 0} (Q : B → Type 0) (d : Draft) (n : ℕ) (o : Option A) (next : A → Made B) → IsSome o → ((x : A) → o ≡ Some x → Grows d n Q (next x)) → Grows d n Q (from o next)
 unfolding Grows from
 from_grows Q d n (Some x) next there f = f x refl
-from_grows Q d n None next there f = absurd there
+from_grows Q d n None next there f = cc
+
+pub found_grows : {A B : Type 0} (Q : B → Type 0) (d : Draft) (n : ℕ) (o : Option A) (x : A) (next : A → Made B) → o ≡ Some x → Grows d n Q (next x) → Grows d n Q (from o next)
+unfolding from
+found_grows Q d n o x next e g = subst (λ y. Grows d n Q (from y next)) (sym e) g
 
 pub register_grows : (d : Draft) → Grows d 0 Anything (a_register d)
 unfolding Grows a_register
-register_grows d = (tt, record { name = refl; more = []; code = append_nothing d.code; long = refl; entries = []; fields = append_nothing d.fields; regs = omega arith; later = []; homes = append_nothing _ })
+register_grows d = (tt, record { name = refl; more = []; code = append_nothing d.code; long = refl; entries = []; fields = append_nothing d.fields; regs = omega arith; homes = refl })
 
 pub entry_grows : (set len : ℕ) (owner : Owner) (d : Draft) → Grows d 0 Anything (an_entry set len owner d)
 unfolding Grows an_entry
-entry_grows set len owner d = (tt, record { name = refl; more = []; code = append_nothing d.code; long = refl; entries = record { set = set; len = len; owner = owner } ∷ []; fields = refl; regs = omega arith; later = []; homes = append_nothing _ })
+entry_grows set len owner d = (tt, record { name = refl; more = []; code = append_nothing d.code; long = refl; entries = record { set = set; len = len; owner = owner } ∷ []; fields = refl; regs = omega arith; homes = refl })
 
 -- a fresh field has as many bits as were asked for
 pub field_grows : (set bits : ℕ) (d : Draft) → Grows d 0 (λ (f : Field). f.len ≡ bits) (a_field set bits d)
 unfolding Grows an_entry
-field_grows set bits d = (refl, record { name = refl; more = []; code = append_nothing d.code; long = refl; entries = _; fields = refl; regs = omega arith; later = []; homes = append_nothing _ })
+field_grows set bits d = (refl, record { name = refl; more = []; code = append_nothing d.code; long = refl; entries = _; fields = refl; regs = omega arith; homes = refl })
 
 -- a value that stands in a register, or in a field of so many bits
 abbrev pub IsAt : Bool → ℕ → Out → Type 0

@@ -1,6 +1,6 @@
--- The code of a value that goes to a variable, of a test, and of an expression whose value is not
--- used, is as long as described.
-use Rattle.std.proofs.Common.{◌≡◌, ℕ, ◌+◌, Bool, true, false, not, ◌&&◌, ◌||◌, ◌==◌, Option, Some, None, is_none, refl, sym, ap, ◌∙◌, subst, arith, if◌then◌else◌}
+-- A value that goes to a variable, a test, and an expression whose value is not used have code, and it is
+-- as long as described.
+use Rattle.std.proofs.Common.{◌≡◌, ℕ, ◌+◌, Bool, true, false, not, ◌&&◌, ◌||◌, ◌==◌, [], Option, Some, None, is_none, refl, sym, ap, ◌∙◌, arith, if◌then◌else◌}
 use Rattle.cstar_base.specs.declared.elem.Elem.{Elem}
 use Rattle.cstar_base.specs.declared.operators.Op.{Op}
 use Rattle.cstar_base.specs.declared.operators.Place.{Place}
@@ -8,6 +8,7 @@ use Rattle.cstar_tree.specs.declared.syntax.AssignOp.{AssignOp}
 use Rattle.cstar_tree.specs.declared.syntax.StepOp.{StepOp}
 use Rattle.cstar_tree.specs.declared.typed.TExpr.{TExpr}
 use Rattle.cstar_tree.specs.declared.typed.TExpr as T
+use Rattle.cstar_tree.specs.declared.typed.Instance.{Instance}
 use Rattle.cstar_tree.specs.declared.typed.Typed.{Typed}
 use Rattle.cstar_tree.specs.declared.typed.UnaryOp.{UnaryOp}
 use Rattle.cstar_tree.specs.declared.typed.ValueType.{ValueType}
@@ -28,30 +29,36 @@ use Rattle.lower_expr.specs.Joined.{joins}
 use Rattle.lower_expr.specs.Lengths.{joined_length_of, length_of, used_length_of, test_put_length, spot_length_of, load_length, load_length_of, bare, arm_length_of, choice_length, tested_length, tested_by_length, operate_length, reduce_length, unary_length, right_length, binary_length}
 use Rattle.lower_expr.specs.Operands.{is_plus, is_quiet, own_of, in_place, operand_length}
 use Rattle.lower_expr.specs.Steps.{is_kept, has_truth, has_word, register_word, word_of, word_for, word_put, negated}
-use Rattle.lower_expr.specs.Values.{Code, value_of, next_of, tested, truth_put, extended, register_binary_of, field_binary_of, condition_by, joined_of, arm_of, scalar_choice_of}
-use Rattle.code_lengths.specs.Growth.{Extended, Grows, Stands, Anything}
+use Rattle.lower_expr.specs.Values.{Code, value_of, next_of, tested, register_binary_of, field_binary_of, condition_by, condition_of, joined_of, arm_of, scalar_choice_of}
+use Rattle.code_lengths.specs.Growth.{Extended, Stands, Anything}
+use Rattle.code_lengths.specs.Lowerable.{GivesValue, IsLowerable, IsValueFor}
+use Rattle.code_lengths.specs.Lowerable as L
+use Rattle.code_lengths.specs.Naming.{NamesVariables}
+use Rattle.code_lengths.specs.Ready.{Arrives, HasCode}
 use Rattle.code_lengths.specs.Shaped.{HasNoShape, HasShape, IsShaped}
-use Rattle.code_lengths.proofs.Drafting.{IsAt, as_it_was, resized, and_instr, makes, sized, bind, weaker, in_register_grows, in_field_grows, register_grows, entry_grows}
+use Rattle.code_lengths.proofs.Drafting.{nothing_more, IsAt, at_stands, as_it_was, resized, and_instr, register_grows, entry_grows}
+use Rattle.code_lengths.proofs.Basis.{Basis, GrowsOn, standing_as, ready, if_ready, plainly, makes, sized, bind, weaker, in_register_grows, in_field_grows, either_grows}
 use Rattle.code_lengths.proofs.Pieces.{InRegister, InField, word_in_grows, put_value_grows, operated_more, negated_grows}
-use Rattle.code_lengths.proofs.Communication.{Is, is_stands, at_is, nothing_more}
-use Rattle.code_lengths.proofs.ValuePieces.{IsCode, IsRight, Known, truth_put_grows, extended_grows, right_by_grows, right_operated_grows, right_together, registers_grow, fields_grow, word_put_grows, arm_grows, scalar_choice_grows, tested_by_grows, joined_by_grows}
-use Rattle.code_lengths.proofs.OperandPieces.{OwnFits, choice_kept, not_held, own_target_fits, standing_grows, operand_grows}
-use Rattle.code_lengths.proofs.AssignPieces.{read_to_grows}
-use Rattle.code_lengths.proofs.ExpressionLengths.{condition_grows, value_grows, truth_grows, values_grow, spot_grows, message_to_grows, reduce_grows, scan_grows, call_to_grows, index_read_to_grows}
+use Rattle.code_lengths.proofs.ValuePieces.{IsCode, IsCondition, IsRight, IsTest, of_code, joined_fields, truth_put_grows, extended_grows, right_by_grows, right_operated_grows, right_together, registers_grow, fields_grow, word_put_grows, arm_grows, scalar_choice_grows, tested_by_grows, joined_by_grows}
+use Rattle.code_lengths.proofs.OperandPieces.{OwnFits, OwnNamed, choice_kept, not_held, own_named, own_target_fits, standing_grows}
+use Rattle.code_lengths.proofs.AssignPieces.{reads, read_to_grows}
+use Rattle.code_lengths.proofs.ExpressionLengths.{Comes, given_code, operand_comes, all_codes, condition_grows, value_grows, truth_grows, values_grow, spot_grows, message_to_grows, reduce_grows, scan_grows, call_to_grows, index_read_to_grows}
 
--- the operand of an instruction that is next
-pub next_grows : (t : Typed) (l : Layout) (bits : ℕ) (quiet : Bool) (e : TExpr) → IsShaped e → IsCode (used_length_of t l bits quiet e) (is_kept e) (next_of t l bits quiet e)
-next_grows t l bits quiet e h = operand_grows t l bits quiet e _ _ h (value_grows t l bits e h)
+-- the operand of an instruction that is next: its value arrives, and stands where the expression says
+pub next_comes : (t : Typed) (i : Instance) (l : Layout) (n bits : ℕ) (quiet : Bool) (e : TExpr) → HasCode t i n e → Comes t i l n e (used_length_of t l bits quiet e) (next_of t l bits quiet e)
+next_comes t i l n bits quiet e c = operand_comes t i l n bits quiet e _ _ c.shaped c.lowerable c.names (value_grows t i l n bits e c.shaped c.lowerable c.names)
+
+pub next_code : (t : Typed) (i : Instance) (l : Layout) (n bits : ℕ) (quiet : Bool) (e : TExpr) → HasCode t i n e → GivesValue t e → IsCode (ready t i l n) (used_length_of t l bits quiet e) (is_kept e) (next_of t l bits quiet e)
+next_code t i l n bits quiet e c g = given_code t i l n e _ _ g (next_comes t i l n bits quiet e c)
+
+next_at : (k : Bool) (t : Typed) (i : Instance) (l : Layout) (n bits : ℕ) (quiet : Bool) (e : TExpr) → HasCode t i n e → GivesValue t e → is_kept e ≡ k → IsCode (ready t i l n) (used_length_of t l bits quiet e) k (next_of t l bits quiet e)
+next_at k t i l n bits quiet e c g h = of_code (is_kept e) k _ _ h (next_code t i l n bits quiet e c g)
 
 -- a test
-pub tested_grows : (t : Typed) (l : Layout) (e : TExpr) (d : Draft) → IsShaped e → Grows d (tested_length t l e) Known (tested t l e d)
+pub tested_grows : (t : Typed) (i : Instance) (l : Layout) (n : ℕ) (e : TExpr) → HasCode t i n e → L.InField t e → IsTest (ready t i l n) (tested_length t l e) (tested t l e)
 unfolding tested_length tested_by_length
-tested_grows t l e d h = tested_by_grows (has_truth e) _ _ (is_kept e) _ _ (truth_grows t l e h) (next_grows t l (bits_of (kind_of e)) true e h) d
-
--- what is made by a choice, whose side is known
-pub either_grows : {A : Type 0} (P : A → Type 0) (b : Bool) (d : Draft) (x y : ℕ) (m n : Made A) → (b ≡ true → Grows d x P m) → (b ≡ false → Grows d y P n) → Grows d (if b then x else y) P (if b then m else n)
-either_grows P true d x y m n f g = f refl
-either_grows P false d x y m n f g = g refl
+tested_grows t i l n e c f d =
+    tested_by_grows (has_truth e) _ _ _ _ (λ r. truth_grows t i l n e c.shaped c.lowerable c.names r f.1) (next_at false t i l n (bits_of (kind_of e)) true e c f.0 f.1) d
 
 -- a value goes to a register if it stands in one, and to a field if it has a shape
 abbrev pub Suits : Bool → TExpr → Type 0
@@ -61,6 +68,10 @@ Suits false e = HasShape (type_of e)
 pub suits_by : (k : Bool) (e : TExpr) → (k ≡ true → is_kept e ≡ true) → (k ≡ false → HasShape (type_of e)) → Suits k e
 suits_by true e f g = f refl
 suits_by false e f g = g refl
+
+kept_if : (k : Bool) (e : TExpr) → Suits k e → k ≡ true → is_kept e ≡ true
+kept_if true e u h = u
+kept_if false e u h = cc
 
 through : (k : Bool) (e inner : TExpr) → is_kept e ≡ is_kept inner → is_none (type_of e).shape ≡ is_none (type_of inner).shape → Suits k e → Suits k inner
 through true e inner a b u = sym a ∙ u
@@ -82,45 +93,48 @@ shape_of_field (T.Brackets' ty p inner) h k = h.0 ∙ shape_of_field inner h.1 k
 shape_of_field _ h k = k
 
 -- a register or a field has the bits that go there
-own_bits_at : (k : Bool) (dest : Out) → Is k dest → IsAt k (bits_for dest) dest
+own_bits_at : (k : Bool) (dest : Out) → Stands k dest → IsAt k (bits_for dest) dest
 unfolding bits_for
 own_bits_at k (O.Scalar r) h = h
 own_bits_at k (O.Field f) h = (h, refl)
 own_bits_at k O.Nothing h = h
 
 -- a value moved there
-pub moved_grows : (k : Bool) (t : Typed) (l : Layout) (dest : Out) (e : TExpr) (d : Draft) → Is k dest → IsShaped e → Grows d (used_length_of t l (bits_for dest) true e + 1) (Stands k) (moved t l dest e d)
+moved_grows : (k : Bool) (t : Typed) (i : Instance) (l : Layout) (n : ℕ) (dest : Out) (e : TExpr) (d : Draft) → Stands k dest → HasCode t i n e → GivesValue t e → (k ≡ true → is_kept e ≡ true) →
+    GrowsOn (ready t i l n) d (used_length_of t l (bits_for dest) true e + 1) (Stands k) (moved t l dest e d)
 unfolding moved
-moved_grows k t l dest e d s h = bind (Stands (is_kept e)) (Stands k) d _ 1 _ _ (next_grows t l (bits_for dest) true e h d) (λ v after _. put_value_grows k dest v after (is_stands k dest s))
+moved_grows k t i l n dest e d s c g f =
+    bind (Stands (is_kept e)) (Stands k) d _ 1 _ _ (next_code t i l n (bits_for dest) true e c g d) (λ v after at. plainly (put_value_grows k (is_kept e) dest v after s at f))
 
 -- conversions
-register_converted_grows : (t : Typed) (l : Layout) (r : ℕ) (elem : Elem) (e : TExpr) (d : Draft) → IsShaped e → Grows d (used_length_of t l 32 true e + 1) InRegister (register_converted t l r elem e d)
+register_converted_grows : (t : Typed) (i : Instance) (l : Layout) (n : ℕ) (r : ℕ) (elem : Elem) (e : TExpr) (d : Draft) → HasCode t i n e → GivesValue t e → is_kept e ≡ true →
+    GrowsOn (ready t i l n) d (used_length_of t l 32 true e + 1) InRegister (register_converted t l r elem e d)
 unfolding register_converted
-register_converted_grows t l r elem e d h =
-    bind (Stands (is_kept e)) InRegister d _ 1 _ _ (next_grows t l 32 true e h d) (λ v after s. in_register_grows _ after 1 (is_kept e) v _ s (λ q _. makes InRegister (O.Scalar r) after _ 1 refl (and_instr _ after after 0 (as_it_was after))))
+register_converted_grows t i l n r elem e d c g k =
+    bind InRegister InRegister d _ 1 _ _ (next_at true t i l n 32 true e c g k d) (λ v after s. in_register_grows _ after 1 v _ s (λ q. makes InRegister (O.Scalar r) after _ 1 refl (and_instr _ after after 0 (as_it_was after))))
 
-cast_to_grows : (t : Typed) (l : Layout) (f : Field) (e : TExpr) (elem : Elem) (operand : TExpr) (d : Draft) → IsShaped e → IsShaped operand →
-    Grows d (if is_kept operand then used_length_of t l f.len true e + 1 else (if elem.bits == 1 then tested_length t l operand + test_put_length f.len else used_length_of t l elem.bits true operand + 1)) InField
+cast_to_grows : (t : Typed) (i : Instance) (l : Layout) (n : ℕ) (f : Field) (e : TExpr) (elem : Elem) (operand : TExpr) (d : Draft) → HasCode t i n e → GivesValue t e → HasCode t i n operand → GivesValue t operand →
+    GrowsOn (ready t i l n) d (if is_kept operand then used_length_of t l f.len true e + 1 else (if elem.bits == 1 then tested_length t l operand + test_put_length f.len else used_length_of t l elem.bits true operand + 1)) InField
     (cast_to t l f e elem operand d)
 unfolding cast_to bits_for
-cast_to_grows t l f e elem operand d h g = by (is_kept operand) (elem.bits == 1) refl
+cast_to_grows t i l n f e elem operand d c g co go =
+    either_grows InField (is_kept operand) d _ _ _ _ (λ k. moved_grows false t i l n (O.Field f) e d refl c g (λ h. absurd (no h)))
+    (λ k. either_grows InField (elem.bits == 1) d _ _ _ _ (λ one. truth_put_grows f (tested t l operand) (tested_length t l operand) d (tested_grows t i l n operand co (go, k)))
+    (λ more. extended_grows elem.signed f _ _ d (next_at false t i l n elem.bits true operand co go k)))
   where
-    by : (k one : Bool) → is_kept operand ≡ k → Grows d (if k then used_length_of t l f.len true e + 1 else (if one then tested_length t l operand + test_put_length f.len else used_length_of t l elem.bits true operand + 1)) InField
-        (if k then moved t l (O.Field f) e d else (if one then truth_put f (tested t l operand) d else extended elem.signed f (next_of t l elem.bits true operand) d))
-    by true one k = moved_grows false t l (O.Field f) e d refl h
-    by false true k = truth_put_grows f (tested t l operand) (tested_length t l operand) d (λ b. tested_grows t l operand b g)
-    by false false k = extended_grows elem.signed f _ _ d (subst (λ (b : Bool). IsCode (used_length_of t l elem.bits true operand) b (next_of t l elem.bits true operand)) k (next_grows t l elem.bits true operand g))
+    no : false ≡ true → ⊥
+    no e = cc
 
-converted_to_grows : (k : Bool) (t : Typed) (l : Layout) (dest : Out) (e : TExpr) (elem : Elem) (operand : TExpr) (d : Draft) → Is k dest → IsShaped e → IsShaped operand →
-    Grows d (converted_to_length t l k (bits_for dest) e elem operand) (Stands k) (converted_to t l dest e elem operand d)
+converted_to_grows : (k : Bool) (t : Typed) (i : Instance) (l : Layout) (n : ℕ) (dest : Out) (e : TExpr) (elem : Elem) (operand : TExpr) (d : Draft) → Stands k dest → HasCode t i n e → GivesValue t e → HasCode t i n operand → GivesValue t operand → (k ≡ true → is_kept operand ≡ true) →
+    GrowsOn (ready t i l n) d (converted_to_length t l k (bits_for dest) e elem operand) (Stands k) (converted_to t l dest e elem operand d)
 unfolding converted_to converted_to_length bits_for
-converted_to_grows true t l (O.Scalar r) e elem operand d s h g = register_converted_grows t l r elem operand d g
-converted_to_grows false t l (O.Field f) e elem operand d s h g = cast_to_grows t l f e elem operand d h g
-converted_to_grows true t l (O.Field f) e elem operand d s h g = cc
-converted_to_grows false t l (O.Scalar r) e elem operand d s h g = cc
-converted_to_grows k t l O.Nothing e elem operand d s h g = absurd s
+converted_to_grows true t i l n (O.Scalar r) e elem operand d s c g co go f = register_converted_grows t i l n r elem operand d co go (f refl)
+converted_to_grows false t i l n (O.Field x) e elem operand d s c g co go f = cast_to_grows t i l n x e elem operand d c g co go
+converted_to_grows true t i l n (O.Field x) e elem operand d s c g co go f = cc
+converted_to_grows false t i l n (O.Scalar r) e elem operand d s c g co go f = cc
+converted_to_grows k t i l n O.Nothing e elem operand d s c g co go f = absurd s
 
-unchanged_so : (k : Bool) (dest : Out) (elem : Elem) (operand : TExpr) → Is k dest → goes_unchanged dest elem operand ≡ length_unchanged k (bits_for dest) elem operand
+unchanged_so : (k : Bool) (dest : Out) (elem : Elem) (operand : TExpr) → Stands k dest → goes_unchanged dest elem operand ≡ length_unchanged k (bits_for dest) elem operand
 unfolding goes_unchanged length_unchanged bits_for
 unchanged_so true (O.Scalar r) elem operand s = refl
 unchanged_so false (O.Field f) elem operand s = refl
@@ -129,73 +143,71 @@ unchanged_so false (O.Scalar r) elem operand s = cc
 unchanged_so k O.Nothing elem operand s = absurd s
 
 -- `&&` and `||`
-joined_of_grows : (t : Typed) (l : Layout) (is_or : Bool) (f : Field) (left right : TExpr) (d : Draft) → IsShaped left → IsShaped right →
-    Grows d (joined_length_of t l f.len left right) InField (joined_of t l is_or f left right d)
-unfolding joined_of joined_length_of condition_by
-joined_of_grows t l is_or f left right d a b =
-    joined_by_grows is_or f _ _ d (condition_grows t l left _ _ a (value_grows t l _ left a) (truth_grows t l left a))
-    (condition_grows t l right _ _ b (value_grows t l _ right b) (truth_grows t l right b))
+condition_of_grows : (t : Typed) (i : Instance) (l : Layout) (n : ℕ) (e : TExpr) → HasCode t i n e → GivesValue t e → IsCondition (ready t i l n) (condition_of t l e)
+condition_of_grows t i l n e c g = condition_grows t l e _ _ (next_code t i l n (bits_of (kind_of e)) true e c g) (λ k r. truth_grows t i l n e c.shaped c.lowerable c.names r k)
 
-logical_to_grows : (k : Bool) (t : Typed) (l : Layout) (dest : Out) (e : TExpr) (is_or : Bool) (left right : TExpr) (d : Draft) → Is k dest → IsShaped e → IsShaped left → IsShaped right →
-    Grows d (logical_to_length t l k (bits_for dest) e left right) (Stands k) (logical_to t l dest e is_or left right d)
+joined_of_grows : (t : Typed) (i : Instance) (l : Layout) (n : ℕ) (is_or : Bool) (f : Field) (left right : TExpr) (d : Draft) → HasCode t i n left → GivesValue t left → HasCode t i n right → GivesValue t right → joins left right ≡ true →
+    GrowsOn (ready t i l n) d (joined_length_of t l f.len left right) InField (joined_of t l is_or f left right d)
+unfolding joined_of joined_length_of condition_by
+joined_of_grows t i l n is_or f left right d a ga b gb j =
+    let k = joined_fields left right j in
+    joined_by_grows is_or f _ _ d (condition_of_grows t i l n left a ga) (condition_of_grows t i l n right b gb) k.0 k.1
+
+logical_to_grows : (k : Bool) (t : Typed) (i : Instance) (l : Layout) (n : ℕ) (dest : Out) (e : TExpr) (is_or : Bool) (left right : TExpr) (d : Draft) → Stands k dest → HasCode t i n e → GivesValue t e → (k ≡ true → is_kept e ≡ true) → HasCode t i n left → GivesValue t left → HasCode t i n right → GivesValue t right →
+    GrowsOn (ready t i l n) d (logical_to_length t l k (bits_for dest) e left right) (Stands k) (logical_to t l dest e is_or left right d)
 unfolding logical_to logical_to_length bits_for
-logical_to_grows true t l (O.Scalar r) e is_or left right d s h a b = moved_grows true t l (O.Scalar r) e d refl h
-logical_to_grows false t l (O.Field f) e is_or left right d s h a b =
-    either_grows InField (joins left right) d _ _ _ _ (λ _. joined_of_grows t l is_or f left right d a b) (λ _. moved_grows false t l (O.Field f) e d refl h)
-logical_to_grows true t l (O.Field f) e is_or left right d s h a b = cc
-logical_to_grows false t l (O.Scalar r) e is_or left right d s h a b = cc
-logical_to_grows k t l O.Nothing e is_or left right d s h a b = absurd s
+logical_to_grows true t i l n (O.Scalar r) e is_or left right d s c g f a ga b gb = moved_grows true t i l n (O.Scalar r) e d refl c g f
+logical_to_grows false t i l n (O.Field x) e is_or left right d s c g f a ga b gb =
+    either_grows InField (joins left right) d _ _ _ _ (λ j. joined_of_grows t i l n is_or x left right d a ga b gb j) (λ _. moved_grows false t i l n (O.Field x) e d refl c g f)
+logical_to_grows true t i l n (O.Field x) e is_or left right d s c g f a ga b gb = cc
+logical_to_grows false t i l n (O.Scalar r) e is_or left right d s c g f a ga b gb = cc
+logical_to_grows k t i l n O.Nothing e is_or left right d s c g f a ga b gb = absurd s
 
 -- a binary operator
 operands_length : Typed → Layout → Bool → ℕ → Op → TExpr → TExpr → ℕ
 operands_length t l k bits op left right =
     binary_length k bits op (used_length_of t l (operand_bits bits op left right) (is_quiet right) left) left (used_length_of t l (operand_bits bits op left right) true right) right
 
-field_binary_grows : (t : Typed) (l : Layout) (f : Field) (e : TExpr) (op : Op) (place : Place) (left right : TExpr) (d : Draft) → IsShaped e → IsShaped left → IsShaped right →
-    Grows d (if fits_field f.len op right then operands_length t l false f.len op left right else used_length_of t l f.len true e + 1) InField (field_binary_to t l f e op place left right d)
+field_binary_grows : (t : Typed) (i : Instance) (l : Layout) (n : ℕ) (f : Field) (e : TExpr) (op : Op) (place : Place) (left right : TExpr) (d : Draft) → HasCode t i n e → GivesValue t e → HasCode t i n left → GivesValue t left → HasCode t i n right → GivesValue t right →
+    GrowsOn (ready t i l n) d (if fits_field f.len op right then operands_length t l false f.len op left right else used_length_of t l f.len true e + 1) InField (field_binary_to t l f e op place left right d)
 unfolding field_binary_to field_binary_of operands_length binary_length bits_for
-field_binary_grows t l f e op place left right d i h g =
+field_binary_grows t i l n f e op place left right d c g a ga b gb =
     either_grows InField (fits_field f.len op right) d _ _ _ _
-    (λ _. sized InField d _ _ _ (nothing_more _) (bind Anything InField d 0 _ _ _ (entry_grows _ _ _ d) (λ spare after _.
-    fields_grow op _ place f spare _ left _ _ right _ after (next_grows t l _ _ left h) (next_grows t l _ true right g))))
-    (λ _. moved_grows false t l (O.Field f) e d refl i)
+    (λ _. sized InField d _ _ _ (nothing_more _) (bind Anything InField d 0 _ _ _ (plainly (entry_grows _ _ _ d)) (λ spare after _.
+    fields_grow op _ place f spare _ left _ _ right _ after (next_code t i l n _ _ left a ga) (next_code t i l n _ true right b gb))))
+    (λ _. moved_grows false t i l n (O.Field f) e d refl c g (λ h. absurd (no h)))
+  where
+    no : false ≡ true → ⊥
+    no e = cc
 
-binary_to_grows : (k : Bool) (t : Typed) (l : Layout) (dest : Out) (e : TExpr) (op : Op) (place : Place) (left right : TExpr) (d : Draft) → Is k dest → IsShaped e → IsShaped left → IsShaped right →
-    Grows d (if k || fits_field (bits_for dest) op right then operands_length t l k (bits_for dest) op left right else used_length_of t l (bits_for dest) true e + 1) (Stands k) (binary_to t l dest e op place left right d)
+binary_to_grows : (k : Bool) (t : Typed) (i : Instance) (l : Layout) (n : ℕ) (dest : Out) (e : TExpr) (op : Op) (place : Place) (left right : TExpr) (d : Draft) → Stands k dest → HasCode t i n e → GivesValue t e → HasCode t i n left → GivesValue t left → HasCode t i n right → GivesValue t right →
+    (k ≡ true → is_kept left ≡ true) → (k ≡ true → is_kept right ≡ true) →
+    GrowsOn (ready t i l n) d (if k || fits_field (bits_for dest) op right then operands_length t l k (bits_for dest) op left right else used_length_of t l (bits_for dest) true e + 1) (Stands k) (binary_to t l dest e op place left right d)
 unfolding binary_to register_binary_of operands_length binary_length bits_for
-binary_to_grows true t l (O.Scalar r) e op place left right d s i h g =
-    registers_grow 32 op _ place r (is_kept left) (is_kept right) _ _ _ _ d (next_grows t l _ _ left h) (next_grows t l _ true right g)
-binary_to_grows false t l (O.Field f) e op place left right d s i h g = field_binary_grows t l f e op place left right d i h g
-binary_to_grows true t l (O.Field f) e op place left right d s i h g = cc
-binary_to_grows false t l (O.Scalar r) e op place left right d s i h g = cc
-binary_to_grows k t l O.Nothing e op place left right d s i h g = absurd s
-
-binary_suits : (k : Bool) (ty : ValueType) (place : Place) (op : Op) (p : _) (left : TExpr) (q : _) (right : TExpr) → Suits k (T.Binary' ty place op p left q right) → k ≡ is_none ty.shape
-unfolding is_kept
-binary_suits true ty place op p left q right u = sym u
-binary_suits false ty place op p left q right u = sym u
+binary_to_grows true t i l n (O.Scalar r) e op place left right d s c g a ga b gb lk rk =
+    registers_grow 32 op _ place r _ _ _ _ d (next_at true t i l n _ _ left a ga (lk refl)) (next_at true t i l n _ true right b gb (rk refl))
+binary_to_grows false t i l n (O.Field f) e op place left right d s c g a ga b gb lk rk = field_binary_grows t i l n f e op place left right d c g a ga b gb
+binary_to_grows true t i l n (O.Field f) e op place left right d s c g a ga b gb lk rk = cc
+binary_to_grows false t i l n (O.Scalar r) e op place left right d s c g a ga b gb lk rk = cc
+binary_to_grows k t i l n O.Nothing e op place left right d s c g a ga b gb lk rk = absurd s
 
 -- a unary operator that is no `+`
-negated_to_grows : (k : Bool) (t : Typed) (l : Layout) (dest : Out) (op : UnaryOp) (operand : TExpr) (d : Draft) → Is k dest → IsShaped operand →
-    Grows d (used_length_of t l (unary_bits (bits_for dest) op operand) true operand + unary_length l (bits_for dest) op (is_kept operand)) (Stands k)
+negated_to_grows : (k : Bool) (t : Typed) (i : Instance) (l : Layout) (n : ℕ) (dest : Out) (op : UnaryOp) (operand : TExpr) (d : Draft) → Stands k dest → HasCode t i n operand → GivesValue t operand → is_kept operand ≡ k → is_plus op ≡ false →
+    GrowsOn (ready t i l n) d (used_length_of t l (unary_bits (bits_for dest) op operand) true operand + unary_length l (bits_for dest) op (is_kept operand)) (Stands k)
     (then_make (next_of t l (unary_bits (bits_for dest) op operand) true operand d) (λ v after. negated l op dest v after))
-negated_to_grows k t l dest op operand d s h =
-    bind (Stands (is_kept operand)) (Stands k) d _ _ _ _ (next_grows t l _ true operand h d) (λ v after g. negated_grows l (bits_for dest) op k (is_kept operand) dest v after (own_bits_at k dest s) g)
+negated_to_grows k t i l n dest op operand d s c g h p =
+    sized (Stands k) d _ _ _ (ap (λ (b : Bool). used_length_of t l (unary_bits (bits_for dest) op operand) true operand + unary_length l (bits_for dest) op b) (sym h))
+    (bind (Stands k) (Stands k) d _ _ _ _ (next_at k t i l n _ true operand c g h d) (λ v after at. plainly (negated_grows l (bits_for dest) op k dest v after p (own_bits_at k dest s) at)))
 
-plus_suits : (k shaped kept : Bool) (operand : TExpr) → IsShaped operand → shaped ≡ is_kept operand → (k ≡ true → shaped ≡ true) → (k ≡ false → shaped ≡ false) → Suits k operand
-plus_suits true shaped kept operand h a f g = sym a ∙ f refl
-plus_suits false shaped kept operand h a f g = shape_of_field operand h (sym a ∙ g refl)
-
-unary_sides : (k : Bool) (ty : ValueType) (op : UnaryOp) (p : _) (operand : TExpr) → Suits k (T.Unary' ty op p operand) → k ≡ is_none ty.shape
-unfolding is_kept
-unary_sides true ty op p operand u = sym u
-unary_sides false ty op p operand u = sym u
+plus_suits : (k shaped : Bool) (operand : TExpr) → IsShaped operand → shaped ≡ is_kept operand → k ≡ shaped → Suits k operand
+plus_suits true shaped operand h a f = sym a ∙ sym f
+plus_suits false shaped operand h a f = shape_of_field operand h (sym a ∙ sym f)
 
 -- what is put there is there
-gone_grows : (k : Bool) (P : Out → Type 0) (dest : Out) (n : ℕ) (made : Made Out) (d : Draft) → Is k dest → Grows d n P made → Grows d n (Stands k) (gone_to dest made)
+gone_grows : {on : Basis} (k : Bool) (P : Out → Type 0) (dest : Out) (n : ℕ) (made : Made Out) (d : Draft) → Stands k dest → GrowsOn on d n P made → GrowsOn on d n (Stands k) (gone_to dest made)
 unfolding gone_to
 gone_grows k P dest n made d s g =
-    sized (Stands k) d _ _ _ (and_nothing n) (bind P (Stands k) d n 0 _ _ g (λ _ after _. makes (Stands k) dest after after 0 (is_stands k dest s) (as_it_was after)))
+    sized (Stands k) d _ _ _ (and_nothing n) (bind P (Stands k) d n 0 _ _ g (λ _ after _. makes (Stands k) dest after after 0 s (as_it_was after)))
   where
     and_nothing : (n : ℕ) → n + 0 ≡ n
     and_nothing n = omega arith
@@ -216,13 +228,14 @@ decided_by_one true false n arms e = refl
 decided_by_one false q n arms e = cc
 
 -- `?:` with a scalar condition, into a register or a field
-choice_to_grows : (k : Bool) (t : Typed) (l : Layout) (ty : ValueType) (bits : ℕ) (test first second : TExpr) (dest : Out) (d : Draft) → k ≡ is_none ty.shape → Stands k dest → IsShaped test → IsShaped first → IsShaped second →
-    Grows d ((used_length_of t l (bits_of (kind_of test)) true test + (arm_length_of t l ty bits first + arm_length_of t l ty bits second)) + 2) (Stands k) (scalar_choice_of t l ty bits test first second dest d)
+choice_to_grows : (k : Bool) (t : Typed) (i : Instance) (l : Layout) (n : ℕ) (ty : ValueType) (bits : ℕ) (test first second : TExpr) (dest : Out) (d : Draft) → k ≡ is_none ty.shape → Stands k dest → HasCode t i n test → GivesValue t test → is_kept test ≡ true →
+    HasCode t i n first → IsValueFor t ty.shape first → HasCode t i n second → IsValueFor t ty.shape second →
+    GrowsOn (ready t i l n) d ((used_length_of t l (bits_of (kind_of test)) true test + (arm_length_of t l ty bits first + arm_length_of t l ty bits second)) + 2) (Stands k) (scalar_choice_of t l ty bits test first second dest d)
 unfolding scalar_choice_of arm_of arm_length_of
-choice_to_grows k t l ty bits test first second dest d a s h g i =
-    weaker (Stands (is_none ty.shape)) (Stands k) d _ _ (λ v g. subst (λ (b : Bool). Stands b v) (sym a) g) (scalar_choice_grows (is_none ty.shape) (is_kept test) dest _ _ _ _ _ _ d (subst (λ (b : Bool). Stands b dest) a s)
-    (next_grows t l (bits_of (kind_of test)) true test h) (arm_grows (is_none ty.shape) (is_kept first) first _ _ (next_grows t l bits true first g))
-    (arm_grows (is_none ty.shape) (is_kept second) second _ _ (next_grows t l bits true second i)))
+choice_to_grows k t i l n ty bits test first second dest d a s c g kept cf wf cs ws =
+    weaker (Stands (is_none ty.shape)) (Stands k) d _ _ (λ v q. standing_as _ k v (sym a) q) (scalar_choice_grows (is_none ty.shape) dest _ _ _ _ _ _ d (standing_as k _ dest a s)
+    (next_at true t i l n (bits_of (kind_of test)) true test c g kept) (arm_grows (is_none ty.shape) (is_kept first) first _ _ wf.in_register (next_code t i l n bits true first cf wf.gives))
+    (arm_grows (is_none ty.shape) (is_kept second) second _ _ ws.in_register (next_code t i l n bits true second cs ws.gives)))
 
 -- a `?:` with a parallel condition is no constant
 choice_next : (t : Typed) (l : Layout) (bits : ℕ) (ty : ValueType) (p : _) (test : TExpr) (q : _) (first : TExpr) (r : _) (second : TExpr) → is_kept test ≡ false →
@@ -236,76 +249,82 @@ choice_next t l bits ty p test q first r second k =
     no e = cc
 
 -- a value that is no constant
-computed_grows : (k : Bool) (t : Typed) (l : Layout) (dest : Out) (e : TExpr) (d : Draft) → Is k dest → IsShaped e → Suits k e → Grows d (computed_length t l k (bits_for dest) e) (Stands k) (computed_to t l dest e d)
-unfolding computed_to computed_length length_of operands_length arm_length_of operand_length in_place own_of spot_length_of load_length load_length_of bare IsShaped is_kept
-computed_grows k t l dest (T.Brackets' ty p inner) d s h u =
-    computed_grows k t l dest inner d s h.1 (through k (T.Brackets' ty p inner) inner refl h.0 u)
-computed_grows k t l dest (T.Convert' ty p operand) d s h u =
+has_code : {t : Typed} {i : Instance} {n : ℕ} {e : TExpr} → IsShaped e → IsLowerable t e → NamesVariables t i n e → HasCode t i n e
+has_code h w v = record { shaped = h; lowerable = w; names = v }
+
+computed_grows : (k : Bool) (t : Typed) (i : Instance) (l : Layout) (n : ℕ) (dest : Out) (e : TExpr) (d : Draft) → Stands k dest → IsShaped e → IsLowerable t e → NamesVariables t i n e → Suits k e → GivesValue t e →
+    GrowsOn (ready t i l n) d (computed_length t l k (bits_for dest) e) (Stands k) (computed_to t l dest e d)
+unfolding computed_to computed_length length_of operands_length arm_length_of operand_length in_place own_of spot_length_of load_length load_length_of bare IsShaped is_kept IsLowerable NamesVariables GivesValue
+computed_grows k t i l n dest (T.Brackets' ty p inner) d s h w v u g =
+    computed_grows k t i l n dest inner d s h.1 w v (through k (T.Brackets' ty p inner) inner refl h.0 u) g
+computed_grows k t i l n dest (T.Convert' ty p operand) d s h w v u g =
     sized (Stands k) d _ _ _ (ap (λ (b : Bool). if b then computed_length t l k (bits_for dest) operand else converted_to_length t l k (bits_for dest) (T.Convert' ty p operand) ty.elem operand) (unchanged_so k dest ty.elem operand s))
-    (either_grows (Stands k) (goes_unchanged dest ty.elem operand) d _ _ _ _ (λ _. computed_grows k t l dest operand d s h.1 (through k (T.Convert' ty p operand) operand refl h.0 u))
-    (λ _. converted_to_grows k t l dest (T.Convert' ty p operand) ty.elem operand d s h h.1))
-computed_grows k t l dest (T.Unary' ty op p operand) d s h u =
-    let a = unary_sides k ty op p operand u in
-    either_grows (Stands k) (is_plus op) d _ _ _ _ (λ _. computed_grows k t l dest operand d s h.1 (plus_suits k (is_none ty.shape) k operand h.1 h.0 (λ e. sym a ∙ e) (λ e. sym a ∙ e)))
+    (either_grows (Stands k) (goes_unchanged dest ty.elem operand) d _ _ _ _ (λ _. computed_grows k t i l n dest operand d s h.1 w.1 v (through k (T.Convert' ty p operand) operand refl h.0 u) w.0)
+    (λ _. converted_to_grows k t i l n dest (T.Convert' ty p operand) ty.elem operand d s (has_code h w v) g (has_code h.1 w.1 v) w.0 (kept_if k (T.Convert' ty p operand) u)))
+computed_grows k t i l n dest (T.Unary' ty op p operand) d s h w v u g =
+    let a = sides k (T.Unary' ty op p operand) u refl in
+    either_grows (Stands k) (is_plus op) d _ _ _ _ (λ _. computed_grows k t i l n dest operand d s h.1 w.1 v (plus_suits k (is_none ty.shape) operand h.1 h.0 a) w.0)
     (λ e. sized (Stands k) d _ _ _ (ap (λ (b : Bool). (if b then length_of t l (bits_for dest) operand else used_length_of t l (unary_bits (bits_for dest) op operand) true operand) + unary_length l (bits_for dest) op (is_kept operand)) (sym e))
-    (negated_to_grows k t l dest op operand d s h.1))
-computed_grows k t l dest (T.Binary' ty place op p left q right) d s h u =
+    (negated_to_grows k t i l n dest op operand d s (has_code h.1 w.1 v) w.0 (sym h.0 ∙ sym a) e))
+computed_grows k t i l n dest (T.Binary' ty place op p left q right) d s h w v u g =
+    let a = sides k (T.Binary' ty place op p left q right) u refl in
     sized (Stands k) d _ _ _
-    (ap (λ (b : Bool). if k || fits_field (bits_for dest) op right then operands_length t l b (bits_for dest) op left right else used_length_of t l (bits_for dest) true (T.Binary' ty place op p left q right) + 1) (binary_suits k ty place op p left q right u))
-    (binary_to_grows k t l dest (T.Binary' ty place op p left q right) op place left right d s h h.0 h.1)
-computed_grows k t l dest (T.LogicalOr' ty p left q right) d s h u =
-    logical_to_grows k t l dest (T.LogicalOr' ty p left q right) true left right d s h h.0 h.1
-computed_grows k t l dest (T.LogicalAnd' ty p left q right) d s h u =
-    logical_to_grows k t l dest (T.LogicalAnd' ty p left q right) false left right d s h h.0 h.1
-computed_grows k t l dest (T.Pcoord ty axis) d s h u =
-    in_field_grows _ d 1 k dest _ (is_stands k dest s) (λ f _. makes (Stands k) dest d _ 1 (is_stands k dest s) (and_instr _ d d 0 (as_it_was d)))
-computed_grows k t l dest (T.Variable ty x) d s h u =
-    read_to_grows k (bits_for dest) t l (T.Variable ty x) _ dest 0 d (spot_grows t l (T.Variable ty x) tt) (own_bits_at k dest s)
-computed_grows k t l dest (T.GetChar ty) d s h u =
-    in_register_grows _ d 1 k dest _ (is_stands k dest s) (λ r _. makes (Stands k) dest d _ 1 (is_stands k dest s) (and_instr _ d d 0 (as_it_was d)))
-computed_grows k t l dest (T.Choice' ty p test q first r second) d s h u =
+    (ap (λ (b : Bool). if k || fits_field (bits_for dest) op right then operands_length t l b (bits_for dest) op left right else used_length_of t l (bits_for dest) true (T.Binary' ty place op p left q right) + 1) a)
+    (binary_to_grows k t i l n dest (T.Binary' ty place op p left q right) op place left right d s (has_code h w v) g (has_code h.0 w.2 v.0) w.0.gives (has_code h.1 w.3 v.1) w.1.gives (λ e. w.0.in_register (sym a ∙ e)) (λ e. w.1.in_register (sym a ∙ e)))
+computed_grows k t i l n dest (T.LogicalOr' ty p left q right) d s h w v u g =
+    logical_to_grows k t i l n dest (T.LogicalOr' ty p left q right) true left right d s (has_code h w v) g (kept_if k (T.LogicalOr' ty p left q right) u) (has_code h.0 w.1 v.0) w.0.left_gives (has_code h.1 w.2 v.1) w.0.right_gives
+computed_grows k t i l n dest (T.LogicalAnd' ty p left q right) d s h w v u g =
+    logical_to_grows k t i l n dest (T.LogicalAnd' ty p left q right) false left right d s (has_code h w v) g (kept_if k (T.LogicalAnd' ty p left q right) u) (has_code h.0 w.1 v.0) w.0.left_gives (has_code h.1 w.2 v.1) w.0.right_gives
+computed_grows k t i l n dest (T.Pcoord ty axis) d s h w v u g =
+    in_field_grows _ d 1 dest _ (standing_as k false dest (sides k (T.Pcoord ty axis) u refl ∙ h) s) (λ f. makes (Stands k) dest d _ 1 s (and_instr _ d d 0 (as_it_was d)))
+computed_grows k t i l n dest (T.Variable ty x) d s h w v u g =
+    read_to_grows k (bits_for dest) t l (T.Variable ty x) _ dest 0 d (sym (sides k (T.Variable ty x) u refl)) (reads t i l n (T.Variable ty x) v) (spot_grows t i l n (T.Variable ty x) tt w v) (own_bits_at k dest s)
+computed_grows k t i l n dest (T.GetChar ty) d s h w v u g =
+    in_register_grows _ d 1 dest _ (standing_as k true dest (sides k (T.GetChar ty) u refl ∙ h) s) (λ r. makes (Stands k) dest d _ 1 s (and_instr _ d d 0 (as_it_was d)))
+computed_grows k t i l n dest (T.Choice' ty p test q first r second) d s h w v u g =
     sized (Stands k) d _ _ _ (one_more_unless (is_kept test) _) (either_grows (Stands k) (is_kept test) d _ _ _ _
     (λ e. sized (Stands k) d _ _ _ (decided_by_one (is_kept test) (is_quiet first) (λ (b : Bool). used_length_of t l (bits_of (kind_of test)) b test) (arm_length_of t l ty (bits_for dest) first + arm_length_of t l ty (bits_for dest) second) e)
-    (choice_to_grows k t l ty (bits_for dest) test first second dest d (sides k (T.Choice' ty p test q first r second) u refl) (is_stands k dest s) h.0 h.1 h.2))
-    (λ e. sized (Stands k) d _ _ _ (ap (λ (n : ℕ). n + 1) (choice_next t l (bits_for dest) ty p test q first r second e)) (moved_grows k t l dest (T.Choice' ty p test q first r second) d s h)))
-computed_grows k t l dest (T.Element' ty place array p index) d s h u =
-    read_to_grows k (bits_for dest) t l (T.Element' ty place array p index) _ dest _ d (spot_grows t l (T.Element' ty place array p index) h) (own_bits_at k dest s)
-computed_grows k t l dest (T.LeftIndex' ty place p indexes x of) d s h u =
-    gone_grows k (Stands k) dest _ _ d s (index_read_to_grows k (bits_for dest) t l ty place p indexes x of _ _ dest d (spot_grows t l (T.LeftIndex' ty place p indexes x of) h) (own_bits_at k dest s))
-computed_grows k t l dest (T.Reduce' ty op p operand) d s h u =
-    gone_grows k (Stands k) dest _ _ d s (message_to_grows k t l (T.Reduce' ty op p operand) _ _ (reduce_length op operand) (is_kept operand) dest d
-    (next_grows t l _ true operand h) (is_stands k dest s) (reduce_grows _ t l ty op p operand))
-computed_grows k t l dest (T.Scan' ty p source axis combiner direction mode bit within) d s h u =
+    (choice_to_grows k t i l n ty (bits_for dest) test first second dest d (sides k (T.Choice' ty p test q first r second) u refl) s (has_code h.0 w.4 v.0) w.0 e (has_code h.1 w.5 v.1) w.2 (has_code h.2 w.6 v.2) w.3))
+    (λ e. sized (Stands k) d _ _ _ (ap (λ (n : ℕ). n + 1) (choice_next t l (bits_for dest) ty p test q first r second e)) (moved_grows k t i l n dest (T.Choice' ty p test q first r second) d s (has_code h w v) g (kept_if k (T.Choice' ty p test q first r second) u))))
+computed_grows k t i l n dest (T.Element' ty place array p index) d s h w v u g =
+    read_to_grows k (bits_for dest) t l (T.Element' ty place array p index) _ dest _ d (sym (sides k (T.Element' ty place array p index) u refl)) (reads t i l n (T.Element' ty place array p index) v) (spot_grows t i l n (T.Element' ty place array p index) h w v) (own_bits_at k dest s)
+computed_grows k t i l n dest (T.LeftIndex' ty place p indexes x of) d s h w v u g =
+    gone_grows k (Stands k) dest _ _ d s (index_read_to_grows k t i l n (bits_for dest) ty place p indexes x of _ _ dest d (sym (sides k (T.LeftIndex' ty place p indexes x of) u refl)) v (spot_grows t i l n (T.LeftIndex' ty place p indexes x of) h w v) (own_bits_at k dest s))
+computed_grows k t i l n dest (T.Reduce' ty op p operand) d s h w v u g =
+    gone_grows k InRegister dest _ _ d s (message_to_grows true t l (T.Reduce' ty op p operand) _ _ (reduce_length op operand) dest d
+    (next_at false t i l n _ true operand (has_code h w.2 v) w.1.0 w.1.1) (standing_as k true dest (sides k (T.Reduce' ty op p operand) u refl ∙ w.0) s) (reduce_grows t l ty op p operand))
+computed_grows k t i l n dest (T.Scan' ty p source axis combiner direction mode bit within) d s h w v u g =
     either_grows (Stands k) (bits_for dest == 32) d _ _ _ _
-    (λ _. gone_grows k (Stands k) dest _ _ d s (message_to_grows k t l (T.Scan' ty p source axis combiner direction mode bit within) _ _ 1 (is_kept source) dest d
-    (next_grows t l 32 true source h) (is_stands k dest s) (scan_grows _ t l ty p source axis combiner direction mode bit within)))
-    (λ _. moved_grows k t l dest (T.Scan' ty p source axis combiner direction mode bit within) d s h)
-computed_grows k t l dest (T.Call' ty instance p arguments) d s h u =
-    gone_grows k (Stands k) dest _ _ d s (call_to_grows k t l instance _ _ _ dest d (values_grow t l true _ arguments h) (is_stands k dest s))
-computed_grows k t l dest e d s h u = moved_grows k t l dest e d s h
+    (λ _. gone_grows k InField dest _ _ d s (message_to_grows false t l (T.Scan' ty p source axis combiner direction mode bit within) _ _ 1 dest d
+    (next_at false t i l n 32 true source (has_code h w.2 v.1) w.1.0 w.1.1) (standing_as k false dest (sides k (T.Scan' ty p source axis combiner direction mode bit within) u refl ∙ w.0) s) (scan_grows t i l n ty p source axis combiner direction mode bit within v.0)))
+    (λ _. moved_grows k t i l n dest (T.Scan' ty p source axis combiner direction mode bit within) d s (has_code h w v) g (kept_if k (T.Scan' ty p source axis combiner direction mode bit within) u))
+computed_grows k t i l n dest (T.Call' ty instance p arguments) d s h w v u g =
+    gone_grows k (Arrives t (T.Call' ty instance p arguments)) dest _ _ d s (call_to_grows t i l n ty instance p arguments _ _ dest d w.0 (all_codes t l true _ arguments (λ b. values_grow t i l n true _ arguments h w.1 v [] b)) (standing_as k _ dest (sides k (T.Call' ty instance p arguments) u refl) s))
+computed_grows k t i l n dest e d s h w v u g = moved_grows k t i l n dest e d s (has_code h w v) g (kept_if k e u)
 
 -- a value becomes that of a register or a field
-word_or_code : (o : Option ℕ) (k : Bool) (dest : Out) (n : ℕ) (made : Made Out) (d : Draft) → Is k dest → Grows d n (Stands k) made →
-    Grows d (if not (is_none o) then 1 else n) (Stands k) (elim o as (λ _. Made Out) [ Some word ↦ word_put dest word d | None ↦ made ])
+word_or_code : {on : Basis} (o : Option ℕ) (k : Bool) (dest : Out) (n : ℕ) (made : Made Out) (d : Draft) → Stands k dest → GrowsOn on d n (Stands k) made →
+    GrowsOn on d (if not (is_none o) then 1 else n) (Stands k) (elim o as (λ _. Made Out) [ Some word ↦ word_put dest word d | None ↦ made ])
 word_or_code (Some w) k dest n made d s g = word_put_grows k dest w d s
 word_or_code None k dest n made d s g = g
 
-pub put_grows : (k : Bool) (t : Typed) (l : Layout) (dest : Out) (e : TExpr) (d : Draft) → Is k dest → IsShaped e → Suits k e → Grows d (put_length t l k (bits_for dest) e) (Stands k) (put_to t l dest e d)
+pub put_grows : (k : Bool) (t : Typed) (i : Instance) (l : Layout) (n : ℕ) (dest : Out) (e : TExpr) (d : Draft) → Stands k dest → HasCode t i n e → Suits k e → GivesValue t e →
+    GrowsOn (ready t i l n) d (put_length t l k (bits_for dest) e) (Stands k) (put_to t l dest e d)
 unfolding put_to put_length has_word word_for
-put_grows true t l (O.Scalar r) e d s h u = word_or_code (register_word e) true (O.Scalar r) _ _ d refl (computed_grows true t l (O.Scalar r) e d refl h u)
-put_grows false t l (O.Field f) e d s h u = word_or_code (word_of e) false (O.Field f) _ _ d refl (computed_grows false t l (O.Field f) e d refl h u)
-put_grows true t l (O.Field f) e d s h u = cc
-put_grows false t l (O.Scalar r) e d s h u = cc
-put_grows k t l O.Nothing e d s h u = absurd s
+put_grows true t i l n (O.Scalar r) e d s c u g = word_or_code (register_word e) true (O.Scalar r) _ _ d refl (computed_grows true t i l n (O.Scalar r) e d refl c.shaped c.lowerable c.names u g)
+put_grows false t i l n (O.Field f) e d s c u g = word_or_code (word_of e) false (O.Field f) _ _ d refl (computed_grows false t i l n (O.Field f) e d refl c.shaped c.lowerable c.names u g)
+put_grows true t i l n (O.Field f) e d s c u g = cc
+put_grows false t i l n (O.Scalar r) e d s c u g = cc
+put_grows k t i l n O.Nothing e d s c u g = absurd s
 
 -- operators on a variable and a value
-written_register_grows : (elem : Elem) (r : ℕ) (d : Draft) → Grows d 0 Anything (written_register elem r d)
+written_register_grows : {on : Basis} (elem : Elem) (r : ℕ) (d : Draft) → GrowsOn on d 0 Anything (written_register elem r d)
 unfolding written_register
-written_register_grows elem r d = by (elem.bits == 32)
+written_register_grows {on} elem r d = by (elem.bits == 32)
   where
-    by : (b : Bool) → Grows d 0 Anything (if b then Makes r d else a_register d)
+    by : (b : Bool) → GrowsOn on d 0 Anything (if b then Makes r d else a_register d)
     by true = makes Anything r d d 0 tt (as_it_was d)
-    by false = register_grows d
+    by false = plainly (register_grows d)
 
 settled_more : (elem : Elem) (written r n : ℕ) (d e : Draft) → Extended d n e → Extended d (n + settled_length elem) (with_settled elem written r e)
 unfolding settled_length with_settled
@@ -318,39 +337,39 @@ settled_more elem written r n d e x = by (elem.bits == 32)
     by true = resized d e _ _ (same n) x
     by false = and_instr _ d e n x
 
-register_operated_grows : (t : Typed) (l : Layout) (op : Op) (signed : Bool) (place : Place) (elem : Elem) (r : ℕ) (value : TExpr) (d : Draft) → IsShaped value →
-    Grows d ((used_length_of t l 32 true value + operate_length 32 op true) + settled_length elem) InRegister (register_operated t l op signed place elem r value d)
+register_operated_grows : (t : Typed) (i : Instance) (l : Layout) (n : ℕ) (op : Op) (signed : Bool) (place : Place) (elem : Elem) (r : ℕ) (value : TExpr) (d : Draft) → HasCode t i n value → GivesValue t value → is_kept value ≡ true →
+    GrowsOn (ready t i l n) d ((used_length_of t l 32 true value + operate_length 32 op true) + settled_length elem) InRegister (register_operated t l op signed place elem r value d)
 unfolding register_operated
-register_operated_grows t l op signed place elem r value d h =
-    sized InRegister d _ _ _ (sum (used_length_of t l 32 true value) (operate_length 32 op true) (settled_length elem)) (bind (Stands (is_kept value)) InRegister d _ _ _ _ (next_grows t l 32 true value h d) (λ v between s.
-    in_register_grows _ between _ (is_kept value) v _ s (λ b _. bind Anything InRegister between 0 _ _ _ (written_register_grows elem r between) (λ written after _.
+register_operated_grows t i l n op signed place elem r value d c g k =
+    sized InRegister d _ _ _ (sum (used_length_of t l 32 true value) (operate_length 32 op true) (settled_length elem)) (bind InRegister InRegister d _ _ _ _ (next_at true t i l n 32 true value c g k d) (λ v between s.
+    in_register_grows _ between _ v _ s (λ b. bind Anything InRegister between 0 _ _ _ (written_register_grows elem r between) (λ written after _.
     makes InRegister (O.Scalar r) after _ _ refl (settled_more elem written r _ after _ (operated_more 32 op signed place written r b after))))))
   where
     sum : (n o s : ℕ) → n + (0 + (o + s)) ≡ (n + o) + s
     sum n o s = omega arith
 
-field_operated_grows : (t : Typed) (l : Layout) (op : Op) (signed : Bool) (place : Place) (f : Field) (value : TExpr) (d : Draft) → IsShaped value →
-    Grows d (right_length f.len (used_length_of t l f.len true value) op value) InField (field_operated t l op signed place f value d)
+field_operated_grows : (t : Typed) (i : Instance) (l : Layout) (n : ℕ) (op : Op) (signed : Bool) (place : Place) (f : Field) (value : TExpr) (d : Draft) → HasCode t i n value → GivesValue t value →
+    GrowsOn (ready t i l n) d (right_length f.len (used_length_of t l f.len true value) op value) InField (field_operated t l op signed place f value d)
 unfolding field_operated
-field_operated_grows t l op signed place f value d h =
-    sized InField d _ _ _ (nothing_more _ ∙ right_together f.len (used_length_of t l f.len true value) op value) (bind Anything InField d 0 _ _ _ (entry_grows _ _ _ d) (λ spare begun _.
-    bind (IsRight op value) InField begun _ _ _ _ (right_by_grows _ (used_length_of t l f.len true value) op value begun (next_grows t l f.len true value h)) (λ v after r.
+field_operated_grows t i l n op signed place f value d c g =
+    sized InField d _ _ _ (nothing_more _ ∙ right_together f.len (used_length_of t l f.len true value) op value) (bind Anything InField d 0 _ _ _ (plainly (entry_grows _ _ _ d)) (λ spare begun _.
+    bind (IsRight op value) InField begun _ _ _ _ (right_by_grows _ (used_length_of t l f.len true value) op value begun (next_code t i l n f.len true value c g)) (λ v after r.
     right_operated_grows op signed place value f f v spare after r)))
 
-variable_operated_grows : (k : Bool) (t : Typed) (l : Layout) (op : Op) (place : Place) (target value : TExpr) (dest : Out) (d : Draft) → IsAt k (type_of target).elem.bits dest → IsShaped value →
-    Grows d (operated_length t l k (type_of target).elem op value) (Stands k) (variable_operated t l op place target value dest d)
+variable_operated_grows : (k : Bool) (t : Typed) (i : Instance) (l : Layout) (n : ℕ) (op : Op) (place : Place) (target value : TExpr) (dest : Out) (d : Draft) → IsAt k (type_of target).elem.bits dest → HasCode t i n value → GivesValue t value → (k ≡ true → is_kept value ≡ true) →
+    GrowsOn (ready t i l n) d (operated_length t l k (type_of target).elem op value) (Stands k) (variable_operated t l op place target value dest d)
 unfolding variable_operated operated_length
-variable_operated_grows true t l op place target value (O.Scalar r) d s h = register_operated_grows t l op _ place (type_of target).elem r value d h
-variable_operated_grows false t l op place target value (O.Field f) d s h =
-    sized InField d _ _ _ (ap (λ (n : ℕ). right_length n (used_length_of t l n true value) op value) s.1) (field_operated_grows t l op _ place f value d h)
-variable_operated_grows true t l op place target value (O.Field f) d s h = let g = s.0 in cc
-variable_operated_grows false t l op place target value (O.Scalar r) d s h = cc
-variable_operated_grows k t l op place target value O.Nothing d s h = absurd s
+variable_operated_grows true t i l n op place target value (O.Scalar r) d s c g f = register_operated_grows t i l n op _ place (type_of target).elem r value d c g (f refl)
+variable_operated_grows false t i l n op place target value (O.Field x) d s c g f =
+    sized InField d _ _ _ (ap (λ (n : ℕ). right_length n (used_length_of t l n true value) op value) s.1) (field_operated_grows t i l n op _ place x value d c g)
+variable_operated_grows true t i l n op place target value (O.Field x) d s c g f = let e = s.0 in cc
+variable_operated_grows false t i l n op place target value (O.Scalar r) d s c g f = cc
+variable_operated_grows k t i l n op place target value O.Nothing d s c g f = absurd s
 
-variable_stepped_grows : (k : Bool) (l : Layout) (elem : Elem) (op : StepOp) (dest : Out) (d : Draft) → Is k dest → Grows d (if k then (word_length l 1 + 1) + settled_length elem else 1) (Stands k) (variable_stepped l elem op dest d)
+variable_stepped_grows : {on : Basis} (k : Bool) (l : Layout) (elem : Elem) (op : StepOp) (dest : Out) (d : Draft) → Stands k dest → GrowsOn on d (if k then (word_length l 1 + 1) + settled_length elem else 1) (Stands k) (variable_stepped l elem op dest d)
 unfolding variable_stepped
 variable_stepped_grows true l elem op (O.Scalar r) d s =
-    sized InRegister d _ _ _ (sum (word_length l 1) (settled_length elem)) (bind Anything InRegister d _ _ _ _ (word_in_grows l 1 d) (λ one between _.
+    sized InRegister d _ _ _ (sum (word_length l 1) (settled_length elem)) (bind Anything InRegister d _ _ _ _ (plainly (word_in_grows l 1 d)) (λ one between _.
     bind Anything InRegister between 0 _ _ _ (written_register_grows elem r between) (λ written after _.
     makes InRegister (O.Scalar r) after _ _ refl (settled_more elem written r 1 after _ (and_instr _ after after 0 (as_it_was after))))))
   where
@@ -362,11 +381,11 @@ variable_stepped_grows false l elem op (O.Scalar r) d s = cc
 variable_stepped_grows k l elem op O.Nothing d s = absurd s
 
 -- assignments that write their variable themselves
-Writes : Typed → Layout → AssignOp → Place → TExpr → TExpr → Option Own → Type 0
-Writes t l op place target value None = Unit {0}
-Writes t l op place target value (Some own) =
-    (dest : Out) (d : Draft) → IsAt (is_none own.shape) (type_of target).elem.bits dest →
-    Grows d (assigned_length t l (is_none own.shape) op (type_of target).elem value) (Stands (is_none own.shape)) (variable_assigned t l op place target value dest d)
+WritesOwn : Typed → Instance → Layout → ℕ → AssignOp → Place → TExpr → TExpr → Option Own → Type 0
+WritesOwn t i l n op place target value None = Unit {0}
+WritesOwn t i l n op place target value (Some own) =
+    OwnNamed t i n (Some own) × ((dest : Out) (d : Draft) → IsAt (is_none own.shape) (type_of target).elem.bits dest →
+    GrowsOn (ready t i l n) d (assigned_length t l (is_none own.shape) op (type_of target).elem value) (Stands (is_none own.shape)) (variable_assigned t l op place target value dest d))
 
 kept_unless_folded : (a b c : Bool) → (not (a && not b) && c) ≡ true → a ≡ true → b ≡ true
 kept_unless_folded true true c h e = refl
@@ -381,61 +400,74 @@ bits_of_own true elem (O.Field f) s = let g = s.0 in cc
 bits_of_own false elem (O.Scalar r) s = cc
 bits_of_own k elem O.Nothing s = absurd s
 
-assign_writes : (t : Typed) (l : Layout) (op : AssignOp) (place : Place) (target value : TExpr) (own : Own) → is_none own.shape ≡ is_none (type_of target).shape →
-    (is_none own.shape ≡ true → is_kept value ≡ true) → (HasShape (type_of target) → HasShape (type_of value)) → IsShaped value → Writes t l op place target value (Some own)
-unfolding Writes
-assign_writes t l op place target value own a b c h dest d s = by (assign_op_of op)
+assign_writes_own : (t : Typed) (i : Instance) (l : Layout) (n : ℕ) (op : AssignOp) (place : Place) (target value : TExpr) (own : Own) → OwnNamed t i n (Some own) → is_none own.shape ≡ is_none (type_of target).shape →
+    (is_none own.shape ≡ true → is_kept value ≡ true) → (HasShape (type_of target) → HasShape (type_of value)) → HasCode t i n value → GivesValue t value → WritesOwn t i l n op place target value (Some own)
+unfolding WritesOwn
+assign_writes_own t i l n op place target value own x a b c h g = (x, λ dest d s. by dest d s (assign_op_of op))
   where
-    by : (o : Option Op) → Grows d (elim o as (λ _. ℕ) [
+    by : (dest : Out) (d : Draft) → IsAt (is_none own.shape) (type_of target).elem.bits dest → (o : Option Op) → GrowsOn (ready t i l n) d (elim o as (λ _. ℕ) [
       | None ↦ put_length t l (is_none own.shape) (own_bits (is_none own.shape) (type_of target).elem) value
       | Some o ↦ operated_length t l (is_none own.shape) (type_of target).elem o value
     ]) (Stands (is_none own.shape)) (elim o as (λ _. Made Out) [
       | None ↦ put_to t l dest value d
       | Some o ↦ variable_operated t l o place target value dest d
     ])
-    by None =
+    by dest d s None =
         sized (Stands (is_none own.shape)) d _ _ _ (ap (λ (n : ℕ). put_length t l (is_none own.shape) n value) (bits_of_own (is_none own.shape) (type_of target).elem dest s))
-        (put_grows (is_none own.shape) t l dest value d (at_is _ _ dest s) h (suits_by (is_none own.shape) value b (λ e. c (sym a ∙ e))))
-    by (Some o) = variable_operated_grows (is_none own.shape) t l o place target value dest d s h
+        (put_grows (is_none own.shape) t i l n dest value d (at_stands _ _ dest s) h (suits_by (is_none own.shape) value b (λ e. c (sym a ∙ e))) g)
+    by dest d s (Some o) = variable_operated_grows (is_none own.shape) t i l n o place target value dest d s h g b
 
-assign_written : (t : Typed) (l : Layout) (op : AssignOp) (place : Place) (target value : TExpr) → (HasShape (type_of target) → HasShape (type_of value)) → IsShaped value → (o : Option Own) → OwnFits o (is_none (type_of target).shape) →
-    Writes t l op place target value (elim o as (λ _. Option Own) [ Some own ↦ if writes_itself own op (type_of target).elem value then Some own else None | None ↦ None ])
-unfolding Writes writes_itself folds
-assign_written t l op place target value c h None f = tt
-assign_written t l op place target value c h (Some own) f = by (writes_itself own op (type_of target).elem value) refl
+assign_written : (t : Typed) (i : Instance) (l : Layout) (n : ℕ) (op : AssignOp) (place : Place) (target value : TExpr) → (HasShape (type_of target) → HasShape (type_of value)) → HasCode t i n value → GivesValue t value → (o : Option Own) → OwnFits o (is_none (type_of target).shape) → OwnNamed t i n o →
+    WritesOwn t i l n op place target value (elim o as (λ _. Option Own) [ Some own ↦ if writes_itself own op (type_of target).elem value then Some own else None | None ↦ None ])
+unfolding WritesOwn writes_itself folds
+assign_written t i l n op place target value c h g None f x = tt
+assign_written t i l n op place target value c h g (Some own) f x = by (writes_itself own op (type_of target).elem value) refl
   where
-    by : (b : Bool) → writes_itself own op (type_of target).elem value ≡ b → Writes t l op place target value (if b then Some own else None)
+    by : (b : Bool) → writes_itself own op (type_of target).elem value ≡ b → WritesOwn t i l n op place target value (if b then Some own else None)
     by false e = tt
-    by true e = assign_writes t l op place target value own f (kept_unless_folded (is_none own.shape) (is_kept value) _ e) c h
+    by true e = assign_writes_own t i l n op place target value own x f (kept_unless_folded (is_none own.shape) (is_kept value) _ e) c h g
 
-assignment_in : (o : Option Own) (t : Typed) (l : Layout) (op : AssignOp) (place : Place) (target value : TExpr) (whole : Code) (n : ℕ) (d : Draft) → Writes t l op place target value o →
-    Grows d n (λ (v : Out). Unit {0}) (whole d) →
-    Grows d (elim o as (λ _. ℕ) [ Some own ↦ assigned_length t l (is_none own.shape) op (type_of target).elem value | None ↦ n ]) (λ (v : Out). Unit {0})
+whole_grows : (t : Typed) (i : Instance) (l : Layout) (n : ℕ) (target : TExpr) (own : Own) (d : Draft) → OwnNamed t i n (Some own) → GrowsOn (ready t i l n) d 0 (IsAt (is_none own.shape) (type_of target).elem.bits) (whole_of t l target own d)
+whole_grows t i l n target own d x = if_ready (λ r. standing_grows (is_none own.shape) t i l n _ own d r x refl)
+
+assignment_in : (o : Option Own) (t : Typed) (i : Instance) (l : Layout) (n : ℕ) (op : AssignOp) (place : Place) (target value : TExpr) (whole : Code) (m : ℕ) (d : Draft) → WritesOwn t i l n op place target value o →
+    GrowsOn (ready t i l n) d m Anything (whole d) →
+    GrowsOn (ready t i l n) d (elim o as (λ _. ℕ) [ Some own ↦ assigned_length t l (is_none own.shape) op (type_of target).elem value | None ↦ m ]) Anything
     (elim o as (λ _. Made Out) [ Some own ↦ then_make (whole_of t l target own d) (λ dest after. variable_assigned t l op place target value dest after) | None ↦ whole d ])
-unfolding Writes
-assignment_in (Some own) t l op place target value whole n d w g =
-    sized _ d _ _ _ (nothing_more _) (bind (IsAt (is_none own.shape) (type_of target).elem.bits) (λ (v : Out). Unit {0}) d 0 _ _ _ (standing_grows (is_none own.shape) t l _ own d refl) (λ dest after s.
-    weaker (Stands (is_none own.shape)) (λ (v : Out). Unit {0}) after _ _ (λ v _. tt) (w dest after s)))
-assignment_in None t l op place target value whole n d w g = g
+unfolding WritesOwn
+assignment_in (Some own) t i l n op place target value whole m d w g =
+    sized _ d _ _ _ (nothing_more _) (bind (IsAt (is_none own.shape) (type_of target).elem.bits) Anything d 0 _ _ _ (whole_grows t i l n target own d w.0) (λ dest after s.
+    weaker (Stands (is_none own.shape)) Anything after _ _ (λ v _. tt) (w.1 dest after s)))
+assignment_in None t i l n op place target value whole m d w g = g
 
-step_in : (o : Option Own) (t : Typed) (l : Layout) (op : StepOp) (target : TExpr) (whole : Code) (n : ℕ) (d : Draft) → Grows d n (λ (v : Out). Unit {0}) (whole d) →
-    Grows d (elim o as (λ _. ℕ) [ Some own ↦ stepped_length l (is_none own.shape) (type_of target).elem | None ↦ n ]) (λ (v : Out). Unit {0})
+step_in : (o : Option Own) (t : Typed) (i : Instance) (l : Layout) (n : ℕ) (op : StepOp) (target : TExpr) (whole : Code) (m : ℕ) (d : Draft) → OwnNamed t i n o → GrowsOn (ready t i l n) d m Anything (whole d) →
+    GrowsOn (ready t i l n) d (elim o as (λ _. ℕ) [ Some own ↦ stepped_length l (is_none own.shape) (type_of target).elem | None ↦ m ]) Anything
     (elim o as (λ _. Made Out) [ Some own ↦ then_make (whole_of t l target own d) (λ dest after. variable_stepped l (type_of target).elem op dest after) | None ↦ whole d ])
-step_in (Some own) t l op target whole n d g =
-    sized _ d _ _ _ (nothing_more _) (bind (IsAt (is_none own.shape) (type_of target).elem.bits) (λ (v : Out). Unit {0}) d 0 _ _ _ (standing_grows (is_none own.shape) t l _ own d refl) (λ dest after s.
-    weaker (Stands (is_none own.shape)) (λ (v : Out). Unit {0}) after _ _ (λ v _. tt) (variable_stepped_grows (is_none own.shape) l (type_of target).elem op dest after (at_is _ _ dest s))))
-step_in None t l op target whole n d g = g
+step_in (Some own) t i l n op target whole m d x g =
+    sized _ d _ _ _ (nothing_more _) (bind (IsAt (is_none own.shape) (type_of target).elem.bits) Anything d 0 _ _ _ (whole_grows t i l n target own d x) (λ dest after s.
+    weaker (Stands (is_none own.shape)) Anything after _ _ (λ v _. tt) (variable_stepped_grows (is_none own.shape) l (type_of target).elem op dest after (at_stands _ _ dest s))))
+step_in None t i l n op target whole m d x g = g
+
+-- the variable that is stepped is one that is named
+stepped_named : (t : Typed) (i : Instance) (n : ℕ) (target : TExpr) (o : Option Own) → OwnNamed t i n o → OwnNamed t i n (elim o as (λ _. Option Own) [ Some own ↦ if is_none own.shape || not ((type_of target).elem.bits == 1) then Some own else None | None ↦ None ])
+stepped_named t i n target None x = tt
+stepped_named t i n target (Some own) x = by (is_none own.shape || not ((type_of target).elem.bits == 1))
+  where
+    by : (b : Bool) → OwnNamed t i n (if b then Some own else None)
+    by true = x
+    by false = tt
 
 -- an expression whose value is not used
-value_unused : (t : Typed) (l : Layout) (bits : ℕ) (e : TExpr) (d : Draft) → IsShaped e → Grows d (length_of t l bits e) (λ (v : Out). Unit {0}) (value_of t l bits e d)
-value_unused t l bits e d h = weaker (Stands (is_kept e)) (λ (v : Out). Unit {0}) d _ _ (λ v _. tt) (value_grows t l bits e h d)
+value_unused : (t : Typed) (i : Instance) (l : Layout) (n bits : ℕ) (e : TExpr) (d : Draft) → IsShaped e → IsLowerable t e → NamesVariables t i n e → GrowsOn (ready t i l n) d (length_of t l bits e) Anything (value_of t l bits e d)
+value_unused t i l n bits e d h w v = weaker (Arrives t e) Anything d _ _ (λ x _. tt) (value_grows t i l n bits e h w v d)
 
-pub effect_grows : (t : Typed) (l : Layout) (e : TExpr) (d : Draft) → IsShaped e → Grows d (effect_length_of t l e) (λ (v : Out). Unit {0}) (effect_of t l e d)
-unfolding effect_of effect_length_of assignment_effect assignment_length step_effect step_effect_length IsShaped
-effect_grows t l (T.Brackets' ty p inner) d h = effect_grows t l inner d h.1
-effect_grows t l (T.Assign' ty place op p target q value) d h =
-    assignment_in (assigned_own op target value) t l op place target value (value_of t l ty.elem.bits (T.Assign' ty place op p target q value)) _ d (assign_written t l op place target value h.1 h.3 (own_of 1 target) (own_target_fits 1 target h.2))
-    (value_unused t l ty.elem.bits (T.Assign' ty place op p target q value) d h)
-effect_grows t l (T.Step' ty op order p target) d h =
-    step_in (stepped_own target) t l op target (value_of t l ty.elem.bits (T.Step' ty op order p target)) _ d (value_unused t l ty.elem.bits (T.Step' ty op order p target) d h)
-effect_grows t l e d h = value_unused t l (type_of e).elem.bits e d h
+pub effect_grows : (t : Typed) (i : Instance) (l : Layout) (n : ℕ) (e : TExpr) (d : Draft) → IsShaped e → IsLowerable t e → NamesVariables t i n e → GrowsOn (ready t i l n) d (effect_length_of t l e) Anything (effect_of t l e d)
+unfolding effect_of effect_length_of assignment_effect assignment_length step_effect step_effect_length IsShaped IsLowerable NamesVariables
+effect_grows t i l n (T.Brackets' ty p inner) d h w v = effect_grows t i l n inner d h.1 w v
+effect_grows t i l n (T.Assign' ty place op p target q value) d h w v =
+    assignment_in (assigned_own op target value) t i l n op place target value (value_of t l ty.elem.bits (T.Assign' ty place op p target q value)) _ d
+    (assign_written t i l n op place target value h.1 (has_code h.3 w.3 v.1) w.0 (own_of 1 target) (own_target_fits 1 target h.2) (own_named t i n 1 target v.0))
+    (value_unused t i l n ty.elem.bits (T.Assign' ty place op p target q value) d h w v)
+effect_grows t i l n (T.Step' ty op order p target) d h w v =
+    step_in (stepped_own target) t i l n op target (value_of t l ty.elem.bits (T.Step' ty op order p target)) _ d (stepped_named t i n target (own_of 1 target) (own_named t i n 1 target v)) (value_unused t i l n ty.elem.bits (T.Step' ty op order p target) d h w v)
+effect_grows t i l n e d h w v = value_unused t i l n (type_of e).elem.bits e d h w v

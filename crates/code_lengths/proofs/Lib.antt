@@ -1,4 +1,6 @@
 pub mod Drafting
+pub mod Readiness
+pub mod Basis
 pub mod Pieces
 pub mod Communication
 pub mod SpotPieces
@@ -8,6 +10,9 @@ pub mod ValuePieces
 pub mod AssignPieces
 pub mod ExpressionLengths
 pub mod EffectLengths
+pub mod Agreeing
+pub mod Advancing
+pub mod Declaring
+pub mod Homes
 pub mod StatementLengths
 pub mod UnitLengths
-pub mod Agreeing

@@ -2,6 +2,8 @@
 use Rattle.std.specs.Prelude.{nat_le}
 use Rattle.std.proofs.Common.{◌≡◌, ℕ, Bool, true, false, ◌&&◌, ◌||◌, Option, Some, None, is_none, is_some, refl, sym, subst, if◌then◌else◌}
 use Rattle.cstar_base.specs.Numbers.{converted}
+use Rattle.cstar_base.specs.declared.elem.Elem.{Elem}
+use Rattle.cstar_tree.specs.declared.typed.Instance.{Instance}
 use Rattle.cstar_tree.specs.declared.typed.TExpr.{TExpr}
 use Rattle.cstar_tree.specs.declared.typed.TExpr as T
 use Rattle.cstar_tree.specs.declared.typed.Typed.{Typed}
@@ -20,11 +22,12 @@ use Rattle.lower_expr.specs.Steps.{is_kept, register_word}
 use Rattle.source_meaning.specs.Constants as C
 use Rattle.source_meaning.specs.Reductions.{int_type}
 use Rattle.lower_expr.specs.Values.{Code}
-use Rattle.code_lengths.specs.Growth.{Grows, Stands, Anything}
+use Rattle.code_lengths.specs.Growth.{Grows, Anything}
+use Rattle.code_lengths.specs.Naming.{HasVariable, NamesVariables, plain}
+use Rattle.code_lengths.specs.Ready.{Arrives, HasCode, IsReady}
 use Rattle.code_lengths.specs.Shaped.{IsShaped, IsTarget}
 use Rattle.code_lengths.proofs.Drafting.{IsAt, at_stands, as_it_was, makes, bind, weaker}
-use Rattle.code_lengths.proofs.Communication.{field_of_grows}
-use Rattle.code_lengths.proofs.ValuePieces.{IsCode}
+use Rattle.code_lengths.proofs.Readiness.{arrives, variable_field_grows}
 
 -- the variable in whose own place a value stands is scalar or parallel as the value is kept or not
 abbrev pub OwnFits : Option Own → Bool → Type 0
@@ -52,23 +55,43 @@ own_target_fits bits (T.Element' ty place array p index) h = tt
 own_target_fits bits (T.LeftIndex' ty place p indexes x of) h = tt
 own_target_fits bits _ h = absurd h
 
+-- the variable in whose own place a value stands is one that the value names
+abbrev pub OwnNamed : Typed → Instance → ℕ → Option Own → Type 0
+OwnNamed t i n None = Unit {0}
+OwnNamed t i n (Some own) = (elem : Elem) × HasVariable t i n own.variable (plain (record { elem = elem; shape = own.shape }))
+
+named_or_none : (t : Typed) (i : Instance) (n : ℕ) (b : Bool) (o : Option Own) → OwnNamed t i n o → OwnNamed t i n (if b then o else None)
+named_or_none t i n true o h = h
+named_or_none t i n false o h = tt
+
+pub own_named : (t : Typed) (i : Instance) (n : ℕ) (bits : ℕ) (e : TExpr) → NamesVariables t i n e → OwnNamed t i n (own_of bits e)
+unfolding own_of NamesVariables
+own_named t i n bits (T.Variable ty x) h = named_or_none t i n (is_none ty.shape || nat_le bits ty.elem.bits) (Some (record { shape = ty.shape; variable = x })) (ty.elem, h)
+own_named t i n bits (T.Brackets' ty p inner) h = own_named t i n bits inner h
+own_named t i n bits (T.Promote' ty p operand) h = own_named t i n bits operand h
+own_named t i n bits (T.Convert' ty p operand) h = named_or_none t i n (is_unchanged bits ty.elem (is_kept operand)) (own_of bits operand) (own_named t i n bits operand h)
+own_named t i n bits _ h = tt
+
 -- a place of its own has no code, and as many bits as are wanted
-standing_by : (shape : Option ℕ) (t : Typed) (l : Layout) (bits : ℕ) (x : Variable) (d : Draft) → Grows d 0 (IsAt (is_none shape) bits) (elim shape as (λ _. Made Out) [
+standing_by : (shape : Option ℕ) (t : Typed) (l : Layout) (bits : ℕ) (x : Variable) (d : Draft) → (is_none shape ≡ false → Grows d 0 Anything (field_of t l x 0 d)) → Grows d 0 (IsAt (is_none shape) bits) (elim shape as (λ _. Made Out) [
   | None ↦ Makes (O.Scalar (register_of l x)) d
   | Some _ ↦ then_make (field_of t l x 0 d) (λ f after. Makes (O.Field (first_bits bits f)) after)
 ])
 unfolding first_bits
-standing_by None t l bits x d = makes _ _ d d 0 refl (as_it_was d)
-standing_by (Some s) t l bits x d = bind Anything _ d 0 0 _ _ (field_of_grows t l x 0 d) (λ f after _. makes _ (O.Field (first_bits bits f)) after after 0 (refl, refl) (as_it_was after))
+standing_by None t l bits x d g = makes _ _ d d 0 refl (as_it_was d)
+standing_by (Some s) t l bits x d g = bind Anything _ d 0 0 _ _ (g refl) (λ f after _. makes _ (O.Field (first_bits bits f)) after after 0 (refl, refl) (as_it_was after))
 
-pub standing_grows : (k : Bool) (t : Typed) (l : Layout) (bits : ℕ) (own : Own) (d : Draft) → is_none own.shape ≡ k → Grows d 0 (IsAt k bits) (standing t l bits own d)
+pub standing_grows : (k : Bool) (t : Typed) (i : Instance) (l : Layout) (n : ℕ) (bits : ℕ) (own : Own) (d : Draft) → IsReady t i l n d → OwnNamed t i n (Some own) → is_none own.shape ≡ k → Grows d 0 (IsAt k bits) (standing t l bits own d)
 unfolding standing
-standing_grows k t l bits own d h = weaker (IsAt (is_none own.shape) bits) (IsAt k bits) d 0 _ (λ v s. subst (λ (b : Bool). IsAt b bits v) h s) (standing_by own.shape t l bits own.variable d)
+standing_grows k t i l n bits own d r x h =
+    weaker (IsAt (is_none own.shape) bits) (IsAt k bits) d 0 _ (λ v s. subst (λ (b : Bool). IsAt b bits v) h s)
+    (standing_by own.shape t l bits own.variable d (λ s. variable_field_grows t i l n own.variable (record { elem = x.0; shape = own.shape }) d r x.1 s))
 
-operand_in : (o : Option Own) (k : Bool) (t : Typed) (l : Layout) (bits : ℕ) (code : Code) (n : ℕ) (d : Draft) → OwnFits o k → IsCode n k code →
-    Grows d (elim o as (λ _. ℕ) [ Some _ ↦ 0 | None ↦ n ]) (Stands k) (elim o as (λ _. Made Out) [ Some own ↦ standing t l bits own d | None ↦ code d ])
-operand_in None k t l bits code n d h c = c d
-operand_in (Some own) k t l bits code n d h c = weaker (IsAt k bits) (Stands k) d 0 _ (λ v s. at_stands k bits v s) (standing_grows k t l bits own d h)
+operand_in : (o : Option Own) (t : Typed) (i : Instance) (l : Layout) (n : ℕ) (e : TExpr) (bits : ℕ) (code : Code) (m : ℕ) (d : Draft) → IsReady t i l n d → OwnNamed t i n o → OwnFits o (is_kept e) → Grows d m (Arrives t e) (code d) →
+    Grows d (elim o as (λ _. ℕ) [ Some _ ↦ 0 | None ↦ m ]) (Arrives t e) (elim o as (λ _. Made Out) [ Some own ↦ standing t l bits own d | None ↦ code d ])
+operand_in None t i l n e bits code m d r x h c = c
+operand_in (Some own) t i l n e bits code m d r x h c =
+    weaker (IsAt (is_kept e) bits) (Arrives t e) d 0 _ (λ v s. arrives t e v (at_stands (is_kept e) bits v s)) (standing_grows (is_kept e) t i l n bits own d r x h)
 
 -- a constant stands in a register
 first : (a b : Bool) → (a && b) ≡ true → a ≡ true
@@ -116,17 +139,23 @@ pub choice_kept : (ty : ValueType) (p : _) (test : TExpr) (q : _) (one : TExpr) 
 unfolding C.is_constant
 choice_kept ty p test q one r other h = constant_kept test (second _ _ (first _ _ (first _ _ h)))
 
-held_in : (o : Option ℕ) (k : Bool) (n : ℕ) (made : Made Out) (d : Draft) → (is_some o ≡ true → k ≡ true) → Grows d n (Stands k) made →
-    Grows d (elim o as (λ _. ℕ) [ Some _ ↦ 0 | None ↦ n ]) (Stands k) (elim o as (λ _. Made Out) [ Some r ↦ Makes (O.Scalar r) d | None ↦ made ])
-held_in (Some r) k n made d h g = makes (Stands k) (O.Scalar r) d d 0 (h refl) (as_it_was d)
-held_in None k n made d h g = g
+held_in : (o : Option ℕ) (t : Typed) (e : TExpr) (m : ℕ) (made : Made Out) (d : Draft) → (is_some o ≡ true → is_kept e ≡ true) → Grows d m (Arrives t e) made →
+    Grows d (elim o as (λ _. ℕ) [ Some _ ↦ 0 | None ↦ m ]) (Arrives t e) (elim o as (λ _. Made Out) [ Some r ↦ Makes (O.Scalar r) d | None ↦ made ])
+held_in (Some r) t e m made d h g = makes (Arrives t e) (O.Scalar r) d d 0 (arrives t e (O.Scalar r) (h refl)) (as_it_was d)
+held_in None t e m made d h g = g
 
 place_fits : (bits : ℕ) (quiet : Bool) (e : TExpr) → IsShaped e → OwnFits (in_place bits quiet e) (is_kept e)
 unfolding in_place
 place_fits bits quiet e h = own_or_none quiet (own_of bits e) (is_kept e) (own_fits bits e h)
 
-pub operand_grows : (t : Typed) (l : Layout) (bits : ℕ) (quiet : Bool) (e : TExpr) (code : Code) (n : ℕ) → IsShaped e → IsCode n (is_kept e) code →
-    IsCode (operand_length l bits n quiet e) (is_kept e) (operand_by t l bits code quiet e)
+place_named : (t : Typed) (i : Instance) (n : ℕ) (bits : ℕ) (quiet : Bool) (e : TExpr) → NamesVariables t i n e → OwnNamed t i n (in_place bits quiet e)
+unfolding in_place
+place_named t i n bits quiet e h = named_or_none t i n quiet (own_of bits e) (own_named t i n bits e h)
+
+-- so many bits of an operand whose code is so long
+pub operand_grows : (t : Typed) (i : Instance) (l : Layout) (n bits : ℕ) (quiet : Bool) (e : TExpr) (code : Code) (m : ℕ) (d : Draft) → HasCode t i n e → IsReady t i l n d → Grows d m (Arrives t e) (code d) →
+    Grows d (operand_length l bits m quiet e) (Arrives t e) (operand_by t l bits code quiet e d)
 unfolding operand_by operand_length
-operand_grows t l bits quiet e code n h c d =
-    held_in (held l e) (is_kept e) _ _ d (held_kept l e) (operand_in (in_place bits quiet e) (is_kept e) t l bits code n d (place_fits bits quiet e h) c)
+operand_grows t i l n bits quiet e code m d h r c =
+    held_in (held l e) t e _ _ d (held_kept l e)
+    (operand_in (in_place bits quiet e) t i l n e bits code m d r (place_named t i n bits quiet e h.names) (place_fits bits quiet e h.shaped) c)

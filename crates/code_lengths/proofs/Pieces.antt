@@ -1,6 +1,8 @@
 -- Short stretches of code are as long as described.
 use Rattle.std.proofs.Common.{◌≡◌, ℕ, suc, ◌+◌, ◌≤◌, ◌-◌, Bool, true, false, not, ◌==◌, List, [], ◌∷◌, length, Option, Some, None, refl, arith, if◌then◌else◌, ap}
 use Rattle.std.specs.Prelude.{nat_lt}
+use Rattle.std.specs.List.{All}
+use Rattle.std.proofs.lemmas.List.Elements.{All-head, All-tail}
 use Rattle.cstar_base.specs.declared.elem.Elem.{Elem}
 use Rattle.cstar_base.specs.declared.operators.Op.{Op}
 use Rattle.cstar_base.specs.declared.operators.Op.TheVariants as P
@@ -11,6 +13,7 @@ use Rattle.cstar_tree.specs.declared.typed.Piece.{Piece}
 use Rattle.cstar_tree.specs.declared.typed.Piece.TheVariants as Pc
 use Rattle.cstar_tree.specs.declared.typed.UnaryOp.{UnaryOp}
 use Rattle.cstar_tree.specs.declared.typed.UnaryOp.TheVariants as Un
+use Rattle.cstar_tree.specs.Formats.{conversions}
 use Rattle.paris_code.specs.declared.instr.Instr.TheVariants as I
 use Rattle.paris_code.specs.declared.operands.Field.{Field}
 use Rattle.paris_code.specs.declared.operands.Konst.{Konst}
@@ -21,16 +24,17 @@ use Rattle.lower_base.specs.declared.emit.Out.TheVariants as O
 use Rattle.lower_base.specs.declared.operators.Machine.{Machine}
 use Rattle.lower_base.specs.declared.operators.Machine.TheVariants as M
 use Rattle.lower_base.specs.Constants.{constant_register, word_in, word_length}
-use Rattle.lower_base.specs.Drafts.{Draft, Made, Makes, Fails, then_make, with_instr, a_register, a_flag, in_register, in_field}
+use Rattle.lower_base.specs.Drafts.{Draft, Made, Makes, then_make, with_instr, a_register, a_flag, in_register}
 use Rattle.lower_base.specs.Layouts.{Layout}
 use Rattle.lower_base.specs.Operators.{machine_of, relates}
 use Rattle.lower_expr.specs.declared.steps.Right.TheVariants as R
 use Rattle.lower_expr.specs.Steps.{constant_in, put_test, field_converted, converted_in_place, put_in_field, put_value, with_register_check, with_field_check, on_registers, operated, on_fields, fields_operated, takes_word, on_word, right_operated, in_a_field, register_negated, field_negated, negated, pieces_printed, shifted_back}
 use Rattle.lower_expr.specs.Lengths.{conversion_length, test_put_length, unary_length, operate_length, spare_length}
+use Rattle.lower_expr.specs.Operands.{is_plus}
 use Rattle.code_lengths.specs.Growth.{Extended, Grows, Stands, Anything}
-use Rattle.code_lengths.proofs.Drafting.{IsAt, as_it_was, resized, and_instr, makes, sized, behind, bind, in_register_grows, register_grows, entry_grows}
+use Rattle.code_lengths.proofs.Drafting.{IsAt, nothing_more, as_it_was, resized, and_instr, makes, sized, behind, bind, in_register_grows, in_field_grows, register_grows, entry_grows}
 
--- a value that stands in a register or nowhere, or in a field or nowhere
+-- a value that stands in a register, or in a field
 abbrev pub InRegister : Out → Type 0
 InRegister v = Stands true v
 
@@ -105,7 +109,7 @@ pub register_in_place_grows : (v : Out) (elem : Elem) (d : Draft) → InRegister
 unfolding converted_in_place conversion_length Grows
 register_in_place_grows (O.Scalar r) elem d s = rw (width elem) (in_place_by (elem.bits == 32) r elem d)
 register_in_place_grows (O.Field f) elem d s = cc
-register_in_place_grows O.Nothing elem d s = tt
+register_in_place_grows O.Nothing elem d s = absurd s
 
 field_in_place_grows : (f : Field) (elem : Elem) (d : Draft) → f.len ≡ 32 → Grows d (conversion_length false elem) InField (converted_in_place (O.Field f) elem d)
 unfolding converted_in_place conversion_length field_converted
@@ -118,41 +122,23 @@ in_place_grows false (O.Scalar r) elem d s = cc
 in_place_grows true (O.Field f) elem d s = let h = s.0 in cc
 in_place_grows k O.Nothing elem d s = absurd s
 
--- which kind a value is of
-unfoldable pub kind_of_out : Out → Bool
-kind_of_out (O.Scalar r) = true
-kind_of_out (O.Field f) = false
-kind_of_out O.Nothing = true
-
-pub stands : (v : Out) → Stands (kind_of_out v) v
-unfolding kind_of_out
-stands (O.Scalar r) = refl
-stands (O.Field f) = refl
-stands O.Nothing = tt
-
--- copies
-pub put_in_field_grows : (dest : Field) (v : Out) (d : Draft) → Grows d 1 InField (put_in_field dest v d)
+-- copies: to a field from anywhere, and to a register from one
+pub put_in_field_grows : (kept : Bool) (dest : Field) (v : Out) (d : Draft) → Stands kept v → Grows d 1 InField (put_in_field dest v d)
 unfolding put_in_field Grows
-put_in_field_grows dest (O.Scalar r) d = (refl, and_instr _ d d 0 (as_it_was d))
-put_in_field_grows dest (O.Field f) d = (refl, and_instr _ d d 0 (as_it_was d))
-put_in_field_grows dest O.Nothing d = tt
+put_in_field_grows kept dest (O.Scalar r) d s = (refl, and_instr _ d d 0 (as_it_was d))
+put_in_field_grows kept dest (O.Field f) d s = (refl, and_instr _ d d 0 (as_it_was d))
+put_in_field_grows kept dest O.Nothing d s = absurd s
 
-pub put_value_grows : (k : Bool) (dest v : Out) (d : Draft) → Stands k dest → Grows d 1 (Stands k) (put_value dest v d)
+pub put_value_grows : (k kept : Bool) (dest v : Out) (d : Draft) → Stands k dest → Stands kept v → (k ≡ true → kept ≡ true) → Grows d 1 (Stands k) (put_value dest v d)
 unfolding put_value in_register Grows
-put_value_grows true (O.Scalar r) (O.Scalar q) d s = (refl, and_instr _ d d 0 (as_it_was d))
-put_value_grows true (O.Scalar r) (O.Field f) d s = tt
-put_value_grows true (O.Scalar r) O.Nothing d s = tt
-put_value_grows true (O.Field f) v d s = cc
-put_value_grows false (O.Scalar r) v d s = cc
-put_value_grows false (O.Field f) v d s = put_in_field_grows f v d
-put_value_grows k O.Nothing v d s = tt
-
--- what is put in a register was in one
-pub put_register_grows : (r : ℕ) (v : Out) (d : Draft) → Grows d 1 (λ _. InRegister v) (put_value (O.Scalar r) v d)
-unfolding put_value in_register Grows
-put_register_grows r (O.Scalar q) d = (refl, and_instr _ d d 0 (as_it_was d))
-put_register_grows r (O.Field f) d = tt
-put_register_grows r O.Nothing d = tt
+put_value_grows true kept (O.Scalar r) (O.Scalar q) d s sv h = (refl, and_instr _ d d 0 (as_it_was d))
+put_value_grows true true (O.Scalar r) (O.Field f) d s sv h = cc
+put_value_grows true false (O.Scalar r) (O.Field f) d s sv h = let e = h refl in cc
+put_value_grows true kept (O.Scalar r) O.Nothing d s sv h = absurd sv
+put_value_grows true kept (O.Field f) v d s sv h = cc
+put_value_grows false kept (O.Scalar r) v d s sv h = cc
+put_value_grows false kept (O.Field f) v d s sv h = put_in_field_grows kept f v d sv
+put_value_grows k kept O.Nothing v d s sv h = absurd s
 
 -- binary operators
 check_by : (b : Bool) (op : Op) (place : Place) (r : ℕ) (d : Draft) → Extended d (if b then 1 else 0) (if b then with_instr (I.FrontCheckDivisor place r) d else d)
@@ -186,17 +172,14 @@ unfolding on_fields machine_length
 on_fields_grows (M.Operate act) dest left right d = makes InField (O.Field dest) d _ 1 refl (and_instr _ d d 0 (as_it_was d))
 on_fields_grows (M.Compare relation) dest left right d = behind InField d _ 1 _ _ (and_instr _ d d 0 (as_it_was d)) (test_grows dest _)
 
-unchecked : (n : ℕ) → 0 + n ≡ n
-unchecked n = omega arith
-
 fields_length : (bits : ℕ) (op : Op) (signed : Bool) → (if divides op then 1 else 0) + machine_length bits (machine_of op signed) ≡ operate_length bits op false
 unfolding divides relates operate_length machine_of machine_length
-fields_length bits P.Eq signed = unchecked _
-fields_length bits P.Ne signed = unchecked _
-fields_length bits P.Lt signed = unchecked _
-fields_length bits P.Le signed = unchecked _
-fields_length bits P.Gt signed = unchecked _
-fields_length bits P.Ge signed = unchecked _
+fields_length bits P.Eq signed = nothing_more _
+fields_length bits P.Ne signed = nothing_more _
+fields_length bits P.Lt signed = nothing_more _
+fields_length bits P.Le signed = nothing_more _
+fields_length bits P.Gt signed = nothing_more _
+fields_length bits P.Ge signed = nothing_more _
 fields_length bits P.Div signed = refl
 fields_length bits P.Rem signed = refl
 fields_length bits P.Mod signed = refl
@@ -261,52 +244,50 @@ in_a_field_grows true (O.Scalar r) spare d s = (tt, and_instr _ d d 0 (as_it_was
 in_a_field_grows false (O.Scalar r) spare d s = cc
 in_a_field_grows true (O.Field f) spare d s = cc
 in_a_field_grows false (O.Field f) spare d s = (tt, as_it_was d)
-in_a_field_grows k O.Nothing spare d s = tt
+in_a_field_grows k O.Nothing spare d s = absurd s
 
--- unary operators
-register_negated_grows : (l : Layout) (bits : ℕ) (op : UnaryOp) (dest source : ℕ) (d : Draft) → Grows d (unary_length l bits op true) InRegister (register_negated l op dest source d)
-unfolding unary_length register_negated Grows
-register_negated_grows l bits Un.Plus dest source d = tt
-register_negated_grows l bits Un.Minus dest source d = (refl, and_instr _ d d 0 (as_it_was d))
-register_negated_grows l bits Un.Complement dest source d = (refl, and_instr _ d d 0 (as_it_was d))
-register_negated_grows l bits Un.Not dest source d =
+-- unary operators, of which `+` has no code
+register_negated_grows : (l : Layout) (bits : ℕ) (op : UnaryOp) (dest source : ℕ) (d : Draft) → is_plus op ≡ false → Grows d (unary_length l bits op true) InRegister (register_negated l op dest source d)
+unfolding unary_length register_negated is_plus Grows
+register_negated_grows l bits Un.Plus dest source d o = cc
+register_negated_grows l bits Un.Minus dest source d o = (refl, and_instr _ d d 0 (as_it_was d))
+register_negated_grows l bits Un.Complement dest source d o = (refl, and_instr _ d d 0 (as_it_was d))
+register_negated_grows l bits Un.Not dest source d o =
     bind Anything InRegister d (word_length l 0) 1 _ _ (word_in_grows l 0 d) (λ zero e _. makes InRegister (O.Scalar dest) e _ 1 refl (and_instr _ e e 0 (as_it_was e)))
 
-field_negated_grows : (l : Layout) (bits : ℕ) (op : UnaryOp) (dest source : Field) (d : Draft) → dest.len ≡ bits → Grows d (unary_length l bits op false) InField (field_negated op dest source d)
-unfolding unary_length field_negated Grows
-field_negated_grows l bits Un.Plus dest source d h = tt
-field_negated_grows l bits Un.Minus dest source d h = (refl, and_instr _ d d 0 (as_it_was d))
-field_negated_grows l bits Un.Complement dest source d h = (refl, and_instr _ d d 0 (as_it_was d))
-field_negated_grows l bits Un.Not dest source d h = behind InField d _ 1 _ _ (and_instr _ d d 0 (as_it_was d)) (test_put bits dest _ h)
+field_negated_grows : (l : Layout) (bits : ℕ) (op : UnaryOp) (dest source : Field) (d : Draft) → is_plus op ≡ false → dest.len ≡ bits → Grows d (unary_length l bits op false) InField (field_negated op dest source d)
+unfolding unary_length field_negated is_plus Grows
+field_negated_grows l bits Un.Plus dest source d o h = cc
+field_negated_grows l bits Un.Minus dest source d o h = (refl, and_instr _ d d 0 (as_it_was d))
+field_negated_grows l bits Un.Complement dest source d o h = (refl, and_instr _ d d 0 (as_it_was d))
+field_negated_grows l bits Un.Not dest source d o h = behind InField d _ 1 _ _ (and_instr _ d d 0 (as_it_was d)) (test_put bits dest _ h)
 
-pub negated_grows : (l : Layout) (bits : ℕ) (op : UnaryOp) (k kept : Bool) (dest v : Out) (d : Draft) → IsAt k bits dest → Stands kept v → Grows d (unary_length l bits op kept) (Stands k) (negated l op dest v d)
-unfolding negated in_register in_field Grows
-negated_grows l bits op true true (O.Scalar r) (O.Scalar q) d s t = register_negated_grows l bits op r q d
-negated_grows l bits op false kept (O.Scalar r) v d s t = cc
-negated_grows l bits op true false (O.Scalar r) (O.Scalar q) d s t = cc
-negated_grows l bits op true kept (O.Scalar r) (O.Field f) d s t = tt
-negated_grows l bits op true kept (O.Scalar r) O.Nothing d s t = tt
-negated_grows l bits op true kept (O.Field f) v d s t = let h = s.0 in cc
-negated_grows l bits op false false (O.Field f) (O.Field g) d s t = field_negated_grows l bits op f g d s.1
-negated_grows l bits op false true (O.Field f) (O.Field g) d s t = cc
-negated_grows l bits op false kept (O.Field f) (O.Scalar q) d s t = tt
-negated_grows l bits op false kept (O.Field f) O.Nothing d s t = tt
-negated_grows l bits op k kept O.Nothing v d s t = absurd s
+pub negated_grows : (l : Layout) (bits : ℕ) (op : UnaryOp) (k : Bool) (dest v : Out) (d : Draft) → is_plus op ≡ false → IsAt k bits dest → Stands k v → Grows d (unary_length l bits op k) (Stands k) (negated l op dest v d)
+unfolding negated
+negated_grows l bits op true (O.Scalar r) v d o s t = in_register_grows InRegister d _ v _ t (λ q. register_negated_grows l bits op r q d o)
+negated_grows l bits op false (O.Scalar r) v d o s t = cc
+negated_grows l bits op true (O.Field f) v d o s t = let h = s.0 in cc
+negated_grows l bits op false (O.Field f) v d o s t = in_field_grows InField d _ v _ t (λ g. field_negated_grows l bits op f g d o s.1)
+negated_grows l bits op k O.Nothing v d o s t = absurd s
 
 -- printing
 pub one_and : (n : ℕ) → 1 + n ≡ suc n
 one_and n = omega arith
 
-pub fails_grow : {A : Type 0} (P : A → Type 0) (d : Draft) (n : ℕ) → Grows d n P Fails
-unfolding Grows
-fails_grow P d n = tt
+none_less : (n : ℕ) → 1 + n ≡ 0 → ⊥
+none_less n h = omega (arith, h)
 
-pub printed_grows : (pieces : List Piece) (values : List Out) (d : Draft) → Grows d (length pieces) (λ (v : Out). v ≡ O.Nothing) (pieces_printed pieces values d)
-unfolding pieces_printed
-printed_grows [] values d = makes _ O.Nothing d d 0 refl (as_it_was d)
-printed_grows (Pc.Bytes bytes ∷ rest) values d =
-    sized _ d _ _ _ (one_and (length rest)) (behind _ d _ 1 (length rest) _ (and_instr _ d d 0 (as_it_was d)) (printed_grows rest values _))
-printed_grows (Pc.Argument format ∷ rest) [] d = fails_grow _ d _
-printed_grows (Pc.Argument format ∷ rest) (v ∷ values) d =
-    in_register_grows _ d _ (kind_of_out v) v _ (stands v)
-    (λ r h. sized _ d _ _ _ (one_and (length rest)) (behind _ d _ 1 (length rest) _ (and_instr _ d d 0 (as_it_was d)) (printed_grows rest values _)))
+one_less : (n m : ℕ) → 1 + n ≡ suc m → n ≡ m
+one_less n m h = omega (arith, h)
+
+-- each conversion has a value, in a register
+pub printed_grows : (pieces : List Piece) (values : List Out) (d : Draft) → conversions pieces ≡ length values → All InRegister values →
+    Grows d (length pieces) (λ (v : Out). v ≡ O.Nothing) (pieces_printed pieces values d)
+unfolding pieces_printed conversions
+printed_grows [] values d h s = makes _ O.Nothing d d 0 refl (as_it_was d)
+printed_grows (Pc.Bytes bytes ∷ rest) values d h s =
+    sized _ d _ _ _ (one_and (length rest)) (behind _ d _ 1 (length rest) _ (and_instr _ d d 0 (as_it_was d)) (printed_grows rest values _ h s))
+printed_grows (Pc.Argument format ∷ rest) [] d h s = absurd (none_less _ h)
+printed_grows (Pc.Argument format ∷ rest) (v ∷ values) d h s =
+    in_register_grows _ d _ v _ (All-head InRegister v values s)
+    (λ r. sized _ d _ _ _ (one_and (length rest)) (behind _ d _ 1 (length rest) _ (and_instr _ d d 0 (as_it_was d)) (printed_grows rest values _ (one_less _ _ h) (All-tail InRegister v values s))))

@@ -1,6 +1,6 @@
 -- The code of an expression, and of a statement, is as long as described, and only appends: what the
 -- unit had is as it was, and the jumps that were written by these lengths lead behind the code.
-use Rattle.std.specs.Prelude.{◌≡◌, ◌≤◌, ℕ, ◌+◌, Bool, true, false, if◌then◌else◌, List, [], length}
+use Rattle.std.specs.Prelude.{◌≡◌, ◌≤◌, ◌==◌, ℕ, ◌+◌, Bool, true, false, if◌then◌else◌, List, [], length, slice_get, Some}
 use Rattle.std.specs.List.{AllZip}
 use mathlib.Core.Former.{Count}
 use Rattle.cstar_tree.specs.declared.typed.Instance.{Instance}
@@ -12,23 +12,22 @@ use Rattle.paris_code.specs.declared.operands.Field.{Field}
 use Rattle.lower_base.specs.declared.emit.Out.{Out}
 use Rattle.lower_base.specs.declared.emit.Out.TheVariants as O
 use Rattle.lower_base.specs.Drafts.{Draft, Made, Makes, here, then_make}
-use Rattle.lower_base.specs.Layouts.{Layout}
+use Rattle.lower_base.specs.Layouts.{Layout, layout_of}
 use Rattle.lower_expr.specs.declared.spots.Spot.{Spot}
 use Rattle.lower_expr.specs.Effects.{effect_of, effect_length_of, put_to, put_length}
 use Rattle.lower_expr.specs.Lengths.{length_of, lengths_of, spot_length_of, tested_length}
 use Rattle.lower_expr.specs.Operands.{operand_by, operand_length}
-use Rattle.lower_expr.specs.Steps.{is_kept}
 use Rattle.lower_expr.specs.Values.{value_of, values_of, spot_of, tested}
 use Rattle.lower_stmt.specs.declared.statement.Frame.{Frame}
 use Rattle.lower_stmt.specs.Frames.{has_result}
 use Rattle.lower_stmt.specs.Lengths.{body_length_of, statement_length_of}
-use Rattle.lower_stmt.specs.Programs.{begun, blank, body_frame, own_fields_of, own_result_of, unit_of}
+use Rattle.lower_stmt.specs.Programs.{begun, blank, body_frame, outcome_of, own_fields_of, own_result_of, unit_of, units_of}
 use Rattle.lower_stmt.specs.Statements.{ends_in_return, statement_of}
-use Rattle.code_lengths.specs.Growth.{Extended, Grows, Stands, Anything}
+use Rattle.code_lengths.specs.Growth.{Advanced, Extended, Grows, Leads, Stands, Anything}
 use Rattle.code_lengths.specs.Lowerable.{GivesValue, InField, InRegister}
-use Rattle.code_lengths.specs.Ready.{Arrives, HasCode, HaveCode, IsPlace, IsReady}
+use Rattle.code_lengths.specs.NamingStatements.{behind}
+use Rattle.code_lengths.specs.Ready.{Arrives, Declares, HasCode, HasDeclared, HasPlainParameters, HasStatementCode, HaveCode, IsCodable, IsPlace, IsReady, NumbersVariables}
 use Rattle.code_lengths.specs.Shaped.{HasShape}
-use Rattle.code_lengths.specs.ShapedStatements.{IsShapedStatement}
 
 -- The code of an expression that has some, in a unit that is ready for it, however many bits of it are
 -- wanted: its value, which stands in a register exactly where it is kept there; the same as an operand,
@@ -56,11 +55,13 @@ pub record StandsAmong (f : Frame) (contexts : List Field) : Type 0 where
   pub loop : f.saved.in_loop ≤ length contexts
   pub all : f.saved.in_all ≡ length contexts
 
--- the code of a statement of a function that has a result or none
+-- The code of a statement of an instance, in a unit that has declared the variables before it: behind it those
+-- of its blocks are declared too.
 abbrev pub StatementsAreAsLongAsDescribed : Type 0
 StatementsAreAsLongAsDescribed =
-    (t : Typed) (l : Layout) (s : TStmt) (f : Frame) (contexts : List Field) (n : ℕ) (d : Draft) → IsShapedStatement s → StandsAmong f contexts →
-    Grows d (statement_length_of t l (has_result f) f.saved s) (λ (m : ℕ). Anything m) (statement_of t l s f contexts n d)
+    (t : Typed) (i : Instance) (l : Layout) (s : TStmt) (f : Frame) (contexts : List Field) (n : ℕ) (d : Draft) →
+    NumbersVariables i l → f.outcome ≡ outcome_of i.result → StandsAmong f contexts → HasStatementCode t i n s → HasDeclared t i l n d →
+    Leads d (statement_length_of t l (has_result f) f.saved s) (Declares t i l (behind n s)) (statement_of t l s f contexts n d)
 
 -- what a unit begins with: the entries of its parameters and of its result, and in `main` the constants
 -- and the values that the file's variables begin with
@@ -76,12 +77,28 @@ end_length body = if ends_in_return body then 0 else 1
 unfoldable pub whole_length : Typed → Layout → Frame → TStmt → ℕ
 whole_length t l f body = body_length_of t l f.is_main (has_result f) f.saved body + end_length body
 
--- behind what a unit begins with stand its body, as long as described, and the instruction that ends it
+-- The unit of an instance: behind what it begins with stand its body, as long as described, and the
+-- instruction that ends it.
+pub record HasUnit (t : Typed) (l : Layout) (is_main : Bool) (regs : ℕ) (instance : Instance) : Type 0 where
+  pub start : Draft
+  pub unit : Draft
+  pub begins : opening_of t l is_main regs instance ≡ Makes tt start
+  pub made : unit_of t l is_main regs instance ≡ Makes tt unit
+  pub rest : Advanced start (whole_length t l (body_frame is_main instance) instance.body) unit
+
 abbrev pub UnitsAreAsLongAsDescribed : Type 0
 UnitsAreAsLongAsDescribed =
-    (t : Typed) (l : Layout) (is_main : Bool) (regs : ℕ) (instance : Instance) (start unit : Draft) → IsShapedStatement instance.body →
-    opening_of t l is_main regs instance ≡ Makes tt start → unit_of t l is_main regs instance ≡ Makes tt unit →
-    Extended start (whole_length t l (body_frame is_main instance) instance.body) unit
+    (t : Typed) (words : List ℕ) (number : ℕ) (is_main : Bool) (regs : ℕ) (instance : Instance) → slice_get t.instances.items number ≡ Some instance →
+    HasPlainParameters instance → HasStatementCode t instance 0 instance.body → HasUnit t (layout_of t words number) is_main regs instance
+
+-- The units of a program: no instance is left out, and the unit of each stands at its number.
+pub record HasUnits (t : Typed) (words : List ℕ) (regs : ℕ) : Type 0 where
+  pub all : length (units_of t words t.instances.items 0 regs) ≡ length t.instances.items
+  pub each : (number : ℕ) (instance : Instance) → slice_get t.instances.items number ≡ Some instance →
+      (first : ℕ) × (own : HasUnit t (layout_of t words number) (number == 0) first instance) × (slice_get (units_of t words t.instances.items 0 regs) number ≡ Some own.unit)
+
+abbrev pub ProgramsHaveCode : Type 0
+ProgramsHaveCode = (t : Typed) (words : List ℕ) (regs : ℕ) → IsCodable t → HasUnits t words regs
 
 -- the place behind a piece of code, to which a jump over it leads, is that before it and its length
 abbrev pub CodeEndsWhereItsLengthSays : Type 0

@@ -6,8 +6,8 @@ use Rattle.lower_base.specs.declared.emit.Out.{Out}
 use Rattle.lower_base.specs.declared.emit.Out.TheVariants as O
 use Rattle.lower_base.specs.Drafts.{Draft, Step, Made, Makes, Fails}
 
--- The second draft is the first with so many instructions more: it has the same name, the code, the
--- entries and the homes begin with those that stood, and no register is given back.
+-- The second draft is the first with so many instructions more: it has the same name and the same homes,
+-- the code and the entries begin with those that stood, and no register is given back.
 pub record Extended (d : Draft) (n : ℕ) (e : Draft) : Type 0 where
   pub name : e.name ≡ d.name
   pub more : List Step
@@ -16,13 +16,24 @@ pub record Extended (d : Draft) (n : ℕ) (e : Draft) : Type 0 where
   pub entries : List Virtual
   pub fields : e.fields ≡ d.fields ++ entries
   pub regs : d.regs ≤ e.regs
-  pub later : List ℕ
-  pub homes : e.homes ≡ d.homes ++ later
+  pub homes : e.homes ≡ d.homes
+
+-- The same behind a statement, whose blocks may have declared variables: there are homes more.
+abbrev pub with_homes : List ℕ → Draft → Draft
+with_homes later d = record d { homes = d.homes ++ later }
+
+abbrev pub Advanced : Draft → ℕ → Draft → Type 0
+Advanced d n e = (later : List ℕ) × Extended (with_homes later d) n e
 
 -- there is code, of so many instructions, behind this draft, and its answer passes
 unfoldable pub Grows : {A : Type 0} → Draft → ℕ → (A → Type 0) → Made A → Type 0
 Grows d n P (Makes x e) = P x × Extended d n e
 Grows d n P Fails = ⊥
+
+-- the same of a statement: what passes is said of its answer and of the draft behind it
+unfoldable pub Leads : {A : Type 0} → Draft → ℕ → (A → Draft → Type 0) → Made A → Type 0
+Leads d n P (Makes x e) = P x e × Advanced d n e
+Leads d n P Fails = ⊥
 
 -- a value stands in a register, or in a field
 abbrev pub Stands : Bool → Out → Type 0

@@ -1,6 +1,6 @@
 -- What the code of a tree relies on, so that there is such code: of the tree, and of the unit as it stands
 -- where the tree comes.
-use Rattle.std.specs.Prelude.{◌≡◌, ◌<◌, ℕ, false, length, slice_get, Some, None, is_none}
+use Rattle.std.specs.Prelude.{◌≡◌, ◌<◌, ℕ, false, List, length, take, slice_get, Some, None, is_none}
 use Rattle.std.specs.List.{All}
 use Rattle.cstar_tree.specs.declared.typed.Instance.{Instance}
 use Rattle.cstar_tree.specs.declared.typed.TExpr.{TExpr, Row_of-TExpr, end_of-TExpr, more_of-TExpr}
@@ -11,7 +11,7 @@ use Rattle.cstar_tree.specs.declared.typed.Variable.{Variable}
 use Rattle.lower_base.specs.declared.emit.Out.{Out}
 use Rattle.lower_base.specs.declared.emit.Out.TheVariants as O
 use Rattle.lower_base.specs.Drafts.{Draft, Made, Makes, Fails}
-use Rattle.lower_base.specs.Layouts.{Layout, elements_of, entries_of, field_of, own_field}
+use Rattle.lower_base.specs.Layouts.{Layout, elements_of, entries_of, field_of, nothing_numbered, numbered, own_field}
 use Rattle.lower_expr.specs.Steps.{is_kept}
 use Rattle.code_lengths.specs.Growth.{Stands}
 use Rattle.code_lengths.specs.Lowerable.{GivesValue, IsLowerable}
@@ -35,6 +35,24 @@ pub record IsReady (t : Typed) (i : Instance) (l : Layout) (n : ℕ) (d : Draft)
       variable_named t i v ≡ Some info → IsDeclared n v → is_none info.shape ≡ false → element < entries_of info → IsMade (field_of t l v element d)
   pub result : (info : VarInfo) → i.result ≡ Some info → is_none info.shape ≡ false → IsMade (own_field l.outcome d)
   pub bases : length l.bases ≡ length t.instances.items
+
+-- how many of these variables are parallel
+abbrev pub homes_of : List VarInfo → ℕ
+homes_of infos = (numbered infos nothing_numbered).homes
+
+-- The first variables of an instance's blocks are declared: the unit is ready for them, and each parallel one
+-- has its home.
+pub record HasDeclared (t : Typed) (i : Instance) (l : Layout) (n : ℕ) (d : Draft) : Type 0 where
+  pub ready : IsReady t i l n d
+  pub homes : length d.homes ≡ homes_of (take n (variables_of i.body))
+
+-- a statement answers how many are declared behind it, and they are
+abbrev pub Declares : Typed → Instance → Layout → ℕ → ℕ → Draft → Type 0
+Declares t i l n m d = (m ≡ n) × HasDeclared t i l n d
+
+-- the layout numbers the variables of the instance's blocks
+abbrev pub NumbersVariables : Instance → Layout → Type 0
+NumbersVariables i l = l.locals ≡ (numbered (variables_of i.body) nothing_numbered).locals
 
 -- an expression that stands where so many variables are declared, and has code
 pub record HasCode (t : Typed) (i : Instance) (n : ℕ) (e : TExpr) : Type 0 where

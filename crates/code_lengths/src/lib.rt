@@ -2,21 +2,24 @@
 //! are written, and only appends. Readers find the laws here by name.
 #![tactic(auto)]
 
-ghost use Rattle.code_lengths.specs.Agreement.{CodeEndsWhereItsLengthSays, ExpressionsAreAsLongAsDescribed, StatementsAreAsLongAsDescribed, UnitsAreAsLongAsDescribed};
+ghost use Rattle.code_lengths.specs.Agreement.{CodeEndsWhereItsLengthSays, ExpressionsAreAsLongAsDescribed, ProgramsHaveCode, StatementsAreAsLongAsDescribed, UnitsAreAsLongAsDescribed};
 
-/// The code of every expression, as a value, an operand, an effect, a test or put in its place, has
-/// as many instructions as its length says, behind those that stood.
+/// Every expression that is shaped, gives values where they are wanted and names variables that are
+/// declared has code in a unit that is ready for it, as a value, an operand, an effect, a test or put
+/// in its place: as many instructions as its length says, behind those that stood.
 pub fn expressions_are_as_long_as_described()
     ensures { ExpressionsAreAsLongAsDescribed }
 {}
 
-/// The code of every statement has as many instructions as its length says, behind those that stood.
+/// The code of every statement is made, and has as many instructions as its length says, behind those that
+/// stood; behind it the variables of its blocks are declared.
 pub fn statements_are_as_long_as_described()
     ensures { StatementsAreAsLongAsDescribed }
 {}
 
-/// The code of every unit has, behind what it begins with, its body, as long as described, and the
-/// instruction that ends it where it does not end itself: the places to which its jumps lead are counted from its start.
+/// The unit of every instance is made, and has, behind what it begins with, its body, as long as described,
+/// and the instruction that ends it where it does not end itself: the places to which its jumps lead are
+/// counted from its start.
 pub fn units_are_as_long_as_described()
     ensures { UnitsAreAsLongAsDescribed }
 {}
@@ -25,4 +28,9 @@ pub fn units_are_as_long_as_described()
 /// length.
 pub fn code_ends_where_its_length_says()
     ensures { CodeEndsWhereItsLengthSays }
+{}
+
+/// No unit of a program is left out: where each instance has code, the unit of each stands at its number.
+pub fn programs_have_code()
+    ensures { ProgramsHaveCode }
 {}
