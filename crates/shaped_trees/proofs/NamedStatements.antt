@@ -1,8 +1,8 @@
 -- What the rules of typing give statements and declarations names the variables of its instance, where
 -- those that it declares stand among them from the number on that its place has.
-use Rattle.std.proofs.Common.{◌≡◌, ℕ, ◌+◌, ◌≤◌, ℤ, pos, negsuc, IfSome, List, [], ◌∷◌, ◌++◌, length, map, slice_get, Option, Some, None, arith, length-append, refl, ap, ◌∙◌, sym, subst}
+use Rattle.std.proofs.Common.{◌≡◌, ℕ, ◌+◌, ◌≤◌, ℤ, pos, negsuc, IfSome, List, [], ◌∷◌, ◌++◌, length, map, slice_get, Option, Some, None, arith, length-append, ap, ◌∙◌, sym, subst}
 use Rattle.std.specs.List.{All}
-use Rattle.std.proofs.lemmas.List.{append_assoc, length-map, map-append}
+use Rattle.std.proofs.lemmas.List.{length-map, map-append}
 use Rattle.std.proofs.lemmas.List.Elements.{All-append, All-nil, All-cons}
 use Rattle.std.proofs.lemmas.Option.{none-some, same_Some}
 use Rattle.cstar_tree.specs.declared.syntax.Block.{Block}
@@ -29,6 +29,7 @@ use Rattle.cstar_tree.specs.StatementTypes as Y
 use Rattle.cstar_tree.specs.TypedParts.{concat}
 use Rattle.cstar_tree.specs.Variables.{variables_of}
 use Rattle.code_lengths.specs.Naming.{HasItsShape, HasVariable, IsDeclared, KnowsVariables, NamesVariables, variable_named}
+use Rattle.code_lengths.proofs.Declaring.{at_number, first_part, info_of, second_part}
 use Rattle.code_lengths.specs.NamingStatements.{ElseNamesVariables, InitialNamesVariables, StandFrom, StatementNamesVariables}
 use Rattle.shaped_trees.specs.Places.{IsShapeOf, KnowsShapes}
 use Rattle.shaped_trees.proofs.Counting.{as_many, of_block, of_do, of_else, of_everywhere, of_for, of_if, of_where, of_where_else, of_while, of_with}
@@ -36,35 +37,6 @@ use Rattle.shaped_trees.proofs.KnownShapes.{behind_all, behind_each, in_block, s
 use Rattle.shaped_trees.proofs.Meanings.{AllMean, declared_one}
 use Rattle.shaped_trees.proofs.NamedVariables.{Knows, fitted, named}
 use Rattle.shaped_trees.proofs.Rows.{EachNamesVariables, block_names_variables}
-
-abbrev pub info_of : LocalVar → VarInfo
-info_of local = local.info
-
--- ---- parts of the list of all variables
-
-pub first_part : {all : List VarInfo} {n : ℕ} (own rest : List VarInfo) → StandFrom all n (own ++ rest) → StandFrom all n own
-first_part own rest s = record {
-  before = s.before;
-  behind = rest ++ s.behind;
-  all_are = s.all_are ∙ ap (λ (xs : List VarInfo). s.before ++ xs) (append_assoc own rest s.behind);
-  number_is = s.number_is;
-}
-
-pub second_part : {all : List VarInfo} {n : ℕ} (own rest : List VarInfo) → StandFrom all n (own ++ rest) → StandFrom all (n + length own) rest
-second_part own rest s = record {
-  before = s.before ++ own;
-  behind = s.behind;
-  all_are = s.all_are ∙ ap (λ (xs : List VarInfo). s.before ++ xs) (append_assoc own rest s.behind) ∙ sym (append_assoc s.before own (rest ++ s.behind));
-  number_is = length-append s.before own ∙ ap (λ (k : ℕ). k + length own) s.number_is;
-}
-
-at_length : (before : List VarInfo) (info : VarInfo) (rest : List VarInfo) → slice_get (before ++ info ∷ rest) (length before) ≡ Some info
-at_length [] info rest = refl
-at_length (b ∷ before) info rest = at_length before info rest
-
-pub at_number : {all : List VarInfo} {n : ℕ} (info : VarInfo) (rest : List VarInfo) → StandFrom all n (info ∷ rest) → slice_get all n ≡ Some info
-at_number {n = n} info rest s =
-    ap (λ (xs : List VarInfo). slice_get xs n) s.all_are ∙ ap (λ (k : ℕ). slice_get (s.before ++ info ∷ (rest ++ s.behind)) k) (sym s.number_is) ∙ at_length s.before info (rest ++ s.behind)
 
 -- ---- names
 
