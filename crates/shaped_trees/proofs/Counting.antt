@@ -1,5 +1,5 @@
 -- What the rules of typing give a statement declares as many variables as its text.
-use Rattle.std.proofs.Common.{◌≡◌, ℕ, List, [], ◌∷◌, ◌++◌, length, map, suc, Option, Some, None, Box, Vec, arith, length-append, refl, ap, ◌∙◌, sym}
+use Rattle.std.proofs.Common.{◌≡◌, ℕ, List, [], ◌∷◌, ◌++◌, length, map, suc, Some, None, Vec, arith, length-append, refl, ap, ◌∙◌, sym}
 use Rattle.std.proofs.lemmas.List.{length-map}
 use Rattle.std.specs.declared.alloc.Global.{Global}
 use Rattle.cstar_tree.specs.declared.syntax.Block.{Block}
@@ -10,7 +10,6 @@ use Rattle.cstar_tree.specs.declared.syntax.Stmt.TheFolds.{fold-roll-Stmt, fold_
 use Rattle.cstar_tree.specs.declared.syntax.Stmt.TheOpen.{Stmt-F}
 use Rattle.cstar_tree.specs.declared.syntax.Stmt.TheVariants as text
 use Rattle.cstar_tree.specs.declared.typed.LocalVar.{LocalVar}
-use Rattle.cstar_tree.specs.declared.typed.TExpr.{TExpr}
 use Rattle.cstar_tree.specs.declared.typed.TStmt.{TStmt}
 use Rattle.cstar_tree.specs.declared.typed.TStmt as T
 use Rattle.cstar_tree.specs.declared.typed.TStmt.TheFolds.{fold-roll-TStmt}
@@ -25,6 +24,7 @@ use Rattle.cstar_tree.specs.StatementTypes as Y
 use Rattle.cstar_tree.specs.SyntaxParts.{block_locals_step, declared_in, locals_in, locals_step}
 use Rattle.cstar_tree.specs.TypedParts.{concat, total}
 use Rattle.cstar_tree.specs.Variables.{declared_by, variables_of, variables_step}
+use Rattle.code_lengths.proofs.Declaring.{else_variables, of_break, of_continue, of_do, of_empty, of_everywhere, of_expression, of_for, of_if, of_return, of_where, of_while, of_with}
 
 -- ---- the variables of a statement, by its parts
 
@@ -32,55 +32,23 @@ pub of_block : (locals : Vec LocalVar Global) (statements : Vec TStmt Global) �
 unfolding variables_step declared_by
 of_block locals statements = ap variables_of (sym (tree.rolls-Block locals statements)) ∙ fold-roll-TStmt (List VarInfo) variables_step (TStmt-F.Block locals statements)
 
-pub of_if : (test : TExpr) (a : Box TStmt Global) → variables_of (T.If test a None) ≡ variables_of a.value ++ []
-unfolding variables_step declared_by concat
-of_if test a = ap variables_of (sym (tree.rolls-If test a None)) ∙ fold-roll-TStmt (List VarInfo) variables_step (TStmt-F.If test a None)
-
-pub of_else : (test : TExpr) (a b : Box TStmt Global) → variables_of (T.If test a (Some b)) ≡ variables_of a.value ++ (variables_of b.value ++ [])
-unfolding variables_step declared_by concat
-of_else test a b = ap variables_of (sym (tree.rolls-If test a (Some b))) ∙ fold-roll-TStmt (List VarInfo) variables_step (TStmt-F.If test a (Some b))
-
-pub of_while : (test : TExpr) (b : Box TStmt Global) → variables_of (T.While test b) ≡ variables_of b.value ++ []
-unfolding variables_step declared_by concat
-of_while test b = ap variables_of (sym (tree.rolls-While test b)) ∙ fold-roll-TStmt (List VarInfo) variables_step (TStmt-F.While test b)
-
-pub of_do : (b : Box TStmt Global) (test : TExpr) → variables_of (T.Do b test) ≡ variables_of b.value ++ []
-unfolding variables_step declared_by concat
-of_do b test = ap variables_of (sym (tree.rolls-Do b test)) ∙ fold-roll-TStmt (List VarInfo) variables_step (TStmt-F.Do b test)
-
-pub of_for : (first test step : Option TExpr) (b : Box TStmt Global) → variables_of (T.For first test step b) ≡ variables_of b.value ++ []
-unfolding variables_step declared_by concat
-of_for first test step b = ap variables_of (sym (tree.rolls-For first test step b)) ∙ fold-roll-TStmt (List VarInfo) variables_step (TStmt-F.For first test step b)
-
-pub of_with : (shape : ℕ) (b : Box TStmt Global) → variables_of (T.With shape b) ≡ variables_of b.value ++ []
-unfolding variables_step declared_by concat
-of_with shape b = ap variables_of (sym (tree.rolls-With shape b)) ∙ fold-roll-TStmt (List VarInfo) variables_step (TStmt-F.With shape b)
-
-pub of_everywhere : (shape : ℕ) (b : Box TStmt Global) → variables_of (T.Everywhere shape b) ≡ variables_of b.value ++ []
-unfolding variables_step declared_by concat
-of_everywhere shape b = ap variables_of (sym (tree.rolls-Everywhere shape b)) ∙ fold-roll-TStmt (List VarInfo) variables_step (TStmt-F.Everywhere shape b)
-
-pub of_where : (shape : ℕ) (test : TExpr) (a : Box TStmt Global) → variables_of (T.Where shape test a None) ≡ variables_of a.value ++ []
-unfolding variables_step declared_by concat
-of_where shape test a = ap variables_of (sym (tree.rolls-Where shape test a None)) ∙ fold-roll-TStmt (List VarInfo) variables_step (TStmt-F.Where shape test a None)
-
-pub of_where_else : (shape : ℕ) (test : TExpr) (a b : Box TStmt Global) → variables_of (T.Where shape test a (Some b)) ≡ variables_of a.value ++ (variables_of b.value ++ [])
-unfolding variables_step declared_by concat
-of_where_else shape test a b = ap variables_of (sym (tree.rolls-Where shape test a (Some b))) ∙ fold-roll-TStmt (List VarInfo) variables_step (TStmt-F.Where shape test a (Some b))
-
 -- ---- how many there are
 
 -- by the node of the tree and that of the text
 joined : (t : TStmt) (s : Stmt) {own : List VarInfo} {n : ℕ} → variables_of t ≡ own → locals_in s ≡ n → length own ≡ n → length (variables_of t) ≡ locals_in s
 joined t s tree_is text_is same = ap length tree_is ∙ same ∙ sym text_is
 
+alone : (own : List VarInfo) (n : ℕ) → length own ≡ n → length own ≡ total (n ∷ [])
+unfolding total
+alone own n same = omega (arith, same)
+
 one : (own : List VarInfo) (n : ℕ) → length own ≡ n → length (own ++ []) ≡ total (n ∷ [])
 unfolding total
 one own n same = omega (arith, length-append own [], same)
 
-two : (own other : List VarInfo) (n m : ℕ) → length own ≡ n → length other ≡ m → length (own ++ (other ++ [])) ≡ total (n ∷ m ∷ [])
+two : (own other : List VarInfo) (n m : ℕ) → length own ≡ n → length other ≡ m → length (own ++ other) ≡ total (n ∷ m ∷ [])
 unfolding total
-two own other n m same same_other = omega (arith, length-append own (other ++ []), length-append other [], same, same_other)
+two own other n m same same_other = omega (arith, length-append own other, same, same_other)
 
 module _ (program : Program) where
   as_many_locals : {here : Here} {ty : ValueType} {ds : List Declarator} {ls : List LocalVar} → TypesLocals program here ty ds ls → length ls ≡ length ds
@@ -97,7 +65,7 @@ module _ (program : Program) where
 
   module _ (returns : Returns) where
     mutual
-      unfolding variables_step declared_by concat total
+      unfolding variables_step declared_by concat total else_variables
 
       pub as_many : {here : Here} {s : Stmt} {t : TStmt} → TypesStatement program returns here s t → length (variables_of t) ≡ locals_in s
       as_many (Y.block_is {block = block} locals statements typed) =
@@ -108,57 +76,57 @@ module _ (program : Program) where
           (length-append (map (λ (local : LocalVar). local.info) locals.items) (concat (map variables_of statements.items))
           ∙ omega (arith, length-map locals.items (λ (local : LocalVar). local.info), parts.0, parts.1))
       as_many (Y.expression {p = p} {e = e} {t = t} typed) = joined _ _
-          (ap variables_of (sym (tree.rolls-Expression t)) ∙ fold-roll-TStmt (List VarInfo) variables_step (TStmt-F.Expression t))
+          (of_expression t)
           (ap locals_in (sym (text.rolls-Expression p e)) ∙ fold-roll-Stmt ℕ ℕ locals_step block_locals_step (Stmt-F.Expression p e)) refl
       as_many (Y.empty {p = p}) = joined _ _
-          (ap variables_of (sym tree.rolls-Empty) ∙ fold-roll-TStmt (List VarInfo) variables_step TStmt-F.Empty)
+          of_empty
           (ap locals_in (sym (text.rolls-Empty p)) ∙ fold-roll-Stmt ℕ ℕ locals_step block_locals_step (Stmt-F.Empty p)) refl
       as_many (Y.if_alone {p = p} {e = e} {t = t} second a test typed) = joined _ _
-          (of_if t a)
+          (of_if t _ a.value _)
           (ap locals_in (sym (text.rolls-If p e second None)) ∙ fold-roll-Stmt ℕ ℕ locals_step block_locals_step (Stmt-F.If p e second None))
           (one (variables_of a.value) (locals_in second.value) (as_many typed))
       as_many (Y.if_else {p = p} {e = e} {t = t} second third a b test typed other) = joined _ _
-          (of_else t a b)
+          (of_if t _ a.value _)
           (ap locals_in (sym (text.rolls-If p e second (Some third))) ∙ fold-roll-Stmt ℕ ℕ locals_step block_locals_step (Stmt-F.If p e second (Some third)))
           (two (variables_of a.value) (variables_of b.value) (locals_in second.value) (locals_in third.value) (as_many typed) (as_many other))
       as_many (Y.while {p = p} {e = e} {t = t} body b test typed) = joined _ _
-          (of_while t b)
+          (of_while t _ b.value)
           (ap locals_in (sym (text.rolls-While p e body)) ∙ fold-roll-Stmt ℕ ℕ locals_step block_locals_step (Stmt-F.While p e body))
-          (one (variables_of b.value) (locals_in body.value) (as_many typed))
+          (alone (variables_of b.value) (locals_in body.value) (as_many typed))
       as_many (Y.do_while {p = p} {e = e} {t = t} body b typed test) = joined _ _
-          (of_do b t)
+          (of_do _ b.value t)
           (ap locals_in (sym (text.rolls-Do p body e)) ∙ fold-roll-Stmt ℕ ℕ locals_step block_locals_step (Stmt-F.Do p body e))
-          (one (variables_of b.value) (locals_in body.value) (as_many typed))
+          (alone (variables_of b.value) (locals_in body.value) (as_many typed))
       as_many (Y.for {p = p} {first = first} {test = test} {step = step} {f = f} {t = t} {s = s} body b begins tests steps typed) = joined _ _
-          (of_for f t s b)
+          (of_for f t s _ b.value)
           (ap locals_in (sym (text.rolls-For p first test step body)) ∙ fold-roll-Stmt ℕ ℕ locals_step block_locals_step (Stmt-F.For p first test step body))
-          (one (variables_of b.value) (locals_in body.value) (as_many typed))
+          (alone (variables_of b.value) (locals_in body.value) (as_many typed))
       as_many (Y.break {p = p} loop) = joined _ _
-          (ap variables_of (sym tree.rolls-Break) ∙ fold-roll-TStmt (List VarInfo) variables_step TStmt-F.Break)
+          of_break
           (ap locals_in (sym (text.rolls-Break p)) ∙ fold-roll-Stmt ℕ ℕ locals_step block_locals_step (Stmt-F.Break p)) refl
       as_many (Y.continue {p = p} loop) = joined _ _
-          (ap variables_of (sym tree.rolls-Continue) ∙ fold-roll-TStmt (List VarInfo) variables_step TStmt-F.Continue)
+          of_continue
           (ap locals_in (sym (text.rolls-Continue p)) ∙ fold-roll-Stmt ℕ ℕ locals_step block_locals_step (Stmt-F.Continue p)) refl
       as_many (Y.return_alone {p = p}) = joined _ _
-          (ap variables_of (sym (tree.rolls-Return None)) ∙ fold-roll-TStmt (List VarInfo) variables_step (TStmt-F.Return None))
+          (of_return None)
           (ap locals_in (sym (text.rolls-Return p None)) ∙ fold-roll-Stmt ℕ ℕ locals_step block_locals_step (Stmt-F.Return p None)) refl
       as_many (Y.return_value {p = p} {e = e} {f = f} typed is) = joined _ _
-          (ap variables_of (sym (tree.rolls-Return (Some f))) ∙ fold-roll-TStmt (List VarInfo) variables_step (TStmt-F.Return (Some f)))
+          (of_return (Some f))
           (ap locals_in (sym (text.rolls-Return p (Some e))) ∙ fold-roll-Stmt ℕ ℕ locals_step block_locals_step (Stmt-F.Return p (Some e))) refl
       as_many (Y.with {p = p} {written = written} {shape = shape} body b is typed) = joined _ _
-          (of_with shape b)
+          (of_with shape _ b.value)
           (ap locals_in (sym (text.rolls-With p written body)) ∙ fold-roll-Stmt ℕ ℕ locals_step block_locals_step (Stmt-F.With p written body))
-          (one (variables_of b.value) (locals_in body.value) (as_many typed))
+          (alone (variables_of b.value) (locals_in body.value) (as_many typed))
       as_many (Y.everywhere {p = p} {shape = shape} body b is typed) = joined _ _
-          (of_everywhere shape b)
+          (of_everywhere shape _ b.value)
           (ap locals_in (sym (text.rolls-Everywhere p body)) ∙ fold-roll-Stmt ℕ ℕ locals_step block_locals_step (Stmt-F.Everywhere p body))
-          (one (variables_of b.value) (locals_in body.value) (as_many typed))
+          (alone (variables_of b.value) (locals_in body.value) (as_many typed))
       as_many (Y.where_alone {p = p} {e = e} {t = t} {shape = shape} second a is test parallel typed) = joined _ _
-          (of_where shape t a)
+          (of_where shape t _ a.value _)
           (ap locals_in (sym (text.rolls-Where p e second None)) ∙ fold-roll-Stmt ℕ ℕ locals_step block_locals_step (Stmt-F.Where p e second None))
           (one (variables_of a.value) (locals_in second.value) (as_many typed))
       as_many (Y.where_else {p = p} {e = e} {t = t} {shape = shape} second third a b is test parallel typed other) = joined _ _
-          (of_where_else shape t a b)
+          (of_where shape t _ a.value _)
           (ap locals_in (sym (text.rolls-Where p e second (Some third))) ∙ fold-roll-Stmt ℕ ℕ locals_step block_locals_step (Stmt-F.Where p e second (Some third)))
           (two (variables_of a.value) (variables_of b.value) (locals_in second.value) (locals_in third.value) (as_many typed) (as_many other))
 

@@ -1,8 +1,8 @@
 -- The instances of a typed file have shaped bodies.
-use Rattle.std.proofs.Common.{◌≡◌, ℕ, ◌+◌, Bool, true, false, is_some, if◌then◌else◌, List, [], ◌∷◌, ◌++◌, length, slice_get, Option, Some, refl, ◌∙◌, sym, subst}
+use Rattle.std.proofs.Common.{ℕ, ◌+◌, Bool, true, false, is_some, if◌then◌else◌, List, [], ◌∷◌, ◌++◌, length, Option, Some, refl, ◌∙◌, sym, subst}
 use Rattle.std.specs.List.{All}
-use Rattle.std.proofs.lemmas.List.Elements.{All-nil, All-cons, All-head, All-tail, All-get_or}
-use Rattle.std.proofs.lemmas.Option.{get_or_from_slice_get, none-some, slice_get_within}
+use Rattle.std.proofs.lemmas.List.Elements.{All-nil, All-cons, All-head, All-tail}
+use Rattle.std.proofs.lemmas.Option.{none-some}
 use Rattle.cstar_tree.specs.declared.syntax.Declarator.{Declarator}
 use Rattle.cstar_tree.specs.declared.syntax.Function.{Function}
 use Rattle.cstar_tree.specs.declared.syntax.Item.{Item}
@@ -24,6 +24,7 @@ use Rattle.cstar_tree.specs.Headers.{Placed, Program, Reached, behind_parameter,
 use Rattle.cstar_tree.specs.ProgramTypes.{IsBody, TypesFile, TypesInstance, TypesInstances, TypesItems, TypesVariables}
 use Rattle.cstar_tree.specs.ProgramTypes as Y
 use Rattle.cstar_tree.specs.Scopes.{Binding, Here, a_function, a_shape, a_variable, find, written_type}
+use Rattle.code_lengths.proofs.Declaring.{all_at}
 use Rattle.code_lengths.specs.ShapedStatements.{AreShapedLocals, IsShapedStatement}
 use Rattle.shaped_trees.specs.Casts.{BlockNamesShapes, ItemNamesShapes, NamesShapes}
 use Rattle.shaped_trees.specs.Laws.{HasShapedBody}
@@ -81,9 +82,6 @@ placed_fit {functions = functions} (Y.TypesItems.function {known = known} {f = f
     by_name true rest all = all
     by_name false rest all = All-cons IsFit _ rest own all
 
-pub at_number : {A : Type 0} (P : A → Type 0) (xs : List A) (n : ℕ) (x : A) → All P xs → slice_get xs n ≡ Some x → P x
-at_number P xs n x all is = subst P (get_or_from_slice_get xs n x x is) (All-get_or P xs n x (slice_get_within xs n x is) all)
-
 -- ---- its instances
 
 parameters_sound : (here : Here) (number : ℕ) (ps : List Parameter) → IsSound here → IsSound (behind_parameters here number ps)
@@ -104,7 +102,7 @@ body_shaped (Y.body ls ss same_locals same_statements) locals statements =
 
 instance_shaped : (program : Program) (shapes : List (List ℕ)) (r : Reached) (i : Instance) → All IsFit program.functions → TypesInstance program shapes r i → HasShapedBody i
 instance_shaped program shapes r i all typed =
-    let fit = at_number IsFit program.functions r.function typed.placed all typed.is_function in
+    let fit = all_at IsFit program.functions r.function typed.placed all typed.is_function in
     let parts = parts_shaped program _ typed.block (body_sound shapes typed.placed r fit.arrays) fit.casts in
     body_shaped typed.body parts.0 parts.1
 

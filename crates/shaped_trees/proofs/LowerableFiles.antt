@@ -16,9 +16,10 @@ use Rattle.cstar_tree.specs.ProgramTypes as Y
 use Rattle.cstar_tree.specs.Scopes.{Here}
 use Rattle.shaped_trees.specs.Casts.{NamesShapes}
 use Rattle.shaped_trees.specs.Laws.{HasLowerableBody}
+use Rattle.code_lengths.proofs.Declaring.{all_at}
 use Rattle.code_lengths.specs.LowerableStatements.{IsLowerableLocal, IsLowerableStatement}
 use Rattle.shaped_trees.specs.Places.{HasInstance, IsInside}
-use Rattle.shaped_trees.proofs.FileShapes.{IsFit, at_number, body_sound, placed_fit}
+use Rattle.shaped_trees.proofs.FileShapes.{IsFit, body_sound, placed_fit}
 use Rattle.shaped_trees.proofs.Known.{MeansParallel, function_is_parallel}
 use Rattle.shaped_trees.proofs.LowerableStatements.{parts_lowerable}
 use Rattle.shaped_trees.proofs.Meanings.{functions_mean}
@@ -61,7 +62,7 @@ body_lowerable typed result (Y.body ls ss same_locals same_statements) locals st
 module _ (program : Program) (shapes : List (List ℕ)) (typed : Typed) (all : TypesInstances program shapes program.instances typed.instances.items) (fit : All IsFit program.functions) where
   instance_lowerable : (r : Reached) (i : Instance) → TypesInstance program shapes r i → HasLowerableBody typed i
   instance_lowerable r i is =
-      let own = at_number IsFit program.functions r.function is.placed fit is.is_function in
+      let own = all_at IsFit program.functions r.function is.placed fit is.is_function in
       let there = behind_them (header_place shapes is.placed r) 0 is.placed.function.parameters.items (record { around = refl; instances = has_instance typed all }) refl in
       let parts = parts_lowerable program typed is.result is.block (record { sound = body_sound shapes is.placed r own.arrays; inside = there.0; not_whole = there.1 }) own.casts in
       body_lowerable typed i.result is.body parts.0 parts.1

@@ -1,6 +1,6 @@
 -- The bodies of a typed file name the variables that there are, where the names of the file stand for all
 -- of its variables. So there is code for each body.
-use Rattle.std.proofs.Common.{◌≡◌, ℕ, zero, suc, ◌+◌, ◌≤◌, ◌<◌, Bool, true, false, is_some, if◌then◌else◌, IfSome, IsSome, List, [], ◌∷◌, ◌++◌, length, map, slice_get, Option, Some, None, arith, length-append, refl, ap, ◌∙◌, sym, subst}
+use Rattle.std.proofs.Common.{◌≡◌, ℕ, ◌+◌, ◌≤◌, ◌<◌, Bool, true, false, is_some, if◌then◌else◌, IfSome, IsSome, List, [], ◌∷◌, ◌++◌, length, map, slice_get, Option, Some, None, arith, length-append, refl, ap, ◌∙◌, sym, subst}
 use Rattle.std.specs.List.{All}
 use Rattle.std.proofs.lemmas.List.{append-nil}
 use Rattle.std.proofs.lemmas.List.Elements.{All-nil, All-cons, All-head, All-tail, All-weaker}
@@ -28,6 +28,7 @@ use Rattle.cstar_tree.specs.Scopes.{Binding, Here, Meaning, VariableType, a_func
 use Rattle.cstar_tree.specs.StatementTypes.{TypesBlock, variable_info}
 use Rattle.cstar_tree.specs.TypedParts.{concat}
 use Rattle.cstar_tree.specs.Variables.{variables_of}
+use Rattle.code_lengths.proofs.Declaring.{all_at, at_number, first_part, found, info_of, second_part}
 use Rattle.code_lengths.specs.Naming.{HasItsShape, HasVariable, IsDeclared, KnowsVariables, variable_named}
 use Rattle.code_lengths.specs.NamingStatements.{StandFrom, StatementNamesVariables}
 use Rattle.code_lengths.specs.Ready.{HasPlainParameters, HasStatementCode}
@@ -35,11 +36,10 @@ use Rattle.shaped_trees.specs.Laws.{HasLowerableBody, HasShapedBody, TypedFilesH
 use Rattle.shaped_trees.specs.Places.{IsShapeOf, KnowsShapes}
 use Rattle.shaped_trees.proofs.Counting.{of_block}
 use Rattle.shaped_trees.proofs.FileShapes.{file_shaped}
-use Rattle.shaped_trees.proofs.FileShapes as files
 use Rattle.shaped_trees.proofs.KnownShapes.{behind_name, type_there}
 use Rattle.shaped_trees.proofs.LowerableFiles.{file_lowerable}
 use Rattle.shaped_trees.proofs.Meanings.{AllMean, functions_mean, named, with_name}
-use Rattle.shaped_trees.proofs.NamedStatements.{IsKnown, MeansVariable, at_number, first_part, info_of, parts_name, same_value, second_part}
+use Rattle.shaped_trees.proofs.NamedStatements.{IsKnown, MeansVariable, parts_name, same_value}
 use Rattle.shaped_trees.proofs.NamedStatements as statements
 use Rattle.shaped_trees.proofs.ReachedShapes.{KnowsItsShapes, StandsUnder, body_shapes, instances_under}
 use Rattle.shaped_trees.proofs.Rows.{block_names_variables}
@@ -48,9 +48,7 @@ stand_all : (all : List VarInfo) → StandFrom all 0 all
 stand_all all = record { before = []; behind = []; all_are = sym (append-nil all); number_is = refl }
 
 there_is : {A : Type 0} (xs : List A) (n : ℕ) → n < length xs → IsSome (slice_get xs n)
-there_is [] n less = absurd (omega arith)
-there_is (x ∷ xs) zero less = refl
-there_is (x ∷ xs) (suc n) less = there_is xs n (omega arith)
+there_is xs n less = let at = found xs n less in ap is_some at.1
 
 -- ---- how many variables and shapes a file has declared
 
@@ -268,7 +266,7 @@ module _ (typed : Typed) (i : Instance) where
   instance_names : {program : Program} {shapes : List (List ℕ)} {r : Reached} → All (KnowsFile typed) program.functions → StandsUnder typed r → TypesInstance program shapes r i → StatementNamesVariables typed i 0 i.body
   unfolding meaning
   instance_names {program = program} {shapes = shapes} {r = r} known under is =
-      let own = files.at_number (KnowsFile typed) program.functions r.function is.placed known is.is_function in
+      let own = all_at (KnowsFile typed) program.functions r.function is.placed known is.is_function in
       let shapes_are = λ (word : List ℕ) (number : ℕ) (found : find is.placed.known word ≡ Some (a_shape number)). own word (a_shape number) found in
       body_names is.block is.body refl (same_locals (header_place shapes is.placed r) 0 is.placed.function.parameters.items) (record {
         variables = parameters_known is.parameters (λ word v ty found. own word (a_variable v (Some ty)) found i 0) (record { named = shapes_are; current = under }) (stand_all i.params.items);
@@ -303,4 +301,4 @@ file_code tree typed spelled all file number i found =
     let known = placed_know typed (functions_named tree) file.items (functions_mean (MeansKnown typed) (λ (number : ℕ). tt) [] 0 tree.items.items) (stand_all typed.vars.items) (omega (arith, all)) (omega arith) in
     let shapes = All-weaker (KnowsFile typed) (KnowsItsShapes typed) (λ placed own word number found. own word (a_shape number) found) (file_functions tree) known in
     let each = instances_code typed known (instances_under typed tree shapes) (file_shaped tree typed spelled file) (file_lowerable tree typed spelled file) file.instances in
-    files.at_number (HasBodyCode typed) typed.instances.items number i each found
+    all_at (HasBodyCode typed) typed.instances.items number i each found

@@ -1,8 +1,8 @@
 -- What the rules of typing give statements and declarations names the variables of its instance, where
 -- those that it declares stand among them from the number on that its place has.
-use Rattle.std.proofs.Common.{◌≡◌, ℕ, ◌+◌, ◌≤◌, ℤ, pos, negsuc, IfSome, List, [], ◌∷◌, ◌++◌, length, map, slice_get, Option, Some, None, arith, length-append, refl, ap, ◌∙◌, sym, subst}
+use Rattle.std.proofs.Common.{◌≡◌, ℕ, ◌+◌, ◌≤◌, ℤ, pos, negsuc, IfSome, List, [], ◌∷◌, ◌++◌, length, map, slice_get, Option, Some, None, arith, length-append, ap, ◌∙◌, sym, subst}
 use Rattle.std.specs.List.{All}
-use Rattle.std.proofs.lemmas.List.{append_assoc, length-map, map-append}
+use Rattle.std.proofs.lemmas.List.{length-map, map-append}
 use Rattle.std.proofs.lemmas.List.Elements.{All-append, All-nil, All-cons}
 use Rattle.std.proofs.lemmas.Option.{none-some, same_Some}
 use Rattle.cstar_tree.specs.declared.syntax.Block.{Block}
@@ -29,42 +29,14 @@ use Rattle.cstar_tree.specs.StatementTypes as Y
 use Rattle.cstar_tree.specs.TypedParts.{concat}
 use Rattle.cstar_tree.specs.Variables.{variables_of}
 use Rattle.code_lengths.specs.Naming.{HasItsShape, HasVariable, IsDeclared, KnowsVariables, NamesVariables, variable_named}
+use Rattle.code_lengths.proofs.Declaring.{at_number, else_variables, first_part, info_of, of_do, of_everywhere, of_for, of_if, of_where, of_while, of_with, second_part}
 use Rattle.code_lengths.specs.NamingStatements.{ElseNamesVariables, InitialNamesVariables, StandFrom, StatementNamesVariables}
 use Rattle.shaped_trees.specs.Places.{IsShapeOf, KnowsShapes}
-use Rattle.shaped_trees.proofs.Counting.{as_many, of_block, of_do, of_else, of_everywhere, of_for, of_if, of_where, of_where_else, of_while, of_with}
+use Rattle.shaped_trees.proofs.Counting.{as_many, of_block}
 use Rattle.shaped_trees.proofs.KnownShapes.{behind_all, behind_each, in_block, shape_there, type_there, under_shape}
 use Rattle.shaped_trees.proofs.Meanings.{AllMean, declared_one}
 use Rattle.shaped_trees.proofs.NamedVariables.{Knows, fitted, named}
 use Rattle.shaped_trees.proofs.Rows.{EachNamesVariables, block_names_variables}
-
-abbrev pub info_of : LocalVar → VarInfo
-info_of local = local.info
-
--- ---- parts of the list of all variables
-
-pub first_part : {all : List VarInfo} {n : ℕ} (own rest : List VarInfo) → StandFrom all n (own ++ rest) → StandFrom all n own
-first_part own rest s = record {
-  before = s.before;
-  behind = rest ++ s.behind;
-  all_are = s.all_are ∙ ap (λ (xs : List VarInfo). s.before ++ xs) (append_assoc own rest s.behind);
-  number_is = s.number_is;
-}
-
-pub second_part : {all : List VarInfo} {n : ℕ} (own rest : List VarInfo) → StandFrom all n (own ++ rest) → StandFrom all (n + length own) rest
-second_part own rest s = record {
-  before = s.before ++ own;
-  behind = s.behind;
-  all_are = s.all_are ∙ ap (λ (xs : List VarInfo). s.before ++ xs) (append_assoc own rest s.behind) ∙ sym (append_assoc s.before own (rest ++ s.behind));
-  number_is = length-append s.before own ∙ ap (λ (k : ℕ). k + length own) s.number_is;
-}
-
-at_length : (before : List VarInfo) (info : VarInfo) (rest : List VarInfo) → slice_get (before ++ info ∷ rest) (length before) ≡ Some info
-at_length [] info rest = refl
-at_length (b ∷ before) info rest = at_length before info rest
-
-pub at_number : {all : List VarInfo} {n : ℕ} (info : VarInfo) (rest : List VarInfo) → StandFrom all n (info ∷ rest) → slice_get all n ≡ Some info
-at_number {n = n} info rest s =
-    ap (λ (xs : List VarInfo). slice_get xs n) s.all_are ∙ ap (λ (k : ℕ). slice_get (s.before ++ info ∷ (rest ++ s.behind)) k) (sym s.number_is) ∙ at_length s.before info (rest ++ s.behind)
 
 -- ---- names
 
@@ -213,21 +185,15 @@ module _ (t : Typed) (i : Instance) where
     returned_names n (Y.returned at_hand takes fit) names = fitted t i n fit names
 
     module _ (returns : Returns) where
-      -- the only part of a statement
-      only : {n : ℕ} {own : List VarInfo} (part : List VarInfo) → own ≡ part ++ [] → StandFrom (variables_of i.body) n own → StandFrom (variables_of i.body) n part
-      only part is s = first_part part [] (subst (StandFrom (variables_of i.body) _) is s)
-
-      behind_part : {here : Here} {s : Stmt} {f : TStmt} → TypesStatement program returns here s f → (other : List VarInfo) → StandFrom (variables_of i.body) here.locals (variables_of f ++ (other ++ [])) →
-          StandFrom (variables_of i.body) (behind here s).locals other
-      behind_part {here = here} {f = f} at other s =
-          first_part other [] (subst (λ (n : ℕ). StandFrom (variables_of i.body) (here.locals + n) (other ++ [])) (as_many program returns at) (second_part (variables_of f) (other ++ []) s))
+      behind_part : {here : Here} {s : Stmt} {f : TStmt} → TypesStatement program returns here s f → (other : List VarInfo) → StandFrom (variables_of i.body) here.locals (variables_of f ++ other) → StandFrom (variables_of i.body) (behind here s).locals other
+      behind_part {here = here} {f = f} at other s = subst (λ (n : ℕ). StandFrom (variables_of i.body) (here.locals + n) other) (as_many program returns at) (second_part (variables_of f) other s)
 
       -- as many variables are declared behind a statement as it declares
       behind_names : {here : Here} {s : Stmt} {f : TStmt} (g : TStmt) → TypesStatement program returns here s f → StatementNamesVariables t i (behind here s).locals g → StatementNamesVariables t i (here.locals + length (variables_of f)) g
       behind_names {here = here} g at names = subst (λ (n : ℕ). StatementNamesVariables t i (here.locals + n) g) (sym (as_many program returns at)) names
 
       mutual
-        unfolding StatementNamesVariables ElseNamesVariables EachNamesVariables concat
+        unfolding StatementNamesVariables ElseNamesVariables EachNamesVariables concat else_variables
 
         pub statement_names : {here : Here} {s : Stmt} {f : TStmt} → TypesStatement program returns here s f → IsKnown here → StandFrom (variables_of i.body) here.locals (variables_of f) → StatementNamesVariables t i here.locals f
         statement_names (Y.block_is {here = here} locals statements at) k s =
@@ -236,44 +202,41 @@ module _ (t : Typed) (i : Instance) where
         statement_names (Y.expression {here = here} at) k s = named t i here.locals program at (known_whole here k.variables)
         statement_names Y.empty k s = tt
         statement_names (Y.if_alone {here = here} {t = test_is} second a test at) k s =
-            (named t i here.locals program test.typed k.variables, statement_names at k (only (variables_of a.value) (of_if test_is a) s), tt)
+            (named t i here.locals program test.typed k.variables, statement_names at k (first_part (variables_of a.value) _ (subst (StandFrom (variables_of i.body) here.locals) (of_if test_is _ a.value _) s)), tt)
         statement_names (Y.if_else {here = here} {t = test_is} second third a b test at other) k s =
-            let both = subst (StandFrom (variables_of i.body) here.locals) (of_else test_is a b) s in (
+            let both : StandFrom (variables_of i.body) here.locals (variables_of a.value ++ variables_of b.value) = subst (StandFrom (variables_of i.body) here.locals) (of_if test_is _ a.value _) s in (
               named t i here.locals program test.typed k.variables,
-              statement_names at k (first_part (variables_of a.value) (variables_of b.value ++ []) both),
+              statement_names at k (first_part (variables_of a.value) (variables_of b.value) both),
               behind_names b.value at (statement_names other (known_behind here second.value k) (behind_part at (variables_of b.value) both)),
             )
         statement_names (Y.while {here = here} {t = test_is} body b test at) k s =
-            (named t i here.locals program test.typed k.variables, statement_names at (known_body here k) (only (variables_of b.value) (of_while test_is b) s))
+            (named t i here.locals program test.typed k.variables, statement_names at (known_body here k) (subst (StandFrom (variables_of i.body) here.locals) (of_while test_is _ b.value) s))
         statement_names (Y.do_while {here = here} {t = test_is} body b at test) k s =
-            (statement_names at (known_body here k) (only (variables_of b.value) (of_do b test_is) s), named t i here.locals program test.typed k.variables)
+            (statement_names at (known_body here k) (subst (StandFrom (variables_of i.body) here.locals) (of_do _ b.value test_is) s), named t i here.locals program test.typed k.variables)
         statement_names (Y.for {here = here} {f = f} {t = u} {s = step_is} body b first test step at) k s =
-            (effect_names first k.variables, test_names test k.variables, effect_names step k.variables, statement_names at (known_body here k) (only (variables_of b.value) (of_for f u step_is b) s))
+            (effect_names first k.variables, test_names test k.variables, effect_names step k.variables, statement_names at (known_body here k) (subst (StandFrom (variables_of i.body) here.locals) (of_for f u step_is _ b.value) s))
         statement_names (Y.break loop) k s = tt
         statement_names (Y.continue loop) k s = tt
         statement_names Y.return_alone k s = tt
         statement_names (Y.return_value {here = here} at is) k s = returned_names here.locals is (named t i here.locals program at k.variables)
         statement_names (Y.with {here = here} {written = written} {shape = shape} body b is at) k s =
-            statement_names at (known_under here shape (shape_there t here written shape k.shapes is) k) (only (variables_of b.value) (of_with shape b) s)
-        statement_names (Y.everywhere {shape = shape} body b is at) k s = statement_names at k (only (variables_of b.value) (of_everywhere shape b) s)
+            statement_names at (known_under here shape (shape_there t here written shape k.shapes is) k) (subst (StandFrom (variables_of i.body) here.locals) (of_with shape _ b.value) s)
+        statement_names (Y.everywhere {here = here} {shape = shape} body b is at) k s = statement_names at k (subst (StandFrom (variables_of i.body) here.locals) (of_everywhere shape _ b.value) s)
         statement_names (Y.where_alone {here = here} {t = test_is} {shape = shape} second a is test parallel at) k s =
-            (named t i here.locals program test k.variables, statement_names at k (only (variables_of a.value) (of_where shape test_is a) s), tt)
+            (named t i here.locals program test k.variables, statement_names at k (first_part (variables_of a.value) _ (subst (StandFrom (variables_of i.body) here.locals) (of_where shape test_is _ a.value _) s)), tt)
         statement_names (Y.where_else {here = here} {t = test_is} {shape = shape} second third a b is test parallel at other) k s =
-            let both = subst (StandFrom (variables_of i.body) here.locals) (of_where_else shape test_is a b) s in (
+            let both : StandFrom (variables_of i.body) here.locals (variables_of a.value ++ variables_of b.value) = subst (StandFrom (variables_of i.body) here.locals) (of_where shape test_is _ a.value _) s in (
               named t i here.locals program test k.variables,
-              statement_names at k (first_part (variables_of a.value) (variables_of b.value ++ []) both),
+              statement_names at k (first_part (variables_of a.value) (variables_of b.value) both),
               behind_names b.value at (statement_names other (known_behind here second.value k) (behind_part at (variables_of b.value) both)),
             )
 
         statements_name : {here : Here} {ss : List Stmt} {ts : List TStmt} → TypesStatements program returns here ss ts → IsKnown here → StandFrom (variables_of i.body) here.locals (concat (map variables_of ts)) → EachNamesVariables t i here.locals ts
         statements_name Y.no_statement k s = tt
-        statements_name (Y.next_statement {here = here} {s = stmt} {t = f} {ts = ts} at more) k s =
-            let many = as_many program returns at in (
-              statement_names at k (first_part (variables_of f) (concat (map variables_of ts)) s),
-              subst (λ (n : ℕ). EachNamesVariables t i (here.locals + n) ts) (sym many)
-                  (statements_name more (known_behind here stmt k)
-                  (subst (λ (n : ℕ). StandFrom (variables_of i.body) (here.locals + n) (concat (map variables_of ts))) many (second_part (variables_of f) (concat (map variables_of ts)) s))),
-            )
+        statements_name (Y.next_statement {here = here} {s = stmt} {t = f} {ts = ts} at more) k s = (
+          statement_names at k (first_part (variables_of f) (concat (map variables_of ts)) s),
+          subst (λ (n : ℕ). EachNamesVariables t i (here.locals + n) ts) (sym (as_many program returns at)) (statements_name more (known_behind here stmt k) (behind_part at (concat (map variables_of ts)) s)),
+        )
 
         pub parts_name : {here : Here} {block : Block} {locals : List LocalVar} {statements : List TStmt} → TypesBlock program returns here block locals statements → IsKnown here →
             StandFrom (variables_of i.body) here.locals (map info_of locals ++ concat (map variables_of statements)) →

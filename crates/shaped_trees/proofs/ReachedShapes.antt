@@ -27,8 +27,8 @@ use Rattle.cstar_tree.specs.Instances.{after_rounds, calls_of, calls_of_placed, 
 use Rattle.cstar_tree.specs.Scopes.{Here, Meaning, a_function, a_shape, a_variable, find, meaning, shape_of, under, written_type}
 use Rattle.cstar_tree.specs.SyntaxParts.{initial_values}
 use Rattle.cstar_tree.specs.TypedParts.{concat, optional}
+use Rattle.code_lengths.proofs.Declaring.{all_at}
 use Rattle.shaped_trees.specs.Places.{IsShapeOf, KnowsShapes}
-use Rattle.shaped_trees.proofs.FileShapes.{at_number}
 use Rattle.shaped_trees.proofs.KnownShapes.{behind_all, behind_each, behind_header, behind_name, in_block, shape_known, under_shape}
 
 module _ (t : Typed) where
@@ -241,7 +241,7 @@ module _ (t : Typed) where
       where
         by_function : (found : Option Placed) → slice_get functions r.function ≡ found → All IsUnder (calls_of_placed shapes r found)
         by_function None found = All-nil IsUnder
-        by_function (Some placed) found = block_under (body_place shapes placed r) (body_shapes shapes placed r (at_number KnowsItsShapes functions r.function placed known found) is) placed.function.body
+        by_function (Some placed) found = block_under (body_place shapes placed r) (body_shapes shapes placed r (all_at KnowsItsShapes functions r.function placed known found) is) placed.function.body
 
     all_reached : (list : List Reached) → All StandsUnder list → All StandsUnder (concat (map (λ (r : Reached). reached_by (calls_of shapes functions r)) list))
     unfolding concat
