@@ -39,4 +39,4 @@ every_unit text typed image is compiled =
     let own = accepted text typed words (first_free (layout_of typed words 0)) is in
     ap length compiled.linked.units ∙ entries_long 0 compiled.after.units.items
     ∙ placed_long compiled.placed.placed.places 0 compiled.before.units.items compiled.after.units.items compiled.placed.placed.units
-    ∙ sym (length-map draft compiled.before.units.items) ∙ ap length compiled.lowered.as_described.units ∙ own.all
+    ∙ sym (length-map compiled.before.units.items draft) ∙ ap length compiled.lowered.as_described.units ∙ own.all
