@@ -1,17 +1,12 @@
 -- The units of an image are those of the program of its text.
 use Rattle.std.proofs.Common.{◌≡◌, ℕ, suc, ◌+◌, List, [], ◌∷◌, length, map, refl, sym, ap, ◌∙◌}
 use Rattle.std.proofs.lemmas.List.{length-map}
-use Rattle.cstar_tree.specs.declared.typed.Typed.{Typed}
 use Rattle.lower_base.specs.Drafts.{draft}
-use Rattle.paris_code.specs.declared.program.Image.{Image}
 use Rattle.paris_code.specs.declared.program.Unit.{Unit}
-use Rattle.cstar_compile.specs.Compiled.{IsCompiled}
 use Rattle.cstar_link.specs.Linked.{entries_from}
-use Rattle.cstar_top.specs.Accepted.{IsProgramOf}
 use Rattle.field_alloc.specs.Placed.{ArePlacedUnits}
 use Rattle.lower_base.specs.Layouts.{layout_of}
 use Rattle.lower_base.specs.Constants.{first_free}
-use Rattle.code_lengths.specs.Agreement.{HasUnits}
 use Rattle.code_lengths.proofs.UnitLengths.{programs}
 use Rattle.shaped_trees.proofs.NamedFiles.{file_code}
 use Rattle.shaped_trees.proofs.SpelledCasts.{spelled}
