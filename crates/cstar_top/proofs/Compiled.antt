@@ -8,13 +8,12 @@ use Rattle.cstar_tree.specs.declared.syntax.Tree.{Tree}
 use Rattle.cstar_tree.specs.declared.token.Tokens.{Tokens}
 use Rattle.cstar_tree.specs.FileScopes.{file_known}
 use Rattle.cstar_tree.specs.Items.{IsTree}
-use Rattle.cstar_tree.specs.ProgramTypes.{TypesFile}
+use Rattle.cstar_tree.specs.ProgramTypes.{NamesAll, TypesFile}
 use Rattle.cstar_tree.specs.Room.{HasRoom}
 use Rattle.plain_texts.proofs.FewNames.{few_names}
 use Rattle.plain_texts.proofs.PlainTrees.{tree_is_plain}
 use Rattle.plain_texts.proofs.Words.{text_has_words}
 use Rattle.shape_types.specs.Plain.{IsPlainTree}
-use Rattle.shape_types.specs.TypedFiles.{NamesAll}
 use Rattle.cstar_top.specs.Accepted.{IsImageOf, IsProgramOf}
 
 -- a program that the rules give the tree of a text is the text's

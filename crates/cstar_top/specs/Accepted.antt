@@ -6,10 +6,9 @@ use Rattle.cstar_tree.specs.declared.syntax.Tree.{Tree}
 use Rattle.cstar_tree.specs.declared.token.Tokens.{Tokens}
 use Rattle.cstar_tree.specs.declared.typed.Typed.{Typed}
 use Rattle.cstar_tree.specs.Items.{IsTree}
-use Rattle.cstar_tree.specs.ProgramTypes.{TypesFile}
+use Rattle.cstar_tree.specs.ProgramTypes.{NamesAll, TypesFile}
 use Rattle.cstar_tree.specs.Room.{HasRoom}
 use Rattle.paris_code.specs.declared.program.Image.{Image}
-use Rattle.shape_types.specs.TypedFiles.{NamesAll}
 
 -- The text is read as these tokens, which spell the tree; the rules of typing give it this program, whose
 -- variables all have names of their own, and the machine has the room that the program needs.

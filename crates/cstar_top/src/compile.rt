@@ -12,10 +12,9 @@ ghost use Rattle.point_runs.specs.Refusals.{file_start};
 ghost use Rattle.cstar_compile.specs.Compiled.{IsCompiled};
 ghost use Rattle.cstar_tree.specs.FileScopes.{file_known};
 ghost use Rattle.cstar_tree.specs.Items.{IsTree};
-ghost use Rattle.cstar_tree.specs.ProgramTypes.{TypesFile};
+ghost use Rattle.cstar_tree.specs.ProgramTypes.{NamesAll, TypesFile};
 ghost use Rattle.cstar_tree.specs.Room.{HasRoom};
 ghost use Rattle.shape_types.specs.Plain.{IsPlainTree};
-ghost use Rattle.shape_types.specs.TypedFiles.{NamesAll};
 ghost use Rattle.cstar_top.specs.Accepted.{IsProgramOf};
 ghost use Rattle.cstar_top.specs.Refusals.{IsOfText, NamesOnly};
 

@@ -1,5 +1,5 @@
 -- The typed program of a file.
-use Rattle.std.specs.Prelude.{◌≡◌, ℕ, ◌+◌, List, [], ◌∷◌, ◌++◌, Option, Some, None, Vec, slice_get}
+use Rattle.std.specs.Prelude.{◌≡◌, ℕ, ◌+◌, List, [], ◌∷◌, ◌++◌, Option, Some, None, Vec, length, slice_get}
 use Rattle.std.specs.declared.alloc.Global.{Global}
 use Rattle.cstar_base.specs.declared.elem.Elem.{Elem}
 use Rattle.cstar_base.specs.declared.operators.Place.{Place}
@@ -90,3 +90,8 @@ pub record TypesFile (tree : Tree) (typed : Typed) : Type 0 where
   pub items : TypesItems (functions_named tree) nothing_known tree.items.items typed.shapes.items typed.vars.items
   pub instances : TypesInstances (program_of tree) (file_known tree).shapes (program_of tree).instances typed.instances.items
   pub needs : typed.need.items ≡ needs typed.shapes.items typed.vars.items typed.instances.items
+
+-- The names of a file stand for all these variables, so that each has the number of its name: none is
+-- declared twice.
+abbrev pub NamesAll : Tree → List VarInfo → Type 0
+NamesAll tree vars = (file_known tree).variables ≡ length vars

@@ -22,7 +22,7 @@ use Rattle.cstar_tree.specs.declared.typed.Variable.TheVariants as V
 use Rattle.cstar_tree.specs.BlockScopes.{declared_type}
 use Rattle.cstar_tree.specs.Constants.{constant_number, product}
 use Rattle.cstar_tree.specs.FileScopes.{Known, behind_function, behind_shape, behind_shapes, behind_variable, behind_variables, bounded, defined_extents, extent_of, extents_from, file_known, file_place, functions_named, kept_extent, kept_extents}
-use Rattle.cstar_tree.specs.ProgramTypes.{Starts, TypesItems, TypesShapes, TypesVariables}
+use Rattle.cstar_tree.specs.ProgramTypes.{Starts, TypesShapes, TypesVariables}
 use Rattle.cstar_tree.specs.ProgramTypes as Y
 use Rattle.cstar_tree.specs.Scopes.{Binding, Here, Meaning, a_function, a_shape, a_variable, find}
 use Rattle.cstar_tree.specs.StatementTypes.{variable_info}

@@ -1,21 +1,16 @@
 -- What typing answers for a file.
-use Rattle.std.specs.Prelude.{◌≡◌, true, List, length, map}
+use Rattle.std.specs.Prelude.{◌≡◌, true, List, map}
 use Rattle.cstar_tree.specs.declared.syntax.Tree.{Tree}
 use Rattle.cstar_tree.specs.declared.typed.ShapeInfo.{ShapeInfo}
 use Rattle.cstar_tree.specs.declared.typed.Typed.{Typed}
-use Rattle.cstar_tree.specs.declared.typed.VarInfo.{VarInfo}
 use Rattle.cstar_tree.specs.FileScopes.{file_known, functions_named, nothing_known}
 use Rattle.cstar_tree.specs.Instances.{program_of}
-use Rattle.cstar_tree.specs.ProgramTypes.{TypesInstances, TypesItems}
+use Rattle.cstar_tree.specs.ProgramTypes.{NamesAll, TypesInstances, TypesItems}
 use Rattle.cstar_tree.specs.Room.{needs}
 use Rattle.shape_room.specs.Counted.{kept}
 use Rattle.shape_types.specs.Reached.{IsTypedProgram}
 use Rattle.shape_types.specs.declared.declarations.Declared.{Declared}
 use Rattle.shape_types.specs.declared.instances.Program.{Program}
-
--- the names of a file stand for all these variables: none is declared twice
-abbrev pub NamesAll : Tree → List VarInfo → Type 0
-NamesAll tree vars = (file_known tree).variables ≡ length vars
 
 -- the file becomes this program, whose needs are told as far as 32 bits count them
 pub record IsTypedFile (tree : Tree) (typed : Typed) : Type 0 where

@@ -4,7 +4,7 @@
 ghost use Rattle.cstar_tree.specs.FileScopes.{file_known, functions_named, nothing_known};
 ghost use Rattle.cstar_tree.specs.Instances.{program_of};
 ghost use Rattle.cstar_tree.specs.IsTyped.{IsTyped};
-ghost use Rattle.cstar_tree.specs.ProgramTypes.{TypesFile, TypesInstances, TypesItems};
+ghost use Rattle.cstar_tree.specs.ProgramTypes.{NamesAll, TypesFile, TypesInstances, TypesItems};
 ghost use Rattle.cstar_tree.specs.Room.{HasRoom};
 ghost use Rattle.cstar_tree.specs.declared.syntax.Tree as Text;
 ghost use Rattle.file_names.specs.Numbers.{HasFewNames};
@@ -12,7 +12,7 @@ ghost use Rattle.shape_types.specs.FileKnowledge.{IsNumberedFile};
 ghost use Rattle.shape_types.specs.Groups.{in_groups};
 ghost use Rattle.shape_types.specs.Plain.{IsPlainTree};
 ghost use Rattle.shape_types.specs.TypeFaults.{IsListedFault};
-ghost use Rattle.shape_types.specs.TypedFiles.{AreTyped, IsTypedFile, NamesAll};
+ghost use Rattle.shape_types.specs.TypedFiles.{AreTyped, IsTypedFile};
 ghost use Rattle.std.specs.Prelude.{◌≡◌, [], ◌<◌, ◌≤◌, ◌^◌, IfErr, IfOk, IsNone, OnOk, length, slice_get, unwrap_or};
 
 mod declarations;

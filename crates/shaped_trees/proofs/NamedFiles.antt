@@ -22,7 +22,7 @@ use Rattle.cstar_tree.specs.declared.typed.Variable.TheVariants as V
 use Rattle.cstar_tree.specs.BlockScopes.{declared_type}
 use Rattle.cstar_tree.specs.FileScopes.{Known, behind_function, behind_item, behind_items, behind_shape, behind_shapes, behind_variable, behind_variables, file_functions, file_place, functions_named, placed_from}
 use Rattle.cstar_tree.specs.Headers.{Placed, Program, Reached, Returns, behind_parameter, behind_parameters, header_place, plain_type}
-use Rattle.cstar_tree.specs.ProgramTypes.{IsBody, TypesFile, TypesInstance, TypesInstances, TypesItems, TypesParameters, TypesShapes, TypesVariables, plain_info}
+use Rattle.cstar_tree.specs.ProgramTypes.{IsBody, TypesInstance, TypesInstances, TypesItems, TypesParameters, TypesShapes, TypesVariables, plain_info}
 use Rattle.cstar_tree.specs.ProgramTypes as Y
 use Rattle.cstar_tree.specs.Scopes.{Binding, Here, Meaning, VariableType, a_function, a_shape, a_variable, find, meaning, written_type}
 use Rattle.cstar_tree.specs.StatementTypes.{TypesBlock, variable_info}

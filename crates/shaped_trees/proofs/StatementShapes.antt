@@ -18,7 +18,7 @@ use Rattle.cstar_tree.specs.BlockScopes.{behind_declarations, behind_declarator,
 use Rattle.cstar_tree.specs.ExpressionTypes.{Types}
 use Rattle.cstar_tree.specs.Headers.{Program, Returns}
 use Rattle.cstar_tree.specs.Scopes.{Here, a_variable}
-use Rattle.cstar_tree.specs.StatementTypes.{IsReturned, TypesBlock, TypesDeclarations, TypesEffectIf, TypesInitial, TypesLocal, TypesLocals, TypesStatement, TypesStatements, TypesTest, TypesTestIf, TypesValueIf}
+use Rattle.cstar_tree.specs.StatementTypes.{IsReturned, TypesBlock, TypesDeclarations, TypesEffectIf, TypesInitial, TypesLocal, TypesLocals, TypesStatement, TypesStatements, TypesTest, TypesTestIf}
 use Rattle.cstar_tree.specs.StatementTypes as Y
 use Rattle.code_lengths.specs.Shaped.{IsShaped}
 use Rattle.code_lengths.specs.ShapedStatements.{AreShapedLocals, IsShapedElse, IsShapedInitial, IsShapedPart, IsShapedStatement}

@@ -1,5 +1,5 @@
 -- The laws: what the rules of typing give is shaped and lowerable, and names the variables that there are.
-use Rattle.std.specs.Prelude.{◌≡◌, ℕ, Bool, true, false, List, Option, Some, is_none, length}
+use Rattle.std.specs.Prelude.{◌≡◌, ℕ, Bool, true, false, List, Option, Some, is_none}
 use Rattle.std.specs.List.{All}
 use Rattle.cstar_tree.specs.declared.syntax.Declaration.{Declaration}
 use Rattle.cstar_tree.specs.declared.syntax.Expr.{Expr}
@@ -14,11 +14,10 @@ use Rattle.cstar_tree.specs.declared.typed.Typed.{Typed}
 use Rattle.cstar_tree.specs.declared.typed.VarInfo.{VarInfo}
 use Rattle.cstar_tree.specs.BlockScopes.{behind_declarations}
 use Rattle.cstar_tree.specs.ExpressionTypes.{Types}
-use Rattle.cstar_tree.specs.FileScopes.{file_known}
 use Rattle.cstar_tree.specs.Headers.{Program, Returns}
 use Rattle.cstar_tree.specs.Items.{IsTree}
 use Rattle.cstar_tree.specs.Operations.{Target, target_of}
-use Rattle.cstar_tree.specs.ProgramTypes.{TypesFile, TypesResult}
+use Rattle.cstar_tree.specs.ProgramTypes.{NamesAll, TypesFile, TypesResult}
 use Rattle.cstar_tree.specs.Scopes.{Here}
 use Rattle.cstar_tree.specs.StatementTypes.{TypesDeclarations, TypesStatement}
 use Rattle.cstar_tree.specs.Typed.{type_of}
@@ -107,11 +106,6 @@ HasLowerableBody typed instance = IsLowerableStatement typed instance.result ins
 abbrev pub TypedFilesAreLowerable : Type 0
 TypedFilesAreLowerable = (tree : Tree) (typed : Typed) → NamesShapes tree → TypesFile tree typed → All (HasLowerableBody typed) typed.instances.items
 
--- The names of a file stand for all variables of its program, so that each has the number of its name:
--- none of these names is declared twice.
-abbrev pub NamesAllVariables : Tree → Typed → Type 0
-NamesAllVariables tree typed = (file_known tree).variables ≡ length typed.vars.items
-
--- so the instances of its program have code
+-- so the instances of a file's program have code
 abbrev pub TypedFilesHaveCode : Type 0
-TypedFilesHaveCode = (tree : Tree) (typed : Typed) → NamesShapes tree → NamesAllVariables tree typed → TypesFile tree typed → IsCodable typed
+TypedFilesHaveCode = (tree : Tree) (typed : Typed) → NamesShapes tree → NamesAll tree typed.vars.items → TypesFile tree typed → IsCodable typed
