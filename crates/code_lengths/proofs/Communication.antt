@@ -26,10 +26,10 @@ use Rattle.lower_base.specs.declared.emit.Out.{Out}
 use Rattle.lower_base.specs.declared.emit.Out.TheVariants as O
 use Rattle.lower_comm.specs.declared.gets.Hop.{Hop}
 use Rattle.lower_comm.specs.declared.news.NewsStep.{NewsStep}
-use Rattle.lower_base.specs.Drafts.{Draft, Made, Makes, then_make, from, with_instr, an_entry, first_bits}
+use Rattle.lower_base.specs.Drafts.{Draft, Made, Makes, Fails, then_make, from, with_instr, an_entry, first_bits}
 use Rattle.lower_base.specs.Kinds.{fold_kind, fold_length}
 use Rattle.lower_base.specs.Layouts.{Layout}
-use Rattle.lower_comm.specs.Messages.{front_located, each_located, located_at, located, is_left_index, checked_part, grid_steps, with_grid_check, hopped, is_extended, moving_part, moving_steps, stepwise, with_hop, gotten_by_steps, read_at, part_register, part_field, with_sign, with_fold, folded_onto, negated_by, reduced, indexed, indexed_field, stored, sent_value, sent_to, sent, scanned, segment_field, enumerated, communicated}
+use Rattle.lower_comm.specs.Messages.{all_in_registers, all_somewhere, front_located, each_located, located_at, located, is_left_index, checked_part, grid_steps, with_grid_check, hopped, is_extended, moving_part, moving_steps, stepwise, with_hop, gotten_by_steps, read_at, part_register, part_field, with_sign, with_fold, folded_onto, negated_by, reduced, indexed, indexed_field, stored, sent_value, sent_to, sent, scanned, segment_field, enumerated, communicated}
 use Rattle.lower_comm.specs.News.{step_of}
 use Rattle.lower_base.specs.Operators.{assign_op_of}
 use Rattle.lower_expr.specs.Lengths.{bare, load_length_of, negative_length, reduce_length, send_length, read_length, moves_length, news_move, is_checked, news_moves, news_checked}
@@ -40,17 +40,38 @@ use Rattle.code_lengths.proofs.Drafting.{IsAt, nothing_more, at_stands, in_field
 use Rattle.code_lengths.proofs.Pieces.{InRegister, InField}
 use Rattle.code_lengths.proofs.Readiness.{ready_behind, variable_field_grows}
 
--- an address
-located_at_grows : (k : Bool) (place : Place) (of : ℕ) (indexes : List TExpr) (outs : List Out) (at : Out) (d : Draft) → Stands k at → Grows d 2 (Stands k) (located_at place of indexes outs at d)
-unfolding located_at front_located each_located
-located_at_grows k place of indexes outs (O.Scalar r) d h = makes (Stands k) (O.Scalar r) d _ 2 h (and_step _ d _ 1 (and_step _ d d 0 (as_it_was d)))
-located_at_grows k place of indexes outs (O.Field f) d h = makes (Stands k) (O.Field f) d _ 2 h (and_step _ d _ 1 (and_step _ d d 0 (as_it_was d)))
-located_at_grows k place of indexes outs O.Nothing d h = absurd h
+-- each value of an index stands somewhere, and for an address in a register all stand in registers
+pub record AreIndexes (k : Bool) (outs : List Out) : Type 0 where
+  pub in_registers : k ≡ true → all_in_registers outs ≡ true
+  pub somewhere : all_somewhere outs ≡ true
 
-pub located_grows : (k : Bool) (e : TExpr) (outs : List Out) (at : Out) (d : Draft) → is_left_index e ≡ true → Stands k at → Grows d 2 (Stands k) (located e outs at d)
+pub register_first : (v : Out) (vs : List Out) → InRegister v → all_in_registers vs ≡ true → all_in_registers (v ∷ vs) ≡ true
+unfolding all_in_registers
+register_first (O.Scalar r) vs s h = h
+register_first (O.Field f) vs s h = cc
+register_first O.Nothing vs s h = absurd s
+
+pub somewhere_first : (k : Bool) (v : Out) (vs : List Out) → Stands k v → all_somewhere vs ≡ true → all_somewhere (v ∷ vs) ≡ true
+unfolding all_somewhere
+somewhere_first k (O.Scalar r) vs s h = h
+somewhere_first k (O.Field f) vs s h = h
+somewhere_first k O.Nothing vs s h = absurd s
+
+-- an address
+made_if : (k b : Bool) (at : Out) (d e : Draft) → b ≡ true → Stands k at → Extended d 2 e → Grows d 2 (Stands k) (if b then Makes at e else Fails)
+made_if k true at d e b h x = makes (Stands k) at d e 2 h x
+made_if k false at d e b h x = cc
+
+located_at_grows : (k : Bool) (place : Place) (of : ℕ) (indexes : List TExpr) (outs : List Out) (at : Out) (d : Draft) → AreIndexes k outs → Stands k at → Grows d 2 (Stands k) (located_at place of indexes outs at d)
+unfolding located_at front_located each_located
+located_at_grows k place of indexes outs (O.Scalar r) d a h = made_if k (all_in_registers outs) (O.Scalar r) d _ (a.in_registers h) h (and_step _ d _ 1 (and_step _ d d 0 (as_it_was d)))
+located_at_grows k place of indexes outs (O.Field f) d a h = made_if k (all_somewhere outs) (O.Field f) d _ a.somewhere h (and_step _ d _ 1 (and_step _ d d 0 (as_it_was d)))
+located_at_grows k place of indexes outs O.Nothing d a h = absurd h
+
+pub located_grows : (k : Bool) (e : TExpr) (outs : List Out) (at : Out) (d : Draft) → is_left_index e ≡ true → AreIndexes k outs → Stands k at → Grows d 2 (Stands k) (located e outs at d)
 unfolding located is_left_index out-TExpr Carrier.out
-located_grows k (T.LeftIndex' ty place p indexes x of) outs at d i h = located_at_grows k place of _ outs at d h
-located_grows k _ outs at d i h = cc
+located_grows k (T.LeftIndex' ty place p indexes x of) outs at d i a h = located_at_grows k place of _ outs at d a h
+located_grows k _ outs at d i a h = cc
 
 -- the check of a get by NEWS
 pub some_in : {A : Type 0} → List A → Bool

@@ -24,7 +24,7 @@ use Rattle.lower_base.specs.Drafts.{Draft, Made, Makes, then_make, from, fresh_f
 use Rattle.lower_base.specs.Constants.{word_in, word_length}
 use Rattle.lower_base.specs.Layouts.{Layout, elements_of}
 use Rattle.lower_base.specs.Kinds.{bits_of, kind_of}
-use Rattle.lower_comm.specs.Messages.{communicated, checked_grid, is_left_index, located, part_field}
+use Rattle.lower_comm.specs.Messages.{all_in_registers, all_somewhere, communicated, checked_grid, is_left_index, located, part_field}
 use Rattle.lower_comm.specs.News.{goes_by_news}
 use Rattle.lower_expr.specs.declared.spots.Spot.{Spot}
 use Rattle.lower_expr.specs.declared.spots.Spot.TheVariants as S
@@ -45,7 +45,7 @@ use Rattle.code_lengths.proofs.Drafting as D
 use Rattle.code_lengths.proofs.Basis.{Basis, GrowsOn, standing_as, ready, if_ready, once_ready, plainly, makes, sized, bind, weaker, in_field_grows, lowest_grows, fresh_as, either_grows}
 use Rattle.code_lengths.proofs.Readiness.{arrives, arrived, variable_field_grows}
 use Rattle.code_lengths.proofs.Pieces.{InRegister, InField, constant_grows, word_in_grows, printed_grows}
-use Rattle.code_lengths.proofs.Communication.{located_grows, read_by_news_grows, grid_check_more, grid_checked, reduced_grows, scanned_grows, segment_field_grows, enumerated_grows}
+use Rattle.code_lengths.proofs.Communication.{AreIndexes, located_grows, register_first, somewhere_first, read_by_news_grows, grid_check_more, grid_checked, reduced_grows, scanned_grows, segment_field_grows, enumerated_grows}
 use Rattle.code_lengths.proofs.SpotPieces.{Fits, variable_fits, bare_type}
 use Rattle.code_lengths.proofs.CallPieces.{called_grows}
 use Rattle.code_lengths.proofs.OperandPieces.{operand_grows}
@@ -83,13 +83,37 @@ in_brackets t ty p inner (O.Scalar r) a = a
 in_brackets t ty p inner (O.Field f) a = a
 in_brackets t ty p inner O.Nothing a = a
 
--- left indexes
-spot_by_indexes : {on : Basis} (t : Typed) (e : TExpr) (es : List TExpr) (codes : Codes) (n : ℕ) (d : Draft) → is_left_index e ≡ true → AreCodes on t es n codes → ((at : Out) → Stands (is_none (type_of e).shape) at → Fits (bare e) (S.Indexed at)) →
+-- left indexes: what gives values stands somewhere, and for one element in registers
+record CanBeIndexes (t : Typed) (k : Bool) (es : List TExpr) : Type 0 where
+  give : All (GivesValue t) es
+  in_registers : k ≡ true → All (L.InRegister t) es
+
+indexes_in_registers : (t : Typed) (es : List TExpr) (given : List Out) → AllZip (Arrives t) es given → All (L.InRegister t) es → all_in_registers given ≡ true
+unfolding all_in_registers
+indexes_in_registers t [] [] a r = refl
+indexes_in_registers t [] (v ∷ vs) a r = absurd a
+indexes_in_registers t (e ∷ es) [] a r = absurd a
+indexes_in_registers t (e ∷ es) (v ∷ vs) a r =
+    let first = All-head (L.InRegister t) e es r in
+    register_first v vs (standing_as _ true v first.1 (arrived t e v first.0 a.0)) (indexes_in_registers t es vs a.1 (All-tail (L.InRegister t) e es r))
+
+indexes_somewhere : (t : Typed) (es : List TExpr) (given : List Out) → AllZip (Arrives t) es given → All (GivesValue t) es → all_somewhere given ≡ true
+unfolding all_somewhere
+indexes_somewhere t [] [] a g = refl
+indexes_somewhere t [] (v ∷ vs) a g = absurd a
+indexes_somewhere t (e ∷ es) [] a g = absurd a
+indexes_somewhere t (e ∷ es) (v ∷ vs) a g =
+    somewhere_first (is_kept e) v vs (arrived t e v (All-head (GivesValue t) e es g) a.0) (indexes_somewhere t es vs a.1 (All-tail (GivesValue t) e es g))
+
+are_indexes : (t : Typed) (k : Bool) (es : List TExpr) (given : List Out) → CanBeIndexes t k es → AllZip (Arrives t) es given → AreIndexes k given
+are_indexes t k es given b a = record { in_registers = λ h. indexes_in_registers t es given a (b.in_registers h); somewhere = indexes_somewhere t es given a b.give }
+
+spot_by_indexes : {on : Basis} (t : Typed) (e : TExpr) (es : List TExpr) (codes : Codes) (n : ℕ) (d : Draft) → is_left_index e ≡ true → CanBeIndexes t (is_none (type_of e).shape) es → AreCodes on t es n codes → ((at : Out) → Stands (is_none (type_of e).shape) at → Fits (bare e) (S.Indexed at)) →
     GrowsOn on d (2 + n) (Fits (bare e)) (then_make (fresh_for (type_of e).shape 32 d) (λ at begun. then_make (codes [] begun) (λ parts between. then_make (located e parts at between) (λ out after. Makes (S.Indexed out) after))))
-spot_by_indexes t e es codes n d i c f =
+spot_by_indexes t e es codes n d i b c f =
     sized _ d _ _ _ (sum n) (bind (Stands (is_none (type_of e).shape)) _ d 0 _ _ _ (plainly (fresh_grows (type_of e).shape 32 d)) (λ at begun h.
-    bind (λ (given : List Out). AllZip (Arrives t) es given) _ begun n _ _ _ (c begun) (λ parts between _.
-    bind (Stands (is_none (type_of e).shape)) _ between 2 0 _ _ (plainly (located_grows (is_none (type_of e).shape) e parts at between i h)) (λ out after k. makes _ (S.Indexed out) after after 0 (f out k) (as_it_was after)))))
+    bind (λ (given : List Out). AllZip (Arrives t) es given) _ begun n _ _ _ (c begun) (λ parts between a.
+    bind (Stands (is_none (type_of e).shape)) _ between 2 0 _ _ (plainly (located_grows (is_none (type_of e).shape) e parts at between i (are_indexes t _ es parts b a) h)) (λ out after k. makes _ (S.Indexed out) after after 0 (f out k) (as_it_was after)))))
   where
     sum : (n : ℕ) → 0 + (n + (2 + 0)) ≡ 2 + n
     sum n = omega arith
@@ -104,10 +128,10 @@ spot_in (Some position) l e n made d k f g =
     and_nothing n = omega arith
 spot_in None l e n made d k f g = g
 
-indexed_spot_grows : {on : Basis} (t : Typed) (l : Layout) (e : TExpr) (es : List TExpr) (codes : Codes) (n : ℕ) (d : Draft) → is_left_index e ≡ true → AreCodes on t es n codes → (is_some (known_position t e) ≡ true → is_none (type_of e).shape ≡ true) → ((at : Out) → Stands (is_none (type_of e).shape) at → Fits (bare e) (S.Indexed at)) →
+indexed_spot_grows : {on : Basis} (t : Typed) (l : Layout) (e : TExpr) (es : List TExpr) (codes : Codes) (n : ℕ) (d : Draft) → is_left_index e ≡ true → CanBeIndexes t (is_none (type_of e).shape) es → AreCodes on t es n codes → (is_some (known_position t e) ≡ true → is_none (type_of e).shape ≡ true) → ((at : Out) → Stands (is_none (type_of e).shape) at → Fits (bare e) (S.Indexed at)) →
     GrowsOn on d (located_length t l e n) (Fits (bare e)) (indexed_spot t l e codes d)
 unfolding indexed_spot located_length
-indexed_spot_grows t l e es codes n d i c k f = spot_in (known_position t e) l e (2 + n) _ d k f (spot_by_indexes t e es codes n d i c f)
+indexed_spot_grows t l e es codes n d i b c k f = spot_in (known_position t e) l e (2 + n) _ d k f (spot_by_indexes t e es codes n d i b c f)
 
 -- a position is known where one element is meant
 some_if : (b : Bool) (o : Option ℕ) → is_some (if b then o else None) ≡ true → b ≡ true
@@ -231,13 +255,13 @@ index_read_to_grows k t i l n bits ty place p indexes x of spot m dest d e v c s
     weaker InField (Stands k) d _ _ (λ w q. standing_as false k w (sym f) q) (news_to_grows t i l n bits ty place p indexes x of dest d v.0 (subst (λ b. IsAt b bits dest) f s)))
     (λ _. read_to_grows k bits t l (T.LeftIndex' ty place p indexes x of) spot dest m d e (reads t i l n (T.LeftIndex' ty place p indexes x of) v) c s)
 
-left_index_value : (t : Typed) (i : Instance) (l : Layout) (n : ℕ) (ty : ValueType) (bits : ℕ) (place : Place) (p : _) (indexes : Row_of-TExpr _) (x : Variable) (of : ℕ) (es : List TExpr) (codes : Codes) (m : ℕ) (d : Draft) → NamesVariables t i n (T.LeftIndex' ty place p indexes x of) → AreCodes (ready t i l n) t es m codes →
+left_index_value : (t : Typed) (i : Instance) (l : Layout) (n : ℕ) (ty : ValueType) (bits : ℕ) (place : Place) (p : _) (indexes : Row_of-TExpr _) (x : Variable) (of : ℕ) (es : List TExpr) (codes : Codes) (m : ℕ) (d : Draft) → NamesVariables t i n (T.LeftIndex' ty place p indexes x of) → CanBeIndexes t (is_none ty.shape) es → AreCodes (ready t i l n) t es m codes →
     GrowsOn (ready t i l n) d (if goes_by_news (T.LeftIndex' ty place p indexes x of) then news_length bits of ty.elem (items-the_row-TExpr _ indexes) else located_length t l (T.LeftIndex' ty place p indexes x of) m + read_length bits ty) (Stands (is_none ty.shape))
     (index_read_by t l (T.LeftIndex' ty place p indexes x of) ty bits (indexed_spot t l (T.LeftIndex' ty place p indexes x of) codes) d)
 unfolding index_read_by bare is_left_index
-left_index_value t i l n ty bits place p indexes x of es codes m d v c =
+left_index_value t i l n ty bits place p indexes x of es codes m d v g c =
     sized _ d _ _ _ (nothing_more _) (bind (IsAt (is_none ty.shape) bits) _ d 0 _ _ _ (plainly (fresh_at ty.shape bits d)) (λ dest begun s.
-    index_read_to_grows (is_none ty.shape) t i l n bits ty place p indexes x of _ _ dest begun refl v (λ b. indexed_spot_grows t l (T.LeftIndex' ty place p indexes x of) es codes m b refl c (known_scalar t ty place p indexes x of) (λ at h. h)) s))
+    index_read_to_grows (is_none ty.shape) t i l n bits ty place p indexes x of _ _ dest begun refl v (λ b. indexed_spot_grows t l (T.LeftIndex' ty place p indexes x of) es codes m b refl g c (known_scalar t ty place p indexes x of) (λ at h. h)) s))
 
 -- what is printed stands in registers
 all_printed : (t : Typed) (es : List TExpr) (given : List Out) → AllZip (Arrives t) es given → All (L.InRegister t) es → All InRegister given × (length es ≡ length given)
@@ -373,7 +397,7 @@ mutual
   value_grows t i l n bits (T.Brackets' ty p inner) h w v d = weaker (Arrives t inner) _ d _ _ (λ x a. in_brackets t ty p inner x a) (value_grows t i l n bits inner h.1 w v d)
   value_grows t i l n bits (T.Call' ty instance p arguments) h w v d = call_value t i l n ty bits instance p arguments _ _ d w.0 (all_codes t l true _ arguments (λ b. values_grow t i l n true _ arguments h w.1 v [] b))
   value_grows t i l n bits (T.LeftIndex' ty place p indexes x of) h w v d =
-      as_said t (is_none ty.shape) _ d _ _ refl (left_index_value t i l n ty bits place p indexes x of _ _ _ d v (all_codes t l false _ indexes (λ b. values_grow t i l n false _ indexes h w.2 v.1 [] b)))
+      as_said t (is_none ty.shape) _ d _ _ refl (left_index_value t i l n ty bits place p indexes x of _ _ _ d v (record { give = w.0; in_registers = w.1 }) (all_codes t l false _ indexes (λ b. values_grow t i l n false _ indexes h w.2 v.1 [] b)))
   value_grows t i l n bits (T.Pcoord ty axis) h w v d = as_said t false _ d _ _ (sym h) (coordinate_grows ty.shape bits axis d)
   value_grows t i l n bits (T.PositionsOf ty shape value) h w v d = as_said t true _ d _ _ (sym h) (plainly (constant_grows value d))
   value_grows t i l n bits (T.RankOf ty shape value) h w v d = as_said t true _ d _ _ (sym h) (plainly (constant_grows value d))
@@ -403,7 +427,7 @@ mutual
   spot_grows t i l n (T.Element' ty place array p index) h w v d =
       element_spot_grows t l ty place array p index _ _ d h.0 v.0.1.shape (of_code (is_kept index) true _ _ w.0.1 (given_code t i l n index _ _ w.0.0 (value_grows t i l n 32 index h.1 w.1 v.1)))
   spot_grows t i l n (T.LeftIndex' ty place p indexes x of) h w v d =
-      indexed_spot_grows t l (T.LeftIndex' ty place p indexes x of) _ _ _ d refl (all_codes t l false _ indexes (λ b. values_grow t i l n false _ indexes h w.2 v.1 [] b)) (known_scalar t ty place p indexes x of) (λ at k. k)
+      indexed_spot_grows t l (T.LeftIndex' ty place p indexes x of) _ _ _ d refl (record { give = w.0; in_registers = w.1 }) (all_codes t l false _ indexes (λ b. values_grow t i l n false _ indexes h w.2 v.1 [] b)) (known_scalar t ty place p indexes x of) (λ at k. k)
   spot_grows t i l n (T.Brackets' ty p inner) h w v d = spot_grows t i l n inner h.1 w v d
   spot_grows t i l n _ h w v d = absurd h
 

@@ -13,7 +13,7 @@ use Rattle.paris_code.specs.declared.instr.Instr.TheVariants as I
 use Rattle.paris_code.specs.declared.program.Owner.TheVariants as W
 use Rattle.paris_code.specs.declared.program.Virtual.{Virtual}
 use Rattle.lower_base.specs.declared.names.LocalName.{LocalName}
-use Rattle.lower_base.specs.Drafts.{Draft, Made, Makes, then_make, with_instr, with_step, an_entry}
+use Rattle.lower_base.specs.Drafts.{Draft, Made, Makes, then_make, with_instr, with_step, an_entry, IsMade}
 use Rattle.lower_base.specs.Layouts.{Layout, Numbering, elements_of, entries_of, field_of, nothing_numbered, numbered, own_field, register_of, with_local}
 use Rattle.lower_base.specs.Layouts as Y
 use Rattle.lower_base.proofs.Numbering.{numbered_append}
@@ -22,7 +22,7 @@ use Rattle.lower_stmt.specs.Variables.{all_cleared, cleared, cleared_fields, is_
 use Rattle.code_lengths.specs.Growth.{Extended, Grows, Leads}
 use Rattle.code_lengths.specs.Naming.{IsDeclared, variable_named}
 use Rattle.code_lengths.specs.NamingStatements.{StandFrom}
-use Rattle.code_lengths.specs.Ready.{HasDeclared, IsMade, IsReady, NumbersVariables, homes_of}
+use Rattle.code_lengths.specs.Ready.{HasDeclared, IsReady, NumbersVariables, homes_of}
 use Rattle.code_lengths.proofs.Advancing.{advanced, leads, leads_then}
 use Rattle.code_lengths.proofs.Declaring.{at_length, at_number, found, info_of, second_part, taken}
 use Rattle.code_lengths.proofs.Readiness.{made_from, ready_behind, ready_still}

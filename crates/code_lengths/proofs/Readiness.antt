@@ -11,13 +11,13 @@ use Rattle.cstar_tree.specs.StatementTypes.{variable_info}
 use Rattle.paris_code.specs.declared.program.Virtual.{Virtual}
 use Rattle.lower_base.specs.declared.emit.Out.{Out}
 use Rattle.lower_base.specs.declared.emit.Out.TheVariants as O
-use Rattle.lower_base.specs.Drafts.{Draft, Made, from, an_entry}
+use Rattle.lower_base.specs.Drafts.{Draft, Made, from, an_entry, IsMade}
 use Rattle.lower_base.specs.Layouts.{Layout, elements_of, entries_of, field_of, own_field}
 use Rattle.lower_expr.specs.Steps.{is_kept}
 use Rattle.code_lengths.specs.Growth.{Extended, Grows, Stands, Anything}
 use Rattle.code_lengths.specs.Lowerable.{GivesValue}
 use Rattle.code_lengths.specs.Naming.{HasVariable, IsDeclared, plain}
-use Rattle.code_lengths.specs.Ready.{Arrives, IsMade, IsReady}
+use Rattle.code_lengths.specs.Ready.{Arrives, IsReady}
 use Rattle.code_lengths.specs.Shaped.{HasShape}
 use Rattle.code_lengths.proofs.Drafting.{append_nothing, as_it_was, makes, found_grows, entry_grows}
 

@@ -17,7 +17,7 @@ use Rattle.cstar_tree.specs.Variables.{variables_of}
 use Rattle.paris_code.specs.declared.operands.Field.{Field}
 use Rattle.lower_base.specs.declared.emit.Out.{Out}
 use Rattle.lower_base.specs.declared.emit.Out.TheVariants as O
-use Rattle.lower_base.specs.Drafts.{Draft, Made, Makes, first_bits, then_make}
+use Rattle.lower_base.specs.Drafts.{Draft, Made, Makes, first_bits, then_make, IsMade}
 use Rattle.lower_base.specs.Layouts.{Layout, entries_of, field_of, register_of, result_register}
 use Rattle.lower_expr.specs.Effects.{put_to, put_length, own_bits, effect_length_of}
 use Rattle.lower_expr.specs.Lengths.{tested_length, used_length_of}
@@ -39,7 +39,7 @@ use Rattle.code_lengths.specs.Lowerable.{InRegister, IsLowerable, IsValueFor}
 use Rattle.code_lengths.specs.LowerableStatements.{AreLowerableStatements, IsLowerableElse, IsGivenBack, IsLowerableLocal, IsLowerableStatement, IsTest}
 use Rattle.code_lengths.specs.Naming.{IsDeclared, NamesVariables, variable_named}
 use Rattle.code_lengths.specs.NamingStatements.{ElseNamesVariables, InitialNamesVariables, StandFrom, StatementNamesVariables, StatementsNameVariables, behind}
-use Rattle.code_lengths.specs.Ready.{Arrives, Declares, HasCode, HasDeclared, IsMade, IsReady, NumbersVariables}
+use Rattle.code_lengths.specs.Ready.{Arrives, Declares, HasCode, HasDeclared, IsReady, NumbersVariables}
 use Rattle.code_lengths.specs.ShapedStatements.{IsShapedPart, IsShapedInitial, AreShapedLocals, IsShapedStatement, AreShapedStatements, IsShapedElse}
 use Rattle.code_lengths.proofs.Agreeing.{expressions}
 use Rattle.code_lengths.proofs.Advancing.{advanced, leads, leads_behind, leads_from, leads_sized, leads_then}

@@ -10,7 +10,7 @@ use Rattle.cstar_tree.specs.declared.typed.Variable.TheVariants as V
 use Rattle.cstar_tree.specs.Variables.{variables_of}
 use Rattle.paris_code.specs.declared.program.Owner.TheVariants as W
 use Rattle.paris_code.specs.declared.program.Virtual.{Virtual}
-use Rattle.lower_base.specs.Drafts.{Draft, Made, Makes, Fails, an_entry, then_make}
+use Rattle.lower_base.specs.Drafts.{Draft, Made, Makes, Fails, an_entry, then_make, IsMade}
 use Rattle.lower_base.specs.Layouts.{Layout, Registers, elements_of, entered, entries_of, earlier_base, field_of, first_fields, layout_of, nothing_numbered, numbered, own_field, param_entries, registers_of, with_instance}
 use Rattle.lower_base.specs.Layouts as Y
 use Rattle.lower_stmt.specs.Frames.{with_end}
@@ -19,7 +19,7 @@ use Rattle.lower_stmt.specs.Statements.{body_of, ended, ends_in_return}
 use Rattle.code_lengths.specs.Agreement.{HasUnit, ProgramsHaveCode, StandsAmong, UnitsAreAsLongAsDescribed, end_length, opening_of, whole_length}
 use Rattle.code_lengths.specs.Growth.{Advanced, Anything, Extended, Grows, Leads}
 use Rattle.code_lengths.specs.Naming.{IsDeclared, variable_named}
-use Rattle.code_lengths.specs.Ready.{HasDeclared, HasPlainParameters, HasStatementCode, IsCodable, IsMade, IsReady, NumbersVariables}
+use Rattle.code_lengths.specs.Ready.{HasDeclared, HasPlainParameters, HasStatementCode, IsCodable, IsReady, NumbersVariables}
 use Rattle.code_lengths.proofs.Agreeing.{expressions}
 use Rattle.code_lengths.proofs.Advancing.{advanced, leads, leads_then}
 use Rattle.code_lengths.proofs.Declaring.{all_at, at_length}

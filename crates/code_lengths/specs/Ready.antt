@@ -10,7 +10,7 @@ use Rattle.cstar_tree.specs.declared.typed.VarInfo.{VarInfo}
 use Rattle.cstar_tree.specs.declared.typed.Variable.{Variable}
 use Rattle.lower_base.specs.declared.emit.Out.{Out}
 use Rattle.lower_base.specs.declared.emit.Out.TheVariants as O
-use Rattle.lower_base.specs.Drafts.{Draft, Made, Makes, Fails}
+use Rattle.lower_base.specs.Drafts.{Draft, IsMade}
 use Rattle.lower_base.specs.Layouts.{Layout, elements_of, entries_of, field_of, nothing_numbered, numbered, own_field}
 use Rattle.lower_expr.specs.Steps.{is_kept}
 use Rattle.code_lengths.specs.Growth.{Stands}
@@ -21,11 +21,6 @@ use Rattle.code_lengths.specs.Naming.{IsDeclared, NamesVariables, variable_named
 use Rattle.code_lengths.specs.NamingStatements.{StandFrom, StatementNamesVariables}
 use Rattle.code_lengths.specs.Shaped.{IsShaped, IsTarget}
 use Rattle.code_lengths.specs.ShapedStatements.{IsShapedStatement}
-
--- there is such code
-unfoldable pub IsMade : {A : Type 0} → Made A → Type 0
-IsMade (Makes x d) = Unit {0}
-IsMade Fails = ⊥
 
 -- Where so many variables of an instance's blocks are declared, each parallel variable has as many fields
 -- as it has elements, the parallel result has one, and each instance has its registers.

@@ -2,6 +2,7 @@ pub mod Asked
 pub mod Compiled
 pub mod Courses
 pub mod Drills
+pub mod EveryUnit
 pub mod Keeping
 pub mod Lines
 pub mod Listings

@@ -10,6 +10,7 @@ ghost use Rattle.paris_code.specs.Sound.{IsSound};
 ghost use Rattle.point_runs.specs.declared.refusal.NoImage.TheVariants as N;
 ghost use Rattle.point_runs.specs.Refusals.{file_start};
 ghost use Rattle.cstar_compile.specs.Compiled.{IsCompiled};
+ghost use Rattle.lower_stmt.specs.Programs.{HasEveryUnit};
 ghost use Rattle.cstar_tree.specs.FileScopes.{file_known};
 ghost use Rattle.cstar_tree.specs.Items.{IsTree};
 ghost use Rattle.cstar_tree.specs.ProgramTypes.{NamesAll, TypesFile};
@@ -116,9 +117,10 @@ fn read_text(alloc: Global, text: &[u8]) -> Result<ReadText, NoImage>
 
 /// The checked image of a typed program. That every image of the compiler keeps the image rules, and
 /// has names that a listing can be read back with, is not proved yet; one that did not would be
-/// refused as a form that is not built.
+/// refused as a form that is not built. Each instance of the program must have code.
 pub fn compile(alloc: Global, typed: &Typed) -> Result<Sound, NoImage>
-    requires { IsTyped typed.now }
+    requires typed { IsTyped typed.now }
+    requires units { HasEveryUnit typed.now }
     ensures compiled { IfOk result (λ sound. IsCompiled typed.now sound) }
     ensures sound { IfOk result IsSound }
     ensures listable { IfOk result IsListable }

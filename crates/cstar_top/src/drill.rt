@@ -6,6 +6,7 @@ ghost use Rattle.cstar_io.specs.Faults.{RisesBy};
 ghost use Rattle.cstar_io.specs.Output.{Takes, TakesNothing, TakesPrefix};
 ghost use Rattle.cstar_tree.specs.IsTyped.{IsTyped};
 ghost use Rattle.cstar_words.specs.declared.options.Mode.TheVariants as M;
+ghost use Rattle.lower_stmt.specs.Programs.{HasEveryUnit};
 ghost use Rattle.paris_code.specs.declared.program.Image.{Image};
 ghost use Rattle.paris_code.specs.Sound.{IsSound};
 ghost use Rattle.paris_phases.specs.Doing.{CanDo, Did, Settled};
@@ -62,7 +63,7 @@ pub fn drill<R: Threads + Sync, O: Sink, G: Gate + Sync>(
     }
 }
 
-/// Runs the drill's program.
+/// Runs the drill's program, each instance of which must have code.
 fn drill_program<R: Threads + Sync, O: Sink, G: Gate + Sync>(
     alloc: Global,
     crew: &Crew<R, G>,
@@ -70,7 +71,8 @@ fn drill_program<R: Threads + Sync, O: Sink, G: Gate + Sync>(
     winner: Winner,
     out: &mut O,
 ) -> Answer
-    requires { IsTyped program.now.typed }
+    requires typed { IsTyped program.now.typed }
+    requires units { HasEveryUnit program.now.typed }
     ensures can { CanAnswer M.Drill DRILL_TURNS result }
     ensures readable { status_of result ≢ 5 }
     ensures input { status_of result ≢ 7 }

@@ -53,10 +53,15 @@ draft u = record {
   homes = u.homes.items;
 }
 
--- what a piece of code answers, with the draft behind it; no tree that is typed gives `Fails`
+-- what a piece of code answers, with the draft behind it, or that there is no such code
 pub data Made (A : Type 0) : Type 0 where
   Makes : A → Draft → Made A
   Fails : Made A
+
+-- there is such code
+unfoldable pub IsMade : {A : Type 0} → Made A → Type 0
+IsMade (Makes x d) = Prim.Unit {0}
+IsMade Fails = ⊥
 
 -- one piece, and then another that knows what the first answered
 unfoldable pub then_make : {A B : Type 0} → Made A → (A → Draft → Made B) → Made B
@@ -113,6 +118,22 @@ shortened bits out = out
 abbrev pub out_of : Operand → Out
 out_of (P.Register r) = O.Scalar r
 out_of (P.Field f) = O.Field f
+
+-- where a value stands: in a register, in a field, in either
+unfoldable pub InRegister : Out → Type 0
+InRegister (O.Scalar r) = Prim.Unit {0}
+InRegister (O.Field f) = ⊥
+InRegister O.Nothing = ⊥
+
+unfoldable pub InField : Out → Type 0
+InField (O.Scalar r) = ⊥
+InField (O.Field f) = Prim.Unit {0}
+InField O.Nothing = ⊥
+
+unfoldable pub IsSomewhere : Out → Type 0
+IsSomewhere (O.Scalar r) = Prim.Unit {0}
+IsSomewhere (O.Field f) = Prim.Unit {0}
+IsSomewhere O.Nothing = ⊥
 
 -- the register that holds a value, and the field that does
 unfoldable pub in_register : {B : Type 0} → Out → (ℕ → Made B) → Made B

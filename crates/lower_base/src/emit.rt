@@ -4,7 +4,7 @@ ghost use Rattle.std.specs.Prelude.{◌≡◌, ◌+◌, IfOk, OnOk};
 ghost use Rattle.paris_code.specs.declared.program.Owner.TheVariants as W;
 ghost use Rattle.lower_base.specs.declared.emit.Operand.TheVariants as P;
 ghost use Rattle.lower_base.specs.declared.emit.Out.TheVariants as O;
-ghost use Rattle.lower_base.specs.Drafts.{Makes, draft, here, with_instr, a_register, an_entry, first_bits, fresh_for, out_of, shortened};
+ghost use Rattle.lower_base.specs.Drafts.{Makes, draft, here, with_instr, a_register, an_entry, first_bits, fresh_for, out_of, shortened, InField, InRegister, IsSomewhere};
 
 use cstar_base::Memory;
 use cstar_tree::typed::ValueType;
@@ -131,23 +131,27 @@ impl Operand {
         }
     }
 
-    /// The register. `Memory` where the value stands in a field.
-    pub fn register(self) -> Result<u32, Memory>
-        ensures { IfOk result (λ r. self ≡ P.Register r) }
+    /// The register of a value that stands in one.
+    #[tactic(auto, unfolding(crate::specs::Drafts::InRegister))]
+    pub fn register(self) -> u32
+        requires { InRegister (out_of self) }
+        ensures { self ≡ P.Register result }
     {
         match self {
-            Operand::Register(register) => Ok(register),
-            Operand::Field(_) => Err(Memory),
+            Operand::Register(register) => register,
+            Operand::Field(_) => unreachable!(),
         }
     }
 
-    /// The field. `Memory` where the value stands in a register.
-    pub fn field(self) -> Result<Field, Memory>
-        ensures { IfOk result (λ f. self ≡ P.Field f) }
+    /// The field of a value that stands in one.
+    #[tactic(auto, unfolding(crate::specs::Drafts::InField))]
+    pub fn field(self) -> Field
+        requires { InField (out_of self) }
+        ensures { self ≡ P.Field result }
     {
         match self {
-            Operand::Register(_) => Err(Memory),
-            Operand::Field(field) => Ok(field),
+            Operand::Register(_) => unreachable!(),
+            Operand::Field(field) => field,
         }
     }
 }
@@ -164,28 +168,40 @@ impl Out {
         }
     }
 
-    /// Where the value stands. `Memory` where it stands nowhere.
-    pub fn operand(self) -> Result<Operand, Memory>
-        ensures { IfOk result (λ value. self ≡ out_of value) }
+    /// Where a value stands that is somewhere.
+    #[tactic(auto, unfolding(crate::specs::Drafts::IsSomewhere))]
+    pub fn operand(self) -> Operand
+        requires { IsSomewhere self }
+        ensures { self ≡ out_of result }
     {
         match self {
-            Out::Scalar(register) => Ok(Operand::Register(register)),
-            Out::Field(field) => Ok(Operand::Field(field)),
-            Out::Nothing => Err(Memory),
+            Out::Scalar(register) => Operand::Register(register),
+            Out::Field(field) => Operand::Field(field),
+            Out::Nothing => unreachable!(),
         }
     }
 
-    /// The register. `Memory` where the value stands in none.
-    pub fn register(self) -> Result<u32, Memory>
-        ensures { IfOk result (λ r. self ≡ O.Scalar r) }
+    /// The register of a value that stands in one.
+    #[tactic(auto, unfolding(crate::specs::Drafts::InRegister))]
+    pub fn register(self) -> u32
+        requires { InRegister self }
+        ensures { self ≡ O.Scalar result }
     {
-        self.operand()?.register()
+        match self {
+            Out::Scalar(register) => register,
+            Out::Field(_) | Out::Nothing => unreachable!(),
+        }
     }
 
-    /// The field. `Memory` where the value stands in none.
-    pub fn field(self) -> Result<Field, Memory>
-        ensures { IfOk result (λ f. self ≡ O.Field f) }
+    /// The field of a value that stands in one.
+    #[tactic(auto, unfolding(crate::specs::Drafts::InField))]
+    pub fn field(self) -> Field
+        requires { InField self }
+        ensures { self ≡ O.Field result }
     {
-        self.operand()?.field()
+        match self {
+            Out::Field(field) => field,
+            Out::Scalar(_) | Out::Nothing => unreachable!(),
+        }
     }
 }

@@ -7,7 +7,7 @@
 ghost use Rattle.std.specs.Prelude.{◌≡◌, ℕ, List, ◌+◌, ◌<◌, ◌++◌, length, map, fold, IfOk, OnOk, IfSome};
 ghost use Rattle.cstar_tree.specs.declared.typed.LocalVar.{LocalVar};
 ghost use Rattle.cstar_tree.specs.TypedParts.{concat};
-ghost use Rattle.lower_base.specs.Drafts.{Makes, draft, from, an_entry};
+ghost use Rattle.lower_base.specs.Drafts.{IsMade, Makes, draft, from, an_entry};
 ghost use Rattle.paris_code.specs.declared.program.Owner.TheVariants as W;
 ghost use Rattle.cstar_tree.specs.Variables.{variables_of};
 ghost use Rattle.lower_base.specs.Layouts.{layout, entries_of, elements_of, result_register, register_of, own_field, field_of, first_fields, behind, param_entries, numbered, nothing_numbered, with_local, first_named, earlier_base, with_instance, registers_of, entered, layout_of};
@@ -136,18 +136,19 @@ pub fn entries_of(info: &VarInfo) -> u32
     }
 }
 
-/// The field of an entry of the unit.
-#[tactic(auto, unfolding(crate::specs::Layouts::own_field, crate::specs::Drafts::draft, crate::specs::Drafts::from))]
-pub fn own_entry(u: &Unit, index: u32) -> Result<Field, Memory>
-    ensures { IfOk result (λ f. own_field index (draft u.now) ≡ Makes f (draft u.now)) }
+/// The field of an entry that the unit has.
+#[tactic(auto, unfolding(crate::specs::Layouts::own_field, crate::specs::Drafts::draft, crate::specs::Drafts::from, crate::specs::Drafts::IsMade))]
+pub fn own_entry(u: &Unit, index: u32) -> Field
+    requires { IsMade (own_field index (draft u.now)) }
+    ensures { own_field index (draft u.now) ≡ Makes result (draft u.now) }
 {
-    match u.fields.get(index as usize) {
-        Some(entry) => Ok(Field {
-            set: entry.set,
-            offset: index,
-            len: entry.len,
-        }),
-        None => Err(Memory),
+    let Some(entry) = u.fields.get(index as usize) else {
+        unreachable!()
+    };
+    Field {
+        set: entry.set,
+        offset: index,
+        len: entry.len,
     }
 }
 

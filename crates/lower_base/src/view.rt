@@ -1,7 +1,7 @@
 //! What the code of an instance is written from: the typed program, and where its variables are.
 
 ghost use Rattle.std.specs.Prelude.{◌≡◌, ◌<◌, ℕ, List, length, IfOk, OnOk};
-ghost use Rattle.lower_base.specs.Drafts.{Makes, draft, from, an_entry};
+ghost use Rattle.lower_base.specs.Drafts.{IsMade, Makes, draft, from, an_entry};
 ghost use Rattle.lower_base.specs.Constants.{constant_register, first_free, register_with, word_in, word_length};
 ghost use Rattle.lower_base.specs.Layouts.{layout, layout_of, elements_of, result_register, register_of, field_of};
 ghost use Rattle.paris_code.specs.declared.program.Owner.TheVariants as W;
@@ -72,10 +72,11 @@ impl<'a> View<'a> {
         plus(self.names.base, count(self.names.params.len())?)
     }
 
-    /// The field of a parallel variable, or of an element of an array. A variable of the file gets
-    /// one more entry of the unit.
-    #[tactic(auto, unfolding(crate::specs::Layouts::field_of, crate::specs::Layouts::layout, crate::specs::Drafts::draft, crate::specs::Drafts::from))]
+    /// The field of a parallel variable that the unit has, or of an element of an array. A variable of
+    /// the file gets one more entry of the unit.
+    #[tactic(auto, unfolding(crate::specs::Layouts::field_of, crate::specs::Layouts::layout, crate::specs::Drafts::draft, crate::specs::Drafts::from, crate::specs::Drafts::IsMade))]
     pub fn field(&self, variable: Variable, element: u32, u: &mut Unit) -> Result<Field, Memory>
+        requires made { IsMade (field_of self.now.typed.now (layout self.now.names) variable element (draft u.old)) }
         ensures draft { IfOk result (λ f. field_of self.now.typed.now (layout self.now.names) variable element (draft u.old) ≡ Makes f (draft u.new)) }
     {
         match variable {
@@ -84,26 +85,26 @@ impl<'a> View<'a> {
                     self.typed.vars.get(k as usize),
                     self.names.files.get(k as usize),
                 ) else {
-                    return Err(Memory);
+                    unreachable!()
                 };
                 let number = plus(*first, element)?;
                 file_entry(u, info, number)
             }
             Variable::Param(k) => {
                 let Some(index) = self.names.params.get(k as usize) else {
-                    return Err(Memory);
+                    unreachable!()
                 };
-                own_entry(u, *index)
+                Ok(own_entry(u, *index))
             }
             Variable::Local(k) => {
                 let Some(local) = self.names.locals.get(k as usize) else {
-                    return Err(Memory);
+                    unreachable!()
                 };
                 let Some(home) = u.homes.get(local.home as usize) else {
-                    return Err(Memory);
+                    unreachable!()
                 };
                 let index = plus(*home, element)?;
-                own_entry(u, index)
+                Ok(own_entry(u, index))
             }
         }
     }
@@ -182,13 +183,14 @@ fn register_with(word: u32, words: &[u32], first: u32) -> Result<Option<u32>, Me
     Ok(None)
 }
 
-/// The field of a variable of the file, as one more entry.
-#[tactic(auto, unfolding(crate::specs::Drafts::from))]
+/// The field of a parallel variable of the file, as one more entry.
+#[tactic(auto, unfolding(crate::specs::Drafts::from, crate::specs::Drafts::IsMade))]
 fn file_entry(u: &mut Unit, info: &VarInfo, number: u32) -> Result<Field, Memory>
+    requires made { IsMade (from info.now.shape (λ set. an_entry set info.now.elem.bits (W.File number) (draft u.old))) }
     ensures draft { IfOk result (λ f. from info.now.shape (λ set. an_entry set info.now.elem.bits (W.File number) (draft u.old)) ≡ Makes f (draft u.new)) }
 {
-    match info.shape {
-        Some(set) => entry(u, set, info.elem.bits, Owner::File(number)),
-        None => Err(Memory),
-    }
+    let Some(set) = info.shape else {
+        unreachable!()
+    };
+    entry(u, set, info.elem.bits, Owner::File(number))
 }

@@ -65,11 +65,24 @@ unfoldable pub each_located : Place → ℕ → List TExpr → List Coordinate �
 each_located place of indexes coordinates dest d =
     with_step (MakesAddress dest of coordinates) (with_step (ChecksTarget of place (signed_coordinates indexes coordinates)) d)
 
+-- do all values stand in registers, and does each stand somewhere
+unfoldable pub all_in_registers : List Out → Bool
+all_in_registers [] = true
+all_in_registers (O.Scalar r ∷ outs) = all_in_registers outs
+all_in_registers (O.Field f ∷ outs) = false
+all_in_registers (O.Nothing ∷ outs) = false
+
+unfoldable pub all_somewhere : List Out → Bool
+all_somewhere [] = true
+all_somewhere (O.Scalar r ∷ outs) = all_somewhere outs
+all_somewhere (O.Field f ∷ outs) = all_somewhere outs
+all_somewhere (O.Nothing ∷ outs) = false
+
 unfoldable pub located_at : Place → ℕ → List TExpr → List Out → Out → Draft → Made Out
 located_at place of indexes outs (O.Scalar dest) d =
-    Makes (O.Scalar dest) (front_located place of indexes (map index_register outs) dest d)
+    if all_in_registers outs then Makes (O.Scalar dest) (front_located place of indexes (map index_register outs) dest d) else Fails
 located_at place of indexes outs (O.Field dest) d =
-    Makes (O.Field dest) (each_located place of indexes (map index_coordinate outs) dest d)
+    if all_somewhere outs then Makes (O.Field dest) (each_located place of indexes (map index_coordinate outs) dest d) else Fails
 located_at place of indexes outs O.Nothing d = Fails
 
 -- is the expression a left index

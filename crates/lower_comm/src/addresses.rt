@@ -1,8 +1,8 @@
 //! The address of a left-indexed reference: the check of its indexes, and the making of it.
 
-ghost use Rattle.std.specs.Prelude.{◌≡◌, ◌++◌, IfOk, OnOk, map};
-ghost use Rattle.lower_base.specs.Drafts.{Makes, draft, out_of};
-ghost use Rattle.lower_comm.specs.Messages.{index_register, index_coordinate, signed_registers, signed_coordinates, front_located, each_located, located_at, checked_part, grid_steps, with_grid_check};
+ghost use Rattle.std.specs.Prelude.{◌≡◌, ◌++◌, true, IfOk, OnOk, map};
+ghost use Rattle.lower_base.specs.Drafts.{IsMade, IsSomewhere, Makes, draft, out_of};
+ghost use Rattle.lower_comm.specs.Messages.{all_in_registers, all_somewhere, index_register, index_coordinate, signed_registers, signed_coordinates, front_located, each_located, located_at, checked_part, grid_steps, with_grid_check};
 
 use crate::news::{NewsStep, step_of};
 use cstar_base::{Memory, Place};
@@ -25,7 +25,7 @@ pub struct Indexes<'a> {
 
 impl Indexes<'_> {
     /// The range check of the indexes, whose values these are, and the making of the address at `at`.
-    #[tactic(auto, unfolding(crate::specs::Messages::located_at))]
+    #[tactic(auto, unfolding(lower_base::specs::Drafts::IsMade, crate::specs::Messages::located_at))]
     pub fn locate(
         &self,
         alloc: Global,
@@ -33,6 +33,7 @@ impl Indexes<'_> {
         at: Operand,
         u: &mut Unit,
     ) -> Result<(), Memory>
+        requires made { IsMade (located_at self.now.place self.now.of self.now.each.now values.now (out_of at) (draft u.old)) }
         ensures draft { OnOk result (located_at self.now.place self.now.of self.now.each.now values.now (out_of at) (draft u.old) ≡ Makes (out_of at) (draft u.new)) }
     {
         match at {
@@ -123,38 +124,42 @@ impl Indexes<'_> {
 }
 
 /// The registers of scalar indexes.
-#[tactic(auto, unfolding(crate::specs::Messages::index_register))]
+#[tactic(auto, unfolding(crate::specs::Messages::index_register, crate::specs::Messages::all_in_registers, lower_base::specs::Drafts::InRegister))]
 fn registers(alloc: Global, indexes: &[Out]) -> Result<Vec<u32>, Memory>
+    requires { all_in_registers indexes.now ≡ true }
     ensures { IfOk result (λ registers. registers.items ≡ map index_register indexes.now) }
 {
     let mut registers = Vec::new(alloc);
     for index in indexes {
-        let register = index.register()?;
+        let register = index.register();
         registers.push(register)?;
     }
     Ok(registers)
 }
 
 /// The coordinates of parallel indexes.
+#[tactic(auto, unfolding(crate::specs::Messages::all_somewhere, lower_base::specs::Drafts::IsSomewhere))]
 fn coordinates(alloc: Global, indexes: &[Out]) -> Result<Vec<Coordinate>, Memory>
+    requires { all_somewhere indexes.now ≡ true }
     ensures { IfOk result (λ coordinates. coordinates.items ≡ map index_coordinate indexes.now) }
 {
     let mut coordinates = Vec::new(alloc);
     for index in indexes {
-        let coordinate = index_coordinate(*index)?;
+        let coordinate = index_coordinate(*index);
         coordinates.push(coordinate)?;
     }
     Ok(coordinates)
 }
 
-#[tactic(auto, unfolding(crate::specs::Messages::index_coordinate))]
-fn index_coordinate(index: Out) -> Result<Coordinate, Memory>
-    ensures { IfOk result (λ c. c ≡ index_coordinate index) }
+#[tactic(auto, unfolding(crate::specs::Messages::index_coordinate, lower_base::specs::Drafts::IsSomewhere))]
+fn index_coordinate(index: Out) -> Coordinate
+    requires { IsSomewhere index }
+    ensures { result ≡ index_coordinate index }
 {
     match index {
-        Out::Scalar(register) => Ok(Coordinate::Reg(register)),
-        Out::Field(field) => Ok(Coordinate::Field(field)),
-        Out::Nothing => Err(Memory),
+        Out::Scalar(register) => Coordinate::Reg(register),
+        Out::Field(field) => Coordinate::Field(field),
+        Out::Nothing => unreachable!(),
     }
 }
 

@@ -1,7 +1,7 @@
 //! The calls on a unit as `lower` has it when it comes to a communication.
 
 ghost use Rattle.std.specs.Prelude.{◌≡◌, ◌<◌, true, length, IfOk, IsSome};
-ghost use Rattle.lower_base.specs.Drafts.{Makes, draft};
+ghost use Rattle.lower_base.specs.Drafts.{IsMade, Makes, draft};
 ghost use Rattle.lower_base.specs.Layouts.{first_named};
 ghost use Rattle.lower_comm.specs.Messages.{reached, communicated_by, is_left_index};
 ghost use Rattle.lower_comm.specs.News.{goes_by_news};
@@ -29,9 +29,10 @@ pub fn by_news(_t: &Typed, e: &TExpr) -> bool
 /// answers the field or the register of the address. The indexes have one value for each axis, but
 /// for a get that goes by NEWS: there they are empty, and the answer is `Nothing`.
 ///
-/// `Memory` comes where memory ends, where a number of a register, a field or an axis would be 2^32
-/// or more, and where an index that has a value is given none.
-#[tactic(auto, unfolding(crate::specs::Messages::reached, crate::specs::Messages::located, crate::specs::Messages::checked_grid, crate::specs::Messages::is_left_index, lower_base::specs::Drafts::then_make))]
+/// The values of the indexes of a scalar reference stand in registers, and those of a parallel one
+/// somewhere. `Memory` comes where memory ends, or where a number of a register, a field or an axis
+/// would be 2^32 or more.
+#[tactic(auto, unfolding(lower_base::specs::Drafts::IsMade, crate::specs::Messages::reached, crate::specs::Messages::located, crate::specs::Messages::checked_grid, crate::specs::Messages::is_left_index, lower_base::specs::Drafts::then_make))]
 pub fn locate(
     alloc: Global,
     _t: &Typed,
@@ -39,7 +40,8 @@ pub fn locate(
     indexes: &[Out],
     u: &mut Unit,
 ) -> Result<Out, Memory>
-    requires { is_left_index e.now ≡ true }
+    requires left_index { is_left_index e.now ≡ true }
+    requires made { IsMade (reached e.now indexes.now (draft u.old)) }
     ensures draft { IfOk result (λ out. reached e.now indexes.now (draft u.old) ≡ Makes out (draft u.new)) }
 {
     let TExpr::LeftIndex {
@@ -80,10 +82,10 @@ pub fn locate(
 ///   (`fold_bits`), then the old value of `s`.
 /// - A reduction: the operand, at those bits. A scan: the operand. An enumeration: no parts.
 ///
-/// `at` is `Nothing` for all but the first two, and for a read that goes by NEWS. `Memory` comes
-/// where memory ends, where a number of a register, a field or an axis would be 2^32 or more, and
-/// where `e` with these parts is not what typing makes.
-#[tactic(auto, unfolding(crate::specs::Messages::communicated_by, lower_base::specs::Drafts::from))]
+/// `at` is `Nothing` for all but the first two, and for a read that goes by NEWS. The parts stand where
+/// the communication wants them, and its variables have their fields. `Memory` comes where memory ends,
+/// or where a number of a register, a field or an axis would be 2^32 or more.
+#[tactic(auto, unfolding(lower_base::specs::Drafts::IsMade, crate::specs::Messages::communicated_by, lower_base::specs::Drafts::from))]
 pub fn comm(
     alloc: Global,
     t: &Typed,
@@ -95,6 +97,7 @@ pub fn comm(
 ) -> Result<Out, Memory>
     requires main { 0 < length t.now.instances.items }
     requires instance { IsSome (first_named 0 u.old.name t.now.instances.items) }
+    requires made { IsMade (communicated_by t.now u.old.name e.now at parts.now into (draft u.old)) }
     ensures draft { IfOk result (λ out. communicated_by t.now u.old.name e.now at parts.now into (draft u.old) ≡ Makes out (draft u.new)) }
 {
     let mut view = View::of(alloc, t, Vec::new(alloc))?;

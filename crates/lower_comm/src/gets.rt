@@ -2,7 +2,7 @@
 
 ghost use Rattle.std.specs.Prelude.{◌≡◌, ◌++◌, IfOk, OnOk};
 ghost use Rattle.paris_code.specs.declared.instr.Instr.TheVariants as I;
-ghost use Rattle.lower_base.specs.Drafts.{Makes, draft, with_instr};
+ghost use Rattle.lower_base.specs.Drafts.{IsMade, Makes, draft, with_instr};
 ghost use Rattle.lower_comm.specs.Messages.{bits_read, gotten_by_steps, hopped, is_extended, moving_part, moving_steps, read_at, stepwise, with_hop};
 
 use crate::news::{NewsStep, step_of};
@@ -13,7 +13,7 @@ use paris_code::{Field, GridStep, Instr, Konst, Owner, Unit};
 use std::alloc::Global;
 
 /// A read through a left index: of one element, by the router, or by NEWS.
-#[tactic(auto, unfolding(crate::specs::Messages::read_at, lower_base::specs::Drafts::in_register, lower_base::specs::Drafts::in_field, lower_base::specs::Drafts::then_make))]
+#[tactic(auto, unfolding(lower_base::specs::Drafts::IsMade, lower_base::specs::Drafts::InRegister, lower_base::specs::Drafts::InField, crate::specs::Messages::read_at, lower_base::specs::Drafts::in_register, lower_base::specs::Drafts::in_field, lower_base::specs::Drafts::then_make))]
 pub fn read(
     alloc: Global,
     of: u16,
@@ -24,11 +24,12 @@ pub fn read(
     into: Out,
     u: &mut Unit,
 ) -> Result<Out, Memory>
+    requires made { IsMade (read_at of indexes.now elem source at into (draft u.old)) }
     ensures draft { IfOk result (λ out. read_at of indexes.now elem source at into (draft u.old) ≡ Makes out (draft u.new)) }
 {
     match at {
         Out::Scalar(processor) => {
-            let dest = into.register()?;
+            let dest = into.register();
             put(
                 u,
                 Instr::ReadFromProcessor {
@@ -41,7 +42,7 @@ pub fn read(
             Ok(into)
         }
         Out::Field(address) => {
-            let dest = into.field()?;
+            let dest = into.field();
             if !is_extended(elem, dest) {
                 let source = first_bits(dest.len, source);
                 put(
@@ -73,7 +74,7 @@ pub fn read(
             )?;
             Ok(into)
         }
-        Out::Nothing => by_steps(alloc, of, indexes, elem, source, into.field()?, u),
+        Out::Nothing => by_steps(alloc, of, indexes, elem, source, into.field(), u),
     }
 }
 

@@ -1,8 +1,8 @@
 //! The code of one communication, over parts that stand in registers and fields already.
 
-ghost use Rattle.std.specs.Prelude.{◌≡◌, IfOk, OnOk, Some, slice_get};
+ghost use Rattle.std.specs.Prelude.{◌≡◌, IfOk, IfSome, IsSome, OnOk, Some, slice_get};
 ghost use Rattle.lower_base.specs.declared.emit.Out.TheVariants as O;
-ghost use Rattle.lower_base.specs.Drafts.{Makes, draft, then_make};
+ghost use Rattle.lower_base.specs.Drafts.{InField, InRegister, IsMade, Makes, draft, then_make};
 ghost use Rattle.lower_base.specs.Layouts.{layout};
 ghost use Rattle.lower_comm.specs.Messages.{folded_onto, with_fold, with_sign, negated_by, part_field, reduced, indexed, indexed_field, stored, sent_value, sent_to, sent, assigned, scanned, segment_field, enumerated, communicated};
 ghost use Rattle.lower_comm.specs.News.{goes_by_news};
@@ -39,7 +39,7 @@ pub fn goes_by_news(e: &TExpr) -> bool
 }
 
 /// The code of one communication.
-#[tactic(auto, unfolding(crate::specs::Messages::communicated, crate::specs::Messages::part_register, crate::specs::Messages::part_field, lower_base::specs::Drafts::from, lower_base::specs::Drafts::in_register, lower_base::specs::Drafts::in_field, lower_base::specs::Drafts::then_make))]
+#[tactic(auto, unfolding(lower_base::specs::Drafts::IsMade, lower_base::specs::Drafts::InRegister, crate::specs::Messages::communicated, crate::specs::Messages::part_register, crate::specs::Messages::part_field, lower_base::specs::Drafts::from, lower_base::specs::Drafts::in_register, lower_base::specs::Drafts::in_field, lower_base::specs::Drafts::then_make))]
 pub fn comm_in(
     view: &View,
     e: &TExpr,
@@ -48,6 +48,7 @@ pub fn comm_in(
     into: Out,
     u: &mut Unit,
 ) -> Result<Out, Memory>
+    requires made { IsMade (communicated view.now.typed.now (layout view.now.names) e.now at parts.now into (draft u.old)) }
     ensures draft { IfOk result (λ out. communicated view.now.typed.now (layout view.now.names) e.now at parts.now into (draft u.old) ≡ Makes out (draft u.new)) }
 {
     match e {
@@ -68,7 +69,7 @@ pub fn comm_in(
             ..
         } => { assign(view, target, assign_op(*op), value, at, parts, into, u) }
         TExpr::Step { target, .. } => {
-            let processor = at.register()?;
+            let processor = at.register();
             store(view, target, processor, parts, u)
         }
         TExpr::Reduce { op, operand, .. } => reduce(*op, operand, parts, into, u),
@@ -107,12 +108,12 @@ pub fn comm_in(
             };
             enumerate(view, line, *bit, into, u)
         }
-        _ => Err(Memory),
+        _ => unreachable!(),
     }
 }
 
 /// A scan of the values in the first part.
-#[tactic(auto, unfolding(crate::specs::Messages::part_field, lower_base::specs::Drafts::from, lower_base::specs::Drafts::in_field, lower_base::specs::Drafts::then_make))]
+#[tactic(auto, unfolding(lower_base::specs::Drafts::IsMade, lower_base::specs::Drafts::InField, crate::specs::Messages::part_field, lower_base::specs::Drafts::from, lower_base::specs::Drafts::in_field, lower_base::specs::Drafts::then_make))]
 fn scan_part(
     view: &View,
     combiner: Reduction,
@@ -122,15 +123,16 @@ fn scan_part(
     into: Out,
     u: &mut Unit,
 ) -> Result<Out, Memory>
+    requires made { IsMade (part_field parts.now 0 (λ values. then_make (segment_field view.now.typed.now (layout view.now.names) bit (draft u.old)) (λ bits after. scanned combiner values line bits into after))) }
     ensures draft { IfOk result (λ out. part_field parts.now 0 (λ values. then_make (segment_field view.now.typed.now (layout view.now.names) bit (draft u.old)) (λ bits after. scanned combiner values line bits into after)) ≡ Makes out (draft u.new)) }
 {
-    let source = part_field(parts, 0)?;
+    let source = part_field(parts, 0);
     let bit = segment_field(view, bit, u)?;
     scan(combiner, source, line, bit, into, u)
 }
 
 /// An assignment: a fold onto a scalar, a store to one element, or a send.
-#[tactic(auto, unfolding(crate::specs::Messages::assigned))]
+#[tactic(auto, unfolding(lower_base::specs::Drafts::IsMade, crate::specs::Messages::assigned))]
 fn assign(
     view: &View,
     target: &TExpr,
@@ -141,6 +143,7 @@ fn assign(
     into: Out,
     u: &mut Unit,
 ) -> Result<Out, Memory>
+    requires made { IsMade (assigned view.now.typed.now (layout view.now.names) target.now op value.now at parts.now into (draft u.old)) }
     ensures draft { IfOk result (λ out. assigned view.now.typed.now (layout view.now.names) target.now op value.now at parts.now into (draft u.old) ≡ Makes out (draft u.new)) }
 {
     match at {
@@ -153,28 +156,26 @@ fn assign(
     }
 }
 
-/// The register of a part.
-fn part_register(parts: &[Out], number: usize) -> Result<u32, Memory>
-    ensures { IfOk result (λ r. slice_get parts.now number ≡ Some (O.Scalar r)) }
+/// The register of a part that stands in one.
+fn part_register(parts: &[Out], number: usize) -> u32
+    requires there { IsSome (slice_get parts.now number) }
+    requires stands { IfSome (slice_get parts.now number) InRegister }
+    ensures { slice_get parts.now number ≡ Some (O.Scalar result) }
 {
-    match parts.get(number) {
-        Some(Out::Scalar(register)) => Ok(*register),
-        _ => Err(Memory),
-    }
+    parts[number].register()
 }
 
-/// The field of a part.
-fn part_field(parts: &[Out], number: usize) -> Result<Field, Memory>
-    ensures { IfOk result (λ f. slice_get parts.now number ≡ Some (O.Field f)) }
+/// The field of a part that stands in one.
+fn part_field(parts: &[Out], number: usize) -> Field
+    requires there { IsSome (slice_get parts.now number) }
+    requires stands { IfSome (slice_get parts.now number) InField }
+    ensures { slice_get parts.now number ≡ Some (O.Field result) }
 {
-    match parts.get(number) {
-        Some(Out::Field(field)) => Ok(*field),
-        _ => Err(Memory),
-    }
+    parts[number].field()
 }
 
 /// `s op= p`: the fold of the elements, and then the operator on the old value and it.
-#[tactic(auto, unfolding(crate::specs::Messages::folded_onto, crate::specs::Messages::part_register, crate::specs::Messages::part_field, lower_base::specs::Drafts::from, lower_base::specs::Drafts::in_register, lower_base::specs::Drafts::in_field, lower_base::specs::Drafts::then_make))]
+#[tactic(auto, unfolding(lower_base::specs::Drafts::IsMade, lower_base::specs::Drafts::InRegister, lower_base::specs::Drafts::InField, crate::specs::Messages::folded_onto, crate::specs::Messages::part_register, crate::specs::Messages::part_field, lower_base::specs::Drafts::from, lower_base::specs::Drafts::in_register, lower_base::specs::Drafts::in_field, lower_base::specs::Drafts::then_make))]
 fn fold_onto(
     op: Option<Op>,
     value: &TExpr,
@@ -183,12 +184,13 @@ fn fold_onto(
     into: Out,
     u: &mut Unit,
 ) -> Result<Out, Memory>
+    requires made { IsMade (folded_onto op value.now elem parts.now into (draft u.old)) }
     ensures draft { IfOk result (λ out. folded_onto op value.now elem parts.now into (draft u.old) ≡ Makes out (draft u.new)) }
 {
     let op = op.unwrap_or(Op::Add);
-    let source = part_field(parts, 0)?;
-    let old = part_register(parts, 1)?;
-    let dest = into.register()?;
+    let source = part_field(parts, 0);
+    let old = part_register(parts, 1);
+    let dest = into.register();
     let folded = register(u)?;
     fold(op, value, folded, source, u)?;
     put(
@@ -239,7 +241,7 @@ fn fold(op: Op, e: &TExpr, dest: u32, source: Field, u: &mut Unit) -> Result<(),
 }
 
 /// A unary reduction. With `-=` it is the negative of the sum.
-#[tactic(auto, unfolding(crate::specs::Messages::reduced, crate::specs::Messages::part_register, crate::specs::Messages::part_field, lower_base::specs::Drafts::from, lower_base::specs::Drafts::in_register, lower_base::specs::Drafts::in_field, lower_base::specs::Drafts::then_make))]
+#[tactic(auto, unfolding(lower_base::specs::Drafts::IsMade, lower_base::specs::Drafts::InRegister, lower_base::specs::Drafts::InField, crate::specs::Messages::reduced, crate::specs::Messages::part_register, crate::specs::Messages::part_field, lower_base::specs::Drafts::from, lower_base::specs::Drafts::in_register, lower_base::specs::Drafts::in_field, lower_base::specs::Drafts::then_make))]
 fn reduce(
     op: ReduceOp,
     operand: &TExpr,
@@ -247,10 +249,11 @@ fn reduce(
     into: Out,
     u: &mut Unit,
 ) -> Result<Out, Memory>
+    requires made { IsMade (reduced op operand.now parts.now into (draft u.old)) }
     ensures draft { IfOk result (λ out. reduced op operand.now parts.now into (draft u.old) ≡ Makes out (draft u.new)) }
 {
-    let source = part_field(parts, 0)?;
-    let dest = into.register()?;
+    let source = part_field(parts, 0);
+    let dest = into.register();
     fold(reduce_op(op), operand, dest, source, u)?;
     negate_by(op, dest, u)?;
     Ok(into)
@@ -280,18 +283,19 @@ fn indexed(e: &TExpr) -> Option<Variable>
 }
 
 /// The field of the variable of a left index.
-#[tactic(auto, unfolding(crate::specs::Messages::indexed_field, lower_base::specs::Drafts::from))]
+#[tactic(auto, unfolding(lower_base::specs::Drafts::IsMade, crate::specs::Messages::indexed_field, lower_base::specs::Drafts::from))]
 fn indexed_field(view: &View, e: &TExpr, u: &mut Unit) -> Result<Field, Memory>
+    requires made { IsMade (indexed_field view.now.typed.now (layout view.now.names) e.now (draft u.old)) }
     ensures draft { IfOk result (λ f. indexed_field view.now.typed.now (layout view.now.names) e.now (draft u.old) ≡ Makes f (draft u.new)) }
 {
-    match indexed(e) {
-        Some(variable) => view.field(variable, 0, u),
-        None => Err(Memory),
-    }
+    let Some(variable) = indexed(e) else {
+        unreachable!()
+    };
+    view.field(variable, 0, u)
 }
 
 /// A store to one element.
-#[tactic(auto, unfolding(crate::specs::Messages::stored, crate::specs::Messages::part_register, crate::specs::Messages::part_field, lower_base::specs::Drafts::from, lower_base::specs::Drafts::in_register, lower_base::specs::Drafts::in_field, lower_base::specs::Drafts::then_make))]
+#[tactic(auto, unfolding(lower_base::specs::Drafts::IsMade, lower_base::specs::Drafts::InRegister, crate::specs::Messages::stored, crate::specs::Messages::part_register, crate::specs::Messages::part_field, lower_base::specs::Drafts::from, lower_base::specs::Drafts::in_register, lower_base::specs::Drafts::in_field, lower_base::specs::Drafts::then_make))]
 fn store(
     view: &View,
     target: &TExpr,
@@ -299,10 +303,11 @@ fn store(
     parts: &[Out],
     u: &mut Unit,
 ) -> Result<Out, Memory>
+    requires made { IsMade (stored view.now.typed.now (layout view.now.names) target.now processor parts.now (draft u.old)) }
     ensures draft { IfOk result (λ out. stored view.now.typed.now (layout view.now.names) target.now processor parts.now (draft u.old) ≡ Makes out (draft u.new)) }
 {
     let dest = indexed_field(view, target, u)?;
-    let value = part_register(parts, 0)?;
+    let value = part_register(parts, 0);
     put(
         u,
         Instr::WriteToProcessor {
@@ -315,7 +320,7 @@ fn store(
 }
 
 /// A send through a left index.
-#[tactic(auto, unfolding(crate::specs::Messages::sent, crate::specs::Messages::part_register, crate::specs::Messages::part_field, lower_base::specs::Drafts::from, lower_base::specs::Drafts::in_register, lower_base::specs::Drafts::in_field, lower_base::specs::Drafts::then_make))]
+#[tactic(auto, unfolding(lower_base::specs::Drafts::IsMade, lower_base::specs::Drafts::InRegister, lower_base::specs::Drafts::InField, crate::specs::Messages::sent, crate::specs::Messages::part_register, crate::specs::Messages::part_field, lower_base::specs::Drafts::from, lower_base::specs::Drafts::in_register, lower_base::specs::Drafts::in_field, lower_base::specs::Drafts::then_make))]
 fn send(
     view: &View,
     target: &TExpr,
@@ -325,10 +330,11 @@ fn send(
     parts: &[Out],
     u: &mut Unit,
 ) -> Result<Out, Memory>
+    requires made { IsMade (sent view.now.typed.now (layout view.now.names) target.now op signed address parts.now (draft u.old)) }
     ensures draft { IfOk result (λ out. sent view.now.typed.now (layout view.now.names) target.now op signed address parts.now (draft u.old) ≡ Makes out (draft u.new)) }
 {
     let dest = indexed_field(view, target, u)?;
-    let value = part_field(parts, 0)?;
+    let value = part_field(parts, 0);
     send_to(op, signed, target.ty().elem, dest, address, value, u)
 }
 
@@ -402,7 +408,7 @@ struct Line {
 }
 
 /// An enumeration: a scan of ones.
-#[tactic(auto, unfolding(crate::specs::Messages::enumerated, lower_base::specs::Drafts::in_field, lower_base::specs::Drafts::then_make))]
+#[tactic(auto, unfolding(lower_base::specs::Drafts::IsMade, lower_base::specs::Drafts::InField, crate::specs::Messages::enumerated, lower_base::specs::Drafts::in_field, lower_base::specs::Drafts::then_make))]
 fn enumerate(
     view: &View,
     line: Line,
@@ -410,9 +416,10 @@ fn enumerate(
     into: Out,
     u: &mut Unit,
 ) -> Result<Out, Memory>
+    requires made { IsMade (enumerated view.now.typed.now (layout view.now.names) line bit into (draft u.old)) }
     ensures draft { IfOk result (λ out. enumerated view.now.typed.now (layout view.now.names) line bit into (draft u.old) ≡ Makes out (draft u.new)) }
 {
-    let dest = into.field()?;
+    let dest = into.field();
     let ones = field(u, dest.set, 32)?;
     put(
         u,
@@ -426,7 +433,7 @@ fn enumerate(
 }
 
 /// A scan along its lines.
-#[tactic(auto, unfolding(crate::specs::Messages::scanned, lower_base::specs::Drafts::in_field))]
+#[tactic(auto, unfolding(lower_base::specs::Drafts::IsMade, lower_base::specs::Drafts::InField, crate::specs::Messages::scanned, lower_base::specs::Drafts::in_field))]
 fn scan(
     combiner: Reduction,
     source: Field,
@@ -435,9 +442,10 @@ fn scan(
     into: Out,
     u: &mut Unit,
 ) -> Result<Out, Memory>
+    requires made { IsMade (scanned combiner source line bit into (draft u.old)) }
     ensures draft { IfOk result (λ out. scanned combiner source line bit into (draft u.old) ≡ Makes out (draft u.new)) }
 {
-    let dest = into.field()?;
+    let dest = into.field();
     put(
         u,
         Instr::Scan {
@@ -455,8 +463,9 @@ fn scan(
 }
 
 /// The field of a scan's segment bits.
-#[tactic(auto, unfolding(crate::specs::Messages::segment_field, lower_base::specs::Drafts::then_make))]
+#[tactic(auto, unfolding(lower_base::specs::Drafts::IsMade, crate::specs::Messages::segment_field, lower_base::specs::Drafts::then_make))]
 fn segment_field(view: &View, bit: Option<Variable>, u: &mut Unit) -> Result<Option<Field>, Memory>
+    requires made { IsMade (segment_field view.now.typed.now (layout view.now.names) bit (draft u.old)) }
     ensures draft { IfOk result (λ bits. segment_field view.now.typed.now (layout view.now.names) bit (draft u.old) ≡ Makes bits (draft u.new)) }
 {
     match bit {

@@ -1,5 +1,5 @@
 -- The lengths and the code of lists of expressions, as they stand in memory.
-use Rattle.std.proofs.Common.{◌≡◌, ℕ, ◌+◌, List, [], ◌∷◌, ◌++◌, length, slice_get, Option, Some, None, Vec, Box, refl, ap, ◌∙◌, Bool, true, false, ◌&&◌, if◌then◌else◌, is_none}
+use Rattle.std.proofs.Common.{◌≡◌, ℕ, ◌+◌, List, [], ◌∷◌, ◌++◌, length, slice_get, Option, Some, None, Vec, Box, refl, sym, subst, ap, ◌∙◌, Bool, true, false, ◌&&◌, if◌then◌else◌, is_none}
 use Rattle.std.specs.declared.alloc.Global.{Global}
 use mathlib.Core.Former.{Count}
 use Rattle.cstar_base.specs.declared.operators.Place.{Place}
@@ -13,7 +13,8 @@ use Rattle.cstar_tree.specs.Typed.{type_of}
 use Rattle.lower_base.specs.declared.emit.Out.{Out}
 use Rattle.lower_base.specs.declared.emit.Out.TheVariants as O
 use Rattle.lower_base.specs.Constants.{word_in}
-use Rattle.lower_base.specs.Drafts.{Draft, Made, Makes, Fails, then_make, fresh_for}
+use Rattle.lower_base.specs.Drafts.{Draft, Made, Makes, Fails, IsMade, then_make, fresh_for}
+use Rattle.lower_base.proofs.Made.{first_made}
 use Rattle.lower_base.specs.Layouts.{Layout}
 use Rattle.lower_base.specs.Kinds.{bits_of, kind_of}
 use Rattle.lower_comm.specs.Messages.{located}
@@ -200,3 +201,39 @@ spot_of_left_index t l ty place indexes x of d =
     (λ at begun. then_make (values_in t l false (all_quiet indexes.items) indexes.items [] begun) (λ parts between. then_make (located e parts at between) (λ out after. Makes (S.Indexed out) after)))
     (λ at begun. ap (λ (m : Made (List Out)). then_make m (λ parts between. then_make (located e parts at between) (λ out after. Makes (S.Indexed out) after)))
     (values_of_items t l false row.0 row.1 indexes.items (items_hidden-the_row-TExpr-0 indexes) [] begun)))
+
+-- what is made of such an expression is made of its list
+pub call_made : (t : Typed) (l : Layout) (bits : ℕ) (e : TExpr) (ty : ValueType) (instance : ℕ) (arguments : Vec TExpr Global) (given : List TExpr) (dest : Out) (d begun : Draft) →
+    e ≡ T.Call ty instance arguments → given ≡ arguments.items → fresh_for ty.shape bits d ≡ Makes dest begun →
+    IsMade (value_of t l bits e d) → IsMade (call_of t l instance given dest begun)
+call_made t l bits e ty instance arguments given dest d begun is same fresh made =
+    let whole = subst (λ (x : TExpr). IsMade (value_of t l bits x d)) is made in
+    let items = subst (λ (m : Made Out). IsMade m) (value_of_call t l bits ty instance arguments dest d begun fresh) whole in
+    subst (λ (xs : List TExpr). IsMade (call_of t l instance xs dest begun)) (sym same) items
+
+pub computed_call_made : (t : Typed) (l : Layout) (e : TExpr) (ty : ValueType) (instance : ℕ) (arguments : Vec TExpr Global) (given : List TExpr) (dest : Out) (d : Draft) →
+    e ≡ T.Call ty instance arguments → given ≡ arguments.items →
+    IsMade (computed_to t l dest e d) → IsMade (call_of t l instance given dest d)
+unfolding computed_to gone_to
+computed_call_made t l e ty instance arguments given dest d is same made =
+    let whole = subst (λ (x : TExpr). IsMade (computed_to t l dest x d)) is made in
+    let items = subst (λ (m : Made Out). IsMade (gone_to dest m)) (call_to_of_row t l ty instance arguments dest d) whole in
+    subst (λ (xs : List TExpr). IsMade (call_of t l instance xs dest d)) (sym same) (first_made _ _ items)
+
+pub printf_made : (t : Typed) (l : Layout) (bits : ℕ) (e : TExpr) (ty : ValueType) (pieces : Vec Piece Global) (arguments : Vec TExpr Global) (texts : List Piece) (given : List TExpr) (d : Draft) →
+    e ≡ T.Printf ty pieces arguments → texts ≡ pieces.items → given ≡ arguments.items →
+    IsMade (value_of t l bits e d) → IsMade (print_of t l texts given d)
+printf_made t l bits e ty pieces arguments texts given d is written same made =
+    let whole = subst (λ (x : TExpr). IsMade (value_of t l bits x d)) is made in
+    let items = subst (λ (m : Made Out). IsMade m) (value_of_printf t l bits ty pieces arguments d) whole in
+    let there = subst (λ (ps : List Piece). IsMade (print_of t l ps arguments.items d)) (sym written) items in
+    subst (λ (xs : List TExpr). IsMade (print_of t l texts xs d)) (sym same) there
+
+pub left_index_made : (t : Typed) (l : Layout) (e : TExpr) (ty : ValueType) (place : Place) (indexes : Vec TExpr Global) (x : Variable) (of : ℕ) (given : List TExpr) (d : Draft) →
+    e ≡ T.LeftIndex ty place indexes x of → given ≡ indexes.items →
+    IsMade (spot_of t l e d) → IsMade (indexed_spot t l e (values_in t l false (all_quiet given) given) d)
+left_index_made t l e ty place indexes x of given d is same made =
+    let whole = subst (λ (y : TExpr). IsMade (spot_of t l y d)) is made in
+    let items = subst (λ (m : Made Spot). IsMade m) (spot_of_left_index t l ty place indexes x of d) whole in
+    let there = subst (λ (xs : List TExpr). IsMade (indexed_spot t l (T.LeftIndex ty place indexes x of) (values_in t l false (all_quiet xs) xs) d)) (sym same) items in
+    subst (λ (y : TExpr). IsMade (indexed_spot t l y (values_in t l false (all_quiet given) given) d)) (sym is) there

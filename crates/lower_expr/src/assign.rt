@@ -1,7 +1,7 @@
 //! What an assignment or a step does once its target is located and its value is there.
 
 ghost use Rattle.std.specs.Prelude.{◌≡◌, IfOk, OnOk};
-ghost use Rattle.lower_base.specs.Drafts.{Makes, draft, out_of};
+ghost use Rattle.lower_base.specs.Drafts.{IsMade, Makes, draft, out_of};
 ghost use Rattle.lower_base.specs.Layouts.{layout};
 ghost use Rattle.lower_expr.specs.Lengths.{is_send};
 ghost use Rattle.lower_expr.specs.Values.{field_updated, register_updated, register_folded, step_operation, stepped_once, stepped_at, stepped_in};
@@ -26,7 +26,7 @@ pub struct Located<'a> {
 }
 
 /// A located parallel target takes the result of the operator on its old value and the new one.
-#[tactic(auto, unfolding(crate::specs::Values::field_updated, lower_base::specs::Drafts::then_make))]
+#[tactic(auto, unfolding(lower_base::specs::Drafts::IsMade, crate::specs::Values::field_updated, lower_base::specs::Drafts::then_make))]
 pub fn update_field(
     view: &View,
     located: &Located,
@@ -36,54 +36,57 @@ pub fn update_field(
     v: Right,
     u: &mut Unit,
 ) -> Result<Out, Memory>
+    requires made { IsMade (field_updated view.now.typed.now (layout view.now.names) located.now.whole.now operator.op operator.signed operator.place located.now.target.now dest spare located.now.spot v (draft u.old)) }
     ensures draft { IfOk result (λ out. field_updated view.now.typed.now (layout view.now.names) located.now.whole.now operator.op operator.signed operator.place located.now.target.now dest spare located.now.spot v (draft u.old) ≡ Makes out (draft u.new)) }
 {
     let result = Operand::Field(dest);
     load(view, located.target, located.spot, result, u)?;
     operate_right(operator, dest, dest, v, spare, u)?;
     convert(result, located.target.ty().elem, u)?;
-    store(view, located.whole, located.spot, result, u)?;
+    store(view, located.whole, located.spot, result.out(), u)?;
     Ok(result.out())
 }
 
 /// A located scalar target takes the result of the operator on its old value and a scalar one.
-#[tactic(auto, unfolding(crate::specs::Values::register_updated, lower_base::specs::Drafts::then_make, lower_base::specs::Drafts::in_register))]
+#[tactic(auto, unfolding(lower_base::specs::Drafts::IsMade, lower_base::specs::Drafts::InRegister, crate::specs::Values::register_updated, lower_base::specs::Drafts::then_make, lower_base::specs::Drafts::in_register))]
 pub fn update_register(
     view: &View,
     located: &Located,
     operator: Operator,
     dest: u32,
-    v: Operand,
+    v: Out,
     u: &mut Unit,
 ) -> Result<Out, Memory>
-    ensures draft { IfOk result (λ out. register_updated view.now.typed.now (layout view.now.names) located.now.whole.now operator.op operator.signed operator.place located.now.target.now dest located.now.spot (out_of v) (draft u.old) ≡ Makes out (draft u.new)) }
+    requires made { IsMade (register_updated view.now.typed.now (layout view.now.names) located.now.whole.now operator.op operator.signed operator.place located.now.target.now dest located.now.spot v (draft u.old)) }
+    ensures draft { IfOk result (λ out. register_updated view.now.typed.now (layout view.now.names) located.now.whole.now operator.op operator.signed operator.place located.now.target.now dest located.now.spot v (draft u.old) ≡ Makes out (draft u.new)) }
 {
     let result = Operand::Register(dest);
     load(view, located.target, located.spot, result, u)?;
-    operate(operator, dest, dest, v.register()?, u)?;
+    operate(operator, dest, dest, v.register(), u)?;
     convert(result, located.target.ty().elem, u)?;
-    store(view, located.whole, located.spot, result, u)?;
+    store(view, located.whole, located.spot, result.out(), u)?;
     Ok(result.out())
 }
 
 /// A located scalar target takes the result of the operator on its old value and the elements of a
 /// parallel one.
-#[tactic(auto, unfolding(crate::specs::Values::register_folded, lower_base::specs::Drafts::then_make))]
+#[tactic(auto, unfolding(lower_base::specs::Drafts::IsMade, crate::specs::Values::register_folded, lower_base::specs::Drafts::then_make))]
 pub fn fold_into_register(
     view: &View,
     located: &Located,
     dest: u32,
-    v: Operand,
+    v: Out,
     u: &mut Unit,
 ) -> Result<Out, Memory>
-    ensures draft { IfOk result (λ out. register_folded view.now.typed.now (layout view.now.names) located.now.whole.now located.now.target.now dest located.now.spot (out_of v) (draft u.old) ≡ Makes out (draft u.new)) }
+    requires made { IsMade (register_folded view.now.typed.now (layout view.now.names) located.now.whole.now located.now.target.now dest located.now.spot v (draft u.old)) }
+    ensures draft { IfOk result (λ out. register_folded view.now.typed.now (layout view.now.names) located.now.whole.now located.now.target.now dest located.now.spot v (draft u.old) ≡ Makes out (draft u.new)) }
 {
     let old = Operand::Register(register(u)?);
     let result = Operand::Register(dest);
     load(view, located.target, located.spot, old, u)?;
-    let parts = [v.out(), old.out()];
+    let parts = [v, old.out()];
     comm_in(view, located.whole, Out::Nothing, &parts, result.out(), u)?;
-    store(view, located.whole, located.spot, result, u)?;
+    store(view, located.whole, located.spot, result.out(), u)?;
     Ok(result.out())
 }
 
@@ -100,7 +103,7 @@ pub fn is_send(target: &TExpr) -> bool
 
 /// `++` or `--` of a located target: the value before it, and the value behind it in a second
 /// register or field.
-#[tactic(auto, unfolding(crate::specs::Values::stepped_in, lower_base::specs::Drafts::then_make))]
+#[tactic(auto, unfolding(lower_base::specs::Drafts::IsMade, crate::specs::Values::stepped_in, lower_base::specs::Drafts::then_make))]
 pub fn step_in(
     view: &View,
     located: &Located,
@@ -110,6 +113,7 @@ pub fn step_in(
     second: Operand,
     u: &mut Unit,
 ) -> Result<Out, Memory>
+    requires made { IsMade (stepped_in view.now.typed.now (layout view.now.names) located.now.whole.now op order located.now.target.now located.now.spot (out_of outcome) (out_of second) (draft u.old)) }
     ensures draft { IfOk result (λ out. stepped_in view.now.typed.now (layout view.now.names) located.now.whole.now op order located.now.target.now located.now.spot (out_of outcome) (out_of second) (draft u.old) ≡ Makes out (draft u.new)) }
 {
     match order {
@@ -124,7 +128,7 @@ pub fn step_in(
 }
 
 /// The step itself, from the old value to the new one.
-#[tactic(auto, unfolding(crate::specs::Values::stepped_at, lower_base::specs::Drafts::then_make))]
+#[tactic(auto, unfolding(lower_base::specs::Drafts::IsMade, crate::specs::Values::stepped_at, lower_base::specs::Drafts::then_make))]
 fn step_at(
     view: &View,
     located: &Located,
@@ -133,16 +137,17 @@ fn step_at(
     behind: Operand,
     u: &mut Unit,
 ) -> Result<(), Memory>
+    requires made { IsMade (stepped_at view.now.typed.now (layout view.now.names) located.now.whole.now op located.now.target.now located.now.spot (out_of before) (out_of behind) (draft u.old)) }
     ensures draft { OnOk result (stepped_at view.now.typed.now (layout view.now.names) located.now.whole.now op located.now.target.now located.now.spot (out_of before) (out_of behind) (draft u.old) ≡ Makes (out_of behind) (draft u.new)) }
 {
     load(view, located.target, located.spot, before, u)?;
     step_once(view, op, before, behind, u)?;
     convert(behind, located.target.ty().elem, u)?;
-    store(view, located.whole, located.spot, behind, u)
+    store(view, located.whole, located.spot, behind.out(), u)
 }
 
 /// One more or one less.
-#[tactic(auto, unfolding(crate::specs::Values::stepped_once, lower_base::specs::Drafts::then_make, lower_base::specs::Drafts::in_register, lower_base::specs::Drafts::in_field))]
+#[tactic(auto, unfolding(lower_base::specs::Drafts::IsMade, lower_base::specs::Drafts::InRegister, lower_base::specs::Drafts::InField, crate::specs::Values::stepped_once, lower_base::specs::Drafts::then_make, lower_base::specs::Drafts::in_register, lower_base::specs::Drafts::in_field))]
 fn step_once(
     view: &View,
     op: StepOp,
@@ -150,12 +155,13 @@ fn step_once(
     behind: Operand,
     u: &mut Unit,
 ) -> Result<(), Memory>
+    requires made { IsMade (stepped_once (layout view.now.names) op (out_of before) (out_of behind) (draft u.old)) }
     ensures draft { OnOk result (stepped_once (layout view.now.names) op (out_of before) (out_of behind) (draft u.old) ≡ Makes (out_of behind) (draft u.new)) }
 {
     let op = step_operation(op);
     match behind {
         Operand::Register(dest) => {
-            let left = before.register()?;
+            let left = before.register();
             let right = view.word(1, u)?;
             put(
                 u,
@@ -168,7 +174,7 @@ fn step_once(
             )
         }
         Operand::Field(dest) => {
-            let left = before.field()?;
+            let left = before.field();
             let right = Konst::Imm(1);
             put(
                 u,

@@ -1,7 +1,7 @@
 //! The call on a unit as `lower` has it when it comes to an expression.
 
 ghost use Rattle.std.specs.Prelude.{◌≡◌, ◌<◌, length, IfOk, IsSome};
-ghost use Rattle.lower_base.specs.Drafts.{Makes, draft};
+ghost use Rattle.lower_base.specs.Drafts.{IsMade, Makes, draft};
 ghost use Rattle.lower_base.specs.Layouts.{first_named};
 ghost use Rattle.lower_expr.specs.Values.{expression_of};
 
@@ -18,12 +18,14 @@ use std::alloc::Global;
 /// expression is parallel, else in a register, or nowhere where it has none. The numbering of the
 /// variables is that of the first instance with the unit's name, and no constant stands in a register.
 ///
-/// `Memory` comes where memory ends, where a count, the place that a jump leads to, or the number of
-/// a register or a field would be 2^32 or more, and where the tree is not what typing makes.
-#[tactic(auto, unfolding(crate::specs::Values::expression_of, lower_base::specs::Drafts::from))]
+/// The expression has code, as each has that typing makes. `Memory` comes where memory ends, and where
+/// a count, the place that a jump leads to, or the number of a register or a field would be 2^32 or
+/// more.
+#[tactic(auto, unfolding(lower_base::specs::Drafts::IsMade, crate::specs::Values::expression_of, lower_base::specs::Drafts::from))]
 pub fn expr(alloc: Global, t: &Typed, e: &TExpr, u: &mut Unit) -> Result<Out, Memory>
     requires main { 0 < length t.now.instances.items }
     requires instance { IsSome (first_named 0 u.old.name t.now.instances.items) }
+    requires made { IsMade (expression_of t.now u.old.name e.now (draft u.old)) }
     ensures draft { IfOk result (λ out. expression_of t.now u.old.name e.now (draft u.old) ≡ Makes out (draft u.new)) }
 {
     let mut view = View::of(alloc, t, Vec::new(alloc))?;
@@ -32,7 +34,7 @@ pub fn expr(alloc: Global, t: &Typed, e: &TExpr, u: &mut Unit) -> Result<Out, Me
     };
     view.enter(instance)?;
     match e.ty().shape {
-        Some(set) => Ok(spread(&view, e.ty().elem.bits, e, set, u)?.out()),
+        Some(set) => spread(&view, e.ty().elem.bits, e, set, u),
         None => value(&view, 32, e, u),
     }
 }

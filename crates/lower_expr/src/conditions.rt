@@ -2,7 +2,7 @@
 
 ghost use Rattle.std.specs.Prelude.{◌≡◌, true, if◌then◌else◌, IfOk, OnOk};
 ghost use Rattle.lower_base.specs.declared.emit.Out.TheVariants as O;
-ghost use Rattle.lower_base.specs.Drafts.{Makes, draft, out_of};
+ghost use Rattle.lower_base.specs.Drafts.{IsMade, Makes, draft, out_of};
 ghost use Rattle.lower_base.specs.Kinds.{bits_of, kind_of};
 ghost use Rattle.lower_base.specs.Layouts.{layout};
 ghost use Rattle.lower_base.specs.Operators.{relates};
@@ -33,7 +33,7 @@ use paris_code::{Field, Instr, Konst, Unit};
 
 /// `||`, or else `&&`.
 #[cycle(value)]
-#[tactic(auto, unfolding(crate::specs::Values::logical_by, crate::specs::Values::condition_by, lower_base::specs::Drafts::then_make))]
+#[tactic(auto, unfolding(lower_base::specs::Drafts::IsMade, crate::specs::Values::logical_by, crate::specs::Values::condition_by, lower_base::specs::Drafts::then_make))]
 pub fn logical(
     view: &View,
     is_or: bool,
@@ -43,6 +43,7 @@ pub fn logical(
     right: &TExpr,
     u: &mut Unit,
 ) -> Result<Out, Memory>
+    requires made { IsMade (logical_by is_or shape bits (condition_of view.now.typed.now (layout view.now.names) left.now) (condition_of view.now.typed.now (layout view.now.names) right.now) (draft u.old)) }
     ensures draft { IfOk result (λ out. logical_by is_or shape bits (condition_of view.now.typed.now (layout view.now.names) left.now) (condition_of view.now.typed.now (layout view.now.names) right.now) (draft u.old) ≡ Makes out (draft u.new)) }
 {
     match shape {
@@ -56,7 +57,7 @@ pub fn logical(
 
 /// `||`, or else `&&`, of scalars. The result begins as what a decided left operand gives.
 #[cycle(value)]
-#[tactic(auto, unfolding(crate::specs::Values::scalar_logical_by, lower_base::specs::Drafts::then_make, lower_base::specs::Drafts::in_register))]
+#[tactic(auto, unfolding(lower_base::specs::Drafts::IsMade, lower_base::specs::Drafts::IsSomewhere, crate::specs::Values::scalar_logical_by, crate::specs::Values::decided, crate::specs::Values::logical_ended, lower_base::specs::Drafts::then_make, lower_base::specs::Drafts::in_register))]
 fn scalar_logical(
     view: &View,
     is_or: bool,
@@ -64,34 +65,37 @@ fn scalar_logical(
     right: &TExpr,
     u: &mut Unit,
 ) -> Result<Out, Memory>
+    requires made { IsMade (scalar_logical_by is_or (next_of view.now.typed.now (layout view.now.names) (bits_of (kind_of left.now)) true left.now) (next_of view.now.typed.now (layout view.now.names) (bits_of (kind_of right.now)) true right.now) (used_length_of view.now.typed.now (layout view.now.names) (bits_of (kind_of right.now)) true right.now) (draft u.old)) }
     ensures draft { IfOk result (λ out. scalar_logical_by is_or (next_of view.now.typed.now (layout view.now.names) (bits_of (kind_of left.now)) true left.now) (next_of view.now.typed.now (layout view.now.names) (bits_of (kind_of right.now)) true right.now) (used_length_of view.now.typed.now (layout view.now.names) (bits_of (kind_of right.now)) true right.now) (draft u.old) ≡ Makes out (draft u.new)) }
 {
     let dest = constant(u32::from(is_or), u)?;
     let a = operand(view, test_bits(left), true, left, u)?;
     let length = used_length(view, test_bits(right), true, right)?;
-    let end = decide(is_or, a, length, 3, u)?;
+    let end = decide(is_or, a.operand(), length, 3, u)?;
     let b = operand(view, test_bits(right), true, right, u)?;
-    end_logical(is_or, dest, b, end, u)
+    end_logical(is_or, dest, b.operand(), end, u)
 }
 
 /// The test flags become whether a parallel value is not zero.
 #[cycle(value)]
-#[tactic(auto, unfolding(crate::specs::Values::tested_by, crate::specs::Values::nonzero_tested, lower_base::specs::Drafts::then_make, lower_base::specs::Drafts::in_field))]
+#[tactic(auto, unfolding(lower_base::specs::Drafts::IsMade, lower_base::specs::Drafts::InField, crate::specs::Values::tested_by, crate::specs::Values::nonzero_tested, lower_base::specs::Drafts::then_make, lower_base::specs::Drafts::in_field))]
 pub fn test(view: &View, e: &TExpr, u: &mut Unit) -> Result<(), Memory>
+    requires made { IsMade (tested view.now.typed.now (layout view.now.names) e.now (draft u.old)) }
     ensures draft { OnOk result (tested view.now.typed.now (layout view.now.names) e.now (draft u.old) ≡ Makes tt (draft u.new)) }
 {
     if has_truth(e) {
         return test_truth(view, e, u);
     }
-    let source = operand(view, test_bits(e), true, e, u)?.field()?;
+    let source = operand(view, test_bits(e), true, e, u)?.field();
     put(u, Instr::NeZero { source })
 }
 
 /// The test flags of a value that has a truth without its value.
 #[cycle(value)]
-#[tactic(auto, using(crate::proofs::Relations::compares, crate::proofs::Relations::operates), unfolding(crate::specs::Steps::has_truth, crate::specs::Values::truth_of, crate::specs::Values::zero_tested, crate::specs::Values::relation_by, lower_base::specs::Drafts::then_make, lower_base::specs::Drafts::in_field))]
+#[tactic(auto, using(crate::proofs::Relations::compares, crate::proofs::Relations::operates), unfolding(lower_base::specs::Drafts::IsMade, lower_base::specs::Drafts::InField, crate::specs::Steps::has_truth, crate::specs::Values::truth_of, crate::specs::Values::zero_tested, crate::specs::Values::relation_by, lower_base::specs::Drafts::then_make, lower_base::specs::Drafts::in_field))]
 pub fn test_truth(view: &View, e: &TExpr, u: &mut Unit) -> Result<(), Memory>
-    requires { has_truth e.now ≡ true }
+    requires truth { has_truth e.now ≡ true }
+    requires made { IsMade (truth_of view.now.typed.now (layout view.now.names) e.now (draft u.old)) }
     ensures draft { OnOk result (truth_of view.now.typed.now (layout view.now.names) e.now (draft u.old) ≡ Makes tt (draft u.new)) }
 {
     match e {
@@ -101,7 +105,7 @@ pub fn test_truth(view: &View, e: &TExpr, u: &mut Unit) -> Result<(), Memory>
             put(u, Instr::NeZero { source })
         }
         TExpr::Unary { operand: inner, .. } => {
-            let source = operand(view, test_bits(inner), true, inner, u)?.field()?;
+            let source = operand(view, test_bits(inner), true, inner, u)?.field();
             put(u, Instr::EqZero { source })
         }
         TExpr::Binary {
@@ -125,9 +129,10 @@ pub fn test_truth(view: &View, e: &TExpr, u: &mut Unit) -> Result<(), Memory>
 
 /// The test flags become whether a relation holds, that of the binary operator.
 #[cycle(value)]
-#[tactic(auto, using(crate::proofs::Relations::compares, crate::proofs::Relations::operates), unfolding(crate::specs::Values::relation_by, lower_base::specs::Drafts::then_make))]
+#[tactic(auto, using(crate::proofs::Relations::compares, crate::proofs::Relations::operates), unfolding(lower_base::specs::Drafts::IsMade, crate::specs::Values::relation_by, lower_base::specs::Drafts::then_make))]
 fn test_relation(view: &View, set: u16, binary: &Binary, u: &mut Unit) -> Result<(), Memory>
-    requires { relates binary.now.op ≡ true }
+    requires relation { relates binary.now.op ≡ true }
+    requires made { IsMade (relation_by set binary.now.op (next_of view.now.typed.now (layout view.now.names) (bits_of (relation_kind binary.now.left.now binary.now.right.now)) (is_quiet binary.now.right.now) binary.now.left.now) binary.now.left.now (next_of view.now.typed.now (layout view.now.names) (bits_of (relation_kind binary.now.left.now binary.now.right.now)) true binary.now.right.now) binary.now.right.now (draft u.old)) }
     ensures draft { OnOk result (relation_by set binary.now.op (next_of view.now.typed.now (layout view.now.names) (bits_of (relation_kind binary.now.left.now binary.now.right.now)) (is_quiet binary.now.right.now) binary.now.left.now) binary.now.left.now (next_of view.now.typed.now (layout view.now.names) (bits_of (relation_kind binary.now.left.now binary.now.right.now)) true binary.now.right.now) binary.now.right.now (draft u.old) ≡ Makes tt (draft u.new)) }
 {
     let Operator { op, signed, .. } = binary.parallel_operator();
@@ -143,7 +148,7 @@ fn test_relation(view: &View, set: u16, binary: &Binary, u: &mut Unit) -> Result
 
 /// `||`, or else `&&`, with a parallel operand.
 #[cycle(value)]
-#[tactic(auto, unfolding(crate::specs::Values::parallel_logical_by, crate::specs::Values::joined_of, crate::specs::Values::condition_by, lower_base::specs::Drafts::then_make))]
+#[tactic(auto, unfolding(lower_base::specs::Drafts::IsMade, crate::specs::Values::parallel_logical_by, crate::specs::Values::joined_of, crate::specs::Values::condition_by, lower_base::specs::Drafts::then_make))]
 fn parallel_logical(
     view: &View,
     is_or: bool,
@@ -152,6 +157,7 @@ fn parallel_logical(
     dest: Field,
     u: &mut Unit,
 ) -> Result<Out, Memory>
+    requires made { IsMade (parallel_logical_by is_or dest (condition_of view.now.typed.now (layout view.now.names) left.now) (condition_of view.now.typed.now (layout view.now.names) right.now) (draft u.old)) }
     ensures draft { IfOk result (λ out. parallel_logical_by is_or dest (condition_of view.now.typed.now (layout view.now.names) left.now) (condition_of view.now.typed.now (layout view.now.names) right.now) (draft u.old) ≡ Makes out (draft u.new)) }
 {
     if joins(left, right) {
@@ -164,7 +170,7 @@ fn parallel_logical(
 
 /// `||`, or else `&&`, of two fields of one bit becomes the value of a field.
 #[cycle(value)]
-#[tactic(auto, unfolding(crate::specs::Values::joined_of, crate::specs::Values::joined_by, crate::specs::Values::flag_of, crate::specs::Values::condition_by, lower_base::specs::Drafts::then_make))]
+#[tactic(auto, unfolding(lower_base::specs::Drafts::IsMade, crate::specs::Values::joined_of, crate::specs::Values::joined_by, crate::specs::Values::flag_of, crate::specs::Values::condition_by, lower_base::specs::Drafts::then_make))]
 pub fn join_to(
     view: &View,
     is_or: bool,
@@ -173,6 +179,7 @@ pub fn join_to(
     dest: Field,
     u: &mut Unit,
 ) -> Result<(), Memory>
+    requires made { IsMade (joined_of view.now.typed.now (layout view.now.names) is_or dest left.now right.now (draft u.old)) }
     ensures draft { OnOk result (joined_of view.now.typed.now (layout view.now.names) is_or dest left.now right.now (draft u.old) ≡ Makes (O.Field dest) (draft u.new)) }
 {
     let a = flag_operand(view, left, dest.set, u)?;
@@ -182,12 +189,13 @@ pub fn join_to(
 
 /// An operand of `&&` or `||` as a field of one bit: its value, if that has one, and else its test.
 #[cycle(value)]
-#[tactic(auto, unfolding(crate::specs::Joined::flag_by, lower_base::specs::Drafts::then_make, lower_base::specs::Drafts::in_field))]
+#[tactic(auto, unfolding(lower_base::specs::Drafts::IsMade, lower_base::specs::Drafts::InField, crate::specs::Joined::flag_by, lower_base::specs::Drafts::then_make, lower_base::specs::Drafts::in_field))]
 fn flag_operand(view: &View, e: &TExpr, set: u16, u: &mut Unit) -> Result<Field, Memory>
+    requires made { IsMade (flag_by (is_flag e.now) set (next_of view.now.typed.now (layout view.now.names) (bits_of (kind_of e.now)) true e.now) (tested view.now.typed.now (layout view.now.names) e.now) (draft u.old)) }
     ensures draft { IfOk result (λ f. flag_by (is_flag e.now) set (next_of view.now.typed.now (layout view.now.names) (bits_of (kind_of e.now)) true e.now) (tested view.now.typed.now (layout view.now.names) e.now) (draft u.old) ≡ Makes f (draft u.new)) }
 {
     if is_flag(e) {
-        return operand(view, test_bits(e), true, e, u)?.field();
+        return Ok(operand(view, test_bits(e), true, e, u)?.field());
     }
     test(view, e, u)?;
     keep_test(set, u)
@@ -195,7 +203,7 @@ fn flag_operand(view: &View, e: &TExpr, set: u16, u: &mut Unit) -> Result<Field,
 
 /// The result of `||`, or else `&&`, begins as what a decided left operand gives.
 #[cycle(value)]
-#[tactic(auto, unfolding(crate::specs::Values::narrowing_by, crate::specs::Values::condition_by, lower_base::specs::Drafts::then_make))]
+#[tactic(auto, unfolding(lower_base::specs::Drafts::IsMade, crate::specs::Values::narrowing_by, crate::specs::Values::condition_by, lower_base::specs::Drafts::then_make))]
 fn decide_or_narrow(
     view: &View,
     is_or: bool,
@@ -204,6 +212,7 @@ fn decide_or_narrow(
     dest: Field,
     u: &mut Unit,
 ) -> Result<Out, Memory>
+    requires made { IsMade (narrowing_by is_or dest (condition_of view.now.typed.now (layout view.now.names) left.now) (condition_of view.now.typed.now (layout view.now.names) right.now) (draft u.old)) }
     ensures draft { IfOk result (λ out. narrowing_by is_or dest (condition_of view.now.typed.now (layout view.now.names) left.now) (condition_of view.now.typed.now (layout view.now.names) right.now) (draft u.old) ≡ Makes out (draft u.new)) }
 {
     let saved = flag(u, dest.set)?;
@@ -218,7 +227,7 @@ fn decide_or_narrow(
 
 /// A scalar left operand decides by a jump over the test of the parallel right one.
 #[cycle(value)]
-#[tactic(auto, unfolding(crate::specs::Values::decided_by, crate::specs::Values::truth_put, lower_base::specs::Drafts::then_make))]
+#[tactic(auto, unfolding(lower_base::specs::Drafts::IsMade, lower_base::specs::Drafts::IsSomewhere, crate::specs::Values::decided_by, crate::specs::Values::decided, crate::specs::Values::truth_put, lower_base::specs::Drafts::then_make, lower_base::specs::Drafts::in_register))]
 fn jump_or_test(
     view: &View,
     is_or: bool,
@@ -227,11 +236,12 @@ fn jump_or_test(
     right: &TExpr,
     u: &mut Unit,
 ) -> Result<Out, Memory>
+    requires made { IsMade (decided_by is_or dest (next_of view.now.typed.now (layout view.now.names) (bits_of (kind_of left.now)) true left.now) (tested view.now.typed.now (layout view.now.names) right.now) (tested_length view.now.typed.now (layout view.now.names) right.now) (draft u.old)) }
     ensures draft { IfOk result (λ out. decided_by is_or dest (next_of view.now.typed.now (layout view.now.names) (bits_of (kind_of left.now)) true left.now) (tested view.now.typed.now (layout view.now.names) right.now) (tested_length view.now.typed.now (layout view.now.names) right.now) (draft u.old) ≡ Makes out (draft u.new)) }
 {
     let a = operand(view, test_bits(left), true, left, u)?;
     let own = plus(1, test_put_length(dest.len))?;
-    decide(is_or, a, test_length(view, right)?, own, u)?;
+    decide(is_or, a.operand(), test_length(view, right)?, own, u)?;
     test(view, right, u)?;
     test_value(dest, u)?;
     Ok(Out::Field(dest))
@@ -240,7 +250,7 @@ fn jump_or_test(
 /// Behind a parallel left operand: the context is narrowed by it for the right one, and by that one
 /// for the result; then it is restored.
 #[cycle(value)]
-#[tactic(auto, unfolding(crate::specs::Values::limited_by, crate::specs::Values::jumped_over, crate::specs::Values::narrowed_again, lower_base::specs::Drafts::then_make))]
+#[tactic(auto, unfolding(lower_base::specs::Drafts::IsMade, lower_base::specs::Drafts::IsSomewhere, crate::specs::Values::limited_by, crate::specs::Values::jumped_over, crate::specs::Values::jumped, crate::specs::Values::narrowed_again, lower_base::specs::Drafts::then_make, lower_base::specs::Drafts::in_register))]
 fn narrow_twice(
     view: &View,
     is_or: bool,
@@ -250,6 +260,7 @@ fn narrow_twice(
     right: &TExpr,
     u: &mut Unit,
 ) -> Result<Out, Memory>
+    requires made { IsMade (limited_by is_or dest saved (tested view.now.typed.now (layout view.now.names) left.now) (if is_kept right.now then jumped_over is_or (next_of view.now.typed.now (layout view.now.names) (bits_of (kind_of right.now)) true right.now) else narrowed_again is_or dest.set (tested view.now.typed.now (layout view.now.names) right.now)) (draft u.old)) }
     ensures draft { IfOk result (λ out. limited_by is_or dest saved (tested view.now.typed.now (layout view.now.names) left.now) (if is_kept right.now then jumped_over is_or (next_of view.now.typed.now (layout view.now.names) (bits_of (kind_of right.now)) true right.now) else narrowed_again is_or dest.set (tested view.now.typed.now (layout view.now.names) right.now)) (draft u.old) ≡ Makes out (draft u.new)) }
 {
     test(view, left, u)?;
@@ -257,7 +268,7 @@ fn narrow_twice(
     narrow(is_or, dest.set, u)?;
     if stays_scalar(right) {
         let b = operand(view, test_bits(right), true, right, u)?;
-        jump_to_end(is_or, b, u)?;
+        jump_to_end(is_or, b.operand(), u)?;
     } else {
         test(view, right, u)?;
         narrow(is_or, dest.set, u)?;
@@ -270,7 +281,7 @@ fn narrow_twice(
 
 /// `?:`.
 #[cycle(value)]
-#[tactic(auto, unfolding(crate::specs::Values::choice_of, crate::specs::Values::choice_by, crate::specs::Values::scalar_choice_of, crate::specs::Values::parallel_choice_of, lower_base::specs::Drafts::then_make))]
+#[tactic(auto, unfolding(lower_base::specs::Drafts::IsMade, crate::specs::Values::choice_of, crate::specs::Values::choice_by, crate::specs::Values::scalar_choice_of, crate::specs::Values::parallel_choice_of, lower_base::specs::Drafts::then_make))]
 pub fn choose(
     view: &View,
     ty: ValueType,
@@ -278,6 +289,7 @@ pub fn choose(
     choice: &Choice,
     u: &mut Unit,
 ) -> Result<Out, Memory>
+    requires made { IsMade (choice_of view.now.typed.now (layout view.now.names) ty bits choice.now.test.now choice.now.then.now choice.now.otherwise.now (draft u.old)) }
     ensures draft { IfOk result (λ out. choice_of view.now.typed.now (layout view.now.names) ty bits choice.now.test.now choice.now.then.now choice.now.otherwise.now (draft u.old) ≡ Makes out (draft u.new)) }
 {
     let dest = fresh(ty, bits, u)?;
@@ -291,7 +303,7 @@ pub fn choose(
 
 /// `?:` with a scalar condition: one of the two is evaluated, into this register or field.
 #[cycle(value)]
-#[tactic(auto, unfolding(crate::specs::Values::scalar_choice_of, crate::specs::Values::scalar_choice_by, lower_base::specs::Drafts::then_make))]
+#[tactic(auto, unfolding(lower_base::specs::Drafts::IsMade, lower_base::specs::Drafts::IsSomewhere, crate::specs::Values::scalar_choice_of, crate::specs::Values::scalar_choice_by, crate::specs::Values::decided, lower_base::specs::Drafts::then_make, lower_base::specs::Drafts::in_register))]
 pub fn scalar_choice(
     view: &View,
     ty: ValueType,
@@ -300,11 +312,12 @@ pub fn scalar_choice(
     dest: Operand,
     u: &mut Unit,
 ) -> Result<(), Memory>
+    requires made { IsMade (scalar_choice_of view.now.typed.now (layout view.now.names) ty bits choice.now.test.now choice.now.then.now choice.now.otherwise.now (out_of dest) (draft u.old)) }
     ensures draft { OnOk result (scalar_choice_of view.now.typed.now (layout view.now.names) ty bits choice.now.test.now choice.now.then.now choice.now.otherwise.now (out_of dest) (draft u.old) ≡ Makes (out_of dest) (draft u.new)) }
 {
     let c = operand(view, test_bits(choice.test), true, choice.test, u)?;
     let length = arm_length(view, ty, bits, choice.then)?;
-    let other = decide(false, c, length, 2, u)?;
+    let other = decide(false, c.operand(), length, 2, u)?;
     arm(view, bits, dest, choice.then, u)?;
     let target = plus(other, arm_length(view, ty, bits, choice.otherwise)?)?;
     put(u, Instr::FrontJump { target })?;
@@ -313,7 +326,7 @@ pub fn scalar_choice(
 
 /// `?:` with a parallel condition: both are evaluated, each where it counts.
 #[cycle(value)]
-#[tactic(auto, unfolding(crate::specs::Values::parallel_choice_of, crate::specs::Values::parallel_choice_by, lower_base::specs::Drafts::then_make, lower_base::specs::Drafts::in_field))]
+#[tactic(auto, unfolding(lower_base::specs::Drafts::IsMade, lower_base::specs::Drafts::IsSomewhere, lower_base::specs::Drafts::InField, crate::specs::Values::parallel_choice_of, crate::specs::Values::parallel_choice_by, crate::specs::Values::limited, lower_base::specs::Drafts::then_make, lower_base::specs::Drafts::in_field))]
 fn parallel_choice(
     view: &View,
     bits: u8,
@@ -321,9 +334,10 @@ fn parallel_choice(
     dest: Operand,
     u: &mut Unit,
 ) -> Result<(), Memory>
+    requires made { IsMade (parallel_choice_of view.now.typed.now (layout view.now.names) bits choice.now.test.now choice.now.then.now choice.now.otherwise.now (out_of dest) (draft u.old)) }
     ensures draft { OnOk result (parallel_choice_of view.now.typed.now (layout view.now.names) bits choice.now.test.now choice.now.then.now choice.now.otherwise.now (out_of dest) (draft u.old) ≡ Makes (out_of dest) (draft u.new)) }
 {
-    let saved = flag(u, dest.field()?.set)?;
+    let saved = flag(u, dest.field().set)?;
     let c = operand(
         view,
         test_bits(choice.test),
@@ -331,7 +345,7 @@ fn parallel_choice(
         choice.test,
         u,
     )?;
-    let condition = limit(saved, c, u)?;
+    let condition = limit(saved, c.operand(), u)?;
     arm(view, bits, dest, choice.then, u)?;
     turn_over(saved, condition, u)?;
     arm(view, bits, dest, choice.otherwise, u)?;
@@ -340,15 +354,16 @@ fn parallel_choice(
 
 /// An arm of `?:` becomes the value of a register or a field; a constant does so in one instruction.
 #[cycle(value)]
-#[tactic(auto, unfolding(crate::specs::Values::arm_of, crate::specs::Values::arm_by, lower_base::specs::Drafts::then_make))]
+#[tactic(auto, unfolding(lower_base::specs::Drafts::IsMade, lower_base::specs::Drafts::IsSomewhere, crate::specs::Values::arm_of, crate::specs::Values::arm_by, crate::specs::Steps::put_value, crate::specs::Steps::put_in_field, lower_base::specs::Drafts::then_make, lower_base::specs::Drafts::in_register))]
 fn arm(view: &View, bits: u8, dest: Operand, e: &TExpr, u: &mut Unit) -> Result<(), Memory>
+    requires made { IsMade (arm_of view.now.typed.now (layout view.now.names) bits e.now (out_of dest) (draft u.old)) }
     ensures draft { OnOk result (arm_of view.now.typed.now (layout view.now.names) bits e.now (out_of dest) (draft u.old) ≡ Makes (out_of dest) (draft u.new)) }
 {
     match word_for(dest, e) {
         Some(word) => put_word(dest, word, u),
         None => {
             let v = operand(view, bits, true, e, u)?;
-            set(dest, v, u)
+            set(dest, v.operand(), u)
         }
     }
 }

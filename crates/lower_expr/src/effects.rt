@@ -1,12 +1,15 @@
 //! The code of an expression whose value goes to a variable, decides where a context is narrowed, or
 //! is not used. The last instruction of a value writes the variable itself.
 
-ghost use Rattle.std.specs.Prelude.{◌≡◌, IfOk, OnOk};
+ghost use Rattle.std.specs.Prelude.{◌≡◌, true, false, IfOk, OnOk};
 ghost use Rattle.lower_base.specs.declared.emit.Out.TheVariants as O;
-ghost use Rattle.lower_base.specs.Drafts.{Makes, draft, out_of};
+ghost use Rattle.lower_base.specs.Drafts.{IsMade, Makes, draft, out_of, then_make};
 ghost use Rattle.lower_base.specs.Layouts.{layout};
 ghost use Rattle.lower_expr.specs.Effects.{assigned_own, assignment_effect, binary_to, bits_for, cast_to, computed_to, converted_to, effect_of, field_binary_to, field_operated, fits_field, folds, goes_unchanged, keeps_bits, logical_to, moved, put_to, register_converted, register_operated, stepped_own, variable_assigned, variable_operated, variable_stepped, whole_of, with_settled, writes_itself, written_register};
-ghost use Rattle.lower_expr.specs.Values.{step_operation, value_of};
+ghost use Rattle.lower_expr.specs.Kinds.{unary_bits};
+ghost use Rattle.lower_expr.specs.Operands.{is_plus};
+ghost use Rattle.lower_expr.specs.Steps.{negated};
+ghost use Rattle.lower_expr.specs.Values.{next_of, step_operation, value_of};
 
 use crate::assign::step_operation;
 use crate::conditions::{join_to, scalar_choice, test};
@@ -23,15 +26,16 @@ use crate::steps::{
 use crate::value::{binary_in_field, binary_in_register, call_to, message_to, value};
 use cstar_base::{Elem, Memory, Op};
 use cstar_tree::syntax::{AssignOp, StepOp};
-use cstar_tree::typed::TExpr;
+use cstar_tree::typed::{TExpr, UnaryOp};
 use lower_base::emit::{field, put, register};
 use lower_base::operators::{assign_op, is_relation};
 use lower_base::{Operand, Out, View};
 use paris_code::{Field, Instr, Konst, Unit};
 
 /// An expression whose value is not used.
-#[tactic(auto, unfolding(crate::specs::Effects::effect_of, crate::specs::Effects::step_effect, lower_base::specs::Drafts::then_make))]
+#[tactic(auto, unfolding(lower_base::specs::Drafts::IsMade, crate::specs::Effects::effect_of, crate::specs::Effects::step_effect, lower_base::specs::Drafts::then_make))]
 pub fn effect(view: &View, e: &TExpr, u: &mut Unit) -> Result<Out, Memory>
+    requires made { IsMade (effect_of view.now.typed.now (layout view.now.names) e.now (draft u.old)) }
     ensures draft { IfOk result (λ out. effect_of view.now.typed.now (layout view.now.names) e.now (draft u.old) ≡ Makes out (draft u.new)) }
 {
     match e {
@@ -65,13 +69,14 @@ pub fn effect(view: &View, e: &TExpr, u: &mut Unit) -> Result<Out, Memory>
 }
 
 /// An assignment whose value is not used, of which else so many bits were wanted.
-#[tactic(auto, unfolding(crate::specs::Effects::assignment_effect, lower_base::specs::Drafts::then_make))]
+#[tactic(auto, unfolding(lower_base::specs::Drafts::IsMade, crate::specs::Effects::assignment_effect, lower_base::specs::Drafts::then_make))]
 fn assign_effect(
     view: &View,
     bits: u8,
     assignment: &Assignment,
     u: &mut Unit,
 ) -> Result<Out, Memory>
+    requires made { IsMade (assignment_effect view.now.typed.now (layout view.now.names) assignment.now.op assignment.now.place assignment.now.target.now assignment.now.value.now (value_of view.now.typed.now (layout view.now.names) bits assignment.now.whole.now) (draft u.old)) }
     ensures draft { IfOk result (λ out. assignment_effect view.now.typed.now (layout view.now.names) assignment.now.op assignment.now.place assignment.now.target.now assignment.now.value.now (value_of view.now.typed.now (layout view.now.names) bits assignment.now.whole.now) (draft u.old) ≡ Makes out (draft u.new)) }
 {
     match assigned_own(assignment.op, assignment.target, assignment.value) {
@@ -85,7 +90,9 @@ fn assign_effect(
 }
 
 /// A variable, with all its bits.
+#[tactic(auto, unfolding(lower_base::specs::Drafts::IsMade))]
 fn whole(view: &View, target: &TExpr, own: Own, u: &mut Unit) -> Result<Operand, Memory>
+    requires made { IsMade (whole_of view.now.typed.now (layout view.now.names) target.now own (draft u.old)) }
     ensures draft { IfOk result (λ v. whole_of view.now.typed.now (layout view.now.names) target.now own (draft u.old) ≡ Makes (out_of v) (draft u.new)) }
 {
     standing(view, target.ty().elem.bits, own, u)
@@ -140,12 +147,14 @@ fn folds(own: Own, value: &TExpr) -> bool
 }
 
 /// An assignment that writes its variable itself.
+#[tactic(auto, unfolding(lower_base::specs::Drafts::IsMade))]
 fn assign_variable(
     view: &View,
     assignment: &Assignment,
     dest: Operand,
     u: &mut Unit,
 ) -> Result<(), Memory>
+    requires made { IsMade (variable_assigned view.now.typed.now (layout view.now.names) assignment.now.op assignment.now.place assignment.now.target.now assignment.now.value.now (out_of dest) (draft u.old)) }
     ensures draft { OnOk result (variable_assigned view.now.typed.now (layout view.now.names) assignment.now.op assignment.now.place assignment.now.target.now assignment.now.value.now (out_of dest) (draft u.old) ≡ Makes (out_of dest) (draft u.new)) }
 {
     match assign_op(assignment.op) {
@@ -156,8 +165,9 @@ fn assign_variable(
 
 /// A value becomes that of a register, or as many of its bits as a field has that of the field. Its last
 /// instruction writes there.
-#[tactic(auto, unfolding(crate::specs::Effects::put_to))]
+#[tactic(auto, unfolding(lower_base::specs::Drafts::IsMade, crate::specs::Effects::put_to))]
 pub fn put_to(view: &View, dest: Operand, e: &TExpr, u: &mut Unit) -> Result<(), Memory>
+    requires made { IsMade (put_to view.now.typed.now (layout view.now.names) (out_of dest) e.now (draft u.old)) }
     ensures draft { OnOk result (put_to view.now.typed.now (layout view.now.names) (out_of dest) e.now (draft u.old) ≡ Makes (out_of dest) (draft u.new)) }
 {
     match word_for(dest, e) {
@@ -167,8 +177,9 @@ pub fn put_to(view: &View, dest: Operand, e: &TExpr, u: &mut Unit) -> Result<(),
 }
 
 /// A value that is no constant becomes that of a register or a field.
-#[tactic(auto, unfolding(crate::specs::Effects::computed_to, crate::specs::Effects::gone_to, lower_base::specs::Drafts::then_make, lower_base::specs::Drafts::in_field, lower_base::specs::Drafts::in_register))]
+#[tactic(auto, unfolding(lower_base::specs::Drafts::IsMade, lower_base::specs::Drafts::InRegister, lower_base::specs::Drafts::InField, crate::specs::Effects::computed_to, crate::specs::Effects::gone_to, lower_base::specs::Drafts::then_make, lower_base::specs::Drafts::in_field, lower_base::specs::Drafts::in_register))]
 fn compute_to(view: &View, dest: Operand, e: &TExpr, u: &mut Unit) -> Result<(), Memory>
+    requires made { IsMade (computed_to view.now.typed.now (layout view.now.names) (out_of dest) e.now (draft u.old)) }
     ensures draft { OnOk result (computed_to view.now.typed.now (layout view.now.names) (out_of dest) e.now (draft u.old) ≡ Makes (out_of dest) (draft u.new)) }
 {
     match e {
@@ -187,9 +198,7 @@ fn compute_to(view: &View, dest: Operand, e: &TExpr, u: &mut Unit) -> Result<(),
             if is_plus(*op) {
                 return compute_to(view, dest, inner, u);
             }
-            let bits = unary_bits(bits_for(dest), *op, inner);
-            let v = operand(view, bits, true, inner, u)?;
-            unary(view, *op, dest, v, u)
+            negate_to(view, dest, *op, inner, u)
         }
         TExpr::Binary {
             place,
@@ -209,7 +218,7 @@ fn compute_to(view: &View, dest: Operand, e: &TExpr, u: &mut Unit) -> Result<(),
         TExpr::LogicalOr { left, right, .. } => logical_to(view, dest, e, true, left, right, u),
         TExpr::LogicalAnd { left, right, .. } => logical_to(view, dest, e, false, left, right, u),
         TExpr::Pcoord { axis, .. } => {
-            let field = dest.field()?;
+            let field = dest.field();
             put(
                 u,
                 Instr::MyNewsCoordinate {
@@ -219,7 +228,7 @@ fn compute_to(view: &View, dest: Operand, e: &TExpr, u: &mut Unit) -> Result<(),
             )
         }
         TExpr::GetChar { .. } => {
-            let register = dest.register()?;
+            let register = dest.register();
             put(u, Instr::FrontGetByte { dest: register })
         }
         TExpr::Choice {
@@ -263,13 +272,34 @@ fn compute_to(view: &View, dest: Operand, e: &TExpr, u: &mut Unit) -> Result<(),
             call_to(view, *instance, arguments.as_slice(), dest, u)?;
             Ok(())
         }
-        _ => move_to(view, dest, e, u),
+        _ => {
+            #[tactic(auto, unfolding(crate::specs::Effects::computed_to, crate::specs::Effects::gone_to, lower_base::specs::Drafts::then_make, lower_base::specs::Drafts::in_field, lower_base::specs::Drafts::in_register))]
+            return move_to(view, dest, e, u);
+        }
     }
+}
+
+/// A unary operator other than `+`, whose result goes to a register or a field.
+#[tactic(auto, unfolding(lower_base::specs::Drafts::IsMade, lower_base::specs::Drafts::IsSomewhere, crate::specs::Steps::negated, lower_base::specs::Drafts::then_make, lower_base::specs::Drafts::in_register, lower_base::specs::Drafts::in_field))]
+fn negate_to(
+    view: &View,
+    dest: Operand,
+    op: UnaryOp,
+    inner: &TExpr,
+    u: &mut Unit,
+) -> Result<(), Memory>
+    requires coded { is_plus op ≡ false }
+    requires made { IsMade (then_make (next_of view.now.typed.now (layout view.now.names) (unary_bits (bits_for (out_of dest)) op inner.now) true inner.now (draft u.old)) (λ v after. negated (layout view.now.names) op (out_of dest) v after)) }
+    ensures draft { OnOk result (then_make (next_of view.now.typed.now (layout view.now.names) (unary_bits (bits_for (out_of dest)) op inner.now) true inner.now (draft u.old)) (λ v after. negated (layout view.now.names) op (out_of dest) v after) ≡ Makes (out_of dest) (draft u.new)) }
+{
+    let bits = unary_bits(bits_for(dest), op, inner);
+    let v = operand(view, bits, true, inner, u)?;
+    unary(view, op, dest, v.operand(), u)
 }
 
 /// `||`, or else `&&`, the value `e`, whose result goes to a register or a field: by its operation
 /// where it is one of two fields of one bit.
-#[tactic(auto, unfolding(crate::specs::Effects::logical_to))]
+#[tactic(auto, unfolding(lower_base::specs::Drafts::IsMade, crate::specs::Effects::logical_to))]
 fn logical_to(
     view: &View,
     dest: Operand,
@@ -279,6 +309,7 @@ fn logical_to(
     right: &TExpr,
     u: &mut Unit,
 ) -> Result<(), Memory>
+    requires made { IsMade (logical_to view.now.typed.now (layout view.now.names) (out_of dest) e.now is_or left.now right.now (draft u.old)) }
     ensures draft { OnOk result (logical_to view.now.typed.now (layout view.now.names) (out_of dest) e.now is_or left.now right.now (draft u.old) ≡ Makes (out_of dest) (draft u.new)) }
 {
     match dest {
@@ -321,16 +352,17 @@ pub fn keeps_bits(bits: u8, elem: Elem, inner: &TExpr) -> bool
 }
 
 /// A value moved to a register or a field.
-#[tactic(auto, unfolding(crate::specs::Effects::moved, lower_base::specs::Drafts::then_make))]
+#[tactic(auto, unfolding(lower_base::specs::Drafts::IsMade, lower_base::specs::Drafts::IsSomewhere, crate::specs::Effects::moved, crate::specs::Steps::put_value, crate::specs::Steps::put_in_field, lower_base::specs::Drafts::then_make, lower_base::specs::Drafts::in_register))]
 pub fn move_to(view: &View, dest: Operand, e: &TExpr, u: &mut Unit) -> Result<(), Memory>
+    requires made { IsMade (moved view.now.typed.now (layout view.now.names) (out_of dest) e.now (draft u.old)) }
     ensures draft { OnOk result (moved view.now.typed.now (layout view.now.names) (out_of dest) e.now (draft u.old) ≡ Makes (out_of dest) (draft u.new)) }
 {
     let v = operand(view, bits_for(dest), true, e, u)?;
-    set(dest, v, u)
+    set(dest, v.operand(), u)
 }
 
 /// A value `e`, which is `inner` converted to a type.
-#[tactic(auto, unfolding(crate::specs::Effects::converted_to))]
+#[tactic(auto, unfolding(lower_base::specs::Drafts::IsMade, crate::specs::Effects::converted_to))]
 fn convert_to(
     view: &View,
     dest: Operand,
@@ -339,6 +371,7 @@ fn convert_to(
     inner: &TExpr,
     u: &mut Unit,
 ) -> Result<(), Memory>
+    requires made { IsMade (converted_to view.now.typed.now (layout view.now.names) (out_of dest) e.now elem inner.now (draft u.old)) }
     ensures draft { OnOk result (converted_to view.now.typed.now (layout view.now.names) (out_of dest) e.now elem inner.now (draft u.old) ≡ Makes (out_of dest) (draft u.new)) }
 {
     match dest {
@@ -348,7 +381,7 @@ fn convert_to(
 }
 
 /// A value `e` that goes to a field, which is `inner` converted to a type.
-#[tactic(auto, unfolding(crate::specs::Effects::cast_to, crate::specs::Values::truth_put, crate::specs::Values::extended, lower_base::specs::Drafts::then_make))]
+#[tactic(auto, unfolding(lower_base::specs::Drafts::IsMade, lower_base::specs::Drafts::IsSomewhere, crate::specs::Effects::cast_to, crate::specs::Values::truth_put, crate::specs::Values::extended, lower_base::specs::Drafts::then_make, lower_base::specs::Drafts::in_field))]
 fn cast_to(
     view: &View,
     dest: Field,
@@ -357,6 +390,7 @@ fn cast_to(
     inner: &TExpr,
     u: &mut Unit,
 ) -> Result<(), Memory>
+    requires made { IsMade (cast_to view.now.typed.now (layout view.now.names) dest e.now elem inner.now (draft u.old)) }
     ensures draft { OnOk result (cast_to view.now.typed.now (layout view.now.names) dest e.now elem inner.now (draft u.old) ≡ Makes (O.Field dest) (draft u.new)) }
 {
     if stays_scalar(inner) {
@@ -366,12 +400,12 @@ fn cast_to(
         test_value(dest, u)
     } else {
         let v = operand(view, elem.bits, true, inner, u)?;
-        extend(elem.signed, dest, v, u)
+        extend(elem.signed, dest, v.operand(), u)
     }
 }
 
 /// A value converted into a register.
-#[tactic(auto, unfolding(crate::specs::Effects::register_converted, lower_base::specs::Drafts::then_make, lower_base::specs::Drafts::in_register))]
+#[tactic(auto, unfolding(lower_base::specs::Drafts::IsMade, lower_base::specs::Drafts::InRegister, crate::specs::Effects::register_converted, lower_base::specs::Drafts::then_make, lower_base::specs::Drafts::in_register))]
 fn convert_to_register(
     view: &View,
     dest: u32,
@@ -379,14 +413,15 @@ fn convert_to_register(
     inner: &TExpr,
     u: &mut Unit,
 ) -> Result<(), Memory>
+    requires made { IsMade (register_converted view.now.typed.now (layout view.now.names) dest kind inner.now (draft u.old)) }
     ensures draft { OnOk result (register_converted view.now.typed.now (layout view.now.names) dest kind inner.now (draft u.old) ≡ Makes (O.Scalar dest) (draft u.new)) }
 {
-    let source = operand(view, 32, true, inner, u)?.register()?;
+    let source = operand(view, 32, true, inner, u)?.register();
     put(u, Instr::FrontConvert { dest, source, kind })
 }
 
 /// A binary operator, the value `e`, whose result goes to a register or a field.
-#[tactic(auto, unfolding(crate::specs::Effects::binary_to))]
+#[tactic(auto, unfolding(lower_base::specs::Drafts::IsMade, crate::specs::Effects::binary_to))]
 fn binary_to(
     view: &View,
     dest: Operand,
@@ -394,6 +429,7 @@ fn binary_to(
     binary: &Binary,
     u: &mut Unit,
 ) -> Result<(), Memory>
+    requires made { IsMade (binary_to view.now.typed.now (layout view.now.names) (out_of dest) e.now binary.now.op binary.now.place binary.now.left.now binary.now.right.now (draft u.old)) }
     ensures draft { OnOk result (binary_to view.now.typed.now (layout view.now.names) (out_of dest) e.now binary.now.op binary.now.place binary.now.left.now binary.now.right.now (draft u.old) ≡ Makes (out_of dest) (draft u.new)) }
 {
     match dest {
@@ -404,7 +440,7 @@ fn binary_to(
 
 /// A binary operator, the value `e`, whose result goes to a field: by its last instruction where it
 /// works at as many bits.
-#[tactic(auto, unfolding(crate::specs::Effects::field_binary_to, lower_base::specs::Drafts::then_make))]
+#[tactic(auto, unfolding(lower_base::specs::Drafts::IsMade, crate::specs::Effects::field_binary_to, lower_base::specs::Drafts::then_make))]
 fn binary_to_field(
     view: &View,
     dest: Field,
@@ -412,6 +448,7 @@ fn binary_to_field(
     binary: &Binary,
     u: &mut Unit,
 ) -> Result<(), Memory>
+    requires made { IsMade (field_binary_to view.now.typed.now (layout view.now.names) dest e.now binary.now.op binary.now.place binary.now.left.now binary.now.right.now (draft u.old)) }
     ensures draft { OnOk result (field_binary_to view.now.typed.now (layout view.now.names) dest e.now binary.now.op binary.now.place binary.now.left.now binary.now.right.now (draft u.old) ≡ Makes (O.Field dest) (draft u.new)) }
 {
     if !fits_field(dest.len, binary.op, binary.right) {
@@ -453,7 +490,7 @@ fn settle(kind: Elem, source: u32, dest: u32, u: &mut Unit) -> Result<(), Memory
 }
 
 /// An operator on a variable and a value.
-#[tactic(auto, unfolding(crate::specs::Effects::variable_operated))]
+#[tactic(auto, unfolding(lower_base::specs::Drafts::IsMade, crate::specs::Effects::variable_operated))]
 fn operate_variable(
     view: &View,
     assignment: &Assignment,
@@ -461,6 +498,7 @@ fn operate_variable(
     dest: Operand,
     u: &mut Unit,
 ) -> Result<(), Memory>
+    requires made { IsMade (variable_operated view.now.typed.now (layout view.now.names) op assignment.now.place assignment.now.target.now assignment.now.value.now (out_of dest) (draft u.old)) }
     ensures draft { OnOk result (variable_operated view.now.typed.now (layout view.now.names) op assignment.now.place assignment.now.target.now assignment.now.value.now (out_of dest) (draft u.old) ≡ Makes (out_of dest) (draft u.new)) }
 {
     let value = assignment.value;
@@ -478,7 +516,7 @@ fn operate_variable(
 }
 
 /// An operator on a scalar variable.
-#[tactic(auto, unfolding(crate::specs::Effects::register_operated, lower_base::specs::Drafts::then_make, lower_base::specs::Drafts::in_register))]
+#[tactic(auto, unfolding(lower_base::specs::Drafts::IsMade, lower_base::specs::Drafts::InRegister, crate::specs::Effects::register_operated, lower_base::specs::Drafts::then_make, lower_base::specs::Drafts::in_register))]
 fn operate_register(
     view: &View,
     operator: Operator,
@@ -487,16 +525,17 @@ fn operate_register(
     value: &TExpr,
     u: &mut Unit,
 ) -> Result<(), Memory>
+    requires made { IsMade (register_operated view.now.typed.now (layout view.now.names) operator.op operator.signed operator.place elem variable value.now (draft u.old)) }
     ensures draft { OnOk result (register_operated view.now.typed.now (layout view.now.names) operator.op operator.signed operator.place elem variable value.now (draft u.old) ≡ Makes (O.Scalar variable) (draft u.new)) }
 {
-    let right = operand(view, 32, true, value, u)?.register()?;
+    let right = operand(view, 32, true, value, u)?.register();
     let written = written_register(elem, variable, u)?;
     operate(operator, written, variable, right, u)?;
     settle(elem, written, variable, u)
 }
 
 /// An operator on a parallel variable, at its bits.
-#[tactic(auto, unfolding(crate::specs::Effects::field_operated, lower_base::specs::Drafts::then_make))]
+#[tactic(auto, unfolding(lower_base::specs::Drafts::IsMade, crate::specs::Effects::field_operated, lower_base::specs::Drafts::then_make))]
 fn operate_field(
     view: &View,
     operator: Operator,
@@ -504,6 +543,7 @@ fn operate_field(
     value: &TExpr,
     u: &mut Unit,
 ) -> Result<(), Memory>
+    requires made { IsMade (field_operated view.now.typed.now (layout view.now.names) operator.op operator.signed operator.place variable value.now (draft u.old)) }
     ensures draft { OnOk result (field_operated view.now.typed.now (layout view.now.names) operator.op operator.signed operator.place variable value.now (draft u.old) ≡ Makes (O.Field variable) (draft u.new)) }
 {
     let spare = field(u, variable.set, variable.len)?;

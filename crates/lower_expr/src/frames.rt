@@ -3,7 +3,7 @@
 
 ghost use Rattle.std.specs.Prelude.{◌≡◌, IfOk, OnOk};
 ghost use Rattle.lower_base.specs.declared.emit.Out.TheVariants as O;
-ghost use Rattle.lower_base.specs.Drafts.{Makes, draft, out_of};
+ghost use Rattle.lower_base.specs.Drafts.{IsMade, Makes, draft, out_of};
 ghost use Rattle.lower_base.specs.Layouts.{layout};
 ghost use Rattle.lower_expr.specs.Frames.{turn_and_call, zeroed_entry, register_given, field_given, result_given, finished, argument_passed, passed, called};
 
@@ -15,7 +15,7 @@ use lower_base::{Operand, Out, View};
 use paris_code::{Field, Instr, Owner, Unit};
 
 /// Calls an instance with these arguments, and answers where its result is.
-#[tactic(auto, unfolding(crate::specs::Frames::called, lower_base::specs::Layouts::layout, lower_base::specs::Drafts::from))]
+#[tactic(auto, unfolding(lower_base::specs::Drafts::IsMade, crate::specs::Frames::called, lower_base::specs::Layouts::layout, lower_base::specs::Drafts::from))]
 pub fn enter(
     view: &View,
     number: u32,
@@ -23,13 +23,14 @@ pub fn enter(
     dest: Operand,
     u: &mut Unit,
 ) -> Result<Out, Memory>
+    requires made { IsMade (called view.now.typed.now (layout view.now.names) number arguments.now (out_of dest) (draft u.old)) }
     ensures draft { IfOk result (λ out. called view.now.typed.now (layout view.now.names) number arguments.now (out_of dest) (draft u.old) ≡ Makes out (draft u.new)) }
 {
     let (Some(callee), Some(base)) = (
         view.typed.instances.get(number as usize),
         view.names.bases.get(number as usize),
     ) else {
-        return Err(Memory);
+        unreachable!()
     };
     pass_all(
         number,
@@ -43,7 +44,7 @@ pub fn enter(
 }
 
 /// Each parameter takes its argument, and then the instance is called.
-#[tactic(auto, unfolding(crate::specs::Frames::passed, lower_base::specs::Drafts::then_make))]
+#[tactic(auto, unfolding(lower_base::specs::Drafts::IsMade, crate::specs::Frames::passed, lower_base::specs::Drafts::then_make))]
 fn pass_all(
     unit: u32,
     callee: &Instance,
@@ -53,6 +54,7 @@ fn pass_all(
     dest: Operand,
     u: &mut Unit,
 ) -> Result<Out, Memory>
+    requires made { IsMade (passed unit callee.now.result params.now arguments.now base 0 (out_of dest) (draft u.old)) }
     ensures draft { IfOk result (λ out. passed unit callee.now.result params.now arguments.now base 0 (out_of dest) (draft u.old) ≡ Makes out (draft u.new)) }
 {
     let mut register = base;
@@ -70,7 +72,7 @@ fn pass_all(
 }
 
 /// A parameter takes its argument; answers the number of the next parallel one.
-#[tactic(auto, unfolding(crate::specs::Frames::argument_passed, lower_base::specs::Drafts::then_make))]
+#[tactic(auto, unfolding(lower_base::specs::Drafts::IsMade, lower_base::specs::Drafts::IsSomewhere, crate::specs::Frames::argument_passed, crate::specs::Steps::put_value, crate::specs::Steps::put_in_field, lower_base::specs::Drafts::in_register, lower_base::specs::Drafts::then_make))]
 fn pass(
     unit: u32,
     param: &VarInfo,
@@ -79,16 +81,17 @@ fn pass(
     argument: Out,
     u: &mut Unit,
 ) -> Result<u32, Memory>
+    requires made { IsMade (argument_passed unit param.now register index argument (draft u.old)) }
     ensures draft { IfOk result (λ next. argument_passed unit param.now register index argument (draft u.old) ≡ Makes next (draft u.new)) }
 {
     match param.shape {
         None => {
-            set(Operand::Register(register), argument.operand()?, u)?;
+            set(Operand::Register(register), argument.operand(), u)?;
             Ok(index)
         }
         Some(shape) => {
             let place = zeroed(unit, shape, param.elem.bits, index, u)?;
-            set_field(place, argument.operand()?, u)?;
+            set_field(place, argument.operand(), u)?;
             plus(index, 1)
         }
     }
@@ -105,7 +108,7 @@ fn zeroed(unit: u32, set: u16, bits: u8, index: u32, u: &mut Unit) -> Result<Fie
 }
 
 /// The result becomes zero, a turn is spent, and the instance is called.
-#[tactic(auto, unfolding(crate::specs::Frames::finished, crate::specs::Frames::result_given))]
+#[tactic(auto, unfolding(lower_base::specs::Drafts::IsMade, crate::specs::Frames::finished, crate::specs::Frames::result_given))]
 fn finish(
     callee: &Instance,
     unit: u32,
@@ -114,6 +117,7 @@ fn finish(
     dest: Operand,
     u: &mut Unit,
 ) -> Result<Out, Memory>
+    requires made { IsMade (finished unit callee.now.result register index (out_of dest) (draft u.old)) }
     ensures draft { IfOk result (λ out. finished unit callee.now.result register index (out_of dest) (draft u.old) ≡ Makes out (draft u.new)) }
 {
     match &callee.result {
@@ -129,11 +133,12 @@ fn finish(
 }
 
 /// The call, whose result is in a register.
-#[tactic(auto, unfolding(crate::specs::Frames::register_given, lower_base::specs::Drafts::in_register))]
+#[tactic(auto, unfolding(lower_base::specs::Drafts::IsMade, lower_base::specs::Drafts::InRegister, crate::specs::Frames::register_given, lower_base::specs::Drafts::in_register))]
 fn give_register(unit: u32, source: u32, dest: Operand, u: &mut Unit) -> Result<Out, Memory>
+    requires made { IsMade (register_given unit source (out_of dest) (draft u.old)) }
     ensures draft { IfOk result (λ out. register_given unit source (out_of dest) (draft u.old) ≡ Makes out (draft u.new)) }
 {
-    let register = dest.register()?;
+    let register = dest.register();
     put(
         u,
         Instr::FrontConst {
@@ -153,7 +158,7 @@ fn give_register(unit: u32, source: u32, dest: Operand, u: &mut Unit) -> Result<
 }
 
 /// The call, whose result is in an entry of the called unit.
-#[tactic(auto, unfolding(crate::specs::Frames::field_given, lower_base::specs::Drafts::then_make, lower_base::specs::Drafts::in_field))]
+#[tactic(auto, unfolding(lower_base::specs::Drafts::IsMade, lower_base::specs::Drafts::InField, crate::specs::Frames::field_given, lower_base::specs::Drafts::then_make, lower_base::specs::Drafts::in_field))]
 fn give_field(
     unit: u32,
     info: &VarInfo,
@@ -162,10 +167,11 @@ fn give_field(
     dest: Operand,
     u: &mut Unit,
 ) -> Result<Out, Memory>
+    requires made { IsMade (field_given unit info.now set index (out_of dest) (draft u.old)) }
     ensures draft { IfOk result (λ out. field_given unit info.now set index (out_of dest) (draft u.old) ≡ Makes out (draft u.new)) }
 {
     let source = zeroed(unit, set, info.elem.bits, index, u)?;
-    let field = dest.field()?;
+    let field = dest.field();
     spend_and_call(unit, u)?;
     put(
         u,

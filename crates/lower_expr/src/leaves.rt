@@ -1,7 +1,7 @@
 //! The code of an expression that has no parts, and what is taken before its parts.
 
 ghost use Rattle.std.specs.Prelude.{◌≡◌, true, Some, IfOk, OnOk};
-ghost use Rattle.lower_base.specs.Drafts.{Makes, draft, out_of};
+ghost use Rattle.lower_base.specs.Drafts.{IsMade, Makes, draft, out_of};
 ghost use Rattle.lower_base.specs.Layouts.{layout};
 ghost use Rattle.lower_comm.specs.News.{goes_by_news};
 ghost use Rattle.lower_expr.specs.Values.{right_given, coordinate_in, byte_in, casts_put, news_to};
@@ -65,9 +65,10 @@ pub fn cast_all(elems: &[Elem], register: u32, u: &mut Unit) -> Result<(), Memor
 }
 
 /// A get that goes by NEWS, to a field.
-#[tactic(auto, unfolding(crate::specs::Values::news_to, lower_comm::specs::Messages::checked_grid, lower_comm::specs::News::goes_by_news, lower_base::specs::Drafts::then_make))]
+#[tactic(auto, unfolding(lower_base::specs::Drafts::IsMade, crate::specs::Values::news_to, lower_comm::specs::Messages::checked_grid, lower_comm::specs::News::goes_by_news, lower_base::specs::Drafts::then_make))]
 pub fn news_to(view: &View, e: &TExpr, dest: Operand, u: &mut Unit) -> Result<Out, Memory>
-    requires { goes_by_news e.now ≡ true }
+    requires by_news { goes_by_news e.now ≡ true }
+    requires made { IsMade (news_to view.now.typed.now (layout view.now.names) e.now (out_of dest) (draft u.old)) }
     ensures draft { IfOk result (λ out. news_to view.now.typed.now (layout view.now.names) e.now (out_of dest) (draft u.old) ≡ Makes out (draft u.new)) }
 {
     let TExpr::LeftIndex {

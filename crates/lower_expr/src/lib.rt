@@ -12,6 +12,7 @@ pub mod joined;
 mod kinds;
 mod leaves;
 pub mod length;
+mod listed;
 mod logical;
 pub mod operands;
 mod operator_lengths;

@@ -2,7 +2,7 @@
 //! when they may be used there.
 
 ghost use Rattle.std.specs.Prelude.{◌≡◌, IfOk};
-ghost use Rattle.lower_base.specs.Drafts.{Makes, draft, out_of};
+ghost use Rattle.lower_base.specs.Drafts.{IsMade, Makes, draft, out_of};
 ghost use Rattle.lower_base.specs.Layouts.{layout};
 ghost use Rattle.lower_expr.specs.Operands.{all_quiet, held, ignores_context, in_place, is_plus, is_quiet, own_of, standing};
 
@@ -143,8 +143,9 @@ pub fn own_of(bits: u8, e: &TExpr) -> Option<Own>
 }
 
 /// The register of a variable, or so many bits of its field.
-#[tactic(auto, unfolding(crate::specs::Operands::standing, lower_base::specs::Drafts::then_make))]
+#[tactic(auto, unfolding(lower_base::specs::Drafts::IsMade, crate::specs::Operands::standing, lower_base::specs::Drafts::then_make))]
 pub fn standing(view: &View, bits: u8, own: Own, u: &mut Unit) -> Result<Operand, Memory>
+    requires made { IsMade (standing view.now.typed.now (layout view.now.names) bits own (draft u.old)) }
     ensures draft { IfOk result (λ v. standing view.now.typed.now (layout view.now.names) bits own (draft u.old) ≡ Makes (out_of v) (draft u.new)) }
 {
     match own.shape {

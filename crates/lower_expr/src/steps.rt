@@ -3,7 +3,7 @@
 ghost use Rattle.std.specs.Prelude.{◌≡◌, false, IfOk, OnOk};
 ghost use Rattle.lower_base.specs.declared.emit.Out.TheVariants as O;
 ghost use Rattle.lower_base.specs.declared.operators.Machine.TheVariants as M;
-ghost use Rattle.lower_base.specs.Drafts.{Makes, draft, in_field, out_of, with_instr};
+ghost use Rattle.lower_base.specs.Drafts.{IsMade, Makes, draft, in_field, out_of, with_instr};
 ghost use Rattle.paris_code.specs.declared.instr.Instr.TheVariants as I;
 ghost use Rattle.paris_code.specs.declared.operands.Konst.TheVariants as K;
 ghost use Rattle.lower_base.specs.Layouts.{layout};
@@ -222,11 +222,12 @@ pub fn test_value(dest: Field, u: &mut Unit) -> Result<(), Memory>
 }
 
 /// A value becomes that of a longer field, with its sign or with zeros in front.
-#[tactic(auto, unfolding(lower_base::specs::Drafts::in_field))]
+#[tactic(auto, unfolding(lower_base::specs::Drafts::IsMade, lower_base::specs::Drafts::InField, lower_base::specs::Drafts::in_field))]
 pub fn extend(signed: bool, dest: Field, v: Operand, u: &mut Unit) -> Result<(), Memory>
+    requires made { IsMade (in_field (out_of v) (λ source. Makes (O.Field dest) (with_instr (I.Move signed dest source) (draft u.old)))) }
     ensures draft { OnOk result (in_field (out_of v) (λ source. Makes (O.Field dest) (with_instr (I.Move signed dest source) (draft u.old))) ≡ Makes (O.Field dest) (draft u.new)) }
 {
-    let source = v.field()?;
+    let source = v.field();
     put(
         u,
         Instr::Move {
@@ -290,13 +291,14 @@ pub fn set_field(dest: Field, v: Operand, u: &mut Unit) -> Result<(), Memory>
 }
 
 /// A value becomes that of a register or a field.
-#[tactic(auto, unfolding(crate::specs::Steps::put_value, lower_base::specs::Drafts::in_register))]
+#[tactic(auto, unfolding(lower_base::specs::Drafts::IsMade, lower_base::specs::Drafts::InRegister, crate::specs::Steps::put_value, lower_base::specs::Drafts::in_register))]
 pub fn set(dest: Operand, v: Operand, u: &mut Unit) -> Result<(), Memory>
+    requires made { IsMade (put_value (out_of dest) (out_of v) (draft u.old)) }
     ensures draft { OnOk result (put_value (out_of dest) (out_of v) (draft u.old) ≡ Makes (out_of dest) (draft u.new)) }
 {
     match dest {
         Operand::Register(register) => {
-            let source = v.register()?;
+            let source = v.register();
             put(
                 u,
                 Instr::FrontMove {
@@ -475,7 +477,7 @@ pub fn as_field(v: Operand, spare: Field, u: &mut Unit) -> Result<Field, Memory>
 }
 
 /// A unary operator other than `+`, which has no code.
-#[tactic(auto, unfolding(crate::specs::Steps::negated, lower_base::specs::Drafts::in_register, lower_base::specs::Drafts::in_field))]
+#[tactic(auto, unfolding(lower_base::specs::Drafts::IsMade, lower_base::specs::Drafts::InRegister, lower_base::specs::Drafts::InField, crate::specs::Steps::negated, lower_base::specs::Drafts::in_register, lower_base::specs::Drafts::in_field))]
 pub fn unary(
     view: &View,
     op: UnaryOp,
@@ -483,16 +485,17 @@ pub fn unary(
     v: Operand,
     u: &mut Unit,
 ) -> Result<(), Memory>
-    requires { is_plus op ≡ false }
+    requires coded { is_plus op ≡ false }
+    requires made { IsMade (negated (layout view.now.names) op (out_of dest) (out_of v) (draft u.old)) }
     ensures draft { OnOk result (negated (layout view.now.names) op (out_of dest) (out_of v) (draft u.old) ≡ Makes (out_of dest) (draft u.new)) }
 {
     match dest {
         Operand::Register(dest) => {
-            let source = v.register()?;
+            let source = v.register();
             unary_register(view, op, dest, source, u)
         }
         Operand::Field(dest) => {
-            let source = v.field()?;
+            let source = v.field();
             unary_field(op, dest, source, u)
         }
     }
@@ -506,7 +509,7 @@ fn unary_register(
     source: u32,
     u: &mut Unit,
 ) -> Result<(), Memory>
-    requires { is_plus op ≡ false }
+    requires coded { is_plus op ≡ false }
     ensures draft { OnOk result (register_negated (layout view.now.names) op dest source (draft u.old) ≡ Makes (O.Scalar dest) (draft u.new)) }
 {
     match op {
@@ -530,7 +533,7 @@ fn unary_register(
 
 #[tactic(auto, unfolding(crate::specs::Operands::is_plus, crate::specs::Steps::field_negated))]
 fn unary_field(op: UnaryOp, dest: Field, source: Field, u: &mut Unit) -> Result<(), Memory>
-    requires { is_plus op ≡ false }
+    requires coded { is_plus op ≡ false }
     ensures draft { OnOk result (field_negated op dest source (draft u.old) ≡ Makes (O.Field dest) (draft u.new)) }
 {
     match op {
@@ -545,13 +548,14 @@ fn unary_field(op: UnaryOp, dest: Field, source: Field, u: &mut Unit) -> Result<
 }
 
 /// Prints the pieces of a text; each conversion takes the next value.
-#[tactic(auto, unfolding(crate::specs::Steps::pieces_printed, lower_base::specs::Drafts::in_register))]
+#[tactic(auto, unfolding(lower_base::specs::Drafts::IsMade, lower_base::specs::Drafts::InRegister, crate::specs::Steps::pieces_printed, lower_base::specs::Drafts::in_register))]
 pub fn print_pieces(
     alloc: Global,
     pieces: &[Piece],
     values: &[Out],
     u: &mut Unit,
 ) -> Result<(), Memory>
+    requires made { IsMade (pieces_printed pieces.now values.now (draft u.old)) }
     ensures draft { OnOk result (pieces_printed pieces.now values.now (draft u.old) ≡ Makes O.Nothing (draft u.new)) }
 {
     let mut next = 0usize;
@@ -563,9 +567,9 @@ pub fn print_pieces(
             }
             Piece::Argument(format) => {
                 let Some(value) = values.get(next) else {
-                    return Err(Memory);
+                    unreachable!()
                 };
-                let source = value.register()?;
+                let source = value.register();
                 put(
                     u,
                     Instr::FrontPut {

@@ -3,7 +3,7 @@
 //! behind it, in the order of the text.
 
 ghost use Rattle.std.specs.Prelude.{◌≡◌, [], true, IfOk, OnOk};
-ghost use Rattle.lower_base.specs.Drafts.{Makes, draft, out_of};
+ghost use Rattle.lower_base.specs.Drafts.{IsMade, Makes, draft, out_of};
 ghost use Rattle.lower_base.specs.Layouts.{layout};
 ghost use Rattle.lower_base.specs.declared.emit.Out.TheVariants as O;
 ghost use Rattle.lower_expr.specs.Kinds.{unary_bits};
@@ -14,6 +14,7 @@ use crate::conversions::{cast, operand, right_operand, spread_to};
 use crate::frames::enter;
 use crate::kinds::{list_bits, reduced_bits, result_bits, unary_bits};
 use crate::leaves::{cast_all, coordinate, next_byte};
+use crate::listed::{call_is_made, print_is_made};
 use crate::operands::{are_quiet, is_plus, is_quiet};
 use crate::parts::{Assignment, Binary, Choice};
 use crate::places::{assign, read_indexed_to, read_to, step};
@@ -28,8 +29,9 @@ use paris_code::{Field, Unit};
 
 /// So many bits of the value of an expression. That of a promoted scalar stays in its register.
 #[cycle(value)]
-#[tactic(auto, using(crate::proofs::Lists::value_of_left_index), unfolding(crate::specs::Values::value_of, crate::specs::Values::spot_of, crate::specs::Values::spread_of, crate::specs::Values::binary_of, crate::specs::Values::choice_of, crate::specs::Values::arm_of, crate::specs::Values::cast_of, crate::specs::Values::register_cast_by, crate::specs::Values::lowest, crate::specs::Values::read_by, crate::specs::Values::index_read_by, crate::specs::Values::message_by, lower_base::specs::Drafts::then_make, lower_base::specs::Drafts::in_register))]
+#[tactic(auto, using(crate::proofs::Lists::value_of_left_index), unfolding(lower_base::specs::Drafts::IsMade, lower_base::specs::Drafts::InRegister, lower_base::specs::Drafts::IsSomewhere, crate::specs::Values::value_of, crate::specs::Values::spot_of, crate::specs::Values::spread_of, crate::specs::Values::binary_of, crate::specs::Values::choice_of, crate::specs::Values::arm_of, crate::specs::Values::cast_of, crate::specs::Values::register_cast_by, crate::specs::Steps::converted_in_place, crate::specs::Values::lowest, crate::specs::Values::read_by, crate::specs::Values::index_read_by, crate::specs::Values::message_by, lower_base::specs::Drafts::then_make, lower_base::specs::Drafts::in_register))]
 pub fn value(view: &View, bits: u8, e: &TExpr, u: &mut Unit) -> Result<Out, Memory>
+    requires made { IsMade (value_of view.now.typed.now (layout view.now.names) bits e.now (draft u.old)) }
     ensures draft { IfOk result (λ out. value_of view.now.typed.now (layout view.now.names) bits e.now (draft u.old) ≡ Makes out (draft u.new)) }
 {
     match e {
@@ -48,13 +50,13 @@ pub fn value(view: &View, bits: u8, e: &TExpr, u: &mut Unit) -> Result<Out, Memo
             if !stays_scalar(operand) {
                 return cast(view, bits, *ty, operand, u);
             }
-            let v = value(view, bits, operand, u)?.operand()?;
+            let v = value(view, bits, operand, u)?.operand();
             convert(v, ty.elem, u)?;
             Ok(v.out())
         }
         TExpr::Casts { elems, operand, .. } => {
             let v = value(view, bits, operand, u)?;
-            cast_all(elems.as_slice(), v.register()?, u)?;
+            cast_all(elems.as_slice(), v.register(), u)?;
             Ok(v)
         }
         TExpr::ParallelCast { ty, operand } => cast(view, bits, *ty, operand, u),
@@ -146,20 +148,27 @@ pub fn value(view: &View, bits: u8, e: &TExpr, u: &mut Unit) -> Result<Out, Memo
             instance,
             arguments,
         } => {
+            let given = arguments.as_slice();
+            call_is_made(view, bits, e, *ty, *instance, arguments, given, u);
             let dest = fresh(*ty, bits, u)?;
-            call_to(view, *instance, arguments.as_slice(), dest, u)
+            call_to(view, *instance, given, dest, u)
         }
         TExpr::Printf {
+            ty,
             pieces,
             arguments,
-            ..
-        } => { print(view, pieces.as_slice(), arguments.as_slice(), u) }
+        } => {
+            let texts = pieces.as_slice();
+            let given = arguments.as_slice();
+            print_is_made(view, bits, e, *ty, pieces, arguments, texts, given, u);
+            print(view, texts, given, u)
+        }
     }
 }
 
 /// A unary operator; `+` has no code.
 #[cycle(value)]
-#[tactic(auto, unfolding(crate::specs::Values::unary_by, lower_base::specs::Drafts::then_make))]
+#[tactic(auto, unfolding(lower_base::specs::Drafts::IsMade, lower_base::specs::Drafts::IsSomewhere, crate::specs::Values::unary_by, crate::specs::Steps::negated, lower_base::specs::Drafts::then_make, lower_base::specs::Drafts::in_register, lower_base::specs::Drafts::in_field))]
 fn prefixed(
     view: &View,
     ty: ValueType,
@@ -168,6 +177,7 @@ fn prefixed(
     inner: &TExpr,
     u: &mut Unit,
 ) -> Result<Out, Memory>
+    requires made { IsMade (unary_by (layout view.now.names) ty bits op (value_of view.now.typed.now (layout view.now.names) bits inner.now) (next_of view.now.typed.now (layout view.now.names) (unary_bits bits op inner.now) true inner.now) (draft u.old)) }
     ensures draft { IfOk result (λ out. unary_by (layout view.now.names) ty bits op (value_of view.now.typed.now (layout view.now.names) bits inner.now) (next_of view.now.typed.now (layout view.now.names) (unary_bits bits op inner.now) true inner.now) (draft u.old) ≡ Makes out (draft u.new)) }
 {
     if is_plus(op) {
@@ -175,13 +185,13 @@ fn prefixed(
     }
     let dest = fresh(ty, bits, u)?;
     let v = operand(view, unary_bits(bits, op, inner), true, inner, u)?;
-    unary(view, op, dest, v, u)?;
+    unary(view, op, dest, v.operand(), u)?;
     Ok(dest.out())
 }
 
 /// A binary operator, into a fresh register or field.
 #[cycle(value)]
-#[tactic(auto, unfolding(crate::specs::Values::binary_of, crate::specs::Values::binary_by, crate::specs::Values::parallel_binary_by, crate::specs::Values::register_binary_of, crate::specs::Values::field_binary_of, crate::specs::Values::lowest, lower_base::specs::Drafts::shortened, lower_base::specs::Drafts::then_make))]
+#[tactic(auto, unfolding(lower_base::specs::Drafts::IsMade, crate::specs::Values::binary_of, crate::specs::Values::binary_by, crate::specs::Values::parallel_binary_by, crate::specs::Values::register_binary_of, crate::specs::Values::field_binary_of, crate::specs::Values::lowest, lower_base::specs::Drafts::shortened, lower_base::specs::Drafts::then_make))]
 fn operate_binary(
     view: &View,
     shape: Option<u16>,
@@ -189,6 +199,7 @@ fn operate_binary(
     binary: &Binary,
     u: &mut Unit,
 ) -> Result<Out, Memory>
+    requires made { IsMade (binary_of view.now.typed.now (layout view.now.names) shape bits binary.now.op binary.now.place binary.now.left.now binary.now.right.now (draft u.old)) }
     ensures draft { IfOk result (λ out. binary_of view.now.typed.now (layout view.now.names) shape bits binary.now.op binary.now.place binary.now.left.now binary.now.right.now (draft u.old) ≡ Makes out (draft u.new)) }
 {
     match shape {
@@ -221,7 +232,7 @@ fn spare_for(op: Op, dest: Field, bits: u8, u: &mut Unit) -> Result<Field, Memor
 
 /// A binary operator of scalars, whose last instruction writes this register.
 #[cycle(value)]
-#[tactic(auto, unfolding(crate::specs::Values::register_binary_of, crate::specs::Values::registers_by, lower_base::specs::Drafts::then_make, lower_base::specs::Drafts::in_register))]
+#[tactic(auto, unfolding(lower_base::specs::Drafts::IsMade, lower_base::specs::Drafts::InRegister, crate::specs::Values::register_binary_of, crate::specs::Values::registers_by, lower_base::specs::Drafts::then_make, lower_base::specs::Drafts::in_register))]
 pub fn binary_in_register(
     view: &View,
     bits: u8,
@@ -229,19 +240,20 @@ pub fn binary_in_register(
     dest: u32,
     u: &mut Unit,
 ) -> Result<(), Memory>
+    requires made { IsMade (register_binary_of view.now.typed.now (layout view.now.names) bits binary.now.op binary.now.place binary.now.left.now binary.now.right.now dest (draft u.old)) }
     ensures draft { OnOk result (register_binary_of view.now.typed.now (layout view.now.names) bits binary.now.op binary.now.place binary.now.left.now binary.now.right.now dest (draft u.old) ≡ Makes (O.Scalar dest) (draft u.new)) }
 {
     let operator = binary.operator();
     let own = binary.operand_bits(bits);
-    let a = operand(view, own, is_quiet(binary.right), binary.left, u)?.register()?;
-    let b = operand(view, own, true, binary.right, u)?.register()?;
+    let a = operand(view, own, is_quiet(binary.right), binary.left, u)?.register();
+    let b = operand(view, own, true, binary.right, u)?.register();
     operate(operator, dest, a, b, u)
 }
 
 /// A parallel binary operator, of whose result so many bits are wanted, and whose last instruction
 /// writes this field. A scalar operand that the operation does not take is spread into `spare`.
 #[cycle(value)]
-#[tactic(auto, unfolding(crate::specs::Values::field_binary_of, crate::specs::Values::fields_by, lower_base::specs::Drafts::then_make))]
+#[tactic(auto, unfolding(lower_base::specs::Drafts::IsMade, crate::specs::Values::field_binary_of, crate::specs::Values::fields_by, lower_base::specs::Drafts::then_make))]
 pub fn binary_in_field(
     view: &View,
     bits: u8,
@@ -250,6 +262,7 @@ pub fn binary_in_field(
     spare: Field,
     u: &mut Unit,
 ) -> Result<(), Memory>
+    requires made { IsMade (field_binary_of view.now.typed.now (layout view.now.names) bits binary.now.op binary.now.place binary.now.left.now binary.now.right.now dest spare (draft u.old)) }
     ensures draft { OnOk result (field_binary_of view.now.typed.now (layout view.now.names) bits binary.now.op binary.now.place binary.now.left.now binary.now.right.now dest spare (draft u.old) ≡ Makes (O.Field dest) (draft u.new)) }
 {
     let operator = binary.parallel_operator();
@@ -262,7 +275,7 @@ pub fn binary_in_field(
 /// The values of a list of expressions, in the order of the text, each as long as its own type or of 32
 /// bits. Variables are used where they stand if all are quiet.
 #[cycle(value)]
-#[tactic(auto, unfolding(crate::specs::Values::values_in, lower_base::specs::Drafts::then_make))]
+#[tactic(auto, unfolding(lower_base::specs::Drafts::IsMade, crate::specs::Values::values_in, lower_base::specs::Drafts::then_make))]
 pub fn values(
     view: &View,
     own: bool,
@@ -270,19 +283,20 @@ pub fn values(
     es: &[TExpr],
     u: &mut Unit,
 ) -> Result<Vec<Out>, Memory>
+    requires made { IsMade (values_in view.now.typed.now (layout view.now.names) own quiet es.now [] (draft u.old)) }
     ensures draft { IfOk result (λ outs. values_in view.now.typed.now (layout view.now.names) own quiet es.now [] (draft u.old) ≡ Makes outs.items (draft u.new)) }
 {
     let mut outs = Vec::new(view.alloc);
     for e in es {
         let v = operand(view, list_bits(own, e), quiet, e, u)?;
-        outs.push(v.out())?;
+        outs.push(v)?;
     }
     Ok(outs)
 }
 
 /// A reduction or a scan of so many bits of this operand, to a register or a field.
 #[cycle(value)]
-#[tactic(auto, unfolding(crate::specs::Values::message_to, lower_base::specs::Drafts::then_make))]
+#[tactic(auto, unfolding(lower_base::specs::Drafts::IsMade, crate::specs::Values::message_to, lower_base::specs::Drafts::then_make))]
 pub fn message_to(
     view: &View,
     e: &TExpr,
@@ -291,15 +305,16 @@ pub fn message_to(
     dest: Operand,
     u: &mut Unit,
 ) -> Result<Out, Memory>
+    requires made { IsMade (message_to view.now.typed.now (layout view.now.names) e.now (next_of view.now.typed.now (layout view.now.names) bits true source.now) (out_of dest) (draft u.old)) }
     ensures draft { IfOk result (λ out. message_to view.now.typed.now (layout view.now.names) e.now (next_of view.now.typed.now (layout view.now.names) bits true source.now) (out_of dest) (draft u.old) ≡ Makes out (draft u.new)) }
 {
     let v = operand(view, bits, true, source, u)?;
-    comm_in(view, e, Out::Nothing, &[v.out()], dest.out(), u)
+    comm_in(view, e, Out::Nothing, &[v], dest.out(), u)
 }
 
 /// A call, behind the values of its arguments, whose result goes to a register or a field.
 #[cycle(value)]
-#[tactic(auto, unfolding(crate::specs::Values::call_of, crate::specs::Values::call_to, lower_base::specs::Drafts::then_make))]
+#[tactic(auto, unfolding(lower_base::specs::Drafts::IsMade, crate::specs::Values::call_of, crate::specs::Values::call_to, lower_base::specs::Drafts::then_make))]
 pub fn call_to(
     view: &View,
     instance: u32,
@@ -307,6 +322,7 @@ pub fn call_to(
     dest: Operand,
     u: &mut Unit,
 ) -> Result<Out, Memory>
+    requires made { IsMade (call_of view.now.typed.now (layout view.now.names) instance arguments.now (out_of dest) (draft u.old)) }
     ensures draft { IfOk result (λ out. call_of view.now.typed.now (layout view.now.names) instance arguments.now (out_of dest) (draft u.old) ≡ Makes out (draft u.new)) }
 {
     let outs = values(view, true, are_quiet(arguments), arguments, u)?;
@@ -315,8 +331,9 @@ pub fn call_to(
 
 /// `printf`, behind the values of its arguments.
 #[cycle(value)]
-#[tactic(auto, unfolding(crate::specs::Values::print_of, lower_base::specs::Drafts::then_make))]
+#[tactic(auto, unfolding(lower_base::specs::Drafts::IsMade, crate::specs::Values::print_of, lower_base::specs::Drafts::then_make))]
 fn print(view: &View, pieces: &[Piece], arguments: &[TExpr], u: &mut Unit) -> Result<Out, Memory>
+    requires made { IsMade (print_of view.now.typed.now (layout view.now.names) pieces.now arguments.now (draft u.old)) }
     ensures draft { IfOk result (λ out. print_of view.now.typed.now (layout view.now.names) pieces.now arguments.now (draft u.old) ≡ Makes out (draft u.new)) }
 {
     let outs = values(view, false, are_quiet(arguments), arguments, u)?;

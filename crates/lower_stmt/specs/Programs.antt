@@ -1,5 +1,5 @@
 -- A whole program: what each unit, each set and each final variable is.
-use Rattle.std.specs.Prelude.{ℕ, zero, suc, ◌+◌, ◌==◌, Bool, true, false, List, [], ◌∷◌, ◌++◌, length, Option, Some, None, if◌then◌else◌, decimal}
+use Rattle.std.specs.Prelude.{◌≡◌, ℕ, zero, suc, ◌+◌, ◌==◌, Bool, true, false, List, [], ◌∷◌, ◌++◌, length, Option, Some, None, slice_get, if◌then◌else◌, decimal}
 use Rattle.cstar_tree.specs.declared.typed.Instance.{Instance}
 use Rattle.cstar_tree.specs.declared.typed.ShapeInfo.{ShapeInfo}
 use Rattle.cstar_tree.specs.declared.typed.Typed.{Typed}
@@ -10,7 +10,7 @@ use Rattle.paris_code.specs.declared.operands.Konst.TheVariants as K
 use Rattle.paris_code.specs.declared.program.Final.{Final}
 use Rattle.paris_code.specs.declared.program.Owner.TheVariants as W
 use Rattle.paris_code.specs.declared.program.ShapeBits.{ShapeBits}
-use Rattle.lower_base.specs.Drafts.{Draft, Made, Makes, Fails, then_make, with_instr, an_entry}
+use Rattle.lower_base.specs.Drafts.{Draft, Made, Makes, Fails, IsMade, then_make, with_instr, an_entry}
 use Rattle.lower_base.specs.Layouts.{Layout, layout_of, entries_of, register_of, field_of}
 use Rattle.lower_stmt.specs.declared.statement.Frame.{Frame}
 use Rattle.lower_stmt.specs.declared.statement.Outcome.{Outcome}
@@ -91,6 +91,13 @@ unit_of t l is_main regs instance =
     then_make (own_fields_of instance.params.items (blank instance.name regs)) (λ _ d. then_make (own_result_of instance.result d)
     (λ _ ready. then_make (begun t l is_main ready) (λ _ start. then_make (body_of t l (body_frame is_main instance) instance.body start)
     (λ _ end. Makes tt (ended is_main instance.body end)))))
+
+-- There is code for each instance, whichever numbers stand in registers, and from whichever register
+-- on those of its unit begin.
+abbrev pub HasEveryUnit : Typed → Type 0
+HasEveryUnit t =
+    (words : List ℕ) (number regs : ℕ) (instance : Instance) → slice_get t.instances.items number ≡ Some instance →
+    IsMade (unit_of t (layout_of t words number) (number == 0) regs instance)
 
 -- a unit, and those that come behind it
 unfoldable pub joined : Made (Unit {0}) → (Draft → List Draft) → List Draft

@@ -2,6 +2,7 @@
 -- of blocks are declared behind it. The contexts that are saved where it stands are in a list, the
 -- outermost first.
 use Rattle.std.specs.Prelude.{ℕ, ◌+◌, Bool, true, false, if◌then◌else◌, List, [], ◌∷◌, ◌++◌, reverse, take, Option, Some, None}
+use Rattle.cstar_tree.specs.declared.typed.LocalVar.{LocalVar}
 use Rattle.cstar_tree.specs.declared.typed.TExpr.{TExpr}
 use Rattle.cstar_tree.specs.declared.typed.TStmt.{TStmt, out-TStmt, Row_of-TStmt, end_of-TStmt, more_of-TStmt, Held-TStmt-If-2, None', Some'}
 use Rattle.cstar_tree.specs.declared.typed.TStmt as S
@@ -173,6 +174,11 @@ listed t l [] f contexts n d = Makes n d
 listed t l (s ∷ rest) f contexts n d = then_make (statement_of t l s f contexts n d) (λ m after. listed t l rest f contexts m after)
 
 -- the body of an instance; the scalar variables of the outermost block of `main` are zero already
+-- the declarations of a block, at the start of `main` or elsewhere, and its statements behind them
+unfoldable pub block_of : Typed → Layout → Bool → List LocalVar → List TStmt → Frame → List Field → ℕ → Draft → Made ℕ
+block_of t l at_start locals statements f contexts n d =
+    then_make (declared t l at_start locals n d) (λ m after. listed t l statements f contexts m after)
+
 unfoldable pub body_of : Typed → Layout → Frame → TStmt → Draft → Made ℕ
 body_of t l f (S.Block' locals p statements) d =
     then_make (declared t l f.is_main locals.items 0 d) (λ m after. statements_of t l statements f [] m after)

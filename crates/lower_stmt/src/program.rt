@@ -2,10 +2,10 @@
 
 ghost use Rattle.std.specs.Prelude.{◌≡◌, ◌<◌, ◌+◌, ◌-◌, ◌^◌, ◌++◌, length, map, IfOk, OnOk};
 ghost use Rattle.cstar_tree.specs.IsTyped.{IsTyped};
-ghost use Rattle.lower_base.specs.Drafts.{Makes, draft};
+ghost use Rattle.lower_base.specs.Drafts.{IsMade, Makes, draft};
 ghost use Rattle.lower_base.specs.Layouts.{layout, entries_of};
 ghost use Rattle.lower_stmt.specs.Lowered.{IsLowered, IsLoweredWith};
-ghost use Rattle.lower_stmt.specs.Programs.{begun, blank, body_frame, constants_put, elements_begun, element_finals, final_name_of, finals_of, instructions_in, outcome_of, own_field_of, own_fields_of, own_result_of, space, spaces_of, start_value_of, start_values_of, unit_of, units_of, variable_finals};
+ghost use Rattle.lower_stmt.specs.Programs.{HasEveryUnit, begun, blank, body_frame, constants_put, elements_begun, element_finals, final_name_of, finals_of, instructions_in, outcome_of, own_field_of, own_fields_of, own_result_of, space, spaces_of, start_value_of, start_values_of, unit_of, units_of, variable_finals};
 
 use crate::constants::words_in;
 use crate::length::Saved;
@@ -24,10 +24,11 @@ use std::alloc::Global;
 /// bits as the typed program needs there; and as finals the parallel variables of the file.
 ///
 /// `Memory` comes where memory ends, where a count, the place that a jump leads to, or the number of
-/// a register or a field would be 2^32 or more, where all units have as many instructions together,
-/// and where a statement or an expression is not as typing makes it.
+/// a register or a field would be 2^32 or more, and where all units have as many instructions together.
+/// There is code for each instance, as typing makes it.
 pub fn lower(alloc: Global, t: &Typed) -> Result<Program, Memory>
-    requires { IsTyped t.now }
+    requires typed { IsTyped t.now }
+    requires units { HasEveryUnit t.now }
     ensures lowered { IfOk result (λ program. IsLowered t.now program) }
     ensures each_instance { IfOk result (λ program. length program.units.items ≡ length t.now.instances.items) }
     ensures numbered { IfOk result (λ program. instructions_in (map draft program.units.items) < 2 ^ 32) }
@@ -40,7 +41,8 @@ pub fn lower(alloc: Global, t: &Typed) -> Result<Program, Memory>
 /// The numbers that the program needs in registers, each once: those that its code, with no constant
 /// in a register yet, puts there.
 fn words_of(alloc: Global, t: &Typed) -> Result<Vec<u32>, Memory>
-    requires { IsTyped t.now }
+    requires typed { IsTyped t.now }
+    requires units { HasEveryUnit t.now }
 {
     let program = lower_with(alloc, t, Vec::new(alloc))?;
     let view = View::of(alloc, t, Vec::new(alloc))?;
@@ -50,7 +52,8 @@ fn words_of(alloc: Global, t: &Typed) -> Result<Vec<u32>, Memory>
 /// The program with these constants in registers.
 #[tactic(auto, unfolding(crate::specs::Programs::units_of))]
 fn lower_with(alloc: Global, t: &Typed, words: Vec<u32>) -> Result<Program, Memory>
-    requires { IsTyped t.now }
+    requires typed { IsTyped t.now }
+    requires units { HasEveryUnit t.now }
     ensures lowered { IfOk result (λ program. IsLoweredWith t.now words.items program) }
     ensures each_instance { IfOk result (λ program. length program.units.items ≡ length t.now.instances.items) }
     ensures numbered { IfOk result (λ program. instructions_in (map draft program.units.items) < 2 ^ 32) }
@@ -77,8 +80,9 @@ fn lower_with(alloc: Global, t: &Typed, words: Vec<u32>) -> Result<Program, Memo
 }
 
 /// The unit of an instance, whose registers begin at `regs`.
-#[tactic(auto, unfolding(crate::specs::Programs::unit_of, lower_base::specs::Drafts::then_make))]
+#[tactic(auto, unfolding(lower_base::specs::Drafts::IsMade, crate::specs::Programs::unit_of, lower_base::specs::Drafts::then_make))]
 fn lower_unit(view: &View, instance: &Instance, is_main: bool, regs: u32) -> Result<Unit, Memory>
+    requires made { IsMade (unit_of view.now.typed.now (layout view.now.names) is_main regs instance.now) }
     ensures draft { IfOk result (λ unit. unit_of view.now.typed.now (layout view.now.names) is_main regs instance.now ≡ Makes tt (draft unit)) }
 {
     let mut unit = blank(view.alloc, &instance.name, regs)?;
@@ -178,8 +182,9 @@ fn outcome(info: &Option<VarInfo>) -> Outcome
 
 /// `main` begins with the constants, and with the values of the file's variables. At the start every
 /// position is active.
-#[tactic(auto, unfolding(crate::specs::Programs::begun))]
+#[tactic(auto, unfolding(lower_base::specs::Drafts::IsMade, crate::specs::Programs::begun))]
 fn begin(view: &View, is_main: bool, u: &mut Unit) -> Result<(), Memory>
+    requires made { IsMade (begun view.now.typed.now (layout view.now.names) is_main (draft u.old)) }
     ensures draft { OnOk result (begun view.now.typed.now (layout view.now.names) is_main (draft u.old) ≡ Makes tt (draft u.new)) }
 {
     if is_main {
@@ -204,8 +209,9 @@ fn put_constants(view: &View, u: &mut Unit) -> Result<(), Memory>
 }
 
 /// The variables of the file that do not begin as zero.
-#[tactic(auto, using(std::proofs::lemmas::List::drop_more), unfolding(crate::specs::Programs::start_values_of, lower_base::specs::Drafts::then_make))]
+#[tactic(auto, using(std::proofs::lemmas::List::drop_more), unfolding(lower_base::specs::Drafts::IsMade, crate::specs::Programs::start_values_of, lower_base::specs::Drafts::then_make))]
 fn start_values(view: &View, u: &mut Unit) -> Result<(), Memory>
+    requires made { IsMade (start_values_of view.now.typed.now (layout view.now.names) view.now.typed.now.vars.items 0 (draft u.old)) }
     ensures draft { OnOk result (start_values_of view.now.typed.now (layout view.now.names) view.now.typed.now.vars.items 0 (draft u.old) ≡ Makes tt (draft u.new)) }
 {
     let mut number = 0;
@@ -217,8 +223,9 @@ fn start_values(view: &View, u: &mut Unit) -> Result<(), Memory>
 }
 
 /// A variable of the file becomes what it begins as, unless that is zero.
-#[tactic(auto, unfolding(crate::specs::Programs::start_value_of, crate::specs::Programs::scalar_begun))]
+#[tactic(auto, unfolding(lower_base::specs::Drafts::IsMade, crate::specs::Programs::start_value_of, crate::specs::Programs::scalar_begun))]
 fn start_value(view: &View, info: &VarInfo, number: u32, u: &mut Unit) -> Result<(), Memory>
+    requires made { IsMade (start_value_of view.now.typed.now (layout view.now.names) info.now number (draft u.old)) }
     ensures draft { OnOk result (start_value_of view.now.typed.now (layout view.now.names) info.now number (draft u.old) ≡ Makes tt (draft u.new)) }
 {
     if info.start == 0 {
@@ -246,7 +253,7 @@ fn start_value(view: &View, info: &VarInfo, number: u32, u: &mut Unit) -> Result
 }
 
 /// The elements of a variable of the file take a value.
-#[tactic(auto, using(crate::proofs::BegunElements::begun_step), unfolding(crate::specs::Programs::elements_begun))]
+#[tactic(auto, using(crate::proofs::BegunElements::begun_step), unfolding(lower_base::specs::Drafts::IsMade, crate::specs::Programs::elements_begun))]
 fn begin_elements(
     view: &View,
     number: u32,
@@ -254,6 +261,7 @@ fn begin_elements(
     elements: u32,
     u: &mut Unit,
 ) -> Result<(), Memory>
+    requires made { IsMade (elements_begun view.now.typed.now (layout view.now.names) number value elements 0 (draft u.old)) }
     ensures draft { OnOk result (elements_begun view.now.typed.now (layout view.now.names) number value elements 0 (draft u.old) ≡ Makes tt (draft u.new)) }
 {
     for element in 0..elements {

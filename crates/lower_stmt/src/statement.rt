@@ -6,20 +6,20 @@ ghost use Rattle.std.specs.Prelude.{◌≡◌, ◌+◌, ◌++◌, [], ◌∷◌,
 ghost use Rattle.cstar_tree.specs.declared.typed.TStmt as S;
 ghost use Rattle.cstar_tree.specs.declared.typed.TStmt.{back-TStmt-If-2};
 ghost use Rattle.paris_code.specs.declared.instr.Instr.TheVariants as I;
-ghost use Rattle.lower_base.specs.Drafts.{Makes, draft, out_of, with_instr};
+ghost use Rattle.lower_base.specs.Drafts.{IsMade, Makes, draft, with_instr};
 ghost use Rattle.lower_base.specs.Layouts.{layout};
 ghost use Rattle.lower_stmt.specs.Bodies.{code_in, grown};
 ghost use Rattle.lower_stmt.specs.Frames.{has_result, in_loop, in_context, with_end};
 ghost use Rattle.lower_stmt.specs.Lengths.{at_loop, statement_length_of};
-ghost use Rattle.lower_stmt.specs.Statements.{body_of, closing, condition_of, else_of, ended, ends_in_return, given_back, is_return, jump_back_of, listed, narrowed, part_of, past, restored, returned, returns_last, statement_of, stored_result, turned, turns_of, widened};
+ghost use Rattle.lower_stmt.specs.Statements.{block_of, body_of, closing, condition_of, else_of, ended, ends_in_return, given_back, is_return, jump_back_of, listed, narrowed, part_of, past, restored, returned, returns_last, statement_of, stored_result, turned, turns_of, widened};
 
 use crate::length::{Saved, condition_length, part_length, statement_length};
 use crate::variables::declare;
 use cstar_base::Memory;
-use cstar_tree::typed::{TExpr, TStmt};
+use cstar_tree::typed::{LocalVar, TExpr, TStmt};
 use lower_base::emit::{flag, here, plus, put};
 use lower_base::names::own_entry;
-use lower_base::{Operand, View};
+use lower_base::{Operand, Out, View};
 use lower_expr::conditions::test;
 use lower_expr::conversions::operand;
 use lower_expr::effects::effect;
@@ -101,15 +101,17 @@ pub struct Body {
 impl Body {
     /// Appends the code of a statement.
     #[cycle(statement)]
-    #[tactic(auto, unfolding(crate::specs::Statements::statement_of, crate::specs::Statements::part_of, crate::specs::Statements::turns_of, lower_base::specs::Drafts::then_make))]
+    #[tactic(auto, unfolding(lower_base::specs::Drafts::IsMade, crate::specs::Statements::statement_of, crate::specs::Statements::part_of, crate::specs::Statements::turns_of, lower_base::specs::Drafts::then_make))]
     pub fn statement(&mut self, view: &View, s: &TStmt, f: Frame) -> Result<(), Memory>
+        requires made { IsMade (code_in view.now s.now f self.old) }
         ensures draft { OnOk result (code_in view.now s.now f self.old ≡ grown self.new) }
         ensures contexts { OnOk result (self.new.contexts.items ≡ self.old.contexts.items) }
     {
         match s {
             TStmt::Block { locals, statements } => {
-                self.declared = declare(view, false, locals, self.declared, &mut self.unit)?;
-                self.statements(view, statements, f)
+                let (declared, listed) = (locals.as_slice(), statements.as_slice());
+                self.block_is_made(view, s, f, locals, statements, declared, listed);
+                self.block(view, false, declared, listed, f)
             }
             TStmt::Expression(e) => evaluate(view, e, &mut self.unit),
             TStmt::Empty => Ok(()),
@@ -152,10 +154,50 @@ impl Body {
         }
     }
 
+    /// The code of a block is that of these declarations and statements, which is there where that of the
+    /// block is. Nothing runs here.
+    fn block_is_made(
+        &self,
+        view: &View,
+        s: &TStmt,
+        f: Frame,
+        locals: &Vec<LocalVar>,
+        statements: &Vec<TStmt>,
+        declared: &[LocalVar],
+        listed: &[TStmt],
+    )
+        requires whole { s.now ≡ S.Block locals.now statements.now }
+        requires locals { declared.now ≡ locals.now.items }
+        requires list { listed.now ≡ statements.now.items }
+        requires made { IsMade (code_in view.now s.now f self.now) }
+        ensures code { code_in view.now s.now f self.now ≡ block_of view.now.typed.now (layout view.now.names) false declared.now listed.now f self.now.contexts.items self.now.declared (draft self.now.unit) }
+        ensures made { IsMade (block_of view.now.typed.now (layout view.now.names) false declared.now listed.now f self.now.contexts.items self.now.declared (draft self.now.unit)) }
+    {}
+
+    /// Appends the code of a block, at the start of `main` or elsewhere.
+    #[cycle(statement)]
+    #[tactic(auto, unfolding(lower_base::specs::Drafts::IsMade, crate::specs::Statements::block_of, lower_base::specs::Drafts::then_make))]
+    fn block(
+        &mut self,
+        view: &View,
+        at_start: bool,
+        locals: &[LocalVar],
+        statements: &[TStmt],
+        f: Frame,
+    ) -> Result<(), Memory>
+        requires made { IsMade (block_of view.now.typed.now (layout view.now.names) at_start locals.now statements.now f self.old.contexts.items self.old.declared (draft self.old.unit)) }
+        ensures draft { OnOk result (block_of view.now.typed.now (layout view.now.names) at_start locals.now statements.now f self.old.contexts.items self.old.declared (draft self.old.unit) ≡ grown self.new) }
+        ensures contexts { OnOk result (self.new.contexts.items ≡ self.old.contexts.items) }
+    {
+        self.declared = declare(view, at_start, locals, self.declared, &mut self.unit)?;
+        self.statements(view, statements, f)
+    }
+
     /// Appends the code of statements, one behind the other.
     #[cycle(statement)]
-    #[tactic(auto, unfolding(crate::specs::Statements::listed, lower_base::specs::Drafts::then_make))]
+    #[tactic(auto, unfolding(lower_base::specs::Drafts::IsMade, crate::specs::Statements::listed, lower_base::specs::Drafts::then_make))]
     fn statements(&mut self, view: &View, statements: &[TStmt], f: Frame) -> Result<(), Memory>
+        requires made { IsMade (listed view.now.typed.now (layout view.now.names) statements.now f self.old.contexts.items self.old.declared (draft self.old.unit)) }
         ensures draft { OnOk result (listed view.now.typed.now (layout view.now.names) statements.now f self.old.contexts.items self.old.declared (draft self.old.unit) ≡ grown self.new) }
         ensures contexts { OnOk result (self.new.contexts.items ≡ self.old.contexts.items) }
     {
@@ -166,17 +208,17 @@ impl Body {
     }
 
     /// Appends the code of the body of an instance, before which there is nothing of it.
-    #[tactic(auto, unfolding(crate::specs::Statements::body_of, lower_base::specs::Drafts::then_make))]
+    #[tactic(auto, unfolding(lower_base::specs::Drafts::IsMade, crate::specs::Statements::body_of, lower_base::specs::Drafts::then_make))]
     pub fn whole(&mut self, view: &View, s: &TStmt, f: Frame) -> Result<(), Memory>
         requires contexts { self.old.contexts.items ≡ [] }
         requires declared { self.old.declared ≡ 0 }
+        requires made { IsMade (body_of view.now.typed.now (layout view.now.names) f s.now (draft self.old.unit)) }
         ensures draft { OnOk result (body_of view.now.typed.now (layout view.now.names) f s.now (draft self.old.unit) ≡ grown self.new) }
     {
         match s {
-            TStmt::Block { locals, statements } => {
-                self.declared = declare(view, f.is_main, locals, self.declared, &mut self.unit)?;
-                self.statements(view, statements, f)
-            }
+            TStmt::Block { locals, statements } => self.block(
+                view, f.is_main, locals, statements, f,
+            ),
             TStmt::Expression(_)
             | TStmt::Empty
             | TStmt::If { .. }
@@ -204,7 +246,7 @@ impl Body {
 
     /// `if`.
     #[cycle(statement)]
-    #[tactic(auto, unfolding(crate::specs::Statements::statement_of, lower_base::specs::Drafts::then_make))]
+    #[tactic(auto, unfolding(lower_base::specs::Drafts::IsMade, crate::specs::Statements::statement_of, lower_base::specs::Drafts::then_make))]
     fn branch(
         &mut self,
         view: &View,
@@ -213,6 +255,7 @@ impl Body {
         otherwise: &Option<Box<TStmt>>,
         f: Frame,
     ) -> Result<(), Memory>
+        requires made { IsMade (code_in view.now (S.If test.now then.now otherwise.now) f self.old) }
         ensures draft { OnOk result (code_in view.now (S.If test.now then.now otherwise.now) f self.old ≡ grown self.new) }
         ensures contexts { OnOk result (self.new.contexts.items ≡ self.old.contexts.items) }
     {
@@ -228,7 +271,7 @@ impl Body {
     /// What is behind the `else` of an `if`, if there is one, which begins at a place, with the jump
     /// over it.
     #[cycle(statement)]
-    #[tactic(auto, unfolding(crate::specs::Statements::else_of))]
+    #[tactic(auto, unfolding(lower_base::specs::Drafts::IsMade, crate::specs::Statements::else_of))]
     fn jump_over(
         &mut self,
         view: &View,
@@ -236,6 +279,7 @@ impl Body {
         place: u32,
         f: Frame,
     ) -> Result<(), Memory>
+        requires made { IsMade (else_of view.now.typed.now (layout view.now.names) (back-TStmt-If-2 otherwise.now) f self.old.contexts.items place self.old.declared (draft self.old.unit)) }
         ensures draft { OnOk result (else_of view.now.typed.now (layout view.now.names) (back-TStmt-If-2 otherwise.now) f self.old.contexts.items place self.old.declared (draft self.old.unit) ≡ grown self.new) }
         ensures contexts { OnOk result (self.new.contexts.items ≡ self.old.contexts.items) }
     {
@@ -250,7 +294,7 @@ impl Body {
 
     /// `while`, which begins with a jump to its test.
     #[cycle(statement)]
-    #[tactic(auto, using(crate::proofs::LoopPlaces::here_more), unfolding(crate::specs::Statements::statement_of, crate::specs::Statements::turns_of, lower_base::specs::Drafts::then_make))]
+    #[tactic(auto, using(crate::proofs::LoopPlaces::here_more), unfolding(lower_base::specs::Drafts::IsMade, crate::specs::Statements::statement_of, crate::specs::Statements::turns_of, lower_base::specs::Drafts::then_make))]
     fn repeat_while(
         &mut self,
         view: &View,
@@ -258,6 +302,7 @@ impl Body {
         body: &Box<TStmt>,
         f: Frame,
     ) -> Result<(), Memory>
+        requires made { IsMade (code_in view.now (S.While test.now body.now) f self.old) }
         ensures draft { OnOk result (code_in view.now (S.While test.now body.now) f self.old ≡ grown self.new) }
         ensures contexts { OnOk result (self.new.contexts.items ≡ self.old.contexts.items) }
     {
@@ -269,7 +314,7 @@ impl Body {
 
     /// The turns of a `while` or a `do`, whose body begins here and whose test is at `next`.
     #[cycle(statement)]
-    #[tactic(auto, unfolding(crate::specs::Statements::turns_of, crate::specs::Statements::jump_back_of, lower_base::specs::Drafts::then_make))]
+    #[tactic(auto, unfolding(lower_base::specs::Drafts::IsMade, crate::specs::Statements::turns_of, crate::specs::Statements::jump_back_of, lower_base::specs::Drafts::then_make))]
     fn turns(
         &mut self,
         view: &View,
@@ -278,6 +323,7 @@ impl Body {
         next: u32,
         f: Frame,
     ) -> Result<(), Memory>
+        requires made { IsMade (turns_of view.now.typed.now (layout view.now.names) body.now test.now next f self.old.contexts.items self.old.declared (draft self.old.unit)) }
         ensures draft { OnOk result (turns_of view.now.typed.now (layout view.now.names) body.now test.now next f self.old.contexts.items self.old.declared (draft self.old.unit) ≡ grown self.new) }
         ensures contexts { OnOk result (self.new.contexts.items ≡ self.old.contexts.items) }
     {
@@ -294,7 +340,7 @@ impl Body {
 
     /// `for`, which begins with a jump to its test.
     #[cycle(statement)]
-    #[tactic(auto, using(crate::proofs::LoopPlaces::here_more), unfolding(crate::specs::Statements::statement_of, lower_base::specs::Drafts::then_make))]
+    #[tactic(auto, using(crate::proofs::LoopPlaces::here_more), unfolding(lower_base::specs::Drafts::IsMade, crate::specs::Statements::statement_of, lower_base::specs::Drafts::then_make))]
     fn repeat_for(
         &mut self,
         view: &View,
@@ -304,6 +350,7 @@ impl Body {
         body: &Box<TStmt>,
         f: Frame,
     ) -> Result<(), Memory>
+        requires made { IsMade (code_in view.now (S.For first.now test.now step.now body.now) f self.old) }
         ensures draft { OnOk result (code_in view.now (S.For first.now test.now step.now body.now) f self.old ≡ grown self.new) }
         ensures contexts { OnOk result (self.new.contexts.items ≡ self.old.contexts.items) }
     {
@@ -321,7 +368,7 @@ impl Body {
 
     /// `where`.
     #[cycle(statement)]
-    #[tactic(auto, unfolding(crate::specs::Statements::statement_of, crate::specs::Statements::otherwise_of, crate::specs::Statements::kept_for, lower_base::specs::Drafts::then_make))]
+    #[tactic(auto, unfolding(lower_base::specs::Drafts::IsMade, crate::specs::Statements::statement_of, crate::specs::Statements::otherwise_of, crate::specs::Statements::kept_for, lower_base::specs::Drafts::then_make))]
     fn narrow_and_run(
         &mut self,
         view: &View,
@@ -331,6 +378,7 @@ impl Body {
         otherwise: &Option<Box<TStmt>>,
         f: Frame,
     ) -> Result<(), Memory>
+        requires made { IsMade (code_in view.now (S.Where shape condition.now then.now otherwise.now) f self.old) }
         ensures draft { OnOk result (code_in view.now (S.Where shape condition.now then.now otherwise.now) f self.old ≡ grown self.new) }
         ensures contexts { OnOk result (self.new.contexts.items ≡ self.old.contexts.items) }
     {
@@ -353,8 +401,9 @@ impl Body {
 
     /// A statement where one more context is saved, which is loaded behind it.
     #[cycle(statement)]
-    #[tactic(auto, unfolding(crate::specs::Statements::closing, lower_base::specs::Drafts::then_make))]
+    #[tactic(auto, unfolding(lower_base::specs::Drafts::IsMade, crate::specs::Statements::closing, lower_base::specs::Drafts::then_make))]
     fn within(&mut self, view: &View, s: &TStmt, f: Frame, saved: Field) -> Result<(), Memory>
+        requires made { IsMade (closing saved (statement_of view.now.typed.now (layout view.now.names) s.now (in_context f) (self.old.contexts.items ++ saved ∷ []) self.old.declared (draft self.old.unit))) }
         ensures draft { OnOk result (closing saved (statement_of view.now.typed.now (layout view.now.names) s.now (in_context f) (self.old.contexts.items ++ saved ∷ []) self.old.declared (draft self.old.unit)) ≡ grown self.new) }
         ensures contexts { OnOk result (self.new.contexts.items ≡ self.old.contexts.items) }
     {
@@ -366,8 +415,9 @@ impl Body {
 }
 
 /// An expression whose value is not used.
-#[tactic(auto, unfolding(crate::specs::Statements::part_of, lower_base::specs::Drafts::then_make))]
+#[tactic(auto, unfolding(lower_base::specs::Drafts::IsMade, crate::specs::Statements::part_of, lower_base::specs::Drafts::then_make))]
 fn evaluate(view: &View, e: &TExpr, u: &mut Unit) -> Result<(), Memory>
+    requires made { IsMade (part_of view.now.typed.now (layout view.now.names) (Some e.now) (draft u.old)) }
     ensures draft { OnOk result (part_of view.now.typed.now (layout view.now.names) (Some e.now) (draft u.old) ≡ Makes tt (draft u.new)) }
 {
     effect(view, e, u)?;
@@ -375,8 +425,9 @@ fn evaluate(view: &View, e: &TExpr, u: &mut Unit) -> Result<(), Memory>
 }
 
 /// An optional part of a `for`.
-#[tactic(auto, unfolding(crate::specs::Statements::part_of))]
+#[tactic(auto, unfolding(lower_base::specs::Drafts::IsMade, crate::specs::Statements::part_of))]
 fn evaluate_part(view: &View, part: &Option<TExpr>, u: &mut Unit) -> Result<(), Memory>
+    requires made { IsMade (part_of view.now.typed.now (layout view.now.names) part.now (draft u.old)) }
     ensures draft { OnOk result (part_of view.now.typed.now (layout view.now.names) part.now (draft u.old) ≡ Makes tt (draft u.new)) }
 {
     match part {
@@ -386,11 +437,12 @@ fn evaluate_part(view: &View, part: &Option<TExpr>, u: &mut Unit) -> Result<(), 
 }
 
 /// The value of a condition, in a register.
-#[tactic(auto, unfolding(crate::specs::Statements::condition_of, lower_base::specs::Drafts::then_make, lower_base::specs::Drafts::in_register))]
+#[tactic(auto, unfolding(lower_base::specs::Drafts::IsMade, lower_base::specs::Drafts::InRegister, crate::specs::Statements::condition_of, lower_base::specs::Drafts::then_make, lower_base::specs::Drafts::in_register))]
 fn condition(view: &View, e: &TExpr, u: &mut Unit) -> Result<u32, Memory>
+    requires made { IsMade (condition_of view.now.typed.now (layout view.now.names) e.now (draft u.old)) }
     ensures draft { IfOk result (λ r. condition_of view.now.typed.now (layout view.now.names) e.now (draft u.old) ≡ Makes r (draft u.new)) }
 {
-    operand(view, 32, true, e, u)?.register()
+    Ok(operand(view, 32, true, e, u)?.register())
 }
 
 /// The end of a function, and that of `main`.
@@ -462,13 +514,14 @@ fn load_contexts(contexts: &[Field], newest: u32, u: &mut Unit) -> Result<(), Me
 }
 
 /// The value of `return`, if there is one, becomes the result.
-#[tactic(auto, unfolding(crate::specs::Statements::returned))]
+#[tactic(auto, unfolding(lower_base::specs::Drafts::IsMade, crate::specs::Statements::returned))]
 fn return_value(
     view: &View,
     e: &Option<TExpr>,
     outcome: Outcome,
     u: &mut Unit,
 ) -> Result<(), Memory>
+    requires made { IsMade (returned view.now.typed.now (layout view.now.names) e.now outcome (draft u.old)) }
     ensures draft { OnOk result (returned view.now.typed.now (layout view.now.names) e.now outcome (draft u.old) ≡ Makes tt (draft u.new)) }
 {
     match e {
@@ -478,8 +531,9 @@ fn return_value(
 }
 
 /// The returned value becomes the result, that of a field at the active positions.
-#[tactic(auto, unfolding(crate::specs::Statements::given_back, lower_base::specs::Drafts::then_make))]
+#[tactic(auto, unfolding(lower_base::specs::Drafts::IsMade, crate::specs::Statements::given_back, lower_base::specs::Drafts::then_make))]
 fn give_back(view: &View, e: &TExpr, outcome: Outcome, u: &mut Unit) -> Result<(), Memory>
+    requires made { IsMade (given_back view.now.typed.now (layout view.now.names) e.now outcome (draft u.old)) }
     ensures draft { OnOk result (given_back view.now.typed.now (layout view.now.names) e.now outcome (draft u.old) ≡ Makes tt (draft u.new)) }
 {
     let v = operand(view, e.ty().elem.bits, true, e, u)?;
@@ -487,16 +541,17 @@ fn give_back(view: &View, e: &TExpr, outcome: Outcome, u: &mut Unit) -> Result<(
 }
 
 /// A value becomes the function's result.
-#[tactic(auto, unfolding(crate::specs::Statements::stored_result, lower_base::specs::Drafts::then_make, lower_base::specs::Layouts::layout))]
-fn store_result(view: &View, outcome: Outcome, v: Operand, u: &mut Unit) -> Result<(), Memory>
-    ensures draft { OnOk result (stored_result (layout view.now.names) outcome (out_of v) (draft u.old) ≡ Makes tt (draft u.new)) }
+#[tactic(auto, unfolding(lower_base::specs::Drafts::IsMade, lower_base::specs::Drafts::IsSomewhere, crate::specs::Statements::stored_result, lower_expr::specs::Steps::put_value, lower_expr::specs::Steps::put_in_field, lower_base::specs::Drafts::in_register, lower_base::specs::Drafts::then_make, lower_base::specs::Layouts::layout))]
+fn store_result(view: &View, outcome: Outcome, v: Out, u: &mut Unit) -> Result<(), Memory>
+    requires made { IsMade (stored_result (layout view.now.names) outcome v (draft u.old)) }
+    ensures draft { OnOk result (stored_result (layout view.now.names) outcome v (draft u.old) ≡ Makes tt (draft u.new)) }
 {
     match outcome {
         Outcome::Nothing => Ok(()),
-        Outcome::Scalar => set(Operand::Register(view.result_register()?), v, u),
+        Outcome::Scalar => set(Operand::Register(view.result_register()?), v.operand(), u),
         Outcome::Parallel => {
-            let dest = own_entry(u, view.names.outcome)?;
-            set(Operand::Field(dest), v, u)
+            let dest = own_entry(u, view.names.outcome);
+            set(Operand::Field(dest), v.operand(), u)
         }
     }
 }
@@ -521,8 +576,9 @@ fn behind_body(view: &View, body: &TStmt, f: Frame, turn: u32) -> Result<u32, Me
 }
 
 /// The end of a `for`: back to its turn, if its condition is there and not zero, or always.
-#[tactic(auto, unfolding(crate::specs::Statements::jump_back_of, lower_base::specs::Drafts::then_make))]
+#[tactic(auto, unfolding(lower_base::specs::Drafts::IsMade, crate::specs::Statements::jump_back_of, lower_base::specs::Drafts::then_make))]
 fn jump_back(view: &View, test: &Option<TExpr>, turn: u32, u: &mut Unit) -> Result<(), Memory>
+    requires made { IsMade (jump_back_of view.now.typed.now (layout view.now.names) test.now turn (draft u.old)) }
     ensures draft { OnOk result (jump_back_of view.now.typed.now (layout view.now.names) test.now turn (draft u.old) ≡ Makes tt (draft u.new)) }
 {
     match test {

@@ -1,7 +1,7 @@
 //! The variables of a block.
 
 ghost use Rattle.std.specs.Prelude.{◌≡◌, IfOk, OnOk};
-ghost use Rattle.lower_base.specs.Drafts.{Makes, draft, out_of};
+ghost use Rattle.lower_base.specs.Drafts.{IsMade, Makes, draft, out_of};
 ghost use Rattle.lower_base.specs.Layouts.{layout};
 ghost use Rattle.lower_stmt.specs.Variables.{all_cleared, all_initialised, begins_constant, cleared, cleared_fields, declared, initialised, is_kept_so, variable_of, with_home};
 
@@ -18,7 +18,7 @@ use paris_code::{Instr, Owner, Unit};
 /// The variables of a block, from a number on: all become zero, and then the initialisers run in
 /// order. Answers the number of the variable that is declared next. It is told whether the block stands
 /// where `main` starts, and all registers are zero.
-#[tactic(auto, unfolding(crate::specs::Variables::declared, lower_base::specs::Drafts::then_make))]
+#[tactic(auto, unfolding(lower_base::specs::Drafts::IsMade, crate::specs::Variables::declared, lower_base::specs::Drafts::then_make))]
 pub fn declare(
     view: &View,
     at_start: bool,
@@ -26,6 +26,7 @@ pub fn declare(
     first: u32,
     u: &mut Unit,
 ) -> Result<u32, Memory>
+    requires made { IsMade (declared view.now.typed.now (layout view.now.names) at_start locals.now first (draft u.old)) }
     ensures draft { IfOk result (λ n. declared view.now.typed.now (layout view.now.names) at_start locals.now first (draft u.old) ≡ Makes n (draft u.new)) }
 {
     clear_all(view, at_start, locals, first, u)?;
@@ -53,8 +54,9 @@ fn clear_all(
 }
 
 /// The initialisers.
-#[tactic(auto, using(std::proofs::lemmas::List::drop_more), unfolding(crate::specs::Variables::all_initialised, lower_base::specs::Drafts::then_make))]
+#[tactic(auto, using(std::proofs::lemmas::List::drop_more), unfolding(lower_base::specs::Drafts::IsMade, crate::specs::Variables::all_initialised, lower_base::specs::Drafts::then_make))]
 fn initialise_all(view: &View, locals: &[LocalVar], first: u32, u: &mut Unit) -> Result<(), Memory>
+    requires made { IsMade (all_initialised view.now.typed.now (layout view.now.names) locals.now first (draft u.old)) }
     ensures draft { OnOk result (all_initialised view.now.typed.now (layout view.now.names) locals.now first (draft u.old) ≡ Makes tt (draft u.new)) }
 {
     let mut number = first;
@@ -66,8 +68,9 @@ fn initialise_all(view: &View, locals: &[LocalVar], first: u32, u: &mut Unit) ->
 }
 
 /// The initialiser of a variable, if it has one.
-#[tactic(auto, unfolding(crate::specs::Variables::initialised, lower_base::specs::Drafts::then_make))]
+#[tactic(auto, unfolding(lower_base::specs::Drafts::IsMade, crate::specs::Variables::initialised, lower_base::specs::Drafts::then_make))]
 fn initialise(view: &View, local: &LocalVar, number: u32, u: &mut Unit) -> Result<(), Memory>
+    requires made { IsMade (initialised view.now.typed.now (layout view.now.names) local.now number (draft u.old)) }
     ensures draft { OnOk result (initialised view.now.typed.now (layout view.now.names) local.now number (draft u.old) ≡ Makes tt (draft u.new)) }
 {
     match &local.initial {
@@ -80,8 +83,9 @@ fn initialise(view: &View, local: &LocalVar, number: u32, u: &mut Unit) -> Resul
 }
 
 /// Where a variable of a block is, with all its bits.
-#[tactic(auto, unfolding(crate::specs::Variables::variable_of))]
+#[tactic(auto, unfolding(lower_base::specs::Drafts::IsMade, crate::specs::Variables::variable_of))]
 fn variable(view: &View, info: &VarInfo, number: u32, u: &mut Unit) -> Result<Operand, Memory>
+    requires made { IsMade (variable_of view.now.typed.now (layout view.now.names) info.now number (draft u.old)) }
     ensures draft { IfOk result (λ dest. variable_of view.now.typed.now (layout view.now.names) info.now number (draft u.old) ≡ Makes (out_of dest) (draft u.new)) }
 {
     let own = Own {

@@ -4,8 +4,12 @@ use Rattle.cstar_base.specs.declared.faults.Fault.{Fault}
 use Rattle.cstar_base.specs.declared.faults.Fault.TheVariants as F
 use Rattle.cstar_top.specs.Refusals.{CanName, IsOfText}
 use Rattle.cstar_top.proofs.Compiled.{image_of_text}
+use Rattle.cstar_top.proofs.EveryUnit.{every_unit}
 use Rattle.cstar_top.proofs.Outcomes.{names_more, names_more_in}
 use Rattle.cstar_top.proofs.top.compiled.Goals as goal
+
+pub compile-requires-clause-units : goal.compile-requires-clause-units
+compile-requires-clause-units c = every_unit c.args.text.now c.in-Ok.program.typed c.in-Ok.ensures.program
 
 pub returns-in-Ok-clause-compiled : goal.returns-in-Ok-clause-compiled
 returns-in-Ok-clause-compiled c =

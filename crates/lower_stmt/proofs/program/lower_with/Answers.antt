@@ -1,7 +1,8 @@
-use Rattle.std.proofs.Common.{◌≡◌, ℕ, ◌∙◌, ◌+◌, ◌<◌, ◌==◌, drop, length, Vec, ap, sym, arith}
+use Rattle.std.proofs.Common.{◌≡◌, ℕ, ◌∙◌, ◌+◌, ◌<◌, ◌==◌, drop, length, slice_get, Some, Vec, ap, refl, sym, arith}
 use Rattle.std.specs.declared.alloc.Global.{Global}
 use Rattle.std.proofs.lemmas.Grind.{common_steps}
 use Rattle.std.proofs.lemmas.List.{at_drop_more}
+use Rattle.std.proofs.lemmas.Option.{slice_get_read}
 use Rattle.cstar_tree.specs.declared.typed.Typed.{Typed}
 use Rattle.lower_base.specs.Drafts.{Makes, draft}
 use Rattle.lower_base.specs.Constants.{first_free}
@@ -18,6 +19,21 @@ loop-number-init c =
     let free : c.in_ok-slots.slots ≡ first_free (layout_of c.args.t.now words 0) = c.in_ok-slots.ensures ∙ ap first_free same in
     let none = c.new-units.ensures.items in
     record { known = (0, same); program = c.in_ok-view.ensures.typed; bases = c.in_ok-view.ensures.each_instance; units = grind (arith, common_steps, free, none); each = grind (arith, common_steps, none); slots = grind (arith, common_steps, free, none); instructions = grind (arith, common_steps, none); numbered = omega arith }
+
+pub lower_unit-requires : goal.lower_unit-requires
+lower_unit-requires c =
+    let words = c.args.words.items in
+    let known = c.loop-number.invariant.known in
+    let same = c.loop-number.invariant.program in
+    let program : c.enter.new.self.typed.now ≡ c.args.t.now = c.enter.ensures.typed ∙ same in
+    let entered = c.in_ok-enter.ensures.names words known.0 (known.1 ∙ ap (λ (t : Typed). layout_of t words known.0) (sym same)) in
+    let seen : layout c.enter.new.self.names ≡ layout_of c.args.t.now words c.loop-number.number =
+    entered ∙ ap (λ (t : Typed). layout_of t words c.loop-number.number) same in
+    let below : c.loop-number.number < length c.deref-instance-items.result.now = omega arith in
+    let item : slice_get c.args.t.now.instances.items c.loop-number.number ≡ Some c.instance-item.result
+    = rw (← c.deref-instance-items.ensures.value) (slice_get_read c.deref-instance-items.result.now _ c.loop-number.number c.instance-item.result refl below c.instance-item.is)
+    in
+    record { made = rw (seen, program) (c.requires.units words c.loop-number.number c.loop-number.slots c.instance-item.result item) }
 
 pub loop-number-preserved : goal.loop-number-preserved
 loop-number-preserved c =

@@ -1,7 +1,7 @@
 use Rattle.std.proofs.Common.{◌≡◌, ◌+◌, ◌*◌, drop, max}
 use Rattle.cstar_tree.specs.declared.typed.TStmt.{size-TStmt}
 use Rattle.cstar_tree.specs.declared.typed.TStmt.TheShapes.{weighed-TStmt-If-2}
-use Rattle.lower_base.specs.Drafts.{draft}
+use Rattle.lower_base.specs.Drafts.{IsMade, draft}
 use Rattle.lower_base.specs.Layouts.{layout}
 use Rattle.lower_stmt.specs.Statements.{listed}
 use Rattle.lower_stmt.proofs.statement.Body.+statement.Given as goal
@@ -12,6 +12,9 @@ decreases-statement l = 4 * goal.size-statement l
 
 abbrev pub decreases-statements : goal.decreases-statements
 decreases-statements l = 4 * goal.size-statements l + 1
+
+abbrev pub decreases-block : goal.decreases-block
+decreases-block l = 4 * goal.size-block l + 2
 
 abbrev pub decreases-within : goal.decreases-within
 decreases-within l = 4 * goal.size-within l + 1
@@ -34,9 +37,10 @@ decreases-branch l = 4 * max (size-TStmt l.then.now.value) (weighed-TStmt-If-2.w
 abbrev pub decreases-narrow_and_run : goal.decreases-narrow_and_run
 decreases-narrow_and_run l = 4 * max (size-TStmt l.then.now.value) (weighed-TStmt-If-2.weight _ size-TStmt l.otherwise.now) + 2
 
--- the statements that are left, from here on, give the whole, and the saved contexts are the same
+-- the statements that are left, from here on, have code, and give the whole, and the saved contexts are the same
 abbrev pub invariant-statements-loop-inner : goal.invariant-statements-loop-inner
 invariant-statements-loop-inner l = record {
+  made : IsMade (listed l.view.typed.now (layout l.view.names) (drop l.inner-index l.statements) l.f l.self.contexts.items l.self.declared (draft l.self.unit));
   whole :
       listed l.view.typed.now (layout l.view.names) (drop l.inner-index l.statements) l.f l.self.contexts.items l.self.declared (draft l.self.unit)
       ≡ listed l.view.typed.now (layout l.view.names) l.statements l.f l.fn.self.contexts.items l.fn.self.declared (draft l.fn.self.unit);
