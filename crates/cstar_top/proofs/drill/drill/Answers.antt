@@ -4,7 +4,7 @@ use Rattle.cstar_top.proofs.EveryUnit.{every_unit}
 use Rattle.cstar_top.proofs.drill.drill.Goals as goal
 
 pub drill_program-requires-clause-units : goal.drill_program-requires-clause-units
-drill_program-requires-clause-units g c κs = every_unit c.as_slice.result.now c.in-Ok-accepted.program.typed c.in-Ok-accepted.ensures.program
+drill_program-requires-clause-units g c κs lives = every_unit c.as_slice.result.now c.in-Ok-accepted.program.typed c.in-Ok-accepted.ensures.program
 
 pub returns-in-Ok-accepted-clause-line : goal.returns-in-Ok-accepted-clause-line
 returns-in-Ok-accepted-clause-line g c done =
