@@ -19,13 +19,14 @@ use Rattle.paris_code.specs.Shapes.{SetShape, shapes_of}
 use Rattle.paris_code.specs.Units.{IsAt}
 use Rattle.paris_machine.specs.Cut.{with_more, printed_behind, next_behind, behind, CodeInTwo}
 
--- what an instruction does with more turns, where it goes on
-abbrev MoreTurns : ℕ → Next → Next → Type 0
+-- what an instruction does with more turns, where it does not stop
+abbrev pub MoreTurns : ℕ → Next → Next → Type 0
 MoreTurns m (Goes t) other = other ≡ Goes (with_more m t)
-MoreTurns m (Ends end t) other = Unit {0}
+MoreTurns m (Ends Stopped t) other = Unit {0}
+MoreTurns m (Ends end t) other = other ≡ Ends end (with_more m t)
 
 checked_turns : (m : ℕ) (s : CodeState) (fails : Bool) (fault : RunFault) (place : Place) → MoreTurns m (checked fails fault place s) (checked fails fault place (with_more m s))
-checked_turns m s true fault place = tt
+checked_turns m s true fault place = refl
 checked_turns m s false fault place = refl
 
 turned_turns : (m : ℕ) (s : CodeState) (none : Bool) → (s.turns == 0) ≡ none → MoreTurns m (if none then Ends Stopped s else Goes (record s { at = s.at + 1; turns = s.turns - 1 })) (turned (with_more m s))
@@ -40,7 +41,7 @@ turned_turns m s false e =
 given_turns : (m r : ℕ) (s : CodeState) (bytes : List ℕ) (mark : Mark) → MoreTurns m (given r s bytes mark) (given r (with_more m s) bytes mark)
 given_turns m r s (byte ∷ bytes) mark = refl
 given_turns m r s [] End = refl
-given_turns m r s [] Broken = tt
+given_turns m r s [] Broken = refl
 
 controlled_turns : (image : Image) (m : ℕ) (instr : Instr) (s : CodeState) → MoreTurns m (controlled image instr s) (controlled image instr (with_more m s))
 controlled_turns image m (I.FrontCheckTarget set place coordinates) s = checked_turns m s _ _ place
@@ -54,17 +55,23 @@ controlled_turns image m I.FrontReturn s = refl
 controlled_turns image m (I.FrontPutBytes bytes) s = refl
 controlled_turns image m (I.FrontPut format x) s = refl
 controlled_turns image m (I.FrontGetByte r) s = given_turns m r s s.input.bytes s.input.mark
-controlled_turns image m _ s = tt
+controlled_turns image m _ s = refl
 
 set_turns : (image : Image) (m : ℕ) (set : Option (ℕ × ℕ)) (instr : Instr) (s : CodeState) → MoreTurns m (set_or set s (controlled image instr s)) (set_or set (with_more m s) (controlled image instr (with_more m s)))
 set_turns image m None instr s = controlled_turns image m instr s
 set_turns image m (Some set) instr s = refl
 
+fault_turns : (m : ℕ) (instr : Instr) (s : CodeState) (position : ℕ) → MoreTurns m (Ends (fault_at instr position) s) (Ends (fault_at instr position) (with_more m s))
+fault_turns m (I.CheckTarget set place coordinates) s position = refl
+fault_turns m (I.CheckGrid set place steps) s position = refl
+fault_turns m (I.CheckDivisor place a) s position = refl
+fault_turns m _ s position = refl
+
 replied_turns : (m : ℕ) (instr : Instr) (s : CodeState) (reply : Reply) → MoreTurns m (replied instr s reply) (replied instr (with_more m s) reply)
 replied_turns m instr s R.Nothing = refl
 replied_turns m instr s (R.Value v) = refl
-replied_turns m instr s (R.Bad position) = tt
-replied_turns m instr s R.Memory = tt
+replied_turns m instr s (R.Bad position) = fault_turns m instr s position
+replied_turns m instr s R.Memory = refl
 
 applied_turns : (shapes : List SetShape) (m : ℕ) (instr : Instr) (s : CodeState) → MoreTurns m (applied shapes instr s) (applied shapes instr (with_more m s))
 unfolding applied
@@ -80,7 +87,7 @@ begun_turns image m instr s = by_kind (is_parallel instr)
     by_kind false = set_turns image m (computed (shapes_of image) instr s.registers) instr s
 
 begun_at_turns : (image : Image) (m : ℕ) (s : CodeState) (o : Option Instr) → MoreTurns m (begun_at image s o) (begun_at image (with_more m s) o)
-begun_at_turns image m s None = tt
+begun_at_turns image m s None = refl
 begun_at_turns image m s (Some instr) = begun_turns image m instr s
 
 pub step_turns : (image : Image) (m : ℕ) (s : CodeState) → MoreTurns m (step image s) (step image (with_more m s))

@@ -44,7 +44,7 @@ same_goes : (image : Image) (n : ℕ) (s y : CodeState) (x : Next) → step imag
 same_goes image n s y (Goes z) e same = (z, e, same)
 same_goes image n s y (Ends end z) e same = absurd same
 
-code_same : (image : Image) (sound : IsSound image) (n : ℕ) (s t u : CodeState) → SameState (shapes_of image) s t → Goes_by image n t u → (v : CodeState) × Goes_by image n s v × SameState (shapes_of image) v u
+pub code_same : (image : Image) (sound : IsSound image) (n : ℕ) (s t u : CodeState) → SameState (shapes_of image) s t → Goes_by image n t u → (v : CodeState) × Goes_by image n s v × SameState (shapes_of image) v u
 unfolding code
 code_same image sound zero s t u same goes = (s, refl, subst (λ (x : CodeState). SameState (shapes_of image) s x) (same_start t u 0 goes) same)
 code_same image sound (suc n) s t u same goes =
