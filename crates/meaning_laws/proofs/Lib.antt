@@ -1,0 +1,4 @@
+pub mod Expressions
+pub mod Parts
+pub mod Programs
+pub mod Statements
