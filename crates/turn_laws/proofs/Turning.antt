@@ -1,10 +1,9 @@
 -- The code with more turns, to the end of its run.
-use Rattle.std.proofs.Common.{◌≡◌, ◌∙◌, ◌⊎◌, inl, inr, ℕ, zero, suc, ◌+◌, Bool, true, false, List, [], ◌++◌, Some, refl, sym, ap, subst, arith}
+use Rattle.std.proofs.Common.{◌≡◌, ◌∙◌, ◌⊎◌, inl, inr, ℕ, zero, suc, ◌+◌, true, List, [], ◌++◌, Some, refl, sym, ap, subst, arith}
 use Rattle.std.proofs.lemmas.List.{append-nil, append_assoc}
 use Rattle.cstar_base.specs.Faults.{run_number_of}
 use Rattle.paris_code.specs.declared.program.Image.{Image}
 use Rattle.paris_code.specs.Code.{CodeEnd, CodeState, Done, Ends, Fault, Goes, InputBroken, Next, Reached, Stopped, code, step}
-use Rattle.paris_code.specs.Memory.{BitMemory, SameBits}
 use Rattle.paris_code.specs.Shapes.{SetShape, shapes_of}
 use Rattle.paris_code.specs.Sound.{IsSound}
 use Rattle.paris_machine.specs.declared.outcome.End.{End as RunEnd}
@@ -24,12 +23,16 @@ told Stopped = E.Stopped
 told InputBroken = E.InputBroken
 
 -- the instruction at which the code stands ends the run so, in the state but for bits that no set has
-abbrev pub EndsAt : Image → CodeState → RunEnd → CodeState → Type 0
-EndsAt image s end t = (e : CodeEnd) × ((u : CodeState) × ((end ≡ told e) × (step image s ≡ Ends e u) × SameState (shapes_of image) u t))
+record EndsAt (image : Image) (s : CodeState) (end : RunEnd) (t : CodeState) : Type 0 where
+  last : CodeEnd
+  state : CodeState
+  is : end ≡ told last
+  ends : step image s ≡ Ends last state
+  same : SameState (shapes_of image) state t
 
 ends_so : (image : Image) (s t : CodeState) (e : CodeEnd) (x : Next) → step image s ≡ x → SameNext (shapes_of image) x (Ends e t) → EndsAt image s (told e) t
 ends_so image s t e (Goes u) is same = absurd same
-ends_so image s t e (Ends other u) is same = (e, u, refl, is ∙ ap (λ (c : CodeEnd). Ends c u) same.0, same.1)
+ends_so image s t e (Ends other u) is same = record { last = e; state = u; is = refl; ends = is ∙ ap (λ (c : CodeEnd). Ends c u) same.0; same = same.1 }
 
 ends_at : (image : Image) (s t : CodeState) (end : RunEnd) → is_of_code end ≡ true → ComesTo image s (Some end) t → EndsAt image s end t
 ends_at image s t E.Done whole came = ends_so image s t Done (step image s) refl came
@@ -152,25 +155,25 @@ more_turns image sound more s r t u end other steps others same whole entire (n,
     let behind_all : Goes_by image n (with_more more s) (with_more more mid) = code_turns image n more s mid goes in
     let one = ends_at image mid t end whole came in
     let two = ends_at image v u other entire (ends_same image sound v last other u met.2 comes) in
-    let here = ends_with_more more one.0 one.1 (step image (with_more more mid)) (subst (λ (x : Next). MoreTurns more x (step image (with_more more mid))) one.2.1 (step_turns image more mid)) in
+    let here = ends_with_more more one.last one.state (step image (with_more more mid)) (subst (λ (x : Next). MoreTurns more x (step image (with_more more mid))) one.ends (step_turns image more mid)) in
     by_order v met.1 behind_all one two here (order n m)
   where
     by_order : (v : CodeState) → Goes_by image m (with_more more s) v → Goes_by image n (with_more more s) (with_more more mid) → (one : EndsAt image mid end t) → EndsAt image v other u
-        → (one.0 ≡ Stopped) ⊎ (step image (with_more more mid) ≡ Ends one.0 (with_more more one.1)) → Order n m → PrintsOnTo image more end other steps others t u
+        → (one.last ≡ Stopped) ⊎ (step image (with_more more mid) ≡ Ends one.last (with_more more one.state)) → Order n m → PrintsOnTo image more end other steps others t u
     by_order v there behind_all one two here (inr (inr (k, is))) =
-        absurd (not_behind_end image m k (with_more more s) v (with_more more mid) two.1 two.0 there (subst (λ (c : ℕ). Goes_by image c (with_more more s) (with_more more mid)) is behind_all) two.2.1)
+        absurd (not_behind_end image m k (with_more more s) v (with_more more mid) two.state two.last there (subst (λ (c : ℕ). Goes_by image c (with_more more s) (with_more more mid)) is behind_all) two.ends)
     by_order v there behind_all one two (inl stops) (inl (k, is)) =
-        from_stop image more end other steps others t u mid v one.1 two.1 two.0 one.2.2 (one.2.1 ∙ ap (λ (e : CodeEnd). Ends e one.1) stops) (one.2.0 ∙ ap told stops)
-        (going_prints image (suc k) (with_more more mid) v (rest_of image n (suc k) (with_more more s) (with_more more mid) v behind_all (subst (λ (c : ℕ). Goes_by image c (with_more more s) v) is there))) two.2.1 two.2.2
+        from_stop image more end other steps others t u mid v one.state two.state two.last one.same (one.ends ∙ ap (λ (e : CodeEnd). Ends e one.state) stops) (one.is ∙ ap told stops)
+        (going_prints image (suc k) (with_more more mid) v (rest_of image n (suc k) (with_more more s) (with_more more mid) v behind_all (subst (λ (c : ℕ). Goes_by image c (with_more more s) v) is there))) two.ends two.same
     by_order v there behind_all one two (inr ends) (inl (k, is)) =
-        absurd (not_behind_end image n k (with_more more s) (with_more more mid) v (with_more more one.1) one.0 behind_all (subst (λ (c : ℕ). Goes_by image c (with_more more s) v) is there) ends)
+        absurd (not_behind_end image n k (with_more more s) (with_more more mid) v (with_more more one.state) one.last behind_all (subst (λ (c : ℕ). Goes_by image c (with_more more s) v) is there) ends)
     by_order v there behind_all one two here (inr (inl is)) =
         let at : v ≡ with_more more mid = same_start v (with_more more mid) m (sym there ∙ subst (λ (c : ℕ). Goes_by image c (with_more more s) (with_more more mid)) is behind_all) in
         by_end v one two here at is
       where
-        by_end : (v : CodeState) (one : EndsAt image mid end t) → EndsAt image v other u → (one.0 ≡ Stopped) ⊎ (step image (with_more more mid) ≡ Ends one.0 (with_more more one.1)) → v ≡ with_more more mid → n ≡ m → PrintsOnTo image more end other steps others t u
+        by_end : (v : CodeState) (one : EndsAt image mid end t) → EndsAt image v other u → (one.last ≡ Stopped) ⊎ (step image (with_more more mid) ≡ Ends one.last (with_more more one.state)) → v ≡ with_more more mid → n ≡ m → PrintsOnTo image more end other steps others t u
         by_end v one two (inl stops) at is =
-            from_stop image more end other steps others t u mid v one.1 two.1 two.0 one.2.2 (one.2.1 ∙ ap (λ (e : CodeEnd). Ends e one.1) stops) (one.2.0 ∙ ap told stops)
-            (subst (λ (bytes : List ℕ). Begins mid.output bytes) (sym (ap (λ (z : CodeState). z.output) at)) (begins_itself mid.output)) two.2.1 two.2.2
+            from_stop image more end other steps others t u mid v one.state two.state two.last one.same (one.ends ∙ ap (λ (e : CodeEnd). Ends e one.state) stops) (one.is ∙ ap told stops)
+            (subst (λ (bytes : List ℕ). Begins mid.output bytes) (sym (ap (λ (z : CodeState). z.output) at)) (begins_itself mid.output)) two.ends two.same
         by_end v one two (inr ends) at is =
-            both_ended image more end other steps others t u one.1 two.1 one.0 two.0 one.2.2 two.2.2 one.2.0 two.2.0 (sym two.2.1 ∙ ap (λ (z : CodeState). step image z) at ∙ ends) (omega (arith, count, counts, is))
+            both_ended image more end other steps others t u one.state two.state one.last two.last one.same two.same one.is two.is (sym two.ends ∙ ap (λ (z : CodeState). step image z) at ∙ ends) (omega (arith, count, counts, is))

@@ -25,7 +25,7 @@ IsInputOf input course = (later : Rest) × IsLeft course.stopped.ended (Some cou
 -- the run from this origin on this input with so many turns, to an end of its code
 pub record RunsOn (from : Origin) (input : Rest) (turns : ℕ) (course : Course) : Type 0 where
   pub ran : IsCourse from turns course
-  pub input : IsInputOf input course
+  pub given : IsInputOf input course
   pub whole : is_of_code course.end ≡ true
 
 -- the second run is the first, with so many turns more left
