@@ -11,14 +11,14 @@ use Rattle.meaning_laws.proofs.Parts.{GoesOn, IsPart, behind, later_itself, part
 use Rattle.meaning_laws.proofs.Statements.{statement}
 
 module _ (typed : Typed) where
-  body_goes_on : (m n : ℕ) (one two : Call) → CallsGoOn m n one two → (instance : Option Instance) (given : List Value) (active : Active) → IsPart m n (run_body typed one instance given active) (run_body typed two instance given active)
+  pub body_goes_on : (m n : ℕ) (one two : Call) → CallsGoOn m n one two → (instance : Option Instance) (given : List Value) (active : Active) → IsPart m n (run_body typed one instance given active) (run_body typed two instance given active)
   unfolding run_body scope_of entered left
   body_goes_on m n one two calls None given active = part_same m n _
   body_goes_on m n one two calls (Some instance) given active =
       part_closed m n _ _ (λ st leaving. result_of instance.result leaving) (λ st after. left st after) (λ st leaving. refl) (λ st. record { more = λ t. refl; turns = λ t. refl; output = λ t. refl }) (λ st t. refl)
       (part_behind m n (entered instance given active) _ _ (record { more = λ t. refl; turns = λ t. refl; output = λ t. refl }) (statement m n (scope_of typed instance one) one two calls instance.body 0 active))
 
-  calls_grow : (k : ℕ) → CallsGoOn 0 k (calls typed k) (calls typed k)
+  pub calls_grow : (k : ℕ) → CallsGoOn 0 k (calls typed k) (calls typed k)
   unfolding calls behind
   calls_grow zero callee given active = part_stops 0 zero _ later_itself
   calls_grow (suc k) callee given active = part_spent 0 k _ _ (body_goes_on 0 k (calls typed k) (calls typed k) (calls_grow k) (slice_get typed.instances.items callee) given active)

@@ -1,2 +1,2 @@
-mod Contexts
-mod Unchanged
+pub mod Contexts
+pub mod Unchanged
