@@ -1,0 +1,371 @@
+-- The code of assignments to scalar variables of 32 bits, and of steps.
+use Rattle.std.proofs.Common.{◌≡◌, ◌∙◌, ℕ, ◌<◌, ◌≤◌, ◌^◌, ◌==◌, ◌&&◌, Bool, true, false, not, length, slice_index, Option, Some, None, refl, sym, ap, subst, if◌then◌else◌, arith}
+use Rattle.std.proofs.lemmas.Bool.{eq-eqb}
+use Rattle.cstar_base.specs.declared.elem.Elem.{Elem}
+use Rattle.cstar_base.specs.declared.faults.RunFault.TheVariants.{DivZero}
+use Rattle.cstar_base.specs.declared.operators.Op.{Op}
+use Rattle.cstar_base.specs.declared.operators.Op.TheVariants as P
+use Rattle.cstar_base.specs.declared.operators.Place.{Place}
+use Rattle.cstar_base.specs.Operators.{divides, outcome}
+use Rattle.cstar_tree.specs.declared.syntax.AssignOp.{AssignOp}
+use Rattle.cstar_tree.specs.declared.syntax.AssignOp.TheVariants as A
+use Rattle.cstar_tree.specs.declared.syntax.StepOp.{StepOp}
+use Rattle.cstar_tree.specs.declared.syntax.StepOp.TheVariants as Sp
+use Rattle.cstar_tree.specs.declared.typed.StepOrder.{StepOrder}
+use Rattle.cstar_tree.specs.declared.typed.TExpr.{TExpr}
+use Rattle.cstar_tree.specs.declared.typed.TExpr as T
+use Rattle.cstar_tree.specs.declared.typed.ValueType.{ValueType}
+use Rattle.cstar_tree.specs.declared.typed.VarInfo.{VarInfo}
+use Rattle.cstar_tree.specs.declared.typed.Variable.{Variable}
+use Rattle.cstar_tree.specs.Typed.{type_of}
+use Rattle.code_lengths.specs.Naming.{HasVariable, IsDeclared, NamesVariables, plain}
+use Rattle.code_lengths.specs.Lowerable.{IsLowerable}
+use Rattle.code_lengths.specs.Shaped.{IsShaped}
+use Rattle.cstar_tree.specs.StatementTypes.{variable_info}
+use Rattle.code_lengths.specs.Ready.{HasCode, IsReady}
+use Rattle.lower_base.specs.declared.emit.Out.{Out}
+use Rattle.lower_base.specs.declared.emit.Out.TheVariants as O
+use Rattle.lower_base.specs.Constants.{first_free, word_in}
+use Rattle.lower_base.specs.Drafts.{Draft, Made, Makes, a_register, in_register, then_make, with_instr}
+use Rattle.lower_base.specs.Layouts.{register_of}
+use Rattle.lower_base.specs.Operators.{assign_op_of, is_signed, machine_of, operation_of}
+use Rattle.lower_expr.specs.declared.operands.Own.{Own}
+use Rattle.lower_expr.specs.Effects.{assignment_effect, effect_of, folds, put_to, register_operated, step_effect, variable_assigned, variable_operated, variable_stepped, with_settled, writes_itself, written_register}
+use Rattle.lower_expr.specs.Operands.{own_of, standing}
+use Rattle.lower_expr.specs.Steps.{assigned_signed, is_kept, on_registers, operated as operated_in, with_register_check}
+use Rattle.lower_expr.specs.Values.{Code, next_of, step_operation, value_of}
+use Rattle.paris_code.specs.declared.instr.Instr.TheVariants as I
+use Rattle.paris_code.specs.Code.{CodeState}
+use Rattle.source_meaning.specs.Expressions.{evaluated, operated}
+use Rattle.source_meaning.specs.Reductions.{divides_by_zero, promoted, updated}
+use Rattle.source_meaning.proofs.ConstantLaws.{Boxed}
+use Rattle.source_meaning.specs.State as Source
+use Rattle.source_meaning.specs.State.{Outcome, State, then_do, with_scalar}
+use Rattle.source_meaning.specs.Targets.{OfScalar, assign_to, assigned, new_value, read, step_op, step_value, stepped, stored, variable_target}
+use Rattle.source_meaning.specs.Values.{Active, Scalar, Scope, Value, at, each, failing, number, unless}
+use Rattle.code_follows.specs.Fragment.{IsEffect, IsIn, IsVariable, IsWord}
+use Rattle.code_follows.proofs.Effects.{divides_is, updated_is, wide_type}
+use Rattle.code_follows.proofs.Expressions.{brackets_code, operand, value_follows}
+use Rattle.code_follows.proofs.Following.{Arrives, Extends, Follows, HasRegisters, IsScalar, Ran, Sim, keeps_all, then_follows, then_gives, then_silent}
+use Rattle.code_follows.proofs.Putting.{Put, put_follows}
+use Rattle.code_follows.proofs.Settings.{At, Setting, layout, stay}
+use Rattle.code_follows.proofs.Stores.{variable_dest}
+use Rattle.code_follows.proofs.Values.{Value_of, HasWord, extends_in_register, extends_operated, operated_is, operates, word_follows}
+use Rattle.code_follows.proofs.Words.{below_word, held_wide, kept, word_type}
+
+-- a scalar type
+abbrev scalar_type : Elem → ValueType
+scalar_type elem = record { elem = elem; shape = None }
+
+plain_type : (ty : ValueType) → ty.shape ≡ None → ty ≡ scalar_type ty.elem
+plain_type ty scalar = ap (λ (o : Option ℕ). record { elem = ty.elem; shape = o }) scalar
+
+-- what an assignment without an operator does to a scalar variable
+pub set_is : (scope : Scope) (active : Active) (place : Place) (x : Variable) (ty from : ValueType) (w : ℕ) (st : State) → ty.shape ≡ None → from.shape ≡ None → assigned scope active place A.Set ty from (OfScalar x) (Scalar w) st ≡ Source.Gives (Scalar w) (with_scalar x w st)
+unfolding assigned failing unless divides_by_zero assign_to new_value read stored each at number updated
+set_is scope active place x ty from w st one two =
+    ap (λ (t : ValueType). assigned scope active place A.Set t from (OfScalar x) (Scalar w) st) (plain_type ty one)
+    ∙ ap (λ (f : ValueType). assigned scope active place A.Set (scalar_type ty.elem) f (OfScalar x) (Scalar w) st) (plain_type from two)
+
+-- where a condition fails no divisor is 0
+not_zero : (d z : Bool) → (d && z) ≡ false → d ≡ true → z ≡ false
+not_zero true z e h = e
+not_zero false z e h = cc
+
+module _ (g : Setting) (has : HasRegisters g) (alive : Variable → Type 0) where
+  -- one with an operator is the operator, and then a store
+  operated_set_is : (scope : Scope) (active : Active) (place : Place) (x : Variable) (op : AssignOp) (o : Op) (ty from : ValueType) (w : ℕ) (st : State) → IsWord ty → IsWord from → st.scalar x < 2 ^ 32 → w < 2 ^ 32 → assign_op_of op ≡ Some o
+      → assigned scope active place op ty from (OfScalar x) (Scalar w) st
+      ≡ then_do (operated scope active ty place o (not (assigned_signed o ty.elem from.elem)) (Scalar (st.scalar x)) (Scalar w) st) (λ v after. Source.Gives v (with_scalar x (number v) after))
+  unfolding assigned failing unless assign_to new_value read stored each at number then_do
+  operated_set_is scope active place x op o ty from w st word also few small is =
+      ap (λ (t : ValueType). assigned scope active place op t from (OfScalar x) (Scalar w) st) (plain_type ty word.0)
+      ∙ ap (λ (f : ValueType). assigned scope active place op (scalar_type ty.elem) f (OfScalar x) (Scalar w) st) (plain_type from also.0)
+      ∙ ap (λ (b : Bool). unless (if b then Some None else None) DivZero place st (Source.Gives (Scalar (updated op ty.elem from.elem (st.scalar x) w)) (with_scalar x (updated op ty.elem from.elem (st.scalar x) w) st))) (divides_is op o w is)
+      ∙ by (divides o && (w == 0)) refl
+      ∙ ap (λ (r : Outcome Value). then_do r (λ v after. Source.Gives v (with_scalar x (number v) after))) (sym (operated_is g has alive scope active ty place o (not (assigned_signed o ty.elem from.elem)) (st.scalar x) w st word.0))
+    where
+      by : (b : Bool) → (divides o && (w == 0)) ≡ b → unless (if b then Some None else None) DivZero place st (Source.Gives (Scalar (updated op ty.elem from.elem (st.scalar x) w)) (with_scalar x (updated op ty.elem from.elem (st.scalar x) w) st))
+          ≡ then_do (if divides o && (w == 0) then Source.Ends (Source.Fault DivZero place None) st else Source.Gives (Scalar (outcome o 32 (not (assigned_signed o ty.elem from.elem)) (st.scalar x) w)) st) (λ v after. Source.Gives v (with_scalar x (number v) after))
+      by true fails = ap (λ (b : Bool). then_do (if b then Source.Ends (Source.Fault DivZero place None) st else Source.Gives (Scalar (outcome o 32 (not (assigned_signed o ty.elem from.elem)) (st.scalar x) w)) st) (λ v after. Source.Gives v (with_scalar x (number v) after))) (sym fails)
+      by false fails =
+          ap (λ (u : ℕ). Source.Gives (Scalar u) (with_scalar x u st)) (updated_is op o ty.elem from.elem (st.scalar x) w word.1 also.1 few small is (not_zero (divides o) (w == 0) fails))
+          ∙ ap (λ (b : Bool). then_do (if b then Source.Ends (Source.Fault DivZero place None) st else Source.Gives (Scalar (outcome o 32 (not (assigned_signed o ty.elem from.elem)) (st.scalar x) w)) st) (λ v after. Source.Gives v (with_scalar x (number v) after))) (sym fails)
+
+module _ (g : Setting) (has : HasRegisters g) (alive : Variable → Type 0) (n : ℕ) (lives : (x : Variable) → IsDeclared n x → alive x) (ready : (d : Draft) → IsReady g.typed g.instance (layout g) n d) (scope : Scope) (active : Active)
+    (x : Variable) (info : VarInfo) (living : alive x) (scalar : IsScalar g x info) (also : info.elem.bits ≡ 32) where
+  abbrev own : ℕ
+  own = register_of (layout g) x
+
+  -- what a part does, whatever it gives
+  abbrev Does_so : (State → Outcome Value) → (Draft → Made Out) → Type 0
+  Does_so part code = (d : Draft) (s : CodeState) (st : State) → first_free (layout g) ≤ d.regs → At g s (length d.code) → Sim g alive st s → Follows g (λ v u out e. Ran g alive d s u e) s (part st) (code d)
+
+  -- without an operator the value is put in the variable
+  set_follows : (place : Place) (ty : ValueType) (value : TExpr) → ty.shape ≡ None → IsIn value → HasCode g.typed g.instance n value
+      → Does_so (λ st. then_do (evaluated scope value active st) (λ v after. assigned scope active place A.Set ty (type_of value) (OfScalar x) v after)) (λ d. put_to g.typed (layout g) (O.Scalar own) value d)
+  unfolding Follows
+  set_follows place ty value plain isin c d s st free here sim =
+      then_silent g (Put g has alive n lives ready scope active x info living scalar also d s) (λ v u out e. Ran g alive d s u e) s (evaluated scope value active st) _ (put_to g.typed (layout g) (O.Scalar own) value d)
+      (put_follows g has alive n lives ready scope active x info living scalar also value isin c d s st free here sim) (λ v u out e p.
+      subst (λ (r : Outcome Value). Follows g (λ v u out e. Ran g alive d s u e) s r (Makes out e))
+      (sym (ap (λ (w : Value). assigned scope active place A.Set ty (type_of value) (OfScalar x) w u) p.value ∙ set_is scope active place x ty (type_of value) p.word u plain (word_type value isin).0))
+      (λ within. record { grown = p.grown; t = p.t; go = p.go; at = p.at; sim = p.sim; keeps = p.keeps }))
+
+  -- with one, the operation writes the variable
+  module _ (place : Place) (op : AssignOp) (o : Op) (ty : ValueType) (value : TExpr) (word : IsWord ty) (isin : IsIn value) (c : HasCode g.typed g.instance n value) (is : assign_op_of op ≡ Some o) where
+    abbrev signed : Bool
+    signed = assigned_signed o ty.elem (type_of value).elem
+
+    abbrev behind_value : ℕ → Draft → Made Out
+    behind_value b between = then_make (written_register ty.elem own between) (λ written after. Makes (O.Scalar own) (with_settled ty.elem written own (operated_in o signed place written own b after)))
+
+    written_is : (b : ℕ) (between : Draft) → behind_value b between ≡ Makes (O.Scalar own) (operated_in o signed place own own b between)
+    unfolding written_register with_settled then_make
+    written_is b between =
+        ap (λ (c : Bool). then_make (if c then Makes own between else a_register between) (λ written after. Makes (O.Scalar own) (if c then operated_in o signed place written own b after else with_instr (I.FrontConvert own written ty.elem) (operated_in o signed place written own b after)))) (eq-eqb ty.elem.bits 32 word.1)
+
+    extends_behind : (b : ℕ) (between : Draft) → Extends g between (behind_value b between)
+    extends_behind b between = subst (λ (made : Made Out). Extends g between made) (sym (written_is b between)) (extends_operated g has alive o signed place own own b between)
+
+    with_value : (d : Draft) (s : CodeState) (v : Value) (u : State) (out : Out) (e : Draft) → first_free (layout g) ≤ d.regs → Arrives g alive (type_of value).elem true d s v u out e
+        → Follows g (λ v u out e. Ran g alive d s u e) s (assigned scope active place op ty (type_of value) (OfScalar x) v u) (in_register out (λ b. behind_value b e))
+    unfolding in_register Follows number
+    with_value d s v u out e free arr =
+        let old : ℕ = u.scalar x in
+        let few : old < 2 ^ 32 = below_word info.elem.bits old also (arr.sim.small x info living scalar) in
+        let small : arr.holds.word < 2 ^ 32 = below_word (type_of value).elem.bits arr.holds.word (word_type value isin).1 arr.holds.small in
+        let is_a : slice_index arr.t.registers own ≡ old = arr.sim.scalars x info living scalar ∙ held_wide info.elem old also few in
+        let is_b : slice_index arr.t.registers arr.holds.register ≡ arr.holds.word = arr.holds.lasts u arr.t arr.sim (keeps_all g e arr.t) (λ h. refl) ∙ held_wide (type_of value).elem arr.holds.word (word_type value isin).1 small in
+        subst (λ (o' : Out). Follows g (λ v u out e. Ran g alive d s u e) s (assigned scope active place op ty (type_of value) (OfScalar x) v u) (in_register o' (λ b. behind_value b e))) (sym arr.holds.is)
+        (subst (λ (made : Made Out). Follows g (λ v u out e. Ran g alive d s u e) s (assigned scope active place op ty (type_of value) (OfScalar x) v u) made) (sym (written_is arr.holds.register e))
+        (subst (λ (r : Outcome Value). Follows g (λ v u out e. Ran g alive d s u e) s r (Makes (O.Scalar own) (operated_in o signed place own own arr.holds.register e)))
+        (sym (ap (λ (w : Value). assigned scope active place op ty (type_of value) (OfScalar x) w u) arr.holds.value ∙ operated_set_is g has alive scope active place x op o ty (type_of value) arr.holds.word u word (word_type value isin) few small is))
+        (then_silent g (Put g has alive n lives ready scope active x info living scalar also d s) (λ v u out e. Ran g alive d s u e) s _ _ (Makes (O.Scalar own) (operated_in o signed place own own arr.holds.register e))
+        (operates g has alive ty o place signed d e arr.extended.0 s arr.t u (Put g has alive n lives ready scope active x info living scalar also d s) scope active own own arr.holds.register old arr.holds.word word
+        (variable_dest g has alive x info living scalar ty.elem d s word.1 also free) arr.go arr.at arr.sim arr.extended.1 arr.keeps is_a is_b few small)
+        (λ w u2 out2 e2 p. λ within. record { grown = p.grown; t = p.t; go = p.go; at = p.at; sim = subst (λ (q : Value). Sim g alive (with_scalar x (number q) u2) p.t) (sym p.value) p.sim; keeps = p.keeps }))))
+
+    pub operated_set_follows : Does_so (λ st. then_do (evaluated scope value active st) (λ v after. assigned scope active place op ty (type_of value) (OfScalar x) v after)) (λ d. register_operated g.typed (layout g) o signed place ty.elem own value d)
+    unfolding register_operated
+    operated_set_follows d s st free here sim =
+        then_follows g (Value_of g has alive (type_of value).elem true d s) (λ v u out e. Ran g alive d s u e) s s (evaluated scope value active st) _ (next_of g.typed (layout g) 32 true value d) (λ v between. in_register v (λ b. behind_value b between)) (stay g s)
+        (operand g has alive n lives ready scope active true 32 value isin c d s st free here sim) (λ v e. extends_in_register g has alive e v _ (λ b. extends_behind b e)) (λ v u out e arr. with_value d s v u out e free arr)
+
+  -- ---- steps
+
+  abbrev stepping : StepOp → Op
+  stepping Sp.Increment = P.Add
+  stepping Sp.Decrement = P.Sub
+
+  stepping_is : (op : StepOp) → assign_op_of (step_op op) ≡ Some (stepping op)
+  unfolding assign_op_of
+  stepping_is Sp.Increment = refl
+  stepping_is Sp.Decrement = refl
+
+  never_divides : (op : StepOp) → divides (stepping op) ≡ false
+  unfolding divides
+  never_divides Sp.Increment = refl
+  never_divides Sp.Decrement = refl
+
+  stepped_is : (place : Place) (op : StepOp) (order : StepOrder) (ty : ValueType) (st : State) → IsWord ty → st.scalar x < 2 ^ 32
+      → stepped scope active op order ty (OfScalar x) st
+      ≡ then_do (operated scope active ty place (stepping op) (not (assigned_signed (stepping op) ty.elem (promoted ty.elem))) (Scalar (st.scalar x)) (Scalar 1) st) (λ v after. Source.Gives (step_value order (Scalar (st.scalar x)) v) (with_scalar x (number v) after))
+  unfolding stepped assign_to new_value read stored each at number then_do
+  stepped_is place op order ty st word few =
+      let one : Elem = promoted ty.elem in
+      let wide_one : one.bits ≡ 32 = ap (λ (e : Elem). e.bits) (wide_type ty.elem word.1) ∙ word.1 in
+      let some : divides (stepping op) ≡ true → (1 == 0) ≡ false = λ h. refl in
+      stepped_by op ty.elem ∙ ap (λ (u : ℕ). Source.Gives (step_value order (Scalar (st.scalar x)) (Scalar u)) (with_scalar x u st)) (updated_is (step_op op) (stepping op) ty.elem one (st.scalar x) 1 word.1 wide_one few (omega arith) (stepping_is op) some)
+      ∙ sym (ap (λ (r : Outcome Value). then_do r (λ v after. Source.Gives (step_value order (Scalar (st.scalar x)) v) (with_scalar x (number v) after)))
+      (operated_is g has alive scope active ty place (stepping op) (not (assigned_signed (stepping op) ty.elem one)) (st.scalar x) 1 st word.0
+      ∙ ap (λ (b : Bool). if b && (1 == 0) then Source.Ends (Source.Fault DivZero place None) st else Source.Gives (Scalar (outcome (stepping op) 32 (not (assigned_signed (stepping op) ty.elem one)) (st.scalar x) 1)) st) (never_divides op)))
+    where
+      stepped_by : (op : StepOp) (elem : Elem) → stepped scope active op order ty (OfScalar x) st ≡ Source.Gives (step_value order (Scalar (st.scalar x)) (Scalar (updated (step_op op) ty.elem (promoted ty.elem) (st.scalar x) 1))) (with_scalar x (updated (step_op op) ty.elem (promoted ty.elem) (st.scalar x) 1) st)
+      stepped_by op elem = ap (λ (t : ValueType). stepped scope active op order t (OfScalar x) st) (plain_type ty word.0)
+
+  module _ (place : Place) (op : StepOp) (ty : ValueType) (word : IsWord ty) where
+    abbrev sign : Bool
+    sign = assigned_signed (stepping op) ty.elem (promoted ty.elem)
+
+    abbrev behind_one : ℕ → Draft → Made Out
+    behind_one b between = then_make (written_register ty.elem own between) (λ written after. Makes (O.Scalar own) (with_settled ty.elem written own (with_instr (I.FrontOperate (step_operation op) written own b) after)))
+
+    stepped_so : (b : ℕ) (between : Draft) → behind_one b between ≡ Makes (O.Scalar own) (operated_in (stepping op) sign place own own b between)
+    unfolding written_register with_settled then_make step_operation operated_in on_registers machine_of operation_of with_register_check divides
+    stepped_so b between =
+        ap (λ (c : Bool). then_make (if c then Makes own between else a_register between) (λ written after. Makes (O.Scalar own) (if c then with_instr (I.FrontOperate (step_operation op) written own b) after else with_instr (I.FrontConvert own written ty.elem) (with_instr (I.FrontOperate (step_operation op) written own b) after)))) (eq-eqb ty.elem.bits 32 word.1)
+        ∙ ap (λ (d : Draft). Makes (O.Scalar own) d) (by op sign)
+      where
+        by : (op : StepOp) (is_signed : Bool) → with_instr (I.FrontOperate (step_operation op) own own b) between ≡ operated_in (stepping op) is_signed place own own b between
+        by Sp.Increment is_signed = refl
+        by Sp.Decrement is_signed = refl
+
+    with_one : (order : StepOrder) (d : Draft) (s : CodeState) (st : State) (q : ℕ) (e : Draft) → first_free (layout g) ≤ d.regs → HasWord g has alive 1 d e s st q
+        → Follows g (λ v u out e. Ran g alive d s u e) s (stepped scope active op order ty (OfScalar x) st) (behind_one q e)
+    unfolding Follows number
+    with_one order d s st q e free h =
+        let old : ℕ = st.scalar x in
+        let few : old < 2 ^ 32 = below_word info.elem.bits old also (h.sim.small x info living scalar) in
+        let is_a : slice_index h.t.registers own ≡ old = h.sim.scalars x info living scalar ∙ held_wide info.elem old also few in
+        subst (λ (made : Made Out). Follows g (λ v u out e. Ran g alive d s u e) s (stepped scope active op order ty (OfScalar x) st) made) (sym (stepped_so q e))
+        (subst (λ (r : Outcome Value). Follows g (λ v u out e. Ran g alive d s u e) s r (Makes (O.Scalar own) (operated_in (stepping op) sign place own own q e))) (sym (stepped_is place op order ty st word few))
+        (then_silent g (Put g has alive n lives ready scope active x info living scalar also d s) (λ v u out e. Ran g alive d s u e) s _ _ (Makes (O.Scalar own) (operated_in (stepping op) sign place own own q e))
+        (operates g has alive ty (stepping op) place sign d e h.grown.0 s h.t st (Put g has alive n lives ready scope active x info living scalar also d s) scope active own own q old 1 word
+        (variable_dest g has alive x info living scalar ty.elem d s word.1 also free) h.go h.at h.sim h.grown.1 h.keeps is_a h.is few (omega arith))
+        (λ w u2 out2 e2 p. λ within. record { grown = p.grown; t = p.t; go = p.go; at = p.at; sim = subst (λ (v : Value). Sim g alive (with_scalar x (number v) u2) p.t) (sym p.value) p.sim; keeps = p.keeps })))
+
+    extends_one : (q : ℕ) (e : Draft) → Extends g e (behind_one q e)
+    extends_one q e = subst (λ (made : Made Out). Extends g e made) (sym (stepped_so q e)) (extends_operated g has alive (stepping op) sign place own own q e)
+
+    pub stepped_follows : (order : StepOrder) → Does_so (λ st. stepped scope active op order ty (OfScalar x) st) (λ d. variable_stepped (layout g) ty.elem op (O.Scalar own) d)
+    unfolding variable_stepped then_do
+    stepped_follows order d s st free here sim =
+        then_follows g (λ (u : Unit {0}) after q e. (after ≡ st) × HasWord g has alive 1 d e s st q) (λ v u out e. Ran g alive d s u e) s s (Source.Gives tt st) (λ u after. stepped scope active op order ty (OfScalar x) st) (word_in (layout g) 1 d) (λ q e. behind_one q e) (stay g s)
+        (word_follows g has alive 1 d s st free here sim) (λ q e. extends_one q e) (λ u after q e h. with_one order d s st q e free h.1)
+
+-- ---- effects as they stand in the tree
+
+-- the only assignment without an operator
+only_set : (op : AssignOp) → assign_op_of op ≡ None → op ≡ A.Set
+unfolding assign_op_of
+only_set A.Set is = refl
+only_set A.Add is = cc
+only_set A.Sub is = cc
+only_set A.Mul is = cc
+only_set A.Div is = cc
+only_set A.Rem is = cc
+only_set A.Mod is = cc
+only_set A.And is = cc
+only_set A.Or is = cc
+only_set A.Xor is = cc
+only_set A.Shl is = cc
+only_set A.Shr is = cc
+only_set A.Min is = cc
+only_set A.Max is = cc
+
+no_place : Place
+no_place = record { line = 0; col = 0 }
+
+module _ (g : Setting) (has : HasRegisters g) (alive : Variable → Type 0) (n : ℕ) (lives : (x : Variable) → IsDeclared n x → alive x) (ready : (d : Draft) → IsReady g.typed g.instance (layout g) n d) (scope : Scope) (active : Active) where
+  abbrev pub Runs : (State → Outcome Value) → (Draft → Made Out) → Type 0
+  Runs part code = (d : Draft) (s : CodeState) (st : State) → first_free (layout g) ≤ d.regs → At g s (length d.code) → Sim g alive st s → Follows g (λ v u out e. Ran g alive d s u e) s (part st) (code d)
+
+  -- the variable, where it is written so
+  abbrev chosen : Variable → Bool → Option Own
+  chosen x b = if b then Some (record { shape = None; variable = x }) else None
+
+  -- an assignment to a scalar variable writes it itself
+  writes_it : (elem : Elem) (x : Variable) (op : AssignOp) (place : Place) (value : TExpr) (whole : Code) (d : Draft) → is_kept value ≡ true
+      → assignment_effect g.typed (layout g) op place (T.Variable (scalar_type elem) x) value whole d ≡ variable_assigned g.typed (layout g) op place (T.Variable (scalar_type elem) x) value (O.Scalar (register_of (layout g) x)) d
+  unfolding assignment_effect own_of writes_itself folds standing then_make
+  writes_it elem x op place value whole d is =
+      ap (λ (k : Bool). elim (chosen x (not (true && not k) && (elim (assign_op_of op) as (λ _. Bool) [ None ↦ true | Some o ↦ true ]))) as (λ _. Made Out) [
+        | Some own ↦ then_make (standing g.typed (layout g) elem.bits own d) (λ dest after. variable_assigned g.typed (layout g) op place (T.Variable (scalar_type elem) x) value dest after)
+        | None ↦ whole d
+      ]) is ∙ by (assign_op_of op)
+    where
+      by : (m : Option Op) → (elim (chosen x (not (true && not true) && (elim m as (λ _. Bool) [ None ↦ true | Some o ↦ true ]))) as (λ _. Made Out) [
+        | Some own ↦ then_make (standing g.typed (layout g) elem.bits own d) (λ dest after. variable_assigned g.typed (layout g) op place (T.Variable (scalar_type elem) x) value dest after)
+        | None ↦ whole d
+      ]) ≡ variable_assigned g.typed (layout g) op place (T.Variable (scalar_type elem) x) value (O.Scalar (register_of (layout g) x)) d
+      by None = refl
+      by (Some o) = refl
+
+  steps_it : (elem : Elem) (x : Variable) (op : StepOp) (whole : Code) (d : Draft) → step_effect g.typed (layout g) op (T.Variable (scalar_type elem) x) whole d ≡ variable_stepped (layout g) elem op (O.Scalar (register_of (layout g) x)) d
+  unfolding step_effect own_of standing then_make
+  steps_it elem x op whole d = refl
+
+  -- what is known of the variable that is written
+  target_named : (tty : ValueType) (x : Variable) → NamesVariables g.typed g.instance n (T.Variable tty x) → HasVariable g.typed g.instance n x (plain tty)
+  unfolding NamesVariables
+  target_named tty x v = v
+
+  assign_names : (ty : ValueType) (place : Place) (op : AssignOp) (p q : Boxed) (target value : TExpr) → HasCode g.typed g.instance n (T.Assign' ty place op p target q value) → NamesVariables g.typed g.instance n target × HasCode g.typed g.instance n value
+  unfolding NamesVariables IsShaped IsLowerable
+  assign_names ty place op p q target value c = (c.names.0, record { shaped = c.shaped.3; lowerable = c.lowerable.3; names = c.names.1 })
+
+  step_names : (ty : ValueType) (op : StepOp) (order : StepOrder) (p : Boxed) (target : TExpr) → HasCode g.typed g.instance n (T.Step' ty op order p target) → NamesVariables g.typed g.instance n target
+  unfolding NamesVariables
+  step_names ty op order p target c = c.names
+
+  assigns : (elem : Elem) (place : Place) (op : AssignOp) (x : Variable) (value : TExpr) (whole : Code) → elem.bits ≡ 32 → HasVariable g.typed g.instance n x (plain (scalar_type elem)) → IsIn value → HasCode g.typed g.instance n value
+      → Runs (λ st. then_do (evaluated scope value active st) (λ v after. assigned scope active place op (scalar_type elem) (type_of value) (OfScalar x) v after)) (λ d. assignment_effect g.typed (layout g) op place (T.Variable (scalar_type elem) x) value whole d)
+  unfolding variable_operated
+  assigns elem place op x value whole wide v isin c d s st free here sim =
+      subst (λ (made : Made Out). Follows g (λ v u out e. Ran g alive d s u e) s (then_do (evaluated scope value active st) (λ v after. assigned scope active place op (scalar_type elem) (type_of value) (OfScalar x) v after)) made)
+      (sym (writes_it elem x op place value whole d (kept value isin))) (by op (assign_op_of op) refl)
+    where
+      info : VarInfo
+      info = variable_info v.word (plain (scalar_type elem)) v.start
+
+      by : (op : AssignOp) (m : Option Op) → assign_op_of op ≡ m → Follows g (λ v u out e. Ran g alive d s u e) s (then_do (evaluated scope value active st) (λ v after. assigned scope active place op (scalar_type elem) (type_of value) (OfScalar x) v after))
+          (elim m as (λ _. Made Out) [ None ↦ put_to g.typed (layout g) (O.Scalar (register_of (layout g) x)) value d | Some o ↦ variable_operated g.typed (layout g) o place (T.Variable (scalar_type elem) x) value (O.Scalar (register_of (layout g) x)) d ])
+      by op (Some o) is = operated_set_follows g has alive n lives ready scope active x info (lives x v.declared) (v.named, refl) wide place op o (scalar_type elem) value (refl, wide) isin c is d s st free here sim
+      by op None is = subst (λ (q : AssignOp). Follows g (λ v u out e. Ran g alive d s u e) s (then_do (evaluated scope value active st) (λ v after. assigned scope active place q (scalar_type elem) (type_of value) (OfScalar x) v after)) (put_to g.typed (layout g) (O.Scalar (register_of (layout g) x)) value d))
+          (sym (only_set op is)) (set_follows g has alive n lives ready scope active x info (lives x v.declared) (v.named, refl) wide place (scalar_type elem) value refl isin c d s st free here sim)
+
+  -- an expression without effects
+  pure_follows : (e : TExpr) → IsIn e → HasCode g.typed g.instance n e → Runs (λ st. evaluated scope e active st) (λ d. value_of g.typed (layout g) (type_of e).elem.bits e d)
+  unfolding then_do
+  pure_follows e isin c d s st free here sim =
+      subst (λ (o : Outcome Value). Follows g (λ v u out e. Ran g alive d s u e) s o (value_of g.typed (layout g) (type_of e).elem.bits e d)) (nothing_done (evaluated scope e active st))
+      (then_gives g (Value_of g has alive (type_of e).elem true d s) (λ v u out e. Ran g alive d s u e) s (evaluated scope e active st) (λ v. v) (value_of g.typed (layout g) (type_of e).elem.bits e d)
+      (value_follows g has alive n lives ready scope active true (type_of e).elem.bits e isin c d s st free here sim) (λ v u out f arr. record { grown = arr.extended; t = arr.t; go = arr.go; at = arr.at; sim = arr.sim; keeps = arr.keeps }))
+    where
+      nothing_done : (o : Outcome Value) → then_do o (λ v after. Source.Gives v after) ≡ o
+      nothing_done (Source.Gives v u) = refl
+      nothing_done (Source.Ends early u) = refl
+
+  assign_runs : (tty : ValueType) (place : Place) (op : AssignOp) (x : Variable) (value : TExpr) (whole : Code) → IsWord tty → HasVariable g.typed g.instance n x (plain tty) → IsIn value → HasCode g.typed g.instance n value
+      → Runs (λ st. then_do (Source.Gives (variable_target tty.shape x 0) st) (λ there between. then_do (evaluated scope value active between) (λ v after. assigned scope active place op tty (type_of value) there v after)))
+      (λ d. assignment_effect g.typed (layout g) op place (T.Variable tty x) value whole d)
+  unfolding then_do variable_target
+  assign_runs tty place op x value whole word v isin c =
+      subst (λ (t : ValueType). HasVariable g.typed g.instance n x (plain t) → Runs (λ st. then_do (Source.Gives (variable_target t.shape x 0) st) (λ there between. then_do (evaluated scope value active between) (λ v after. assigned scope active place op t (type_of value) there v after)))
+      (λ d. assignment_effect g.typed (layout g) op place (T.Variable t x) value whole d)) (sym (plain_type tty word.0)) (λ w. assigns tty.elem place op x value whole word.1 w isin c) v
+
+  step_runs : (tty : ValueType) (op : StepOp) (order : StepOrder) (x : Variable) (whole : Code) → IsWord tty → HasVariable g.typed g.instance n x (plain tty)
+      → Runs (λ st. then_do (Source.Gives (variable_target tty.shape x 0) st) (λ there after. stepped scope active op order tty there after)) (λ d. step_effect g.typed (layout g) op (T.Variable tty x) whole d)
+  unfolding then_do variable_target
+  step_runs tty op order x whole word v =
+      subst (λ (t : ValueType). HasVariable g.typed g.instance n x (plain t) → Runs (λ st. then_do (Source.Gives (variable_target t.shape x 0) st) (λ there after. stepped scope active op order t there after)) (λ d. step_effect g.typed (layout g) op (T.Variable t x) whole d))
+      (sym (plain_type tty word.0)) (λ w d s st free here sim.
+      subst (λ (made : Made Out). Follows g (λ v u out e. Ran g alive d s u e) s (stepped scope active op order (scalar_type tty.elem) (OfScalar x) st) made) (sym (steps_it tty.elem x op whole d))
+      (stepped_follows g has alive n lives ready scope active x (variable_info w.word (plain (scalar_type tty.elem)) w.start) (lives x w.declared) (w.named, refl) word.1 no_place op (scalar_type tty.elem) (refl, word.1) order d s st free here sim)) v
+
+  in_effect : (e : TExpr) → IsIn e → IsEffect e
+  unfolding IsIn IsEffect
+  in_effect (T.Number ty value) h = h
+  in_effect (T.PositionsOf ty shape value) h = h
+  in_effect (T.RankOf ty shape value) h = h
+  in_effect (T.DimOf ty shape axis value) h = h
+  in_effect (T.Variable ty x) h = h
+  in_effect (T.Brackets' ty p inner) h = h
+  in_effect (T.Convert' ty p operand) h = h
+  in_effect (T.Unary' ty op p operand) h = h
+  in_effect (T.Binary' ty place op p left q right) h = h
+  in_effect _ h = absurd h
+
+  pub effect_follows : (e : TExpr) → IsEffect e → HasCode g.typed g.instance n e → Runs (λ st. evaluated scope e active st) (λ d. effect_of g.typed (layout g) e d)
+  unfolding IsEffect effect_of evaluated IsVariable IsIn
+  effect_follows (T.Assign' ty place op p (T.Variable tty x) q value) h c =
+      let names = assign_names ty place op p q (T.Variable tty x) value c in
+      subst (λ (t : ValueType). Runs (λ st. then_do (Source.Gives (variable_target tty.shape x 0) st) (λ there between. then_do (evaluated scope value active between) (λ v after. assigned scope active place op t (type_of value) there v after)))
+      (λ d. assignment_effect g.typed (layout g) op place (T.Variable tty x) value (λ e. value_of g.typed (layout g) ty.elem.bits (T.Assign' ty place op p (T.Variable tty x) q value) e) d)) (sym h.1)
+      (assign_runs tty place op x value (λ e. value_of g.typed (layout g) ty.elem.bits (T.Assign' ty place op p (T.Variable tty x) q value) e) h.2 (target_named tty x names.0) h.3 names.1)
+  effect_follows (T.Assign' ty place op p _ q value) h c = absurd h.2
+  effect_follows (T.Step' ty op order p (T.Variable tty x)) h c =
+      subst (λ (t : ValueType). Runs (λ st. then_do (Source.Gives (variable_target tty.shape x 0) st) (λ there after. stepped scope active op order t there after)) (λ d. step_effect g.typed (layout g) op (T.Variable tty x) (λ e. value_of g.typed (layout g) ty.elem.bits (T.Step' ty op order p (T.Variable tty x)) e) d)) (sym h.1)
+      (step_runs tty op order x (λ e. value_of g.typed (layout g) ty.elem.bits (T.Step' ty op order p (T.Variable tty x)) e) h.2 (target_named tty x (step_names ty op order p (T.Variable tty x) c)))
+  effect_follows (T.Step' ty op order p _) h c = absurd h.2
+  effect_follows (T.Brackets' ty p inner) h c = effect_follows inner (in_effect inner h.1) (brackets_code g has alive n lives ready scope active ty p inner c)
+  effect_follows (T.Number ty value) h c = pure_follows (T.Number ty value) h c
+  effect_follows (T.PositionsOf ty shape value) h c = pure_follows (T.PositionsOf ty shape value) h c
+  effect_follows (T.RankOf ty shape value) h c = pure_follows (T.RankOf ty shape value) h c
+  effect_follows (T.DimOf ty shape axis value) h c = pure_follows (T.DimOf ty shape axis value) h c
+  effect_follows (T.Variable ty x) h c = pure_follows (T.Variable ty x) h c
+  effect_follows (T.Convert' ty p operand) h c = pure_follows (T.Convert' ty p operand) h c
+  effect_follows (T.Unary' ty op p operand) h c = pure_follows (T.Unary' ty op p operand) h c
+  effect_follows (T.Binary' ty place op p left q right) h c = pure_follows (T.Binary' ty place op p left q right) h c
+  effect_follows _ h c = absurd h

@@ -1,0 +1,323 @@
+-- Every statement of the fragment.
+use Rattle.std.proofs.Common.{◌≡◌, ◌∙◌, ℕ, zero, suc, take, ◌+◌, ◌<◌, ◌≤◌, ◌^◌, ◌&&◌, if◌then◌else◌, nat_lt, Bool, true, false, List, [], ◌++◌, map, Vec, Global, length, Some, refl, sym, ap, subst, arith}
+use mathlib.Core.Former.{Count}
+use Rattle.std.specs.Prelude.{nat_le}
+use Rattle.std.proofs.lemmas.Bool.Decides.{nat_tests}
+use Rattle.cstar_tree.specs.declared.typed.LocalVar.{LocalVar}
+use Rattle.cstar_tree.specs.declared.typed.TExpr.{TExpr}
+use Rattle.cstar_tree.specs.declared.typed.TStmt.{TStmt, Row_of-TStmt, end_of-TStmt, more_of-TStmt, Held-TStmt-If-2, None', Some'}
+use Rattle.cstar_tree.specs.declared.typed.TStmt as S
+use Rattle.cstar_tree.specs.declared.typed.VarInfo.{VarInfo}
+use Rattle.cstar_tree.specs.declared.typed.Variable.{Variable}
+use Rattle.cstar_tree.specs.declared.typed.Variable.TheVariants as V
+use Rattle.cstar_tree.specs.Variables.{variables_of}
+use Rattle.code_lengths.specs.Agreement.{StandsAmong}
+use Rattle.code_lengths.specs.Growth.{Extended}
+use Rattle.code_lengths.specs.LowerableStatements.{AreLowerableStatements, IsLowerableStatement}
+use Rattle.code_lengths.specs.ShapedStatements.{AreShapedStatements, IsShapedStatement}
+use Rattle.code_lengths.specs.NamingStatements.{StandFrom, StatementNamesVariables, StatementsNameVariables, behind}
+use Rattle.code_lengths.specs.Ready.{HasDeclared, HasStatementCode, IsReady, NumbersVariables}
+use Rattle.code_lengths.proofs.Agreeing.{places}
+use Rattle.code_lengths.proofs.Declaring.{first_part, info_of, of_block, row_variables, second_part}
+use Rattle.code_lengths.proofs.Drafting.{as_it_was, extended}
+use Rattle.lower_base.specs.Constants.{first_free}
+use Rattle.lower_base.specs.Drafts.{Draft, Fails, Made, Makes, here, then_make, with_instr, with_step}
+use Rattle.lower_expr.specs.Lengths.{used_length_of}
+use Rattle.lower_stmt.specs.declared.statement.Frame.{Frame}
+use Rattle.lower_stmt.specs.Frames.{has_result, in_loop}
+use Rattle.lower_stmt.specs.Lengths.{at_loop, statement_length_of}
+use Rattle.lower_stmt.specs.Programs.{outcome_of}
+use Rattle.lower_stmt.specs.Statements.{else_of, jump_back_of, loaded, part_of, restored, statement_of, statements_of}
+use Rattle.lower_stmt.specs.Variables.{all_cleared, all_initialised, declared as declared_in}
+use Rattle.meaning_laws.proofs.Parts.{behind as state_after}
+use Rattle.paris_code.specs.declared.instr.Instr.TheVariants as I
+use Rattle.paris_code.specs.Code.{CodeState}
+use Rattle.source_meaning.proofs.ConstantLaws.{Boxed}
+use Rattle.source_meaning.specs.State as Source
+use Rattle.source_meaning.specs.State.{Outcome, State, is_among, spend_turn, then_do, zeroed}
+use Rattle.source_meaning.specs.Statements.{Broke, Continued, Onward, all_executed, declared, done, else_executed, executed, initialised, passes, rounds, then_go}
+use Rattle.source_meaning.specs.Values.{Active, Scope, Value}
+use Rattle.lower_base.specs.declared.emit.Out.{Out}
+use Rattle.paris_code.specs.declared.operands.Field.{Field}
+use Rattle.code_follows.specs.Fragment.{AreInStatements, IsEffect, IsIn, IsInElse, IsInStatement}
+use Rattle.code_follows.proofs.Assigning.{effect_follows}
+use Rattle.code_follows.proofs.Choices.{Agrees, if_alone, if_else}
+use Rattle.code_follows.proofs.Executing.{Jumped, Left, TestMade, Tested, follows_from, go_on, test_follows, test_made}
+use Rattle.code_follows.proofs.Following.{Extends, Follows, HasRegisters, Ran, Sim, delayed, held, keeps_all}
+use Rattle.code_follows.proofs.Jumping.{jumps, moved_to, sim_moved}
+use Rattle.code_follows.proofs.Loops.{ends_from, loop_left, rounds_follow}
+use Rattle.code_follows.proofs.Settings.{At, Setting, Within, and_one, code_more, earlier, layout, regs_more, start, stay}
+use Rattle.code_follows.proofs.Statements.{MadeSo, expression_code, statement_made, while_body, while_test}
+
+-- no number is at least one and below it
+between : (n k : ℕ) → (nat_le n k && nat_lt k (n + 0)) ≡ false
+between n k = grind (arith, nat_tests)
+
+module _ (g : Setting) (has : HasRegisters g) (alive : Variable → Type 0) (every : (x : Variable) → alive x) (numbers : NumbersVariables g.instance (layout g)) (ready : (n : ℕ) (d : Draft) → IsReady g.typed g.instance (layout g) n d)
+    (declares : (n : ℕ) (d : Draft) → d.homes ≡ [] → HasDeclared g.typed g.instance (layout g) n d) (scope : Scope) (active : Active)
+    (falls : (s : TStmt) (n : ℕ) (st : State) → (state_after (executed scope s n active st)).turns ≤ st.turns) where
+  abbrev pub Follows_it : TStmt → Type 0
+  Follows_it s = Agrees g has alive every numbers ready declares scope active s
+
+  module _ (test : TExpr) (p : Boxed) (body : TStmt) (isin : IsIn test) (agrees : Follows_it body) where
+    module _ (f : Frame) (n : ℕ) (d : Draft) (s0 : CodeState) (st : State) (outcome : f.outcome ≡ outcome_of g.instance.result) (among : StandsAmong f []) (none : d.homes ≡ []) (free : first_free (layout g) ≤ d.regs) (at : At g s0 (length d.code)) (sim : Sim g alive st s0)
+        (c : HasStatementCode g.typed g.instance n (S.While' test p body)) where
+      abbrev long : ℕ
+      long = statement_length_of g.typed (layout g) (has_result f) (at_loop f.saved) body
+
+      abbrev turn : ℕ
+      turn = here d + 1
+
+      abbrev next : ℕ
+      next = turn + long + 1
+
+      abbrev after : ℕ
+      after = next + used_length_of g.typed (layout g) 32 true test + 1
+
+      abbrev inner : Frame
+      inner = in_loop next after f
+
+      abbrev enters : Draft
+      enters = with_instr (I.FrontJump next) d
+
+      abbrev before_body : Draft
+      before_body = with_instr I.FrontTurn enters
+
+      inner_outcome : inner.outcome ≡ outcome_of g.instance.result
+      unfolding in_loop
+      inner_outcome = outcome
+
+      inner_among : StandsAmong inner []
+      unfolding in_loop at_loop
+      inner_among = record { loop = omega arith; all = among.all }
+
+      begin_homes : before_body.homes ≡ []
+      unfolding with_instr with_step
+      begin_homes = none
+
+      made_body : MadeSo g numbers declares before_body long (behind n body) (statement_of g.typed (layout g) body inner [] n before_body)
+      unfolding in_loop has_result
+      made_body = statement_made g numbers declares body inner n before_body inner_outcome inner_among (while_body g numbers declares n test p body c) begin_homes
+
+      made_test : TestMade g alive has every n (ready n) scope active test made_body.e
+      made_test = test_made g alive has every n (ready n) scope active test made_body.e isin (while_test g numbers declares n test p body c)
+
+      abbrev behind_loop : Draft
+      behind_loop = with_instr (I.FrontJumpNonzero made_test.r turn) made_test.e
+
+      code_is : statement_of g.typed (layout g) (S.While' test p body) f [] n d ≡ Makes (behind n body) behind_loop
+      unfolding statement_of jump_back_of then_make
+      code_is =
+          ap (λ (m : Made ℕ). then_make m (λ m' behind'. then_make (jump_back_of g.typed (layout g) (Some test) turn behind') (λ _ end. Makes m' end))) made_body.is
+          ∙ ap (λ (m : Made ℕ). then_make (then_make m (λ r after'. Makes tt (with_instr (I.FrontJumpNonzero r turn) after'))) (λ _ end. Makes (behind n body) end)) made_test.is
+
+      numbers_are : (next ≡ length made_body.e.code) × (after ≡ length behind_loop.code) × (turn ≡ length enters.code) × (length before_body.code ≡ length enters.code + 1)
+      unfolding here
+      numbers_are =
+          let a = code_more g (I.FrontJump next) d in
+          let b = code_more g I.FrontTurn enters in
+          let e = places before_body made_body.e long made_body.extended in
+          let h = places made_body.e made_test.e (used_length_of g.typed (layout g) 32 true test) made_test.extended in
+          let i = code_more g (I.FrontJumpNonzero made_test.r turn) made_test.e in
+          (omega (arith, a, b, e), omega (arith, a, b, e, h, i), omega (arith, a), b)
+
+      -- the body and the test, from where they begin
+      body_there : (t : CodeState) (u : State) → At g t (length before_body.code) → Sim g alive u t → Follows g (Left g alive inner before_body t) t (executed scope body n active u) (Makes (behind n body) made_body.e)
+      body_there t u here_t sim_t =
+          let more = regs_more g I.FrontTurn enters in
+          let again = regs_more g (I.FrontJump next) d in
+          subst (λ (m : Made ℕ). Follows g (Left g alive inner before_body t) t (executed scope body n active u) m) made_body.is
+          (agrees inner n before_body t u inner_outcome inner_among begin_homes (omega (arith, free, more, again)) here_t sim_t (while_body g numbers declares n test p body c))
+
+      test_there : (t : CodeState) (u : State) → At g t (length made_body.e.code) → Sim g alive u t → Follows g (Tested g alive made_body.e t) t (passes scope active test u) (Makes made_test.r made_test.e)
+      test_there t u here_t sim_t =
+          let more = regs_more g I.FrontTurn enters in
+          let again = regs_more g (I.FrontJump next) d in
+          let longer = made_body.extended.regs in
+          subst (λ (m : Made ℕ). Follows g (Tested g alive made_body.e t) t (passes scope active test u) m) made_test.is
+          (test_follows g alive has every n (ready n) scope active test isin (while_test g numbers declares n test p body c) made_body.e t u (omega (arith, free, more, again, longer)) here_t sim_t)
+
+      all_grown : Extended d (1 + (1 + (long + (used_length_of g.typed (layout g) 32 true test + 1)))) behind_loop
+      all_grown =
+          extended d enters behind_loop 1 (1 + (long + (used_length_of g.typed (layout g) 32 true test + 1))) (and_one g (I.FrontJump next) d)
+          (extended enters before_body behind_loop 1 (long + (used_length_of g.typed (layout g) 32 true test + 1)) (and_one g I.FrontTurn enters)
+          (extended before_body made_body.e behind_loop long (used_length_of g.typed (layout g) 32 true test + 1) made_body.extended
+          (extended made_body.e made_test.e behind_loop (used_length_of g.typed (layout g) 32 true test) 1 made_test.extended (and_one g (I.FrontJumpNonzero made_test.r turn) made_test.e))))
+
+      within_enters : Within g behind_loop → Within g enters
+      within_enters w =
+          earlier g enters behind_loop (1 + (long + (used_length_of g.typed (layout g) 32 true test + 1)))
+          (extended enters before_body behind_loop 1 (long + (used_length_of g.typed (layout g) 32 true test + 1)) (and_one g I.FrontTurn enters)
+          (extended before_body made_body.e behind_loop long (used_length_of g.typed (layout g) 32 true test + 1) made_body.extended
+          (extended made_body.e made_test.e behind_loop (used_length_of g.typed (layout g) 32 true test) 1 made_test.extended (and_one g (I.FrontJumpNonzero made_test.r turn) made_test.e)))) w
+
+    while_agrees : Follows_it (S.While' test p body)
+    unfolding executed Extends in_loop
+    while_agrees f n d s0 st outcome among none free at sim c =
+        let e : Draft = behind_loop f n d s0 st outcome among none free at sim c in
+        let numbers_so = numbers_are f n d s0 st outcome among none free at sim c in
+        let made_b = made_body f n d s0 st outcome among none free at sim c in
+        let made_t = made_test f n d s0 st outcome among none free at sim c in
+        let s1 : CodeState = moved_to g alive (next f n d s0 st outcome among none free at sim c + start g) s0 in
+        let regs1 = regs_more g I.FrontTurn (enters f n d s0 st outcome among none free at sim c) in
+        let regs2 = regs_more g (I.FrontJump (next f n d s0 st outcome among none free at sim c)) d in
+        let place = numbers_so.0 in
+        subst (λ (m : Made ℕ). Follows g (Left g alive f d s0) s0 (rounds st.turns (passes scope active test) (λ u. executed scope body n active u) (λ u. Source.Gives Onward u) st) m) (sym (code_is f n d s0 st outcome among none free at sim c))
+        (delayed g (Left g alive f d s0) e s0 (rounds st.turns (passes scope active test) (λ u. executed scope body n active u) (λ u. Source.Gives Onward u) st) (Makes (behind n body) e) (0, as_it_was e) (λ within.
+        loop_left g alive scope active test body n (behind n body) isin (inner f n d s0 st outcome among none free at sim c) d (enters f n d s0 st outcome among none free at sim c) made_b.e made_t.e made_t.r (turn f n d s0 st outcome among none free at sim c) within numbers_so.2 numbers_so.0 numbers_so.1 (long f n d s0 st outcome among none free at sim c) (used_length_of g.typed (layout g) 32 true test) made_b.extended made_t.extended (omega (arith, regs1, regs2))
+        (falls body n) (λ t u here_t sim_t. body_there f n d s0 st outcome among none free at sim c t u here_t sim_t) (λ t u here_t sim_t. test_there f n d s0 st outcome among none free at sim c t u here_t sim_t) f (behind n body) _ s0 (rounds st.turns (passes scope active test) (λ u. executed scope body n active u) (λ u. Source.Gives Onward u) st) (all_grown f n d s0 st outcome among none free at sim c)
+        (ends_from g alive scope active test body n (behind n body) isin (inner f n d s0 st outcome among none free at sim c) d (enters f n d s0 st outcome among none free at sim c) made_b.e made_t.e made_t.r (turn f n d s0 st outcome among none free at sim c) s0 s1 (rounds st.turns (passes scope active test) (λ u. executed scope body n active u) (λ u. Source.Gives Onward u) st)
+        (jumps g alive (next f n d s0 st outcome among none free at sim c) d s0 (within_enters f n d s0 st outcome among none free at sim c within) at) (keeps_all g d s0)
+        (rounds_follow g alive scope active test body n (behind n body) isin (inner f n d s0 st outcome among none free at sim c) d (enters f n d s0 st outcome among none free at sim c) made_b.e made_t.e made_t.r (turn f n d s0 st outcome among none free at sim c) within numbers_so.2 numbers_so.0 numbers_so.1 (long f n d s0 st outcome among none free at sim c) (used_length_of g.typed (layout g) 32 true test) made_b.extended made_t.extended (omega (arith, regs1, regs2))
+        (falls body n) (λ t u here_t sim_t. body_there f n d s0 st outcome among none free at sim c t u here_t sim_t) (λ t u here_t sim_t. test_there f n d s0 st outcome among none free at sim c t u here_t sim_t) st.turns st s1 (omega arith) (omega (arith, place)) (sim_moved g alive st s0 (next f n d s0 st outcome among none free at sim c + start g) sim)))))
+
+  -- an expression as a statement
+  effect_statement : (f : Frame) (n : ℕ) (d : Draft) (s0 : CodeState) (o : Outcome Value) (made : Made Out) → Follows g (λ v u out e. Ran g alive d s0 u e) s0 o made
+      → Follows g (Left g alive f d s0) s0 (then_do o (λ v after. Source.Gives Onward after)) (then_make (then_make made (λ out after. Makes (tt {0}) after)) (λ u after. Makes n after))
+  unfolding Follows Left then_do then_make
+  effect_statement f n d s0 (Source.Gives v u) (Makes out e) h = h
+  effect_statement f n d s0 (Source.Ends early u) (Makes out e) h = h
+  effect_statement f n d s0 (Source.Gives v u) Fails h = tt
+  effect_statement f n d s0 (Source.Ends early u) Fails h = tt
+
+  no_fields : List Field
+  no_fields = []
+
+  nothing_taken : (k : ℕ) → take k no_fields ≡ no_fields
+  unfolding no_fields
+  nothing_taken zero = refl
+  nothing_taken (suc k) = refl
+
+  -- no context is saved
+  nothing_restored : (k : ℕ) (d : Draft) → restored [] k d ≡ d
+  unfolding restored loaded no_fields
+  nothing_restored k d = ap (λ (list : List Field). loaded list d) (nothing_taken k)
+
+  -- a jump out of a loop
+  jumps_out : (f : Frame) (k n place : ℕ) (d : Draft) (s0 : CodeState) (st : State) → At g s0 (length d.code) → Sim g alive st s0 → Within g (with_instr (I.FrontJump place) d) → Jumped g alive d s0 st place
+  jumps_out f k n place d s0 st at sim within = record {
+    t = moved_to g alive (place + start g) s0;
+    go = jumps g alive place d s0 within at;
+    at = omega arith;
+    sim = sim_moved g alive st s0 (place + start g) sim;
+    keeps = keeps_all g d s0;
+  }
+
+  -- statements in a row, and what is known of them
+  pub record RowCode {k : Count} (n : ℕ) (row : Row_of-TStmt k) : Type 0 where
+    pub shaped : AreShapedStatements row
+    pub lowerable : AreLowerableStatements g.typed g.instance.result row
+    pub names : StatementsNameVariables g.typed g.instance n row
+    pub stands : StandFrom (variables_of g.instance.body) n (row_variables row)
+
+  row_first : {k : Count} (n : ℕ) (s : TStmt) (rest : Row_of-TStmt k) → RowCode n (more_of-TStmt s rest) → HasStatementCode g.typed g.instance n s
+  unfolding AreShapedStatements AreLowerableStatements StatementsNameVariables row_variables
+  row_first n s rest c = record { shaped = c.shaped.0; lowerable = c.lowerable.0; names = c.names.0; stands = first_part (variables_of s) (row_variables rest) c.stands }
+
+  row_rest : {k : Count} (n : ℕ) (s : TStmt) (rest : Row_of-TStmt k) → RowCode n (more_of-TStmt s rest) → RowCode (behind n s) rest
+  unfolding AreShapedStatements AreLowerableStatements StatementsNameVariables row_variables
+  row_rest n s rest c = record { shaped = c.shaped.1; lowerable = c.lowerable.1; names = c.names.1; stands = second_part (variables_of s) (row_variables rest) c.stands }
+
+  pub row_grows : {k : Count} (row : Row_of-TStmt k) (f : Frame) (n : ℕ) (d : Draft) → f.outcome ≡ outcome_of g.instance.result → StandsAmong f [] → d.homes ≡ [] → RowCode n row → Extends g d (statements_of g.typed (layout g) row f [] n d)
+  unfolding statements_of Extends then_make
+  row_grows end_of-TStmt f n d outcome among none c = (0, as_it_was d)
+  row_grows (more_of-TStmt s rest) f n d outcome among none c =
+      let made = statement_made g numbers declares s f n d outcome among (row_first n s rest c) none in
+      subst (λ (m : Made ℕ). Extends g d (then_make m (λ m' after. statements_of g.typed (layout g) rest f [] m' after))) (sym made.is)
+      (grown_on d made.e _ (statements_of g.typed (layout g) rest f [] (behind n s) made.e) made.extended (row_grows rest f (behind n s) made.e outcome among made.homes (row_rest n s rest c)))
+    where
+      grown_on : (d e : Draft) (k : ℕ) (m : Made ℕ) → Extended d k e → Extends g e m → Extends g d m
+      grown_on d e k (Makes x h) a b = (k + b.0, extended d e h k b.0 a b.1)
+      grown_on d e k Fails a b = tt
+
+  -- a block without variables
+  pub sim_zeroed : (n : ℕ) (st : State) (s : CodeState) → Sim g alive st s → Sim g alive (zeroed n 0 st) s
+  unfolding zeroed is_among
+  sim_zeroed n st s h = record {
+    registers = h.registers;
+    scalars = λ x info living scalar. h.scalars x info living scalar ∙ ap (λ (b : Bool). held info.elem (if b then 0 else st.scalar x)) (sym (none_among n x));
+    small = λ x info living scalar. subst (λ (b : Bool). (if b then 0 else st.scalar x) < 2 ^ info.elem.bits) (sym (none_among n x)) (h.small x info living scalar);
+    constants = h.constants;
+    turns = h.turns;
+    output = h.output;
+    input = h.input;
+  }
+    where
+      none_among : (n : ℕ) (x : Variable) → is_among n 0 x ≡ false
+      none_among n (V.File k) = refl
+      none_among n (V.Param k) = refl
+      none_among n (V.Local k) = between n k
+
+  -- nothing is done
+  stays_here : (f : Frame) (n : ℕ) (d : Draft) (s0 : CodeState) (st : State) → At g s0 (length d.code) → Sim g alive st s0 → Follows g (Left g alive f d s0) s0 (Source.Gives Onward st) (Makes n d)
+  unfolding Follows Left
+  stays_here f n d s0 st at sim = λ within. record { grown = (0, as_it_was d); t = s0; go = stay g s0; at = at; sim = sim; keeps = keeps_all g d s0 }
+
+  expression_follows : (e : TExpr) → IsEffect e → (f : Frame) (n : ℕ) (d : Draft) (s0 : CodeState) (st : State) → first_free (layout g) ≤ d.regs → At g s0 (length d.code) → Sim g alive st s0 → HasStatementCode g.typed g.instance n (S.Expression e)
+      → Follows g (Left g alive f d s0) s0 (done scope active (Some e) st) (then_make (part_of g.typed (layout g) (Some e) d) (λ u after. Makes n after))
+  unfolding done part_of
+  expression_follows e h f n d s0 st free at sim c =
+      effect_statement f n d s0 _ _ (effect_follows g has alive n (λ x within. every x) (ready n) scope active e h (expression_code g numbers declares n e c) d s0 st free at sim)
+
+  breaks : (f : Frame) (k n : ℕ) (d : Draft) (s0 : CodeState) (st : State) → At g s0 (length d.code) → Sim g alive st s0 → Follows g (Left g alive f d s0) s0 (Source.Gives Broke st) (Makes n (with_instr (I.FrontJump f.after) (restored [] k d)))
+  unfolding Follows Left
+  breaks f k n d s0 st at sim =
+      subst (λ (e : Draft). Follows g (Left g alive f d s0) s0 (Source.Gives Broke st) (Makes n (with_instr (I.FrontJump f.after) e))) (sym (nothing_restored k d)) (λ within. jumps_out f k n f.after d s0 st at sim within)
+
+  continues : (f : Frame) (k n : ℕ) (d : Draft) (s0 : CodeState) (st : State) → At g s0 (length d.code) → Sim g alive st s0 → Follows g (Left g alive f d s0) s0 (Source.Gives Continued st) (Makes n (with_instr (I.FrontJump f.next) (restored [] k d)))
+  unfolding Follows Left
+  continues f k n d s0 st at sim =
+      subst (λ (e : Draft). Follows g (Left g alive f d s0) s0 (Source.Gives Continued st) (Makes n (with_instr (I.FrontJump f.next) e))) (sym (nothing_restored k d)) (λ within. jumps_out f k n f.next d s0 st at sim within)
+
+  -- a block without variables is its statements
+  block_follows : {k : Count} (locals : List LocalVar) (row : Row_of-TStmt k) (f : Frame) (n : ℕ) (d : Draft) (s0 : CodeState) (st : State) → locals ≡ []
+      → Follows g (Left g alive f d s0) s0 (all_executed scope row (n + 0) active (zeroed n 0 st)) (statements_of g.typed (layout g) row f [] (n + 0) d)
+      → Follows g (Left g alive f d s0) s0 (then_go (initialised scope active n locals (zeroed n (length locals) st)) (all_executed scope row (n + length locals) active)) (then_make (declared_in g.typed (layout g) false locals n d) (λ m after. statements_of g.typed (layout g) row f [] m after))
+  unfolding initialised then_go declared_in all_cleared all_initialised then_make
+  block_follows locals row f n d s0 st none h =
+      subst (λ (xs : List LocalVar). Follows g (Left g alive f d s0) s0 (then_go (initialised scope active n xs (zeroed n (length xs) st)) (all_executed scope row (n + length xs) active)) (then_make (declared_in g.typed (layout g) false xs n d) (λ m after. statements_of g.typed (layout g) row f [] m after))) (sym none) h
+
+  pub block_code : (n : ℕ) (locals : Vec LocalVar Global) (p : Vec (Unit {0}) Global) (row : _) → locals.items ≡ [] → HasStatementCode g.typed g.instance n (S.Block' locals p row) → RowCode (n + 0) row
+  unfolding IsShapedStatement IsLowerableStatement StatementNamesVariables
+  block_code n locals p row none c = record {
+    shaped = c.shaped.1;
+    lowerable = c.lowerable.1;
+    names = subst (λ (xs : List LocalVar). StatementsNameVariables g.typed g.instance (n + length xs) row) none c.names.1;
+    stands = second_part [] (row_variables row) (subst (λ (xs : List LocalVar). StandFrom (variables_of g.instance.body) n (map info_of xs ++ row_variables row)) none (subst (λ (own : List VarInfo). StandFrom (variables_of g.instance.body) n own) (of_block locals p row) c.stands));
+  }
+
+  row_onward : {k : Count} (s : TStmt) (rest : Row_of-TStmt k) (f : Frame) (n : ℕ) (d : Draft) (s0 : CodeState) (st : State) → f.outcome ≡ outcome_of g.instance.result → StandsAmong f [] → d.homes ≡ [] → first_free (layout g) ≤ d.regs → RowCode n (more_of-TStmt s rest)
+      → Follows g (Left g alive f d s0) s0 (executed scope s n active st) (statement_of g.typed (layout g) s f [] n d)
+      → ((e : Draft) (t : CodeState) (u : State) → e.homes ≡ [] → first_free (layout g) ≤ e.regs → At g t (length e.code) → Sim g alive u t → Follows g (Left g alive f e t) t (all_executed scope rest (n + declared s) active u) (statements_of g.typed (layout g) rest f [] (n + declared s) e))
+      → Follows g (Left g alive f d s0) s0 (then_go (executed scope s n active st) (all_executed scope rest (n + declared s) active)) (then_make (statement_of g.typed (layout g) s f [] n d) (λ m after. statements_of g.typed (layout g) rest f [] m after))
+  unfolding then_make declared
+  row_onward s rest f n d s0 st outcome among none free c first next =
+      let made = statement_made g numbers declares s f n d outcome among (row_first n s rest c) none in
+      subst (λ (m : Made ℕ). Follows g (Left g alive f d s0) s0 (then_go (executed scope s n active st) (all_executed scope rest (n + declared s) active)) (then_make m (λ m' after. statements_of g.typed (layout g) rest f [] m' after))) (sym made.is)
+      (go_on g alive f d s0 (executed scope s n active st) (all_executed scope rest (n + declared s) active) (behind n s) made.e (statements_of g.typed (layout g) rest f [] (behind n s) made.e)
+      (subst (λ (m : Made ℕ). Follows g (Left g alive f d s0) s0 (executed scope s n active st) m) made.is first) (row_grows rest f (behind n s) made.e outcome among made.homes (row_rest n s rest c))
+      (λ u ran. follows_from g alive f d made.e ran.grown.0 s0 ran.t (all_executed scope rest (n + declared s) active u) (statements_of g.typed (layout g) rest f [] (behind n s) made.e) ran.grown.1 ran.go ran.keeps
+      (next made.e ran.t u made.homes (omega (arith, free, ran.grown.1.regs)) ran.at ran.sim)))
+
+  mutual
+    unfolding IsInStatement IsInElse AreInStatements executed all_executed declared else_executed statement_of statements_of else_of
+
+    pub statement_follows : (s : TStmt) → IsInStatement s → Follows_it s
+    statement_follows (S.Block' locals p statements) h f n d s0 st outcome among none free at sim c =
+        block_follows locals.items statements f n d s0 st h.0 (row_follows statements h.1 f (n + 0) d s0 (zeroed n 0 st) outcome among none free at (sim_zeroed n st s0 sim) (block_code n locals p statements h.0 c))
+    statement_follows (S.Expression e) h f n d s0 st outcome among none free at sim c = expression_follows e h f n d s0 st free at sim c
+    statement_follows S.Empty h f n d s0 st outcome among none free at sim c = stays_here f n d s0 st at sim
+    statement_follows (S.If' test p first None') h f n d s0 st outcome among none free at sim c = if_alone g has alive every numbers ready declares scope active test p first h.0 (statement_follows first h.1) f n d s0 st outcome among none free at sim c
+    statement_follows (S.If' test p first (Some' q second)) h f n d s0 st outcome among none free at sim c =
+        if_else g has alive every numbers ready declares scope active test p first q second h.0 (statement_follows first h.1) (statement_follows second h.2) f n d s0 st outcome among none free at sim c
+    statement_follows (S.While' test p body) h f n d s0 st outcome among none free at sim c = while_agrees test p body h.0 (statement_follows body h.1) f n d s0 st outcome among none free at sim c
+    statement_follows S.Break h f n d s0 st outcome among none free at sim c = breaks f f.saved.in_loop n d s0 st at sim
+    statement_follows S.Continue h f n d s0 st outcome among none free at sim c = continues f f.saved.in_loop n d s0 st at sim
+    statement_follows _ h f n d s0 st outcome among none free at sim c = absurd h
+
+    pub row_follows : {k : Count} (row : Row_of-TStmt k) → AreInStatements row → (f : Frame) (n : ℕ) (d : Draft) (s0 : CodeState) (st : State) → f.outcome ≡ outcome_of g.instance.result → StandsAmong f [] → d.homes ≡ [] → first_free (layout g) ≤ d.regs → At g s0 (length d.code) → Sim g alive st s0
+        → RowCode n row → Follows g (Left g alive f d s0) s0 (all_executed scope row n active st) (statements_of g.typed (layout g) row f [] n d)
+    row_follows end_of-TStmt h f n d s0 st outcome among none free at sim c = stays_here f n d s0 st at sim
+    row_follows (more_of-TStmt s rest) h f n d s0 st outcome among none free at sim c =
+        row_onward s rest f n d s0 st outcome among none free c (statement_follows s h.0 f n d s0 st outcome among none free at sim (row_first n s rest c))
+        (λ e t u none_e free_e at_e sim_e. row_follows rest h.1 f (n + declared s) e t u outcome among none_e free_e at_e sim_e (row_rest n s rest c))

@@ -1,0 +1,168 @@
+-- How statements are left, and what one behind another does.
+use Rattle.std.proofs.Common.{◌≡◌, ◌∙◌, ℕ, ◌+◌, ◌<◌, ◌≤◌, ◌^◌, Bool, true, false, length, slice_index, refl, sym, ap, subst}
+use Rattle.cstar_tree.specs.declared.typed.TExpr.{TExpr}
+use Rattle.cstar_tree.specs.declared.typed.TExpr as T
+use Rattle.cstar_tree.specs.declared.typed.Variable.{Variable}
+use Rattle.cstar_tree.specs.Typed.{type_of}
+use Rattle.code_lengths.specs.Growth.{Extended, Grows}
+use Rattle.code_lengths.specs.Lowerable.{GivesValue}
+use Rattle.code_lengths.specs.Ready.{Arrives as IsAtEnd, HasCode, IsReady}
+use Rattle.code_lengths.proofs.Agreeing.{expressions}
+use Rattle.code_lengths.proofs.Drafting.{as_it_was, extended}
+use Rattle.lower_base.specs.declared.emit.Out.{Out}
+use Rattle.lower_base.specs.declared.emit.Out.TheVariants as O
+use Rattle.lower_base.specs.Constants.{first_free}
+use Rattle.lower_base.specs.Drafts.{Draft, Fails, Made, Makes, here, in_register, then_make}
+use Rattle.lower_expr.specs.Lengths.{used_length_of}
+use Rattle.lower_expr.specs.Steps.{is_kept}
+use Rattle.lower_expr.specs.Values.{next_of}
+use Rattle.lower_stmt.specs.declared.statement.Frame.{Frame}
+use Rattle.lower_stmt.specs.Statements.{condition_of}
+use Rattle.paris_code.specs.Code as Machine
+use Rattle.paris_code.specs.Code.{CodeState}
+use Rattle.source_meaning.specs.Expressions.{evaluated}
+use Rattle.source_meaning.specs.State as Source
+use Rattle.source_meaning.specs.State.{Early, Outcome, State, then_do}
+use Rattle.source_meaning.specs.Statements.{Broke, Continued, Leaving, Onward, Returned, passes, then_go}
+use Rattle.source_meaning.specs.Values.{Active, Scope, Value, nonzero, number}
+use Rattle.code_follows.specs.Fragment.{IsIn}
+use Rattle.code_follows.proofs.Expressions.{operand}
+use Rattle.code_follows.proofs.Following.{Arrives, Extends, Follows, HasRegisters, Keeps, Ran, Sim, finishes_later, keeps_all, keeps_on, then_follows}
+use Rattle.code_follows.proofs.Settings.{At, EndsIn, Reaches, Setting, ends_later, layout, onto, stay}
+use Rattle.code_follows.proofs.Values.{Value_of, extends_in_register}
+use Rattle.code_follows.proofs.Words.{below_word, held_wide, kept, word_type}
+use Rattle.code_follows.proofs.Following.{delayed, finished}
+
+-- a value of the fragment is kept in a register, and there is one
+kept_not : (e : TExpr) → IsIn e → is_kept e ≡ false → ⊥
+kept_not e isin h = let k : is_kept e ≡ true = kept e isin in cc
+
+module _ (g : Setting) (alive : Variable → Type 0) where
+  -- a jump led to a place of the unit
+  pub record Jumped (d : Draft) (s : CodeState) (st : State) (place : ℕ) : Type 0 where
+    pub t : CodeState
+    pub go : Reaches g s t
+    pub at : At g t place
+    pub sim : Sim g alive st t
+    pub keeps : Keeps g d s t
+
+  -- the run is over
+  pub record Halted (s : CodeState) (st : State) : Type 0 where
+    pub t : CodeState
+    pub ends : EndsIn g s Machine.Done t
+    pub turns : t.turns ≡ st.turns
+    pub output : t.output ≡ st.output
+
+  -- how a statement is left: at its end, or where its jump leads
+  unfoldable pub Left : Frame → Draft → CodeState → Leaving → State → ℕ → Draft → Type 0
+  Left f d s Onward st m e = Ran g alive d s st e
+  Left f d s Broke st m e = Jumped d s st f.after
+  Left f d s Continued st m e = Jumped d s st f.next
+  Left f d s (Returned v) st m e = Halted s st
+
+  -- seen from an earlier draft and state
+  ran_from : (d e : Draft) (n : ℕ) (s t : CodeState) (st : State) (f : Draft) → Extended d n e → Reaches g s t → Keeps g d s t → Ran g alive e t st f → Ran g alive d s st f
+  ran_from d e n s t st f x go keeps r = record {
+    grown = (n + r.grown.0, extended d e f n r.grown.0 x r.grown.1);
+    t = r.t;
+    go = onto g s t r.t go r.go;
+    at = r.at;
+    sim = r.sim;
+    keeps = keeps_on g d e n s t r.t x keeps r.keeps;
+  }
+
+  jumped_from : (d e : Draft) (n : ℕ) (s t : CodeState) (st : State) (place : ℕ) → Extended d n e → Reaches g s t → Keeps g d s t → Jumped e t st place → Jumped d s st place
+  jumped_from d e n s t st place x go keeps r = record { t = r.t; go = onto g s t r.t go r.go; at = r.at; sim = r.sim; keeps = keeps_on g d e n s t r.t x keeps r.keeps }
+
+  left_from : (f : Frame) (d e : Draft) (n : ℕ) (s t : CodeState) (leaving : Leaving) (st : State) (m : ℕ) (h : Draft) → Extended d n e → Reaches g s t → Keeps g d s t → Left f e t leaving st m h → Left f d s leaving st m h
+  unfolding Left
+  left_from f d e n s t Onward st m h x go keeps r = ran_from d e n s t st h x go keeps r
+  left_from f d e n s t Broke st m h x go keeps r = jumped_from d e n s t st f.after x go keeps r
+  left_from f d e n s t Continued st m h x go keeps r = jumped_from d e n s t st f.next x go keeps r
+  left_from f d e n s t (Returned v) st m h x go keeps r = record { t = r.t; ends = ends_later g s t r.t Machine.Done go r.ends; turns = r.turns; output = r.output }
+
+  pub follows_from : (f : Frame) (d e : Draft) (n : ℕ) (s t : CodeState) (o : Outcome Leaving) (made : Made ℕ) → Extended d n e → Reaches g s t → Keeps g d s t → Follows g (Left f e t) t o made → Follows g (Left f d s) s o made
+  unfolding Follows
+  follows_from f d e n s t (Source.Gives leaving st) (Makes m h) x go keeps r = λ w. left_from f d e n s t leaving st m h x go keeps (r w)
+  follows_from f d e n s t (Source.Ends early st) (Makes m h) x go keeps r = λ w. finishes_later g early st s t go (r w)
+  follows_from f d e n s t (Source.Gives leaving st) Fails x go keeps r = tt
+  follows_from f d e n s t (Source.Ends early st) Fails x go keeps r = tt
+
+  -- one statement whose code is made, and then another
+  pub go_on : (f : Frame) (d : Draft) (s : CodeState) (o : Outcome Leaving) (k : State → Outcome Leaving) (m : ℕ) (e : Draft) (made : Made ℕ) → Follows g (Left f d s) s o (Makes m e) → Extends g e made
+      → ((st : State) → Ran g alive d s st e → Follows g (Left f d s) s (k st) made) → Follows g (Left f d s) s (then_go o k) made
+  unfolding Follows Left then_go
+  go_on f d s (Source.Gives Onward st) k m e made first grows next = delayed g (Left f d s) e s (k st) made grows (λ w. next st (first w))
+  go_on f d s (Source.Gives Broke st) k m e made first grows next = delayed g (Left f d s) e s (Source.Gives Broke st) made grows (λ w. kept_so made (λ p h. first w))
+    where
+      kept_so : (made : Made ℕ) → ((p : ℕ) (h : Draft) → Left f d s Broke st p h) → Follows g (Left f d s) s (Source.Gives Broke st) made
+      kept_so (Makes p h) j = λ w. j p h
+      kept_so Fails j = tt
+  go_on f d s (Source.Gives Continued st) k m e made first grows next = delayed g (Left f d s) e s (Source.Gives Continued st) made grows (λ w. kept_so made (λ p h. first w))
+    where
+      kept_so : (made : Made ℕ) → ((p : ℕ) (h : Draft) → Left f d s Continued st p h) → Follows g (Left f d s) s (Source.Gives Continued st) made
+      kept_so (Makes p h) j = λ w. j p h
+      kept_so Fails j = tt
+  go_on f d s (Source.Gives (Returned v) st) k m e made first grows next = delayed g (Left f d s) e s (Source.Gives (Returned v) st) made grows (λ w. kept_so made (λ p h. first w))
+    where
+      kept_so : (made : Made ℕ) → ((p : ℕ) (h : Draft) → Left f d s (Returned v) st p h) → Follows g (Left f d s) s (Source.Gives (Returned v) st) made
+      kept_so (Makes p h) j = λ w. j p h
+      kept_so Fails j = tt
+  go_on f d s (Source.Ends early st) k m e made first grows next = finished g (Left f d s) e s early st made grows first
+
+  -- a condition's word is tested
+  pub record Tested (d : Draft) (s : CodeState) (b : Bool) (st : State) (r : ℕ) (e : Draft) : Type 0 where
+    pub grown : (n : ℕ) × Extended d n e
+    pub t : CodeState
+    pub go : Reaches g s t
+    pub at : At g t (length e.code)
+    pub sim : Sim g alive st t
+    pub keeps : Keeps g d s t
+    pub is : nonzero (slice_index t.registers r) ≡ b
+
+  module _ (has : HasRegisters g) (every : (x : Variable) → alive x) (n : ℕ) (ready : (d : Draft) → IsReady g.typed g.instance (layout g) n d) (scope : Scope) (active : Active) where
+    pub test_follows : (test : TExpr) → IsIn test → HasCode g.typed g.instance n test → (d : Draft) (s : CodeState) (st : State) → first_free (layout g) ≤ d.regs → At g s (length d.code) → Sim g alive st s
+        → Follows g (Tested d s) s (passes scope active test st) (condition_of g.typed (layout g) test d)
+    unfolding passes condition_of Extends Follows in_register number
+    test_follows test isin c d s st free here sim =
+        then_follows g (Value_of g has alive (type_of test).elem true d s) (Tested d s) s s (evaluated scope test active st) (λ v after. Source.Gives (nonzero (number v)) after) (next_of g.typed (layout g) 32 true test d) (λ v after. in_register v (λ r. Makes r after)) (stay g s)
+        (operand g has alive n (λ x h. every x) ready scope active true 32 test isin c d s st free here sim) (λ v e. extends_in_register g has alive e v _ (λ r. (0, as_it_was e))) (λ v u out e arr. tests v u out e arr)
+      where
+        tests : (v : Value) (u : State) (out : Out) (e : Draft) → Arrives g alive (type_of test).elem true d s v u out e → Follows g (Tested d s) s (Source.Gives (nonzero (number v)) u) (in_register out (λ r. Makes r e))
+        tests v u out e arr =
+            let wide = (word_type test isin).1 in
+            let few : arr.holds.word < 2 ^ 32 = below_word (type_of test).elem.bits arr.holds.word wide arr.holds.small in
+            let there : slice_index arr.t.registers arr.holds.register ≡ arr.holds.word = arr.holds.lasts u arr.t arr.sim (keeps_all g e arr.t) (λ h. refl) ∙ held_wide (type_of test).elem arr.holds.word wide few in
+            subst (λ (w : Value). Follows g (Tested d s) s (Source.Gives (nonzero (number w)) u) (in_register out (λ r. Makes r e))) (sym arr.holds.value)
+            (subst (λ (o : Out). Follows g (Tested d s) s (Source.Gives (nonzero arr.holds.word) u) (in_register o (λ r. Makes r e))) (sym arr.holds.is)
+            (λ within. record { grown = arr.extended; t = arr.t; go = arr.go; at = arr.at; sim = arr.sim; keeps = arr.keeps; is = ap nonzero there }))
+
+    gives : (e : TExpr) → IsIn e → GivesValue g.typed e
+    unfolding GivesValue IsIn
+    gives (T.Number ty value) h = tt
+    gives (T.PositionsOf ty shape value) h = tt
+    gives (T.RankOf ty shape value) h = tt
+    gives (T.DimOf ty shape axis value) h = tt
+    gives (T.Variable ty x) h = tt
+    gives (T.Brackets' ty p inner) h = gives inner h.1
+    gives (T.Convert' ty p operand) h = tt
+    gives (T.Unary' ty op p operand) h = tt
+    gives (T.Binary' ty place op p left q right) h = tt
+    gives _ h = absurd h
+
+    -- the code of a condition is made
+    pub record TestMade (test : TExpr) (d : Draft) : Type 0 where
+      pub r : ℕ
+      pub e : Draft
+      pub is : condition_of g.typed (layout g) test d ≡ Makes r e
+      pub extended : Extended d (used_length_of g.typed (layout g) 32 true test) e
+
+    pub test_made : (test : TExpr) (d : Draft) → IsIn test → HasCode g.typed g.instance n test → TestMade test d
+    unfolding condition_of Grows IsAtEnd then_make in_register
+    test_made test d isin c = by (next_of g.typed (layout g) 32 true test d) refl ((expressions g.typed g.instance (layout g)).operand 32 n true test d c (ready d))
+      where
+        by : (m : Made Out) → next_of g.typed (layout g) 32 true test d ≡ m → Grows d (used_length_of g.typed (layout g) 32 true test) (IsAtEnd g.typed test) m → TestMade test d
+        by (Makes (O.Scalar r) e) is h = record { r = r; e = e; is = ap (λ (m : Made Out). then_make m (λ v after. in_register v (λ q. Makes q after))) is; extended = h.1 }
+        by (Makes (O.Field f) e) is h = absurd (kept_not test isin h.0)
+        by (Makes O.Nothing e) is h = absurd (h.0 (gives test isin))
+        by Fails is h = absurd h

@@ -1,0 +1,319 @@
+-- The code of every expression of the fragment gives its value, as a value and as an operand.
+use Rattle.std.proofs.Common.{◌≡◌, ◌∙◌, ℕ, ◌<◌, ◌-◌, ◌^◌, ◌==◌, Bool, true, false, Option, Some, None, refl, sym, ap, subst, if◌then◌else◌}
+use Rattle.std.specs.Prelude.{IfSome, is_none, ◌||◌, nat_le, nat_lt}
+use Rattle.cstar_base.specs.declared.elem.Elem.{Elem}
+use Rattle.cstar_base.specs.declared.operators.Op.{Op}
+use Rattle.cstar_base.specs.declared.operators.Place.{Place}
+use Rattle.cstar_base.specs.Numbers.{converted}
+use Rattle.cstar_tree.specs.declared.typed.TExpr.{TExpr}
+use Rattle.cstar_tree.specs.declared.typed.TExpr as T
+use Rattle.cstar_tree.specs.declared.typed.UnaryOp.{UnaryOp}
+use Rattle.cstar_tree.specs.declared.typed.UnaryOp.TheVariants as U
+use Rattle.cstar_tree.specs.declared.typed.ValueType.{ValueType}
+use Rattle.cstar_tree.specs.declared.typed.VarInfo.{VarInfo}
+use Rattle.cstar_tree.specs.declared.typed.Variable.{Variable}
+use Rattle.cstar_tree.specs.StatementTypes.{variable_info}
+use Rattle.cstar_tree.specs.Typed.{type_of}
+use Rattle.code_lengths.specs.Lowerable.{IsLowerable}
+use Rattle.code_lengths.specs.Naming.{HasVariable, IsDeclared, NamesVariables, plain}
+use Rattle.code_lengths.specs.Ready.{HasCode, IsReady}
+use Rattle.code_lengths.specs.Shaped.{IsShaped}
+use Rattle.code_lengths.proofs.Agreeing.{expressions}
+use Rattle.code_lengths.proofs.Drafting.{as_it_was}
+use Rattle.constant_trees.proofs.Words.{converted_below}
+use Rattle.lower_base.specs.declared.emit.Out.{Out}
+use Rattle.lower_base.specs.declared.emit.Out.TheVariants as O
+use Rattle.lower_base.specs.Constants.{constant_register}
+use Rattle.lower_base.specs.Drafts.{Draft, Made, Makes, first_bits, then_make, with_instr}
+use Rattle.lower_base.specs.Layouts.{Layout, field_of, register_of}
+use Rattle.lower_expr.specs.declared.operands.Own.{Own}
+use Rattle.lower_expr.specs.Kinds.{is_unchanged, operand_bits, unary_bits}
+use Rattle.lower_expr.specs.Operands.{held as held_in, in_place, is_plus, is_quiet, operand_by, own_of, standing}
+use Rattle.lower_expr.specs.Steps.{converted_in_place, field_converted, is_kept, put_test, register_word, shifted_back}
+use Rattle.paris_code.specs.declared.instr.Instr.TheVariants as I
+use Rattle.paris_code.specs.declared.operands.Konst.TheVariants as K
+use Rattle.paris_code.specs.declared.operands.Operation.TheVariants as Act
+use Rattle.lower_expr.specs.Values.{Code, cast_from, register_cast_by, truth_of, unary_by, value_of}
+use Rattle.quiet_operands.proofs.Unchanged as Quiet
+use Rattle.source_meaning.specs.Constants.{constant_of, is_constant, then_value}
+use Rattle.source_meaning.specs.Constants as Const
+use Rattle.source_meaning.specs.Expressions.{evaluated, mapped}
+use Rattle.source_meaning.specs.State as Source
+use Rattle.source_meaning.specs.State.{Outcome, State, then_do}
+use Rattle.source_meaning.specs.Values.{Active, Scalar, Scope, Value, at, convert_to, unary_of}
+use Rattle.source_meaning.proofs.ConstantLaws.{Boxed, value_means}
+use Rattle.code_follows.specs.Fragment.{IsIn, IsWord}
+use Rattle.code_follows.proofs.Following.{Arrives, Extends, Follows, HasRegisters, IsScalar, held, keeps_all, then_follows, then_gives}
+use Rattle.code_follows.proofs.Settings.{Setting, layout, stay}
+use Rattle.code_follows.proofs.Values.{Does, Value_of, binary_follows, constant_follows, conversion_is, extends_grown, mapped_is, read_is, rewrapped, unary_follows, variable_follows}
+use Rattle.code_follows.proofs.Words.{below_bits, below_word, constant_below, held_converted, held_wide, kept, word_type}
+
+some_same : {A : Type 0} (a b : A) → Some a ≡ Some b → a ≡ b
+some_same {A} a b e = ap (λ (o : Option A). elim o as (λ _. A) [ None ↦ a | Some x ↦ x ]) e
+
+-- a constant that stands in a register
+pub record StandsAs (l : Layout) (e : TExpr) (r : ℕ) : Type 0 where
+  pub word : ℕ
+  pub constant : is_constant e ≡ true
+  pub value : Const.value_of e ≡ Some word
+  pub register : constant_register l (held (type_of e).elem word) ≡ Some r
+
+held_stands : (l : Layout) (e : TExpr) (r : ℕ) → held_in l e ≡ Some r → StandsAs l e r
+unfolding held_in register_word constant_of
+held_stands l e r h = by (is_constant e) (Const.value_of e) refl refl h
+  where
+    by : (c : Bool) (v : Option ℕ) → is_constant e ≡ c → Const.value_of e ≡ v → then_value (then_value (if c then v else None) (λ w. Some (held (type_of e).elem w))) (constant_register l) ≡ Some r → StandsAs l e r
+    by true (Some w) is_c is_v h = record { word = w; constant = is_c; value = is_v; register = h }
+    by true None is_c is_v h = cc
+    by false v is_c is_v h = cc
+
+no_register : {r : ℕ} → O.Scalar r ≡ O.Nothing → ⊥
+no_register e = cc
+
+module _ (g : Setting) (has : HasRegisters g) (alive : Variable → Type 0) (n : ℕ) (lives : (x : Variable) → IsDeclared n x → alive x) (ready : (d : Draft) → IsReady g.typed g.instance (layout g) n d) (scope : Scope) (active : Active) where
+  -- an expression and its code
+  abbrev pub Agrees : Bool → ℕ → TExpr → Type 0
+  Agrees quiet bits e = Does g has alive (type_of e).elem quiet (λ st. evaluated scope e active st) (λ d. value_of g.typed (layout g) bits e d)
+
+  -- a variable whose own register is an operand
+  pub record OwnIs (e : TExpr) (own : Own) (st : State) : Type 0 where
+    pub info : VarInfo
+    pub scalar : IsScalar g own.variable info
+    pub shape : own.shape ≡ None
+    pub living : alive own.variable
+    pub word : ℕ
+    pub gives : evaluated scope e active st ≡ Source.Gives (Scalar word) st
+    pub small : word < 2 ^ 32
+    pub same : held (type_of e).elem word ≡ held info.elem (st.scalar own.variable)
+
+  own_is : (bits : ℕ) (e : TExpr) (own : Own) (st : State) → IsIn e → NamesVariables g.typed g.instance n e → ((x : Variable) (info : VarInfo) → alive x → IsScalar g x info → st.scalar x < 2 ^ info.elem.bits) → own_of bits e ≡ Some own → OwnIs e own st
+  unfolding own_of IsIn NamesVariables evaluated is_unchanged then_do at
+  own_is bits (T.Variable ty x) own st word v small is = by (is_none ty.shape || nat_le bits ty.elem.bits) is
+    where
+      by : (b : Bool) → (if b then Some (record { shape = ty.shape; variable = x }) else None) ≡ Some own → OwnIs (T.Variable ty x) own st
+      by false e = cc
+      by true e = subst (λ (o : Own). OwnIs (T.Variable ty x) o st) (some_same (record { shape = ty.shape; variable = x }) own e) (record {
+        info = variable_info v.word (plain ty) v.start;
+        scalar = (v.named, word.0);
+        shape = word.0;
+        living = lives x v.declared;
+        word = st.scalar x;
+        gives = ap (λ (w : Value). Source.Gives w st) (read_is g has alive st ty x word.0);
+        small = below_word ty.elem.bits (st.scalar x) word.1 (small x (variable_info v.word (plain ty) v.start) (lives x v.declared) (v.named, word.0));
+        same = refl;
+      })
+  own_is bits (T.Brackets' ty p inner) own st h v small is =
+      let o = own_is bits inner own st h.1 v small is in
+      record { info = o.info; scalar = o.scalar; shape = o.shape; living = o.living; word = o.word; gives = o.gives; small = o.small; same = ap (λ (y : ValueType). held y.elem o.word) h.0 ∙ o.same }
+  own_is bits (T.Convert' ty p operand) own st h v small is = by (is_unchanged bits ty.elem (is_kept operand)) is (λ e. own_is bits operand own st h.1 v small e)
+    where
+      by : (b : Bool) → (if b then own_of bits operand else None) ≡ Some own → (own_of bits operand ≡ Some own → OwnIs operand own st) → OwnIs (T.Convert' ty p operand) own st
+      by false e rest = cc
+      by true e rest =
+          let o = rest e in
+          let below : converted ty.elem (type_of operand).elem o.word < 2 ^ ty.elem.bits = converted_below ty.elem (type_of operand).elem o.word in
+          let few : converted ty.elem (type_of operand).elem o.word < 2 ^ 32 = below_word ty.elem.bits (converted ty.elem (type_of operand).elem o.word) h.0.1 below in
+          record {
+            info = o.info;
+            scalar = o.scalar;
+            shape = o.shape;
+            living = o.living;
+            word = converted ty.elem (type_of operand).elem o.word;
+            gives = ap (λ (r : Outcome Value). then_do r (λ v after. Source.Gives (convert_to ty (type_of operand).elem v) after)) o.gives ∙ ap (λ (w : Value). Source.Gives w st) (conversion_is g has alive ty (type_of operand).elem (Scalar o.word) h.0.0);
+            small = few;
+            same = held_wide ty.elem (converted ty.elem (type_of operand).elem o.word) h.0.1 few ∙ held_converted ty.elem (type_of operand).elem o.word h.0.1 ∙ o.same;
+          }
+  own_is bits (T.Number ty value) own st h v small is = cc
+  own_is bits (T.PositionsOf ty shape value) own st h v small is = cc
+  own_is bits (T.RankOf ty shape value) own st h v small is = cc
+  own_is bits (T.DimOf ty shape axis value) own st h v small is = cc
+  own_is bits (T.Unary' ty op p operand) own st h v small is = cc
+  own_is bits (T.Binary' ty place op p left q right) own st h v small is = cc
+  own_is bits _ own st h v small is = absurd h
+
+  -- an operand where it stands, or by its code
+  pub operand_follows : (quiet : Bool) (bits : ℕ) (e : TExpr) (code : Code) → IsIn e → NamesVariables g.typed g.instance n e → Does g has alive (type_of e).elem quiet (λ st. evaluated scope e active st) code
+      → Does g has alive (type_of e).elem quiet (λ st. evaluated scope e active st) (λ d. operand_by g.typed (layout g) bits code quiet e d)
+  unfolding operand_by in_place standing Follows
+  operand_follows quiet bits e code isin names does d s st free here sim = by_held (held_in (layout g) e) refl
+    where
+      by_place : (b : Bool) → quiet ≡ b → (o : Option Own) → (if b then own_of bits e else None) ≡ o → Follows g (Value_of g has alive (type_of e).elem quiet d s) s (evaluated scope e active st) (elim o as (λ _. Made Out) [ Some own ↦ standing g.typed (layout g) bits own d | None ↦ code d ])
+      by_place b is_quiet None is = does d s st free here sim
+      by_place false is_quiet (Some own) is = cc
+      by_place true is_quiet (Some own) is =
+          let o = own_is bits e own st isin names sim.small is in
+          let wide = (word_type e isin).1 in
+          subst (λ (made : Made Out). Follows g (Value_of g has alive (type_of e).elem quiet d s) s (evaluated scope e active st) made)
+          (sym (ap (λ (shape : Option ℕ). elim shape as (λ _. Made Out) [ None ↦ Makes (O.Scalar (register_of (layout g) own.variable)) d | Some _ ↦ then_make (field_of g.typed (layout g) own.variable 0 d) (λ f after. Makes (O.Field (first_bits bits f)) after) ]) o.shape))
+          (subst (λ (r : Outcome Value). Follows g (Value_of g has alive (type_of e).elem quiet d s) s r (Makes (O.Scalar (register_of (layout g) own.variable)) d)) (sym o.gives) (λ within. record {
+            extended = (0, as_it_was d);
+            t = s;
+            go = stay g s;
+            at = here;
+            sim = sim;
+            keeps = keeps_all g d s;
+            holds = record {
+              register = register_of (layout g) own.variable;
+              word = o.word;
+              is = refl;
+              value = refl;
+              small = below_bits (type_of e).elem.bits o.word wide o.small;
+              lasts = λ u t later stays same. later.scalars own.variable o.info o.living o.scalar ∙ ap (λ (v : State). held o.info.elem (v.scalar own.variable)) (same is_quiet) ∙ sym o.same;
+            };
+          }))
+
+      by_held : (o : Option ℕ) → held_in (layout g) e ≡ o
+          → Follows g (Value_of g has alive (type_of e).elem quiet d s) s (evaluated scope e active st) (elim o as (λ _. Made Out) [ Some r ↦ Makes (O.Scalar r) d | None ↦ elim (if quiet then own_of bits e else None) as (λ _. Made Out) [ Some own ↦ standing g.typed (layout g) bits own d | None ↦ code d ] ])
+      by_held None is = by_place quiet refl (if quiet then own_of bits e else None) refl
+      by_held (Some r) is =
+          let h = held_stands (layout g) e r is in
+          let few : h.word < 2 ^ 32 = subst (λ (o : Option ℕ). IfSome o (λ v. v < 2 ^ 32)) h.value (constant_below e isin) in
+          let gives : evaluated scope e active st ≡ Source.Gives (Scalar h.word) st = subst (λ (o : Option ℕ). Const.IsValueOf e o) h.value (value_means e h.constant) scope active st in
+          subst (λ (o : Outcome Value). Follows g (Value_of g has alive (type_of e).elem quiet d s) s o (Makes (O.Scalar r) d)) (sym gives) (λ within. record {
+            extended = (0, as_it_was d);
+            t = s;
+            go = stay g s;
+            at = here;
+            sim = sim;
+            keeps = keeps_all g d s;
+            holds = record {
+              register = r;
+              word = h.word;
+              is = refl;
+              value = refl;
+              small = below_bits (type_of e).elem.bits h.word (word_type e isin).1 few;
+              lasts = λ u t later stays same. later.constants (held (type_of e).elem h.word) r h.register;
+            };
+          })
+
+  -- a value is of 32 bits as it stands
+  unconverted : (elem : Elem) (v : Out) (d : Draft) → elem.bits ≡ 32 → (v ≡ O.Nothing → ⊥) → converted_in_place v elem d ≡ Makes v d
+  unfolding converted_in_place field_converted
+  unconverted elem (O.Scalar r) d wide some = ap (λ (n : ℕ). Makes (O.Scalar r) (if nat_lt n 32 then with_instr (I.FrontConvert r r elem) d else d)) wide
+  unconverted elem (O.Field f) d wide some =
+      ap (λ (n : ℕ).
+      if n == 1 then put_test f (with_instr (I.NeZero f) d)
+      else (if nat_lt n 32 then Makes (O.Field f)
+      (with_instr (I.OperateConstant (shifted_back elem.signed) f f (K.Imm (32 - n)))
+      (with_instr (I.OperateConstant Act.UShiftLeft f f (K.Imm (32 - n))) d))
+      else Makes (O.Field f) d)) wide
+  unconverted elem O.Nothing d wide some = absurd (some refl)
+
+  extends_nothing : (elem : Elem) (d : Draft) → Extends g d (converted_in_place O.Nothing elem d)
+  unfolding Extends converted_in_place
+  extends_nothing elem d = tt
+
+  extends_unconverted : (elem : Elem) (v : Out) (d : Draft) → elem.bits ≡ 32 → Extends g d (converted_in_place v elem d)
+  unfolding Extends
+  extends_unconverted elem (O.Scalar r) d wide = subst (λ (made : Made Out). Extends g d made) (sym (unconverted elem (O.Scalar r) d wide (λ e. cc))) (0, as_it_was d)
+  extends_unconverted elem (O.Field f) d wide = subst (λ (made : Made Out). Extends g d made) (sym (unconverted elem (O.Field f) d wide (λ e. cc))) (0, as_it_was d)
+  extends_unconverted elem O.Nothing d wide = extends_nothing elem d
+
+  -- a conversion to 32 bits
+  conversion_follows : (ty : ValueType) (quiet : Bool) (from : Elem) (code : Code) (part : State → Outcome Value) → IsWord ty → Does g has alive from quiet part code → Does g has alive ty.elem quiet (λ st. then_do (part st) (λ v after. Source.Gives (convert_to ty from v) after)) (λ d. register_cast_by ty.elem code d)
+  unfolding register_cast_by Follows
+  conversion_follows ty quiet from code part word does d s st free here sim =
+      then_follows g (Value_of g has alive from quiet d s) (Value_of g has alive ty.elem quiet d s) s s (part st) _ (code d) (λ v after. converted_in_place v ty.elem after) (stay g s) (does d s st free here sim) grows
+      (λ v u out e arr. converts v u out e arr)
+    where
+      grows : (v : Out) (e : Draft) → Extends g e (converted_in_place v ty.elem e)
+      grows v e = extends_unconverted ty.elem v e word.1
+
+      converts : (v : Value) (u : State) (out : Out) (e : Draft) → Arrives g alive from quiet d s v u out e → Follows g (Value_of g has alive ty.elem quiet d s) s (Source.Gives (convert_to ty from v) u) (converted_in_place out ty.elem e)
+      converts v u out e arr =
+          let from_word : converted ty.elem from (at v 0) < 2 ^ ty.elem.bits = converted_below ty.elem from (at v 0) in
+          subst (λ (r : Value). Follows g (Value_of g has alive ty.elem quiet d s) s (Source.Gives r u) (converted_in_place out ty.elem e)) (sym (conversion_is g has alive ty from v word.0))
+          (subst (λ (made : Made Out). Follows g (Value_of g has alive ty.elem quiet d s) s (Source.Gives (Scalar (converted ty.elem from (at v 0))) u) made) (sym (unconverted ty.elem out e word.1 (λ nothing. no_register (sym arr.holds.is ∙ nothing))))
+          (λ within. rewrapped g has alive ty.elem from quiet d e s v (converted ty.elem from (at v 0)) u out arr
+          (held_wide ty.elem (converted ty.elem from (at v 0)) word.1 (below_word ty.elem.bits (converted ty.elem from (at v 0)) word.1 from_word) ∙ held_converted ty.elem from (at v 0) word.1) from_word))
+
+  -- brackets keep the value
+  bracketed : (ty : ValueType) (inner : TExpr) (quiet : Bool) (part : State → Outcome Value) (code : Code) → ty ≡ type_of inner → Does g has alive (type_of inner).elem quiet part code → Does g has alive ty.elem quiet part code
+  bracketed ty inner quiet part code same does = subst (λ (y : ValueType). Does g has alive y.elem quiet part code) (sym same) does
+
+  plus_gives : (ty : ValueType) (quiet : Bool) (from : Elem) (code : Code) (part : State → Outcome Value) → IsWord ty → from.bits ≡ 32 → Does g has alive from quiet part code
+      → Does g has alive ty.elem quiet (λ st. then_do (part st) (λ v after. Source.Gives (mapped ty (unary_of U.Plus) v) after)) code
+  unfolding unary_of at
+  plus_gives ty quiet from code part word wide does d s st free here sim =
+      then_gives g (Value_of g has alive from quiet d s) (Value_of g has alive ty.elem quiet d s) s (part st) (λ v. mapped ty (unary_of U.Plus) v) (code d) (does d s st free here sim) (λ v u out e arr. goes v u out e arr)
+    where
+      goes : (v : Value) (u : State) (out : Out) (e : Draft) → Arrives g alive from quiet d s v u out e → Arrives g alive ty.elem quiet d s (mapped ty (unary_of U.Plus) v) u out e
+      goes v u out e arr =
+          let small : at v 0 < 2 ^ 32 = subst (λ (x : Value). at x 0 < 2 ^ 32) (sym arr.holds.value) (below_word from.bits arr.holds.word wide arr.holds.small) in
+          subst (λ (x : Value). Arrives g alive ty.elem quiet d s x u out e) (sym (mapped_is g has alive ty (unary_of U.Plus) v word.0))
+          (rewrapped g has alive ty.elem from quiet d e s v (at v 0) u out arr (held_wide ty.elem (at v 0) word.1 small ∙ sym (held_wide from (at v 0) wide small)) (below_bits ty.elem.bits (at v 0) word.1 small))
+
+  -- what has code of its parts
+  pub unary_code : (ty : ValueType) (op : UnaryOp) (p : Boxed) (operand : TExpr) → HasCode g.typed g.instance n (T.Unary' ty op p operand) → HasCode g.typed g.instance n operand
+  unfolding IsShaped IsLowerable NamesVariables
+  unary_code ty op p operand h = record { shaped = h.shaped.1; lowerable = h.lowerable.1; names = h.names }
+
+  pub brackets_code : (ty : ValueType) (p : Boxed) (inner : TExpr) → HasCode g.typed g.instance n (T.Brackets' ty p inner) → HasCode g.typed g.instance n inner
+  unfolding IsShaped IsLowerable NamesVariables
+  brackets_code ty p inner h = record { shaped = h.shaped.1; lowerable = h.lowerable; names = h.names }
+
+  pub convert_code : (ty : ValueType) (p : Boxed) (operand : TExpr) → HasCode g.typed g.instance n (T.Convert' ty p operand) → HasCode g.typed g.instance n operand
+  unfolding IsShaped IsLowerable NamesVariables
+  convert_code ty p operand h = record { shaped = h.shaped.1; lowerable = h.lowerable.1; names = h.names }
+
+  pub left_code : (ty : ValueType) (place : Place) (op : Op) (p q : Boxed) (left right : TExpr) → HasCode g.typed g.instance n (T.Binary' ty place op p left q right) → HasCode g.typed g.instance n left
+  unfolding IsShaped IsLowerable NamesVariables
+  left_code ty place op p q left right h = record { shaped = h.shaped.0; lowerable = h.lowerable.2; names = h.names.0 }
+
+  pub right_code : (ty : ValueType) (place : Place) (op : Op) (p q : Boxed) (left right : TExpr) → HasCode g.typed g.instance n (T.Binary' ty place op p left q right) → HasCode g.typed g.instance n right
+  unfolding IsShaped IsLowerable NamesVariables
+  right_code ty place op p q left right h = record { shaped = h.shaped.1; lowerable = h.lowerable.3; names = h.names.1 }
+
+  pub operand_grows : (quiet : Bool) (bits : ℕ) (e : TExpr) → HasCode g.typed g.instance n e → (d : Draft) → Extends g d (operand_by g.typed (layout g) bits (value_of g.typed (layout g) bits e) quiet e d)
+  operand_grows quiet bits e h d = extends_grown g has alive _ d _ _ ((expressions g.typed g.instance (layout g)).operand bits n quiet e d h (ready d))
+
+  pub named : (ty : ValueType) (x : Variable) → HasCode g.typed g.instance n (T.Variable ty x) → HasVariable g.typed g.instance n x (plain ty)
+  unfolding NamesVariables
+  named ty x c = c.names
+
+  converts : (ty : ValueType) (quiet : Bool) (bits : ℕ) (p : Boxed) (operand : TExpr) → is_kept operand ≡ true
+      → Does g has alive ty.elem quiet (λ st. evaluated scope (T.Convert' ty p operand) active st) (λ d. register_cast_by ty.elem (λ e. value_of g.typed (layout g) bits operand e) d)
+      → Does g has alive ty.elem quiet (λ st. evaluated scope (T.Convert' ty p operand) active st) (λ d. value_of g.typed (layout g) bits (T.Convert' ty p operand) d)
+  unfolding value_of
+  converts ty quiet bits p operand is does d s st free here sim =
+      subst (λ (made : Made Out). Follows g (Value_of g has alive ty.elem quiet d s) s (evaluated scope (T.Convert' ty p operand) active st) made)
+      (sym (ap (λ (b : Bool). if b then register_cast_by ty.elem (λ e. value_of g.typed (layout g) bits operand e) d else cast_from g.typed (layout g) bits ty operand (λ e. truth_of g.typed (layout g) operand e) (λ m e. value_of g.typed (layout g) m operand e) d) is))
+      (does d s st free here sim)
+
+  unary_value : (ty : ValueType) (quiet : Bool) (bits : ℕ) (op : UnaryOp) (operand : TExpr) → IsWord ty → (type_of operand).elem.bits ≡ 32 → Agrees quiet bits operand
+      → Does g has alive (type_of operand).elem true (λ st. evaluated scope operand active st) (λ d. operand_by g.typed (layout g) (unary_bits bits op operand) (value_of g.typed (layout g) (unary_bits bits op operand) operand) true operand d)
+      → Does g has alive ty.elem quiet (λ st. then_do (evaluated scope operand active st) (λ v after. Source.Gives (mapped ty (unary_of op) v) after))
+      (λ d. unary_by (layout g) ty bits op (λ e. value_of g.typed (layout g) bits operand e) (λ e. operand_by g.typed (layout g) (unary_bits bits op operand) (value_of g.typed (layout g) (unary_bits bits op operand) operand) true operand e) d)
+  unfolding unary_by is_plus
+  unary_value ty quiet bits U.Plus operand word wide value does = plus_gives ty quiet (type_of operand).elem _ (λ st. evaluated scope operand active st) word wide value
+  unary_value ty quiet bits U.Minus operand word wide value does = unary_follows g has alive ty U.Minus (type_of operand).elem wide word refl quiet (λ e. value_of g.typed (layout g) bits operand e) (λ e. operand_by g.typed (layout g) (unary_bits bits U.Minus operand) (value_of g.typed (layout g) (unary_bits bits U.Minus operand) operand) true operand e) (λ st. evaluated scope operand active st) bits does
+  unary_value ty quiet bits U.Complement operand word wide value does = unary_follows g has alive ty U.Complement (type_of operand).elem wide word refl quiet (λ e. value_of g.typed (layout g) bits operand e) (λ e. operand_by g.typed (layout g) (unary_bits bits U.Complement operand) (value_of g.typed (layout g) (unary_bits bits U.Complement operand) operand) true operand e) (λ st. evaluated scope operand active st) bits does
+  unary_value ty quiet bits U.Not operand word wide value does = unary_follows g has alive ty U.Not (type_of operand).elem wide word refl quiet (λ e. value_of g.typed (layout g) bits operand e) (λ e. operand_by g.typed (layout g) (unary_bits bits U.Not operand) (value_of g.typed (layout g) (unary_bits bits U.Not operand) operand) true operand e) (λ st. evaluated scope operand active st) bits does
+
+  operand_value : (quiet : Bool) (bits : ℕ) (e : TExpr) → IsIn e → HasCode g.typed g.instance n e → Agrees quiet bits e → Does g has alive (type_of e).elem quiet (λ st. evaluated scope e active st) (λ d. operand_by g.typed (layout g) bits (value_of g.typed (layout g) bits e) quiet e d)
+  operand_value quiet bits e h c agrees = operand_follows quiet bits e (λ d. value_of g.typed (layout g) bits e d) h c.names agrees
+
+  pub value_follows : (quiet : Bool) (bits : ℕ) (e : TExpr) → IsIn e → HasCode g.typed g.instance n e → Agrees quiet bits e
+  unfolding evaluated value_of IsIn
+  value_follows quiet bits (T.Number ty value) h c = λ d s st free here sim. constant_follows g has alive ty.elem quiet value d s st h.0.1 h.1 free here sim
+  value_follows quiet bits (T.PositionsOf ty shape value) h c = λ d s st free here sim. constant_follows g has alive ty.elem quiet value d s st h.0.1 h.1 free here sim
+  value_follows quiet bits (T.RankOf ty shape value) h c = λ d s st free here sim. constant_follows g has alive ty.elem quiet value d s st h.0.1 h.1 free here sim
+  value_follows quiet bits (T.DimOf ty shape axis value) h c = λ d s st free here sim. constant_follows g has alive ty.elem quiet value d s st h.0.1 h.1 free here sim
+  value_follows quiet bits (T.Variable ty x) h c = λ d s st free here sim.
+      let v = named ty x c in
+      variable_follows g has alive quiet bits n ty x d s st h v (lives x v.declared) free here sim
+  value_follows quiet bits (T.Brackets' ty p inner) h c = bracketed ty inner quiet _ _ h.0 (value_follows quiet bits inner h.1 (brackets_code ty p inner c))
+  value_follows quiet bits (T.Convert' ty p operand) h c =
+      converts ty quiet bits p operand (kept operand h.1) (conversion_follows ty quiet (type_of operand).elem _ _ h.0 (value_follows quiet bits operand h.1 (convert_code ty p operand c)))
+  value_follows quiet bits (T.Unary' ty op p operand) h c =
+      unary_value ty quiet bits op operand h.0 (word_type operand h.1).1 (value_follows quiet bits operand h.1 (unary_code ty op p operand c)) (operand_value true (unary_bits bits op operand) operand h.1 (unary_code ty op p operand c) (value_follows true (unary_bits bits op operand) operand h.1 (unary_code ty op p operand c)))
+  value_follows quiet bits (T.Binary' ty place op p left q right) h c =
+      let one_code = left_code ty place op p q left right c in
+      let other_code = right_code ty place op p q left right c in
+      binary_follows g has alive ty (is_quiet right) op place (type_of left).elem (type_of right).elem _ (λ st. evaluated scope right active st) scope active h.0 (word_type left h.1).1 (word_type right h.2).1
+      (λ st calm. Quiet.expression scope right active st calm) (operand_value true (operand_bits bits op left right) right h.2 other_code (value_follows true (operand_bits bits op left right) right h.2 other_code)) (operand_grows true (operand_bits bits op left right) right other_code) quiet bits left right _
+      (λ st. evaluated scope left active st) refl (operand_value (is_quiet right) (operand_bits bits op left right) left h.1 one_code (value_follows (is_quiet right) (operand_bits bits op left right) left h.1 one_code))
+  value_follows quiet bits _ h c = absurd h
+
+  pub operand : (quiet : Bool) (bits : ℕ) (e : TExpr) → IsIn e → HasCode g.typed g.instance n e → Does g has alive (type_of e).elem quiet (λ st. evaluated scope e active st) (λ d. operand_by g.typed (layout g) bits (value_of g.typed (layout g) bits e) quiet e d)
+  operand quiet bits e h c = operand_value quiet bits e h c (value_follows quiet bits e h c)

@@ -1,0 +1,250 @@
+-- The code of a unit follows the source: what registers hold, and what one instruction does to that.
+use Rattle.std.proofs.Common.{◌≡◌, ◌∙◌, ℕ, suc, ◌+◌, ◌<◌, ◌≤◌, ◌^◌, ◌==◌, Bool, true, false, List, [], ◌∷◌, length, slice_index, Option, Some, None, refl, ap, if◌then◌else◌, arith}
+use Rattle.std.proofs.lemmas.List.{get_or-set_other, get_or-set_same}
+use Rattle.std.proofs.Math.ListN.{length-set}
+use Rattle.cstar_base.specs.declared.elem.Elem.{Elem}
+use Rattle.cstar_base.specs.Numbers.{converted}
+use Rattle.cstar_tree.specs.declared.typed.VarInfo.{VarInfo}
+use Rattle.cstar_tree.specs.declared.typed.Variable.{Variable}
+use Rattle.code_lengths.specs.Growth.{Extended}
+use Rattle.code_lengths.specs.Naming.{variable_named}
+use Rattle.code_lengths.proofs.Drafting.{extended}
+use Rattle.lower_base.specs.declared.emit.Out.{Out}
+use Rattle.lower_base.specs.declared.emit.Out.TheVariants as O
+use Rattle.lower_base.specs.Constants.{constant_register, first_free, register_with}
+use Rattle.lower_base.specs.Drafts.{Draft, Fails, Made, Makes, then_make}
+use Rattle.lower_base.specs.Layouts.{Layout, register_of}
+use Rattle.paris_code.specs.Code as Machine
+use Rattle.paris_code.specs.Code.{CodeEnd, CodeState, Goes, begun, onward, step, with_register}
+use Rattle.source_meaning.specs.Reductions.{int_type}
+use Rattle.source_meaning.specs.State as Source
+use Rattle.source_meaning.specs.State.{Early, Outcome, State, is_same, then_do, with_scalar}
+use Rattle.source_meaning.specs.Values.{Scalar, Value}
+use Rattle.code_follows.specs.Agreement.{mark_of}
+use Rattle.code_follows.proofs.Settings.{At, EndsIn, Reaches, Setting, Within, earlier, ends_later, layout}
+
+-- the word that holds a number of a type: the number promoted to 32 bits
+abbrev pub held : Elem → ℕ → ℕ
+held elem w = converted int_type elem w
+
+abbrev pub input_of : State → Machine.Rest
+input_of st = record { bytes = st.input; mark = mark_of st.rest }
+
+-- how the code ends where the source does
+abbrev pub end_of : Early → CodeEnd
+end_of (Source.Fault fault place position) = Machine.Fault fault place position
+end_of Source.Stopped = Machine.Stopped
+end_of Source.InputBroken = Machine.InputBroken
+
+-- the registers of an instance's variables are below the constants, each variable has its own
+pub record HasRegisters (g : Setting) : Type 0 where
+  pub below : (x : Variable) (info : VarInfo) → variable_named g.typed g.instance x ≡ Some info → register_of (layout g) x < (layout g).end
+  pub apart : (x y : Variable) (info other : VarInfo) → variable_named g.typed g.instance x ≡ Some info → variable_named g.typed g.instance y ≡ Some other → register_of (layout g) x ≡ register_of (layout g) y → x ≡ y
+
+-- a constant's register is below those of values
+search_below : (words : List ℕ) (word first r : ℕ) → register_with word words first ≡ Some r → r < first + length words
+unfolding register_with
+search_below [] word first r is = cc
+search_below (w ∷ words) word first r is = by (w == word) (λ e. search_below words word (first + 1) r e) is
+  where
+    some_same : (a b : ℕ) → Some a ≡ Some b → a ≡ b
+    some_same a b e = ap (λ (o : Option ℕ). elim o as (λ _. ℕ) [ None ↦ 0 | Some x ↦ x ]) e
+
+    by : (b : Bool) → (register_with word words (first + 1) ≡ Some r → r < first + 1 + length words) → (if b then Some first else register_with word words (first + 1)) ≡ Some r → r < first + suc (length words)
+    by true later e = let h = some_same first r e in omega (arith, h)
+    by false later e = let h = later e in omega (arith, h)
+
+constant_below : (l : Layout) (word r : ℕ) → constant_register l word ≡ Some r → r < first_free l
+unfolding constant_register first_free
+constant_below l word r is = search_below l.constants word l.end r is
+
+module _ (g : Setting) where
+  -- a scalar variable of the instance
+  abbrev pub IsScalar : Variable → VarInfo → Type 0
+  IsScalar x info = (variable_named g.typed g.instance x ≡ Some info) × (info.shape ≡ None)
+
+  -- The registers hold the scalar variables that are alive and the constants; turns, output and input are
+  -- those of the source.
+  pub record Sim (alive : Variable → Type 0) (st : State) (s : CodeState) : Type 0 where
+    pub registers : length s.registers ≡ g.image.slots
+    pub scalars : (x : Variable) (info : VarInfo) → alive x → IsScalar x info → slice_index s.registers (register_of (layout g) x) ≡ held info.elem (st.scalar x)
+    pub small : (x : Variable) (info : VarInfo) → alive x → IsScalar x info → st.scalar x < 2 ^ info.elem.bits
+    pub constants : (word r : ℕ) → constant_register (layout g) word ≡ Some r → slice_index s.registers r ≡ word
+    pub turns : s.turns ≡ st.turns
+    pub output : s.output ≡ st.output
+    pub input : s.input ≡ input_of st
+
+  -- what stood in the registers of values stays
+  abbrev pub Keeps : Draft → CodeState → CodeState → Type 0
+  Keeps d s t = (r : ℕ) → first_free (layout g) ≤ r → r < d.regs → slice_index t.registers r ≡ slice_index s.registers r
+
+  pub keeps_on : (d e : Draft) (n : ℕ) (s t u : CodeState) → Extended d n e → Keeps d s t → Keeps e t u → Keeps d s u
+  keeps_on d e n s t u x a b r low high = b r low (omega (arith, high, x.regs)) ∙ a r low high
+
+  -- the code goes on from a draft
+  unfoldable pub Extends : {A : Type 0} → Draft → Made A → Type 0
+  Extends d (Makes x e) = (n : ℕ) × Extended d n e
+  Extends d Fails = Unit {0}
+
+  -- how the code ends where the source does
+  pub record Finishes (early : Early) (st : State) (s : CodeState) : Type 0 where
+    pub t : CodeState
+    pub ends : EndsIn g s (end_of early) t
+    pub turns : t.turns ≡ st.turns
+    pub output : t.output ≡ st.output
+    pub input : t.input ≡ input_of st
+
+  pub finishes_later : (early : Early) (st : State) (s t : CodeState) → Reaches g s t → Finishes early st t → Finishes early st s
+  finishes_later early st s t go f = record { t = f.t; ends = ends_later g s t f.t (end_of early) go f.ends; turns = f.turns; output = f.output; input = f.input }
+
+  -- what code that was made does, from a state: where the source gives something, R is said of it, the state
+  -- behind it, what the code answers and the draft behind it
+  unfoldable pub Follows : {A B : Type 0} → (A → State → B → Draft → Type 0) → CodeState → Outcome A → Made B → Type 0
+  Follows R s (Source.Gives x st) (Makes y e) = Within g e → R x st y e
+  Follows R s (Source.Ends early st) (Makes y e) = Within g e → Finishes early st s
+  Follows R s _ Fails = Unit {0}
+
+  -- what is said holds where the draft is an early state of the unit
+  pub delayed : {A B : Type 0} (R : A → State → B → Draft → Type 0) (e : Draft) (s : CodeState) (o : Outcome A) (made : Made B) → Extends e made → (Within g e → Follows R s o made) → Follows R s o made
+  unfolding Extends Follows
+  delayed R e s (Source.Gives x st) (Makes y f) grows h = λ w. h (earlier g e f grows.0 grows.1 w) w
+  delayed R e s (Source.Ends early st) (Makes y f) grows h = λ w. h (earlier g e f grows.0 grows.1 w) w
+  delayed R e s (Source.Gives x st) Fails grows h = tt
+  delayed R e s (Source.Ends early st) Fails grows h = tt
+
+  pub finished : {A B : Type 0} (R : A → State → B → Draft → Type 0) (e : Draft) (s : CodeState) (early : Early) (st : State) (made : Made B) → Extends e made → (Within g e → Finishes early st s) → Follows R s (Source.Ends early st) made
+  unfolding Extends Follows
+  finished R e s early st (Makes y f) grows h = λ w. h (earlier g e f grows.0 grows.1 w)
+  finished R e s early st Fails grows h = tt
+
+  -- one part and then another
+  pub then_follows : {A B C D : Type 0} (R : A → State → B → Draft → Type 0) (Q : C → State → D → Draft → Type 0) (s s0 : CodeState) (o : Outcome A) (k : A → State → Outcome C) (made : Made B) (next : B → Draft → Made D)
+      → Reaches g s s0 → Follows R s0 o made → ((y : B) (e : Draft) → Extends e (next y e)) → ((x : A) (st : State) (y : B) (e : Draft) → R x st y e → Follows Q s (k x st) (next y e)) → Follows Q s (then_do o k) (then_make made next)
+  unfolding Follows then_do then_make
+  then_follows R Q s s0 (Source.Gives x st) k (Makes y e) next go h grows f = delayed Q e s (k x st) (next y e) (grows y e) (λ w. f x st y e (h w))
+  then_follows R Q s s0 (Source.Ends early st) k (Makes y e) next go h grows f = finished Q e s early st (next y e) (grows y e) (λ w. finishes_later early st s s0 go (h w))
+  then_follows R Q s s0 (Source.Gives x st) k Fails next go h grows f = tt
+  then_follows R Q s s0 (Source.Ends early st) k Fails next go h grows f = tt
+
+  -- code that answers, where the source goes on
+  pub made_then : {A B C : Type 0} (Q : A → State → C → Draft → Type 0) (s : CodeState) (o : Outcome A) (y : B) (e : Draft) (next : B → Draft → Made C) → Follows Q s o (next y e) → Follows Q s o (then_make (Makes y e) next)
+  unfolding then_make
+  made_then Q s o y e next h = h
+
+  extends_made : {A : Type 0} (d e : Draft) (n : ℕ) (made : Made A) → Extended d n e → Extends e made → Extends d made
+  unfolding Extends
+  extends_made d e n (Makes x f) a b = (n + b.0, extended d e f n b.0 a b.1)
+  extends_made d e n Fails a b = tt
+
+  pub extends_then : {A B : Type 0} (d : Draft) (made : Made A) (next : A → Draft → Made B) → Extends d made → ((x : A) (e : Draft) → Extends e (next x e)) → Extends d (then_make made next)
+  unfolding Extends then_make
+  extends_then d (Makes x e) next a b = extends_made d e a.0 (next x e) a.1 (b x e)
+  extends_then d Fails next a b = tt
+
+  -- the register that holds a value of a type, as long as the registers of values are kept and, where it is a
+  -- variable's own, the source's state is the same
+  pub record Holds (alive : Variable → Type 0) (elem : Elem) (quiet : Bool) (e : Draft) (st : State) (s : CodeState) (out : Out) (v : Value) : Type 0 where
+    pub register : ℕ
+    pub word : ℕ
+    pub is : out ≡ O.Scalar register
+    pub value : v ≡ Scalar word
+    pub small : word < 2 ^ elem.bits
+    pub lasts : (u : State) (t : CodeState) → Sim alive u t → Keeps e s t → (quiet ≡ true → u ≡ st) → slice_index t.registers register ≡ held elem word
+
+  -- the code arrives behind a draft, where a value stands
+  pub record Arrives (alive : Variable → Type 0) (elem : Elem) (quiet : Bool) (d : Draft) (s : CodeState) (v : Value) (st : State) (out : Out) (e : Draft) : Type 0 where
+    pub extended : (n : ℕ) × Extended d n e
+    pub t : CodeState
+    pub go : Reaches g s t
+    pub at : At g t (length e.code)
+    pub sim : Sim alive st t
+    pub keeps : Keeps d s t
+    pub holds : Holds alive elem quiet e st t out v
+
+  -- a register that holds no variable and no constant takes a number
+  pub register_set : (alive : Variable → Type 0) (st : State) (s : CodeState) (r v : ℕ) → HasRegisters g → first_free (layout g) ≤ r → Sim alive st s → Sim alive st (with_register r v s)
+  unfolding first_free
+  register_set alive st s r v has low h = record {
+    registers = length-set s.registers r v ∙ h.registers;
+    scalars = λ x info known scalar. get_or-set_other s.registers r (register_of (layout g) x) v 0 (λ e. let b = has.below x info scalar.0 in omega (arith, e, b, low)) ∙ h.scalars x info known scalar;
+    small = h.small;
+    constants = λ word q is. get_or-set_other s.registers r q v 0 (λ e. let b = constant_below (layout g) word q is in omega (arith, e, b, low)) ∙ h.constants word q is;
+    turns = h.turns;
+    output = h.output;
+    input = h.input;
+  }
+
+  pub register_kept : (d : Draft) (s : CodeState) (r v : ℕ) → d.regs ≤ r → Keeps d s (with_register r v s)
+  register_kept d s r v low q from below = get_or-set_other s.registers r q v 0 (λ e. omega (arith, e, low, below))
+
+  pub register_is : (s : CodeState) (r v : ℕ) → r < length s.registers → slice_index (with_register r v s).registers r ≡ v
+  register_is s r v h = get_or-set_same s.registers r v 0 h
+
+  -- what is known of the source's part
+  pub knowing : {A B : Type 0} (R : A → State → B → Draft → Type 0) (s : CodeState) (o : Outcome A) (made : Made B) → Follows R s o made → Follows (λ x st y e. (o ≡ Source.Gives x st) × R x st y e) s o made
+  unfolding Follows
+  knowing R s (Source.Gives x st) (Makes y e) h = λ w. (refl, h w)
+  knowing R s (Source.Ends early st) (Makes y e) h = h
+  knowing R s (Source.Gives x st) Fails h = tt
+  knowing R s (Source.Ends early st) Fails h = tt
+
+  pub keeps_all : (d : Draft) (s : CodeState) → Keeps d s s
+  keeps_all d s r low below = refl
+
+  -- a register of a value
+  pub fresh_lasts : (alive : Variable → Type 0) (e : Draft) (st : State) (s : CodeState) (r w v : ℕ) → first_free (layout g) ≤ r → r < e.regs → slice_index s.registers r ≡ v → (u : State) (t : CodeState) → Sim alive u t → Keeps e s t → slice_index t.registers r ≡ v
+  fresh_lasts alive e st s r w v low below is u t sim keeps = keeps r low below ∙ is
+
+  -- a part, and what is made of its value
+  pub then_gives : {A B C : Type 0} (R : A → State → B → Draft → Type 0) (Q : C → State → B → Draft → Type 0) (s : CodeState) (o : Outcome A) (f : A → C) (made : Made B) → Follows R s o made → ((x : A) (st : State) (y : B) (e : Draft) → R x st y e → Q (f x) st y e)
+      → Follows Q s (then_do o (λ x after. Source.Gives (f x) after)) made
+  unfolding Follows then_do
+  then_gives R Q s (Source.Gives x st) f (Makes y e) h next = λ w. next x st y e (h w)
+  then_gives R Q s (Source.Ends early st) f (Makes y e) h next = h
+  then_gives R Q s (Source.Gives x st) f Fails h next = tt
+  then_gives R Q s (Source.Ends early st) f Fails h next = tt
+
+  -- a part, and what is made of its value and of the state behind it
+  pub then_changes : {A B C : Type 0} (R : A → State → B → Draft → Type 0) (Q : C → State → B → Draft → Type 0) (s : CodeState) (o : Outcome A) (f : A → C) (h : A → State → State) (made : Made B) → Follows R s o made
+      → ((x : A) (st : State) (y : B) (e : Draft) → R x st y e → Q (f x) (h x st) y e) → Follows Q s (then_do o (λ x after. Source.Gives (f x) (h x after))) made
+  unfolding Follows then_do
+  then_changes R Q s (Source.Gives x st) f h (Makes y e) follows next = λ w. next x st y e (follows w)
+  then_changes R Q s (Source.Ends early st) f h (Makes y e) follows next = follows
+  then_changes R Q s (Source.Gives x st) f h Fails follows next = tt
+  then_changes R Q s (Source.Ends early st) f h Fails follows next = tt
+
+  -- a part whose code is made, and then another
+  pub then_on : {A B C D : Type 0} (R : A → State → B → Draft → Type 0) (Q : C → State → D → Draft → Type 0) (s : CodeState) (o : Outcome A) (k : A → State → Outcome C) (y : B) (e : Draft) (made : Made D) → Follows R s o (Makes y e) → Extends e made
+      → ((x : A) (st : State) → R x st y e → Follows Q s (k x st) made) → Follows Q s (then_do o k) made
+  unfolding Follows then_do
+  then_on R Q s (Source.Gives x st) k y e made follows grows next = delayed Q e s (k x st) made grows (λ w. next x st (follows w))
+  then_on R Q s (Source.Ends early st) k y e made follows grows next = finished Q e s early st made grows follows
+
+  -- the code arrives behind a draft, whatever it answers
+  pub record Ran (alive : Variable → Type 0) (d : Draft) (s : CodeState) (st : State) (e : Draft) : Type 0 where
+    pub grown : (n : ℕ) × Extended d n e
+    pub t : CodeState
+    pub go : Reaches g s t
+    pub at : At g t (length e.code)
+    pub sim : Sim alive st t
+    pub keeps : Keeps d s t
+
+  nothing_said : {A B : Type 0} (Q : A → State → B → Draft → Type 0) (s : CodeState) (o : Outcome A) → Follows Q s o Fails
+  unfolding Follows
+  nothing_said Q s (Source.Gives x st) = tt
+  nothing_said Q s (Source.Ends early st) = tt
+
+  -- where the code is made and within the unit
+  at_once : {A B : Type 0} (Q : A → State → B → Draft → Type 0) (s : CodeState) (o : Outcome A) (y : B) (e : Draft) → (Within g e → Follows Q s o (Makes y e)) → Follows Q s o (Makes y e)
+  unfolding Follows
+  at_once Q s (Source.Gives x st) y e h = λ w. h w w
+  at_once Q s (Source.Ends early st) y e h = λ w. h w w
+
+  -- a part, and what the source does behind it without code of its own
+  pub then_silent : {A B C : Type 0} (R : A → State → B → Draft → Type 0) (Q : C → State → B → Draft → Type 0) (s : CodeState) (o : Outcome A) (k : A → State → Outcome C) (made : Made B) → Follows R s o made
+      → ((x : A) (st : State) (y : B) (e : Draft) → R x st y e → Follows Q s (k x st) (Makes y e)) → Follows Q s (then_do o k) made
+  unfolding Follows then_do
+  then_silent R Q s (Source.Gives x st) k (Makes y e) follows next = at_once Q s (k x st) y e (λ w. next x st y e (follows w))
+  then_silent R Q s (Source.Ends early st) k (Makes y e) follows next = follows
+  then_silent R Q s (Source.Gives x st) k Fails follows next = nothing_said Q s (k x st)
+  then_silent R Q s (Source.Ends early st) k Fails follows next = tt

@@ -1,0 +1,192 @@
+-- `while` and `do`.
+use Rattle.std.proofs.Common.{◌≡◌, ◌∙◌, ℕ, zero, suc, ◌+◌, ◌≤◌, ◌&&◌, Bool, true, false, length, refl, sym, ap, arith}
+use Rattle.cstar_tree.specs.declared.typed.TExpr.{TExpr}
+use Rattle.cstar_tree.specs.declared.typed.TExpr as T
+use Rattle.cstar_tree.specs.declared.typed.TStmt.{TStmt}
+use Rattle.cstar_tree.specs.declared.typed.Variable.{Variable}
+use Rattle.code_lengths.specs.Growth.{Extended}
+use Rattle.lower_base.specs.Drafts.{Draft, Makes, with_instr}
+use Rattle.lower_expr.specs.Operands.{is_quiet}
+use Rattle.lower_stmt.specs.declared.statement.Frame.{Frame}
+use Rattle.meaning_laws.proofs.Parts.{behind as state_after}
+use Rattle.paris_code.specs.declared.instr.Instr.TheVariants as I
+use Rattle.paris_code.specs.Code as Machine
+use Rattle.paris_code.specs.Code.{CodeState}
+use Rattle.quiet_operands.specs.Quiet.{state_behind}
+use Rattle.quiet_operands.proofs.Unchanged as Quiet
+use Rattle.source_meaning.specs.Expressions.{evaluated}
+use Rattle.source_meaning.specs.State as Source
+use Rattle.source_meaning.specs.State.{Outcome, State, spend_turn, then_do}
+use Rattle.source_meaning.specs.Statements.{Broke, Continued, Leaving, Onward, Returned, executed, passes, rounds, then_go, then_round}
+use Rattle.source_meaning.specs.Values.{Active, Scope, Value, nonzero, number}
+use Rattle.code_follows.specs.Fragment.{IsIn}
+use Rattle.code_follows.proofs.Executing.{Halted, Jumped, Left, Tested}
+use Rattle.code_follows.proofs.Following.{Finishes, Follows, Keeps, Sim, finishes_later, keeps_all}
+use Rattle.code_follows.proofs.Jumping.{behind_turn, moved_to, returns_to, sim_moved, sim_spent, spends, stops}
+use Rattle.code_follows.proofs.Settings.{At, Reaches, Setting, Within, and_one, code_more, earlier, ends_later, onto, start}
+
+both : (a b : Bool) → a ≡ true → b ≡ true → (a && b) ≡ true
+both true true h k = refl
+both false b h k = cc
+both true false h k = cc
+
+-- what is of the fragment has no effects
+in_quiet : (e : TExpr) → IsIn e → is_quiet e ≡ true
+unfolding IsIn is_quiet
+in_quiet (T.Number ty value) h = refl
+in_quiet (T.PositionsOf ty shape value) h = refl
+in_quiet (T.RankOf ty shape value) h = refl
+in_quiet (T.DimOf ty shape axis value) h = refl
+in_quiet (T.Variable ty x) h = refl
+in_quiet (T.Brackets' ty p inner) h = in_quiet inner h.1
+in_quiet (T.Convert' ty p operand) h = in_quiet operand h.1
+in_quiet (T.Unary' ty op p operand) h = in_quiet operand h.1
+in_quiet (T.Binary' ty place op p left q right) h = both (is_quiet left) (is_quiet right) (in_quiet left h.1) (in_quiet right h.2)
+in_quiet _ h = absurd h
+
+-- so its test leaves the state
+test_still : (scope : Scope) (active : Active) (test : TExpr) (st u : State) (b : Bool) → IsIn test → passes scope active test st ≡ Source.Gives b u → u ≡ st
+unfolding passes then_do state_behind
+test_still scope active test st u b isin is = by (evaluated scope test active st) (Quiet.expression scope test active st (in_quiet test isin)) is
+  where
+    by : (o : Outcome Value) → state_behind o ≡ st → then_do o (λ v after. Source.Gives (nonzero (number v)) after) ≡ Source.Gives b u → u ≡ st
+    by (Source.Gives v w) h e = sym (ap state_behind e) ∙ h
+    by (Source.Ends early w) h e = cc
+
+-- a loop: the turn stands behind one draft, the body between two, the test behind it, and the jump back behind that
+module _ (g : Setting) (alive : Variable → Type 0) (scope : Scope) (active : Active) (test : TExpr) (body : TStmt) (n number : ℕ) (isin : IsIn test) (f : Frame) (d before_turn behind_body tested : Draft) (r turn : ℕ) where
+  abbrev before_body : Draft
+  before_body = with_instr I.FrontTurn before_turn
+
+  abbrev behind_loop : Draft
+  behind_loop = with_instr (I.FrontJumpNonzero r turn) tested
+
+  -- the loop is left behind it, or the run is over
+  unfoldable pub LoopEnds : CodeState → Outcome Leaving → Type 0
+  LoopEnds s (Source.Gives Onward st) = Jumped g alive d s st (length behind_loop.code)
+  LoopEnds s (Source.Gives (Returned v) st) = Halted g alive s st
+  LoopEnds s (Source.Gives Broke st) = ⊥
+  LoopEnds s (Source.Gives Continued st) = ⊥
+  LoopEnds s (Source.Ends early st) = Finishes g early st s
+
+  halted_from : (s t : CodeState) (st : State) → Reaches g s t → Halted g alive t st → Halted g alive s st
+  halted_from s t st go h = record { t = h.t; ends = ends_later g s t h.t Machine.Done go h.ends; turns = h.turns; output = h.output }
+
+  pub ends_from : (s t : CodeState) (o : Outcome Leaving) → Reaches g s t → Keeps g d s t → LoopEnds t o → LoopEnds s o
+  unfolding LoopEnds
+  ends_from s t (Source.Gives Onward st) go keeps j = record { t = j.t; go = onto g s t j.t go j.go; at = j.at; sim = j.sim; keeps = λ q lo hi. j.keeps q lo hi ∙ keeps q lo hi }
+  ends_from s t (Source.Gives (Returned v) st) go keeps h = halted_from s t st go h
+  ends_from s t (Source.Gives Broke st) go keeps h = absurd h
+  ends_from s t (Source.Gives Continued st) go keeps h = absurd h
+  ends_from s t (Source.Ends early st) go keeps h = finishes_later g early st s t go h
+
+  module _ (within : Within g behind_loop) (turn_is : turn ≡ length before_turn.code) (next_is : f.next ≡ length behind_body.code) (after_is : f.after ≡ length behind_loop.code) (k l : ℕ) (body_grows : Extended before_body k behind_body) (test_grows : Extended behind_body l tested)
+      (regs : d.regs ≤ before_body.regs) (falls : (st : State) → (state_after (executed scope body n active st)).turns ≤ st.turns)
+      (body_follows : (t : CodeState) (st : State) → At g t (length before_body.code) → Sim g alive st t → Follows g (Left g alive f before_body t) t (executed scope body n active st) (Makes number behind_body))
+      (test_follows : (t : CodeState) (st : State) → At g t (length behind_body.code) → Sim g alive st t → Follows g (Tested g alive behind_body t) t (passes scope active test st) (Makes r tested)) where
+    within_tested : Within g tested
+    within_tested = earlier g tested behind_loop 1 (and_one g (I.FrontJumpNonzero r turn) tested) within
+
+    within_body : Within g behind_body
+    within_body = earlier g behind_body tested l test_grows within_tested
+
+    within_turn : Within g before_body
+    within_turn = earlier g before_body behind_body k body_grows within_body
+
+    -- what is kept behind the body is kept behind the loop's beginning
+    kept_by_body : (s t : CodeState) → Keeps g before_body s t → Keeps g d s t
+    kept_by_body s t keeps q lo hi = keeps q lo (omega (arith, hi, regs))
+
+    kept_by_test : (s t : CodeState) → Keeps g behind_body s t → Keeps g d s t
+    kept_by_test s t keeps q lo hi = keeps q lo (omega (arith, hi, regs, body_grows.regs))
+
+    -- a turn, the body, and what comes next
+    pub take_turn : (u : State) (t : CodeState) (next : State → Outcome Leaving) → At g t (length before_turn.code) → Sim g alive u t → ((m : ℕ) (v : State) (w : CodeState) → u.turns ≡ suc m → v.turns ≤ m → At g w (length behind_body.code) → Sim g alive v w → LoopEnds w (next v))
+        → LoopEnds t (then_round (spend_turn u (λ s. executed scope body n active s)) next)
+    unfolding LoopEnds then_round spend_turn Follows Left state_after
+    take_turn u t next here sim again = by_turns u.turns refl
+      where
+        by_body : (m : ℕ) → u.turns ≡ suc m → (o : Outcome Leaving) → (state_after o).turns ≤ m → Follows g (Left g alive f before_body (behind_turn g alive t m)) (behind_turn g alive t m) o (Makes number behind_body) → LoopEnds (behind_turn g alive t m) (then_round o next)
+        by_body m is (Source.Gives Onward v) few h =
+            let ran = h within_body in
+            ends_from (behind_turn g alive t m) ran.t (next v) ran.go (kept_by_body (behind_turn g alive t m) ran.t ran.keeps) (again m v ran.t is few ran.at ran.sim)
+        by_body m is (Source.Gives Continued v) few h =
+            let j = h within_body in
+            let place = j.at in
+            ends_from (behind_turn g alive t m) j.t (next v) j.go (kept_by_body (behind_turn g alive t m) j.t j.keeps) (again m v j.t is few (omega (arith, place, next_is)) j.sim)
+        by_body m is (Source.Gives Broke v) few h = let j = h within_body in let place = j.at in record { t = j.t; go = j.go; at = omega (arith, place, after_is); sim = j.sim; keeps = kept_by_body (behind_turn g alive t m) j.t j.keeps }
+        by_body m is (Source.Gives (Returned w) v) few h = h within_body
+        by_body m is (Source.Ends early v) few h = h within_body
+
+        by_turns : (left : ℕ) → u.turns ≡ left → LoopEnds t (then_round (elim left as (λ _. Outcome Leaving) [ zero ↦ Source.Ends Source.Stopped u | suc m ↦ executed scope body n active (record u { turns = m }) ]) next)
+        by_turns zero is = stops g alive before_turn t u within_turn here sim is
+        by_turns (suc m) is =
+            let s1 : CodeState = behind_turn g alive t m in
+            let one_on : s1.at ≡ t.at + 1 = refl in
+            let more = code_more g I.FrontTurn before_turn in
+            ends_from t s1 (then_round (executed scope body n active (record u { turns = m })) next) (spends g alive before_turn t u m within_turn here sim is) (keeps_all g d t)
+            (by_body m is (executed scope body n active (record u { turns = m })) (falls (record u { turns = m })) (body_follows s1 (record u { turns = m }) (omega (arith, here, more)) (sim_spent g alive u t m sim)))
+
+    -- where the test passes the code is at the turn again, and else behind the loop
+    again_at : (s : CodeState) (u : State) → (t : Tested g alive behind_body s true u r tested) → Reaches g s (moved_to g alive (turn + start g) t.t) × At g (moved_to g alive (turn + start g) t.t) (length before_turn.code)
+    again_at s u t = (onto g s t.t (moved_to g alive (turn + start g) t.t) t.go (returns_to g alive true r turn tested t.t t.is within t.at), omega (arith, turn_is))
+
+    left_at : (s : CodeState) (u : State) → Tested g alive behind_body s false u r tested → Jumped g alive d s u (length behind_loop.code)
+    left_at s u t =
+        let place = t.at in
+        let more = code_more g (I.FrontJumpNonzero r turn) tested in
+        record {
+          t = moved_to g alive (t.t.at + 1) t.t;
+          go = onto g s t.t (moved_to g alive (t.t.at + 1) t.t) t.go (returns_to g alive false r turn tested t.t t.is within t.at);
+          at = omega (arith, place, more);
+          sim = sim_moved g alive u t.t (t.t.at + 1) t.sim;
+          keeps = kept_by_test s t.t t.keeps;
+        }
+
+    abbrev a_round : State → Outcome Leaving
+    a_round u = executed scope body n active u
+
+    abbrev nothing_more : State → Outcome Leaving
+    nothing_more u = Source.Gives Onward u
+
+    last_round : (s : CodeState) (st : State) → st.turns ≡ 0 → (o : Outcome Bool) → passes scope active test st ≡ o → Follows g (Tested g alive behind_body s) s o (Makes r tested)
+        → LoopEnds s (then_do o (λ b after. elim b as (λ _. Outcome Leaving) [ true ↦ Source.Ends Source.Stopped after | false ↦ Source.Gives Onward after ]))
+    unfolding then_do LoopEnds Follows
+    last_round s st none (Source.Gives true u) is h =
+        let t = h within_tested in
+        let same : u ≡ st = test_still scope active test st u true isin is in
+        let back = again_at s u t in
+        finishes_later g Source.Stopped u s (moved_to g alive (turn + start g) t.t) back.0 (stops g alive before_turn (moved_to g alive (turn + start g) t.t) u within_turn back.1 (sim_moved g alive u t.t (turn + start g) t.sim) (ap (λ (v : State). v.turns) same ∙ none))
+    last_round s st none (Source.Gives false u) is h = left_at s u (h within_tested)
+    last_round s st none (Source.Ends early u) is h = h within_tested
+
+    next_round : (fuel : ℕ) (s : CodeState) (st : State) → st.turns ≤ suc fuel → (next : State → Outcome Leaving) → ((v : State) (w : CodeState) → v.turns ≤ fuel → At g w (length behind_body.code) → Sim g alive v w → LoopEnds w (next v))
+        → (o : Outcome Bool) → passes scope active test st ≡ o → Follows g (Tested g alive behind_body s) s o (Makes r tested)
+        → LoopEnds s (then_do o (λ b after. elim b as (λ _. Outcome Leaving) [ true ↦ then_round (spend_turn after a_round) next | false ↦ Source.Gives Onward after ]))
+    unfolding then_do LoopEnds Follows
+    next_round fuel s st few next again (Source.Gives true u) is h =
+        let t = h within_tested in
+        let same : u ≡ st = test_still scope active test st u true isin is in
+        let fewer : u.turns ≡ st.turns = ap (λ (v : State). v.turns) same in
+        let back = again_at s u t in
+        let t1 : CodeState = moved_to g alive (turn + start g) t.t in
+        ends_from s t1 (then_round (spend_turn u a_round) next) back.0 (kept_by_test s t.t t.keeps)
+        (take_turn u t1 next back.1 (sim_moved g alive u t.t (turn + start g) t.sim) (λ m v w is_m fewer_v here_w sim_w. again v w (omega (arith, few, fewer, is_m, fewer_v)) here_w sim_w))
+    next_round fuel s st few next again (Source.Gives false u) is h = left_at s u (h within_tested)
+    next_round fuel s st few next again (Source.Ends early u) is h = h within_tested
+
+    -- behind the body the test decides
+    pub rounds_follow : (fuel : ℕ) (st : State) (s : CodeState) → st.turns ≤ fuel → At g s (length behind_body.code) → Sim g alive st s → LoopEnds s (rounds fuel (passes scope active test) a_round nothing_more st)
+    unfolding rounds then_go
+    rounds_follow zero st s few here sim = last_round s st (omega (arith, few)) (passes scope active test st) refl (test_follows s st here sim)
+    rounds_follow (suc fuel) st s few here sim =
+        next_round fuel s st few (λ v. then_go (nothing_more v) (rounds fuel (passes scope active test) a_round nothing_more)) (λ v w fewer here_w sim_w. rounds_follow fuel v w fewer here_w sim_w) (passes scope active test st) refl (test_follows s st here sim)
+
+    -- how the loop is left, as a statement
+    pub loop_left : (h : Frame) (m : ℕ) (j : ℕ) (s : CodeState) (o : Outcome Leaving) → Extended d j behind_loop → LoopEnds s o → Follows g (Left g alive h d s) s o (Makes m behind_loop)
+    unfolding LoopEnds Follows Left
+    loop_left h m j s (Source.Gives Onward st) x e = λ w. record { grown = (j, x); t = e.t; go = e.go; at = e.at; sim = e.sim; keeps = e.keeps }
+    loop_left h m j s (Source.Gives (Returned v) st) x e = λ w. e
+    loop_left h m j s (Source.Gives Broke st) x e = absurd e
+    loop_left h m j s (Source.Gives Continued st) x e = absurd e
+    loop_left h m j s (Source.Ends early st) x e = λ w. e

@@ -1,0 +1,300 @@
+-- What a scalar program begins with, and its one unit.
+use Rattle.std.proofs.Common.{◌≡◌, ◌∙◌, ℕ, zero, suc, ◌+◌, ◌<◌, ◌≤◌, ◌==◌, Bool, true, false, List, [], ◌∷◌, ◌++◌, map, length, slice_get, slice_index, Option, Some, None, refl, sym, ap, subst, if◌then◌else◌, arith}
+use Rattle.std.proofs.lemmas.Bool.{eq-eqb, eqb-true}
+use Rattle.std.proofs.lemmas.List.{append-nil, get_or-set_other, get_or-set_same}
+use Rattle.std.proofs.Math.ListN.{length-set}
+use Rattle.cstar_tree.specs.declared.typed.Instance.{Instance}
+use Rattle.cstar_tree.specs.declared.typed.Typed.{Typed}
+use Rattle.cstar_tree.specs.declared.typed.VarInfo.{VarInfo}
+use Rattle.cstar_tree.specs.declared.typed.Variable.{Variable}
+use Rattle.cstar_tree.specs.declared.typed.Variable.TheVariants as V
+use Rattle.code_lengths.specs.Agreement.{HasUnit}
+use Rattle.code_lengths.specs.Growth.{Extended}
+use Rattle.code_lengths.specs.Naming.{variable_named}
+use Rattle.code_lengths.specs.Ready.{HasDeclared, IsCodable, IsReady, NumbersVariables, homes_of}
+use Rattle.code_lengths.proofs.Declaring.{all_at}
+use Rattle.code_lengths.proofs.UnitLengths.{units}
+use Rattle.cstar_compile.specs.Compiled.{IsCompiled}
+use Rattle.cstar_tree.specs.Variables.{variables_of}
+use Rattle.std.specs.List.{All}
+use Rattle.code_follows.proofs.Standing.{start_in}
+use Rattle.std.specs.Prelude.{fold, is_none, take}
+use Rattle.lower_base.specs.Layouts.{Registers, earlier_base, entered, first_named, entries_of, layout_of, nothing_numbered, numbered, registers_of, with_instance}
+use Rattle.code_follows.specs.Fragment.{IsPlainVariable, IsScalarProgram}
+use Rattle.code_lengths.proofs.Drafting.{and_instr, as_it_was, extended}
+use Rattle.lower_base.specs.Constants.{first_free, register_with}
+use Rattle.lower_base.specs.Drafts.{Draft, Made, Makes, draft, step as step_of, then_make, with_instr}
+use Rattle.lower_base.specs.Layouts.{Layout}
+use Rattle.lower_stmt.specs.Statements.{body_of, ended}
+use Rattle.lower_stmt.specs.Programs.{begun as begun_of, blank, body_frame, constants_put, elements_begun, joined, scalar_begun, slots_behind, start_value_of, start_values_of, own_fields_of, own_result_of, unit_of, units_of}
+use Rattle.paris_code.specs.declared.program.Image.{Image}
+use Rattle.paris_code.specs.declared.program.Unit.{Unit as CodeUnit}
+use Rattle.paris_code.specs.declared.instr.Instr.TheVariants as I
+use Rattle.paris_code.specs.Code.{CodeState, begun, with_register}
+use Rattle.code_follows.proofs.Settings.{At, Reaches, Setting, Within, at_next, begins_here, earlier, one, onto, stay}
+
+-- constants in registers, behind code of their own
+constants_extend : (words : List ℕ) (r : ℕ) (d : Draft) → Extended d (length words) (constants_put words r d)
+unfolding constants_put
+constants_extend [] r d = as_it_was d
+constants_extend (w ∷ words) r d =
+    let one : Extended d 1 (with_instr (I.FrontConst r w) d) = and_instr (I.FrontConst r w) d d 0 (as_it_was d) in
+    subst (λ (k : ℕ). Extended d k (constants_put words (r + 1) (with_instr (I.FrontConst r w) d))) (count (length words)) (extended d (with_instr (I.FrontConst r w) d) (constants_put words (r + 1) (with_instr (I.FrontConst r w) d)) 1 (length words) one (constants_extend words (r + 1) (with_instr (I.FrontConst r w) d)))
+  where
+    count : (n : ℕ) → 1 + n ≡ suc n
+    count n = omega arith
+
+-- where a constant's register is
+pub record IsPlaced (words : List ℕ) (word first r : ℕ) : Type 0 where
+  pub index : ℕ
+  pub inside : index < length words
+  pub register : r ≡ first + index
+  pub value : slice_index words index ≡ word
+
+pub search_at : (words : List ℕ) (word first r : ℕ) → register_with word words first ≡ Some r → IsPlaced words word first r
+unfolding register_with
+search_at [] word first r is = cc
+search_at (w ∷ words) word first r is = by (w == word) refl (λ e. search_at words word (first + 1) r e) is
+  where
+    some_same : (a b : ℕ) → Some a ≡ Some b → a ≡ b
+    some_same a b e = ap (λ (o : Option ℕ). elim o as (λ _. ℕ) [ None ↦ 0 | Some x ↦ x ]) e
+
+    by : (b : Bool) → (w == word) ≡ b → (register_with word words (first + 1) ≡ Some r → IsPlaced words word (first + 1) r) → (if b then Some first else register_with word words (first + 1)) ≡ Some r → IsPlaced (w ∷ words) word first r
+    by true same later e = let h = some_same first r e in record { index = 0; inside = omega arith; register = omega (arith, h); value = eqb-true w word same }
+    by false same later e = let h = later e in record { index = suc h.index; inside = inside_more h.index h.inside; register = moved h.index h.register; value = h.value }
+      where
+        inside_more : (i : ℕ) → i < length words → suc i < length (w ∷ words)
+        inside_more i h = omega (arith, h)
+
+        moved : (i : ℕ) → r ≡ first + 1 + i → r ≡ first + suc i
+        moved i h = omega (arith, h)
+
+module _ (g : Setting) where
+  -- the constants stand in their registers, and nothing else has changed
+  pub record Constants (words : List ℕ) (r : ℕ) (s : CodeState) (e : Draft) : Type 0 where
+    pub t : CodeState
+    pub go : Reaches g s t
+    pub at : At g t (length e.code)
+    pub registers : length t.registers ≡ length s.registers
+    pub below : (q : ℕ) → q < r → slice_index t.registers q ≡ slice_index s.registers q
+    pub are : (i : ℕ) → i < length words → slice_index t.registers (r + i) ≡ slice_index words i
+    pub turns : t.turns ≡ s.turns
+    pub output : t.output ≡ s.output
+    pub input : t.input ≡ s.input
+
+  pub constants_run : (words : List ℕ) (r : ℕ) (d : Draft) (s : CodeState) → At g s (length d.code) → Within g (constants_put words r d) → r + length words ≤ length s.registers → Constants words r s (constants_put words r d)
+  unfolding constants_put begun step_of
+  constants_run [] r d s here within room = record { t = s; go = stay g s; at = here; registers = refl; below = λ q b. refl; are = λ i b. absurd (omega (arith, b)); turns = refl; output = refl; input = refl }
+  constants_run (w ∷ words) r d s here within room =
+      let e : Draft = with_instr (I.FrontConst r w) d in
+      let early : Within g e = earlier g e (constants_put words (r + 1) e) (length words) (constants_extend words (r + 1) e) within in
+      let s1 : CodeState = with_register r w s in
+      let long : length s1.registers ≡ length s.registers = length-set s.registers r w in
+      let rest = constants_run words (r + 1) e s1 (at_next g (I.FrontConst r w) d s (s.at + 1) here refl) within (fits (length words) room long) in
+      record {
+        t = rest.t;
+        go = onto g s s1 rest.t (one g s s1 (begins_here g (I.FrontConst r w) d s early refl here)) rest.go;
+        at = rest.at;
+        registers = rest.registers ∙ long;
+        below = λ q b. rest.below q (omega (arith, b)) ∙ get_or-set_other s.registers r q w 0 (λ e. omega (arith, e, b));
+        are = λ i b. each i rest.t.registers b rest.below rest.are;
+        turns = rest.turns;
+        output = rest.output;
+        input = rest.input;
+      }
+    where
+      fits : (n : ℕ) → r + suc n ≤ length s.registers → length (with_register r w s).registers ≡ length s.registers → r + 1 + n ≤ length (with_register r w s).registers
+      fits n room long = omega (arith, room, long)
+
+      each : (i : ℕ) (t : List ℕ) → i < length (w ∷ words) → ((q : ℕ) → q < r + 1 → slice_index t q ≡ slice_index (with_register r w s).registers q) → ((i : ℕ) → i < length words → slice_index t (r + 1 + i) ≡ slice_index words i) → slice_index t (r + i) ≡ slice_index (w ∷ words) i
+      each zero t b below are = ap (λ (q : ℕ). slice_index t q) (here_is r) ∙ below r (omega arith) ∙ get_or-set_same s.registers r w 0 (omega (arith, room_of room))
+        where
+          here_is : (r : ℕ) → r + 0 ≡ r
+          here_is r = omega arith
+
+          room_of : r + length (w ∷ words) ≤ length s.registers → r < length s.registers
+          room_of h = roomy (length words) h
+            where
+              roomy : (n : ℕ) → r + suc n ≤ length s.registers → r < length s.registers
+              roomy n h = omega (arith, h)
+      each (suc i) t b below are = ap (λ (q : ℕ). slice_index t q) (next_is r i) ∙ are i (fewer (length words) b)
+        where
+          next_is : (r i : ℕ) → r + suc i ≡ r + 1 + i
+          next_is r i = omega arith
+
+          fewer : (n : ℕ) → suc i < suc n → i < n
+          fewer n h = omega (arith, h)
+
+no_infos : List VarInfo
+no_infos = []
+
+no_numbers : List ℕ
+no_numbers = []
+
+-- ---- the layout and the state of a scalar program
+
+module _ (t : Typed) (p : IsScalarProgram t) (words : List ℕ) where
+  abbrev pub own_layout : Layout
+  own_layout = layout_of t words 0
+
+  pub first_is : slice_get t.instances.items 0 ≡ Some p.main
+  first_is = ap (λ (xs : List Instance). slice_get xs 0) p.instances
+
+  -- the variables of the file have the first registers
+  pub end_behind : length t.vars.items ≤ own_layout.end
+  unfolding layout_of entered registers_of with_instance earlier_base no_numbers
+  end_behind = subst (λ (xs : List Instance). length t.vars.items ≤ (fold (with_instance xs) (record { bases = []; end = length t.vars.items }) xs).end) (sym p.instances) one_instance
+    where
+      one_instance : length t.vars.items ≤ (with_instance (p.main ∷ []) (record { bases = []; end = length t.vars.items }) p.main).end
+      one_instance = by (first_named 0 p.main.name (p.main ∷ []))
+        where
+          by : (o : Option ℕ) → length t.vars.items ≤ (elim (elim o as (λ _. Option ℕ) [ None ↦ None | Some k ↦ slice_get no_numbers k ]) as (λ _. Registers) [
+            | Some base ↦ record { bases = [] ++ base ∷ []; end = length t.vars.items }
+            | None ↦ record { bases = [] ++ length t.vars.items ∷ []; end = length t.vars.items + length (numbered (variables_of p.main.body) nothing_numbered).locals + length p.main.params.items + 1 }
+          ]).end
+          by None = omega arith
+          by (Some k) = omega arith
+
+  -- the one instance has its registers
+  bases_are : length own_layout.bases ≡ length t.instances.items
+  unfolding layout_of entered registers_of with_instance earlier_base no_numbers
+  bases_are = subst (λ (xs : List Instance). length (fold (with_instance xs) (record { bases = []; end = length t.vars.items }) xs).bases ≡ length xs) (sym p.instances) (by (first_named 0 p.main.name (p.main ∷ [])))
+    where
+      by : (o : Option ℕ) → length (elim (elim o as (λ _. Option ℕ) [ None ↦ None | Some k ↦ slice_get no_numbers k ]) as (λ _. Registers) [
+        | Some base ↦ record { bases = [] ++ base ∷ []; end = length t.vars.items }
+        | None ↦ record { bases = [] ++ length t.vars.items ∷ []; end = length t.vars.items + length (numbered (variables_of p.main.body) nothing_numbered).locals + length p.main.params.items + 1 }
+      ]).bases ≡ 1
+      by None = refl
+      by (Some k) = refl
+
+  -- no variable is parallel, and all are of the file
+  pub named_plain : (x : Variable) (info : VarInfo) → variable_named t p.main x ≡ Some info → (k : ℕ) × (x ≡ V.File k) × (slice_get t.vars.items k ≡ Some info) × IsPlainVariable info
+  unfolding variable_named
+  named_plain (V.File k) info is = (k, refl, is, all_at IsPlainVariable t.vars.items k info p.variables is)
+  named_plain (V.Param k) info is = let none : slice_get p.main.params.items k ≡ None = ap (λ (xs : List VarInfo). slice_get xs k) p.params in cc
+  named_plain (V.Local k) info is = let none : slice_get (variables_of p.main.body) k ≡ None = ap (λ (xs : List VarInfo). slice_get xs k) p.locals in cc
+
+  scalar_only : (x : Variable) (info : VarInfo) → variable_named t p.main x ≡ Some info → is_none info.shape ≡ false → ⊥
+  scalar_only x info is parallel = let h = named_plain x info is in let none : is_none info.shape ≡ true = ap is_none h.3.0 in cc
+
+  pub all_ready : (n : ℕ) (d : Draft) → IsReady t p.main own_layout n d
+  all_ready n d = record {
+    elements = λ v info named declared parallel. absurd (scalar_only v info named parallel);
+    fields = λ v info element named declared parallel. absurd (scalar_only v info named parallel);
+    result = λ info is parallel. absurd (no_result info (sym p.result ∙ is));
+    bases = bases_are;
+  }
+    where
+      no_result : (info : VarInfo) → None ≡ Some info → ⊥
+      no_result info e = cc
+
+  pub all_numbered : NumbersVariables p.main own_layout
+  unfolding layout_of entered
+  all_numbered = ap (λ (o : Option Instance). (numbered (elim o as (λ _. List VarInfo) [ None ↦ [] | Some instance ↦ variables_of instance.body ]) nothing_numbered).locals) first_is
+
+  pub all_declared : (n : ℕ) (d : Draft) → d.homes ≡ [] → HasDeclared t p.main own_layout n d
+  unfolding no_infos numbered
+  all_declared n d none = record { ready = all_ready n d; homes = ap length none ∙ sym (ap (λ (xs : List VarInfo). homes_of (take n xs)) p.locals ∙ ap homes_of (nothing_taken n)) }
+    where
+      nothing_taken : (n : ℕ) → take n (no_infos) ≡ no_infos
+      nothing_taken zero = refl
+      nothing_taken (suc n) = refl
+
+-- the first of what a list is mapped to
+pub head_of : (xs : List CodeUnit) (d : Draft) → map draft xs ≡ d ∷ [] → (u : CodeUnit) × ((slice_get xs 0 ≡ Some u) × (draft u ≡ d))
+head_of [] d e = cc
+head_of (u ∷ us) d e = (u, (refl, ap (λ (ds : List Draft). elim ds as (λ _. Draft) [ [] ↦ d | x ∷ rest ↦ x ]) e))
+
+pub starts_at_zero : (us : List CodeUnit) → start_in us 0 0 ≡ 0
+unfolding start_in
+starts_at_zero [] = refl
+starts_at_zero (u ∷ us) = refl
+
+-- variables that begin with 0 have no code for it
+starts_are_none : (t : Typed) (l : Layout) (infos : List VarInfo) (n : ℕ) (d : Draft) → All IsPlainVariable infos → start_values_of t l infos n d ≡ Makes tt d
+unfolding start_values_of start_value_of then_make
+starts_are_none t l [] n d all = refl
+starts_are_none t l (info ∷ infos) n d all =
+    ap (λ (b : Bool). then_make (if b then Makes tt d else elim info.shape as (λ _. Made (Unit {0})) [
+      | None ↦ Makes tt (scalar_begun l info n d)
+      | Some s ↦ elements_begun t l n info.start (entries_of info) 0 d
+    ]) (λ u after. start_values_of t l infos (n + 1) after)) (eq-eqb info.start 0 (all 0 info (omega arith)).2) ∙ starts_are_none t l infos (n + 1) d (λ k other within. all (suc k) other (later k (length infos) within))
+  where
+    later : (k n : ℕ) → k < n → suc k < suc n
+    later k n h = omega (arith, h)
+
+module _ (t : Typed) (image : Image) (p : IsScalarProgram t) (codable : IsCodable t) (compiled : IsCompiled t image) where
+  abbrev pub the_words : List ℕ
+  the_words = compiled.lowered.words
+
+  abbrev pub the_layout : Layout
+  the_layout = layout_of t the_words 0
+
+  abbrev pub base : ℕ
+  base = first_free the_layout
+
+  pub has_unit : HasUnit t the_layout true base p.main
+  has_unit = let c = codable 0 p.main (first_is t p the_words) in units t the_words 0 true base p.main (first_is t p the_words) c.0 c.1
+
+  pub units_are : map draft compiled.before.units.items ≡ has_unit.unit ∷ []
+  unfolding units_of joined
+  units_are =
+      compiled.lowered.as_described.units ∙ ap (λ (xs : List Instance). units_of t the_words xs 0 base) p.instances
+      ∙ ap (λ (m : Made (Unit {0})). joined m (λ d. units_of t the_words [] (0 + 1) d.regs)) has_unit.made
+
+  abbrev pub unit_there : (u : CodeUnit) × ((slice_get compiled.before.units.items 0 ≡ Some u) × (draft u ≡ has_unit.unit))
+  unit_there = head_of compiled.before.units.items has_unit.unit units_are
+
+  abbrev pub the_setting : Setting
+  the_setting = record {
+    typed = t;
+    words = the_words;
+    image = image;
+    before = compiled.before;
+    after = compiled.after;
+    placed = compiled.placed.placed;
+    linked = compiled.linked.code;
+    number = 0;
+    unit = unit_there.0;
+    is_unit = unit_there.1.0;
+    instance = p.main;
+    is_instance = first_is t p the_words;
+  }
+
+  pub slots_are : image.slots ≡ has_unit.unit.regs
+  unfolding slots_behind
+  slots_are = compiled.linked.slots ∙ compiled.placed.slots ∙ compiled.lowered.as_described.slots ∙ ap (λ (ds : List Draft). slots_behind base ds) units_are
+
+  pub within_all : Within the_setting has_unit.unit
+  unfolding draft head_of
+  within_all = record {
+    more = [];
+    code = ap (λ (d : Draft). d.code) unit_there.1.1 ∙ sym (append-nil has_unit.unit.code);
+    regs = let h = slots_are in omega (arith, h);
+  }
+
+  -- ---- what stands before the body
+
+  abbrev pub empty_unit : Draft
+  empty_unit = blank p.main.name base
+
+  abbrev pub with_constants : Draft
+  with_constants = constants_put the_layout.constants the_layout.end empty_unit
+
+  pub constants_grow : Extended empty_unit (length the_layout.constants) with_constants
+  constants_grow = constants_extend the_layout.constants the_layout.end empty_unit
+
+  pub no_homes : with_constants.homes ≡ []
+  unfolding blank
+  no_homes = constants_grow.homes
+
+  abbrev pub ending : Made ℕ → Made (Unit {0})
+  ending m = then_make m (λ n end. Makes tt (ended true p.main.body end))
+
+  pub main_is : ending (body_of t the_layout (body_frame true p.main) p.main.body with_constants) ≡ Makes tt has_unit.unit
+  unfolding unit_of own_fields_of own_result_of begun_of then_make
+  main_is =
+      sym (ap (λ (m : Made (Unit {0})). then_make m (λ n start. ending (body_of t the_layout (body_frame true p.main) p.main.body start))) (starts_are_none t the_layout t.vars.items 0 with_constants p.variables))
+      ∙ sym (ap (λ (o : Option VarInfo). then_make (own_result_of o empty_unit) (λ n ready. then_make (begun_of t the_layout true ready) (λ m start. ending (body_of t the_layout (body_frame true p.main) p.main.body start)))) p.result)
+      ∙ sym (ap (λ (xs : List VarInfo). then_make (own_fields_of xs empty_unit) (λ k d. then_make (own_result_of p.main.result d) (λ n ready. then_make (begun_of t the_layout true ready) (λ m start. ending (body_of t the_layout (body_frame true p.main) p.main.body start))))) p.params)
+      ∙ has_unit.made

@@ -1,0 +1,259 @@
+-- The run of a whole program.
+use Rattle.std.proofs.Common.{◌≡◌, ◌∙◌, ℕ, ◌+◌, ◌<◌, ◌≤◌, ◌^◌, if◌then◌else◌, Vec, Global, Bool, true, List, [], length, slice_index, Option, Some, None, refl, sym, ap, subst, arith}
+use Rattle.std.proofs.lemmas.Option.{slice_get_within}
+use Rattle.std.proofs.lemmas.List.{get_or-replicate, length-replicate}
+use mathlib.Core.Former.{Count}
+use Rattle.cstar_base.specs.declared.operators.Winner.{Winner}
+use Rattle.cstar_tree.specs.declared.typed.Instance.{Instance}
+use Rattle.cstar_tree.specs.declared.typed.LocalVar.{LocalVar}
+use Rattle.cstar_tree.specs.declared.typed.TStmt.{TStmt, Row_of-TStmt}
+use Rattle.cstar_tree.specs.declared.typed.TStmt as S
+use Rattle.cstar_tree.specs.declared.typed.Typed.{Typed}
+use Rattle.cstar_tree.specs.declared.typed.VarInfo.{VarInfo}
+use Rattle.cstar_tree.specs.declared.typed.Variable.{Variable}
+use Rattle.cstar_tree.specs.declared.typed.Variable.TheVariants as V
+use Rattle.code_lengths.specs.Agreement.{StandsAmong}
+use Rattle.code_lengths.specs.Naming.{variable_named}
+use Rattle.code_lengths.specs.Ready.{HasStatementCode, IsCodable}
+use Rattle.cstar_compile.specs.Compiled.{IsCompiled}
+use Rattle.lower_base.specs.Constants.{constant_register, first_free}
+use Rattle.lower_base.specs.Drafts.{Draft, Fails, Made, Makes, step as step_of, then_make, with_instr}
+use Rattle.lower_base.specs.Layouts.{Layout, register_of}
+use Rattle.lower_stmt.specs.declared.statement.Frame.{Frame}
+use Rattle.lower_stmt.specs.Frames.{with_end}
+use Rattle.lower_stmt.specs.Programs.{blank, body_frame}
+use Rattle.lower_stmt.specs.Statements.{body_of, ended, statements_of}
+use Rattle.lower_stmt.specs.Variables.{all_cleared, all_initialised, declared as declared_in}
+use Rattle.meaning_laws.proofs.Parts.{behind as state_after}
+use Rattle.meaning_laws.proofs.Programs.{calls_grow}
+use Rattle.meaning_laws.proofs.Statements.{statement as statement_grows}
+use Rattle.paris_code.specs.declared.instr.Instr.TheVariants as I
+use Rattle.paris_code.specs.declared.program.Image.{Image}
+use Rattle.paris_code.specs.Memory.{BitMemory}
+use Rattle.paris_code.specs.Code as Machine
+use Rattle.paris_code.specs.Code.{CodeEnd, CodeState, Ends, begun, opening}
+use Rattle.source_meaning.specs.Programs.{EndsEarly, Run, by_owner, calls, entered, left, meaning, result_of, run_body, run_of, scope_of, start_of, start_state}
+use Rattle.source_meaning.specs.State as Source
+use Rattle.source_meaning.specs.State.{Outcome, State, then_do, zeroed}
+use Rattle.source_meaning.specs.Statements.{Broke, Continued, Leaving, Onward, Returned, all_executed, executed, initialised, then_go}
+use Rattle.source_meaning.specs.Values.{Active, Scope}
+use Rattle.code_follows.specs.Agreement.{CodeMeansSource, ComesTo, end_of_run, mark_of}
+use Rattle.code_follows.specs.Fragment.{AreClosed, AreInStatements, IsMainBody, IsScalarProgram}
+use Rattle.code_follows.proofs.Bodies.{block_code, row_follows, row_grows, sim_zeroed}
+use Rattle.code_follows.proofs.Closed.{NoJump, closed_row}
+use Rattle.code_follows.proofs.Executing.{Halted, Left}
+use Rattle.code_follows.proofs.Following.{Extends, Follows, HasRegisters, Sim, end_of, held}
+use Rattle.code_follows.proofs.Openings.{Constants, all_declared, all_numbered, all_ready, constants_grow, constants_run, empty_unit, end_behind, ending, first_is, has_unit, main_is, named_plain, no_homes, search_at, starts_at_zero, the_layout, the_setting, the_words, with_constants, within_all}
+use Rattle.code_follows.proofs.Settings.{At, EndsIn, Reaches, Setting, Within, and_one, begins_here, earlier, ends_later, ends_now, start}
+use Rattle.code_follows.proofs.Words.{held_wide}
+
+no_code : Made (Unit {0})
+no_code = Fails
+
+nothing_made : (d : Draft) → no_code ≡ Makes tt d → ⊥
+unfolding no_code
+nothing_made d e = cc
+
+module _ (t : Typed) (image : Image) (p : IsScalarProgram t) (codable : IsCodable t) (compiled : IsCompiled t image) where
+  abbrev g : Setting
+  g = the_setting t image p codable compiled
+
+  abbrev alive : Variable → Type 0
+  alive x = Unit {0}
+
+  abbrev own : Layout
+  own = the_layout t image p codable compiled
+
+  below : (x : Variable) (info : VarInfo) → variable_named t p.main x ≡ Some info → register_of own x < own.end
+  unfolding register_of
+  below x info is =
+      let h = named_plain t p (the_words t image p codable compiled) x info is in
+      let inside = slice_get_within t.vars.items h.0 info h.2 in
+      let all = end_behind t p (the_words t image p codable compiled) in
+      subst (λ (y : Variable). register_of own y < own.end) (sym h.1) (omega (arith, inside, all))
+
+  has : HasRegisters g
+  unfolding register_of
+  has = record {
+    below = below;
+    apart = λ x y info other is also same.
+        let h = named_plain t p (the_words t image p codable compiled) x info is in
+        let k = named_plain t p (the_words t image p codable compiled) y other also in
+        let equal : h.0 ≡ k.0 = sym (ap (λ (z : Variable). register_of own z) h.1) ∙ same ∙ ap (λ (z : Variable). register_of own z) k.1 in
+        h.1 ∙ ap (λ (n : ℕ). V.File n) equal ∙ sym k.1;
+  }
+
+  begins_at : start g ≡ 0
+  begins_at = starts_at_zero compiled.after.units.items
+
+  abbrev frame : Frame
+  frame = body_frame true p.main
+
+  abbrev constants_there : Draft
+  constants_there = with_constants t image p codable compiled
+
+  -- the statements are made, and `main` is ended behind them
+  record Built {k : Count} (row : Row_of-TStmt k) : Type 0 where
+    pub n : ℕ
+    pub e : Draft
+    pub is : statements_of t own row frame [] 0 constants_there ≡ Makes n e
+    pub unit : with_instr I.FrontHalt e ≡ (has_unit t image p codable compiled).unit
+
+  built : (locals : Vec LocalVar Global) (q : Vec (Unit {0}) Global) (row : _) → p.main.body ≡ S.Block' locals q row → locals.items ≡ [] → Built row
+  unfolding body_of then_make declared_in all_cleared all_initialised ended with_end body_frame no_code
+  built locals q row is none = by (statements_of t own row frame [] 0 constants_there) refl made
+    where
+      made : ending t image p codable compiled (statements_of t own row frame [] 0 constants_there) ≡ Makes tt (has_unit t image p codable compiled).unit
+      made =
+          sym (ap (λ (xs : List LocalVar). ending t image p codable compiled (then_make (declared_in t own true xs 0 constants_there) (λ m after. statements_of t own row frame [] m after))) none)
+          ∙ sym (ap (λ (b : TStmt). ending t image p codable compiled (body_of t own frame b constants_there)) is)
+          ∙ main_is t image p codable compiled
+
+      draft_of : Made (Unit {0}) → Draft
+      draft_of (Makes u d) = d
+      draft_of Fails = constants_there
+
+      by : (m : Made ℕ) → statements_of t own row frame [] 0 constants_there ≡ m → ending t image p codable compiled (statements_of t own row frame [] 0 constants_there) ≡ Makes tt (has_unit t image p codable compiled).unit → Built row
+      by (Makes n e) made_is whole = record {
+        n = n;
+        e = e;
+        is = made_is;
+        unit =
+            sym (ap (λ (b : Bool). if b then e else with_instr I.FrontHalt e) p.ending)
+            ∙ ap draft_of (sym (ap (λ (m : Made ℕ). ending t image p codable compiled m) made_is) ∙ whole);
+      }
+      by Fails made_is whole = absurd (nothing_made (has_unit t image p codable compiled).unit (sym (ap (λ (m : Made ℕ). ending t image p codable compiled m) made_is) ∙ whole))
+
+  -- ---- one run
+
+  module _ (memory : BitMemory) (input : List ℕ) (rest : Source.Rest) (turns : ℕ) (winner : Winner) where
+    abbrev opened : CodeState
+    opened = opening image memory turns (record { bytes = input; mark = mark_of rest })
+
+    abbrev first_state : State
+    first_state = start_state t input rest turns winner
+
+    abbrev active : Active
+    active = λ s p. true
+
+    abbrev scope : Scope
+    scope = scope_of t p.main (calls t turns)
+
+    abbrev in_main : State
+    in_main = entered p.main [] active first_state
+
+    falls : (s : TStmt) (n : ℕ) (st : State) → (state_after (executed scope s n active st)).turns ≤ st.turns
+    unfolding scope_of
+    falls s n st = ((statement_grows 0 turns scope (calls t turns) (calls t turns) (calls_grow t turns) s n active).first st).0
+
+    -- the code is at the body, with the constants in their registers
+    placed : Within g constants_there → Constants g own.constants own.end opened constants_there
+    unfolding blank first_free
+    placed within =
+        let at = begins_at in
+        let many : length opened.registers ≡ image.slots = length-replicate image.slots 0 in
+        let grown = (constants_grow t image p codable compiled).regs in
+        let inside = within.regs in
+        constants_run g own.constants own.end (empty_unit t image p codable compiled) opened (omega (arith, at)) within (omega (arith, many, grown, inside))
+
+    begins_so : (c : Constants g own.constants own.end opened constants_there) → Within g constants_there → Sim g alive in_main c.t
+    unfolding entered start_state by_owner start_of constant_register blank first_free
+    begins_so c within =
+        let many : length opened.registers ≡ image.slots = length-replicate image.slots 0 in
+        let grown = (constants_grow t image p codable compiled).regs in
+        let inside = within.regs in
+        record {
+          registers = c.registers ∙ many;
+          scalars = λ x info living scalar. scalars x info scalar.0 (omega (arith, grown, inside));
+          small = λ x info living scalar. small x info scalar.0;
+          constants = λ word r is.
+              let h = search_at own.constants word own.end r is in
+              ap (λ (q : ℕ). slice_index c.t.registers q) h.register ∙ c.are h.index h.inside ∙ h.value;
+          turns = c.turns;
+          output = c.output;
+          input = c.input;
+        }
+      where
+        zero_at_start : (x : Variable) (info : VarInfo) → variable_named t p.main x ≡ Some info → in_main.scalar x ≡ 0
+        zero_at_start x info is =
+            let h = named_plain t p (the_words t image p codable compiled) x info is in
+            ap (λ (y : Variable). in_main.scalar y) h.1 ∙ ap (λ (o : Option VarInfo). elim o as (λ _. ℕ) [ None ↦ 0 | Some info ↦ info.start ]) h.2 ∙ h.3.2
+
+        scalars : (x : Variable) (info : VarInfo) → variable_named t p.main x ≡ Some info → own.end ≤ image.slots → slice_index c.t.registers (register_of own x) ≡ held info.elem (in_main.scalar x)
+        scalars x info is room =
+            let low = below x info is in
+            c.below (register_of own x) low ∙ get_or-replicate image.slots (register_of own x) 0 0 (omega (arith, low, room))
+            ∙ sym (held_wide info.elem 0 (named_plain t p (the_words t image p codable compiled) x info is).3.1 (omega arith)) ∙ ap (λ (n : ℕ). held info.elem n) (sym (zero_at_start x info is))
+
+        small : (x : Variable) (info : VarInfo) → variable_named t p.main x ≡ Some info → in_main.scalar x < 2 ^ info.elem.bits
+        small x info is =
+            subst (λ (n : ℕ). n < 2 ^ info.elem.bits) (sym (zero_at_start x info is)) (subst (λ (b : ℕ). 0 < 2 ^ b) (sym (named_plain t p (the_words t image p codable compiled) x info is).3.1) (omega arith))
+
+    -- ---- the end
+
+    halts : (e : Draft) (u : CodeState) → Within g (with_instr I.FrontHalt e) → At g u (length e.code) → EndsIn g u Machine.Done u
+    unfolding begun step_of
+    halts e u within at = ends_now g u u Machine.Done (begins_here g I.FrontHalt e u within refl at)
+
+    ended_so : (d e : Draft) (n : ℕ) (s : CodeState) (leaving : Leaving) (u : State) → Within g (with_instr I.FrontHalt e) → NoJump (Source.Gives leaving u) → Left g alive frame d s leaving u n e → Halted g alive s u
+    unfolding Left NoJump
+    ended_so d e n s Onward u within closed ran = record { t = ran.t; ends = ends_later g s ran.t ran.t Machine.Done ran.go (halts e ran.t within ran.at); turns = ran.sim.turns; output = ran.sim.output }
+    ended_so d e n s Broke u within closed ran = absurd closed
+    ended_so d e n s Continued u within closed ran = absurd closed
+    ended_so d e n s (Returned v) u within closed ran = ran
+
+    same_end : (early : Source.Early) → end_of early ≡ end_of_run (EndsEarly early)
+    same_end (Source.Fault fault place position) = refl
+    same_end Source.Stopped = refl
+    same_end Source.InputBroken = refl
+
+    abbrev run_from : Outcome Leaving → Run
+    run_from o = run_of (then_do o (λ leaving after. Source.Gives (result_of p.main.result leaving) (left first_state after)))
+
+    comes : (d e : Draft) (n : ℕ) (s : CodeState) (o : Outcome Leaving) → Within g (with_instr I.FrontHalt e) → NoJump o → Reaches g opened s → Follows g (Left g alive frame d s) s o (Makes n e) → ComesTo image opened (run_from o)
+    unfolding Follows then_do run_of left
+    comes d e n s (Source.Gives leaving u) within closed go follows =
+        let h = ended_so d e n s leaving u within closed (follows (earlier g e (with_instr I.FrontHalt e) 1 (and_one g I.FrontHalt e) within)) in
+        let x = ends_later g opened s h.t Machine.Done go h.ends in
+        record { steps = x.steps; last = h.t; ends = x.is; turns = h.turns; output = h.output }
+    comes d e n s (Source.Ends early u) within closed go follows =
+        let h = follows (earlier g e (with_instr I.FrontHalt e) 1 (and_one g I.FrontHalt e) within) in
+        let x = ends_later g opened s h.t (end_of early) go h.ends in
+        record { steps = x.steps; last = h.t; ends = x.is ∙ ap (λ (c : CodeEnd). Ends c h.t) (same_end early); turns = h.turns; output = h.output }
+
+    abbrev begun_body : State
+    begun_body = zeroed 0 0 in_main
+
+    meaning_is : (locals : Vec LocalVar Global) (q : Vec (Unit {0}) Global) (row : _) → p.main.body ≡ S.Block' locals q row → locals.items ≡ [] → meaning t input rest turns winner ≡ run_from (all_executed scope row 0 active begun_body)
+    unfolding meaning run_body executed initialised then_go
+    meaning_is locals q row is none =
+        ap (λ (o : Option Instance). run_of (run_body t (calls t turns) o [] active first_state)) (first_is t p (the_words t image p codable compiled))
+        ∙ ap (λ (b : TStmt). run_from (executed scope b 0 active in_main)) is
+        ∙ ap (λ (xs : List LocalVar). run_from (then_go (initialised scope active 0 xs (zeroed 0 (length xs) in_main)) (all_executed scope row (0 + length xs) active))) none
+
+    block_runs : (locals : Vec LocalVar Global) (q : Vec (Unit {0}) Global) (row : _) → p.main.body ≡ S.Block' locals q row → (locals.items ≡ []) × AreInStatements row × AreClosed row → ComesTo image opened (meaning t input rest turns winner)
+    unfolding Extends blank body_frame first_free
+    block_runs locals q row is h =
+        let b = built locals q row is h.0 in
+        let code = block_code g has alive (λ x. tt) (all_numbered t p (the_words t image p codable compiled)) (all_ready t p (the_words t image p codable compiled)) (all_declared t p (the_words t image p codable compiled)) scope active falls 0 locals q row h.0 (subst (λ (s : TStmt). HasStatementCode t p.main 0 s) is (codable 0 p.main (first_is t p (the_words t image p codable compiled))).1) in
+        let whole : Within g (with_instr I.FrontHalt b.e) = subst (λ (d : Draft). Within g d) (sym b.unit) (within_all t image p codable compiled) in
+        let grown : Extends g constants_there (Makes b.n b.e) = subst (λ (m : Made ℕ). Extends g constants_there m) b.is (row_grows g has alive (λ x. tt) (all_numbered t p (the_words t image p codable compiled)) (all_ready t p (the_words t image p codable compiled)) (all_declared t p (the_words t image p codable compiled)) scope active falls row frame 0 constants_there refl among (no_homes t image p codable compiled) code) in
+        let first : Within g constants_there = earlier g constants_there b.e grown.0 grown.1 (earlier g b.e (with_instr I.FrontHalt b.e) 1 (and_one g I.FrontHalt b.e) whole) in
+        let c = placed first in
+        let free = (constants_grow t image p codable compiled).regs in
+        subst (λ (r : Run). ComesTo image opened r) (sym (meaning_is locals q row is h.0))
+        (comes constants_there b.e b.n c.t (all_executed scope row 0 active begun_body) whole (closed_row scope active row h.1 h.2 0 begun_body) c.go
+        (subst (λ (m : Made ℕ). Follows g (Left g alive frame constants_there c.t) c.t (all_executed scope row 0 active begun_body) m) b.is
+        (row_follows g has alive (λ x. tt) (all_numbered t p (the_words t image p codable compiled)) (all_ready t p (the_words t image p codable compiled)) (all_declared t p (the_words t image p codable compiled)) scope active falls row h.1 frame 0 constants_there c.t begun_body refl among (no_homes t image p codable compiled) free c.at
+        (sim_zeroed g has alive (λ x. tt) (all_numbered t p (the_words t image p codable compiled)) (all_ready t p (the_words t image p codable compiled)) (all_declared t p (the_words t image p codable compiled)) scope active falls 0 in_main c.t (begins_so c first)) code)))
+      where
+        among : StandsAmong frame []
+        among = record { loop = omega arith; all = refl }
+
+    runs : (body : TStmt) → p.main.body ≡ body → IsMainBody body → ComesTo image opened (meaning t input rest turns winner)
+    unfolding IsMainBody
+    runs (S.Block' locals q row) is h = block_runs locals q row is h
+    runs _ is h = absurd h
+
+pub means_source : CodeMeansSource
+means_source t image p codable compiled memory input rest turns winner = runs t image p codable compiled memory input rest turns winner p.main.body refl p.body

@@ -1,0 +1,210 @@
+-- A scalar expression of 32 bits whose value goes to a variable, as it is written there.
+use Rattle.std.proofs.Common.{◌≡◌, ◌∙◌, ℕ, ◌<◌, ◌≤◌, ◌^◌, Bool, true, false, not, length, slice_index, Option, Some, None, refl, sym, ap, subst, if◌then◌else◌}
+use Rattle.std.specs.Prelude.{IfSome}
+use Rattle.std.proofs.lemmas.Bool.{eq-eqb}
+use Rattle.cstar_base.specs.declared.elem.Elem.{Elem}
+use Rattle.cstar_base.specs.declared.operators.Op.{Op}
+use Rattle.cstar_base.specs.declared.operators.Place.{Place}
+use Rattle.cstar_base.specs.Numbers.{converted}
+use Rattle.cstar_tree.specs.declared.typed.TExpr.{TExpr}
+use Rattle.cstar_tree.specs.declared.typed.TExpr as T
+use Rattle.cstar_tree.specs.declared.typed.UnaryOp.{UnaryOp}
+use Rattle.cstar_tree.specs.declared.typed.UnaryOp.TheVariants as U
+use Rattle.cstar_tree.specs.declared.typed.ValueType.{ValueType}
+use Rattle.cstar_tree.specs.declared.typed.VarInfo.{VarInfo}
+use Rattle.cstar_tree.specs.declared.typed.Variable.{Variable}
+use Rattle.cstar_tree.specs.StatementTypes.{variable_info}
+use Rattle.cstar_tree.specs.Typed.{type_of}
+use Rattle.code_lengths.specs.Naming.{HasVariable, IsDeclared, plain}
+use Rattle.code_lengths.specs.Ready.{HasCode, IsReady}
+use Rattle.code_lengths.proofs.Drafting.{as_it_was}
+use Rattle.lower_base.specs.declared.emit.Out.{Out}
+use Rattle.lower_base.specs.declared.emit.Out.TheVariants as O
+use Rattle.lower_base.specs.Constants.{first_free}
+use Rattle.lower_base.specs.Drafts.{Draft, Made, Makes, in_register, step as step_of, then_make, with_instr}
+use Rattle.lower_base.specs.Layouts.{register_of}
+use Rattle.lower_expr.specs.declared.spots.Spot.{Spot}
+use Rattle.lower_expr.specs.declared.spots.Spot.TheVariants as S
+use Rattle.lower_expr.specs.Effects.{binary_to, bits_for, computed_to, converted_to, goes_unchanged, moved, put_to}
+use Rattle.lower_expr.specs.Kinds.{operand_bits, unary_bits}
+use Rattle.lower_expr.specs.Operands.{is_plus, is_quiet}
+use Rattle.lower_expr.specs.Spots.{loaded, variable_spot}
+use Rattle.lower_expr.specs.Steps.{put_value, register_word, word_for, word_put}
+use Rattle.lower_expr.specs.Values.{Code, next_of, read_to, register_binary_of, registers_by, spot_of}
+use Rattle.paris_code.specs.declared.instr.Instr.TheVariants as I
+use Rattle.paris_code.specs.Code.{CodeState, Goes, begun, with_register}
+use Rattle.quiet_operands.proofs.Unchanged as Quiet
+use Rattle.source_meaning.specs.Constants.{constant_of, is_constant, then_value}
+use Rattle.source_meaning.specs.Constants as Const
+use Rattle.source_meaning.specs.Expressions.{evaluated, mapped, operated}
+use Rattle.source_meaning.specs.State as Source
+use Rattle.source_meaning.specs.State.{Outcome, State, then_do, with_scalar}
+use Rattle.source_meaning.specs.Targets.{read, variable_target}
+use Rattle.source_meaning.specs.Values.{Active, Scalar, Scope, Value, at, convert_to, unary_of}
+use Rattle.source_meaning.proofs.ConstantLaws.{Boxed, value_means}
+use Rattle.code_follows.specs.Fragment.{IsIn, IsWord}
+use Rattle.code_follows.proofs.Expressions.{brackets_code, convert_code, left_code, named, operand, operand_grows, right_code, unary_code}
+use Rattle.code_follows.proofs.Following.{Arrives, Extends, Follows, HasRegisters, IsScalar, Sim, held, keeps_all, then_follows, then_gives}
+use Rattle.code_follows.proofs.Operators.{wide_signed}
+use Rattle.code_follows.proofs.Settings.{At, Setting, and_one, layout, stay}
+use Rattle.code_follows.proofs.Stores.{IsPut, variable_dest}
+use Rattle.code_follows.proofs.Values.{Dest, Does, Value_of, conversion_is, extends_in_register, mapped_is, negated_follows, read_is, registers_follow}
+use Rattle.code_follows.proofs.Words.{below_bits, below_word, constant_below, held_converted, held_wide, word_type}
+
+some_same : {A : Type 0} (a b : A) → Some a ≡ Some b → a ≡ b
+some_same {A} a b e = ap (λ (o : Option A). elim o as (λ _. A) [ None ↦ a | Some x ↦ x ]) e
+
+module _ (g : Setting) (has : HasRegisters g) (alive : Variable → Type 0) (n : ℕ) (lives : (x : Variable) → IsDeclared n x → alive x) (ready : (d : Draft) → IsReady g.typed g.instance (layout g) n d) (scope : Scope) (active : Active)
+    (x : Variable) (info : VarInfo) (living : alive x) (scalar : IsScalar g x info) (also : info.elem.bits ≡ 32) where
+  abbrev own : ℕ
+  own = register_of (layout g) x
+
+  -- what is said of code that puts a value in the variable
+  abbrev pub Put : Draft → CodeState → Value → State → Out → Draft → Type 0
+  Put d s v st out e = IsPut g has alive x info living scalar d s v st out e
+
+  -- an expression whose value the code puts there
+  abbrev pub Puts : (State → Outcome Value) → (Draft → Made Out) → Type 0
+  Puts part code = (d : Draft) (s : CodeState) (st : State) → first_free (layout g) ≤ d.regs → At g s (length d.code) → Sim g alive st s → Follows g (Put d s) s (part st) (code d)
+
+  dest : (elem : Elem) (d : Draft) (s : CodeState) → elem.bits ≡ 32 → first_free (layout g) ≤ d.regs → Dest g has alive elem d s (Put d s) own
+  dest elem d s wide free = variable_dest g has alive x info living scalar elem d s wide also free
+
+  -- a value copied from where it stands
+  copied_to : (elem : Elem) → elem.bits ≡ 32 → (part : State → Outcome Value) (code : Draft → Made Out) → Does g has alive elem true part code → Puts part (λ d. then_make (code d) (λ v after. put_value (O.Scalar own) v after))
+  unfolding put_value then_do Extends Follows begun step_of in_register
+  copied_to elem wide part code does d s st free here sim =
+      follow_same (part st) (then_follows g (Value_of g has alive elem true d s) (Put d s) s s (part st) (λ v after. Source.Gives v after) (code d) (λ v after. in_register v (λ r. Makes (O.Scalar own) (with_instr (I.FrontMove own r) after))) (stay g s) (does d s st free here sim)
+      (λ v e. extends_in_register g has alive e v _ (λ r. (1, and_one g (I.FrontMove own r) e))) (λ v u out e arr. moves v u out e arr))
+    where
+      follow_same : (o : Outcome Value) → Follows g (Put d s) s (then_do o (λ v after. Source.Gives v after)) (then_make (code d) (λ v after. put_value (O.Scalar own) v after)) → Follows g (Put d s) s o (then_make (code d) (λ v after. put_value (O.Scalar own) v after))
+      follow_same (Source.Gives v u) h = h
+      follow_same (Source.Ends early u) h = h
+
+      moves : (v : Value) (u : State) (out : Out) (e : Draft) → Arrives g alive elem true d s v u out e → Follows g (Put d s) s (Source.Gives v u) (in_register out (λ r. Makes (O.Scalar own) (with_instr (I.FrontMove own r) e)))
+      moves v u out e arr =
+          let few : arr.holds.word < 2 ^ 32 = below_word elem.bits arr.holds.word wide arr.holds.small in
+          let there : slice_index arr.t.registers arr.holds.register ≡ held elem arr.holds.word = arr.holds.lasts u arr.t arr.sim (keeps_all g e arr.t) (λ h. refl) in
+          subst (λ (w : Value). Follows g (Put d s) s (Source.Gives w u) (in_register out (λ r. Makes (O.Scalar own) (with_instr (I.FrontMove own r) e)))) (sym arr.holds.value)
+          (subst (λ (o : Out). Follows g (Put d s) s (Source.Gives (Scalar arr.holds.word) u) (in_register o (λ r. Makes (O.Scalar own) (with_instr (I.FrontMove own r) e)))) (sym arr.holds.is)
+          (λ within. (dest elem d s wide free).puts e arr.extended.0 (I.FrontMove own arr.holds.register) arr.t u arr.holds.word arr.go arr.at arr.sim arr.extended.1 arr.keeps within refl
+          (ap (λ (w : ℕ). Goes (with_register own w arr.t)) there) arr.holds.small))
+
+  -- the same number, in another type of 32 bits
+  put_converted : (ty : ValueType) (from : Elem) → IsWord ty → from.bits ≡ 32 → (part : State → Outcome Value) (code : Draft → Made Out) → Puts part code → Puts (λ st. then_do (part st) (λ v after. Source.Gives (convert_to ty from v) after)) code
+  unfolding at
+  put_converted ty from word wide part code puts d s st free here sim =
+      then_gives g (Put d s) (Put d s) s (part st) (λ v. convert_to ty from v) (code d) (puts d s st free here sim) (λ v u out e p. again v u out e p)
+    where
+      again : (v : Value) (u : State) (out : Out) (e : Draft) → Put d s v u out e → Put d s (convert_to ty from v) u out e
+      again v u out e p =
+          let same : converted ty.elem from p.word ≡ p.word = held_converted ty.elem from p.word word.1 ∙ held_wide from p.word wide p.small in
+          record {
+            grown = p.grown;
+            t = p.t;
+            go = p.go;
+            at = p.at;
+            word = p.word;
+            value = conversion_is g has alive ty from v word.0 ∙ ap (λ (w : Value). Scalar (converted ty.elem from (at w 0))) p.value ∙ ap Scalar same;
+            small = p.small;
+            sim = p.sim;
+            keeps = p.keeps;
+          }
+
+  put_mapped : (ty : ValueType) → IsWord ty → (part : State → Outcome Value) (code : Draft → Made Out) → Puts part code → Puts (λ st. then_do (part st) (λ v after. Source.Gives (mapped ty (unary_of U.Plus) v) after)) code
+  unfolding at unary_of
+  put_mapped ty word part code puts d s st free here sim =
+      then_gives g (Put d s) (Put d s) s (part st) (λ v. mapped ty (unary_of U.Plus) v) (code d) (puts d s st free here sim) (λ v u out e p. again v u out e p)
+    where
+      again : (v : Value) (u : State) (out : Out) (e : Draft) → Put d s v u out e → Put d s (mapped ty (unary_of U.Plus) v) u out e
+      again v u out e p = record {
+        grown = p.grown;
+        t = p.t;
+        go = p.go;
+        at = p.at;
+        word = p.word;
+        value = mapped_is g has alive ty (unary_of U.Plus) v word.0 ∙ ap (λ (w : Value). Scalar (at w 0)) p.value;
+        small = p.small;
+        sim = p.sim;
+        keeps = p.keeps;
+      }
+
+  -- a variable is copied from its register
+  variable_put : (ty : ValueType) (y : Variable) → IsWord ty → HasVariable g.typed g.instance n y (plain ty) → Puts (λ st. Source.Gives (read st (variable_target ty.shape y 0)) st) (λ d. read_to g.typed (layout g) (T.Variable ty y) (spot_of g.typed (layout g) (T.Variable ty y)) (O.Scalar own) d)
+  unfolding read_to spot_of variable_spot loaded then_make in_register Follows begun step_of
+  variable_put ty y word v d s st free here sim =
+      let other : VarInfo = variable_info v.word (plain ty) v.start in
+      let there : slice_index s.registers (register_of (layout g) y) ≡ held ty.elem (st.scalar y) = sim.scalars y other (lives y v.declared) (v.named, word.0) in
+      subst (λ (made : Made Out). Follows g (Put d s) s (Source.Gives (read st (variable_target ty.shape y 0)) st) made)
+      (sym (ap (λ (o : Option ℕ). loaded g.typed (layout g) (T.Variable ty y) (elim o as (λ _. Spot) [ None ↦ S.Register (register_of (layout g) y) | Some _ ↦ S.Whole y ]) (O.Scalar own) d) word.0))
+      (subst (λ (w : Value). Follows g (Put d s) s (Source.Gives w st) (Makes (O.Scalar own) (with_instr (I.FrontMove own (register_of (layout g) y)) d))) (sym (read_is g has alive st ty y word.0))
+      (λ within. (dest ty.elem d s word.1 free).puts d 0 (I.FrontMove own (register_of (layout g) y)) s st (st.scalar y) (stay g s) here sim (as_it_was d) (keeps_all g d s) within refl
+      (ap (λ (w : ℕ). Goes (with_register own w s)) there) (sim.small y other (lives y v.declared) (v.named, word.0))))
+
+  binary_put : (ty : ValueType) (place : Place) (op : Op) (left right : TExpr) → IsWord ty → IsIn left → IsIn right → HasCode g.typed g.instance n left → HasCode g.typed g.instance n right
+      → Puts (λ st. then_do (evaluated scope left active st) (λ v between. then_do (evaluated scope right active between) (λ w after. operated scope active ty place op (not (type_of left).elem.signed) v w after)))
+      (λ d. register_binary_of g.typed (layout g) 32 op place left right own d)
+  unfolding register_binary_of
+  binary_put ty place op left right word one two c e d s st free here sim =
+      let bits : ℕ = operand_bits 32 op left right in
+      let first : Code = next_of g.typed (layout g) bits (is_quiet right) left in
+      let second : Code = next_of g.typed (layout g) bits true right in
+      subst (λ (b : Bool). Follows g (Put d s) s (then_do (evaluated scope left active st) (λ v between. then_do (evaluated scope right active between) (λ w after. operated scope active ty place op (not (type_of left).elem.signed) v w after))) (registers_by op b place own first second d))
+      (sym (wide_signed (type_of left).elem (word_type left one).1))
+      (registers_follow g has alive ty (is_quiet right) op place (type_of left).elem (type_of right).elem second (λ st. evaluated scope right active st) scope active word (word_type left one).1 (word_type right two).1
+      (λ u calm. Quiet.expression scope right active u calm) (operand g has alive n lives ready scope active true bits right two e) (operand_grows g has alive n lives ready scope active true bits right e)
+      d s (Put d s) own free (dest ty.elem d s word.1 free) st first (λ u. evaluated scope left active u) (operand g has alive n lives ready scope active (is_quiet right) bits left one c) here sim)
+
+  -- a conversion to 32 bits leaves the value to what is converted
+  unchanged : (ty : ValueType) (p : Boxed) (inner : TExpr) → IsWord ty → (d : Draft) (s : CodeState) (st : State)
+      → Follows g (Put d s) s (then_do (evaluated scope inner active st) (λ v after. Source.Gives (convert_to ty (type_of inner).elem v) after)) (computed_to g.typed (layout g) (O.Scalar own) inner d)
+      → Follows g (Put d s) s (then_do (evaluated scope inner active st) (λ v after. Source.Gives (convert_to ty (type_of inner).elem v) after)) (computed_to g.typed (layout g) (O.Scalar own) (T.Convert' ty p inner) d)
+  unfolding computed_to goes_unchanged
+  unchanged ty p inner word d s st h =
+      subst (λ (made : Made Out). Follows g (Put d s) s (then_do (evaluated scope inner active st) (λ v after. Source.Gives (convert_to ty (type_of inner).elem v) after)) made)
+      (sym (ap (λ (b : Bool). if b then computed_to g.typed (layout g) (O.Scalar own) inner d else converted_to g.typed (layout g) (O.Scalar own) (T.Convert' ty p inner) ty.elem inner d) (eq-eqb ty.elem.bits 32 word.1))) h
+
+  unary_put : (ty : ValueType) (op : UnaryOp) (p : Boxed) (inner : TExpr) → IsWord ty → IsIn inner → HasCode g.typed g.instance n inner → Puts (λ st. evaluated scope inner active st) (λ d. computed_to g.typed (layout g) (O.Scalar own) inner d)
+      → Puts (λ st. then_do (evaluated scope inner active st) (λ v after. Source.Gives (mapped ty (unary_of op) v) after)) (λ d. computed_to g.typed (layout g) (O.Scalar own) (T.Unary' ty op p inner) d)
+  unfolding computed_to is_plus bits_for
+  unary_put ty U.Plus p inner word isin c puts = put_mapped ty word _ _ puts
+  unary_put ty U.Minus p inner word isin c puts = λ d s st free here sim.
+      negated_follows g has alive ty U.Minus (type_of inner).elem (word_type inner isin).1 word refl d s (Put d s) own free (dest ty.elem d s word.1 free) st _ (λ u. evaluated scope inner active u) (operand g has alive n lives ready scope active true (unary_bits 32 U.Minus inner) inner isin c) here sim
+  unary_put ty U.Complement p inner word isin c puts = λ d s st free here sim.
+      negated_follows g has alive ty U.Complement (type_of inner).elem (word_type inner isin).1 word refl d s (Put d s) own free (dest ty.elem d s word.1 free) st _ (λ u. evaluated scope inner active u) (operand g has alive n lives ready scope active true (unary_bits 32 U.Complement inner) inner isin c) here sim
+  unary_put ty U.Not p inner word isin c puts = λ d s st free here sim.
+      negated_follows g has alive ty U.Not (type_of inner).elem (word_type inner isin).1 word refl d s (Put d s) own free (dest ty.elem d s word.1 free) st _ (λ u. evaluated scope inner active u) (operand g has alive n lives ready scope active true (unary_bits 32 U.Not inner) inner isin c) here sim
+
+  computed_follows : (e : TExpr) → IsIn e → HasCode g.typed g.instance n e → Puts (λ st. evaluated scope e active st) (λ d. computed_to g.typed (layout g) (O.Scalar own) e d)
+  unfolding computed_to evaluated IsIn moved bits_for binary_to
+  computed_follows (T.Number ty value) h c = copied_to ty.elem h.0.1 _ _ (operand g has alive n lives ready scope active true 32 (T.Number ty value) h c)
+  computed_follows (T.PositionsOf ty shape value) h c = copied_to ty.elem h.0.1 _ _ (operand g has alive n lives ready scope active true 32 (T.PositionsOf ty shape value) h c)
+  computed_follows (T.RankOf ty shape value) h c = copied_to ty.elem h.0.1 _ _ (operand g has alive n lives ready scope active true 32 (T.RankOf ty shape value) h c)
+  computed_follows (T.DimOf ty shape axis value) h c = copied_to ty.elem h.0.1 _ _ (operand g has alive n lives ready scope active true 32 (T.DimOf ty shape axis value) h c)
+  computed_follows (T.Variable ty y) h c = variable_put ty y h (named g has alive n lives ready scope active ty y c)
+  computed_follows (T.Brackets' ty p inner) h c = computed_follows inner h.1 (brackets_code g has alive n lives ready scope active ty p inner c)
+  computed_follows (T.Convert' ty p operand) h c = λ d s st free here sim.
+      unchanged ty p operand h.0 d s st (put_converted ty (type_of operand).elem h.0 (word_type operand h.1).1 _ _ (computed_follows operand h.1 (convert_code g has alive n lives ready scope active ty p operand c)) d s st free here sim)
+  computed_follows (T.Unary' ty op p inner) h c = unary_put ty op p inner h.0 h.1 (unary_code g has alive n lives ready scope active ty op p inner c) (computed_follows inner h.1 (unary_code g has alive n lives ready scope active ty op p inner c))
+  computed_follows (T.Binary' ty place op p left q right) h c = binary_put ty place op left right h.0 h.1 h.2 (left_code g has alive n lives ready scope active ty place op p q left right c) (right_code g has alive n lives ready scope active ty place op p q left right c)
+  computed_follows _ h c = absurd h
+
+  -- a constant goes to the register at once
+  word_put_follows : (e : TExpr) (w : ℕ) → IsIn e → is_constant e ≡ true → Const.value_of e ≡ Some w → Puts (λ st. evaluated scope e active st) (λ d. Makes (O.Scalar own) (with_instr (I.FrontConst own (held (type_of e).elem w)) d))
+  unfolding Follows begun step_of
+  word_put_follows e w isin constant value d s st free here sim =
+      let few : w < 2 ^ 32 = subst (λ (o : Option ℕ). IfSome o (λ v. v < 2 ^ 32)) value (constant_below e isin) in
+      let wide = (word_type e isin).1 in
+      let gives : evaluated scope e active st ≡ Source.Gives (Scalar w) st = subst (λ (o : Option ℕ). Const.IsValueOf e o) value (value_means e constant) scope active st in
+      subst (λ (o : Outcome Value). Follows g (Put d s) s o (Makes (O.Scalar own) (with_instr (I.FrontConst own (held (type_of e).elem w)) d))) (sym gives)
+      (λ within. (dest (type_of e).elem d s wide free).puts d 0 (I.FrontConst own (held (type_of e).elem w)) s st w (stay g s) here sim (as_it_was d) (keeps_all g d s) within refl refl (below_bits (type_of e).elem.bits w wide few))
+
+  pub put_follows : (e : TExpr) → IsIn e → HasCode g.typed g.instance n e → Puts (λ st. evaluated scope e active st) (λ d. put_to g.typed (layout g) (O.Scalar own) e d)
+  unfolding put_to word_for word_put register_word constant_of
+  put_follows e isin c d s st free here sim = by (is_constant e) (Const.value_of e) refl refl
+    where
+      by : (b : Bool) (v : Option ℕ) → is_constant e ≡ b → Const.value_of e ≡ v
+          → Follows g (Put d s) s (evaluated scope e active st) (elim (then_value (if b then v else None) (λ w. Some (held (type_of e).elem w))) as (λ _. Made Out) [ Some word ↦ Makes (O.Scalar own) (with_instr (I.FrontConst own word) d) | None ↦ computed_to g.typed (layout g) (O.Scalar own) e d ])
+      by true (Some w) is_c is_v = word_put_follows e w isin is_c is_v d s st free here sim
+      by true None is_c is_v = computed_follows e isin c d s st free here sim
+      by false v is_c is_v = computed_follows e isin c d s st free here sim

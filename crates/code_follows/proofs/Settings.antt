@@ -1,0 +1,119 @@
+-- A unit of a compiled program, and how the code of its image stands for its drafts.
+use Rattle.std.proofs.Common.{◌≡◌, ◌∙◌, ℕ, suc, ◌+◌, ◌≤◌, List, [], ◌∷◌, ◌++◌, length, map, slice_get, Option, Some, refl, ap, arith, append_assoc, length-append}
+use Rattle.std.specs.List.{slice_index_or}
+use Rattle.cstar_link.specs.Linked.{code_from, moved_by}
+use Rattle.cstar_tree.specs.declared.typed.Instance.{Instance}
+use Rattle.cstar_tree.specs.declared.typed.Typed.{Typed}
+use Rattle.code_lengths.specs.Growth.{Extended}
+use Rattle.code_lengths.proofs.Drafting.{and_instr, as_it_was}
+use Rattle.field_alloc.specs.Placed.{IsPlaced}
+use Rattle.lower_base.specs.Drafts.{Draft, Plain, Step, step as step_of, with_instr, with_step}
+use Rattle.lower_base.specs.Layouts.{Layout, layout_of}
+use Rattle.paris_code.specs.declared.instr.Instr.{Instr}
+use Rattle.paris_code.specs.declared.program.Image.{Image}
+use Rattle.paris_code.specs.declared.program.Program.{Program}
+use Rattle.paris_code.specs.declared.program.Unit.{Unit as CodeUnit}
+use Rattle.paris_code.specs.Code.{CodeEnd, CodeState, Ends, Goes, Next, begun, begun_at, code, go_on, step}
+use Rattle.paris_code.specs.Moving.{moved_instr}
+use Rattle.paris_code.specs.Proper.{IsUnit}
+use Rattle.code_follows.proofs.Standing.{stands, start_in}
+
+pub record Setting : Type 0 where
+  pub typed : Typed
+  pub words : List ℕ
+  pub image : Image
+  pub before : Program
+  pub after : Program
+  pub placed : IsPlaced before after
+  pub linked : image.code.items ≡ code_from 0 after.units.items
+  pub number : ℕ
+  pub unit : CodeUnit
+  pub is_unit : IsUnit before number unit
+  pub instance : Instance
+  pub is_instance : slice_get typed.instances.items number ≡ Some instance
+
+module _ (g : Setting) where
+  abbrev pub whole : List Step
+  whole = map step_of g.unit.code.items
+
+  abbrev pub layout : Layout
+  layout = layout_of g.typed g.words g.number
+
+  abbrev pub start : ℕ
+  start = start_in g.after.units.items g.number 0
+
+  -- the draft is an early state of the unit
+  pub record Within (e : Draft) : Type 0 where
+    pub more : List Step
+    pub code : whole ≡ e.code ++ more
+    pub regs : e.regs ≤ g.image.slots
+
+  pub earlier : (d e : Draft) (n : ℕ) → Extended d n e → Within e → Within d
+  earlier d e n x w = record {
+    more = x.more ++ w.more;
+    code = w.code ∙ ap (λ (c : List Step). c ++ w.more) x.code ∙ append_assoc d.code x.more w.more;
+    regs = omega (arith, x.regs, w.regs);
+  }
+
+  -- the code stands at a place of the unit
+  abbrev pub At : CodeState → ℕ → Type 0
+  At s at = s.at ≡ start + at
+
+  -- the code goes on from one state as from the other
+  pub record Reaches (s t : CodeState) : Type 0 where
+    pub by : (k : ℕ) → (j : ℕ) × ((code g.image j s).next ≡ (code g.image k t).next)
+
+  pub stay : (s : CodeState) → Reaches s s
+  stay s = record { by = λ k. (k, refl) }
+
+  pub onto : (s t u : CodeState) → Reaches s t → Reaches t u → Reaches s u
+  onto s t u a b = record { by = λ k. let y = b.by k in let x = a.by y.0 in (x.0, x.1 ∙ y.1) }
+
+  pub one : (s t : CodeState) → step g.image s ≡ Goes t → Reaches s t
+  unfolding code
+  one s t e = record { by = λ k. (suc k, ap (λ (n : Next). (go_on (λ u. code g.image k u) n).next) e) }
+
+  -- so many instructions end the run so
+  pub record EndsIn (s : CodeState) (end : CodeEnd) (t : CodeState) : Type 0 where
+    pub steps : ℕ
+    pub is : (code g.image steps s).next ≡ Ends end t
+
+  pub ends_later : (s t u : CodeState) (end : CodeEnd) → Reaches s t → EndsIn t end u → EndsIn s end u
+  ends_later s t u end go ends = let x = go.by ends.steps in record { steps = x.0; is = x.1 ∙ ends.is }
+
+  pub ends_now : (s t : CodeState) (end : CodeEnd) → step g.image s ≡ Ends end t → EndsIn s end t
+  unfolding code
+  ends_now s t end e = record { steps = 1; is = ap (λ (n : Next). (go_on (λ u. code g.image 0 u) n).next) e }
+
+  -- an instruction of the unit as it stands in the image
+  abbrev pub placed_instr : Instr → Instr
+  placed_instr i = moved_by start (moved_instr (slice_index_or g.placed.places g.number []) i)
+
+  seam : {A : Type 0} (xs : List A) (y : A) (ys : List A) → slice_get (xs ++ y ∷ ys) (length xs) ≡ Some y
+  seam [] y ys = refl
+  seam (x ∷ xs) y ys = seam xs y ys
+
+  stands_here : (i : Instr) (d : Draft) → Within (with_instr i d) → slice_get whole (length d.code) ≡ Some (step_of i)
+  unfolding with_instr with_step
+  stands_here i d w = ap (λ (c : List Step). slice_get c (length d.code)) (w.code ∙ append_assoc d.code (step_of i ∷ []) w.more) ∙ seam d.code (step_of i) w.more
+
+  -- the instruction that the draft gets next is the one at which the code stands
+  pub begins_here : (i : Instr) (d : Draft) (s : CodeState) → Within (with_instr i d) → step_of i ≡ Plain i → At s (length d.code) → step g.image s ≡ begun g.image (placed_instr i) s
+  unfolding step
+  begins_here i d s w plain at =
+      let there = (stands g.image g.before g.after g.placed g.number g.unit g.linked g.is_unit (length d.code) i (stands_here i d w ∙ ap Some plain)).1 in
+      ap (λ (o : Option Instr). begun_at g.image s o) (ap (λ (n : ℕ). slice_get g.image.code.items n) at ∙ there)
+
+  pub and_one : (i : Instr) (d : Draft) → Extended d 1 (with_instr i d)
+  and_one i d = and_instr i d d 0 (as_it_was d)
+
+  pub code_more : (i : Instr) (d : Draft) → length (with_instr i d).code ≡ length d.code + 1
+  unfolding with_instr with_step
+  code_more i d = length-append d.code (step_of i ∷ [])
+
+  pub regs_more : (i : Instr) (d : Draft) → (with_instr i d).regs ≡ d.regs
+  unfolding with_instr with_step
+  regs_more i d = refl
+
+  pub at_next : (i : Instr) (d : Draft) (s : CodeState) (n : ℕ) → At s (length d.code) → n ≡ s.at + 1 → n ≡ start + length (with_instr i d).code
+  at_next i d s n at is = let m = code_more i d in omega (arith, at, is, m)

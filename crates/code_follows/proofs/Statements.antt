@@ -1,0 +1,110 @@
+-- The code of statements follows the source.
+use Rattle.std.proofs.Common.{◌≡◌, ◌∙◌, ℕ, List, [], ◌∷◌, length, refl, sym, ap, subst, arith}
+use Rattle.cstar_tree.specs.declared.typed.TExpr.{TExpr}
+use Rattle.cstar_tree.specs.declared.typed.TStmt.{TStmt, Row_of-TStmt, end_of-TStmt, more_of-TStmt, Held-TStmt-If-2, None', Some'}
+use Rattle.cstar_tree.specs.declared.typed.TStmt as S
+use Rattle.cstar_tree.specs.declared.typed.VarInfo.{VarInfo}
+use Rattle.cstar_tree.specs.Variables.{variables_of}
+use Rattle.code_lengths.specs.Agreement.{StandsAmong}
+use Rattle.code_lengths.specs.Growth.{Extended, Leads}
+use Rattle.code_lengths.specs.NamingStatements.{behind}
+use Rattle.code_lengths.specs.Ready.{Declares, HasCode, HasDeclared, HasStatementCode, NumbersVariables}
+use Rattle.code_lengths.specs.LowerableStatements.{IsLowerableStatement}
+use Rattle.code_lengths.specs.NamingStatements.{StandFrom, StatementNamesVariables}
+use Rattle.code_lengths.specs.ShapedStatements.{IsShapedStatement}
+use Rattle.code_lengths.proofs.Declaring.{else_variables, first_part, of_do, of_if, of_while, second_part}
+use Rattle.code_lengths.proofs.StatementLengths.{statements}
+use Rattle.source_meaning.proofs.ConstantLaws.{Boxed}
+use Rattle.lower_base.specs.Drafts.{Draft, Fails, Made, Makes}
+use Rattle.lower_stmt.specs.declared.statement.Frame.{Frame}
+use Rattle.lower_stmt.specs.Frames.{has_result}
+use Rattle.lower_stmt.specs.Lengths.{statement_length_of}
+use Rattle.lower_stmt.specs.Programs.{outcome_of}
+use Rattle.lower_stmt.specs.Statements.{statement_of}
+use Rattle.code_follows.proofs.Settings.{Setting, layout}
+
+no_length : {A : Type 0} (xs : List A) → length xs ≡ 0 → xs ≡ []
+no_length [] e = refl
+no_length (x ∷ xs) e = absurd (omega (arith, e))
+
+module _ (g : Setting) (numbers : NumbersVariables g.instance (layout g)) (declared : (n : ℕ) (d : Draft) → d.homes ≡ [] → HasDeclared g.typed g.instance (layout g) n d) where
+  -- the code of a statement is made, of so many instructions
+  pub record MadeSo (d : Draft) (long number : ℕ) (made : Made ℕ) : Type 0 where
+    pub e : Draft
+    pub is : made ≡ Makes number e
+    pub extended : Extended d long e
+    pub homes : e.homes ≡ []
+
+  -- where no variable is parallel no home is added
+  pub statement_made : (s : TStmt) (f : Frame) (n : ℕ) (d : Draft) → f.outcome ≡ outcome_of g.instance.result → StandsAmong f [] → HasStatementCode g.typed g.instance n s → d.homes ≡ []
+      → MadeSo d (statement_length_of g.typed (layout g) (has_result f) f.saved s) (behind n s) (statement_of g.typed (layout g) s f [] n d)
+  unfolding Leads
+  statement_made s f n d outcome among c none = by (statement_of g.typed (layout g) s f [] n d) refl (statements g.typed g.instance (layout g) s f [] n d numbers outcome among c (declared n d none))
+    where
+      by : (made : Made ℕ) → statement_of g.typed (layout g) s f [] n d ≡ made → Leads d (statement_length_of g.typed (layout g) (has_result f) f.saved s) (Declares g.typed g.instance (layout g) (behind n s)) made
+          → MadeSo d (statement_length_of g.typed (layout g) (has_result f) f.saved s) (behind n s) (statement_of g.typed (layout g) s f [] n d)
+      by Fails is h = absurd h
+      by (Makes m e) is h =
+          let x = h.1.1 in
+          let before : length d.homes ≡ _ = (declared (behind n s) d none).homes in
+          let empty : length e.homes ≡ 0 = h.0.1.homes ∙ sym before ∙ ap length none in
+          let homes : e.homes ≡ [] = no_length e.homes empty in
+          record {
+            e = e;
+            is = is ∙ ap (λ (k : ℕ). Makes k e) h.0.0;
+            extended = record { name = x.name; more = x.more; code = x.code; long = x.long; entries = x.entries; fields = x.fields; regs = x.regs; homes = homes ∙ sym none };
+            homes = homes;
+          }
+
+  -- what has code of its parts
+  pub if_first : (n : ℕ) (test : TExpr) (p : Boxed) (first : TStmt) (second : Held-TStmt-If-2) → HasStatementCode g.typed g.instance n (S.If' test p first second) → HasStatementCode g.typed g.instance n first
+  unfolding IsShapedStatement IsLowerableStatement StatementNamesVariables
+  if_first n test p first second c = record {
+    shaped = c.shaped.1;
+    lowerable = c.lowerable.1;
+    names = c.names.1;
+    stands = first_part (variables_of first) (else_variables second) (subst (λ (own : List VarInfo). StandFrom (variables_of g.instance.body) n own) (of_if test p first second) c.stands);
+  }
+
+  pub if_second : (n : ℕ) (test : TExpr) (p : Boxed) (first : TStmt) (q : Boxed) (second : TStmt) → HasStatementCode g.typed g.instance n (S.If' test p first (Some' q second)) → HasStatementCode g.typed g.instance (behind n first) second
+  unfolding IsShapedStatement IsLowerableStatement StatementNamesVariables else_variables
+  if_second n test p first q second c = record {
+    shaped = c.shaped.2;
+    lowerable = c.lowerable.2;
+    names = c.names.2;
+    stands = second_part (variables_of first) (else_variables (Some' q second)) (subst (λ (own : List VarInfo). StandFrom (variables_of g.instance.body) n own) (of_if test p first (Some' q second)) c.stands);
+  }
+
+  pub if_test : (n : ℕ) (test : TExpr) (p : Boxed) (first : TStmt) (second : Held-TStmt-If-2) → HasStatementCode g.typed g.instance n (S.If' test p first second) → HasCode g.typed g.instance n test
+  unfolding IsShapedStatement IsLowerableStatement StatementNamesVariables
+  if_test n test p first second c = record { shaped = c.shaped.0; lowerable = c.lowerable.0.1; names = c.names.0 }
+
+  pub while_test : (n : ℕ) (test : TExpr) (p : Boxed) (body : TStmt) → HasStatementCode g.typed g.instance n (S.While' test p body) → HasCode g.typed g.instance n test
+  unfolding IsShapedStatement IsLowerableStatement StatementNamesVariables
+  while_test n test p body c = record { shaped = c.shaped.0; lowerable = c.lowerable.0.1; names = c.names.0 }
+
+  pub while_body : (n : ℕ) (test : TExpr) (p : Boxed) (body : TStmt) → HasStatementCode g.typed g.instance n (S.While' test p body) → HasStatementCode g.typed g.instance n body
+  unfolding IsShapedStatement IsLowerableStatement StatementNamesVariables
+  while_body n test p body c = record {
+    shaped = c.shaped.1;
+    lowerable = c.lowerable.1;
+    names = c.names.1;
+    stands = subst (λ (own : List VarInfo). StandFrom (variables_of g.instance.body) n own) (of_while test p body) c.stands;
+  }
+
+  pub do_test : (n : ℕ) (p : Boxed) (body : TStmt) (test : TExpr) → HasStatementCode g.typed g.instance n (S.Do' p body test) → HasCode g.typed g.instance n test
+  unfolding IsShapedStatement IsLowerableStatement StatementNamesVariables
+  do_test n p body test c = record { shaped = c.shaped.1; lowerable = c.lowerable.1.1; names = c.names.1 }
+
+  pub do_body : (n : ℕ) (p : Boxed) (body : TStmt) (test : TExpr) → HasStatementCode g.typed g.instance n (S.Do' p body test) → HasStatementCode g.typed g.instance n body
+  unfolding IsShapedStatement IsLowerableStatement StatementNamesVariables
+  do_body n p body test c = record {
+    shaped = c.shaped.0;
+    lowerable = c.lowerable.0;
+    names = c.names.0;
+    stands = subst (λ (own : List VarInfo). StandFrom (variables_of g.instance.body) n own) (of_do p body test) c.stands;
+  }
+
+  pub expression_code : (n : ℕ) (e : TExpr) → HasStatementCode g.typed g.instance n (S.Expression e) → HasCode g.typed g.instance n e
+  unfolding IsShapedStatement IsLowerableStatement StatementNamesVariables
+  expression_code n e c = record { shaped = c.shaped; lowerable = c.lowerable; names = c.names }

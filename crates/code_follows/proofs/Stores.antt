@@ -1,0 +1,143 @@
+-- Values that go to a scalar variable: the last instruction writes its register.
+use Rattle.std.proofs.Common.{◌≡◌, ◌∙◌, ℕ, ◌+◌, ◌<◌, ◌≤◌, ◌^◌, ◌==◌, Bool, true, false, List, [], ◌∷◌, length, slice_index, slice_set, Option, Some, None, refl, sym, ap, subst, if◌then◌else◌, arith}
+use Rattle.std.proofs.lemmas.Bool.{eqb-true, eq-eqb}
+use Rattle.std.proofs.lemmas.List.{get_or-set_other, get_or-set_same}
+use Rattle.std.proofs.Math.ListN.{length-set}
+use Rattle.cstar_base.specs.declared.elem.Elem.{Elem}
+use Rattle.cstar_tree.specs.declared.typed.VarInfo.{VarInfo}
+use Rattle.cstar_tree.specs.declared.typed.Variable.{Variable}
+use Rattle.cstar_tree.specs.declared.typed.Variable.TheVariants as V
+use Rattle.code_lengths.specs.Growth.{Extended}
+use Rattle.code_lengths.specs.Naming.{variable_named}
+use Rattle.code_lengths.proofs.Drafting.{extended}
+use Rattle.lower_base.specs.declared.emit.Out.{Out}
+use Rattle.lower_base.specs.Constants.{constant_register, first_free, register_with}
+use Rattle.lower_base.specs.Drafts.{Draft, with_instr}
+use Rattle.lower_base.specs.Layouts.{Layout, register_of}
+use Rattle.paris_code.specs.declared.instr.Instr.{Instr}
+use Rattle.paris_code.specs.Code.{CodeState, Goes, with_register}
+use Rattle.source_meaning.specs.State.{State, is_same, with_scalar}
+use Rattle.source_meaning.specs.Values.{Scalar, Value}
+use Rattle.code_follows.proofs.Following.{HasRegisters, IsScalar, Keeps, Sim, held}
+use Rattle.code_follows.proofs.Settings.{At, Reaches, Setting, Within, and_one, at_next, begins_here, layout, one, onto, placed_instr}
+use Rattle.code_follows.proofs.Values.{Dest}
+use Rattle.code_follows.proofs.Words.{held_wide}
+
+-- names are the same exactly where they are equal
+same_is : (x y : Variable) → is_same x y ≡ true → x ≡ y
+unfolding is_same
+same_is (V.File m) (V.File n) e = ap V.File (eqb-true m n e)
+same_is (V.Param m) (V.Param n) e = ap V.Param (eqb-true m n e)
+same_is (V.Local m) (V.Local n) e = ap V.Local (eqb-true m n e)
+same_is (V.File m) (V.Param n) e = cc
+same_is (V.File m) (V.Local n) e = cc
+same_is (V.Param m) (V.File n) e = cc
+same_is (V.Param m) (V.Local n) e = cc
+same_is (V.Local m) (V.File n) e = cc
+same_is (V.Local m) (V.Param n) e = cc
+
+same_itself : (x : Variable) → is_same x x ≡ true
+unfolding is_same
+same_itself (V.File m) = eq-eqb m m refl
+same_itself (V.Param m) = eq-eqb m m refl
+same_itself (V.Local m) = eq-eqb m m refl
+
+-- constants stand behind the variables
+search_above : (words : List ℕ) (word first r : ℕ) → register_with word words first ≡ Some r → first ≤ r
+unfolding register_with
+search_above [] word first r is = cc
+search_above (w ∷ words) word first r is = by (w == word) (λ e. search_above words word (first + 1) r e) is
+  where
+    some_same : (a b : ℕ) → Some a ≡ Some b → a ≡ b
+    some_same a b e = ap (λ (o : Option ℕ). elim o as (λ _. ℕ) [ None ↦ 0 | Some x ↦ x ]) e
+
+    by : (b : Bool) → (register_with word words (first + 1) ≡ Some r → first + 1 ≤ r) → (if b then Some first else register_with word words (first + 1)) ≡ Some r → first ≤ r
+    by true later e = let h = some_same first r e in omega (arith, h)
+    by false later e = let h = later e in omega (arith, h)
+
+constant_above : (l : Layout) (word r : ℕ) → constant_register l word ≡ Some r → l.end ≤ r
+unfolding constant_register
+constant_above l word r is = search_above l.constants word l.end r is
+
+same_info : (a b : VarInfo) → Some a ≡ Some b → a ≡ b
+same_info a b e = ap (λ (o : Option VarInfo). elim o as (λ _. VarInfo) [ None ↦ a | Some x ↦ x ]) e
+
+module _ (g : Setting) (has : HasRegisters g) (alive : Variable → Type 0) (x : Variable) (info : VarInfo) (lives : alive x) (scalar : IsScalar g x info) where
+  abbrev own : ℕ
+  own = register_of (layout g) x
+
+  below_free : own < first_free (layout g)
+  unfolding first_free
+  below_free = let b = has.below x info scalar.0 in omega (arith, b)
+
+  -- the register of the variable takes a number
+  sim_written : (st : State) (s : CodeState) (w : ℕ) → w < 2 ^ info.elem.bits → own < length s.registers → Sim g alive st s → Sim g alive (with_scalar x w st) (with_register own (held info.elem w) s)
+  unfolding with_scalar
+  sim_written st s w few inside h = record {
+    registers = length-set s.registers own (held info.elem w) ∙ h.registers;
+    scalars = λ y other living known. by_name y other living known (is_same x y) refl;
+    small = λ y other living known. small_name y other living known (is_same x y) refl;
+    constants = λ word r is. get_or-set_other s.registers own r (held info.elem w) 0 (λ e. let a = constant_above (layout g) word r is in let b = has.below x info scalar.0 in omega (arith, e, a, b)) ∙ h.constants word r is;
+    turns = h.turns;
+    output = h.output;
+    input = h.input;
+  }
+    where
+      infos : (y : Variable) (other : VarInfo) → variable_named g.typed g.instance y ≡ Some other → x ≡ y → info ≡ other
+      infos y other known e = same_info info other (sym scalar.0 ∙ ap (λ (z : Variable). variable_named g.typed g.instance z) e ∙ known)
+
+      by_name : (y : Variable) (other : VarInfo) → alive y → IsScalar g y other → (b : Bool) → is_same x y ≡ b → slice_index (slice_set s.registers own (held info.elem w)) (register_of (layout g) y) ≡ held other.elem (if is_same x y then w else st.scalar y)
+      by_name y other living known true is =
+          let e : x ≡ y = same_is x y is in
+          ap (λ (z : Variable). slice_index (slice_set s.registers own (held info.elem w)) (register_of (layout g) z)) (sym e) ∙ get_or-set_same s.registers own (held info.elem w) 0 inside
+          ∙ ap (λ (i : VarInfo). held i.elem w) (infos y other known.0 e) ∙ ap (λ (b : Bool). held other.elem (if b then w else st.scalar y)) (sym is)
+      by_name y other living known false is =
+          get_or-set_other s.registers own (register_of (layout g) y) (held info.elem w) 0 (λ e. differs y other known.0 is (sym e)) ∙ h.scalars y other living known ∙ ap (λ (b : Bool). held other.elem (if b then w else st.scalar y)) (sym is)
+        where
+          differs : (y : Variable) (other : VarInfo) → variable_named g.typed g.instance y ≡ Some other → is_same x y ≡ false → own ≡ register_of (layout g) y → ⊥
+          differs y other known is e =
+              let same : x ≡ y = has.apart x y info other scalar.0 known e in
+              let there : is_same x y ≡ true = ap (λ (z : Variable). is_same x z) (sym same) ∙ same_itself x in
+              cc
+
+      small_name : (y : Variable) (other : VarInfo) → alive y → IsScalar g y other → (b : Bool) → is_same x y ≡ b → (if is_same x y then w else st.scalar y) < 2 ^ other.elem.bits
+      small_name y other living known true is =
+          let e : x ≡ y = same_is x y is in
+          subst (λ (b : Bool). (if b then w else st.scalar y) < 2 ^ other.elem.bits) (sym is) (subst (λ (i : VarInfo). w < 2 ^ i.elem.bits) (infos y other known.0 e) few)
+      small_name y other living known false is = subst (λ (b : Bool). (if b then w else st.scalar y) < 2 ^ other.elem.bits) (sym is) (h.small y other living known)
+
+  -- the code arrives behind a draft, where the variable has the value
+  pub record IsPut (d : Draft) (s : CodeState) (v : Value) (st : State) (out : Out) (e : Draft) : Type 0 where
+    pub grown : (n : ℕ) × Extended d n e
+    pub t : CodeState
+    pub go : Reaches g s t
+    pub at : At g t (length e.code)
+    pub word : ℕ
+    pub value : v ≡ Scalar word
+    pub small : word < 2 ^ 32
+    pub sim : Sim g alive (with_scalar x word st) t
+    pub keeps : Keeps g d s t
+
+  pub variable_dest : (elem : Elem) (d : Draft) (s0 : CodeState) → elem.bits ≡ 32 → info.elem.bits ≡ 32 → first_free (layout g) ≤ d.regs → Dest g has alive elem d s0 (λ v st out e. IsPut d s0 v st out e) own
+  variable_dest elem d s0 wide also free = record {
+    puts = λ e n i s st w go here sim grows keeps within plain does few.
+        let low = below_free in
+        let small : w < 2 ^ 32 = subst (λ (k : ℕ). w < 2 ^ k) wide few in
+        let inside : own < length s.registers = omega (arith, low, free, grows.regs, within_regs e i within, sim.registers) in
+        let words : held elem w ≡ held info.elem w = held_wide elem w wide small ∙ sym (held_wide info.elem w also small) in
+        let t : CodeState = with_register own (held info.elem w) s in
+        record {
+          grown = (n + 1, extended d e (with_instr i e) n 1 grows (and_one g i e));
+          t = t;
+          go = onto g s0 s t go (one g s t (begins_here g i e s within plain here ∙ does ∙ ap (λ (v : ℕ). Goes (with_register own v s)) words));
+          at = at_next g i e s (s.at + 1) here refl;
+          sim = sim_written st s w (subst (λ (k : ℕ). w < 2 ^ k) (sym also) small) inside sim;
+          keeps = λ r lo hi. get_or-set_other s.registers own r (held info.elem w) 0 (λ e. omega (arith, e, low, lo)) ∙ keeps r lo hi;
+          word = w;
+          value = refl;
+          small = small;
+        };
+  }
+    where
+      within_regs : (e : Draft) (i : Instr) → Within g (with_instr i e) → e.regs ≤ g.image.slots
+      within_regs e i within = let r = Rattle.code_follows.proofs.Settings.regs_more g i e in omega (arith, r, within.regs)

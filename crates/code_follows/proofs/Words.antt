@@ -1,0 +1,87 @@
+-- Numbers of 32 bits and the words that hold them, and constants.
+use Rattle.std.proofs.Common.{◌≡◌, ◌∙◌, ℕ, ◌<◌, ◌^◌, ◌==◌, true, not, Option, Some, None, refl, sym, ap, subst, if◌then◌else◌}
+use Rattle.std.specs.Prelude.{IfSome, is_none}
+use Rattle.cstar_base.specs.declared.elem.Elem.{Elem}
+use Rattle.cstar_base.specs.Numbers.{converted, number_of, residue, truth_of}
+use Rattle.cstar_base.proofs.NumberLaws.{residue_of_number}
+use Rattle.cstar_tree.specs.declared.typed.TExpr.{TExpr}
+use Rattle.cstar_tree.specs.declared.typed.TExpr as T
+use Rattle.cstar_tree.specs.declared.typed.ValueType.{ValueType}
+use Rattle.cstar_tree.specs.Typed.{type_of}
+use Rattle.constant_trees.proofs.Words.{converted_below, operate_below, unary_below}
+use Rattle.lower_expr.specs.Steps.{is_kept}
+use Rattle.source_meaning.specs.Constants.{then_value, value_of}
+use Rattle.source_meaning.specs.Reductions.{int_type}
+use Rattle.code_follows.specs.Fragment.{IsIn, IsWord}
+use Rattle.code_follows.proofs.Following.{held}
+
+-- a conversion to 32 bits takes the residue of the number
+wide_converted : (to from : Elem) (w : ℕ) → to.bits ≡ 32 → converted to from w ≡ residue 32 (number_of from.bits from.signed w)
+unfolding converted
+wide_converted to from w wide = ap (λ (n : ℕ). if n == 1 then truth_of (number_of from.bits from.signed w) else residue n (number_of from.bits from.signed w)) wide
+
+pub held_wide : (elem : Elem) (w : ℕ) → elem.bits ≡ 32 → w < 2 ^ 32 → held elem w ≡ w
+held_wide elem w wide few =
+    wide_converted int_type elem w refl ∙ ap (λ (n : ℕ). residue 32 (number_of n elem.signed w)) wide ∙ residue_of_number 32 elem.signed w few
+
+pub held_converted : (to from : Elem) (w : ℕ) → to.bits ≡ 32 → converted to from w ≡ held from w
+held_converted to from w wide = wide_converted to from w wide ∙ sym (wide_converted int_type from w refl)
+
+pub held_below : (elem : Elem) (w : ℕ) → held elem w < 2 ^ 32
+held_below elem w = converted_below int_type elem w
+
+pub below_bits : (bits w : ℕ) → bits ≡ 32 → w < 2 ^ 32 → w < 2 ^ bits
+below_bits bits w wide few = subst (λ (n : ℕ). w < 2 ^ n) (sym wide) few
+
+pub below_word : (bits w : ℕ) → bits ≡ 32 → w < 2 ^ bits → w < 2 ^ 32
+below_word bits w wide few = subst (λ (n : ℕ). w < 2 ^ n) wide few
+
+-- the expressions are of scalar types of 32 bits
+pub word_type : (e : TExpr) → IsIn e → IsWord (type_of e)
+unfolding IsIn
+word_type (T.Number ty value) h = h.0
+word_type (T.PositionsOf ty shape value) h = h.0
+word_type (T.RankOf ty shape value) h = h.0
+word_type (T.DimOf ty shape axis value) h = h.0
+word_type (T.Variable ty x) h = h
+word_type (T.Brackets' ty p inner) h = subst (λ (y : ValueType). IsWord y) (sym h.0) (word_type inner h.1)
+word_type (T.Convert' ty p operand) h = h.0
+word_type (T.Unary' ty op p operand) h = h.0
+word_type (T.Binary' ty place op p left q right) h = h.0
+word_type _ h = absurd h
+
+none_is : (o : Option ℕ) → o ≡ None → is_none o ≡ true
+none_is o e = ap is_none e
+
+pub kept : (e : TExpr) → IsIn e → is_kept e ≡ true
+unfolding IsIn is_kept
+kept (T.Number ty value) h = none_is ty.shape h.0.0
+kept (T.PositionsOf ty shape value) h = none_is ty.shape h.0.0
+kept (T.RankOf ty shape value) h = none_is ty.shape h.0.0
+kept (T.DimOf ty shape axis value) h = none_is ty.shape h.0.0
+kept (T.Variable ty x) h = none_is ty.shape h.0
+kept (T.Brackets' ty p inner) h = kept inner h.1
+kept (T.Convert' ty p operand) h = kept operand h.1
+kept (T.Unary' ty op p operand) h = none_is ty.shape h.0.0
+kept (T.Binary' ty place op p left q right) h = none_is ty.shape h.0.0
+kept _ h = absurd h
+
+-- the value of a constant is a word
+then_below : (o : Option ℕ) (next : ℕ → Option ℕ) → IfSome o (λ v. v < 2 ^ 32) → ((v : ℕ) → v < 2 ^ 32 → IfSome (next v) (λ w. w < 2 ^ 32)) → IfSome (then_value o next) (λ w. w < 2 ^ 32)
+then_below None next h f = tt
+then_below (Some v) next h f = f v h
+
+pub constant_below : (e : TExpr) → IsIn e → IfSome (value_of e) (λ v. v < 2 ^ 32)
+unfolding IsIn value_of
+constant_below (T.Number ty value) h = h.1
+constant_below (T.PositionsOf ty shape value) h = h.1
+constant_below (T.RankOf ty shape value) h = h.1
+constant_below (T.DimOf ty shape axis value) h = h.1
+constant_below (T.Variable ty x) h = tt
+constant_below (T.Brackets' ty p inner) h = constant_below inner h.1
+constant_below (T.Convert' ty p operand) h =
+    then_below (value_of operand) _ (constant_below operand h.1) (λ v few. below_word ty.elem.bits (converted ty.elem (type_of operand).elem v) h.0.1 (converted_below ty.elem (type_of operand).elem v))
+constant_below (T.Unary' ty op p operand) h = then_below (value_of operand) _ (constant_below operand h.1) (λ v few. unary_below op v few)
+constant_below (T.Binary' ty place op p left q right) h =
+    then_below (value_of left) _ (constant_below left h.1) (λ v few. then_below (value_of right) _ (constant_below right h.2) (λ w small. operate_below op (not (type_of left).elem.signed) v w few small))
+constant_below _ h = absurd h

@@ -1,0 +1,12 @@
+//! The code of a compiled program means its source, so far for programs of scalar variables. Readers find
+//! the law here by name.
+#![tactic(auto)]
+
+ghost use Rattle.code_follows.specs.Agreement.{CodeMeansSource};
+
+/// The code that the compiler makes of a program of one function on scalar variables of 32 bits, with
+/// assignments, steps, `if`, `while`, `break` and `continue`, comes to the end of the source's meaning, be it
+/// the end of `main`, a division by 0 or the last turn, with its turns and its output, on every input.
+pub fn code_means_source()
+    ensures { CodeMeansSource }
+{}
