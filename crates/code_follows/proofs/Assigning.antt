@@ -1,5 +1,5 @@
 -- The code of assignments to scalar variables of 32 bits, and of steps.
-use Rattle.std.proofs.Common.{◌≡◌, ◌∙◌, ℕ, ◌<◌, ◌≤◌, ◌^◌, ◌==◌, ◌&&◌, Bool, true, false, not, length, slice_index, Option, Some, None, refl, sym, ap, subst, if◌then◌else◌, arith}
+use Rattle.std.proofs.Common.{◌≡◌, ◌∙◌, ℕ, ◌<◌, ◌≤◌, ◌^◌, ◌==◌, ◌&&◌, Bool, true, false, not, Vec, Global, length, slice_index, Option, Some, None, refl, sym, ap, subst, if◌then◌else◌, arith}
 use Rattle.std.proofs.lemmas.Bool.{eq-eqb}
 use Rattle.cstar_base.specs.declared.elem.Elem.{Elem}
 use Rattle.cstar_base.specs.declared.faults.RunFault.TheVariants.{DivZero}
@@ -12,6 +12,7 @@ use Rattle.cstar_tree.specs.declared.syntax.AssignOp.TheVariants as A
 use Rattle.cstar_tree.specs.declared.syntax.StepOp.{StepOp}
 use Rattle.cstar_tree.specs.declared.syntax.StepOp.TheVariants as Sp
 use Rattle.cstar_tree.specs.declared.typed.StepOrder.{StepOrder}
+use Rattle.cstar_tree.specs.declared.typed.Piece.{Piece}
 use Rattle.cstar_tree.specs.declared.typed.TExpr.{TExpr}
 use Rattle.cstar_tree.specs.declared.typed.TExpr as T
 use Rattle.cstar_tree.specs.declared.typed.ValueType.{ValueType}
@@ -22,7 +23,7 @@ use Rattle.code_lengths.specs.Naming.{HasVariable, IsDeclared, NamesVariables, p
 use Rattle.code_lengths.specs.Lowerable.{IsLowerable}
 use Rattle.code_lengths.specs.Shaped.{IsShaped}
 use Rattle.cstar_tree.specs.StatementTypes.{variable_info}
-use Rattle.code_lengths.specs.Ready.{HasCode, IsReady}
+use Rattle.code_lengths.specs.Ready.{HasCode, HaveCode, IsReady}
 use Rattle.lower_base.specs.declared.emit.Out.{Out}
 use Rattle.lower_base.specs.declared.emit.Out.TheVariants as O
 use Rattle.lower_base.specs.Constants.{first_free, word_in}
@@ -43,9 +44,10 @@ use Rattle.source_meaning.specs.State as Source
 use Rattle.source_meaning.specs.State.{Outcome, State, then_do, with_scalar}
 use Rattle.source_meaning.specs.Targets.{OfScalar, assign_to, assigned, new_value, read, step_op, step_value, stepped, stored, variable_target}
 use Rattle.source_meaning.specs.Values.{Active, Scalar, Scope, Value, at, each, failing, number, unless}
-use Rattle.code_follows.specs.Fragment.{IsEffect, IsIn, IsVariable, IsWord}
+use Rattle.code_follows.specs.Fragment.{AreIn, IsEffect, IsIn, IsVariable, IsWord}
 use Rattle.code_follows.proofs.Effects.{divides_is, updated_is, wide_type}
 use Rattle.code_follows.proofs.Expressions.{brackets_code, operand, value_follows}
+use Rattle.code_follows.proofs.Printing.{printf_code, printf_follows}
 use Rattle.code_follows.proofs.Following.{Arrives, Extends, Follows, HasRegisters, IsScalar, Ran, Sim, keeps_all, then_follows, then_gives, then_silent}
 use Rattle.code_follows.proofs.Putting.{Put, put_follows}
 use Rattle.code_follows.proofs.Settings.{At, Setting, layout, stay}
@@ -334,6 +336,11 @@ module _ (g : Setting) (has : HasRegisters g) (alive : Variable → Type 0) (n :
       subst (λ (made : Made Out). Follows g (λ v u out e. Ran g alive d s u e) s (stepped scope active op order (scalar_type tty.elem) (OfScalar x) st) made) (sym (steps_it tty.elem x op whole d))
       (stepped_follows g has alive n lives ready scope active x (variable_info w.word (plain (scalar_type tty.elem)) w.start) (lives x w.declared) (w.named, refl) word.1 no_place op (scalar_type tty.elem) (refl, word.1) order d s st free here sim)) v
 
+  printf_runs : (ty : ValueType) (pieces : Vec Piece Global) (p : Vec (Unit {0}) Global) (arguments : _) → AreIn arguments → HaveCode g.typed g.instance n arguments
+      → Runs (λ st. evaluated scope (T.Printf' ty pieces p arguments) active st) (λ d. effect_of g.typed (layout g) (T.Printf' ty pieces p arguments) d)
+  unfolding evaluated effect_of value_of
+  printf_runs ty pieces p arguments h c = printf_follows g has alive n lives ready scope active pieces.items arguments h c
+
   in_effect : (e : TExpr) → IsIn e → IsEffect e
   unfolding IsIn IsEffect
   in_effect (T.Number ty value) h = h
@@ -360,6 +367,7 @@ module _ (g : Setting) (has : HasRegisters g) (alive : Variable → Type 0) (n :
       (step_runs tty op order x (λ e. value_of g.typed (layout g) ty.elem.bits (T.Step' ty op order p (T.Variable tty x)) e) h.2 (target_named tty x (step_names ty op order p (T.Variable tty x) c)))
   effect_follows (T.Step' ty op order p _) h c = absurd h.2
   effect_follows (T.Brackets' ty p inner) h c = effect_follows inner (in_effect inner h.1) (brackets_code g has alive n lives ready scope active ty p inner c)
+  effect_follows (T.Printf' ty pieces p arguments) h c = printf_runs ty pieces p arguments h (printf_code g has alive n lives ready scope active ty pieces p arguments c)
   effect_follows (T.Number ty value) h c = pure_follows (T.Number ty value) h c
   effect_follows (T.PositionsOf ty shape value) h c = pure_follows (T.PositionsOf ty shape value) h c
   effect_follows (T.RankOf ty shape value) h c = pure_follows (T.RankOf ty shape value) h c

@@ -131,7 +131,7 @@ module _ (g : Setting) where
   unfolding then_make
   made_then Q s o y e next h = h
 
-  extends_made : {A : Type 0} (d e : Draft) (n : ℕ) (made : Made A) → Extended d n e → Extends e made → Extends d made
+  pub extends_made : {A : Type 0} (d e : Draft) (n : ℕ) (made : Made A) → Extended d n e → Extends e made → Extends d made
   unfolding Extends
   extends_made d e n (Makes x f) a b = (n + b.0, extended d e f n b.0 a b.1)
   extends_made d e n Fails a b = tt
@@ -229,7 +229,7 @@ module _ (g : Setting) where
     pub sim : Sim alive st t
     pub keeps : Keeps d s t
 
-  nothing_said : {A B : Type 0} (Q : A → State → B → Draft → Type 0) (s : CodeState) (o : Outcome A) → Follows Q s o Fails
+  pub nothing_said : {A B : Type 0} (Q : A → State → B → Draft → Type 0) (s : CodeState) (o : Outcome A) → Follows Q s o Fails
   unfolding Follows
   nothing_said Q s (Source.Gives x st) = tt
   nothing_said Q s (Source.Ends early st) = tt

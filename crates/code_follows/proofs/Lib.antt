@@ -10,6 +10,7 @@ pub mod Jumping
 pub mod Loops
 pub mod Openings
 pub mod Operators
+pub mod Printing
 pub mod Programs
 pub mod Putting
 pub mod Settings

@@ -42,6 +42,7 @@ AreIn (more_of-TExpr e rest) = IsIn e × AreIn rest
 unfoldable pub IsEffect : TExpr → Type 0
 IsEffect (T.Assign' ty place op p target q value) = IsWord ty × (ty ≡ type_of target) × IsVariable target × IsIn value
 IsEffect (T.Step' ty op order p target) = IsWord ty × (ty ≡ type_of target) × IsVariable target
+IsEffect (T.Printf' ty pieces p arguments) = AreIn arguments
 IsEffect e = IsIn e
 
 -- statements of these, in which no variable is declared
