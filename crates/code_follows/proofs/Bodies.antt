@@ -1,7 +1,8 @@
 -- Every statement of the fragment.
 use Rattle.std.proofs.Common.{◌≡◌, ◌∙◌, ℕ, zero, suc, take, ◌+◌, ◌<◌, ◌≤◌, ◌^◌, ◌&&◌, if◌then◌else◌, nat_lt, Bool, true, false, List, [], ◌++◌, map, Vec, Global, length, Some, refl, sym, ap, subst, arith}
 use mathlib.Core.Former.{Count}
-use Rattle.std.specs.Prelude.{nat_le}
+use Rattle.std.proofs.lemmas.List.{length-map}
+use Rattle.std.specs.List.{All}
 use Rattle.std.proofs.lemmas.Bool.Decides.{nat_tests}
 use Rattle.cstar_tree.specs.declared.typed.LocalVar.{LocalVar}
 use Rattle.cstar_tree.specs.declared.typed.TExpr.{TExpr}
@@ -35,11 +36,12 @@ use Rattle.paris_code.specs.Code.{CodeState}
 use Rattle.source_meaning.proofs.ConstantLaws.{Boxed}
 use Rattle.source_meaning.specs.State as Source
 use Rattle.source_meaning.specs.State.{Outcome, State, is_among, spend_turn, then_do, zeroed}
-use Rattle.source_meaning.specs.Statements.{Broke, Continued, Onward, all_executed, declared, done, else_executed, executed, initialised, passes, rounds, then_go}
+use Rattle.source_meaning.specs.Statements.{Broke, Continued, Onward, all_executed, declared, done, else_executed, executed, initialised, passes, rounds, then_go, Leaving}
 use Rattle.source_meaning.specs.Values.{Active, Scope, Value}
 use Rattle.lower_base.specs.declared.emit.Out.{Out}
 use Rattle.paris_code.specs.declared.operands.Field.{Field}
-use Rattle.code_follows.specs.Fragment.{AreInStatements, IsEffect, IsIn, IsInElse, IsInStatement}
+use Rattle.code_follows.proofs.Declaring.{block_declared, clears, none_begun}
+use Rattle.code_follows.specs.Fragment.{AreInStatements, IsEffect, IsFreshLocal, IsIn, IsInElse, IsInStatement}
 use Rattle.code_follows.proofs.Assigning.{effect_follows}
 use Rattle.code_follows.proofs.Choices.{Agrees, if_alone, if_else}
 use Rattle.code_follows.proofs.Executing.{Jumped, Left, TestMade, Tested, follows_from, go_on, test_follows, test_made}
@@ -48,10 +50,6 @@ use Rattle.code_follows.proofs.Jumping.{jumps, moved_to, sim_moved}
 use Rattle.code_follows.proofs.Loops.{ends_from, loop_left, rounds_follow}
 use Rattle.code_follows.proofs.Settings.{At, Setting, Within, and_one, code_more, earlier, layout, regs_more, start, stay}
 use Rattle.code_follows.proofs.Statements.{MadeSo, expression_code, statement_made, while_body, while_test}
-
--- no number is at least one and below it
-between : (n k : ℕ) → (nat_le n k && nat_lt k (n + 0)) ≡ false
-between n k = grind (arith, nat_tests)
 
 module _ (g : Setting) (has : HasRegisters g) (alive : Variable → Type 0) (every : (x : Variable) → alive x) (numbers : NumbersVariables g.instance (layout g)) (ready : (n : ℕ) (d : Draft) → IsReady g.typed g.instance (layout g) n d)
     (declares : (n : ℕ) (d : Draft) → d.homes ≡ [] → HasDeclared g.typed g.instance (layout g) n d) (scope : Scope) (active : Active)
@@ -230,24 +228,6 @@ module _ (g : Setting) (has : HasRegisters g) (alive : Variable → Type 0) (eve
       grown_on d e k (Makes x h) a b = (k + b.0, extended d e h k b.0 a b.1)
       grown_on d e k Fails a b = tt
 
-  -- a block without variables
-  pub sim_zeroed : (n : ℕ) (st : State) (s : CodeState) → Sim g alive st s → Sim g alive (zeroed n 0 st) s
-  unfolding zeroed is_among
-  sim_zeroed n st s h = record {
-    registers = h.registers;
-    scalars = λ x info living scalar. h.scalars x info living scalar ∙ ap (λ (b : Bool). held info.elem (if b then 0 else st.scalar x)) (sym (none_among n x));
-    small = λ x info living scalar. subst (λ (b : Bool). (if b then 0 else st.scalar x) < 2 ^ info.elem.bits) (sym (none_among n x)) (h.small x info living scalar);
-    constants = h.constants;
-    turns = h.turns;
-    output = h.output;
-    input = h.input;
-  }
-    where
-      none_among : (n : ℕ) (x : Variable) → is_among n 0 x ≡ false
-      none_among n (V.File k) = refl
-      none_among n (V.Param k) = refl
-      none_among n (V.Local k) = between n k
-
   -- nothing is done
   stays_here : (f : Frame) (n : ℕ) (d : Draft) (s0 : CodeState) (st : State) → At g s0 (length d.code) → Sim g alive st s0 → Follows g (Left g alive f d s0) s0 (Source.Gives Onward st) (Makes n d)
   unfolding Follows Left
@@ -269,21 +249,33 @@ module _ (g : Setting) (has : HasRegisters g) (alive : Variable → Type 0) (eve
   continues f k n d s0 st at sim =
       subst (λ (e : Draft). Follows g (Left g alive f d s0) s0 (Source.Gives Continued st) (Makes n (with_instr (I.FrontJump f.next) e))) (sym (nothing_restored k d)) (λ within. jumps_out f k n f.next d s0 st at sim within)
 
-  -- a block without variables is its statements
-  block_follows : {k : Count} (locals : List LocalVar) (row : Row_of-TStmt k) (f : Frame) (n : ℕ) (d : Draft) (s0 : CodeState) (st : State) → locals ≡ []
-      → Follows g (Left g alive f d s0) s0 (all_executed scope row (n + 0) active (zeroed n 0 st)) (statements_of g.typed (layout g) row f [] (n + 0) d)
+  -- a block whose variables have no initialisers
+  block_follows : {k : Count} (locals : List LocalVar) (row : Row_of-TStmt k) (f : Frame) (n : ℕ) (d : Draft) (s0 : CodeState) (st : State) → All IsFreshLocal locals → StandFrom (variables_of g.instance.body) n (map info_of locals) → RowCode (n + length locals) row
+      → f.outcome ≡ outcome_of g.instance.result → StandsAmong f [] → d.homes ≡ [] → first_free (layout g) ≤ d.regs → At g s0 (length d.code) → Sim g alive st s0
+      → ((e : Draft) (t : CodeState) (u : State) → e.homes ≡ [] → first_free (layout g) ≤ e.regs → At g t (length e.code) → Sim g alive u t → Follows g (Left g alive f e t) t (all_executed scope row (n + length locals) active u) (statements_of g.typed (layout g) row f [] (n + length locals) e))
       → Follows g (Left g alive f d s0) s0 (then_go (initialised scope active n locals (zeroed n (length locals) st)) (all_executed scope row (n + length locals) active)) (then_make (declared_in g.typed (layout g) false locals n d) (λ m after. statements_of g.typed (layout g) row f [] m after))
-  unfolding initialised then_go declared_in all_cleared all_initialised then_make
-  block_follows locals row f n d s0 st none h =
-      subst (λ (xs : List LocalVar). Follows g (Left g alive f d s0) s0 (then_go (initialised scope active n xs (zeroed n (length xs) st)) (all_executed scope row (n + length xs) active)) (then_make (declared_in g.typed (layout g) false xs n d) (λ m after. statements_of g.typed (layout g) row f [] m after))) (sym none) h
+  unfolding then_go then_make
+  block_follows locals row f n d s0 st fresh stand code outcome among none free at sim next =
+      let c = clears g has alive every locals n d fresh stand in
+      let after : State = zeroed n (length locals) st in
+      let homes : c.e.homes ≡ [] = c.grown.homes ∙ none in
+      subst (λ (o : Outcome Leaving). Follows g (Left g alive f d s0) s0 (then_go o (all_executed scope row (n + length locals) active)) (then_make (declared_in g.typed (layout g) false locals n d) (λ m after. statements_of g.typed (layout g) row f [] m after))) (sym (none_begun g has alive every scope active locals n after fresh))
+      (subst (λ (m : Made ℕ). Follows g (Left g alive f d s0) s0 (all_executed scope row (n + length locals) active after) (then_make m (λ m' after. statements_of g.typed (layout g) row f [] m' after))) (sym (block_declared g has alive every locals n d fresh stand))
+      (delayed g (Left g alive f d s0) c.e s0 (all_executed scope row (n + length locals) active after) (statements_of g.typed (layout g) row f [] (n + length locals) c.e) (row_grows row f (n + length locals) c.e outcome among homes code) (λ within.
+      let ran = c.runs s0 st free at sim within in
+      follows_from g alive f d c.e (length locals) s0 ran.t (all_executed scope row (n + length locals) active after) (statements_of g.typed (layout g) row f [] (n + length locals) c.e) c.grown ran.go ran.keeps
+      (next c.e ran.t after homes (omega (arith, free, c.grown.regs)) ran.at ran.sim))))
 
-  pub block_code : (n : ℕ) (locals : Vec LocalVar Global) (p : Vec (Unit {0}) Global) (row : _) → locals.items ≡ [] → HasStatementCode g.typed g.instance n (S.Block' locals p row) → RowCode (n + 0) row
+  pub block_stands : (n : ℕ) (locals : Vec LocalVar Global) (p : Vec (Unit {0}) Global) (row : _) → HasStatementCode g.typed g.instance n (S.Block' locals p row) → StandFrom (variables_of g.instance.body) n (map info_of locals.items ++ row_variables row)
+  block_stands n locals p row c = subst (λ (own : List VarInfo). StandFrom (variables_of g.instance.body) n own) (of_block locals p row) c.stands
+
+  pub block_code : (n : ℕ) (locals : Vec LocalVar Global) (p : Vec (Unit {0}) Global) (row : _) → HasStatementCode g.typed g.instance n (S.Block' locals p row) → RowCode (n + length locals.items) row
   unfolding IsShapedStatement IsLowerableStatement StatementNamesVariables
-  block_code n locals p row none c = record {
+  block_code n locals p row c = record {
     shaped = c.shaped.1;
     lowerable = c.lowerable.1;
-    names = subst (λ (xs : List LocalVar). StatementsNameVariables g.typed g.instance (n + length xs) row) none c.names.1;
-    stands = second_part [] (row_variables row) (subst (λ (xs : List LocalVar). StandFrom (variables_of g.instance.body) n (map info_of xs ++ row_variables row)) none (subst (λ (own : List VarInfo). StandFrom (variables_of g.instance.body) n own) (of_block locals p row) c.stands));
+    names = c.names.1;
+    stands = subst (λ (k : ℕ). StandFrom (variables_of g.instance.body) (n + k) (row_variables row)) (length-map locals.items info_of) (second_part (map info_of locals.items) (row_variables row) (block_stands n locals p row c));
   }
 
   row_onward : {k : Count} (s : TStmt) (rest : Row_of-TStmt k) (f : Frame) (n : ℕ) (d : Draft) (s0 : CodeState) (st : State) → f.outcome ≡ outcome_of g.instance.result → StandsAmong f [] → d.homes ≡ [] → first_free (layout g) ≤ d.regs → RowCode n (more_of-TStmt s rest)
@@ -304,7 +296,8 @@ module _ (g : Setting) (has : HasRegisters g) (alive : Variable → Type 0) (eve
 
     pub statement_follows : (s : TStmt) → IsInStatement s → Follows_it s
     statement_follows (S.Block' locals p statements) h f n d s0 st outcome among none free at sim c =
-        block_follows locals.items statements f n d s0 st h.0 (row_follows statements h.1 f (n + 0) d s0 (zeroed n 0 st) outcome among none free at (sim_zeroed n st s0 sim) (block_code n locals p statements h.0 c))
+        block_follows locals.items statements f n d s0 st h.0 (first_part (map info_of locals.items) (row_variables statements) (block_stands n locals p statements c)) (block_code n locals p statements c) outcome among none free at sim
+        (λ e t u none_e free_e at_e sim_e. row_follows statements h.1 f (n + length locals.items) e t u outcome among none_e free_e at_e sim_e (block_code n locals p statements c))
     statement_follows (S.Expression e) h f n d s0 st outcome among none free at sim c = expression_follows e h f n d s0 st free at sim c
     statement_follows S.Empty h f n d s0 st outcome among none free at sim c = stays_here f n d s0 st at sim
     statement_follows (S.If' test p first None') h f n d s0 st outcome among none free at sim c = if_alone g has alive every numbers ready declares scope active test p first h.0 (statement_follows first h.1) f n d s0 st outcome among none free at sim c

@@ -21,7 +21,7 @@ NoJump (Source.Gives Broke st) = ⊥
 NoJump (Source.Gives Continued st) = ⊥
 NoJump _ = Unit {0}
 
-go_closed : (o : Outcome Leaving) (next : State → Outcome Leaving) → NoJump o → ((st : State) → NoJump (next st)) → NoJump (then_go o next)
+pub go_closed : (o : Outcome Leaving) (next : State → Outcome Leaving) → NoJump o → ((st : State) → NoJump (next st)) → NoJump (then_go o next)
 unfolding NoJump then_go
 go_closed (Source.Gives Onward st) next h f = f st
 go_closed (Source.Gives (Returned v) st) next h f = tt
@@ -60,7 +60,7 @@ module _ (scope : Scope) (active : Active) where
   either true one other h k = h
   either false one other h k = k
 
-  begins_closed : (n : ℕ) (locals : List LocalVar) (st : State) → NoJump (initialised scope active n locals st)
+  pub begins_closed : (n : ℕ) (locals : List LocalVar) (st : State) → NoJump (initialised scope active n locals st)
   unfolding initialised initialised_one NoJump
   begins_closed n [] st = tt
   begins_closed n (local ∷ locals) st = go_closed _ _ (one_closed (variable_target local.info.shape (V.Local n) 0) local.initial st) (λ u. begins_closed (n + 1) locals u)

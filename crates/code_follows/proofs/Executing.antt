@@ -61,7 +61,7 @@ module _ (g : Setting) (alive : Variable → Type 0) where
   Left f d s (Returned v) st m e = Halted s st
 
   -- seen from an earlier draft and state
-  ran_from : (d e : Draft) (n : ℕ) (s t : CodeState) (st : State) (f : Draft) → Extended d n e → Reaches g s t → Keeps g d s t → Ran g alive e t st f → Ran g alive d s st f
+  pub ran_from : (d e : Draft) (n : ℕ) (s t : CodeState) (st : State) (f : Draft) → Extended d n e → Reaches g s t → Keeps g d s t → Ran g alive e t st f → Ran g alive d s st f
   ran_from d e n s t st f x go keeps r = record {
     grown = (n + r.grown.0, extended d e f n r.grown.0 x r.grown.1);
     t = r.t;
@@ -137,7 +137,7 @@ module _ (g : Setting) (alive : Variable → Type 0) where
             (subst (λ (o : Out). Follows g (Tested d s) s (Source.Gives (nonzero arr.holds.word) u) (in_register o (λ r. Makes r e))) (sym arr.holds.is)
             (λ within. record { grown = arr.extended; t = arr.t; go = arr.go; at = arr.at; sim = arr.sim; keeps = arr.keeps; is = ap nonzero there }))
 
-    gives : (e : TExpr) → IsIn e → GivesValue g.typed e
+    pub gives : (e : TExpr) → IsIn e → GivesValue g.typed e
     unfolding GivesValue IsIn
     gives (T.Number ty value) h = tt
     gives (T.PositionsOf ty shape value) h = tt

@@ -2,6 +2,7 @@ pub mod Assigning
 pub mod Bodies
 pub mod Choices
 pub mod Closed
+pub mod Declaring
 pub mod Effects
 pub mod Executing
 pub mod Expressions
@@ -15,6 +16,7 @@ pub mod Programs
 pub mod Putting
 pub mod Settings
 pub mod Standing
+pub mod Starting
 pub mod Statements
 pub mod Stores
 pub mod Values

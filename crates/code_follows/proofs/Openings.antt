@@ -1,6 +1,7 @@
 -- What a scalar program begins with, and its one unit.
-use Rattle.std.proofs.Common.{◌≡◌, ◌∙◌, ℕ, zero, suc, ◌+◌, ◌<◌, ◌≤◌, ◌==◌, Bool, true, false, List, [], ◌∷◌, ◌++◌, map, length, slice_get, slice_index, Option, Some, None, refl, sym, ap, subst, if◌then◌else◌, arith}
+use Rattle.std.proofs.Common.{◌≡◌, ◌∙◌, ℕ, zero, suc, ◌+◌, ◌<◌, ◌≤◌, ◌==◌, Bool, true, false, List, [], ◌∷◌, ◌++◌, map, length, take, length-append, slice_get, slice_index, Option, Some, None, refl, sym, ap, subst, if◌then◌else◌, arith}
 use Rattle.std.proofs.lemmas.Bool.{eq-eqb, eqb-true}
+use Rattle.std.proofs.lemmas.Option.{slice_get_within}
 use Rattle.std.proofs.lemmas.List.{append-nil, get_or-set_other, get_or-set_same}
 use Rattle.std.proofs.Math.ListN.{length-set}
 use Rattle.cstar_tree.specs.declared.typed.Instance.{Instance}
@@ -17,10 +18,11 @@ use Rattle.code_lengths.proofs.UnitLengths.{units}
 use Rattle.cstar_compile.specs.Compiled.{IsCompiled}
 use Rattle.cstar_tree.specs.Variables.{variables_of}
 use Rattle.std.specs.List.{All}
+use Rattle.code_follows.proofs.Declaring.{all_first, all_rest}
 use Rattle.code_follows.proofs.Standing.{start_in}
 use Rattle.std.specs.Prelude.{fold, is_none, take}
-use Rattle.lower_base.specs.Layouts.{Registers, earlier_base, entered, first_named, entries_of, layout_of, nothing_numbered, numbered, registers_of, with_instance}
-use Rattle.code_follows.specs.Fragment.{IsPlainVariable, IsScalarProgram}
+use Rattle.lower_base.specs.Layouts.{Numbering, Registers, behind, earlier_base, entered, first_named, entries_of, layout_of, nothing_numbered, numbered, param_entries, register_of, registers_of, result_register, with_instance, with_local}
+use Rattle.code_follows.specs.Fragment.{IsPlainVariable, IsScalarProgram, IsWordVariable}
 use Rattle.code_lengths.proofs.Drafting.{and_instr, as_it_was, extended}
 use Rattle.lower_base.specs.Constants.{first_free, register_with}
 use Rattle.lower_base.specs.Drafts.{Draft, Made, Makes, draft, step as step_of, then_make, with_instr}
@@ -125,11 +127,28 @@ module _ (g : Setting) where
           fewer : (n : ℕ) → suc i < suc n → i < n
           fewer n h = omega (arith, h)
 
-no_infos : List VarInfo
-no_infos = []
-
 no_numbers : List ℕ
 no_numbers = []
+
+-- how many variables are numbered, and that scalar ones have no homes
+numbered_length : (infos : List VarInfo) (n : Numbering) → length (numbered infos n).locals ≡ length n.locals + length infos
+unfolding numbered with_local
+numbered_length [] n = omega arith
+numbered_length (info ∷ infos) n =
+    let rest = numbered_length infos (with_local n info) in
+    let one = length-append n.locals (record { home = n.homes; entries = entries_of info } ∷ []) in
+    sums (length infos) rest one
+  where
+    sums : (k : ℕ) → length (numbered infos (with_local n info)).locals ≡ length (n.locals ++ record { home = n.homes; entries = entries_of info } ∷ []) + k → length (n.locals ++ record { home = n.homes; entries = entries_of info } ∷ []) ≡ length n.locals + 1
+        → length (numbered infos (with_local n info)).locals ≡ length n.locals + suc k
+    sums k rest one = omega (arith, rest, one)
+
+scalar_homes : (infos : List VarInfo) (k : ℕ) (n : Numbering) → All IsWordVariable infos → (numbered (take k infos) n).homes ≡ n.homes
+unfolding numbered with_local behind
+scalar_homes infos zero n all = refl
+scalar_homes [] (suc k) n all = refl
+scalar_homes (info ∷ infos) (suc k) n all =
+    scalar_homes infos k (with_local n info) (all_rest IsWordVariable info infos all) ∙ ap (λ (o : Option ℕ). elim o as (λ _. ℕ) [ None ↦ n.homes | Some s ↦ n.homes + 1 ]) (all_first IsWordVariable info infos all).0
 
 -- ---- the layout and the state of a scalar program
 
@@ -140,20 +159,32 @@ module _ (t : Typed) (p : IsScalarProgram t) (words : List ℕ) where
   pub first_is : slice_get t.instances.items 0 ≡ Some p.main
   first_is = ap (λ (xs : List Instance). slice_get xs 0) p.instances
 
-  -- the variables of the file have the first registers
-  pub end_behind : length t.vars.items ≤ own_layout.end
+  -- the variables of the file have the first registers, then those of `main`
+  pub end_is : own_layout.end ≡ length t.vars.items + length (variables_of p.main.body) + 1
   unfolding layout_of entered registers_of with_instance earlier_base no_numbers
-  end_behind = subst (λ (xs : List Instance). length t.vars.items ≤ (fold (with_instance xs) (record { bases = []; end = length t.vars.items }) xs).end) (sym p.instances) one_instance
+  end_is = subst (λ (xs : List Instance). (fold (with_instance xs) (record { bases = []; end = length t.vars.items }) xs).end ≡ length t.vars.items + length (variables_of p.main.body) + 1) (sym p.instances) (by (first_named 0 p.main.name (p.main ∷ [])))
     where
-      one_instance : length t.vars.items ≤ (with_instance (p.main ∷ []) (record { bases = []; end = length t.vars.items }) p.main).end
-      one_instance = by (first_named 0 p.main.name (p.main ∷ []))
-        where
-          by : (o : Option ℕ) → length t.vars.items ≤ (elim (elim o as (λ _. Option ℕ) [ None ↦ None | Some k ↦ slice_get no_numbers k ]) as (λ _. Registers) [
-            | Some base ↦ record { bases = [] ++ base ∷ []; end = length t.vars.items }
-            | None ↦ record { bases = [] ++ length t.vars.items ∷ []; end = length t.vars.items + length (numbered (variables_of p.main.body) nothing_numbered).locals + length p.main.params.items + 1 }
-          ]).end
-          by None = omega arith
-          by (Some k) = omega arith
+      by : (o : Option ℕ) → (elim (elim o as (λ _. Option ℕ) [ None ↦ None | Some k ↦ slice_get no_numbers k ]) as (λ _. Registers) [
+        | Some base ↦ record { bases = [] ++ base ∷ []; end = length t.vars.items }
+        | None ↦ record { bases = [] ++ length t.vars.items ∷ []; end = length t.vars.items + length (numbered (variables_of p.main.body) nothing_numbered).locals + length p.main.params.items + 1 }
+      ]).end ≡ length t.vars.items + length (variables_of p.main.body) + 1
+      by None = let own = numbered_length (variables_of p.main.body) nothing_numbered in let none : length p.main.params.items ≡ 0 = ap (λ (xs : List VarInfo). length xs) p.params in omega (arith, own, none)
+      by (Some k) = let own = numbered_length (variables_of p.main.body) nothing_numbered in let none : length p.main.params.items ≡ 0 = ap (λ (xs : List VarInfo). length xs) p.params in omega (arith, own, none)
+
+  base_is : own_layout.base ≡ length t.vars.items
+  unfolding layout_of entered registers_of with_instance earlier_base no_numbers
+  base_is = subst (λ (xs : List Instance). (elim (slice_get (fold (with_instance xs) (record { bases = []; end = length t.vars.items }) xs).bases 0) as (λ _. ℕ) [ None ↦ 0 | Some base ↦ base ]) ≡ length t.vars.items) (sym p.instances) (by (first_named 0 p.main.name (p.main ∷ [])))
+    where
+      by : (o : Option ℕ) → (elim (slice_get (elim (elim o as (λ _. Option ℕ) [ None ↦ None | Some k ↦ slice_get no_numbers k ]) as (λ _. Registers) [
+        | Some base ↦ record { bases = [] ++ base ∷ []; end = length t.vars.items }
+        | None ↦ record { bases = [] ++ length t.vars.items ∷ []; end = length t.vars.items + length (numbered (variables_of p.main.body) nothing_numbered).locals + length p.main.params.items + 1 }
+      ]).bases 0) as (λ _. ℕ) [ None ↦ 0 | Some base ↦ base ]) ≡ length t.vars.items
+      by None = refl
+      by (Some k) = refl
+
+  no_params : length own_layout.params ≡ 0
+  unfolding layout_of entered param_entries
+  no_params = ap (λ (o : Option Instance). length (param_entries 0 (elim o as (λ _. List VarInfo) [ None ↦ [] | Some instance ↦ instance.params.items ]))) first_is ∙ ap (λ (xs : List VarInfo). length (param_entries 0 xs)) p.params
 
   -- the one instance has its registers
   bases_are : length own_layout.bases ≡ length t.instances.items
@@ -167,15 +198,32 @@ module _ (t : Typed) (p : IsScalarProgram t) (words : List ℕ) where
       by None = refl
       by (Some k) = refl
 
-  -- no variable is parallel, and all are of the file
-  pub named_plain : (x : Variable) (info : VarInfo) → variable_named t p.main x ≡ Some info → (k : ℕ) × (x ≡ V.File k) × (slice_get t.vars.items k ≡ Some info) × IsPlainVariable info
+  -- no variable is parallel
+  pub named_word : (x : Variable) (info : VarInfo) → variable_named t p.main x ≡ Some info → IsWordVariable info
   unfolding variable_named
-  named_plain (V.File k) info is = (k, refl, is, all_at IsPlainVariable t.vars.items k info p.variables is)
-  named_plain (V.Param k) info is = let none : slice_get p.main.params.items k ≡ None = ap (λ (xs : List VarInfo). slice_get xs k) p.params in cc
-  named_plain (V.Local k) info is = let none : slice_get (variables_of p.main.body) k ≡ None = ap (λ (xs : List VarInfo). slice_get xs k) p.locals in cc
+  named_word (V.File k) info is = (all_at IsPlainVariable t.vars.items k info p.variables is).0
+  named_word (V.Param k) info is = let none : slice_get p.main.params.items k ≡ None = ap (λ (xs : List VarInfo). slice_get xs k) p.params in cc
+  named_word (V.Local k) info is = all_at IsWordVariable (variables_of p.main.body) k info p.locals is
 
   scalar_only : (x : Variable) (info : VarInfo) → variable_named t p.main x ≡ Some info → is_none info.shape ≡ false → ⊥
-  scalar_only x info is parallel = let h = named_plain x info is in let none : is_none info.shape ≡ true = ap is_none h.3.0 in cc
+  scalar_only x info is parallel = let none : is_none info.shape ≡ true = ap is_none (named_word x info is).0 in cc
+
+  -- each variable has its register
+  pub below : (x : Variable) (info : VarInfo) → variable_named t p.main x ≡ Some info → register_of own_layout x < own_layout.end
+  unfolding register_of result_register variable_named
+  below (V.File k) info is = let inside = slice_get_within t.vars.items k info is in let end = end_is in omega (arith, inside, end)
+  below (V.Param k) info is = let none : slice_get p.main.params.items k ≡ None = ap (λ (xs : List VarInfo). slice_get xs k) p.params in cc
+  below (V.Local k) info is = let inside = slice_get_within (variables_of p.main.body) k info is in let end = end_is in let base = base_is in let none = no_params in omega (arith, inside, end, base, none)
+
+  pub apart : (x y : Variable) (info other : VarInfo) → variable_named t p.main x ≡ Some info → variable_named t p.main y ≡ Some other → register_of own_layout x ≡ register_of own_layout y → x ≡ y
+  unfolding register_of result_register variable_named
+  apart (V.File k) (V.File j) info other is also same = ap (λ (n : ℕ). V.File n) same
+  apart (V.Local k) (V.Local j) info other is also same = let equal : k ≡ j = omega (arith, same) in ap (λ (n : ℕ). V.Local n) equal
+  apart (V.File k) (V.Local j) info other is also same = let inside = slice_get_within t.vars.items k info is in let base = base_is in absurd (omega (arith, inside, base, same))
+  apart (V.Local k) (V.File j) info other is also same = let inside = slice_get_within t.vars.items j other also in let base = base_is in absurd (omega (arith, inside, base, same))
+  apart (V.Param k) y info other is also same = let none : slice_get p.main.params.items k ≡ None = ap (λ (xs : List VarInfo). slice_get xs k) p.params in cc
+  apart (V.File k) (V.Param j) info other is also same = let none : slice_get p.main.params.items j ≡ None = ap (λ (xs : List VarInfo). slice_get xs j) p.params in cc
+  apart (V.Local k) (V.Param j) info other is also same = let none : slice_get p.main.params.items j ≡ None = ap (λ (xs : List VarInfo). slice_get xs j) p.params in cc
 
   pub all_ready : (n : ℕ) (d : Draft) → IsReady t p.main own_layout n d
   all_ready n d = record {
@@ -193,12 +241,7 @@ module _ (t : Typed) (p : IsScalarProgram t) (words : List ℕ) where
   all_numbered = ap (λ (o : Option Instance). (numbered (elim o as (λ _. List VarInfo) [ None ↦ [] | Some instance ↦ variables_of instance.body ]) nothing_numbered).locals) first_is
 
   pub all_declared : (n : ℕ) (d : Draft) → d.homes ≡ [] → HasDeclared t p.main own_layout n d
-  unfolding no_infos numbered
-  all_declared n d none = record { ready = all_ready n d; homes = ap length none ∙ sym (ap (λ (xs : List VarInfo). homes_of (take n xs)) p.locals ∙ ap homes_of (nothing_taken n)) }
-    where
-      nothing_taken : (n : ℕ) → take n (no_infos) ≡ no_infos
-      nothing_taken zero = refl
-      nothing_taken (suc n) = refl
+  all_declared n d none = record { ready = all_ready n d; homes = ap length none ∙ sym (scalar_homes (variables_of p.main.body) n nothing_numbered p.locals) }
 
 -- the first of what a list is mapped to
 pub head_of : (xs : List CodeUnit) (d : Draft) → map draft xs ≡ d ∷ [] → (u : CodeUnit) × ((slice_get xs 0 ≡ Some u) × (draft u ≡ d))
@@ -218,10 +261,7 @@ starts_are_none t l (info ∷ infos) n d all =
     ap (λ (b : Bool). then_make (if b then Makes tt d else elim info.shape as (λ _. Made (Unit {0})) [
       | None ↦ Makes tt (scalar_begun l info n d)
       | Some s ↦ elements_begun t l n info.start (entries_of info) 0 d
-    ]) (λ u after. start_values_of t l infos (n + 1) after)) (eq-eqb info.start 0 (all 0 info (omega arith)).2) ∙ starts_are_none t l infos (n + 1) d (λ k other within. all (suc k) other (later k (length infos) within))
-  where
-    later : (k n : ℕ) → k < n → suc k < suc n
-    later k n h = omega (arith, h)
+    ]) (λ u after. start_values_of t l infos (n + 1) after)) (eq-eqb info.start 0 (all_first IsPlainVariable info infos all).1) ∙ starts_are_none t l infos (n + 1) d (all_rest IsPlainVariable info infos all)
 
 module _ (t : Typed) (image : Image) (p : IsScalarProgram t) (codable : IsCodable t) (compiled : IsCompiled t image) where
   abbrev pub the_words : List ℕ

@@ -1,5 +1,5 @@
 -- The run of a whole program.
-use Rattle.std.proofs.Common.{◌≡◌, ◌∙◌, ℕ, ◌+◌, ◌<◌, ◌≤◌, ◌^◌, if◌then◌else◌, Vec, Global, Bool, true, List, [], length, slice_index, Option, Some, None, refl, sym, ap, subst, arith}
+use Rattle.std.proofs.Common.{◌≡◌, ◌∙◌, ℕ, zero, ◌+◌, ◌<◌, ◌≤◌, ◌^◌, ◌&&◌, if◌then◌else◌, nat_lt, Vec, Global, Bool, true, false, List, [], ◌∷◌, ◌++◌, map, length, slice_get, slice_index, Option, Some, None, refl, sym, ap, subst, arith}
 use Rattle.std.proofs.lemmas.Option.{slice_get_within}
 use Rattle.std.proofs.lemmas.List.{get_or-replicate, length-replicate}
 use mathlib.Core.Former.{Count}
@@ -32,18 +32,27 @@ use Rattle.paris_code.specs.declared.program.Image.{Image}
 use Rattle.paris_code.specs.Memory.{BitMemory}
 use Rattle.paris_code.specs.Code as Machine
 use Rattle.paris_code.specs.Code.{CodeEnd, CodeState, Ends, begun, opening}
-use Rattle.source_meaning.specs.Programs.{EndsEarly, Run, by_owner, calls, entered, left, meaning, result_of, run_body, run_of, scope_of, start_of, start_state}
+use Rattle.source_meaning.specs.Programs.{EndsEarly, Run, by_owner, calls, entered, left, meaning, result_of, run_body, run_of, scope_of, start_of, start_state, scalar_given}
 use Rattle.source_meaning.specs.State as Source
-use Rattle.source_meaning.specs.State.{Outcome, State, then_do, zeroed}
+use Rattle.source_meaning.specs.State.{Outcome, State, then_do, zeroed, is_among}
 use Rattle.source_meaning.specs.Statements.{Broke, Continued, Leaving, Onward, Returned, all_executed, executed, initialised, then_go}
 use Rattle.source_meaning.specs.Values.{Active, Scope}
 use Rattle.code_follows.specs.Agreement.{CodeMeansSource, ComesTo, end_of_run, mark_of}
-use Rattle.code_follows.specs.Fragment.{AreClosed, AreInStatements, IsMainBody, IsScalarProgram}
-use Rattle.code_follows.proofs.Bodies.{block_code, row_follows, row_grows, sim_zeroed}
-use Rattle.code_follows.proofs.Closed.{NoJump, closed_row}
-use Rattle.code_follows.proofs.Executing.{Halted, Left}
+use Rattle.code_follows.specs.Fragment.{AreClosed, AreInStatements, IsInLocal, IsMainBody, IsPlainVariable, IsScalarProgram}
+use Rattle.code_follows.proofs.Bodies.{RowCode, block_code, block_stands, row_follows, row_grows}
+use Rattle.code_follows.proofs.Declaring.{sim_same}
+use Rattle.code_follows.proofs.Starting.{AreCoded, RanOn, coded, go_after, initials_follow, initials_grow, none_cleared}
+use Rattle.code_lengths.specs.ShapedStatements.{IsShapedStatement}
+use Rattle.code_lengths.specs.LowerableStatements.{IsLowerableStatement}
+use Rattle.code_lengths.specs.NamingStatements.{StandFrom, StatementNamesVariables}
+use Rattle.code_lengths.proofs.Declaring.{all_at, first_part, info_of, row_variables}
+use Rattle.cstar_tree.specs.Variables.{variables_of}
+use Rattle.std.specs.Prelude.{nat_le}
+use Rattle.std.specs.List.{All}
+use Rattle.code_follows.proofs.Closed.{NoJump, begins_closed, closed_row, go_closed}
+use Rattle.code_follows.proofs.Executing.{Halted, Left, follows_from}
 use Rattle.code_follows.proofs.Following.{Extends, Follows, HasRegisters, Sim, end_of, held}
-use Rattle.code_follows.proofs.Openings.{Constants, all_declared, all_numbered, all_ready, constants_grow, constants_run, empty_unit, end_behind, ending, first_is, has_unit, main_is, named_plain, no_homes, search_at, starts_at_zero, the_layout, the_setting, the_words, with_constants, within_all}
+use Rattle.code_follows.proofs.Openings.{Constants, all_declared, all_numbered, all_ready, apart, below, constants_grow, constants_run, empty_unit, ending, first_is, has_unit, main_is, named_word, no_homes, search_at, starts_at_zero, the_layout, the_setting, the_words, with_constants, within_all}
 use Rattle.code_follows.proofs.Settings.{At, EndsIn, Reaches, Setting, Within, and_one, begins_here, earlier, ends_later, ends_now, start}
 use Rattle.code_follows.proofs.Words.{held_wide}
 
@@ -64,24 +73,8 @@ module _ (t : Typed) (image : Image) (p : IsScalarProgram t) (codable : IsCodabl
   abbrev own : Layout
   own = the_layout t image p codable compiled
 
-  below : (x : Variable) (info : VarInfo) → variable_named t p.main x ≡ Some info → register_of own x < own.end
-  unfolding register_of
-  below x info is =
-      let h = named_plain t p (the_words t image p codable compiled) x info is in
-      let inside = slice_get_within t.vars.items h.0 info h.2 in
-      let all = end_behind t p (the_words t image p codable compiled) in
-      subst (λ (y : Variable). register_of own y < own.end) (sym h.1) (omega (arith, inside, all))
-
   has : HasRegisters g
-  unfolding register_of
-  has = record {
-    below = below;
-    apart = λ x y info other is also same.
-        let h = named_plain t p (the_words t image p codable compiled) x info is in
-        let k = named_plain t p (the_words t image p codable compiled) y other also in
-        let equal : h.0 ≡ k.0 = sym (ap (λ (z : Variable). register_of own z) h.1) ∙ same ∙ ap (λ (z : Variable). register_of own z) k.1 in
-        h.1 ∙ ap (λ (n : ℕ). V.File n) equal ∙ sym k.1;
-  }
+  has = record { below = below t p (the_words t image p codable compiled); apart = apart t p (the_words t image p codable compiled) }
 
   begins_at : start g ≡ 0
   begins_at = starts_at_zero compiled.after.units.items
@@ -92,37 +85,49 @@ module _ (t : Typed) (image : Image) (p : IsScalarProgram t) (codable : IsCodabl
   abbrev constants_there : Draft
   constants_there = with_constants t image p codable compiled
 
-  -- the statements are made, and `main` is ended behind them
-  record Built {k : Count} (row : Row_of-TStmt k) : Type 0 where
+  every : (x : Variable) → alive x
+  every x = tt
+
+  -- the initialisers and the statements are made, and `main` is ended behind them
+  record Built {k : Count} (locals : List LocalVar) (row : Row_of-TStmt k) : Type 0 where
+    pub begin : Draft
+    pub started : all_initialised t own locals 0 constants_there ≡ Makes tt begin
     pub n : ℕ
     pub e : Draft
-    pub is : statements_of t own row frame [] 0 constants_there ≡ Makes n e
+    pub is : statements_of t own row frame [] (0 + length locals) begin ≡ Makes n e
     pub unit : with_instr I.FrontHalt e ≡ (has_unit t image p codable compiled).unit
 
-  built : (locals : Vec LocalVar Global) (q : Vec (Unit {0}) Global) (row : _) → p.main.body ≡ S.Block' locals q row → locals.items ≡ [] → Built row
-  unfolding body_of then_make declared_in all_cleared all_initialised ended with_end body_frame no_code
-  built locals q row is none = by (statements_of t own row frame [] 0 constants_there) refl made
-    where
-      made : ending t image p codable compiled (statements_of t own row frame [] 0 constants_there) ≡ Makes tt (has_unit t image p codable compiled).unit
-      made =
-          sym (ap (λ (xs : List LocalVar). ending t image p codable compiled (then_make (declared_in t own true xs 0 constants_there) (λ m after. statements_of t own row frame [] m after))) none)
-          ∙ sym (ap (λ (b : TStmt). ending t image p codable compiled (body_of t own frame b constants_there)) is)
-          ∙ main_is t image p codable compiled
+  abbrev finish : Made ℕ → Made (Unit {0})
+  finish m = ending t image p codable compiled m
 
-      draft_of : Made (Unit {0}) → Draft
-      draft_of (Makes u d) = d
-      draft_of Fails = constants_there
+  abbrev the_unit : Made (Unit {0})
+  the_unit = Makes tt (has_unit t image p codable compiled).unit
 
-      by : (m : Made ℕ) → statements_of t own row frame [] 0 constants_there ≡ m → ending t image p codable compiled (statements_of t own row frame [] 0 constants_there) ≡ Makes tt (has_unit t image p codable compiled).unit → Built row
-      by (Makes n e) made_is whole = record {
-        n = n;
-        e = e;
-        is = made_is;
-        unit =
-            sym (ap (λ (b : Bool). if b then e else with_instr I.FrontHalt e) p.ending)
-            ∙ ap draft_of (sym (ap (λ (m : Made ℕ). ending t image p codable compiled m) made_is) ∙ whole);
-      }
-      by Fails made_is whole = absurd (nothing_made (has_unit t image p codable compiled).unit (sym (ap (λ (m : Made ℕ). ending t image p codable compiled m) made_is) ∙ whole))
+  module _ {k : Count} (locals : List LocalVar) (row : Row_of-TStmt k) where
+    abbrev statements_behind : Made (Unit {0}) → Made ℕ
+    statements_behind m = then_make (then_make m (λ u after. Makes (0 + length locals) after)) (λ number after. statements_of t own row frame [] number after)
+
+    draft_of : Made (Unit {0}) → Draft
+    draft_of (Makes u d) = d
+    draft_of Fails = constants_there
+
+    built_so : (m : Made (Unit {0})) → all_initialised t own locals 0 constants_there ≡ m → finish (statements_behind m) ≡ the_unit → Built locals row
+    unfolding then_make ended with_end no_code draft_of
+    built_so Fails started whole = absurd (nothing_made (has_unit t image p codable compiled).unit whole)
+    built_so (Makes u d) started whole = by (statements_of t own row frame [] (0 + length locals) d) refl whole
+      where
+        by : (m : Made ℕ) → statements_of t own row frame [] (0 + length locals) d ≡ m → finish (statements_of t own row frame [] (0 + length locals) d) ≡ the_unit → Built locals row
+        by (Makes n e) made_is whole = record {
+          begin = d;
+          started = started;
+          n = n;
+          e = e;
+          is = made_is;
+          unit =
+              sym (ap (λ (b : Bool). if b then e else with_instr I.FrontHalt e) p.ending)
+              ∙ ap draft_of (sym (ap finish made_is) ∙ whole);
+        }
+        by Fails made_is whole = absurd (nothing_made (has_unit t image p codable compiled).unit (sym (ap finish made_is) ∙ whole))
 
   -- ---- one run
 
@@ -157,7 +162,7 @@ module _ (t : Typed) (image : Image) (p : IsScalarProgram t) (codable : IsCodabl
         constants_run g own.constants own.end (empty_unit t image p codable compiled) opened (omega (arith, at)) within (omega (arith, many, grown, inside))
 
     begins_so : (c : Constants g own.constants own.end opened constants_there) → Within g constants_there → Sim g alive in_main c.t
-    unfolding entered start_state by_owner start_of constant_register blank first_free
+    unfolding entered start_state by_owner start_of scalar_given constant_register blank first_free variable_named
     begins_so c within =
         let many : length opened.registers ≡ image.slots = length-replicate image.slots 0 in
         let grown = (constants_grow t image p codable compiled).regs in
@@ -175,19 +180,19 @@ module _ (t : Typed) (image : Image) (p : IsScalarProgram t) (codable : IsCodabl
         }
       where
         zero_at_start : (x : Variable) (info : VarInfo) → variable_named t p.main x ≡ Some info → in_main.scalar x ≡ 0
-        zero_at_start x info is =
-            let h = named_plain t p (the_words t image p codable compiled) x info is in
-            ap (λ (y : Variable). in_main.scalar y) h.1 ∙ ap (λ (o : Option VarInfo). elim o as (λ _. ℕ) [ None ↦ 0 | Some info ↦ info.start ]) h.2 ∙ h.3.2
+        zero_at_start (V.File k) info is = ap (λ (o : Option VarInfo). elim o as (λ _. ℕ) [ None ↦ 0 | Some info ↦ info.start ]) is ∙ (all_at IsPlainVariable t.vars.items k info p.variables is).1
+        zero_at_start (V.Param k) info is = let none : slice_get p.main.params.items k ≡ None = ap (λ (xs : List VarInfo). slice_get xs k) p.params in cc
+        zero_at_start (V.Local k) info is = refl
 
         scalars : (x : Variable) (info : VarInfo) → variable_named t p.main x ≡ Some info → own.end ≤ image.slots → slice_index c.t.registers (register_of own x) ≡ held info.elem (in_main.scalar x)
         scalars x info is room =
-            let low = below x info is in
+            let low = below t p (the_words t image p codable compiled) x info is in
             c.below (register_of own x) low ∙ get_or-replicate image.slots (register_of own x) 0 0 (omega (arith, low, room))
-            ∙ sym (held_wide info.elem 0 (named_plain t p (the_words t image p codable compiled) x info is).3.1 (omega arith)) ∙ ap (λ (n : ℕ). held info.elem n) (sym (zero_at_start x info is))
+            ∙ sym (held_wide info.elem 0 (named_word t p (the_words t image p codable compiled) x info is).1 (omega arith)) ∙ ap (λ (n : ℕ). held info.elem n) (sym (zero_at_start x info is))
 
         small : (x : Variable) (info : VarInfo) → variable_named t p.main x ≡ Some info → in_main.scalar x < 2 ^ info.elem.bits
         small x info is =
-            subst (λ (n : ℕ). n < 2 ^ info.elem.bits) (sym (zero_at_start x info is)) (subst (λ (b : ℕ). 0 < 2 ^ b) (sym (named_plain t p (the_words t image p codable compiled) x info is).3.1) (omega arith))
+            subst (λ (n : ℕ). n < 2 ^ info.elem.bits) (sym (zero_at_start x info is)) (subst (λ (b : ℕ). 0 < 2 ^ b) (sym (named_word t p (the_words t image p codable compiled) x info is).1) (omega arith))
 
     -- ---- the end
 
@@ -221,38 +226,63 @@ module _ (t : Typed) (image : Image) (p : IsScalarProgram t) (codable : IsCodabl
         let x = ends_later g opened s h.t (end_of early) go h.ends in
         record { steps = x.steps; last = h.t; ends = x.is ∙ ap (λ (c : CodeEnd). Ends c h.t) (same_end early); turns = h.turns; output = h.output }
 
-    abbrev begun_body : State
-    begun_body = zeroed 0 0 in_main
+    module _ {k : Count} (locals : List LocalVar) (row : Row_of-TStmt k) where
+      abbrev begun_body : State
+      begun_body = zeroed 0 (length locals) in_main
 
-    meaning_is : (locals : Vec LocalVar Global) (q : Vec (Unit {0}) Global) (row : _) → p.main.body ≡ S.Block' locals q row → locals.items ≡ [] → meaning t input rest turns winner ≡ run_from (all_executed scope row 0 active begun_body)
-    unfolding meaning run_body executed initialised then_go
-    meaning_is locals q row is none =
-        ap (λ (o : Option Instance). run_of (run_body t (calls t turns) o [] active first_state)) (first_is t p (the_words t image p codable compiled))
-        ∙ ap (λ (b : TStmt). run_from (executed scope b 0 active in_main)) is
-        ∙ ap (λ (xs : List LocalVar). run_from (then_go (initialised scope active 0 xs (zeroed 0 (length xs) in_main)) (all_executed scope row (0 + length xs) active))) none
+      abbrev body_run : Outcome Leaving
+      body_run = then_go (initialised scope active 0 locals begun_body) (all_executed scope row (0 + length locals) active)
 
-    block_runs : (locals : Vec LocalVar Global) (q : Vec (Unit {0}) Global) (row : _) → p.main.body ≡ S.Block' locals q row → (locals.items ≡ []) × AreInStatements row × AreClosed row → ComesTo image opened (meaning t input rest turns winner)
-    unfolding Extends blank body_frame first_free
-    block_runs locals q row is h =
-        let b = built locals q row is h.0 in
-        let code = block_code g has alive (λ x. tt) (all_numbered t p (the_words t image p codable compiled)) (all_ready t p (the_words t image p codable compiled)) (all_declared t p (the_words t image p codable compiled)) scope active falls 0 locals q row h.0 (subst (λ (s : TStmt). HasStatementCode t p.main 0 s) is (codable 0 p.main (first_is t p (the_words t image p codable compiled))).1) in
-        let whole : Within g (with_instr I.FrontHalt b.e) = subst (λ (d : Draft). Within g d) (sym b.unit) (within_all t image p codable compiled) in
-        let grown : Extends g constants_there (Makes b.n b.e) = subst (λ (m : Made ℕ). Extends g constants_there m) b.is (row_grows g has alive (λ x. tt) (all_numbered t p (the_words t image p codable compiled)) (all_ready t p (the_words t image p codable compiled)) (all_declared t p (the_words t image p codable compiled)) scope active falls row frame 0 constants_there refl among (no_homes t image p codable compiled) code) in
-        let first : Within g constants_there = earlier g constants_there b.e grown.0 grown.1 (earlier g b.e (with_instr I.FrontHalt b.e) 1 (and_one g I.FrontHalt b.e) whole) in
-        let c = placed first in
-        let free = (constants_grow t image p codable compiled).regs in
-        subst (λ (r : Run). ComesTo image opened r) (sym (meaning_is locals q row is h.0))
-        (comes constants_there b.e b.n c.t (all_executed scope row 0 active begun_body) whole (closed_row scope active row h.1 h.2 0 begun_body) c.go
-        (subst (λ (m : Made ℕ). Follows g (Left g alive frame constants_there c.t) c.t (all_executed scope row 0 active begun_body) m) b.is
-        (row_follows g has alive (λ x. tt) (all_numbered t p (the_words t image p codable compiled)) (all_ready t p (the_words t image p codable compiled)) (all_declared t p (the_words t image p codable compiled)) scope active falls row h.1 frame 0 constants_there c.t begun_body refl among (no_homes t image p codable compiled) free c.at
-        (sim_zeroed g has alive (λ x. tt) (all_numbered t p (the_words t image p codable compiled)) (all_ready t p (the_words t image p codable compiled)) (all_declared t p (the_words t image p codable compiled)) scope active falls 0 in_main c.t (begins_so c first)) code)))
-      where
-        among : StandsAmong frame []
-        among = record { loop = omega arith; all = refl }
+      same_scalars : (x : Variable) → begun_body.scalar x ≡ in_main.scalar x
+      unfolding zeroed is_among entered by_owner scalar_given start_state
+      same_scalars (V.File j) = refl
+      same_scalars (V.Param j) = refl
+      same_scalars (V.Local j) = zero_anyway (nat_le 0 j && nat_lt j (0 + length locals))
+        where
+          zero_anyway : (b : Bool) → (if b then zero else zero) ≡ zero
+          zero_anyway true = refl
+          zero_anyway false = refl
+
+      body_comes : All IsInLocal locals → AreInStatements row → AreClosed row → StandFrom (variables_of p.main.body) 0 (map info_of locals) → AreCoded g has alive every (all_ready t p (the_words t image p codable compiled)) scope active (0 + length locals) locals
+          → RowCode g has alive every (all_numbered t p (the_words t image p codable compiled)) (all_ready t p (the_words t image p codable compiled)) (all_declared t p (the_words t image p codable compiled)) scope active falls (0 + length locals) row → Built locals row → ComesTo image opened (run_from body_run)
+      unfolding Extends blank body_frame first_free zeroed
+      body_comes isin inside closed stand initial code b =
+          let ready = all_ready t p (the_words t image p codable compiled) in
+          let whole : Within g (with_instr I.FrontHalt b.e) = subst (λ (d : Draft). Within g d) (sym b.unit) (within_all t image p codable compiled) in
+          let begins : Extends g constants_there (Makes (tt {0}) b.begin) = subst (λ (m : Made (Unit {0})). Extends g constants_there m) b.started (initials_grow g has alive every ready scope active (0 + length locals) locals 0 constants_there isin initial) in
+          let homes : b.begin.homes ≡ [] = begins.1.homes ∙ no_homes t image p codable compiled in
+          let grown : Extends g b.begin (Makes b.n b.e) = subst (λ (m : Made ℕ). Extends g b.begin m) b.is (row_grows g has alive every (all_numbered t p (the_words t image p codable compiled)) ready (all_declared t p (the_words t image p codable compiled)) scope active falls row frame (0 + length locals) b.begin refl among homes code) in
+          let at_end : Within g b.e = earlier g b.e (with_instr I.FrontHalt b.e) 1 (and_one g I.FrontHalt b.e) whole in
+          let first : Within g constants_there = earlier g constants_there b.begin begins.0 begins.1 (earlier g b.begin b.e grown.0 grown.1 at_end) in
+          let c = placed first in
+          let free = (constants_grow t image p codable compiled).regs in
+          let more = begins.1.regs in
+          let sim : Sim g alive begun_body c.t = sim_same g has alive every in_main begun_body c.t same_scalars refl refl refl (begins_so c first) in
+          comes constants_there b.e b.n c.t body_run whole (go_closed _ _ (begins_closed scope active 0 locals begun_body) (λ u. closed_row scope active row inside closed (0 + length locals) u)) c.go
+          (go_after g has alive every ready scope active constants_there c.t (Left g alive frame constants_there c.t) (initialised scope active 0 locals begun_body) (all_executed scope row (0 + length locals) active) tt b.begin (Makes b.n b.e)
+          (subst (λ (m : Made (Unit {0})). Follows g (RanOn g has alive every ready scope active constants_there c.t) c.t (initialised scope active 0 locals begun_body) m) b.started (initials_follow g has alive every ready scope active (0 + length locals) locals 0 constants_there c.t begun_body isin stand initial free c.at sim))
+          grown
+          (λ u ran. follows_from g alive frame constants_there b.begin begins.0 c.t ran.t (all_executed scope row (0 + length locals) active u) (Makes b.n b.e) begins.1 ran.go ran.keeps
+          (subst (λ (m : Made ℕ). Follows g (Left g alive frame b.begin ran.t) ran.t (all_executed scope row (0 + length locals) active u) m) b.is
+          (row_follows g has alive every (all_numbered t p (the_words t image p codable compiled)) ready (all_declared t p (the_words t image p codable compiled)) scope active falls row inside frame (0 + length locals) b.begin ran.t u refl among homes (omega (arith, free, more)) ran.at ran.sim code))))
+        where
+          among : StandsAmong frame []
+          among = record { loop = omega arith; all = refl }
 
     runs : (body : TStmt) → p.main.body ≡ body → IsMainBody body → ComesTo image opened (meaning t input rest turns winner)
-    unfolding IsMainBody
-    runs (S.Block' locals q row) is h = block_runs locals q row is h
+    unfolding IsMainBody IsShapedStatement IsLowerableStatement StatementNamesVariables body_of declared_in then_make meaning run_body executed body_frame
+    runs (S.Block' locals q row) is h =
+        let ready = all_ready t p (the_words t image p codable compiled) in
+        let c : HasStatementCode t p.main 0 (S.Block' locals q row) = subst (λ (s : TStmt). HasStatementCode t p.main 0 s) is (codable 0 p.main (first_is t p (the_words t image p codable compiled))).1 in
+        let code = block_code g has alive every (all_numbered t p (the_words t image p codable compiled)) ready (all_declared t p (the_words t image p codable compiled)) scope active falls 0 locals q row c in
+        let stand = first_part (map info_of locals.items) (row_variables row) (block_stands g has alive every (all_numbered t p (the_words t image p codable compiled)) ready (all_declared t p (the_words t image p codable compiled)) scope active falls 0 locals q row c) in
+        let initial = coded g has alive every ready scope active (0 + length locals.items) locals.items c.shaped.0 c.lowerable.0 c.names.0 in
+        let whole : finish (statements_behind locals.items row (all_initialised t own locals.items 0 constants_there)) ≡ the_unit =
+            sym (ap (λ (m : Made (Unit {0})). finish (then_make (then_make m (λ u between. then_make (all_initialised t own locals.items 0 between) (λ v after. Makes (0 + length locals.items) after))) (λ number after. statements_of t own row frame [] number after))) (none_cleared g has alive every ready scope active locals.items 0 constants_there h.0))
+            ∙ sym (ap (λ (b : TStmt). finish (body_of t own frame b constants_there)) is)
+            ∙ main_is t image p codable compiled in
+        subst (λ (r : Run). ComesTo image opened r) (sym (ap (λ (o : Option Instance). run_of (run_body t (calls t turns) o [] active first_state)) (first_is t p (the_words t image p codable compiled)) ∙ ap (λ (b : TStmt). run_from (executed scope b 0 active in_main)) is))
+        (body_comes locals.items row h.0 h.1 h.2 stand initial code (built_so locals.items row (all_initialised t own locals.items 0 constants_there) refl whole))
     runs _ is h = absurd h
 
 pub means_source : CodeMeansSource

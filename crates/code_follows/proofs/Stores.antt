@@ -66,12 +66,12 @@ module _ (g : Setting) (has : HasRegisters g) (alive : Variable → Type 0) (x :
   abbrev own : ℕ
   own = register_of (layout g) x
 
-  below_free : own < first_free (layout g)
+  pub below_free : own < first_free (layout g)
   unfolding first_free
   below_free = let b = has.below x info scalar.0 in omega (arith, b)
 
   -- the register of the variable takes a number
-  sim_written : (st : State) (s : CodeState) (w : ℕ) → w < 2 ^ info.elem.bits → own < length s.registers → Sim g alive st s → Sim g alive (with_scalar x w st) (with_register own (held info.elem w) s)
+  pub sim_written : (st : State) (s : CodeState) (w : ℕ) → w < 2 ^ info.elem.bits → own < length s.registers → Sim g alive st s → Sim g alive (with_scalar x w st) (with_register own (held info.elem w) s)
   unfolding with_scalar
   sim_written st s w few inside h = record {
     registers = length-set s.registers own (held info.elem w) ∙ h.registers;

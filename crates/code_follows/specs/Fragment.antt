@@ -1,5 +1,5 @@
 -- The expressions of which it is said so far that their code means them: scalar ones of 32 bits.
-use Rattle.std.specs.Prelude.{◌≡◌, ◌<◌, ◌^◌, false, [], ◌∷◌, None}
+use Rattle.std.specs.Prelude.{◌≡◌, ◌<◌, ◌^◌, false, [], ◌∷◌, IfSome, None}
 use Rattle.std.specs.List.{All}
 use Rattle.cstar_tree.specs.declared.typed.TExpr.{TExpr, Row_of-TExpr, end_of-TExpr, more_of-TExpr}
 use Rattle.cstar_tree.specs.declared.typed.TExpr as T
@@ -7,6 +7,7 @@ use Rattle.cstar_tree.specs.declared.typed.TStmt.{TStmt, Row_of-TStmt, end_of-TS
 use Rattle.cstar_tree.specs.declared.typed.TStmt as S
 use Rattle.cstar_tree.specs.declared.typed.Instance.{Instance}
 use Rattle.cstar_tree.specs.declared.typed.Typed.{Typed}
+use Rattle.cstar_tree.specs.declared.typed.LocalVar.{LocalVar}
 use Rattle.cstar_tree.specs.declared.typed.ValueType.{ValueType}
 use Rattle.cstar_tree.specs.declared.typed.VarInfo.{VarInfo}
 use Rattle.cstar_tree.specs.Typed.{type_of}
@@ -29,7 +30,7 @@ IsIn (T.Unary' ty op p operand) = IsWord ty × IsIn operand
 IsIn (T.Binary' ty place op p left q right) = IsWord ty × IsIn left × IsIn right
 IsIn _ = ⊥
 
--- a scalar variable of 32 bits
+-- a scalar variable of 32 bits, as it is used
 unfoldable pub IsVariable : TExpr → Type 0
 IsVariable (T.Variable ty x) = IsWord ty
 IsVariable _ = ⊥
@@ -45,10 +46,22 @@ IsEffect (T.Step' ty op order p target) = IsWord ty × (ty ≡ type_of target) �
 IsEffect (T.Printf' ty pieces p arguments) = AreIn arguments
 IsEffect e = IsIn e
 
--- statements of these, in which no variable is declared
+-- a scalar variable of 32 bits, as it is declared
+abbrev pub IsWordVariable : VarInfo → Type 0
+IsWordVariable info = (info.shape ≡ None) × (info.elem.bits ≡ 32)
+
+-- a variable of a block without an initialiser
+abbrev pub IsFreshLocal : LocalVar → Type 0
+IsFreshLocal local = IsWordVariable local.info × (local.initial ≡ None)
+
+-- a variable of a block, with or without one
+abbrev pub IsInLocal : LocalVar → Type 0
+IsInLocal local = IsWordVariable local.info × IfSome local.initial IsIn
+
+-- statements of these, whose variables have no initialisers
 unfoldable mutual
   pub IsInStatement : TStmt → Type 0
-  IsInStatement (S.Block' locals p statements) = (locals.items ≡ []) × AreInStatements statements
+  IsInStatement (S.Block' locals p statements) = All IsFreshLocal locals.items × AreInStatements statements
   IsInStatement (S.Expression e) = IsEffect e
   IsInStatement S.Empty = Unit {0}
   IsInStatement (S.If' test p first second) = IsIn test × IsInStatement first × IsInElse second
@@ -82,22 +95,22 @@ unfoldable mutual
   IsClosedElse None' = Unit {0}
   IsClosedElse (Some' p s) = IsClosed s
 
--- a block of such statements
+-- a block of such statements, whose own variables may have initialisers
 unfoldable pub IsMainBody : TStmt → Type 0
-IsMainBody (S.Block' locals p statements) = (locals.items ≡ []) × AreInStatements statements × AreClosed statements
+IsMainBody (S.Block' locals p statements) = All IsInLocal locals.items × AreInStatements statements × AreClosed statements
 IsMainBody _ = ⊥
 
--- a scalar variable of 32 bits that begins with 0
+-- a variable of the file that begins with 0
 abbrev pub IsPlainVariable : VarInfo → Type 0
-IsPlainVariable info = (info.shape ≡ None) × (info.elem.bits ≡ 32) × (info.start ≡ 0)
+IsPlainVariable info = IsWordVariable info × (info.start ≡ 0)
 
--- a program of one function, which declares no variables and ends without `return`
+-- a program of one function, which ends without `return`
 pub record IsScalarProgram (t : Typed) : Type 0 where
   pub main : Instance
   pub instances : t.instances.items ≡ main ∷ []
   pub params : main.params.items ≡ []
   pub result : main.result ≡ None
   pub body : IsMainBody main.body
-  pub locals : variables_of main.body ≡ []
+  pub locals : All IsWordVariable (variables_of main.body)
   pub ending : ends_in_return main.body ≡ false
   pub variables : All IsPlainVariable t.vars.items
