@@ -1,5 +1,5 @@
 -- Every statement of the fragment.
-use Rattle.std.proofs.Common.{◌≡◌, ◌∙◌, ℕ, zero, suc, take, ◌+◌, ◌<◌, ◌≤◌, ◌^◌, ◌&&◌, if◌then◌else◌, nat_lt, Bool, true, false, List, [], ◌++◌, map, Vec, Global, length, Some, refl, sym, ap, subst, arith}
+use Rattle.std.proofs.Common.{◌≡◌, ◌∙◌, ℕ, zero, suc, take, ◌+◌, ◌<◌, ◌≤◌, ◌^◌, ◌&&◌, if◌then◌else◌, nat_lt, Bool, true, false, List, [], ◌++◌, map, Vec, Global, length, Some, refl, sym, ap, subst, arith, None}
 use mathlib.Core.Former.{Count}
 use Rattle.std.proofs.lemmas.List.{length-map}
 use Rattle.std.specs.List.{All}
@@ -41,13 +41,14 @@ use Rattle.source_meaning.specs.Values.{Active, Scope, Value}
 use Rattle.lower_base.specs.declared.emit.Out.{Out}
 use Rattle.paris_code.specs.declared.operands.Field.{Field}
 use Rattle.code_follows.proofs.Declaring.{block_declared, clears, none_begun}
-use Rattle.code_follows.specs.Fragment.{AreInStatements, IsEffect, IsFreshLocal, IsIn, IsInElse, IsInStatement}
+use Rattle.code_follows.specs.Fragment.{AreInStatements, IsEffect, IsFreshLocal, IsIn, IsInElse, IsInStatement, IsTested}
 use Rattle.code_follows.proofs.Assigning.{effect_follows}
 use Rattle.code_follows.proofs.Choices.{Agrees, if_alone, if_else}
 use Rattle.code_follows.proofs.Executing.{Jumped, Left, TestMade, Tested, follows_from, go_on, test_follows, test_made}
+use Rattle.code_follows.proofs.ForLoops.{do_agrees, for_agrees, while_agrees}
 use Rattle.code_follows.proofs.Following.{Extends, Follows, HasRegisters, Ran, Sim, delayed, held, keeps_all}
 use Rattle.code_follows.proofs.Jumping.{jumps, moved_to, sim_moved}
-use Rattle.code_follows.proofs.Loops.{ends_from, loop_left, rounds_follow}
+use Rattle.code_follows.proofs.Loops.{loop_runs}
 use Rattle.code_follows.proofs.Settings.{At, Setting, Within, and_one, code_more, earlier, layout, regs_more, start, stay}
 use Rattle.code_follows.proofs.Statements.{MadeSo, expression_code, statement_made, while_body, while_test}
 
@@ -56,118 +57,6 @@ module _ (g : Setting) (has : HasRegisters g) (alive : Variable → Type 0) (eve
     (falls : (s : TStmt) (n : ℕ) (st : State) → (state_after (executed scope s n active st)).turns ≤ st.turns) where
   abbrev pub Follows_it : TStmt → Type 0
   Follows_it s = Agrees g has alive every numbers ready declares scope active s
-
-  module _ (test : TExpr) (p : Boxed) (body : TStmt) (isin : IsIn test) (agrees : Follows_it body) where
-    module _ (f : Frame) (n : ℕ) (d : Draft) (s0 : CodeState) (st : State) (outcome : f.outcome ≡ outcome_of g.instance.result) (among : StandsAmong f []) (none : d.homes ≡ []) (free : first_free (layout g) ≤ d.regs) (at : At g s0 (length d.code)) (sim : Sim g alive st s0)
-        (c : HasStatementCode g.typed g.instance n (S.While' test p body)) where
-      abbrev long : ℕ
-      long = statement_length_of g.typed (layout g) (has_result f) (at_loop f.saved) body
-
-      abbrev turn : ℕ
-      turn = here d + 1
-
-      abbrev next : ℕ
-      next = turn + long + 1
-
-      abbrev after : ℕ
-      after = next + used_length_of g.typed (layout g) 32 true test + 1
-
-      abbrev inner : Frame
-      inner = in_loop next after f
-
-      abbrev enters : Draft
-      enters = with_instr (I.FrontJump next) d
-
-      abbrev before_body : Draft
-      before_body = with_instr I.FrontTurn enters
-
-      inner_outcome : inner.outcome ≡ outcome_of g.instance.result
-      unfolding in_loop
-      inner_outcome = outcome
-
-      inner_among : StandsAmong inner []
-      unfolding in_loop at_loop
-      inner_among = record { loop = omega arith; all = among.all }
-
-      begin_homes : before_body.homes ≡ []
-      unfolding with_instr with_step
-      begin_homes = none
-
-      made_body : MadeSo g numbers declares before_body long (behind n body) (statement_of g.typed (layout g) body inner [] n before_body)
-      unfolding in_loop has_result
-      made_body = statement_made g numbers declares body inner n before_body inner_outcome inner_among (while_body g numbers declares n test p body c) begin_homes
-
-      made_test : TestMade g alive has every n (ready n) scope active test made_body.e
-      made_test = test_made g alive has every n (ready n) scope active test made_body.e isin (while_test g numbers declares n test p body c)
-
-      abbrev behind_loop : Draft
-      behind_loop = with_instr (I.FrontJumpNonzero made_test.r turn) made_test.e
-
-      code_is : statement_of g.typed (layout g) (S.While' test p body) f [] n d ≡ Makes (behind n body) behind_loop
-      unfolding statement_of jump_back_of then_make
-      code_is =
-          ap (λ (m : Made ℕ). then_make m (λ m' behind'. then_make (jump_back_of g.typed (layout g) (Some test) turn behind') (λ _ end. Makes m' end))) made_body.is
-          ∙ ap (λ (m : Made ℕ). then_make (then_make m (λ r after'. Makes tt (with_instr (I.FrontJumpNonzero r turn) after'))) (λ _ end. Makes (behind n body) end)) made_test.is
-
-      numbers_are : (next ≡ length made_body.e.code) × (after ≡ length behind_loop.code) × (turn ≡ length enters.code) × (length before_body.code ≡ length enters.code + 1)
-      unfolding here
-      numbers_are =
-          let a = code_more g (I.FrontJump next) d in
-          let b = code_more g I.FrontTurn enters in
-          let e = places before_body made_body.e long made_body.extended in
-          let h = places made_body.e made_test.e (used_length_of g.typed (layout g) 32 true test) made_test.extended in
-          let i = code_more g (I.FrontJumpNonzero made_test.r turn) made_test.e in
-          (omega (arith, a, b, e), omega (arith, a, b, e, h, i), omega (arith, a), b)
-
-      -- the body and the test, from where they begin
-      body_there : (t : CodeState) (u : State) → At g t (length before_body.code) → Sim g alive u t → Follows g (Left g alive inner before_body t) t (executed scope body n active u) (Makes (behind n body) made_body.e)
-      body_there t u here_t sim_t =
-          let more = regs_more g I.FrontTurn enters in
-          let again = regs_more g (I.FrontJump next) d in
-          subst (λ (m : Made ℕ). Follows g (Left g alive inner before_body t) t (executed scope body n active u) m) made_body.is
-          (agrees inner n before_body t u inner_outcome inner_among begin_homes (omega (arith, free, more, again)) here_t sim_t (while_body g numbers declares n test p body c))
-
-      test_there : (t : CodeState) (u : State) → At g t (length made_body.e.code) → Sim g alive u t → Follows g (Tested g alive made_body.e t) t (passes scope active test u) (Makes made_test.r made_test.e)
-      test_there t u here_t sim_t =
-          let more = regs_more g I.FrontTurn enters in
-          let again = regs_more g (I.FrontJump next) d in
-          let longer = made_body.extended.regs in
-          subst (λ (m : Made ℕ). Follows g (Tested g alive made_body.e t) t (passes scope active test u) m) made_test.is
-          (test_follows g alive has every n (ready n) scope active test isin (while_test g numbers declares n test p body c) made_body.e t u (omega (arith, free, more, again, longer)) here_t sim_t)
-
-      all_grown : Extended d (1 + (1 + (long + (used_length_of g.typed (layout g) 32 true test + 1)))) behind_loop
-      all_grown =
-          extended d enters behind_loop 1 (1 + (long + (used_length_of g.typed (layout g) 32 true test + 1))) (and_one g (I.FrontJump next) d)
-          (extended enters before_body behind_loop 1 (long + (used_length_of g.typed (layout g) 32 true test + 1)) (and_one g I.FrontTurn enters)
-          (extended before_body made_body.e behind_loop long (used_length_of g.typed (layout g) 32 true test + 1) made_body.extended
-          (extended made_body.e made_test.e behind_loop (used_length_of g.typed (layout g) 32 true test) 1 made_test.extended (and_one g (I.FrontJumpNonzero made_test.r turn) made_test.e))))
-
-      within_enters : Within g behind_loop → Within g enters
-      within_enters w =
-          earlier g enters behind_loop (1 + (long + (used_length_of g.typed (layout g) 32 true test + 1)))
-          (extended enters before_body behind_loop 1 (long + (used_length_of g.typed (layout g) 32 true test + 1)) (and_one g I.FrontTurn enters)
-          (extended before_body made_body.e behind_loop long (used_length_of g.typed (layout g) 32 true test + 1) made_body.extended
-          (extended made_body.e made_test.e behind_loop (used_length_of g.typed (layout g) 32 true test) 1 made_test.extended (and_one g (I.FrontJumpNonzero made_test.r turn) made_test.e)))) w
-
-    while_agrees : Follows_it (S.While' test p body)
-    unfolding executed Extends in_loop
-    while_agrees f n d s0 st outcome among none free at sim c =
-        let e : Draft = behind_loop f n d s0 st outcome among none free at sim c in
-        let numbers_so = numbers_are f n d s0 st outcome among none free at sim c in
-        let made_b = made_body f n d s0 st outcome among none free at sim c in
-        let made_t = made_test f n d s0 st outcome among none free at sim c in
-        let s1 : CodeState = moved_to g alive (next f n d s0 st outcome among none free at sim c + start g) s0 in
-        let regs1 = regs_more g I.FrontTurn (enters f n d s0 st outcome among none free at sim c) in
-        let regs2 = regs_more g (I.FrontJump (next f n d s0 st outcome among none free at sim c)) d in
-        let place = numbers_so.0 in
-        subst (λ (m : Made ℕ). Follows g (Left g alive f d s0) s0 (rounds st.turns (passes scope active test) (λ u. executed scope body n active u) (λ u. Source.Gives Onward u) st) m) (sym (code_is f n d s0 st outcome among none free at sim c))
-        (delayed g (Left g alive f d s0) e s0 (rounds st.turns (passes scope active test) (λ u. executed scope body n active u) (λ u. Source.Gives Onward u) st) (Makes (behind n body) e) (0, as_it_was e) (λ within.
-        loop_left g alive scope active test body n (behind n body) isin (inner f n d s0 st outcome among none free at sim c) d (enters f n d s0 st outcome among none free at sim c) made_b.e made_t.e made_t.r (turn f n d s0 st outcome among none free at sim c) within numbers_so.2 numbers_so.0 numbers_so.1 (long f n d s0 st outcome among none free at sim c) (used_length_of g.typed (layout g) 32 true test) made_b.extended made_t.extended (omega (arith, regs1, regs2))
-        (falls body n) (λ t u here_t sim_t. body_there f n d s0 st outcome among none free at sim c t u here_t sim_t) (λ t u here_t sim_t. test_there f n d s0 st outcome among none free at sim c t u here_t sim_t) f (behind n body) _ s0 (rounds st.turns (passes scope active test) (λ u. executed scope body n active u) (λ u. Source.Gives Onward u) st) (all_grown f n d s0 st outcome among none free at sim c)
-        (ends_from g alive scope active test body n (behind n body) isin (inner f n d s0 st outcome among none free at sim c) d (enters f n d s0 st outcome among none free at sim c) made_b.e made_t.e made_t.r (turn f n d s0 st outcome among none free at sim c) s0 s1 (rounds st.turns (passes scope active test) (λ u. executed scope body n active u) (λ u. Source.Gives Onward u) st)
-        (jumps g alive (next f n d s0 st outcome among none free at sim c) d s0 (within_enters f n d s0 st outcome among none free at sim c within) at) (keeps_all g d s0)
-        (rounds_follow g alive scope active test body n (behind n body) isin (inner f n d s0 st outcome among none free at sim c) d (enters f n d s0 st outcome among none free at sim c) made_b.e made_t.e made_t.r (turn f n d s0 st outcome among none free at sim c) within numbers_so.2 numbers_so.0 numbers_so.1 (long f n d s0 st outcome among none free at sim c) (used_length_of g.typed (layout g) 32 true test) made_b.extended made_t.extended (omega (arith, regs1, regs2))
-        (falls body n) (λ t u here_t sim_t. body_there f n d s0 st outcome among none free at sim c t u here_t sim_t) (λ t u here_t sim_t. test_there f n d s0 st outcome among none free at sim c t u here_t sim_t) st.turns st s1 (omega arith) (omega (arith, place)) (sim_moved g alive st s0 (next f n d s0 st outcome among none free at sim c + start g) sim)))))
 
   -- an expression as a statement
   effect_statement : (f : Frame) (n : ℕ) (d : Draft) (s0 : CodeState) (o : Outcome Value) (made : Made Out) → Follows g (λ v u out e. Ran g alive d s0 u e) s0 o made
@@ -292,7 +181,7 @@ module _ (g : Setting) (has : HasRegisters g) (alive : Variable → Type 0) (eve
       (next made.e ran.t u made.homes (omega (arith, free, ran.grown.1.regs)) ran.at ran.sim)))
 
   mutual
-    unfolding IsInStatement IsInElse AreInStatements executed all_executed declared else_executed statement_of statements_of else_of
+    unfolding IsInStatement IsInElse IsTested AreInStatements executed all_executed declared else_executed statement_of statements_of else_of
 
     pub statement_follows : (s : TStmt) → IsInStatement s → Follows_it s
     statement_follows (S.Block' locals p statements) h f n d s0 st outcome among none free at sim c =
@@ -303,7 +192,10 @@ module _ (g : Setting) (has : HasRegisters g) (alive : Variable → Type 0) (eve
     statement_follows (S.If' test p first None') h f n d s0 st outcome among none free at sim c = if_alone g has alive every numbers ready declares scope active test p first h.0 (statement_follows first h.1) f n d s0 st outcome among none free at sim c
     statement_follows (S.If' test p first (Some' q second)) h f n d s0 st outcome among none free at sim c =
         if_else g has alive every numbers ready declares scope active test p first q second h.0 (statement_follows first h.1) (statement_follows second h.2) f n d s0 st outcome among none free at sim c
-    statement_follows (S.While' test p body) h f n d s0 st outcome among none free at sim c = while_agrees test p body h.0 (statement_follows body h.1) f n d s0 st outcome among none free at sim c
+    statement_follows (S.While' test p body) h f n d s0 st outcome among none free at sim c = while_agrees g has alive every numbers ready declares scope active falls test p body h.0 (statement_follows body h.1) f n d s0 st outcome among none free at sim c
+    statement_follows (S.For' first None step p body) h f n d s0 st outcome among none free at sim c = absurd h.1
+    statement_follows (S.For' first (Some test) step p body) h f n d s0 st outcome among none free at sim c = for_agrees g has alive every numbers ready declares scope active falls first step test p body h.0 h.1 h.2 (statement_follows body h.3) f n d s0 st outcome among none free at sim c
+    statement_follows (S.Do' p body test) h f n d s0 st outcome among none free at sim c = do_agrees g has alive every numbers ready declares scope active falls test p body h.1 (statement_follows body h.0) f n d s0 st outcome among none free at sim c
     statement_follows S.Break h f n d s0 st outcome among none free at sim c = breaks f f.saved.in_loop n d s0 st at sim
     statement_follows S.Continue h f n d s0 st outcome among none free at sim c = continues f f.saved.in_loop n d s0 st at sim
     statement_follows _ h f n d s0 st outcome among none free at sim c = absurd h

@@ -42,16 +42,16 @@ round_closed (Source.Gives Broke st) next f = tt
 round_closed (Source.Gives (Returned v) st) next f = tt
 round_closed (Source.Ends early st) next f = tt
 
-rounds_closed : (fuel : ℕ) (test : State → Outcome Bool) (body : State → Outcome Leaving) (st : State) → NoJump (rounds fuel test body (λ s. Source.Gives Onward s) st)
-unfolding rounds NoJump then_go
-rounds_closed zero test body st = do_closed (test st) _ (λ b u. by b u)
+rounds_closed : (fuel : ℕ) (test : State → Outcome Bool) (body step : State → Outcome Leaving) (st : State) → ((s : State) → NoJump (step s)) → NoJump (rounds fuel test body step st)
+unfolding rounds NoJump
+rounds_closed zero test body step st closed = do_closed (test st) _ (λ b u. by b u)
   where
     by : (b : Bool) (u : State) → NoJump (elim b as (λ _. Outcome Leaving) [ true ↦ Source.Ends Source.Stopped u | false ↦ Source.Gives Onward u ])
     by true u = tt
     by false u = tt
-rounds_closed (suc fuel) test body st = do_closed (test st) _ (λ b u. by b u (λ v. rounds_closed fuel test body v))
+rounds_closed (suc fuel) test body step st closed = do_closed (test st) _ (λ b u. by b u (λ v. go_closed (step v) (rounds fuel test body step) (closed v) (λ w. rounds_closed fuel test body step w closed)))
   where
-    by : (b : Bool) (u : State) → ((v : State) → NoJump (rounds fuel test body (λ s. Source.Gives Onward s) v)) → NoJump (elim b as (λ _. Outcome Leaving) [ true ↦ then_round (spend_turn u body) (λ s. then_go (Source.Gives Onward s) (rounds fuel test body (λ s. Source.Gives Onward s))) | false ↦ Source.Gives Onward u ])
+    by : (b : Bool) (u : State) → ((v : State) → NoJump (then_go (step v) (rounds fuel test body step))) → NoJump (elim b as (λ _. Outcome Leaving) [ true ↦ then_round (spend_turn u body) (λ s. then_go (step s) (rounds fuel test body step)) | false ↦ Source.Gives Onward u ])
     by true u again = round_closed (spend_turn u body) _ again
     by false u again = tt
 
@@ -69,6 +69,11 @@ module _ (scope : Scope) (active : Active) where
       one_closed there None st = tt
       one_closed there (Some e) st = do_closed (evaluated scope e active st) _ (λ v u. tt)
 
+  done_closed : (e : Option TExpr) (st : State) → NoJump (done scope active e st)
+  unfolding done NoJump
+  done_closed None st = tt
+  done_closed (Some e) st = do_closed (evaluated scope e active st) _ (λ v u. tt)
+
   mutual
     unfolding IsInStatement IsInElse AreInStatements IsClosed IsClosedElse AreClosed executed all_executed else_executed NoJump done
 
@@ -77,7 +82,9 @@ module _ (scope : Scope) (active : Active) where
     closed (S.Expression e) h k n st = do_closed _ _ (λ v u. tt)
     closed S.Empty h k n st = tt
     closed (S.If' test p first second) h k n st = do_closed _ _ (λ b u. either b _ _ (closed first h.1 k.0 n u) (closed_else second h.2 k.1 (n + declared first) u))
-    closed (S.While' test p body) h k n st = rounds_closed st.turns _ _ st
+    closed (S.While' test p body) h k n st = rounds_closed st.turns _ _ _ st (λ s. tt)
+    closed (S.Do' p body test) h k n st = round_closed _ _ (λ s. rounds_closed s.turns _ _ _ s (λ u. tt))
+    closed (S.For' first test step p body) h k n st = go_closed _ _ (done_closed first st) (λ s. rounds_closed s.turns _ _ _ s (λ u. done_closed step u))
     closed S.Break h k n st = absurd k
     closed S.Continue h k n st = absurd k
     closed _ h k n st = absurd h

@@ -1,5 +1,5 @@
 -- How statements are left, and what one behind another does.
-use Rattle.std.proofs.Common.{◌≡◌, ◌∙◌, ℕ, ◌+◌, ◌<◌, ◌≤◌, ◌^◌, Bool, true, false, length, slice_index, refl, sym, ap, subst}
+use Rattle.std.proofs.Common.{◌≡◌, ◌∙◌, ℕ, ◌+◌, ◌<◌, ◌≤◌, ◌^◌, Bool, true, false, length, slice_index, refl, sym, ap, subst, Option}
 use Rattle.cstar_tree.specs.declared.typed.TExpr.{TExpr}
 use Rattle.cstar_tree.specs.declared.typed.TExpr as T
 use Rattle.cstar_tree.specs.declared.typed.Variable.{Variable}
@@ -33,6 +33,15 @@ use Rattle.code_follows.proofs.Values.{Value_of, extends_in_register}
 use Rattle.code_follows.proofs.Words.{below_word, held_wide, kept, word_type}
 use Rattle.code_follows.proofs.Following.{delayed, finished}
 
+pub no_break : Broke ≡ Onward → ⊥
+no_break e = cc
+
+pub no_continue : Continued ≡ Onward → ⊥
+no_continue e = cc
+
+pub no_return : (v : Option Value) → Returned v ≡ Onward → ⊥
+no_return v e = cc
+
 -- a value of the fragment is kept in a register, and there is one
 kept_not : (e : TExpr) → IsIn e → is_kept e ≡ false → ⊥
 kept_not e isin h = let k : is_kept e ≡ true = kept e isin in cc
@@ -52,6 +61,10 @@ module _ (g : Setting) (alive : Variable → Type 0) where
     pub ends : EndsIn g s Machine.Done t
     pub turns : t.turns ≡ st.turns
     pub output : t.output ≡ st.output
+
+  -- the code arrives behind a draft, and the source goes on
+  abbrev pub RanOn : {A : Type 0} → Draft → CodeState → Leaving → State → A → Draft → Type 0
+  RanOn d s leaving u y e = (leaving ≡ Onward) × Ran g alive d s u e
 
   -- how a statement is left: at its end, or where its jump leads
   unfoldable pub Left : Frame → Draft → CodeState → Leaving → State → ℕ → Draft → Type 0

@@ -7,6 +7,7 @@ pub mod Effects
 pub mod Executing
 pub mod Expressions
 pub mod Following
+pub mod ForLoops
 pub mod Jumping
 pub mod Loops
 pub mod Openings

@@ -1,4 +1,4 @@
--- `while` and `do`.
+-- The turns of a loop.
 use Rattle.std.proofs.Common.{◌≡◌, ◌∙◌, ℕ, zero, suc, ◌+◌, ◌≤◌, ◌&&◌, Bool, true, false, length, refl, sym, ap, arith}
 use Rattle.cstar_tree.specs.declared.typed.TExpr.{TExpr}
 use Rattle.cstar_tree.specs.declared.typed.TExpr as T
@@ -20,7 +20,7 @@ use Rattle.source_meaning.specs.State.{Outcome, State, spend_turn, then_do}
 use Rattle.source_meaning.specs.Statements.{Broke, Continued, Leaving, Onward, Returned, executed, passes, rounds, then_go, then_round}
 use Rattle.source_meaning.specs.Values.{Active, Scope, Value, nonzero, number}
 use Rattle.code_follows.specs.Fragment.{IsIn}
-use Rattle.code_follows.proofs.Executing.{Halted, Jumped, Left, Tested}
+use Rattle.code_follows.proofs.Executing.{Halted, Jumped, Left, RanOn, Tested, no_break, no_continue, no_return}
 use Rattle.code_follows.proofs.Following.{Finishes, Follows, Keeps, Sim, finishes_later, keeps_all}
 use Rattle.code_follows.proofs.Jumping.{behind_turn, moved_to, returns_to, sim_moved, sim_spent, spends, stops}
 use Rattle.code_follows.proofs.Settings.{At, Reaches, Setting, Within, and_one, code_more, earlier, ends_later, onto, start}
@@ -53,8 +53,8 @@ test_still scope active test st u b isin is = by (evaluated scope test active st
     by (Source.Gives v w) h e = sym (ap state_behind e) ∙ h
     by (Source.Ends early w) h e = cc
 
--- a loop: the turn stands behind one draft, the body between two, the test behind it, and the jump back behind that
-module _ (g : Setting) (alive : Variable → Type 0) (scope : Scope) (active : Active) (test : TExpr) (body : TStmt) (n number : ℕ) (isin : IsIn test) (f : Frame) (d before_turn behind_body tested : Draft) (r turn : ℕ) where
+-- a loop: the turn stands behind one draft, the body behind it, then the step, the test, and the jump back
+module _ (g : Setting) (alive : Variable → Type 0) (scope : Scope) (active : Active) (test : TExpr) (body : TStmt) (n number : ℕ) (isin : IsIn test) (f : Frame) (d before_turn behind_body stepped tested : Draft) (r turn : ℕ) (step : State → Outcome Leaving) where
   abbrev before_body : Draft
   before_body = with_instr I.FrontTurn before_turn
 
@@ -80,15 +80,19 @@ module _ (g : Setting) (alive : Variable → Type 0) (scope : Scope) (active : A
   ends_from s t (Source.Gives Continued st) go keeps h = absurd h
   ends_from s t (Source.Ends early st) go keeps h = finishes_later g early st s t go h
 
-  module _ (within : Within g behind_loop) (turn_is : turn ≡ length before_turn.code) (next_is : f.next ≡ length behind_body.code) (after_is : f.after ≡ length behind_loop.code) (k l : ℕ) (body_grows : Extended before_body k behind_body) (test_grows : Extended behind_body l tested)
+  module _ (within : Within g behind_loop) (turn_is : turn ≡ length before_turn.code) (next_is : f.next ≡ length behind_body.code) (after_is : f.after ≡ length behind_loop.code) (k j l : ℕ) (body_grows : Extended before_body k behind_body) (step_grows : Extended behind_body j stepped) (test_grows : Extended stepped l tested)
       (regs : d.regs ≤ before_body.regs) (falls : (st : State) → (state_after (executed scope body n active st)).turns ≤ st.turns)
       (body_follows : (t : CodeState) (st : State) → At g t (length before_body.code) → Sim g alive st t → Follows g (Left g alive f before_body t) t (executed scope body n active st) (Makes number behind_body))
-      (test_follows : (t : CodeState) (st : State) → At g t (length behind_body.code) → Sim g alive st t → Follows g (Tested g alive behind_body t) t (passes scope active test st) (Makes r tested)) where
+      (step_falls : (st : State) → (state_after (step st)).turns ≤ st.turns) (step_follows : (t : CodeState) (st : State) → At g t (length behind_body.code) → Sim g alive st t → Follows g (RanOn g alive behind_body t) t (step st) (Makes (tt {0}) stepped))
+      (test_follows : (t : CodeState) (st : State) → At g t (length stepped.code) → Sim g alive st t → Follows g (Tested g alive stepped t) t (passes scope active test st) (Makes r tested)) where
     within_tested : Within g tested
     within_tested = earlier g tested behind_loop 1 (and_one g (I.FrontJumpNonzero r turn) tested) within
 
+    within_stepped : Within g stepped
+    within_stepped = earlier g stepped tested l test_grows within_tested
+
     within_body : Within g behind_body
-    within_body = earlier g behind_body tested l test_grows within_tested
+    within_body = earlier g behind_body stepped j step_grows within_stepped
 
     within_turn : Within g before_body
     within_turn = earlier g before_body behind_body k body_grows within_body
@@ -97,8 +101,11 @@ module _ (g : Setting) (alive : Variable → Type 0) (scope : Scope) (active : A
     kept_by_body : (s t : CodeState) → Keeps g before_body s t → Keeps g d s t
     kept_by_body s t keeps q lo hi = keeps q lo (omega (arith, hi, regs))
 
-    kept_by_test : (s t : CodeState) → Keeps g behind_body s t → Keeps g d s t
-    kept_by_test s t keeps q lo hi = keeps q lo (omega (arith, hi, regs, body_grows.regs))
+    kept_by_step : (s t : CodeState) → Keeps g behind_body s t → Keeps g d s t
+    kept_by_step s t keeps q lo hi = keeps q lo (omega (arith, hi, regs, body_grows.regs))
+
+    kept_by_test : (s t : CodeState) → Keeps g stepped s t → Keeps g d s t
+    kept_by_test s t keeps q lo hi = keeps q lo (omega (arith, hi, regs, body_grows.regs, step_grows.regs))
 
     -- a turn, the body, and what comes next
     pub take_turn : (u : State) (t : CodeState) (next : State → Outcome Leaving) → At g t (length before_turn.code) → Sim g alive u t → ((m : ℕ) (v : State) (w : CodeState) → u.turns ≡ suc m → v.turns ≤ m → At g w (length behind_body.code) → Sim g alive v w → LoopEnds w (next v))
@@ -128,10 +135,10 @@ module _ (g : Setting) (alive : Variable → Type 0) (scope : Scope) (active : A
             (by_body m is (executed scope body n active (record u { turns = m })) (falls (record u { turns = m })) (body_follows s1 (record u { turns = m }) (omega (arith, here, more)) (sim_spent g alive u t m sim)))
 
     -- where the test passes the code is at the turn again, and else behind the loop
-    again_at : (s : CodeState) (u : State) → (t : Tested g alive behind_body s true u r tested) → Reaches g s (moved_to g alive (turn + start g) t.t) × At g (moved_to g alive (turn + start g) t.t) (length before_turn.code)
+    again_at : (s : CodeState) (u : State) → (t : Tested g alive stepped s true u r tested) → Reaches g s (moved_to g alive (turn + start g) t.t) × At g (moved_to g alive (turn + start g) t.t) (length before_turn.code)
     again_at s u t = (onto g s t.t (moved_to g alive (turn + start g) t.t) t.go (returns_to g alive true r turn tested t.t t.is within t.at), omega (arith, turn_is))
 
-    left_at : (s : CodeState) (u : State) → Tested g alive behind_body s false u r tested → Jumped g alive d s u (length behind_loop.code)
+    left_at : (s : CodeState) (u : State) → Tested g alive stepped s false u r tested → Jumped g alive d s u (length behind_loop.code)
     left_at s u t =
         let place = t.at in
         let more = code_more g (I.FrontJumpNonzero r turn) tested in
@@ -146,10 +153,7 @@ module _ (g : Setting) (alive : Variable → Type 0) (scope : Scope) (active : A
     abbrev a_round : State → Outcome Leaving
     a_round u = executed scope body n active u
 
-    abbrev nothing_more : State → Outcome Leaving
-    nothing_more u = Source.Gives Onward u
-
-    last_round : (s : CodeState) (st : State) → st.turns ≡ 0 → (o : Outcome Bool) → passes scope active test st ≡ o → Follows g (Tested g alive behind_body s) s o (Makes r tested)
+    last_round : (s : CodeState) (st : State) → st.turns ≡ 0 → (o : Outcome Bool) → passes scope active test st ≡ o → Follows g (Tested g alive stepped s) s o (Makes r tested)
         → LoopEnds s (then_do o (λ b after. elim b as (λ _. Outcome Leaving) [ true ↦ Source.Ends Source.Stopped after | false ↦ Source.Gives Onward after ]))
     unfolding then_do LoopEnds Follows
     last_round s st none (Source.Gives true u) is h =
@@ -161,7 +165,7 @@ module _ (g : Setting) (alive : Variable → Type 0) (scope : Scope) (active : A
     last_round s st none (Source.Ends early u) is h = h within_tested
 
     next_round : (fuel : ℕ) (s : CodeState) (st : State) → st.turns ≤ suc fuel → (next : State → Outcome Leaving) → ((v : State) (w : CodeState) → v.turns ≤ fuel → At g w (length behind_body.code) → Sim g alive v w → LoopEnds w (next v))
-        → (o : Outcome Bool) → passes scope active test st ≡ o → Follows g (Tested g alive behind_body s) s o (Makes r tested)
+        → (o : Outcome Bool) → passes scope active test st ≡ o → Follows g (Tested g alive stepped s) s o (Makes r tested)
         → LoopEnds s (then_do o (λ b after. elim b as (λ _. Outcome Leaving) [ true ↦ then_round (spend_turn after a_round) next | false ↦ Source.Gives Onward after ]))
     unfolding then_do LoopEnds Follows
     next_round fuel s st few next again (Source.Gives true u) is h =
@@ -175,18 +179,43 @@ module _ (g : Setting) (alive : Variable → Type 0) (scope : Scope) (active : A
     next_round fuel s st few next again (Source.Gives false u) is h = left_at s u (h within_tested)
     next_round fuel s st few next again (Source.Ends early u) is h = h within_tested
 
-    -- behind the body the test decides
-    pub rounds_follow : (fuel : ℕ) (st : State) (s : CodeState) → st.turns ≤ fuel → At g s (length behind_body.code) → Sim g alive st s → LoopEnds s (rounds fuel (passes scope active test) a_round nothing_more st)
-    unfolding rounds then_go
+    -- behind the body comes the step
+    step_on : (v : State) (w : CodeState) (next : State → Outcome Leaving) → At g w (length behind_body.code) → Sim g alive v w → ((u : State) (x : CodeState) → u.turns ≤ v.turns → At g x (length stepped.code) → Sim g alive u x → LoopEnds x (next u)) → LoopEnds w (then_go (step v) next)
+    unfolding then_go LoopEnds Follows state_after
+    step_on v w next here sim again = by (step v) (step_falls v) (step_follows w v here sim)
+      where
+        by : (o : Outcome Leaving) → (state_after o).turns ≤ v.turns → Follows g (RanOn g alive behind_body w) w o (Makes (tt {0}) stepped) → LoopEnds w (then_go o next)
+        by (Source.Gives Onward u) few h = let ran = (h within_stepped).1 in ends_from w ran.t (next u) ran.go (kept_by_step w ran.t ran.keeps) (again u ran.t few ran.at ran.sim)
+        by (Source.Gives Broke u) few h = absurd (no_break (h within_stepped).0)
+        by (Source.Gives Continued u) few h = absurd (no_continue (h within_stepped).0)
+        by (Source.Gives (Returned value) u) few h = absurd (no_return value (h within_stepped).0)
+        by (Source.Ends early u) few h = h within_stepped
+
+    -- behind the step the test decides
+    pub rounds_follow : (fuel : ℕ) (st : State) (s : CodeState) → st.turns ≤ fuel → At g s (length stepped.code) → Sim g alive st s → LoopEnds s (rounds fuel (passes scope active test) a_round step st)
+    unfolding rounds
     rounds_follow zero st s few here sim = last_round s st (omega (arith, few)) (passes scope active test st) refl (test_follows s st here sim)
     rounds_follow (suc fuel) st s few here sim =
-        next_round fuel s st few (λ v. then_go (nothing_more v) (rounds fuel (passes scope active test) a_round nothing_more)) (λ v w fewer here_w sim_w. rounds_follow fuel v w fewer here_w sim_w) (passes scope active test st) refl (test_follows s st here sim)
+        next_round fuel s st few (λ v. then_go (step v) (rounds fuel (passes scope active test) a_round step))
+        (λ v w fewer here_w sim_w. step_on v w (rounds fuel (passes scope active test) a_round step) here_w sim_w (λ u x less here_x sim_x. rounds_follow fuel u x (omega (arith, fewer, less)) here_x sim_x)) (passes scope active test st) refl (test_follows s st here sim)
 
     -- how the loop is left, as a statement
-    pub loop_left : (h : Frame) (m : ℕ) (j : ℕ) (s : CodeState) (o : Outcome Leaving) → Extended d j behind_loop → LoopEnds s o → Follows g (Left g alive h d s) s o (Makes m behind_loop)
+    loop_left : (h : Frame) (m : ℕ) (j : ℕ) (s : CodeState) (o : Outcome Leaving) → Extended d j behind_loop → LoopEnds s o → Follows g (Left g alive h d s) s o (Makes m behind_loop)
     unfolding LoopEnds Follows Left
     loop_left h m j s (Source.Gives Onward st) x e = λ w. record { grown = (j, x); t = e.t; go = e.go; at = e.at; sim = e.sim; keeps = e.keeps }
     loop_left h m j s (Source.Gives (Returned v) st) x e = λ w. e
     loop_left h m j s (Source.Gives Broke st) x e = absurd e
     loop_left h m j s (Source.Gives Continued st) x e = absurd e
     loop_left h m j s (Source.Ends early st) x e = λ w. e
+
+    -- the loop, from where it is entered
+    pub loop_runs : (h : Frame) (m i : ℕ) (s0 s1 : CodeState) (st : State) → Extended d i behind_loop → Reaches g s0 s1 → Keeps g d s0 s1 → At g s1 (length stepped.code) → Sim g alive st s1
+        → Follows g (Left g alive h d s0) s0 (rounds st.turns (passes scope active test) a_round step st) (Makes m behind_loop)
+    loop_runs h m i s0 s1 st x go keeps here sim = loop_left h m i s0 (rounds st.turns (passes scope active test) a_round step st) x (ends_from s0 s1 (rounds st.turns (passes scope active test) a_round step st) go keeps (rounds_follow st.turns st s1 (omega arith) here sim))
+
+    -- the same where the body comes first, and there is no step
+    pub do_runs : (h : Frame) (m i : ℕ) (s0 : CodeState) (st : State) → length stepped.code ≡ length behind_body.code → Extended d i behind_loop → At g s0 (length before_turn.code) → Sim g alive st s0
+        → Follows g (Left g alive h d s0) s0 (then_round (spend_turn st a_round) (λ s. rounds s.turns (passes scope active test) a_round step s)) (Makes m behind_loop)
+    do_runs h m i s0 st same x here sim =
+        loop_left h m i s0 (then_round (spend_turn st a_round) (λ s. rounds s.turns (passes scope active test) a_round step s)) x
+        (take_turn st s0 (λ s. rounds s.turns (passes scope active test) a_round step s) here sim (λ k v w is few here_w sim_w. rounds_follow v.turns v w (omega arith) (here_w ∙ ap (λ (q : ℕ). start g + q) (sym same)) sim_w))

@@ -41,7 +41,7 @@ use Rattle.code_follows.specs.Agreement.{CodeMeansSource, ComesTo, end_of_run, m
 use Rattle.code_follows.specs.Fragment.{AreClosed, AreInStatements, IsInLocal, IsMainBody, IsPlainVariable, IsScalarProgram}
 use Rattle.code_follows.proofs.Bodies.{RowCode, block_code, block_stands, row_follows, row_grows}
 use Rattle.code_follows.proofs.Declaring.{sim_same}
-use Rattle.code_follows.proofs.Starting.{AreCoded, RanOn, coded, go_after, initials_follow, initials_grow, none_cleared}
+use Rattle.code_follows.proofs.Starting.{AreCoded, coded, go_after, initials_follow, initials_grow, none_cleared}
 use Rattle.code_lengths.specs.ShapedStatements.{IsShapedStatement}
 use Rattle.code_lengths.specs.LowerableStatements.{IsLowerableStatement}
 use Rattle.code_lengths.specs.NamingStatements.{StandFrom, StatementNamesVariables}
@@ -50,7 +50,7 @@ use Rattle.cstar_tree.specs.Variables.{variables_of}
 use Rattle.std.specs.Prelude.{nat_le}
 use Rattle.std.specs.List.{All}
 use Rattle.code_follows.proofs.Closed.{NoJump, begins_closed, closed_row, go_closed}
-use Rattle.code_follows.proofs.Executing.{Halted, Left, follows_from}
+use Rattle.code_follows.proofs.Executing.{Halted, Left, RanOn, follows_from}
 use Rattle.code_follows.proofs.Following.{Extends, Follows, HasRegisters, Sim, end_of, held}
 use Rattle.code_follows.proofs.Openings.{Constants, all_declared, all_numbered, all_ready, apart, below, constants_grow, constants_run, empty_unit, ending, first_is, has_unit, main_is, named_word, no_homes, search_at, starts_at_zero, the_layout, the_setting, the_words, with_constants, within_all}
 use Rattle.code_follows.proofs.Settings.{At, EndsIn, Reaches, Setting, Within, and_one, begins_here, earlier, ends_later, ends_now, start}
@@ -260,7 +260,7 @@ module _ (t : Typed) (image : Image) (p : IsScalarProgram t) (codable : IsCodabl
           let sim : Sim g alive begun_body c.t = sim_same g has alive every in_main begun_body c.t same_scalars refl refl refl (begins_so c first) in
           comes constants_there b.e b.n c.t body_run whole (go_closed _ _ (begins_closed scope active 0 locals begun_body) (λ u. closed_row scope active row inside closed (0 + length locals) u)) c.go
           (go_after g has alive every ready scope active constants_there c.t (Left g alive frame constants_there c.t) (initialised scope active 0 locals begun_body) (all_executed scope row (0 + length locals) active) tt b.begin (Makes b.n b.e)
-          (subst (λ (m : Made (Unit {0})). Follows g (RanOn g has alive every ready scope active constants_there c.t) c.t (initialised scope active 0 locals begun_body) m) b.started (initials_follow g has alive every ready scope active (0 + length locals) locals 0 constants_there c.t begun_body isin stand initial free c.at sim))
+          (subst (λ (m : Made (Unit {0})). Follows g (RanOn g alive constants_there c.t) c.t (initialised scope active 0 locals begun_body) m) b.started (initials_follow g has alive every ready scope active (0 + length locals) locals 0 constants_there c.t begun_body isin stand initial free c.at sim))
           grown
           (λ u ran. follows_from g alive frame constants_there b.begin begins.0 c.t ran.t (all_executed scope row (0 + length locals) active u) (Makes b.n b.e) begins.1 ran.go ran.keeps
           (subst (λ (m : Made ℕ). Follows g (Left g alive frame b.begin ran.t) ran.t (all_executed scope row (0 + length locals) active u) m) b.is

@@ -34,7 +34,7 @@ use Rattle.source_meaning.specs.Targets.{OfScalar, Target, stored, variable_targ
 use Rattle.source_meaning.specs.Values.{Active, Scalar, Scope, Value, number}
 use Rattle.code_follows.specs.Fragment.{IsIn, IsInLocal, IsWordVariable}
 use Rattle.code_follows.proofs.Declaring.{all_first, all_rest, first_is_named, others_stand}
-use Rattle.code_follows.proofs.Executing.{gives, ran_from}
+use Rattle.code_follows.proofs.Executing.{RanOn, gives, no_break, no_continue, no_return, ran_from}
 use Rattle.code_follows.proofs.Following.{Extends, Follows, HasRegisters, IsScalar, Keeps, Ran, Sim, delayed, extends_then, finished, finishes_later, keeps_all, then_follows}
 use Rattle.code_follows.proofs.Putting.{Put, put_follows}
 use Rattle.code_follows.proofs.Settings.{At, Reaches, Setting, Within, layout, stay}
@@ -54,20 +54,7 @@ make_twice (Makes x e) next = refl
 make_twice Fails next = refl
 
 module _ (g : Setting) (has : HasRegisters g) (alive : Variable → Type 0) (every : (x : Variable) → alive x) (ready : (n : ℕ) (d : Draft) → IsReady g.typed g.instance (layout g) n d) (scope : Scope) (active : Active) where
-  -- the code arrives, and the source goes on
-  abbrev pub RanOn : {A : Type 0} → Draft → CodeState → Leaving → State → A → Draft → Type 0
-  RanOn d s leaving u y e = (leaving ≡ Onward) × Ran g alive d s u e
-
-  no_break : Broke ≡ Onward → ⊥
-  no_break e = cc
-
-  no_continue : Continued ≡ Onward → ⊥
-  no_continue e = cc
-
-  no_return : (v : Option Value) → Returned v ≡ Onward → ⊥
-  no_return v e = cc
-
-  pub go_after : {B D : Type 0} (d : Draft) (s : CodeState) (Q : Leaving → State → D → Draft → Type 0) (o : Outcome Leaving) (k : State → Outcome Leaving) (y : B) (e : Draft) (made : Made D) → Follows g (RanOn d s) s o (Makes y e) → Extends g e made
+  pub go_after : {B D : Type 0} (d : Draft) (s : CodeState) (Q : Leaving → State → D → Draft → Type 0) (o : Outcome Leaving) (k : State → Outcome Leaving) (y : B) (e : Draft) (made : Made D) → Follows g (RanOn g alive d s) s o (Makes y e) → Extends g e made
       → ((u : State) → Ran g alive d s u e → Follows g Q s (k u) made) → Follows g Q s (then_go o k) made
   unfolding Follows then_go
   go_after d s Q (Source.Gives Onward u) k y e made h grows next = delayed g Q e s (k u) made grows (λ w. next u (h w).1)
@@ -76,7 +63,7 @@ module _ (g : Setting) (has : HasRegisters g) (alive : Variable → Type 0) (eve
   go_after d s Q (Source.Gives (Returned v) u) k y e made h grows next = delayed g Q e s (Source.Gives (Returned v) u) made grows (λ w. absurd (no_return v (h w).0))
   go_after d s Q (Source.Ends early u) k y e made h grows next = finished g Q e s early u made grows h
 
-  run_from : {A : Type 0} (d e : Draft) (n : ℕ) (s t : CodeState) (o : Outcome Leaving) (made : Made A) → Extended d n e → Reaches g s t → Keeps g d s t → Follows g (RanOn e t) t o made → Follows g (RanOn d s) s o made
+  run_from : {A : Type 0} (d e : Draft) (n : ℕ) (s t : CodeState) (o : Outcome Leaving) (made : Made A) → Extended d n e → Reaches g s t → Keeps g d s t → Follows g (RanOn g alive e t) t o made → Follows g (RanOn g alive d s) s o made
   unfolding Follows
   run_from d e n s t (Source.Gives leaving u) (Makes y f) x go keeps h = λ w. ((h w).0, ran_from g alive d e n s t u f x go keeps (h w).1)
   run_from d e n s t (Source.Ends early u) (Makes y f) x go keeps h = λ w. finishes_later g early u s t go (h w)
@@ -136,7 +123,7 @@ module _ (g : Setting) (has : HasRegisters g) (alive : Variable → Type 0) (eve
           (extends_grown g has alive _ d _ _ ((expressions g.typed g.instance (layout g)).put_register (register_of (layout g) (V.Local n)) all e d k (gives g alive has every all (ready all) scope active e h, kept e h) (ready all d))) (λ out after. rest after))
 
   pub initials_follow : (all : ℕ) (locals : List LocalVar) (n : ℕ) (d : Draft) (s : CodeState) (st : State) → All IsInLocal locals → StandFrom (variables_of g.instance.body) n (map info_of locals) → AreCoded all locals → first_free (layout g) ≤ d.regs → At g s (length d.code) → Sim g alive st s
-      → Follows g (RanOn d s) s (initialised scope active n locals st) (all_initialised g.typed (layout g) locals n d)
+      → Follows g (RanOn g alive d s) s (initialised scope active n locals st) (all_initialised g.typed (layout g) locals n d)
   unfolding all_initialised initialised_in initialised initialised_one AreCoded Follows then_make then_go variable_target stored number
   initials_follow all [] n d s st isin stand c free at sim = λ within. (refl, record { grown = (0, as_it_was d); t = s; go = stay g s; at = at; sim = sim; keeps = keeps_all g d s })
   initials_follow all (local ∷ locals) n d s st isin stand c free at sim =
@@ -147,8 +134,8 @@ module _ (g : Setting) (has : HasRegisters g) (alive : Variable → Type 0) (eve
       there = variable_target local.info.shape (V.Local n) 0
 
       by : (o : Option TExpr) → IfSome o IsIn → IfSome o (HasCode g.typed g.instance all)
-          → ((e : Draft) (t : CodeState) (u : State) → first_free (layout g) ≤ e.regs → At g t (length e.code) → Sim g alive u t → Follows g (RanOn e t) t (initialised scope active (n + 1) locals u) (all_initialised g.typed (layout g) locals (n + 1) e))
-          → Follows g (RanOn d s) s (then_go (initialised_one scope active there o st) (initialised scope active (n + 1) locals)) (then_make (initial_put local.info n o d) (λ u after. all_initialised g.typed (layout g) locals (n + 1) after))
+          → ((e : Draft) (t : CodeState) (u : State) → first_free (layout g) ≤ e.regs → At g t (length e.code) → Sim g alive u t → Follows g (RanOn g alive e t) t (initialised scope active (n + 1) locals u) (all_initialised g.typed (layout g) locals (n + 1) e))
+          → Follows g (RanOn g alive d s) s (then_go (initialised_one scope active there o st) (initialised scope active (n + 1) locals)) (then_make (initial_put local.info n o d) (λ u after. all_initialised g.typed (layout g) locals (n + 1) after))
       by None h k rest = rest d s st free at sim
       by (Some e) h k rest =
           let x : Variable = V.Local n in
@@ -157,14 +144,14 @@ module _ (g : Setting) (has : HasRegisters g) (alive : Variable → Type 0) (eve
           let next : Draft → Made (Unit {0}) = λ after. all_initialised g.typed (layout g) locals (n + 1) after in
           let go_on : State → Outcome Leaving = λ u. initialised scope active (n + 1) locals u in
           let there_is : there ≡ OfScalar x = ap (λ (o : Option ℕ). variable_target o x 0) word.0 in
-          subst (λ (m : Made (Unit {0})). Follows g (RanOn d s) s (then_go (initialised_one scope active there (Some e) st) go_on) m) (sym (put_is local.info n e d (λ u after. next after) word.0))
-          (subst (λ (o : Outcome Leaving). Follows g (RanOn d s) s o (then_make (put_to g.typed (layout g) (O.Scalar (register_of (layout g) x)) e d) (λ out after. next after))) (sym (go_do (evaluated scope e active st) (λ v after. stored active there v after) go_on))
-          (subst (λ (target : Target). Follows g (RanOn d s) s (then_do (evaluated scope e active st) (λ v after. go_on (stored active target v after))) (then_make (put_to g.typed (layout g) (O.Scalar (register_of (layout g) x)) e d) (λ out after. next after))) (sym there_is)
-          (then_follows g (Put g has alive all (λ y b. every y) (ready all) scope active x local.info (every x) scalar word.1 d s) (RanOn d s) s s (evaluated scope e active st) (λ v after. go_on (stored active (OfScalar x) v after)) (put_to g.typed (layout g) (O.Scalar (register_of (layout g) x)) e d) (λ out after. next after) (stay g s)
+          subst (λ (m : Made (Unit {0})). Follows g (RanOn g alive d s) s (then_go (initialised_one scope active there (Some e) st) go_on) m) (sym (put_is local.info n e d (λ u after. next after) word.0))
+          (subst (λ (o : Outcome Leaving). Follows g (RanOn g alive d s) s o (then_make (put_to g.typed (layout g) (O.Scalar (register_of (layout g) x)) e d) (λ out after. next after))) (sym (go_do (evaluated scope e active st) (λ v after. stored active there v after) go_on))
+          (subst (λ (target : Target). Follows g (RanOn g alive d s) s (then_do (evaluated scope e active st) (λ v after. go_on (stored active target v after))) (then_make (put_to g.typed (layout g) (O.Scalar (register_of (layout g) x)) e d) (λ out after. next after))) (sym there_is)
+          (then_follows g (Put g has alive all (λ y b. every y) (ready all) scope active x local.info (every x) scalar word.1 d s) (RanOn g alive d s) s s (evaluated scope e active st) (λ v after. go_on (stored active (OfScalar x) v after)) (put_to g.typed (layout g) (O.Scalar (register_of (layout g) x)) e d) (λ out after. next after) (stay g s)
           (put_follows g has alive all (λ y b. every y) (ready all) scope active x local.info (every x) scalar word.1 e h k d s st free at sim) (λ out after. initials_grow all locals (n + 1) after (all_rest IsInLocal local locals isin) c.1)
           (λ v u out f p.
           let more = p.grown.1.regs in
-          subst (λ (after : State). Follows g (RanOn d s) s (go_on after) (next f)) (sym (ap (λ (w : Value). stored active (OfScalar x) w u) p.value))
+          subst (λ (after : State). Follows g (RanOn g alive d s) s (go_on after) (next f)) (sym (ap (λ (w : Value). stored active (OfScalar x) w u) p.value))
           (run_from d f p.grown.0 s p.t (go_on (with_scalar x p.word u)) (next f) p.grown.1 p.go p.keeps (rest f p.t (with_scalar x p.word u) (omega (arith, free, more)) p.at p.sim))))))
 
   -- the registers of `main` are zero already

@@ -1,5 +1,5 @@
 -- The expressions of which it is said so far that their code means them: scalar ones of 32 bits.
-use Rattle.std.specs.Prelude.{◌≡◌, ◌<◌, ◌^◌, false, [], ◌∷◌, IfSome, None}
+use Rattle.std.specs.Prelude.{◌≡◌, ◌<◌, ◌^◌, false, [], ◌∷◌, IfSome, Option, Some, None}
 use Rattle.std.specs.List.{All}
 use Rattle.cstar_tree.specs.declared.typed.TExpr.{TExpr, Row_of-TExpr, end_of-TExpr, more_of-TExpr}
 use Rattle.cstar_tree.specs.declared.typed.TExpr as T
@@ -58,6 +58,11 @@ IsFreshLocal local = IsWordVariable local.info × (local.initial ≡ None)
 abbrev pub IsInLocal : LocalVar → Type 0
 IsInLocal local = IsWordVariable local.info × IfSome local.initial IsIn
 
+-- the condition of a loop, which is there
+unfoldable pub IsTested : Option TExpr → Type 0
+IsTested None = ⊥
+IsTested (Some e) = IsIn e
+
 -- statements of these, whose variables have no initialisers
 unfoldable mutual
   pub IsInStatement : TStmt → Type 0
@@ -66,6 +71,8 @@ unfoldable mutual
   IsInStatement S.Empty = Unit {0}
   IsInStatement (S.If' test p first second) = IsIn test × IsInStatement first × IsInElse second
   IsInStatement (S.While' test p body) = IsIn test × IsInStatement body
+  IsInStatement (S.Do' p body test) = IsInStatement body × IsIn test
+  IsInStatement (S.For' first test step p body) = IfSome first IsEffect × IsTested test × IfSome step IsEffect × IsInStatement body
   IsInStatement S.Break = Unit {0}
   IsInStatement S.Continue = Unit {0}
   IsInStatement _ = ⊥

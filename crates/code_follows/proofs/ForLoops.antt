@@ -1,0 +1,362 @@
+-- `for`, `while` and `do`.
+use Rattle.std.proofs.Common.{◌≡◌, ◌∙◌, ℕ, ◌+◌, ◌<◌, ◌≤◌, Bool, true, false, List, [], length, Option, Some, None, refl, sym, ap, subst, arith}
+use Rattle.std.specs.Prelude.{IfSome}
+use Rattle.cstar_tree.specs.declared.typed.TExpr.{TExpr}
+use Rattle.cstar_tree.specs.declared.typed.TStmt.{TStmt}
+use Rattle.cstar_tree.specs.declared.typed.TStmt as S
+use Rattle.cstar_tree.specs.declared.typed.VarInfo.{VarInfo}
+use Rattle.cstar_tree.specs.declared.typed.Variable.{Variable}
+use Rattle.cstar_tree.specs.Variables.{variables_of}
+use Rattle.code_lengths.specs.Agreement.{StandsAmong}
+use Rattle.code_lengths.specs.Growth.{Extended, Grows}
+use Rattle.code_lengths.specs.Lowerable.{IsLowerable}
+use Rattle.code_lengths.specs.LowerableStatements.{IsLowerableStatement}
+use Rattle.code_lengths.specs.Naming.{NamesVariables}
+use Rattle.code_lengths.specs.NamingStatements.{StandFrom, StatementNamesVariables, behind}
+use Rattle.code_lengths.specs.Ready.{HasCode, HasDeclared, HasStatementCode, IsReady, NumbersVariables}
+use Rattle.code_lengths.specs.ShapedStatements.{IsShapedPart, IsShapedStatement}
+use Rattle.code_lengths.proofs.Agreeing.{expressions, places}
+use Rattle.code_lengths.proofs.Declaring.{of_for, of_while}
+use Rattle.code_lengths.proofs.Drafting.{as_it_was, extended}
+use Rattle.lower_base.specs.declared.emit.Out.{Out}
+use Rattle.lower_base.specs.Constants.{first_free}
+use Rattle.lower_base.specs.Drafts.{Draft, Fails, Made, Makes, here, then_make, with_instr, with_step}
+use Rattle.lower_base.specs.Layouts.{Layout}
+use Rattle.lower_expr.specs.Effects.{effect_length_of, effect_of}
+use Rattle.lower_expr.specs.Lengths.{used_length_of}
+use Rattle.lower_stmt.specs.declared.statement.Frame.{Frame}
+use Rattle.lower_stmt.specs.Frames.{has_result, in_loop}
+use Rattle.lower_stmt.specs.Lengths.{at_loop, condition_length_of, part_length_of, statement_length_of}
+use Rattle.lower_stmt.specs.Programs.{outcome_of}
+use Rattle.lower_stmt.specs.Statements.{jump_back_of, part_of, statement_of}
+use Rattle.meaning_laws.proofs.Parts.{behind as state_after}
+use Rattle.paris_code.specs.declared.instr.Instr.TheVariants as I
+use Rattle.paris_code.specs.Code.{CodeState}
+use Rattle.source_meaning.proofs.ConstantLaws.{Boxed}
+use Rattle.source_meaning.specs.Expressions.{evaluated}
+use Rattle.source_meaning.specs.State as Source
+use Rattle.source_meaning.specs.State.{Outcome, State, spend_turn, then_do}
+use Rattle.source_meaning.specs.Statements.{Broke, Continued, Leaving, Onward, Returned, done, executed, passes, passes_or_absent, rounds, then_go, then_round}
+use Rattle.source_meaning.specs.Values.{Active, Scope, Value}
+use Rattle.code_follows.specs.Fragment.{IsEffect, IsIn, IsInStatement, IsTested}
+use Rattle.code_follows.proofs.Assigning.{effect_follows}
+use Rattle.code_follows.proofs.Choices.{Agrees}
+use Rattle.code_follows.proofs.Executing.{Left, RanOn, TestMade, Tested, follows_from, no_break, no_continue, no_return, test_follows, test_made}
+use Rattle.code_follows.proofs.Following.{Extends, Follows, HasRegisters, Ran, Sim, delayed, keeps_all}
+use Rattle.code_follows.proofs.Jumping.{jumps, moved_to, sim_moved}
+use Rattle.code_follows.proofs.Loops.{do_runs, loop_runs}
+use Rattle.code_follows.proofs.Settings.{At, Setting, Within, and_one, code_more, earlier, layout, regs_more, start, stay}
+use Rattle.code_follows.proofs.Starting.{go_after}
+use Rattle.code_follows.proofs.Statements.{MadeSo, do_body, do_test, statement_made}
+
+module _ (g : Setting) (has : HasRegisters g) (alive : Variable → Type 0) (every : (x : Variable) → alive x) (numbers : NumbersVariables g.instance (layout g)) (ready : (n : ℕ) (d : Draft) → IsReady g.typed g.instance (layout g) n d)
+    (declares : (n : ℕ) (d : Draft) → d.homes ≡ [] → HasDeclared g.typed g.instance (layout g) n d) (scope : Scope) (active : Active)
+    (falls : (s : TStmt) (n : ℕ) (st : State) → (state_after (executed scope s n active st)).turns ≤ st.turns) where
+  -- ---- an expression that may be left out
+
+  -- its code is made
+  record PartMade (o : Option TExpr) (d : Draft) : Type 0 where
+    pub e : Draft
+    pub is : part_of g.typed (layout g) o d ≡ Makes tt e
+    pub extended : Extended d (part_length_of g.typed (layout g) o) e
+
+  part_made : (n : ℕ) (o : Option TExpr) (d : Draft) → IfSome o (HasCode g.typed g.instance n) → PartMade o d
+  unfolding part_of part_length_of then_make Grows
+  part_made n None d c = record { e = d; is = refl; extended = as_it_was d }
+  part_made n (Some x) d c = by (effect_of g.typed (layout g) x d) refl ((expressions g.typed g.instance (layout g)).effect n x d c (ready n d))
+    where
+      by : (m : Made Out) → effect_of g.typed (layout g) x d ≡ m → Grows d (effect_length_of g.typed (layout g) x) (λ (v : Out). Unit {0}) m → PartMade (Some x) d
+      by (Makes out e) is h = record { e = e; is = ap (λ (m : Made Out). then_make m (λ v after. Makes tt after)) is; extended = h.1 }
+      by Fails is h = absurd h
+
+  effect_ran : (d : Draft) (s : CodeState) (o : Outcome Value) (made : Made Out) → Follows g (λ v u out e. Ran g alive d s u e) s o made → Follows g (RanOn g alive d s) s (then_do o (λ v after. Source.Gives Onward after)) (then_make made (λ out after. Makes (tt {0}) after))
+  unfolding Follows then_do then_make
+  effect_ran d s (Source.Gives v u) (Makes out e) h = λ w. (refl, h w)
+  effect_ran d s (Source.Ends early u) (Makes out e) h = h
+  effect_ran d s (Source.Gives v u) Fails h = tt
+  effect_ran d s (Source.Ends early u) Fails h = tt
+
+  part_follows : (n : ℕ) (o : Option TExpr) → IfSome o IsEffect → IfSome o (HasCode g.typed g.instance n) → (d : Draft) (s : CodeState) (st : State) → first_free (layout g) ≤ d.regs → At g s (length d.code) → Sim g alive st s
+      → Follows g (RanOn g alive d s) s (done scope active o st) (part_of g.typed (layout g) o d)
+  unfolding done part_of Follows
+  part_follows n None h c d s st free here sim = λ within. (refl, record { grown = (0, as_it_was d); t = s; go = stay g s; at = here; sim = sim; keeps = keeps_all g d s })
+  part_follows n (Some e) h c d s st free here sim = effect_ran d s (evaluated scope e active st) (effect_of g.typed (layout g) e d) (effect_follows g has alive n (λ x within. every x) (ready n) scope active e h c d s st free here sim)
+
+  part_falls : (n : ℕ) (o : Option TExpr) (st : State) → (state_after (done scope active o st)).turns ≤ st.turns
+  unfolding done executed state_after
+  part_falls n None st = omega arith
+  part_falls n (Some e) st = falls (S.Expression e) n st
+
+  part_code : (n : ℕ) (o : Option TExpr) → IsShapedPart o → IfSome o (IsLowerable g.typed) → IfSome o (NamesVariables g.typed g.instance n) → IfSome o (HasCode g.typed g.instance n)
+  unfolding IsShapedPart
+  part_code n None shaped lowerable names = tt
+  part_code n (Some e) shaped lowerable names = record { shaped = shaped; lowerable = lowerable; names = names }
+
+  module _ (first step : Option TExpr) (test : TExpr) (p : Boxed) (body : TStmt) (begins : IfSome first IsEffect) (isin : IsIn test) (steps : IfSome step IsEffect) (agrees : Agrees g has alive every numbers ready declares scope active body) where
+    abbrev whole : TStmt
+    whole = S.For' first (Some test) step p body
+
+    -- what has code of its parts
+    record ForCode (n : ℕ) : Type 0 where
+      pub first_code : IfSome first (HasCode g.typed g.instance n)
+      pub test_code : HasCode g.typed g.instance n test
+      pub step_code : IfSome step (HasCode g.typed g.instance n)
+      pub body_code : HasStatementCode g.typed g.instance n body
+
+    for_code : (n : ℕ) → HasStatementCode g.typed g.instance n whole → ForCode n
+    unfolding IsShapedStatement IsLowerableStatement StatementNamesVariables IsShapedPart
+    for_code n c = record {
+      first_code = part_code n first c.shaped.0 c.lowerable.0 c.names.0;
+      test_code = record { shaped = c.shaped.1; lowerable = c.lowerable.1.1; names = c.names.1 };
+      step_code = part_code n step c.shaped.2 c.lowerable.2 c.names.2;
+      body_code = record { shaped = c.shaped.3; lowerable = c.lowerable.3; names = c.names.3; stands = subst (λ (own : List VarInfo). StandFrom (variables_of g.instance.body) n own) (of_for first (Some test) step p body) c.stands };
+    }
+
+    module _ (f : Frame) (n : ℕ) (d : Draft) (outcome : f.outcome ≡ outcome_of g.instance.result) (among : StandsAmong f []) (none : d.homes ≡ []) (c : ForCode n) where
+      made_first : PartMade first d
+      made_first = part_made n first d c.first_code
+
+      abbrev long : ℕ
+      long = statement_length_of g.typed (layout g) (has_result f) (at_loop f.saved) body
+
+      abbrev turn : ℕ
+      turn = here made_first.e + 1
+
+      abbrev next : ℕ
+      next = turn + long + 1
+
+      abbrev place : ℕ
+      place = next + part_length_of g.typed (layout g) step
+
+      abbrev after : ℕ
+      after = place + condition_length_of g.typed (layout g) (Some test) + 1
+
+      abbrev inner : Frame
+      inner = in_loop next after f
+
+      abbrev enters : Draft
+      enters = with_instr (I.FrontJump place) made_first.e
+
+      abbrev before_body : Draft
+      before_body = with_instr I.FrontTurn enters
+
+      inner_outcome : inner.outcome ≡ outcome_of g.instance.result
+      unfolding in_loop
+      inner_outcome = outcome
+
+      inner_among : StandsAmong inner []
+      unfolding in_loop at_loop
+      inner_among = record { loop = omega arith; all = among.all }
+
+      begin_homes : before_body.homes ≡ []
+      unfolding with_instr with_step
+      begin_homes = made_first.extended.homes ∙ none
+
+      made_body : MadeSo g numbers declares before_body long (behind n body) (statement_of g.typed (layout g) body inner [] n before_body)
+      unfolding in_loop has_result
+      made_body = statement_made g numbers declares body inner n before_body inner_outcome inner_among c.body_code begin_homes
+
+      made_step : PartMade step made_body.e
+      made_step = part_made n step made_body.e c.step_code
+
+      made_test : TestMade g alive has every n (ready n) scope active test made_step.e
+      made_test = test_made g alive has every n (ready n) scope active test made_step.e isin c.test_code
+
+      abbrev behind_loop : Draft
+      behind_loop = with_instr (I.FrontJumpNonzero made_test.r turn) made_test.e
+
+      abbrev loop_code : Draft → Made ℕ
+      loop_code begun =
+          let turn = here begun + 1 in
+          let next = turn + long + 1 in
+          let place = next + part_length_of g.typed (layout g) step in
+          let after = place + condition_length_of g.typed (layout g) (Some test) + 1 in
+          then_make (statement_of g.typed (layout g) body (in_loop next after f) [] n (with_instr I.FrontTurn (with_instr (I.FrontJump place) begun)))
+          (λ m behind. then_make (part_of g.typed (layout g) step behind) (λ u stepped. then_make (jump_back_of g.typed (layout g) (Some test) turn stepped) (λ v end. Makes m end)))
+
+      loop_is : loop_code made_first.e ≡ Makes (behind n body) behind_loop
+      unfolding jump_back_of then_make
+      loop_is =
+          ap (λ (m : Made ℕ). then_make m (λ m' behind'. then_make (part_of g.typed (layout g) step behind') (λ u stepped. then_make (jump_back_of g.typed (layout g) (Some test) turn stepped) (λ v end. Makes m' end)))) made_body.is
+          ∙ ap (λ (m : Made (Unit {0})). then_make m (λ u stepped. then_make (jump_back_of g.typed (layout g) (Some test) turn stepped) (λ v end. Makes (behind n body) end))) made_step.is
+          ∙ ap (λ (m : Made ℕ). then_make (then_make m (λ r after'. Makes tt (with_instr (I.FrontJumpNonzero r turn) after'))) (λ v end. Makes (behind n body) end)) made_test.is
+
+      numbers_are : (next ≡ length made_body.e.code) × (place ≡ length made_step.e.code) × (after ≡ length behind_loop.code) × (turn ≡ length enters.code)
+      unfolding here condition_length_of
+      numbers_are =
+          let a = code_more g (I.FrontJump place) made_first.e in
+          let b = code_more g I.FrontTurn enters in
+          let e = places before_body made_body.e long made_body.extended in
+          let h = places made_body.e made_step.e (part_length_of g.typed (layout g) step) made_step.extended in
+          let i = places made_step.e made_test.e (used_length_of g.typed (layout g) 32 true test) made_test.extended in
+          let j = code_more g (I.FrontJumpNonzero made_test.r turn) made_test.e in
+          (omega (arith, a, b, e), omega (arith, a, b, e, h), omega (arith, a, b, e, h, i, j), omega (arith, a))
+
+      abbrev steps_in_all : ℕ
+      steps_in_all = 1 + (1 + (long + (part_length_of g.typed (layout g) step + (used_length_of g.typed (layout g) 32 true test + 1))))
+
+      behind_turn_grown : Extended before_body (long + (part_length_of g.typed (layout g) step + (used_length_of g.typed (layout g) 32 true test + 1))) behind_loop
+      behind_turn_grown =
+          extended before_body made_body.e behind_loop long (part_length_of g.typed (layout g) step + (used_length_of g.typed (layout g) 32 true test + 1)) made_body.extended
+          (extended made_body.e made_step.e behind_loop (part_length_of g.typed (layout g) step) (used_length_of g.typed (layout g) 32 true test + 1) made_step.extended
+          (extended made_step.e made_test.e behind_loop (used_length_of g.typed (layout g) 32 true test) 1 made_test.extended (and_one g (I.FrontJumpNonzero made_test.r turn) made_test.e)))
+
+      enters_grown : Extended enters (1 + (long + (part_length_of g.typed (layout g) step + (used_length_of g.typed (layout g) 32 true test + 1)))) behind_loop
+      enters_grown = extended enters before_body behind_loop 1 (long + (part_length_of g.typed (layout g) step + (used_length_of g.typed (layout g) 32 true test + 1))) (and_one g I.FrontTurn enters) behind_turn_grown
+
+      all_grown : Extended made_first.e steps_in_all behind_loop
+      all_grown = extended made_first.e enters behind_loop 1 (1 + (long + (part_length_of g.typed (layout g) step + (used_length_of g.typed (layout g) 32 true test + 1)))) (and_one g (I.FrontJump place) made_first.e) enters_grown
+
+      -- the turns, behind the first part
+      turns_follow : (t : CodeState) (u : State) → first_free (layout g) ≤ made_first.e.regs → At g t (length made_first.e.code) → Sim g alive u t
+          → Follows g (Left g alive f made_first.e t) t (rounds u.turns (passes scope active test) (λ v. executed scope body n active v) (λ v. done scope active step v) u) (Makes (behind n body) behind_loop)
+      unfolding Extends in_loop
+      turns_follow t u free at sim =
+          let so = numbers_are in
+          let regs1 = regs_more g I.FrontTurn enters in
+          let regs2 = regs_more g (I.FrontJump place) made_first.e in
+          let longer = made_body.extended.regs in
+          let more = made_step.extended.regs in
+          let at_test = so.1 in
+          let go_round : Outcome Leaving = rounds u.turns (passes scope active test) (λ v. executed scope body n active v) (λ v. done scope active step v) u in
+          delayed g (Left g alive f made_first.e t) behind_loop t go_round (Makes (behind n body) behind_loop) (0, as_it_was behind_loop) (λ within.
+          loop_runs g alive scope active test body n (behind n body) isin inner made_first.e enters made_body.e made_step.e made_test.e made_test.r turn (λ v. done scope active step v) within so.3 so.0 so.2 long (part_length_of g.typed (layout g) step) (used_length_of g.typed (layout g) 32 true test) made_body.extended made_step.extended made_test.extended (omega (arith, regs1, regs2))
+          (falls body n)
+          (λ s v here_s sim_s. subst (λ (m : Made ℕ). Follows g (Left g alive inner before_body s) s (executed scope body n active v) m) made_body.is (agrees inner n before_body s v inner_outcome inner_among begin_homes (omega (arith, free, regs1, regs2)) here_s sim_s c.body_code))
+          (part_falls n step)
+          (λ s v here_s sim_s. subst (λ (m : Made (Unit {0})). Follows g (RanOn g alive made_body.e s) s (done scope active step v) m) made_step.is (part_follows n step steps c.step_code made_body.e s v (omega (arith, free, regs1, regs2, longer)) here_s sim_s))
+          (λ s v here_s sim_s. subst (λ (m : Made ℕ). Follows g (Tested g alive made_step.e s) s (passes scope active test v) m) made_test.is (test_follows g alive has every n (ready n) scope active test isin c.test_code made_step.e s v (omega (arith, free, regs1, regs2, longer, more)) here_s sim_s))
+          f (behind n body) steps_in_all t (moved_to g alive (place + start g) t) u all_grown (jumps g alive place made_first.e t (earlier g enters behind_loop (1 + (long + (part_length_of g.typed (layout g) step + (used_length_of g.typed (layout g) 32 true test + 1)))) enters_grown within) at)
+          (keeps_all g made_first.e t) (omega (arith, at_test)) (sim_moved g alive u t (place + start g) sim))
+
+    pub for_agrees : Agrees g has alive every numbers ready declares scope active whole
+    unfolding executed statement_of passes_or_absent then_make Extends
+    for_agrees f n d s0 st outcome among none free at sim code =
+        let c = for_code n code in
+        let b = made_first f n d outcome among none c in
+        let longer = b.extended.regs in
+        let go_round : State → Outcome Leaving = λ u. rounds u.turns (passes scope active test) (λ v. executed scope body n active v) (λ v. done scope active step v) u in
+        subst (λ (m : Made (Unit {0})). Follows g (Left g alive f d s0) s0 (then_go (done scope active first st) go_round) (then_make m (λ u begun. loop_code f n d outcome among none c begun))) (sym b.is)
+        (subst (λ (m : Made ℕ). Follows g (Left g alive f d s0) s0 (then_go (done scope active first st) go_round) m) (sym (loop_is f n d outcome among none c))
+        (go_after g has alive every ready scope active d s0 (Left g alive f d s0) (done scope active first st) go_round tt b.e (Makes (behind n body) (behind_loop f n d outcome among none c))
+        (subst (λ (m : Made (Unit {0})). Follows g (RanOn g alive d s0) s0 (done scope active first st) m) b.is (part_follows n first begins c.first_code d s0 st free at sim))
+        (steps_in_all f n d outcome among none c, all_grown f n d outcome among none c)
+        (λ u ran. follows_from g alive f d b.e ran.grown.0 s0 ran.t (go_round u) (Makes (behind n body) (behind_loop f n d outcome among none c)) ran.grown.1 ran.go ran.keeps (turns_follow f n d outcome among none c ran.t u (omega (arith, free, longer)) ran.at ran.sim))))
+
+  -- `while` is `for` with its condition alone
+  module _ (test : TExpr) (p : Boxed) (body : TStmt) (isin : IsIn test) (agrees : Agrees g has alive every numbers ready declares scope active body) where
+    abbrev as_for : TStmt
+    as_for = S.For' None (Some test) None p body
+
+    while_code : (n : ℕ) → HasStatementCode g.typed g.instance n (S.While' test p body) → HasStatementCode g.typed g.instance n as_for
+    unfolding IsShapedStatement IsLowerableStatement StatementNamesVariables IsShapedPart
+    while_code n c = record {
+      shaped = (tt, c.shaped.0, tt, c.shaped.1);
+      lowerable = (tt, c.lowerable.0, tt, c.lowerable.1);
+      names = (tt, c.names.0, tt, c.names.1);
+      stands = subst (λ (own : List VarInfo). StandFrom (variables_of g.instance.body) n own) (of_while test p body ∙ sym (of_for None (Some test) None p body)) c.stands;
+    }
+
+    same_code : (f : Frame) (n : ℕ) (d : Draft) → statement_of g.typed (layout g) as_for f [] n d ≡ statement_of g.typed (layout g) (S.While' test p body) f [] n d
+    unfolding statement_of part_of part_length_of condition_length_of then_make
+    same_code f n d =
+        let turn = here d + 1 in
+        let next = turn + statement_length_of g.typed (layout g) (has_result f) (at_loop f.saved) body + 1 in
+        ap (λ (place : ℕ). then_make (statement_of g.typed (layout g) body (in_loop next (place + used_length_of g.typed (layout g) 32 true test + 1) f) [] n (with_instr I.FrontTurn (with_instr (I.FrontJump place) d)))
+        (λ m behind. then_make (jump_back_of g.typed (layout g) (Some test) turn behind) (λ v end. Makes m end))) (nothing_more next)
+      where
+        nothing_more : (k : ℕ) → k + 0 ≡ k
+        nothing_more k = omega arith
+
+    pub while_agrees : Agrees g has alive every numbers ready declares scope active (S.While' test p body)
+    unfolding executed done passes_or_absent then_go
+    while_agrees f n d s0 st outcome among none free at sim c =
+        subst (λ (m : Made ℕ). Follows g (Left g alive f d s0) s0 (rounds st.turns (passes scope active test) (λ u. executed scope body n active u) (λ u. Source.Gives Onward u) st) m) (same_code f n d)
+        (for_agrees None None test p body tt isin tt agrees f n d s0 st outcome among none free at sim (while_code n c))
+
+  -- `do`
+  module _ (test : TExpr) (p : Boxed) (body : TStmt) (isin : IsIn test) (agrees : Agrees g has alive every numbers ready declares scope active body) where
+    module _ (f : Frame) (n : ℕ) (d : Draft) (outcome : f.outcome ≡ outcome_of g.instance.result) (among : StandsAmong f []) (none : d.homes ≡ []) (c : HasStatementCode g.typed g.instance n (S.Do' p body test)) where
+      abbrev do_long : ℕ
+      do_long = statement_length_of g.typed (layout g) (has_result f) (at_loop f.saved) body
+
+      abbrev do_turn : ℕ
+      do_turn = here d
+
+      abbrev do_next : ℕ
+      do_next = do_turn + do_long + 1
+
+      abbrev do_after : ℕ
+      do_after = do_next + used_length_of g.typed (layout g) 32 true test + 1
+
+      abbrev do_inner : Frame
+      do_inner = in_loop do_next do_after f
+
+      abbrev do_before : Draft
+      do_before = with_instr I.FrontTurn d
+
+      do_outcome : do_inner.outcome ≡ outcome_of g.instance.result
+      unfolding in_loop
+      do_outcome = outcome
+
+      do_among : StandsAmong do_inner []
+      unfolding in_loop at_loop
+      do_among = record { loop = omega arith; all = among.all }
+
+      do_homes : do_before.homes ≡ []
+      unfolding with_instr with_step
+      do_homes = none
+
+      made_do : MadeSo g numbers declares do_before do_long (behind n body) (statement_of g.typed (layout g) body do_inner [] n do_before)
+      unfolding in_loop has_result
+      made_do = statement_made g numbers declares body do_inner n do_before do_outcome do_among (do_body g numbers declares n p body test c) do_homes
+
+      made_while : TestMade g alive has every n (ready n) scope active test made_do.e
+      made_while = test_made g alive has every n (ready n) scope active test made_do.e isin (do_test g numbers declares n p body test c)
+
+      abbrev behind_do : Draft
+      behind_do = with_instr (I.FrontJumpNonzero made_while.r do_turn) made_while.e
+
+      do_is : statement_of g.typed (layout g) (S.Do' p body test) f [] n d ≡ Makes (behind n body) behind_do
+      unfolding statement_of jump_back_of then_make
+      do_is =
+          ap (λ (m : Made ℕ). then_make m (λ m' behind'. then_make (jump_back_of g.typed (layout g) (Some test) do_turn behind') (λ v end. Makes m' end))) made_do.is
+          ∙ ap (λ (m : Made ℕ). then_make (then_make m (λ r after'. Makes tt (with_instr (I.FrontJumpNonzero r do_turn) after'))) (λ v end. Makes (behind n body) end)) made_while.is
+
+      do_numbers : (do_next ≡ length made_do.e.code) × (do_after ≡ length behind_do.code) × (do_turn ≡ length d.code)
+      unfolding here
+      do_numbers =
+          let b = code_more g I.FrontTurn d in
+          let e = places do_before made_do.e do_long made_do.extended in
+          let i = places made_do.e made_while.e (used_length_of g.typed (layout g) 32 true test) made_while.extended in
+          let j = code_more g (I.FrontJumpNonzero made_while.r do_turn) made_while.e in
+          (omega (arith, b, e), omega (arith, b, e, i, j), refl)
+
+      do_grown : Extended d (1 + (do_long + (used_length_of g.typed (layout g) 32 true test + 1))) behind_do
+      do_grown =
+          extended d do_before behind_do 1 (do_long + (used_length_of g.typed (layout g) 32 true test + 1)) (and_one g I.FrontTurn d)
+          (extended do_before made_do.e behind_do do_long (used_length_of g.typed (layout g) 32 true test + 1) made_do.extended
+          (extended made_do.e made_while.e behind_do (used_length_of g.typed (layout g) 32 true test) 1 made_while.extended (and_one g (I.FrontJumpNonzero made_while.r do_turn) made_while.e)))
+
+      do_follows : (t : CodeState) (u : State) → first_free (layout g) ≤ d.regs → At g t (length d.code) → Sim g alive u t
+          → Follows g (Left g alive f d t) t (then_round (spend_turn u (λ v. executed scope body n active v)) (λ s. rounds s.turns (passes scope active test) (λ v. executed scope body n active v) (λ v. Source.Gives Onward v) s)) (Makes (behind n body) behind_do)
+      unfolding Extends in_loop state_after Follows
+      do_follows t u free at sim =
+          let so = do_numbers in
+          let regs1 = regs_more g I.FrontTurn d in
+          let longer = made_do.extended.regs in
+          let go_round : Outcome Leaving = then_round (spend_turn u (λ v. executed scope body n active v)) (λ s. rounds s.turns (passes scope active test) (λ v. executed scope body n active v) (λ v. Source.Gives Onward v) s) in
+          delayed g (Left g alive f d t) behind_do t go_round (Makes (behind n body) behind_do) (0, as_it_was behind_do) (λ within.
+          do_runs g alive scope active test body n (behind n body) isin do_inner d d made_do.e made_do.e made_while.e made_while.r do_turn (λ v. Source.Gives Onward v) within so.2 so.0 so.1 do_long 0 (used_length_of g.typed (layout g) 32 true test) made_do.extended (as_it_was made_do.e) made_while.extended (omega (arith, regs1))
+          (falls body n)
+          (λ s v here_s sim_s. subst (λ (m : Made ℕ). Follows g (Left g alive do_inner do_before s) s (executed scope body n active v) m) made_do.is (agrees do_inner n do_before s v do_outcome do_among do_homes (omega (arith, free, regs1)) here_s sim_s (do_body g numbers declares n p body test c)))
+          (λ v. omega arith)
+          (λ s v here_s sim_s within_s. (refl, record { grown = (0, as_it_was made_do.e); t = s; go = stay g s; at = here_s; sim = sim_s; keeps = keeps_all g made_do.e s }))
+          (λ s v here_s sim_s. subst (λ (m : Made ℕ). Follows g (Tested g alive made_do.e s) s (passes scope active test v) m) made_while.is (test_follows g alive has every n (ready n) scope active test isin (do_test g numbers declares n p body test c) made_do.e s v (omega (arith, free, regs1, longer)) here_s sim_s))
+          f (behind n body) _ t u refl do_grown at sim)
+
+    pub do_agrees : Agrees g has alive every numbers ready declares scope active (S.Do' p body test)
+    unfolding executed
+    do_agrees f n d s0 st outcome among none free at sim c =
+        subst (λ (m : Made ℕ). Follows g (Left g alive f d s0) s0 (then_round (spend_turn st (λ v. executed scope body n active v)) (λ s. rounds s.turns (passes scope active test) (λ v. executed scope body n active v) (λ v. Source.Gives Onward v) s)) m) (sym (do_is f n d outcome among none c))
+        (do_follows f n d outcome among none c s0 st free at sim)
