@@ -1,5 +1,5 @@
--- The units of an image are those of the program of its text.
-use Rattle.std.proofs.Common.{◌≡◌, ℕ, suc, ◌+◌, List, [], ◌∷◌, length, map, refl, sym, ap, ◌∙◌}
+-- The units of an image are those of the program of its text, and scalar code means it.
+use Rattle.std.proofs.Common.{◌≡◌, ℕ, suc, ◌+◌, List, [], ◌∷◌, length, refl, sym, ap, ◌∙◌}
 use Rattle.std.proofs.lemmas.List.{length-map}
 use Rattle.lower_base.specs.Drafts.{draft}
 use Rattle.paris_code.specs.declared.program.Unit.{Unit}
@@ -10,7 +10,8 @@ use Rattle.lower_base.specs.Constants.{first_free}
 use Rattle.code_lengths.proofs.UnitLengths.{programs}
 use Rattle.shaped_trees.proofs.NamedFiles.{file_code}
 use Rattle.shaped_trees.proofs.SpelledCasts.{spelled}
-use Rattle.accepted_code.specs.Laws.{AcceptedProgramsHaveCode, ImagesHaveEveryUnit}
+use Rattle.code_follows.proofs.Programs.{means_source}
+use Rattle.accepted_code.specs.Laws.{AcceptedProgramsHaveCode, ImagesHaveEveryUnit, ScalarImagesMeanTheirText}
 
 pub accepted : AcceptedProgramsHaveCode
 accepted text typed words regs is = programs typed words regs (file_code is.tree typed (spelled is.tokens is.tree is.spelled) is.new is.types)
@@ -35,3 +36,6 @@ every_unit text typed image is compiled =
     ap length compiled.linked.units ∙ entries_long 0 compiled.after.units.items
     ∙ placed_long compiled.placed.placed.places 0 compiled.before.units.items compiled.after.units.items compiled.placed.placed.units
     ∙ sym (length-map compiled.before.units.items draft) ∙ ap length compiled.lowered.as_described.units ∙ own.all
+
+pub scalar_means : ScalarImagesMeanTheirText
+scalar_means text typed image is compiled scalar = means_source typed image scalar (file_code is.tree typed (spelled is.tokens is.tree is.spelled) is.new is.types) compiled

@@ -1,7 +1,14 @@
 -- The laws: what is accepted has code, and nothing of it is left out.
 use Rattle.std.specs.Prelude.{◌≡◌, ℕ, List, length}
+use Rattle.cstar_base.specs.declared.operators.Winner.{Winner}
 use Rattle.cstar_tree.specs.declared.typed.Typed.{Typed}
 use Rattle.paris_code.specs.declared.program.Image.{Image}
+use Rattle.paris_code.specs.Code.{opening}
+use Rattle.paris_code.specs.Memory.{BitMemory}
+use Rattle.source_meaning.specs.Programs.{meaning}
+use Rattle.source_meaning.specs.State.{Rest}
+use Rattle.code_follows.specs.Agreement.{ComesTo, mark_of}
+use Rattle.code_follows.specs.Fragment.{IsScalarProgram}
 use Rattle.code_lengths.specs.Agreement.{HasUnits}
 use Rattle.cstar_compile.specs.Compiled.{IsCompiled}
 use Rattle.cstar_top.specs.Accepted.{IsProgramOf}
@@ -14,3 +21,10 @@ AcceptedProgramsHaveCode = (text : List ℕ) (typed : Typed) (words : List ℕ) 
 -- what is compiled of it has as many units as there are instances
 abbrev pub ImagesHaveEveryUnit : Type 0
 ImagesHaveEveryUnit = (text : List ℕ) (typed : Typed) (image : Image) → IsProgramOf text typed → IsCompiled typed image → length image.units.items ≡ length typed.instances.items
+
+-- what is compiled of it comes to the end of its meaning, where it is a scalar program
+abbrev pub ScalarImagesMeanTheirText : Type 0
+ScalarImagesMeanTheirText =
+    (text : List ℕ) (typed : Typed) (image : Image) → IsProgramOf text typed → IsCompiled typed image → IsScalarProgram typed →
+    (memory : BitMemory) (input : List ℕ) (rest : Rest) (turns : ℕ) (winner : Winner) →
+    ComesTo image (opening image memory turns (record { bytes = input; mark = mark_of rest })) (meaning typed input rest turns winner)

@@ -2,7 +2,7 @@
 //! Readers find the laws here by name.
 #![tactic(auto)]
 
-ghost use Rattle.accepted_code.specs.Laws.{AcceptedProgramsHaveCode, ImagesHaveEveryUnit};
+ghost use Rattle.accepted_code.specs.Laws.{AcceptedProgramsHaveCode, ImagesHaveEveryUnit, ScalarImagesMeanTheirText};
 
 /// The program of each accepted text has code: that of each function that it reaches, whichever numbers
 /// stand in registers.
@@ -14,4 +14,11 @@ pub fn accepted_program_has_code()
 /// none is left out.
 pub fn image_has_every_unit()
     ensures { ImagesHaveEveryUnit }
+{}
+
+/// An image that the compiler makes of an accepted text comes, on every input and with every number of
+/// turns, to the end of the text's meaning, with its turns and its output: so far where the text's program is
+/// one function on scalar variables of 32 bits.
+pub fn scalar_image_means_its_text()
+    ensures { ScalarImagesMeanTheirText }
 {}

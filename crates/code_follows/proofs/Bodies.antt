@@ -1,16 +1,14 @@
 -- Every statement of the fragment.
-use Rattle.std.proofs.Common.{◌≡◌, ◌∙◌, ℕ, zero, suc, take, ◌+◌, ◌<◌, ◌≤◌, ◌^◌, ◌&&◌, if◌then◌else◌, nat_lt, Bool, true, false, List, [], ◌++◌, map, Vec, Global, length, Some, refl, sym, ap, subst, arith, None}
+use Rattle.std.proofs.Common.{◌≡◌, ◌∙◌, ℕ, zero, suc, take, ◌+◌, ◌≤◌, false, List, [], ◌++◌, map, Vec, Global, length, Some, refl, sym, ap, subst, arith, None}
 use mathlib.Core.Former.{Count}
 use Rattle.std.proofs.lemmas.List.{length-map}
 use Rattle.std.specs.List.{All}
-use Rattle.std.proofs.lemmas.Bool.Decides.{nat_tests}
 use Rattle.cstar_tree.specs.declared.typed.LocalVar.{LocalVar}
 use Rattle.cstar_tree.specs.declared.typed.TExpr.{TExpr}
 use Rattle.cstar_tree.specs.declared.typed.TStmt.{TStmt, Row_of-TStmt, end_of-TStmt, more_of-TStmt, Held-TStmt-If-2, None', Some'}
 use Rattle.cstar_tree.specs.declared.typed.TStmt as S
 use Rattle.cstar_tree.specs.declared.typed.VarInfo.{VarInfo}
 use Rattle.cstar_tree.specs.declared.typed.Variable.{Variable}
-use Rattle.cstar_tree.specs.declared.typed.Variable.TheVariants as V
 use Rattle.cstar_tree.specs.Variables.{variables_of}
 use Rattle.code_lengths.specs.Agreement.{StandsAmong}
 use Rattle.code_lengths.specs.Growth.{Extended}
@@ -18,39 +16,33 @@ use Rattle.code_lengths.specs.LowerableStatements.{AreLowerableStatements, IsLow
 use Rattle.code_lengths.specs.ShapedStatements.{AreShapedStatements, IsShapedStatement}
 use Rattle.code_lengths.specs.NamingStatements.{StandFrom, StatementNamesVariables, StatementsNameVariables, behind}
 use Rattle.code_lengths.specs.Ready.{HasDeclared, HasStatementCode, IsReady, NumbersVariables}
-use Rattle.code_lengths.proofs.Agreeing.{places}
 use Rattle.code_lengths.proofs.Declaring.{first_part, info_of, of_block, row_variables, second_part}
 use Rattle.code_lengths.proofs.Drafting.{as_it_was, extended}
 use Rattle.lower_base.specs.Constants.{first_free}
-use Rattle.lower_base.specs.Drafts.{Draft, Fails, Made, Makes, here, then_make, with_instr, with_step}
-use Rattle.lower_expr.specs.Lengths.{used_length_of}
+use Rattle.lower_base.specs.Drafts.{Draft, Fails, Made, Makes, then_make, with_instr}
 use Rattle.lower_stmt.specs.declared.statement.Frame.{Frame}
-use Rattle.lower_stmt.specs.Frames.{has_result, in_loop}
-use Rattle.lower_stmt.specs.Lengths.{at_loop, statement_length_of}
 use Rattle.lower_stmt.specs.Programs.{outcome_of}
-use Rattle.lower_stmt.specs.Statements.{else_of, jump_back_of, loaded, part_of, restored, statement_of, statements_of}
-use Rattle.lower_stmt.specs.Variables.{all_cleared, all_initialised, declared as declared_in}
+use Rattle.lower_stmt.specs.Statements.{else_of, loaded, part_of, restored, statement_of, statements_of}
+use Rattle.lower_stmt.specs.Variables.{declared as declared_in}
 use Rattle.meaning_laws.proofs.Parts.{behind as state_after}
 use Rattle.paris_code.specs.declared.instr.Instr.TheVariants as I
 use Rattle.paris_code.specs.Code.{CodeState}
-use Rattle.source_meaning.proofs.ConstantLaws.{Boxed}
 use Rattle.source_meaning.specs.State as Source
 use Rattle.source_meaning.specs.State.{Outcome, State, is_among, spend_turn, then_do, zeroed}
-use Rattle.source_meaning.specs.Statements.{Broke, Continued, Onward, all_executed, declared, done, else_executed, executed, initialised, passes, rounds, then_go, Leaving}
+use Rattle.source_meaning.specs.Statements.{Broke, Continued, Onward, all_executed, declared, done, else_executed, executed, initialised, then_go, Leaving}
 use Rattle.source_meaning.specs.Values.{Active, Scope, Value}
 use Rattle.lower_base.specs.declared.emit.Out.{Out}
 use Rattle.paris_code.specs.declared.operands.Field.{Field}
 use Rattle.code_follows.proofs.Declaring.{block_declared, clears, none_begun}
-use Rattle.code_follows.specs.Fragment.{AreInStatements, IsEffect, IsFreshLocal, IsIn, IsInElse, IsInStatement, IsTested}
+use Rattle.code_follows.specs.Fragment.{AreInStatements, IsEffect, IsFreshLocal, IsInElse, IsInStatement, IsTested}
 use Rattle.code_follows.proofs.Assigning.{effect_follows}
 use Rattle.code_follows.proofs.Choices.{Agrees, if_alone, if_else}
-use Rattle.code_follows.proofs.Executing.{Jumped, Left, TestMade, Tested, follows_from, go_on, test_follows, test_made}
+use Rattle.code_follows.proofs.Executing.{Jumped, Left, follows_from, go_on}
 use Rattle.code_follows.proofs.ForLoops.{do_agrees, for_agrees, while_agrees}
-use Rattle.code_follows.proofs.Following.{Extends, Follows, HasRegisters, Ran, Sim, delayed, held, keeps_all}
+use Rattle.code_follows.proofs.Following.{Extends, Follows, HasRegisters, Ran, Sim, delayed, keeps_all}
 use Rattle.code_follows.proofs.Jumping.{jumps, moved_to, sim_moved}
-use Rattle.code_follows.proofs.Loops.{loop_runs}
-use Rattle.code_follows.proofs.Settings.{At, Setting, Within, and_one, code_more, earlier, layout, regs_more, start, stay}
-use Rattle.code_follows.proofs.Statements.{MadeSo, expression_code, statement_made, while_body, while_test}
+use Rattle.code_follows.proofs.Settings.{At, Setting, Within, layout, start, stay}
+use Rattle.code_follows.proofs.Statements.{expression_code, statement_made}
 
 module _ (g : Setting) (has : HasRegisters g) (alive : Variable → Type 0) (every : (x : Variable) → alive x) (numbers : NumbersVariables g.instance (layout g)) (ready : (n : ℕ) (d : Draft) → IsReady g.typed g.instance (layout g) n d)
     (declares : (n : ℕ) (d : Draft) → d.homes ≡ [] → HasDeclared g.typed g.instance (layout g) n d) (scope : Scope) (active : Active)

@@ -1,12 +1,11 @@
 -- The variables of blocks.
-use Rattle.std.proofs.Common.{◌≡◌, ◌∙◌, ℕ, zero, suc, ◌+◌, ◌<◌, ◌≤◌, ◌^◌, ◌&&◌, ◌==◌, if◌then◌else◌, nat_lt, Bool, true, false, List, [], ◌∷◌, ◌++◌, map, length, Option, Some, None, refl, sym, ap, subst, arith, slice_get}
+use Rattle.std.proofs.Common.{◌≡◌, ◌∙◌, ℕ, suc, ◌+◌, ◌<◌, ◌≤◌, ◌^◌, ◌&&◌, ◌==◌, if◌then◌else◌, nat_lt, Bool, true, false, List, [], ◌∷◌, ◌++◌, map, length, Option, Some, None, refl, sym, ap, subst, arith, slice_get}
 use Rattle.std.proofs.lemmas.List.{get_or-set_other}
 use Rattle.std.specs.Prelude.{nat_le, ◌||◌}
 use Rattle.std.specs.List.{All}
 use Rattle.std.proofs.lemmas.Bool.Decides.{nat_tests}
 use Rattle.cstar_tree.specs.declared.typed.LocalVar.{LocalVar}
 use Rattle.cstar_tree.specs.declared.typed.TExpr.{TExpr}
-use Rattle.cstar_tree.specs.declared.typed.Typed.{Typed}
 use Rattle.cstar_tree.specs.declared.typed.VarInfo.{VarInfo}
 use Rattle.cstar_tree.specs.declared.typed.Variable.{Variable}
 use Rattle.cstar_tree.specs.declared.typed.Variable.TheVariants as V
@@ -18,7 +17,7 @@ use Rattle.code_lengths.proofs.Declaring.{at_length, info_of, second_part}
 use Rattle.code_lengths.proofs.Drafting.{as_it_was, extended}
 use Rattle.lower_base.specs.Constants.{first_free}
 use Rattle.lower_base.specs.Drafts.{Draft, Made, Makes, step as step_of, then_make, with_instr}
-use Rattle.lower_base.specs.Layouts.{Layout, entries_of, register_of}
+use Rattle.lower_base.specs.Layouts.{entries_of, register_of}
 use Rattle.lower_stmt.specs.Variables.{all_cleared, all_initialised, begins_constant, cleared, cleared_fields, declared as declared_in, initialised as initialised_in, variable_of, with_home}
 use Rattle.lower_expr.specs.Effects.{put_to}
 use Rattle.lower_expr.specs.Steps.{has_word}
@@ -26,13 +25,13 @@ use Rattle.paris_code.specs.declared.instr.Instr.TheVariants as I
 use Rattle.paris_code.specs.Code.{CodeState, begun, with_register}
 use Rattle.source_meaning.specs.State as Source
 use Rattle.source_meaning.specs.State.{Outcome, State, is_among, is_same, with_scalar, zeroed}
-use Rattle.source_meaning.specs.Statements.{Leaving, Onward, initialised, initialised_one, then_go}
+use Rattle.source_meaning.specs.Statements.{Onward, initialised, initialised_one, then_go}
 use Rattle.source_meaning.specs.Targets.{variable_target}
 use Rattle.source_meaning.specs.Values.{Active, Scope}
-use Rattle.code_follows.specs.Fragment.{IsFreshLocal, IsWordVariable}
+use Rattle.code_follows.specs.Fragment.{IsFreshLocal}
 use Rattle.code_follows.proofs.Executing.{ran_from}
 use Rattle.code_follows.proofs.Following.{HasRegisters, IsScalar, Keeps, Ran, Sim, held, input_of, keeps_all}
-use Rattle.code_follows.proofs.Settings.{At, Reaches, Setting, Within, and_one, at_next, begins_here, earlier, layout, one, regs_more, stay}
+use Rattle.code_follows.proofs.Settings.{At, Setting, Within, and_one, at_next, begins_here, earlier, layout, one, regs_more, stay}
 use Rattle.code_follows.proofs.Stores.{below_free, sim_written}
 use Rattle.code_follows.proofs.Words.{held_wide}
 
@@ -123,17 +122,17 @@ module _ (g : Setting) (has : HasRegisters g) (alive : Variable → Type 0) (eve
         is = cleared_so local first n d (λ after. all_cleared (layout g) false locals (n + 1) after) ∙ rest.is;
         grown = subst (λ (k : ℕ). Extended d k rest.e) (one_more (length locals)) grows;
         runs = λ s st free at sim within.
-          let s1 : CodeState = with_register r 0 s in
-          let st1 : State = with_scalar (V.Local n) 0 st in
-          let more = regs_more g (I.FrontConst r 0) d in
-          let low = below_free g has alive (V.Local n) local.info (every (V.Local n)) scalar in
-          let first_within : Within g between = earlier g between rest.e (length locals) rest.grown within in
-          let inside : r < length s.registers = omega (arith, low, free, first_within.regs, more, sim.registers) in
-          let sim1 : Sim g alive st1 s1 = subst (λ (w : ℕ). Sim g alive st1 (with_register r w s)) zero_held (sim_written g has alive (V.Local n) local.info (every (V.Local n)) scalar st s 0 (small_zero local.info.elem.bits first.0.1) inside sim) in
-          let kept : Keeps g d s s1 = λ q lo hi. get_or-set_other s.registers r q 0 0 (λ e. omega (arith, e, low, lo)) in
-          let later = rest.runs s1 st1 (omega (arith, free, more)) (at_next g (I.FrontConst r 0) d s (s.at + 1) at refl) sim1 within in
-          let all = ran_from g alive d between 1 s s1 (zeroed (n + 1) (length locals) st1) rest.e (and_one g (I.FrontConst r 0) d) (one g s s1 (begins_here g (I.FrontConst r 0) d s first_within refl at)) kept later in
-          record { grown = all.grown; t = all.t; go = all.go; at = all.at; keeps = all.keeps; sim = sim_same (zeroed (n + 1) (length locals) st1) (zeroed n (suc (length locals)) st) all.t (zeroed_more n (length locals) st) refl refl refl all.sim };
+            let s1 : CodeState = with_register r 0 s in
+            let st1 : State = with_scalar (V.Local n) 0 st in
+            let more = regs_more g (I.FrontConst r 0) d in
+            let low = below_free g has alive (V.Local n) local.info (every (V.Local n)) scalar in
+            let first_within : Within g between = earlier g between rest.e (length locals) rest.grown within in
+            let inside : r < length s.registers = omega (arith, low, free, first_within.regs, more, sim.registers) in
+            let sim1 : Sim g alive st1 s1 = subst (λ (w : ℕ). Sim g alive st1 (with_register r w s)) zero_held (sim_written g has alive (V.Local n) local.info (every (V.Local n)) scalar st s 0 (small_zero local.info.elem.bits first.0.1) inside sim) in
+            let kept : Keeps g d s s1 = λ q lo hi. get_or-set_other s.registers r q 0 0 (λ e. omega (arith, e, low, lo)) in
+            let later = rest.runs s1 st1 (omega (arith, free, more)) (at_next g (I.FrontConst r 0) d s (s.at + 1) at refl) sim1 within in
+            let all = ran_from g alive d between 1 s s1 (zeroed (n + 1) (length locals) st1) rest.e (and_one g (I.FrontConst r 0) d) (one g s s1 (begins_here g (I.FrontConst r 0) d s first_within refl at)) kept later in
+            record { grown = all.grown; t = all.t; go = all.go; at = all.at; keeps = all.keeps; sim = sim_same (zeroed (n + 1) (length locals) st1) (zeroed n (suc (length locals)) st) all.t (zeroed_more n (length locals) st) refl refl refl all.sim };
       }
     where
       one_more : (k : ℕ) → 1 + k ≡ suc k

@@ -1,5 +1,5 @@
 -- `for`, `while` and `do`.
-use Rattle.std.proofs.Common.{◌≡◌, ◌∙◌, ℕ, ◌+◌, ◌<◌, ◌≤◌, Bool, true, false, List, [], length, Option, Some, None, refl, sym, ap, subst, arith}
+use Rattle.std.proofs.Common.{◌≡◌, ◌∙◌, ℕ, ◌+◌, ◌≤◌, true, List, [], length, Option, Some, None, refl, sym, ap, subst, arith}
 use Rattle.std.specs.Prelude.{IfSome}
 use Rattle.cstar_tree.specs.declared.typed.TExpr.{TExpr}
 use Rattle.cstar_tree.specs.declared.typed.TStmt.{TStmt}
@@ -21,7 +21,6 @@ use Rattle.code_lengths.proofs.Drafting.{as_it_was, extended}
 use Rattle.lower_base.specs.declared.emit.Out.{Out}
 use Rattle.lower_base.specs.Constants.{first_free}
 use Rattle.lower_base.specs.Drafts.{Draft, Fails, Made, Makes, here, then_make, with_instr, with_step}
-use Rattle.lower_base.specs.Layouts.{Layout}
 use Rattle.lower_expr.specs.Effects.{effect_length_of, effect_of}
 use Rattle.lower_expr.specs.Lengths.{used_length_of}
 use Rattle.lower_stmt.specs.declared.statement.Frame.{Frame}
@@ -36,16 +35,16 @@ use Rattle.source_meaning.proofs.ConstantLaws.{Boxed}
 use Rattle.source_meaning.specs.Expressions.{evaluated}
 use Rattle.source_meaning.specs.State as Source
 use Rattle.source_meaning.specs.State.{Outcome, State, spend_turn, then_do}
-use Rattle.source_meaning.specs.Statements.{Broke, Continued, Leaving, Onward, Returned, done, executed, passes, passes_or_absent, rounds, then_go, then_round}
+use Rattle.source_meaning.specs.Statements.{Leaving, Onward, done, executed, passes, passes_or_absent, rounds, then_go, then_round}
 use Rattle.source_meaning.specs.Values.{Active, Scope, Value}
-use Rattle.code_follows.specs.Fragment.{IsEffect, IsIn, IsInStatement, IsTested}
+use Rattle.code_follows.specs.Fragment.{IsEffect, IsIn}
 use Rattle.code_follows.proofs.Assigning.{effect_follows}
 use Rattle.code_follows.proofs.Choices.{Agrees}
-use Rattle.code_follows.proofs.Executing.{Left, RanOn, TestMade, Tested, follows_from, no_break, no_continue, no_return, test_follows, test_made}
+use Rattle.code_follows.proofs.Executing.{Left, RanOn, TestMade, Tested, follows_from, test_follows, test_made}
 use Rattle.code_follows.proofs.Following.{Extends, Follows, HasRegisters, Ran, Sim, delayed, keeps_all}
 use Rattle.code_follows.proofs.Jumping.{jumps, moved_to, sim_moved}
 use Rattle.code_follows.proofs.Loops.{do_runs, loop_runs}
-use Rattle.code_follows.proofs.Settings.{At, Setting, Within, and_one, code_more, earlier, layout, regs_more, start, stay}
+use Rattle.code_follows.proofs.Settings.{At, Setting, and_one, code_more, earlier, layout, regs_more, start, stay}
 use Rattle.code_follows.proofs.Starting.{go_after}
 use Rattle.code_follows.proofs.Statements.{MadeSo, do_body, do_test, statement_made}
 

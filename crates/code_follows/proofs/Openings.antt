@@ -12,7 +12,7 @@ use Rattle.cstar_tree.specs.declared.typed.Variable.TheVariants as V
 use Rattle.code_lengths.specs.Agreement.{HasUnit}
 use Rattle.code_lengths.specs.Growth.{Extended}
 use Rattle.code_lengths.specs.Naming.{variable_named}
-use Rattle.code_lengths.specs.Ready.{HasDeclared, IsCodable, IsReady, NumbersVariables, homes_of}
+use Rattle.code_lengths.specs.Ready.{HasDeclared, IsCodable, IsReady, NumbersVariables}
 use Rattle.code_lengths.proofs.Declaring.{all_at}
 use Rattle.code_lengths.proofs.UnitLengths.{units}
 use Rattle.cstar_compile.specs.Compiled.{IsCompiled}

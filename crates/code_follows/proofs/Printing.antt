@@ -1,5 +1,5 @@
 -- `printf` on scalar arguments of 32 bits.
-use Rattle.std.proofs.Common.{◌≡◌, ◌∙◌, ℕ, ◌+◌, ◌<◌, ◌≤◌, ◌^◌, Bool, true, false, Vec, Global, List, [], ◌∷◌, ◌++◌, length, slice_index, map, refl, sym, ap, subst, arith, append_assoc}
+use Rattle.std.proofs.Common.{◌≡◌, ◌∙◌, ℕ, ◌+◌, ◌≤◌, Bool, true, false, Vec, Global, List, [], ◌∷◌, ◌++◌, length, slice_index, map, refl, sym, ap, subst, arith, append_assoc}
 use Rattle.std.proofs.lemmas.List.{append-nil}
 use mathlib.Core.Former.{Count}
 use Rattle.cstar_base.specs.declared.elem.Elem.{Elem}
@@ -22,9 +22,9 @@ use Rattle.lower_base.specs.declared.emit.Out.TheVariants as O
 use Rattle.lower_base.specs.Constants.{first_free}
 use Rattle.lower_base.specs.Drafts.{Draft, Fails, Made, Makes, Plain, in_register, step as step_of, then_make, with_instr}
 use Rattle.lower_expr.specs.Kinds.{list_bits}
-use Rattle.lower_expr.specs.Operands.{are_quiet, is_quiet, operand_by}
+use Rattle.lower_expr.specs.Operands.{are_quiet, is_quiet}
 use Rattle.lower_expr.specs.Steps.{pieces_printed}
-use Rattle.lower_expr.specs.Values.{value_of, values_of}
+use Rattle.lower_expr.specs.Values.{values_of}
 use Rattle.paris_code.specs.declared.instr.Instr.TheVariants as I
 use Rattle.paris_code.specs.declared.instr.Instr.{Instr}
 use Rattle.paris_code.specs.Code.{CodeState, Goes, begun, with_printed}
@@ -38,8 +38,8 @@ use Rattle.source_meaning.specs.State.{Outcome, State, then_do, with_output}
 use Rattle.source_meaning.specs.Values.{Active, Nothing, Scope, Value, number}
 use Rattle.code_follows.specs.Fragment.{AreIn, IsIn}
 use Rattle.code_follows.proofs.Expressions.{operand, operand_grows}
-use Rattle.code_follows.proofs.Following.{Arrives, Extends, Follows, HasRegisters, Holds, Keeps, Ran, Sim, delayed, extends_made, extends_then, finishes_later, held, keeps_all, keeps_on, knowing, nothing_said, then_follows}
-use Rattle.code_follows.proofs.Settings.{At, Reaches, Setting, Within, and_one, at_next, begins_here, layout, one, onto, placed_instr, stay}
+use Rattle.code_follows.proofs.Following.{Arrives, Extends, Follows, HasRegisters, Holds, Keeps, Ran, Sim, delayed, extends_made, extends_then, finishes_later, keeps_all, keeps_on, knowing, then_follows}
+use Rattle.code_follows.proofs.Settings.{At, Reaches, Setting, and_one, at_next, begins_here, layout, one, onto, placed_instr, stay}
 use Rattle.code_follows.proofs.Values.{Value_of, extends_in_register}
 use Rattle.code_follows.proofs.Words.{below_word, held_wide, word_type}
 
@@ -107,7 +107,16 @@ module _ (g : Setting) (has : HasRegisters g) (alive : Variable → Type 0) (n :
       → Follows g (Given true d s st outs) s (operands scope row active st) (values_of g.typed (layout g) false true row outs d)
   unfolding AreIn HaveCode operands values_of Follows AreHeld state_behind
   arguments_follow end_of-TExpr h c outs d s st free here sim = λ within. record {
-    grown = (0, as_it_was d); t = s; go = stay g s; at = here; sim = sim; keeps = keeps_all g d s; same = refl; more = []; is = sym (append-nil outs); held = tt;
+    grown = (0, as_it_was d);
+    t = s;
+    go = stay g s;
+    at = here;
+    sim = sim;
+    keeps = keeps_all g d s;
+    same = refl;
+    more = [];
+    is = sym (append-nil outs);
+    held = tt;
   }
   arguments_follow (more_of-TExpr e rest) h c outs d s st free here sim =
       then_follows g (λ v u out after. (evaluated scope e active st ≡ Source.Gives v u) × Arrives g alive (type_of e).elem true d s v u out after) (Given true d s st outs) s s (evaluated scope e active st) _ _ _ (stay g s)

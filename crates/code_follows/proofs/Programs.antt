@@ -1,6 +1,5 @@
 -- The run of a whole program.
-use Rattle.std.proofs.Common.{◌≡◌, ◌∙◌, ℕ, zero, ◌+◌, ◌<◌, ◌≤◌, ◌^◌, ◌&&◌, if◌then◌else◌, nat_lt, Vec, Global, Bool, true, false, List, [], ◌∷◌, ◌++◌, map, length, slice_get, slice_index, Option, Some, None, refl, sym, ap, subst, arith}
-use Rattle.std.proofs.lemmas.Option.{slice_get_within}
+use Rattle.std.proofs.Common.{◌≡◌, ◌∙◌, ℕ, zero, ◌+◌, ◌<◌, ◌≤◌, ◌^◌, ◌&&◌, if◌then◌else◌, nat_lt, Bool, true, false, List, [], map, length, slice_get, slice_index, Option, Some, None, refl, sym, ap, subst, arith}
 use Rattle.std.proofs.lemmas.List.{get_or-replicate, length-replicate}
 use mathlib.Core.Former.{Count}
 use Rattle.cstar_base.specs.declared.operators.Winner.{Winner}
@@ -23,7 +22,7 @@ use Rattle.lower_stmt.specs.declared.statement.Frame.{Frame}
 use Rattle.lower_stmt.specs.Frames.{with_end}
 use Rattle.lower_stmt.specs.Programs.{blank, body_frame}
 use Rattle.lower_stmt.specs.Statements.{body_of, ended, statements_of}
-use Rattle.lower_stmt.specs.Variables.{all_cleared, all_initialised, declared as declared_in}
+use Rattle.lower_stmt.specs.Variables.{all_initialised, declared as declared_in}
 use Rattle.meaning_laws.proofs.Parts.{behind as state_after}
 use Rattle.meaning_laws.proofs.Programs.{calls_grow}
 use Rattle.meaning_laws.proofs.Statements.{statement as statement_grows}
@@ -278,9 +277,9 @@ module _ (t : Typed) (image : Image) (p : IsScalarProgram t) (codable : IsCodabl
         let stand = first_part (map info_of locals.items) (row_variables row) (block_stands g has alive every (all_numbered t p (the_words t image p codable compiled)) ready (all_declared t p (the_words t image p codable compiled)) scope active falls 0 locals q row c) in
         let initial = coded g has alive every ready scope active (0 + length locals.items) locals.items c.shaped.0 c.lowerable.0 c.names.0 in
         let whole : finish (statements_behind locals.items row (all_initialised t own locals.items 0 constants_there)) ≡ the_unit =
-            sym (ap (λ (m : Made (Unit {0})). finish (then_make (then_make m (λ u between. then_make (all_initialised t own locals.items 0 between) (λ v after. Makes (0 + length locals.items) after))) (λ number after. statements_of t own row frame [] number after))) (none_cleared g has alive every ready scope active locals.items 0 constants_there h.0))
-            ∙ sym (ap (λ (b : TStmt). finish (body_of t own frame b constants_there)) is)
-            ∙ main_is t image p codable compiled in
+        sym (ap (λ (m : Made (Unit {0})). finish (then_make (then_make m (λ u between. then_make (all_initialised t own locals.items 0 between) (λ v after. Makes (0 + length locals.items) after))) (λ number after. statements_of t own row frame [] number after))) (none_cleared g has alive every ready scope active locals.items 0 constants_there h.0))
+        ∙ sym (ap (λ (b : TStmt). finish (body_of t own frame b constants_there)) is)
+        ∙ main_is t image p codable compiled in
         subst (λ (r : Run). ComesTo image opened r) (sym (ap (λ (o : Option Instance). run_of (run_body t (calls t turns) o [] active first_state)) (first_is t p (the_words t image p codable compiled)) ∙ ap (λ (b : TStmt). run_from (executed scope b 0 active in_main)) is))
         (body_comes locals.items row h.0 h.1 h.2 stand initial code (built_so locals.items row (all_initialised t own locals.items 0 constants_there) refl whole))
     runs _ is h = absurd h

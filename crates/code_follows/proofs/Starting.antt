@@ -1,5 +1,5 @@
 -- The initialisers of the variables of `main`.
-use Rattle.std.proofs.Common.{◌≡◌, ◌∙◌, ℕ, zero, suc, ◌+◌, ◌<◌, ◌≤◌, ◌^◌, Bool, true, false, List, [], ◌∷◌, ◌++◌, map, length, Option, Some, None, refl, sym, ap, subst, arith}
+use Rattle.std.proofs.Common.{◌≡◌, ◌∙◌, ℕ, ◌+◌, ◌≤◌, true, List, [], ◌∷◌, map, length, Option, Some, None, refl, sym, ap, subst, arith}
 use Rattle.std.specs.Prelude.{IfSome}
 use Rattle.std.specs.List.{All}
 use Rattle.cstar_tree.specs.declared.typed.LocalVar.{LocalVar}
@@ -15,12 +15,12 @@ use Rattle.code_lengths.specs.Ready.{HasCode, IsReady}
 use Rattle.code_lengths.specs.ShapedStatements.{AreShapedLocals, IsShapedInitial}
 use Rattle.code_lengths.proofs.Agreeing.{expressions}
 use Rattle.code_lengths.proofs.Declaring.{info_of}
-use Rattle.code_lengths.proofs.Drafting.{as_it_was, extended}
+use Rattle.code_lengths.proofs.Drafting.{as_it_was}
 use Rattle.lower_base.specs.declared.emit.Out.{Out}
 use Rattle.lower_base.specs.declared.emit.Out.TheVariants as O
 use Rattle.lower_base.specs.Constants.{first_free}
 use Rattle.lower_base.specs.Drafts.{Draft, Fails, Made, Makes, then_make}
-use Rattle.lower_base.specs.Layouts.{Layout, entries_of, field_of, register_of}
+use Rattle.lower_base.specs.Layouts.{entries_of, field_of, register_of}
 use Rattle.lower_base.specs.Drafts.{first_bits}
 use Rattle.lower_expr.specs.Effects.{put_to}
 use Rattle.lower_expr.specs.Operands.{standing}
@@ -31,14 +31,13 @@ use Rattle.source_meaning.specs.State as Source
 use Rattle.source_meaning.specs.State.{Outcome, State, then_do, with_scalar}
 use Rattle.source_meaning.specs.Statements.{Broke, Continued, Leaving, Onward, Returned, initialised, initialised_one, then_go}
 use Rattle.source_meaning.specs.Targets.{OfScalar, Target, stored, variable_target}
-use Rattle.source_meaning.specs.Values.{Active, Scalar, Scope, Value, number}
-use Rattle.code_follows.specs.Fragment.{IsIn, IsInLocal, IsWordVariable}
+use Rattle.source_meaning.specs.Values.{Active, Scope, Value, number}
+use Rattle.code_follows.specs.Fragment.{IsIn, IsInLocal}
 use Rattle.code_follows.proofs.Declaring.{all_first, all_rest, first_is_named, others_stand}
 use Rattle.code_follows.proofs.Executing.{RanOn, gives, no_break, no_continue, no_return, ran_from}
 use Rattle.code_follows.proofs.Following.{Extends, Follows, HasRegisters, IsScalar, Keeps, Ran, Sim, delayed, extends_then, finished, finishes_later, keeps_all, then_follows}
 use Rattle.code_follows.proofs.Putting.{Put, put_follows}
-use Rattle.code_follows.proofs.Settings.{At, Reaches, Setting, Within, layout, stay}
-use Rattle.code_follows.proofs.Stores.{IsPut}
+use Rattle.code_follows.proofs.Settings.{At, Reaches, Setting, layout, stay}
 use Rattle.code_follows.proofs.Values.{extends_grown}
 use Rattle.code_follows.proofs.Words.{kept}
 
@@ -78,9 +77,10 @@ module _ (g : Setting) (has : HasRegisters g) (alive : Variable → Type 0) (eve
   pub coded : (all : ℕ) (locals : List LocalVar) → AreShapedLocals locals → All (IsLowerableLocal g.typed) locals → All (InitialNamesVariables g.typed g.instance all) locals → AreCoded all locals
   unfolding AreCoded AreShapedLocals IsShapedInitial
   coded all [] shaped lowerable names = tt
-  coded all (local ∷ locals) shaped lowerable names =
-      (by local.initial shaped.0 (all_first (IsLowerableLocal g.typed) local locals lowerable) (all_first (InitialNamesVariables g.typed g.instance all) local locals names),
-        coded all locals shaped.1 (all_rest (IsLowerableLocal g.typed) local locals lowerable) (all_rest (InitialNamesVariables g.typed g.instance all) local locals names))
+  coded all (local ∷ locals) shaped lowerable names = (
+    by local.initial shaped.0 (all_first (IsLowerableLocal g.typed) local locals lowerable) (all_first (InitialNamesVariables g.typed g.instance all) local locals names),
+    coded all locals shaped.1 (all_rest (IsLowerableLocal g.typed) local locals lowerable) (all_rest (InitialNamesVariables g.typed g.instance all) local locals names),
+  )
     where
       by : (o : Option TExpr) → IsShapedInitial local.info o → IsLowerableLocal g.typed (record local { initial = o }) → InitialNamesVariables g.typed g.instance all (record local { initial = o }) → IfSome o (HasCode g.typed g.instance all)
       by None shape lower name = tt
