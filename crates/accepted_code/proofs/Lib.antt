@@ -1,1 +1,1 @@
-mod EveryUnit
+pub mod EveryUnit

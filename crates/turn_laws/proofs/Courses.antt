@@ -14,11 +14,11 @@ use Rattle.turn_laws.specs.Turns.{IsInputOf, IsSameRun, PrintsOn, RunsOn}
 use Rattle.turn_laws.proofs.Turning.{RunsTo, more_turns}
 
 -- the state that a course left, with this rest of the input
-abbrev left_by : Course → Rest → CodeState
+abbrev pub left_by : Course → Rest → CodeState
 left_by course later = kept_state course.stopped course.left course.memory later course.printed
 
 -- the run on the input
-run_on : (from : Origin) (input : Rest) (turns : ℕ) (course : Course) (on : RunsOn from input turns course) → RunsTo from.image (kept_state from.kept turns on.ran.begun input []) course.end course.steps (left_by course on.given.0)
+pub run_on : (from : Origin) (input : Rest) (turns : ℕ) (course : Course) (on : RunsOn from input turns course) → RunsTo from.image (kept_state from.kept turns on.ran.begun input []) course.end course.steps (left_by course on.given.0)
 run_on from input turns course on =
     subst (λ (rest : Rest). RunsTo from.image (kept_state from.kept turns on.ran.begun rest []) course.end course.steps (left_by course on.given.0)) (sym on.given.2) (on.ran.ran on.given.0 on.given.1)
 

@@ -16,25 +16,25 @@ use Rattle.paris_machine.proofs.Same.{bits_after, ends_same}
 use Rattle.turn_laws.specs.Turns.{Begins, is_of_code}
 
 -- an end of the code, as the machine tells it
-abbrev told : CodeEnd → RunEnd
+abbrev pub told : CodeEnd → RunEnd
 told Done = E.Done
 told (Fault fault place position) = E.Fault (run_number_of fault) place position
 told Stopped = E.Stopped
 told InputBroken = E.InputBroken
 
 -- the instruction at which the code stands ends the run so, in the state but for bits that no set has
-record EndsAt (image : Image) (s : CodeState) (end : RunEnd) (t : CodeState) : Type 0 where
-  last : CodeEnd
-  state : CodeState
-  is : end ≡ told last
-  ends : step image s ≡ Ends last state
-  same : SameState (shapes_of image) state t
+pub record EndsAt (image : Image) (s : CodeState) (end : RunEnd) (t : CodeState) : Type 0 where
+  pub last : CodeEnd
+  pub state : CodeState
+  pub is : end ≡ told last
+  pub ends : step image s ≡ Ends last state
+  pub same : SameState (shapes_of image) state t
 
 ends_so : (image : Image) (s t : CodeState) (e : CodeEnd) (x : Next) → step image s ≡ x → SameNext (shapes_of image) x (Ends e t) → EndsAt image s (told e) t
 ends_so image s t e (Goes u) is same = absurd same
 ends_so image s t e (Ends other u) is same = record { last = e; state = u; is = refl; ends = is ∙ ap (λ (c : CodeEnd). Ends c u) same.0; same = same.1 }
 
-ends_at : (image : Image) (s t : CodeState) (end : RunEnd) → is_of_code end ≡ true → ComesTo image s (Some end) t → EndsAt image s end t
+pub ends_at : (image : Image) (s t : CodeState) (end : RunEnd) → is_of_code end ≡ true → ComesTo image s (Some end) t → EndsAt image s end t
 ends_at image s t E.Done whole came = ends_so image s t Done (step image s) refl came
 ends_at image s t (E.Fault kind place position) whole came =
     subst (λ (k : ℕ). EndsAt image s (E.Fault k place position) t) came.1 (ends_so image s t (Fault came.0 place position) (step image s) refl came.2)
