@@ -1,4 +1,5 @@
 pub mod Assigning
+pub mod Beginnings
 pub mod Bodies
 pub mod Choices
 pub mod Closed

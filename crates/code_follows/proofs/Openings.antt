@@ -18,6 +18,7 @@ use Rattle.code_lengths.proofs.UnitLengths.{units}
 use Rattle.cstar_compile.specs.Compiled.{IsCompiled}
 use Rattle.cstar_tree.specs.Variables.{variables_of}
 use Rattle.std.specs.List.{All}
+use Rattle.code_follows.proofs.Beginnings.{starts_are, starts_put}
 use Rattle.code_follows.proofs.Declaring.{all_first, all_rest}
 use Rattle.code_follows.proofs.Standing.{start_in}
 use Rattle.std.specs.Prelude.{fold, is_none, take}
@@ -215,6 +216,11 @@ module _ (t : Typed) (p : IsScalarProgram t) (words : List ℕ) where
   below (V.Param k) info is = let none : slice_get p.main.params.items k ≡ None = ap (λ (xs : List VarInfo). slice_get xs k) p.params in cc
   below (V.Local k) info is = let inside = slice_get_within (variables_of p.main.body) k info is in let end = end_is in let base = base_is in let none = no_params in omega (arith, inside, end, base, none)
 
+  -- block variables stand behind those of the file
+  pub behind_files : (k : ℕ) → 0 + length t.vars.items ≤ register_of own_layout (V.Local k)
+  unfolding register_of result_register
+  behind_files k = let base = base_is in omega (arith, base)
+
   pub apart : (x y : Variable) (info other : VarInfo) → variable_named t p.main x ≡ Some info → variable_named t p.main y ≡ Some other → register_of own_layout x ≡ register_of own_layout y → x ≡ y
   unfolding register_of result_register variable_named
   apart (V.File k) (V.File j) info other is also same = ap (λ (n : ℕ). V.File n) same
@@ -252,16 +258,6 @@ pub starts_at_zero : (us : List CodeUnit) → start_in us 0 0 ≡ 0
 unfolding start_in
 starts_at_zero [] = refl
 starts_at_zero (u ∷ us) = refl
-
--- variables that begin with 0 have no code for it
-starts_are_none : (t : Typed) (l : Layout) (infos : List VarInfo) (n : ℕ) (d : Draft) → All IsPlainVariable infos → start_values_of t l infos n d ≡ Makes tt d
-unfolding start_values_of start_value_of then_make
-starts_are_none t l [] n d all = refl
-starts_are_none t l (info ∷ infos) n d all =
-    ap (λ (b : Bool). then_make (if b then Makes tt d else elim info.shape as (λ _. Made (Unit {0})) [
-      | None ↦ Makes tt (scalar_begun l info n d)
-      | Some s ↦ elements_begun t l n info.start (entries_of info) 0 d
-    ]) (λ u after. start_values_of t l infos (n + 1) after)) (eq-eqb info.start 0 (all_first IsPlainVariable info infos all).1) ∙ starts_are_none t l infos (n + 1) d (all_rest IsPlainVariable info infos all)
 
 module _ (t : Typed) (image : Image) (p : IsScalarProgram t) (codable : IsCodable t) (compiled : IsCompiled t image) where
   abbrev pub the_words : List ℕ
@@ -331,10 +327,14 @@ module _ (t : Typed) (image : Image) (p : IsScalarProgram t) (codable : IsCodabl
   abbrev pub ending : Made ℕ → Made (Unit {0})
   ending m = then_make m (λ n end. Makes tt (ended true p.main.body end))
 
-  pub main_is : ending (body_of t the_layout (body_frame true p.main) p.main.body with_constants) ≡ Makes tt has_unit.unit
+  -- then the values of the file's variables
+  abbrev pub with_starts : Draft
+  with_starts = starts_put the_layout t.vars.items 0 with_constants
+
+  pub main_is : ending (body_of t the_layout (body_frame true p.main) p.main.body with_starts) ≡ Makes tt has_unit.unit
   unfolding unit_of own_fields_of own_result_of begun_of then_make
   main_is =
-      sym (ap (λ (m : Made (Unit {0})). then_make m (λ n start. ending (body_of t the_layout (body_frame true p.main) p.main.body start))) (starts_are_none t the_layout t.vars.items 0 with_constants p.variables))
+      sym (ap (λ (m : Made (Unit {0})). then_make m (λ n start. ending (body_of t the_layout (body_frame true p.main) p.main.body start))) (starts_are the_layout t t.vars.items 0 with_constants p.variables))
       ∙ sym (ap (λ (o : Option VarInfo). then_make (own_result_of o empty_unit) (λ n ready. then_make (begun_of t the_layout true ready) (λ m start. ending (body_of t the_layout (body_frame true p.main) p.main.body start)))) p.result)
       ∙ sym (ap (λ (xs : List VarInfo). then_make (own_fields_of xs empty_unit) (λ k d. then_make (own_result_of p.main.result d) (λ n ready. then_make (begun_of t the_layout true ready) (λ m start. ending (body_of t the_layout (body_frame true p.main) p.main.body start))))) p.params)
       ∙ has_unit.made

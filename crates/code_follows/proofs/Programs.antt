@@ -12,6 +12,7 @@ use Rattle.cstar_tree.specs.declared.typed.VarInfo.{VarInfo}
 use Rattle.cstar_tree.specs.declared.typed.Variable.{Variable}
 use Rattle.cstar_tree.specs.declared.typed.Variable.TheVariants as V
 use Rattle.code_lengths.specs.Agreement.{StandsAmong}
+use Rattle.code_lengths.specs.Growth.{Extended}
 use Rattle.code_lengths.specs.Naming.{variable_named}
 use Rattle.code_lengths.specs.Ready.{HasStatementCode, IsCodable}
 use Rattle.cstar_compile.specs.Compiled.{IsCompiled}
@@ -39,6 +40,7 @@ use Rattle.source_meaning.specs.Values.{Active, Scope}
 use Rattle.code_follows.specs.Agreement.{CodeMeansSource, ComesTo, end_of_run, mark_of}
 use Rattle.code_follows.specs.Fragment.{AreClosed, AreInStatements, IsInLocal, IsMainBody, IsPlainVariable, IsScalarProgram}
 use Rattle.code_follows.proofs.Bodies.{RowCode, block_code, block_stands, row_follows, row_grows}
+use Rattle.code_follows.proofs.Beginnings.{starts_grow, starts_run}
 use Rattle.code_follows.proofs.Declaring.{sim_same}
 use Rattle.code_follows.proofs.Starting.{AreCoded, coded, go_after, initials_follow, initials_grow, none_cleared}
 use Rattle.code_lengths.specs.ShapedStatements.{IsShapedStatement}
@@ -51,8 +53,8 @@ use Rattle.std.specs.List.{All}
 use Rattle.code_follows.proofs.Closed.{NoJump, begins_closed, closed_row, go_closed}
 use Rattle.code_follows.proofs.Executing.{Halted, Left, RanOn, follows_from}
 use Rattle.code_follows.proofs.Following.{Extends, Follows, HasRegisters, Sim, end_of, held}
-use Rattle.code_follows.proofs.Openings.{Constants, all_declared, all_numbered, all_ready, apart, below, constants_grow, constants_run, empty_unit, ending, first_is, has_unit, main_is, named_word, no_homes, search_at, starts_at_zero, the_layout, the_setting, the_words, with_constants, within_all}
-use Rattle.code_follows.proofs.Settings.{At, EndsIn, Reaches, Setting, Within, and_one, begins_here, earlier, ends_later, ends_now, start}
+use Rattle.code_follows.proofs.Openings.{Constants, all_declared, all_numbered, all_ready, apart, below, constants_grow, constants_run, empty_unit, ending, first_is, has_unit, main_is, named_word, no_homes, search_at, behind_files, end_is, starts_at_zero, with_starts, the_layout, the_setting, the_words, with_constants, within_all}
+use Rattle.code_follows.proofs.Settings.{onto, At, EndsIn, Reaches, Setting, Within, and_one, begins_here, earlier, ends_later, ends_now, start}
 use Rattle.code_follows.proofs.Words.{held_wide}
 
 no_code : Made (Unit {0})
@@ -84,13 +86,19 @@ module _ (t : Typed) (image : Image) (p : IsScalarProgram t) (codable : IsCodabl
   abbrev constants_there : Draft
   constants_there = with_constants t image p codable compiled
 
+  abbrev begun_there : Draft
+  begun_there = with_starts t image p codable compiled
+
+  starts_grown : (k : ℕ) × Extended constants_there k begun_there
+  starts_grown = starts_grow own t.vars.items 0 g constants_there
+
   every : (x : Variable) → alive x
   every x = tt
 
   -- the initialisers and the statements are made, and `main` is ended behind them
   record Built {k : Count} (locals : List LocalVar) (row : Row_of-TStmt k) : Type 0 where
     pub begin : Draft
-    pub started : all_initialised t own locals 0 constants_there ≡ Makes tt begin
+    pub started : all_initialised t own locals 0 begun_there ≡ Makes tt begin
     pub n : ℕ
     pub e : Draft
     pub is : statements_of t own row frame [] (0 + length locals) begin ≡ Makes n e
@@ -108,9 +116,9 @@ module _ (t : Typed) (image : Image) (p : IsScalarProgram t) (codable : IsCodabl
 
     draft_of : Made (Unit {0}) → Draft
     draft_of (Makes u d) = d
-    draft_of Fails = constants_there
+    draft_of Fails = begun_there
 
-    built_so : (m : Made (Unit {0})) → all_initialised t own locals 0 constants_there ≡ m → finish (statements_behind m) ≡ the_unit → Built locals row
+    built_so : (m : Made (Unit {0})) → all_initialised t own locals 0 begun_there ≡ m → finish (statements_behind m) ≡ the_unit → Built locals row
     unfolding then_make ended with_end no_code draft_of
     built_so Fails started whole = absurd (nothing_made (has_unit t image p codable compiled).unit whole)
     built_so (Makes u d) started whole = by (statements_of t own row frame [] (0 + length locals) d) refl whole
@@ -150,48 +158,64 @@ module _ (t : Typed) (image : Image) (p : IsScalarProgram t) (codable : IsCodabl
     unfolding scope_of
     falls s n st = ((statement_grows 0 turns scope (calls t turns) (calls t turns) (calls_grow t turns) s n active).first st).0
 
-    -- the code is at the body, with the constants in their registers
-    placed : Within g constants_there → Constants g own.constants own.end opened constants_there
-    unfolding blank first_free
-    placed within =
+    constant_at : (u : CodeState) → ((i : ℕ) → i < length own.constants → slice_index u.registers (own.end + i) ≡ slice_index own.constants i) → (word r : ℕ) → constant_register own word ≡ Some r → slice_index u.registers r ≡ word
+    unfolding constant_register
+    constant_at u are word r is =
+        let h = search_at own.constants word own.end r is in
+        ap (λ (q : ℕ). slice_index u.registers q) h.register ∙ are h.index h.inside ∙ h.value
+
+    register_value : (x : Variable) (info : VarInfo) → variable_named t p.main x ≡ Some info → (u : CodeState) → ((k : ℕ) (info : VarInfo) → slice_get t.vars.items k ≡ Some info → slice_index u.registers (0 + k) ≡ info.start)
+        → ((q : ℕ) → 0 + length t.vars.items ≤ q → q < own.end → slice_index u.registers q ≡ 0) → slice_index u.registers (register_of own x) ≡ in_main.scalar x
+    unfolding entered start_state by_owner start_of scalar_given variable_named register_of
+    register_value (V.File k) info is u files zeros = ap (λ (q : ℕ). slice_index u.registers q) (front k) ∙ files k info is ∙ sym (ap (λ (o : Option VarInfo). elim o as (λ _. ℕ) [ None ↦ 0 | Some info ↦ info.start ]) is)
+      where
+        front : (k : ℕ) → k ≡ 0 + k
+        front k = omega arith
+    register_value (V.Param k) info is u files zeros = let none : slice_get p.main.params.items k ≡ None = ap (λ (xs : List VarInfo). slice_get xs k) p.params in cc
+    register_value (V.Local k) info is u files zeros = zeros (register_of own (V.Local k)) (behind_files t p (the_words t image p codable compiled) k) (below t p (the_words t image p codable compiled) (V.Local k) info is)
+
+    -- the code is at the body, with the constants and the values of the file's variables in their registers
+    record Opened : Type 0 where
+      pub there : CodeState
+      pub go : Reaches g opened there
+      pub at : At g there (length begun_there.code)
+      pub sim : Sim g alive in_main there
+
+    zero_or_started : (x : Variable) (info : VarInfo) → variable_named t p.main x ≡ Some info → in_main.scalar x < 2 ^ 32
+    unfolding entered start_state by_owner start_of scalar_given variable_named
+    zero_or_started (V.File k) info is = subst (λ (o : Option VarInfo). (elim o as (λ _. ℕ) [ None ↦ 0 | Some info ↦ info.start ]) < 2 ^ 32) (sym is) (all_at IsPlainVariable t.vars.items k info p.variables is).1
+    zero_or_started (V.Param k) info is = let none : slice_get p.main.params.items k ≡ None = ap (λ (xs : List VarInfo). slice_get xs k) p.params in cc
+    zero_or_started (V.Local k) info is = omega arith
+
+    opened_so : Within g begun_there → Opened
+    unfolding blank first_free entered start_state
+    opened_so within =
         let at = begins_at in
         let many : length opened.registers ≡ image.slots = length-replicate image.slots 0 in
         let grown = (constants_grow t image p codable compiled).regs in
-        let inside = within.regs in
-        constants_run g own.constants own.end (empty_unit t image p codable compiled) opened (omega (arith, at)) within (omega (arith, many, grown, inside))
-
-    begins_so : (c : Constants g own.constants own.end opened constants_there) → Within g constants_there → Sim g alive in_main c.t
-    unfolding entered start_state by_owner start_of scalar_given constant_register blank first_free variable_named
-    begins_so c within =
-        let many : length opened.registers ≡ image.slots = length-replicate image.slots 0 in
-        let grown = (constants_grow t image p codable compiled).regs in
-        let inside = within.regs in
-        record {
-          registers = c.registers ∙ many;
-          scalars = λ x info living scalar. scalars x info scalar.0 (omega (arith, grown, inside));
-          small = λ x info living scalar. small x info scalar.0;
-          constants = λ word r is.
-              let h = search_at own.constants word own.end r is in
-              ap (λ (q : ℕ). slice_index c.t.registers q) h.register ∙ c.are h.index h.inside ∙ h.value;
-          turns = c.turns;
-          output = c.output;
-          input = c.input;
-        }
+        let before : Within g constants_there = earlier g constants_there begun_there starts_grown.0 starts_grown.1 within in
+        let inside = before.regs in
+        let end = end_is t p (the_words t image p codable compiled) in
+        let c = constants_run g own.constants own.end (empty_unit t image p codable compiled) opened (omega (arith, at)) before (omega (arith, many, grown, inside)) in
+        let long = c.registers in
+        let zeros : (q : ℕ) → q < own.end → slice_index c.t.registers q ≡ 0 = λ q low. c.below q low ∙ get_or-replicate image.slots q 0 0 (omega (arith, low, grown, inside)) in
+        let b = starts_run own g t.vars.items 0 constants_there c.t p.variables c.at within (omega (arith, end, long, many, grown, inside)) (λ q lo hi. zeros q (omega (arith, hi, end))) in
+        record { there = b.t; go = onto g opened c.t b.t c.go b.go; at = b.at; sim = sim_so b.t (b.registers ∙ long ∙ many) b.are (λ q hi low. b.above q hi ∙ zeros q low) (λ i k. b.above (own.end + i) (omega (arith, end)) ∙ c.are i k) (b.turns ∙ c.turns) (b.output ∙ c.output) (b.input ∙ c.input) }
       where
-        zero_at_start : (x : Variable) (info : VarInfo) → variable_named t p.main x ≡ Some info → in_main.scalar x ≡ 0
-        zero_at_start (V.File k) info is = ap (λ (o : Option VarInfo). elim o as (λ _. ℕ) [ None ↦ 0 | Some info ↦ info.start ]) is ∙ (all_at IsPlainVariable t.vars.items k info p.variables is).1
-        zero_at_start (V.Param k) info is = let none : slice_get p.main.params.items k ≡ None = ap (λ (xs : List VarInfo). slice_get xs k) p.params in cc
-        zero_at_start (V.Local k) info is = refl
-
-        scalars : (x : Variable) (info : VarInfo) → variable_named t p.main x ≡ Some info → own.end ≤ image.slots → slice_index c.t.registers (register_of own x) ≡ held info.elem (in_main.scalar x)
-        scalars x info is room =
-            let low = below t p (the_words t image p codable compiled) x info is in
-            c.below (register_of own x) low ∙ get_or-replicate image.slots (register_of own x) 0 0 (omega (arith, low, room))
-            ∙ sym (held_wide info.elem 0 (named_word t p (the_words t image p codable compiled) x info is).1 (omega arith)) ∙ ap (λ (n : ℕ). held info.elem n) (sym (zero_at_start x info is))
-
-        small : (x : Variable) (info : VarInfo) → variable_named t p.main x ≡ Some info → in_main.scalar x < 2 ^ info.elem.bits
-        small x info is =
-            subst (λ (n : ℕ). n < 2 ^ info.elem.bits) (sym (zero_at_start x info is)) (subst (λ (b : ℕ). 0 < 2 ^ b) (sym (named_word t p (the_words t image p codable compiled) x info is).1) (omega arith))
+        sim_so : (u : CodeState) → length u.registers ≡ image.slots → ((k : ℕ) (info : VarInfo) → slice_get t.vars.items k ≡ Some info → slice_index u.registers (0 + k) ≡ info.start) → ((q : ℕ) → 0 + length t.vars.items ≤ q → q < own.end → slice_index u.registers q ≡ 0)
+            → ((i : ℕ) → i < length own.constants → slice_index u.registers (own.end + i) ≡ slice_index own.constants i) → u.turns ≡ opened.turns → u.output ≡ opened.output → u.input ≡ opened.input → Sim g alive in_main u
+        sim_so u long files zeros constants same_turns same_output same_input = record {
+          registers = long;
+          scalars = λ x info living scalar. scalars x info scalar.0;
+          small = λ x info living scalar. subst (λ (b : ℕ). in_main.scalar x < 2 ^ b) (sym (named_word t p (the_words t image p codable compiled) x info scalar.0).1) (zero_or_started x info scalar.0);
+          constants = λ word r is. constant_at u constants word r is;
+          turns = same_turns;
+          output = same_output;
+          input = same_input;
+        }
+          where
+            scalars : (x : Variable) (info : VarInfo) → variable_named t p.main x ≡ Some info → slice_index u.registers (register_of own x) ≡ held info.elem (in_main.scalar x)
+            scalars x info is = register_value x info is u files zeros ∙ sym (held_wide info.elem (in_main.scalar x) (named_word t p (the_words t image p codable compiled) x info is).1 (zero_or_started x info is))
 
     -- ---- the end
 
@@ -248,20 +272,22 @@ module _ (t : Typed) (image : Image) (p : IsScalarProgram t) (codable : IsCodabl
       body_comes isin inside closed stand initial code b =
           let ready = all_ready t p (the_words t image p codable compiled) in
           let whole : Within g (with_instr I.FrontHalt b.e) = subst (λ (d : Draft). Within g d) (sym b.unit) (within_all t image p codable compiled) in
-          let begins : Extends g constants_there (Makes (tt {0}) b.begin) = subst (λ (m : Made (Unit {0})). Extends g constants_there m) b.started (initials_grow g has alive every ready scope active (0 + length locals) locals 0 constants_there isin initial) in
-          let homes : b.begin.homes ≡ [] = begins.1.homes ∙ no_homes t image p codable compiled in
+          let begins : Extends g begun_there (Makes (tt {0}) b.begin) = subst (λ (m : Made (Unit {0})). Extends g begun_there m) b.started (initials_grow g has alive every ready scope active (0 + length locals) locals 0 begun_there isin initial) in
+          let homes : b.begin.homes ≡ [] = begins.1.homes ∙ starts_grown.1.homes ∙ no_homes t image p codable compiled in
           let grown : Extends g b.begin (Makes b.n b.e) = subst (λ (m : Made ℕ). Extends g b.begin m) b.is (row_grows g has alive every (all_numbered t p (the_words t image p codable compiled)) ready (all_declared t p (the_words t image p codable compiled)) scope active falls row frame (0 + length locals) b.begin refl among homes code) in
           let at_end : Within g b.e = earlier g b.e (with_instr I.FrontHalt b.e) 1 (and_one g I.FrontHalt b.e) whole in
-          let first : Within g constants_there = earlier g constants_there b.begin begins.0 begins.1 (earlier g b.begin b.e grown.0 grown.1 at_end) in
-          let c = placed first in
-          let free = (constants_grow t image p codable compiled).regs in
+          let first : Within g begun_there = earlier g begun_there b.begin begins.0 begins.1 (earlier g b.begin b.e grown.0 grown.1 at_end) in
+          let c = opened_so first in
+          let free_before = (constants_grow t image p codable compiled).regs in
+          let longer = starts_grown.1.regs in
+          let free : first_free own ≤ begun_there.regs = omega (arith, free_before, longer) in
           let more = begins.1.regs in
-          let sim : Sim g alive begun_body c.t = sim_same g has alive every in_main begun_body c.t same_scalars refl refl refl (begins_so c first) in
-          comes constants_there b.e b.n c.t body_run whole (go_closed _ _ (begins_closed scope active 0 locals begun_body) (λ u. closed_row scope active row inside closed (0 + length locals) u)) c.go
-          (go_after g has alive every ready scope active constants_there c.t (Left g alive frame constants_there c.t) (initialised scope active 0 locals begun_body) (all_executed scope row (0 + length locals) active) tt b.begin (Makes b.n b.e)
-          (subst (λ (m : Made (Unit {0})). Follows g (RanOn g alive constants_there c.t) c.t (initialised scope active 0 locals begun_body) m) b.started (initials_follow g has alive every ready scope active (0 + length locals) locals 0 constants_there c.t begun_body isin stand initial free c.at sim))
+          let sim : Sim g alive begun_body c.there = sim_same g has alive every in_main begun_body c.there same_scalars refl refl refl c.sim in
+          comes begun_there b.e b.n c.there body_run whole (go_closed _ _ (begins_closed scope active 0 locals begun_body) (λ u. closed_row scope active row inside closed (0 + length locals) u)) c.go
+          (go_after g has alive every ready scope active begun_there c.there (Left g alive frame begun_there c.there) (initialised scope active 0 locals begun_body) (all_executed scope row (0 + length locals) active) tt b.begin (Makes b.n b.e)
+          (subst (λ (m : Made (Unit {0})). Follows g (RanOn g alive begun_there c.there) c.there (initialised scope active 0 locals begun_body) m) b.started (initials_follow g has alive every ready scope active (0 + length locals) locals 0 begun_there c.there begun_body isin stand initial free c.at sim))
           grown
-          (λ u ran. follows_from g alive frame constants_there b.begin begins.0 c.t ran.t (all_executed scope row (0 + length locals) active u) (Makes b.n b.e) begins.1 ran.go ran.keeps
+          (λ u ran. follows_from g alive frame begun_there b.begin begins.0 c.there ran.t (all_executed scope row (0 + length locals) active u) (Makes b.n b.e) begins.1 ran.go ran.keeps
           (subst (λ (m : Made ℕ). Follows g (Left g alive frame b.begin ran.t) ran.t (all_executed scope row (0 + length locals) active u) m) b.is
           (row_follows g has alive every (all_numbered t p (the_words t image p codable compiled)) ready (all_declared t p (the_words t image p codable compiled)) scope active falls row inside frame (0 + length locals) b.begin ran.t u refl among homes (omega (arith, free, more)) ran.at ran.sim code))))
         where
@@ -276,12 +302,12 @@ module _ (t : Typed) (image : Image) (p : IsScalarProgram t) (codable : IsCodabl
         let code = block_code g has alive every (all_numbered t p (the_words t image p codable compiled)) ready (all_declared t p (the_words t image p codable compiled)) scope active falls 0 locals q row c in
         let stand = first_part (map info_of locals.items) (row_variables row) (block_stands g has alive every (all_numbered t p (the_words t image p codable compiled)) ready (all_declared t p (the_words t image p codable compiled)) scope active falls 0 locals q row c) in
         let initial = coded g has alive every ready scope active (0 + length locals.items) locals.items c.shaped.0 c.lowerable.0 c.names.0 in
-        let whole : finish (statements_behind locals.items row (all_initialised t own locals.items 0 constants_there)) ≡ the_unit =
-        sym (ap (λ (m : Made (Unit {0})). finish (then_make (then_make m (λ u between. then_make (all_initialised t own locals.items 0 between) (λ v after. Makes (0 + length locals.items) after))) (λ number after. statements_of t own row frame [] number after))) (none_cleared g has alive every ready scope active locals.items 0 constants_there h.0))
-        ∙ sym (ap (λ (b : TStmt). finish (body_of t own frame b constants_there)) is)
+        let whole : finish (statements_behind locals.items row (all_initialised t own locals.items 0 begun_there)) ≡ the_unit =
+        sym (ap (λ (m : Made (Unit {0})). finish (then_make (then_make m (λ u between. then_make (all_initialised t own locals.items 0 between) (λ v after. Makes (0 + length locals.items) after))) (λ number after. statements_of t own row frame [] number after))) (none_cleared g has alive every ready scope active locals.items 0 begun_there h.0))
+        ∙ sym (ap (λ (b : TStmt). finish (body_of t own frame b begun_there)) is)
         ∙ main_is t image p codable compiled in
         subst (λ (r : Run). ComesTo image opened r) (sym (ap (λ (o : Option Instance). run_of (run_body t (calls t turns) o [] active first_state)) (first_is t p (the_words t image p codable compiled)) ∙ ap (λ (b : TStmt). run_from (executed scope b 0 active in_main)) is))
-        (body_comes locals.items row h.0 h.1 h.2 stand initial code (built_so locals.items row (all_initialised t own locals.items 0 constants_there) refl whole))
+        (body_comes locals.items row h.0 h.1 h.2 stand initial code (built_so locals.items row (all_initialised t own locals.items 0 begun_there) refl whole))
     runs _ is h = absurd h
 
 pub means_source : CodeMeansSource

@@ -107,9 +107,9 @@ unfoldable pub IsMainBody : TStmt → Type 0
 IsMainBody (S.Block' locals p statements) = All IsInLocal locals.items × AreInStatements statements × AreClosed statements
 IsMainBody _ = ⊥
 
--- a variable of the file that begins with 0
+-- a variable of the file, which begins with a number of 32 bits
 abbrev pub IsPlainVariable : VarInfo → Type 0
-IsPlainVariable info = IsWordVariable info × (info.start ≡ 0)
+IsPlainVariable info = IsWordVariable info × (info.start < 2 ^ 32)
 
 -- a program of one function, which ends without `return`
 pub record IsScalarProgram (t : Typed) : Type 0 where
