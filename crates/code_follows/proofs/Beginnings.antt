@@ -1,5 +1,5 @@
 -- The values that the variables of the file begin with.
-use Rattle.std.proofs.Common.{◌≡◌, ◌∙◌, ℕ, zero, suc, ◌+◌, ◌<◌, ◌≤◌, ◌^◌, ◌==◌, Bool, true, false, List, [], ◌∷◌, length, slice_get, slice_index, slice_set, Option, Some, None, refl, sym, ap, subst, if◌then◌else◌, arith}
+use Rattle.std.proofs.Common.{◌≡◌, ◌∙◌, ℕ, zero, suc, ◌+◌, ◌<◌, ◌≤◌, ◌^◌, ◌==◌, Bool, true, false, List, [], ◌∷◌, length, slice_get, slice_index, Option, Some, None, refl, sym, ap, if◌then◌else◌, arith}
 use Rattle.std.specs.List.{All}
 use Rattle.std.proofs.lemmas.Bool.{eqb-true}
 use Rattle.std.proofs.lemmas.List.{get_or-set_other, get_or-set_same}
@@ -11,7 +11,7 @@ use Rattle.cstar_tree.specs.declared.typed.VarInfo.{VarInfo}
 use Rattle.cstar_tree.specs.declared.typed.Variable.TheVariants as V
 use Rattle.code_lengths.specs.Growth.{Extended}
 use Rattle.code_lengths.proofs.Drafting.{as_it_was, extended}
-use Rattle.lower_base.specs.Drafts.{Draft, Fails, Made, Makes, step as step_of, then_make, with_instr}
+use Rattle.lower_base.specs.Drafts.{Draft, Made, Makes, step as step_of, then_make, with_instr}
 use Rattle.lower_base.specs.Layouts.{Layout, entries_of, register_of}
 use Rattle.lower_stmt.specs.Programs.{elements_begun, scalar_begun, start_value_of, start_values_of}
 use Rattle.paris_code.specs.declared.instr.Instr.TheVariants as I
@@ -21,7 +21,7 @@ use Rattle.paris_code.specs.Sending.{word_kind}
 use Rattle.code_follows.specs.Fragment.{IsPlainVariable}
 use Rattle.code_follows.proofs.Declaring.{all_first, all_rest}
 use Rattle.code_follows.proofs.Settings.{At, Reaches, Setting, Within, and_one, at_next, begins_here, earlier, one, onto, stay}
-use Rattle.code_follows.proofs.Words.{held_converted, held_wide}
+use Rattle.code_follows.proofs.Words.{held_converted, held_wide, some_same}
 
 rounded_wide : (kind : Elem) (x : ℕ) → kind.bits ≡ 32 → x < 2 ^ 32 → rounded kind x ≡ x
 unfolding rounded
@@ -147,7 +147,7 @@ module _ (l : Layout) where
         let first = one_run info n d s (all_first IsPlainVariable info infos all) here (earlier g middle (starts_put infos (n + 1) middle) grown.0 grown.1 within) (fits (length infos) room) (zeros n (omega arith) (first_of (length infos))) in
         let long = first.registers in
         let rest = starts_run infos (n + 1) middle first.t (all_rest IsPlainVariable info infos all) first.at within (fits_on (length infos) room (length first.t.registers) long)
-            (λ q lo hi. first.others q (λ e. omega (arith, e, lo)) ∙ zeros q (omega (arith, lo)) (inside (length infos) q hi)) in
+        (λ q lo hi. first.others q (λ e. omega (arith, e, lo)) ∙ zeros q (omega (arith, lo)) (inside (length infos) q hi)) in
         record {
           t = rest.t;
           go = onto g s first.t rest.t first.go rest.go;
@@ -179,11 +179,8 @@ module _ (l : Layout) where
         over : (k q : ℕ) → n + suc k ≤ q → q ≡ n → ⊥
         over k q h e = omega (arith, h, e)
 
-        same_info : (a b : VarInfo) → Some a ≡ Some b → a ≡ b
-        same_info a b e = ap (λ (o : Option VarInfo). elim o as (λ _. VarInfo) [ None ↦ a | Some x ↦ x ]) e
-
         each : (k : ℕ) (other : VarInfo) → slice_get (info ∷ infos) k ≡ Some other → (registers : List ℕ) → ((k : ℕ) (other : VarInfo) → slice_get infos k ≡ Some other → slice_index registers (n + 1 + k) ≡ other.start) → slice_index registers n ≡ info.start → slice_index registers (n + k) ≡ other.start
-        each zero other is registers are here = ap (λ (q : ℕ). slice_index registers q) (nothing_more n) ∙ here ∙ ap (λ (i : VarInfo). i.start) (same_info info other is)
+        each zero other is registers are here = ap (λ (q : ℕ). slice_index registers q) (nothing_more n) ∙ here ∙ ap (λ (i : VarInfo). i.start) (some_same info other is)
           where
             nothing_more : (n : ℕ) → n + 0 ≡ n
             nothing_more n = omega arith

@@ -126,11 +126,6 @@ module _ (g : Setting) where
   then_follows R Q s s0 (Source.Gives x st) k Fails next go h grows f = tt
   then_follows R Q s s0 (Source.Ends early st) k Fails next go h grows f = tt
 
-  -- code that answers, where the source goes on
-  pub made_then : {A B C : Type 0} (Q : A → State → C → Draft → Type 0) (s : CodeState) (o : Outcome A) (y : B) (e : Draft) (next : B → Draft → Made C) → Follows Q s o (next y e) → Follows Q s o (then_make (Makes y e) next)
-  unfolding then_make
-  made_then Q s o y e next h = h
-
   pub extends_made : {A : Type 0} (d e : Draft) (n : ℕ) (made : Made A) → Extended d n e → Extends e made → Extends d made
   unfolding Extends
   extends_made d e n (Makes x f) a b = (n + b.0, extended d e f n b.0 a b.1)
@@ -203,15 +198,6 @@ module _ (g : Setting) where
   then_gives R Q s (Source.Ends early st) f (Makes y e) h next = h
   then_gives R Q s (Source.Gives x st) f Fails h next = tt
   then_gives R Q s (Source.Ends early st) f Fails h next = tt
-
-  -- a part, and what is made of its value and of the state behind it
-  pub then_changes : {A B C : Type 0} (R : A → State → B → Draft → Type 0) (Q : C → State → B → Draft → Type 0) (s : CodeState) (o : Outcome A) (f : A → C) (h : A → State → State) (made : Made B) → Follows R s o made
-      → ((x : A) (st : State) (y : B) (e : Draft) → R x st y e → Q (f x) (h x st) y e) → Follows Q s (then_do o (λ x after. Source.Gives (f x) (h x after))) made
-  unfolding Follows then_do
-  then_changes R Q s (Source.Gives x st) f h (Makes y e) follows next = λ w. next x st y e (follows w)
-  then_changes R Q s (Source.Ends early st) f h (Makes y e) follows next = follows
-  then_changes R Q s (Source.Gives x st) f h Fails follows next = tt
-  then_changes R Q s (Source.Ends early st) f h Fails follows next = tt
 
   -- a part whose code is made, and then another
   pub then_on : {A B C D : Type 0} (R : A → State → B → Draft → Type 0) (Q : C → State → D → Draft → Type 0) (s : CodeState) (o : Outcome A) (k : A → State → Outcome C) (y : B) (e : Draft) (made : Made D) → Follows R s o (Makes y e) → Extends e made

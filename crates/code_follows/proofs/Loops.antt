@@ -1,12 +1,10 @@
 -- The turns of a loop.
-use Rattle.std.proofs.Common.{◌≡◌, ◌∙◌, ℕ, zero, suc, ◌+◌, ◌≤◌, ◌&&◌, Bool, true, false, length, refl, sym, ap, arith}
+use Rattle.std.proofs.Common.{◌≡◌, ◌∙◌, ℕ, zero, suc, ◌+◌, ◌≤◌, Bool, true, false, length, refl, sym, ap, arith}
 use Rattle.cstar_tree.specs.declared.typed.TExpr.{TExpr}
-use Rattle.cstar_tree.specs.declared.typed.TExpr as T
 use Rattle.cstar_tree.specs.declared.typed.TStmt.{TStmt}
 use Rattle.cstar_tree.specs.declared.typed.Variable.{Variable}
 use Rattle.code_lengths.specs.Growth.{Extended}
 use Rattle.lower_base.specs.Drafts.{Draft, Makes, with_instr}
-use Rattle.lower_expr.specs.Operands.{is_quiet}
 use Rattle.lower_stmt.specs.declared.statement.Frame.{Frame}
 use Rattle.meaning_laws.proofs.Parts.{behind as state_after}
 use Rattle.paris_code.specs.declared.instr.Instr.TheVariants as I
@@ -23,26 +21,8 @@ use Rattle.code_follows.specs.Fragment.{IsIn}
 use Rattle.code_follows.proofs.Executing.{Halted, Jumped, Left, RanOn, Tested, no_break, no_continue, no_return}
 use Rattle.code_follows.proofs.Following.{Finishes, Follows, Keeps, Sim, finishes_later, keeps_all}
 use Rattle.code_follows.proofs.Jumping.{behind_turn, moved_to, returns_to, sim_moved, sim_spent, spends, stops}
+use Rattle.code_follows.proofs.Words.{in_quiet}
 use Rattle.code_follows.proofs.Settings.{At, Reaches, Setting, Within, and_one, code_more, earlier, ends_later, onto, start}
-
-both : (a b : Bool) → a ≡ true → b ≡ true → (a && b) ≡ true
-both true true h k = refl
-both false b h k = cc
-both true false h k = cc
-
--- what is of the fragment has no effects
-in_quiet : (e : TExpr) → IsIn e → is_quiet e ≡ true
-unfolding IsIn is_quiet
-in_quiet (T.Number ty value) h = refl
-in_quiet (T.PositionsOf ty shape value) h = refl
-in_quiet (T.RankOf ty shape value) h = refl
-in_quiet (T.DimOf ty shape axis value) h = refl
-in_quiet (T.Variable ty x) h = refl
-in_quiet (T.Brackets' ty p inner) h = in_quiet inner h.1
-in_quiet (T.Convert' ty p operand) h = in_quiet operand h.1
-in_quiet (T.Unary' ty op p operand) h = in_quiet operand h.1
-in_quiet (T.Binary' ty place op p left q right) h = both (is_quiet left) (is_quiet right) (in_quiet left h.1) (in_quiet right h.2)
-in_quiet _ h = absurd h
 
 -- so its test leaves the state
 test_still : (scope : Scope) (active : Active) (test : TExpr) (st u : State) (b : Bool) → IsIn test → passes scope active test st ≡ Source.Gives b u → u ≡ st

@@ -1,6 +1,6 @@
 -- What a scalar program begins with, and its one unit.
 use Rattle.std.proofs.Common.{◌≡◌, ◌∙◌, ℕ, zero, suc, ◌+◌, ◌<◌, ◌≤◌, ◌==◌, Bool, true, false, List, [], ◌∷◌, ◌++◌, map, length, take, length-append, slice_get, slice_index, Option, Some, None, refl, sym, ap, subst, if◌then◌else◌, arith}
-use Rattle.std.proofs.lemmas.Bool.{eq-eqb, eqb-true}
+use Rattle.std.proofs.lemmas.Bool.{eqb-true}
 use Rattle.std.proofs.lemmas.Option.{slice_get_within}
 use Rattle.std.proofs.lemmas.List.{append-nil, get_or-set_other, get_or-set_same}
 use Rattle.std.proofs.Math.ListN.{length-set}
@@ -29,7 +29,7 @@ use Rattle.lower_base.specs.Constants.{first_free, register_with}
 use Rattle.lower_base.specs.Drafts.{Draft, Made, Makes, draft, step as step_of, then_make, with_instr}
 use Rattle.lower_base.specs.Layouts.{Layout}
 use Rattle.lower_stmt.specs.Statements.{body_of, ended}
-use Rattle.lower_stmt.specs.Programs.{begun as begun_of, blank, body_frame, constants_put, elements_begun, joined, scalar_begun, slots_behind, start_value_of, start_values_of, own_fields_of, own_result_of, unit_of, units_of}
+use Rattle.lower_stmt.specs.Programs.{begun as begun_of, blank, body_frame, constants_put, joined, slots_behind, own_fields_of, own_result_of, unit_of, units_of}
 use Rattle.paris_code.specs.declared.program.Image.{Image}
 use Rattle.paris_code.specs.declared.program.Unit.{Unit as CodeUnit}
 use Rattle.paris_code.specs.declared.instr.Instr.TheVariants as I

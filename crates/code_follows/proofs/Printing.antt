@@ -22,7 +22,7 @@ use Rattle.lower_base.specs.declared.emit.Out.TheVariants as O
 use Rattle.lower_base.specs.Constants.{first_free}
 use Rattle.lower_base.specs.Drafts.{Draft, Fails, Made, Makes, Plain, in_register, step as step_of, then_make, with_instr}
 use Rattle.lower_expr.specs.Kinds.{list_bits}
-use Rattle.lower_expr.specs.Operands.{are_quiet, is_quiet}
+use Rattle.lower_expr.specs.Operands.{are_quiet}
 use Rattle.lower_expr.specs.Steps.{pieces_printed}
 use Rattle.lower_expr.specs.Values.{values_of}
 use Rattle.paris_code.specs.declared.instr.Instr.TheVariants as I
@@ -36,26 +36,12 @@ use Rattle.source_meaning.specs.Printing.{printed}
 use Rattle.source_meaning.specs.State as Source
 use Rattle.source_meaning.specs.State.{Outcome, State, then_do, with_output}
 use Rattle.source_meaning.specs.Values.{Active, Nothing, Scope, Value, number}
-use Rattle.code_follows.specs.Fragment.{AreIn, IsIn}
+use Rattle.code_follows.specs.Fragment.{AreIn}
 use Rattle.code_follows.proofs.Expressions.{operand, operand_grows}
 use Rattle.code_follows.proofs.Following.{Arrives, Extends, Follows, HasRegisters, Holds, Keeps, Ran, Sim, delayed, extends_made, extends_then, finishes_later, keeps_all, keeps_on, knowing, then_follows}
 use Rattle.code_follows.proofs.Settings.{At, Reaches, Setting, and_one, at_next, begins_here, layout, one, onto, placed_instr, stay}
 use Rattle.code_follows.proofs.Values.{Value_of, extends_in_register}
-use Rattle.code_follows.proofs.Words.{below_word, held_wide, word_type}
-
--- the fragment's expressions have no effects
-quiet : (e : TExpr) → IsIn e → is_quiet e ≡ true
-unfolding IsIn is_quiet
-quiet (T.Number ty value) h = refl
-quiet (T.PositionsOf ty shape value) h = refl
-quiet (T.RankOf ty shape value) h = refl
-quiet (T.DimOf ty shape axis value) h = refl
-quiet (T.Variable ty x) h = refl
-quiet (T.Brackets' ty p inner) h = quiet inner h.1
-quiet (T.Convert' ty p operand) h = quiet operand h.1
-quiet (T.Unary' ty op p operand) h = quiet operand h.1
-quiet (T.Binary' ty place op p left q right) h = let a = quiet left h.1 in let b = quiet right h.2 in cc
-quiet _ h = absurd h
+use Rattle.code_follows.proofs.Words.{below_word, held_wide, in_quiet, word_type}
 
 module _ (g : Setting) (has : HasRegisters g) (alive : Variable → Type 0) (n : ℕ) (lives : (x : Variable) → IsDeclared n x → alive x) (ready : (d : Draft) → IsReady g.typed g.instance (layout g) n d) (scope : Scope) (active : Active) where
   -- seen from an earlier state of the code, with what is made of the value
@@ -130,7 +116,7 @@ module _ (g : Setting) (has : HasRegisters g) (alive : Variable → Type 0) (n :
       first v u out after both others =
           let arr = both.1 in
           let longer = arr.extended.1.regs in
-          let calm : u ≡ st = sym (ap (λ (o : Outcome Value). state_behind o) both.0) ∙ Quiet.expression scope e active st (quiet e h.0) in
+          let calm : u ≡ st = sym (ap (λ (o : Outcome Value). state_behind o) both.0) ∙ Quiet.expression scope e active st (in_quiet e h.0) in
           moved (Given true after arr.t u (outs ++ out ∷ [])) (Given true d s st outs) s arr.t (operands scope rest active u) (λ given. record { elem = (type_of e).elem; value = v } ∷ given) _ arr.go (others arr.t (omega (arith, free, longer)) arr.at arr.sim)
           (λ given w all later r. record {
             grown = (arr.extended.0 + r.grown.0, extended d after later arr.extended.0 r.grown.0 arr.extended.1 r.grown.1);
@@ -228,7 +214,7 @@ module _ (g : Setting) (has : HasRegisters g) (alive : Variable → Type 0) (n :
   arguments_quiet : {k : Count} (row : Row_of-TExpr k) → AreIn row → are_quiet row ≡ true
   unfolding AreIn are_quiet
   arguments_quiet end_of-TExpr h = refl
-  arguments_quiet (more_of-TExpr e rest) h = let a = quiet e h.0 in let b = arguments_quiet rest h.1 in cc
+  arguments_quiet (more_of-TExpr e rest) h = let a = in_quiet e h.0 in let b = arguments_quiet rest h.1 in cc
 
   pub arguments_code : {k : Count} (row : Row_of-TExpr k) → AreShaped row → AreLowerable g.typed row → AllNameVariables g.typed g.instance n row → HaveCode g.typed g.instance n row
   unfolding HaveCode AreShaped AreLowerable AllNameVariables

@@ -1,5 +1,5 @@
 -- The code of a unit stands in the image of the placed and linked program, over bits.
-use Rattle.std.proofs.Common.{◌≡◌, ℕ, suc, zero, ◌+◌, ◌≤◌, List, [], ◌∷◌, ◌++◌, length, map, slice_get, Option, Some, None, refl, sym, ap, ◌∙◌, subst, arith}
+use Rattle.std.proofs.Common.{◌≡◌, ℕ, suc, zero, ◌+◌, List, [], ◌∷◌, ◌++◌, length, map, slice_get, Option, Some, None, refl, sym, ap, ◌∙◌, subst, arith}
 use Rattle.std.specs.List.{slice_index_or, AllZip}
 use Rattle.paris_code.specs.declared.instr.Instr.{Instr}
 use Rattle.paris_code.specs.declared.instr.Instr.TheVariants as I
@@ -72,12 +72,6 @@ unfoldable pub start_in : List CodeUnit → ℕ → ℕ → ℕ
 start_in [] number start = start
 start_in (u ∷ us) zero start = start
 start_in (u ∷ us) (suc number) start = start_in us number (start + length u.code.items)
-
-start_later : (us : List CodeUnit) (number start : ℕ) → start ≤ start_in us number start
-unfolding start_in
-start_later [] number start = omega arith
-start_later (u ∷ us) zero start = omega arith
-start_later (u ∷ us) (suc number) start = let h = start_later us number (start + length u.code.items) in omega (arith, h)
 
 get_front : (xs ys : List Instr) (n : ℕ) (x : Instr) → slice_get xs n ≡ Some x → slice_get (xs ++ ys) n ≡ Some x
 get_front [] ys n x e = cc

@@ -12,7 +12,7 @@ use Rattle.code_lengths.specs.Ready.{Declares, HasCode, HasDeclared, HasStatemen
 use Rattle.code_lengths.specs.LowerableStatements.{IsLowerableStatement}
 use Rattle.code_lengths.specs.NamingStatements.{StandFrom, StatementNamesVariables}
 use Rattle.code_lengths.specs.ShapedStatements.{IsShapedStatement}
-use Rattle.code_lengths.proofs.Declaring.{else_variables, first_part, of_do, of_if, of_while, second_part}
+use Rattle.code_lengths.proofs.Declaring.{else_variables, first_part, of_do, of_if, second_part}
 use Rattle.code_lengths.proofs.StatementLengths.{statements}
 use Rattle.source_meaning.proofs.ConstantLaws.{Boxed}
 use Rattle.lower_base.specs.Drafts.{Draft, Fails, Made, Makes}
@@ -78,19 +78,6 @@ module _ (g : Setting) (numbers : NumbersVariables g.instance (layout g)) (decla
   pub if_test : (n : ℕ) (test : TExpr) (p : Boxed) (first : TStmt) (second : Held-TStmt-If-2) → HasStatementCode g.typed g.instance n (S.If' test p first second) → HasCode g.typed g.instance n test
   unfolding IsShapedStatement IsLowerableStatement StatementNamesVariables
   if_test n test p first second c = record { shaped = c.shaped.0; lowerable = c.lowerable.0.1; names = c.names.0 }
-
-  pub while_test : (n : ℕ) (test : TExpr) (p : Boxed) (body : TStmt) → HasStatementCode g.typed g.instance n (S.While' test p body) → HasCode g.typed g.instance n test
-  unfolding IsShapedStatement IsLowerableStatement StatementNamesVariables
-  while_test n test p body c = record { shaped = c.shaped.0; lowerable = c.lowerable.0.1; names = c.names.0 }
-
-  pub while_body : (n : ℕ) (test : TExpr) (p : Boxed) (body : TStmt) → HasStatementCode g.typed g.instance n (S.While' test p body) → HasStatementCode g.typed g.instance n body
-  unfolding IsShapedStatement IsLowerableStatement StatementNamesVariables
-  while_body n test p body c = record {
-    shaped = c.shaped.1;
-    lowerable = c.lowerable.1;
-    names = c.names.1;
-    stands = subst (λ (own : List VarInfo). StandFrom (variables_of g.instance.body) n own) (of_while test p body) c.stands;
-  }
 
   pub do_test : (n : ℕ) (p : Boxed) (body : TStmt) (test : TExpr) → HasStatementCode g.typed g.instance n (S.Do' p body test) → HasCode g.typed g.instance n test
   unfolding IsShapedStatement IsLowerableStatement StatementNamesVariables

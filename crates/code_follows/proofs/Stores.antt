@@ -21,7 +21,7 @@ use Rattle.source_meaning.specs.Values.{Scalar, Value}
 use Rattle.code_follows.proofs.Following.{HasRegisters, IsScalar, Keeps, Sim, held}
 use Rattle.code_follows.proofs.Settings.{At, Reaches, Setting, Within, and_one, at_next, begins_here, layout, one, onto, placed_instr}
 use Rattle.code_follows.proofs.Values.{Dest}
-use Rattle.code_follows.proofs.Words.{held_wide}
+use Rattle.code_follows.proofs.Words.{held_wide, some_same}
 
 -- names are the same exactly where they are equal
 same_is : (x y : Variable) → is_same x y ≡ true → x ≡ y
@@ -59,9 +59,6 @@ constant_above : (l : Layout) (word r : ℕ) → constant_register l word ≡ So
 unfolding constant_register
 constant_above l word r is = search_above l.constants word l.end r is
 
-same_info : (a b : VarInfo) → Some a ≡ Some b → a ≡ b
-same_info a b e = ap (λ (o : Option VarInfo). elim o as (λ _. VarInfo) [ None ↦ a | Some x ↦ x ]) e
-
 module _ (g : Setting) (has : HasRegisters g) (alive : Variable → Type 0) (x : Variable) (info : VarInfo) (lives : alive x) (scalar : IsScalar g x info) where
   abbrev own : ℕ
   own = register_of (layout g) x
@@ -84,7 +81,7 @@ module _ (g : Setting) (has : HasRegisters g) (alive : Variable → Type 0) (x :
   }
     where
       infos : (y : Variable) (other : VarInfo) → variable_named g.typed g.instance y ≡ Some other → x ≡ y → info ≡ other
-      infos y other known e = same_info info other (sym scalar.0 ∙ ap (λ (z : Variable). variable_named g.typed g.instance z) e ∙ known)
+      infos y other known e = some_same info other (sym scalar.0 ∙ ap (λ (z : Variable). variable_named g.typed g.instance z) e ∙ known)
 
       by_name : (y : Variable) (other : VarInfo) → alive y → IsScalar g y other → (b : Bool) → is_same x y ≡ b → slice_index (slice_set s.registers own (held info.elem w)) (register_of (layout g) y) ≡ held other.elem (if is_same x y then w else st.scalar y)
       by_name y other living known true is =

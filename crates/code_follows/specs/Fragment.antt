@@ -1,4 +1,4 @@
--- The expressions of which it is said so far that their code means them: scalar ones of 32 bits.
+-- The programs of which it is said so far that their code means them: scalar ones of 32 bits.
 use Rattle.std.specs.Prelude.{◌≡◌, ◌<◌, ◌^◌, false, [], ◌∷◌, IfSome, Option, Some, None}
 use Rattle.std.specs.List.{All}
 use Rattle.cstar_tree.specs.declared.typed.TExpr.{TExpr, Row_of-TExpr, end_of-TExpr, more_of-TExpr}
