@@ -26,10 +26,11 @@ use Rattle.lower_base.specs.Layouts.{Numbering, Registers, behind, earlier_base,
 use Rattle.code_follows.specs.Fragment.{IsPlainVariable, IsScalarProgram, IsWordVariable}
 use Rattle.code_lengths.proofs.Drafting.{and_instr, as_it_was, extended}
 use Rattle.lower_base.specs.Constants.{first_free, register_with}
-use Rattle.lower_base.specs.Drafts.{Draft, Made, Makes, draft, step as step_of, then_make, with_instr}
+use Rattle.paris_code.specs.declared.program.Owner.TheVariants as W
+use Rattle.lower_base.specs.Drafts.{Draft, Made, Makes, an_entry, draft, step as step_of, then_make, with_instr}
 use Rattle.lower_base.specs.Layouts.{Layout}
 use Rattle.lower_stmt.specs.Statements.{body_of, ended}
-use Rattle.lower_stmt.specs.Programs.{begun as begun_of, blank, body_frame, constants_put, joined, slots_behind, own_fields_of, own_result_of, unit_of, units_of}
+use Rattle.lower_stmt.specs.Programs.{begun as begun_of, blank, body_frame, constants_put, joined, slots_behind, own_field_of, own_fields_of, own_result_of, unit_of, units_of}
 use Rattle.paris_code.specs.declared.program.Image.{Image}
 use Rattle.paris_code.specs.declared.program.Unit.{Unit as CodeUnit}
 use Rattle.paris_code.specs.declared.instr.Instr.TheVariants as I
@@ -235,12 +236,12 @@ module _ (t : Typed) (p : IsScalarProgram t) (words : List ℕ) where
   all_ready n d = record {
     elements = λ v info named declared parallel. absurd (scalar_only v info named parallel);
     fields = λ v info element named declared parallel. absurd (scalar_only v info named parallel);
-    result = λ info is parallel. absurd (no_result info (sym p.result ∙ is));
+    result = λ info is parallel. let none : is_none info.shape ≡ true = ap is_none (p.result info is) in absurd (no_shape info parallel none);
     bases = bases_are;
   }
     where
-      no_result : (info : VarInfo) → None ≡ Some info → ⊥
-      no_result info e = cc
+      no_shape : (info : VarInfo) → is_none info.shape ≡ false → is_none info.shape ≡ true → ⊥
+      no_shape info parallel none = cc
 
   pub all_numbered : NumbersVariables p.main own_layout
   unfolding layout_of entered
@@ -258,6 +259,12 @@ pub starts_at_zero : (us : List CodeUnit) → start_in us 0 0 ≡ 0
 unfolding start_in
 starts_at_zero [] = refl
 starts_at_zero (u ∷ us) = refl
+
+-- a scalar result has no field
+no_own_field : (o : Option VarInfo) (d : Draft) → ((info : VarInfo) → o ≡ Some info → info.shape ≡ None) → own_result_of o d ≡ Makes tt d
+unfolding own_result_of own_field_of
+no_own_field None d plain = refl
+no_own_field (Some info) d plain = ap (λ (o : Option ℕ). elim o as (λ _. Made (Unit {0})) [ None ↦ Makes tt d | Some s ↦ then_make (an_entry s info.elem.bits W.Own d) (λ index after. Makes tt after) ]) (plain info refl)
 
 module _ (t : Typed) (image : Image) (p : IsScalarProgram t) (codable : IsCodable t) (compiled : IsCompiled t image) where
   abbrev pub the_words : List ℕ
@@ -335,6 +342,6 @@ module _ (t : Typed) (image : Image) (p : IsScalarProgram t) (codable : IsCodabl
   unfolding unit_of own_fields_of own_result_of begun_of then_make
   main_is =
       sym (ap (λ (m : Made (Unit {0})). then_make m (λ n start. ending (body_of t the_layout (body_frame true p.main) p.main.body start))) (starts_are the_layout t t.vars.items 0 with_constants p.variables))
-      ∙ sym (ap (λ (o : Option VarInfo). then_make (own_result_of o empty_unit) (λ n ready. then_make (begun_of t the_layout true ready) (λ m start. ending (body_of t the_layout (body_frame true p.main) p.main.body start)))) p.result)
+      ∙ sym (ap (λ (m : Made (Unit {0})). then_make m (λ n ready. then_make (begun_of t the_layout true ready) (λ m start. ending (body_of t the_layout (body_frame true p.main) p.main.body start)))) (no_own_field p.main.result empty_unit p.result))
       ∙ sym (ap (λ (xs : List VarInfo). then_make (own_fields_of xs empty_unit) (λ k d. then_make (own_result_of p.main.result d) (λ n ready. then_make (begun_of t the_layout true ready) (λ m start. ending (body_of t the_layout (body_frame true p.main) p.main.body start))))) p.params)
       ∙ has_unit.made

@@ -116,7 +116,7 @@ pub record IsScalarProgram (t : Typed) : Type 0 where
   pub main : Instance
   pub instances : t.instances.items ≡ main ∷ []
   pub params : main.params.items ≡ []
-  pub result : main.result ≡ None
+  pub result : (info : VarInfo) → main.result ≡ Some info → info.shape ≡ None
   pub body : IsMainBody main.body
   pub locals : All IsWordVariable (variables_of main.body)
   pub ending : ends_in_return main.body ≡ false
