@@ -5,6 +5,7 @@ pub mod Choices
 pub mod Closed
 pub mod Declaring
 pub mod Effects
+pub mod Examples
 pub mod Executing
 pub mod Expressions
 pub mod Following
