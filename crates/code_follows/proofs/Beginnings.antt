@@ -21,7 +21,8 @@ use Rattle.paris_code.specs.Sending.{word_kind}
 use Rattle.code_follows.specs.Fragment.{IsPlainVariable}
 use Rattle.code_follows.proofs.Declaring.{all_first, all_rest}
 use Rattle.code_follows.proofs.Settings.{At, Reaches, Setting, Within, and_one, at_next, begins_here, earlier, one, onto, stay}
-use Rattle.code_follows.proofs.Words.{held_converted, held_wide, some_same}
+use Rattle.code_follows.proofs.Standing.{some_same}
+use Rattle.code_follows.proofs.Words.{held_converted, held_wide}
 
 rounded_wide : (kind : Elem) (x : ℕ) → kind.bits ≡ 32 → x < 2 ^ 32 → rounded kind x ≡ x
 unfolding rounded

@@ -46,7 +46,8 @@ use Rattle.code_follows.specs.Fragment.{IsIn, IsWord}
 use Rattle.code_follows.proofs.Following.{Arrives, Extends, Follows, HasRegisters, IsScalar, held, keeps_all, then_follows, then_gives}
 use Rattle.code_follows.proofs.Settings.{Setting, layout, stay}
 use Rattle.code_follows.proofs.Values.{Does, Value_of, binary_follows, constant_follows, conversion_is, extends_grown, mapped_is, read_is, rewrapped, unary_follows, variable_follows}
-use Rattle.code_follows.proofs.Words.{below_bits, below_word, constant_below, held_converted, held_wide, kept, word_type, some_same}
+use Rattle.code_follows.proofs.Standing.{some_same}
+use Rattle.code_follows.proofs.Words.{below_bits, below_word, constant_below, held_converted, held_wide, kept, word_type}
 
 -- a constant that stands in a register
 pub record StandsAs (l : Layout) (e : TExpr) (r : ℕ) : Type 0 where

@@ -1,5 +1,5 @@
 -- The code of a unit follows the source: what registers hold, and what one instruction does to that.
-use Rattle.std.proofs.Common.{◌≡◌, ◌∙◌, ℕ, suc, ◌+◌, ◌<◌, ◌≤◌, ◌^◌, ◌==◌, Bool, true, false, List, [], ◌∷◌, length, slice_index, Option, Some, None, refl, ap, if◌then◌else◌, arith}
+use Rattle.std.proofs.Common.{◌≡◌, ◌∙◌, ℕ, ◌+◌, ◌<◌, ◌≤◌, ◌^◌, Bool, true, length, slice_index, Some, None, refl, arith}
 use Rattle.std.proofs.lemmas.List.{get_or-set_other, get_or-set_same}
 use Rattle.std.proofs.Math.ListN.{length-set}
 use Rattle.cstar_base.specs.declared.elem.Elem.{Elem}
@@ -11,16 +11,17 @@ use Rattle.code_lengths.specs.Naming.{variable_named}
 use Rattle.code_lengths.proofs.Drafting.{extended}
 use Rattle.lower_base.specs.declared.emit.Out.{Out}
 use Rattle.lower_base.specs.declared.emit.Out.TheVariants as O
-use Rattle.lower_base.specs.Constants.{constant_register, first_free, register_with}
+use Rattle.lower_base.specs.Constants.{constant_register, first_free}
 use Rattle.lower_base.specs.Drafts.{Draft, Fails, Made, Makes, then_make}
-use Rattle.lower_base.specs.Layouts.{Layout, register_of}
+use Rattle.lower_base.specs.Layouts.{register_of}
 use Rattle.paris_code.specs.Code as Machine
 use Rattle.paris_code.specs.Code.{CodeEnd, CodeState, Goes, begun, onward, step, with_register}
 use Rattle.source_meaning.specs.Reductions.{int_type}
 use Rattle.source_meaning.specs.State as Source
 use Rattle.source_meaning.specs.State.{Early, Outcome, State, is_same, then_do, with_scalar}
 use Rattle.source_meaning.specs.Values.{Scalar, Value}
-use Rattle.code_follows.specs.Agreement.{mark_of}
+use Rattle.code_follows.specs.Agreement.{end_of, mark_of}
+use Rattle.code_follows.proofs.ConstantRegisters.{below_values}
 use Rattle.code_follows.proofs.Settings.{At, EndsIn, Reaches, Setting, Within, earlier, ends_later, layout}
 
 -- the word that holds a number of a type: the number promoted to 32 bits
@@ -30,33 +31,10 @@ held elem w = converted int_type elem w
 abbrev pub input_of : State → Machine.Rest
 input_of st = record { bytes = st.input; mark = mark_of st.rest }
 
--- how the code ends where the source does
-abbrev pub end_of : Early → CodeEnd
-end_of (Source.Fault fault place position) = Machine.Fault fault place position
-end_of Source.Stopped = Machine.Stopped
-end_of Source.InputBroken = Machine.InputBroken
-
 -- the registers of an instance's variables are below the constants, each variable has its own
 pub record HasRegisters (g : Setting) : Type 0 where
   pub below : (x : Variable) (info : VarInfo) → variable_named g.typed g.instance x ≡ Some info → register_of (layout g) x < (layout g).end
   pub apart : (x y : Variable) (info other : VarInfo) → variable_named g.typed g.instance x ≡ Some info → variable_named g.typed g.instance y ≡ Some other → register_of (layout g) x ≡ register_of (layout g) y → x ≡ y
-
--- a constant's register is below those of values
-search_below : (words : List ℕ) (word first r : ℕ) → register_with word words first ≡ Some r → r < first + length words
-unfolding register_with
-search_below [] word first r is = cc
-search_below (w ∷ words) word first r is = by (w == word) (λ e. search_below words word (first + 1) r e) is
-  where
-    some_same : (a b : ℕ) → Some a ≡ Some b → a ≡ b
-    some_same a b e = ap (λ (o : Option ℕ). elim o as (λ _. ℕ) [ None ↦ 0 | Some x ↦ x ]) e
-
-    by : (b : Bool) → (register_with word words (first + 1) ≡ Some r → r < first + 1 + length words) → (if b then Some first else register_with word words (first + 1)) ≡ Some r → r < first + suc (length words)
-    by true later e = let h = some_same first r e in omega (arith, h)
-    by false later e = let h = later e in omega (arith, h)
-
-constant_below : (l : Layout) (word r : ℕ) → constant_register l word ≡ Some r → r < first_free l
-unfolding constant_register first_free
-constant_below l word r is = search_below l.constants word l.end r is
 
 module _ (g : Setting) where
   -- a scalar variable of the instance
@@ -163,7 +141,7 @@ module _ (g : Setting) where
     registers = length-set s.registers r v ∙ h.registers;
     scalars = λ x info known scalar. get_or-set_other s.registers r (register_of (layout g) x) v 0 (λ e. let b = has.below x info scalar.0 in omega (arith, e, b, low)) ∙ h.scalars x info known scalar;
     small = h.small;
-    constants = λ word q is. get_or-set_other s.registers r q v 0 (λ e. let b = constant_below (layout g) word q is in omega (arith, e, b, low)) ∙ h.constants word q is;
+    constants = λ word q is. get_or-set_other s.registers r q v 0 (λ e. let b = below_values (layout g) word q is in omega (arith, e, b, low)) ∙ h.constants word q is;
     turns = h.turns;
     output = h.output;
     input = h.input;

@@ -3,6 +3,7 @@ pub mod Beginnings
 pub mod Bodies
 pub mod Choices
 pub mod Closed
+pub mod ConstantRegisters
 pub mod Declaring
 pub mod Effects
 pub mod Examples

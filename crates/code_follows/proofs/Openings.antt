@@ -1,6 +1,5 @@
 -- What a scalar program begins with, and its one unit.
-use Rattle.std.proofs.Common.{◌≡◌, ◌∙◌, ℕ, zero, suc, ◌+◌, ◌<◌, ◌≤◌, ◌==◌, Bool, true, false, List, [], ◌∷◌, ◌++◌, map, length, take, length-append, slice_get, slice_index, Option, Some, None, refl, sym, ap, subst, if◌then◌else◌, arith}
-use Rattle.std.proofs.lemmas.Bool.{eqb-true}
+use Rattle.std.proofs.Common.{◌≡◌, ◌∙◌, ℕ, zero, suc, ◌+◌, ◌<◌, ◌≤◌, true, false, List, [], ◌∷◌, ◌++◌, map, length, take, length-append, slice_get, slice_index, Option, Some, None, refl, sym, ap, subst, arith}
 use Rattle.std.proofs.lemmas.Option.{slice_get_within}
 use Rattle.std.proofs.lemmas.List.{append-nil, get_or-set_other, get_or-set_same}
 use Rattle.std.proofs.Math.ListN.{length-set}
@@ -25,7 +24,7 @@ use Rattle.std.specs.Prelude.{fold, is_none, take}
 use Rattle.lower_base.specs.Layouts.{Numbering, Registers, behind, earlier_base, entered, first_named, entries_of, layout_of, nothing_numbered, numbered, param_entries, register_of, registers_of, result_register, with_instance, with_local}
 use Rattle.code_follows.specs.Fragment.{IsPlainVariable, IsScalarProgram, IsWordVariable}
 use Rattle.code_lengths.proofs.Drafting.{and_instr, as_it_was, extended}
-use Rattle.lower_base.specs.Constants.{first_free, register_with}
+use Rattle.lower_base.specs.Constants.{first_free}
 use Rattle.paris_code.specs.declared.program.Owner.TheVariants as W
 use Rattle.lower_base.specs.Drafts.{Draft, Made, Makes, an_entry, draft, step as step_of, then_make, with_instr}
 use Rattle.lower_base.specs.Layouts.{Layout}
@@ -47,31 +46,6 @@ constants_extend (w ∷ words) r d =
   where
     count : (n : ℕ) → 1 + n ≡ suc n
     count n = omega arith
-
--- where a constant's register is
-pub record IsPlaced (words : List ℕ) (word first r : ℕ) : Type 0 where
-  pub index : ℕ
-  pub inside : index < length words
-  pub register : r ≡ first + index
-  pub value : slice_index words index ≡ word
-
-pub search_at : (words : List ℕ) (word first r : ℕ) → register_with word words first ≡ Some r → IsPlaced words word first r
-unfolding register_with
-search_at [] word first r is = cc
-search_at (w ∷ words) word first r is = by (w == word) refl (λ e. search_at words word (first + 1) r e) is
-  where
-    some_same : (a b : ℕ) → Some a ≡ Some b → a ≡ b
-    some_same a b e = ap (λ (o : Option ℕ). elim o as (λ _. ℕ) [ None ↦ 0 | Some x ↦ x ]) e
-
-    by : (b : Bool) → (w == word) ≡ b → (register_with word words (first + 1) ≡ Some r → IsPlaced words word (first + 1) r) → (if b then Some first else register_with word words (first + 1)) ≡ Some r → IsPlaced (w ∷ words) word first r
-    by true same later e = let h = some_same first r e in record { index = 0; inside = omega arith; register = omega (arith, h); value = eqb-true w word same }
-    by false same later e = let h = later e in record { index = suc h.index; inside = inside_more h.index h.inside; register = moved h.index h.register; value = h.value }
-      where
-        inside_more : (i : ℕ) → i < length words → suc i < length (w ∷ words)
-        inside_more i h = omega (arith, h)
-
-        moved : (i : ℕ) → r ≡ first + 1 + i → r ≡ first + suc i
-        moved i h = omega (arith, h)
 
 module _ (g : Setting) where
   -- the constants stand in their registers, and nothing else has changed

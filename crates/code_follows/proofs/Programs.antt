@@ -32,12 +32,12 @@ use Rattle.paris_code.specs.declared.program.Image.{Image}
 use Rattle.paris_code.specs.Memory.{BitMemory}
 use Rattle.paris_code.specs.Code as Machine
 use Rattle.paris_code.specs.Code.{CodeEnd, CodeState, Ends, begun, opening}
-use Rattle.source_meaning.specs.Programs.{EndsEarly, Run, by_owner, calls, entered, left, meaning, result_of, run_body, run_of, scope_of, start_of, start_state, scalar_given}
+use Rattle.source_meaning.specs.Programs.{Run, by_owner, calls, entered, left, meaning, result_of, run_body, run_of, scope_of, start_of, start_state, scalar_given}
 use Rattle.source_meaning.specs.State as Source
 use Rattle.source_meaning.specs.State.{Outcome, State, then_do, zeroed, is_among}
 use Rattle.source_meaning.specs.Statements.{Broke, Continued, Leaving, Onward, Returned, all_executed, executed, initialised, then_go}
 use Rattle.source_meaning.specs.Values.{Active, Scope}
-use Rattle.code_follows.specs.Agreement.{CodeMeansSource, ComesTo, end_of_run, mark_of}
+use Rattle.code_follows.specs.Agreement.{CodeMeansSource, ComesTo, end_of, mark_of}
 use Rattle.code_follows.specs.Fragment.{AreClosed, AreInStatements, IsInLocal, IsMainBody, IsPlainVariable, IsScalarProgram}
 use Rattle.code_follows.proofs.Bodies.{RowCode, block_code, block_stands, row_follows, row_grows}
 use Rattle.code_follows.proofs.Beginnings.{starts_grow, starts_run}
@@ -50,10 +50,11 @@ use Rattle.code_lengths.proofs.Declaring.{all_at, first_part, info_of, row_varia
 use Rattle.cstar_tree.specs.Variables.{variables_of}
 use Rattle.std.specs.Prelude.{nat_le}
 use Rattle.std.specs.List.{All}
+use Rattle.code_follows.proofs.ConstantRegisters.{constant_at}
 use Rattle.code_follows.proofs.Closed.{NoJump, begins_closed, closed_row, go_closed}
 use Rattle.code_follows.proofs.Executing.{Halted, Left, RanOn, follows_from}
-use Rattle.code_follows.proofs.Following.{Extends, Follows, HasRegisters, Sim, end_of, held}
-use Rattle.code_follows.proofs.Openings.{all_declared, all_numbered, all_ready, apart, below, constants_grow, constants_run, empty_unit, ending, first_is, has_unit, main_is, named_word, no_homes, search_at, behind_files, end_is, starts_at_zero, with_starts, the_layout, the_setting, the_words, with_constants, within_all}
+use Rattle.code_follows.proofs.Following.{Extends, Follows, HasRegisters, Sim, held}
+use Rattle.code_follows.proofs.Openings.{all_declared, all_numbered, all_ready, apart, below, constants_grow, constants_run, empty_unit, ending, first_is, has_unit, main_is, named_word, no_homes, behind_files, end_is, starts_at_zero, with_starts, the_layout, the_setting, the_words, with_constants, within_all}
 use Rattle.code_follows.proofs.Settings.{onto, At, EndsIn, Reaches, Setting, Within, and_one, begins_here, earlier, ends_later, ends_now, start}
 use Rattle.code_follows.proofs.Words.{held_wide}
 
@@ -158,10 +159,9 @@ module _ (t : Typed) (image : Image) (p : IsScalarProgram t) (codable : IsCodabl
     unfolding scope_of
     falls s n st = ((statement_grows 0 turns scope (calls t turns) (calls t turns) (calls_grow t turns) s n active).first st).0
 
-    constant_at : (u : CodeState) → ((i : ℕ) → i < length own.constants → slice_index u.registers (own.end + i) ≡ slice_index own.constants i) → (word r : ℕ) → constant_register own word ≡ Some r → slice_index u.registers r ≡ word
-    unfolding constant_register
-    constant_at u are word r is =
-        let h = search_at own.constants word own.end r is in
+    constant_there : (u : CodeState) → ((i : ℕ) → i < length own.constants → slice_index u.registers (own.end + i) ≡ slice_index own.constants i) → (word r : ℕ) → constant_register own word ≡ Some r → slice_index u.registers r ≡ word
+    constant_there u are word r is =
+        let h = constant_at own word r is in
         ap (λ (q : ℕ). slice_index u.registers q) h.register ∙ are h.index h.inside ∙ h.value
 
     register_value : (x : Variable) (info : VarInfo) → variable_named t p.main x ≡ Some info → (u : CodeState) → ((k : ℕ) (info : VarInfo) → slice_get t.vars.items k ≡ Some info → slice_index u.registers (0 + k) ≡ info.start)
@@ -208,7 +208,7 @@ module _ (t : Typed) (image : Image) (p : IsScalarProgram t) (codable : IsCodabl
           registers = long;
           scalars = λ x info living scalar. scalars x info scalar.0;
           small = λ x info living scalar. subst (λ (b : ℕ). in_main.scalar x < 2 ^ b) (sym (named_word t p (the_words t image p codable compiled) x info scalar.0).1) (zero_or_started x info scalar.0);
-          constants = λ word r is. constant_at u constants word r is;
+          constants = λ word r is. constant_there u constants word r is;
           turns = same_turns;
           output = same_output;
           input = same_input;
@@ -230,11 +230,6 @@ module _ (t : Typed) (image : Image) (p : IsScalarProgram t) (codable : IsCodabl
     ended_so d e n s Continued u within closed ran = absurd closed
     ended_so d e n s (Returned v) u within closed ran = ran
 
-    same_end : (early : Source.Early) → end_of early ≡ end_of_run (EndsEarly early)
-    same_end (Source.Fault fault place position) = refl
-    same_end Source.Stopped = refl
-    same_end Source.InputBroken = refl
-
     abbrev run_from : Outcome Leaving → Run
     run_from o = run_of (then_do o (λ leaving after. Source.Gives (result_of p.main.result leaving) (left first_state after)))
 
@@ -247,7 +242,7 @@ module _ (t : Typed) (image : Image) (p : IsScalarProgram t) (codable : IsCodabl
     comes d e n s (Source.Ends early u) within closed go follows =
         let h = follows (earlier g e (with_instr I.FrontHalt e) 1 (and_one g I.FrontHalt e) within) in
         let x = ends_later g opened s h.t (end_of early) go h.ends in
-        record { steps = x.steps; last = h.t; ends = x.is ∙ ap (λ (c : CodeEnd). Ends c h.t) (same_end early); turns = h.turns; output = h.output }
+        record { steps = x.steps; last = h.t; ends = x.is; turns = h.turns; output = h.output }
 
     module _ {k : Count} (locals : List LocalVar) (row : Row_of-TStmt k) where
       abbrev begun_body : State

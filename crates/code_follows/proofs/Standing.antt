@@ -33,20 +33,20 @@ placed_plain p (I.MakeAddress dest set coordinates) j over e h = cc
 placed_plain p (I.CheckTarget set place coordinates) j over e h = cc
 placed_plain p _ j over e h = h
 
-some_same : {A : Type 0} (d x y : A) → Some x ≡ Some y → x ≡ y
-some_same {A = A} d x y e = ap (λ (o : Option A). elim o as (λ _. A) [ None ↦ d | Some z ↦ z ]) e
+pub some_same : {A : Type 0} (x y : A) → Some x ≡ Some y → x ≡ y
+some_same {A = A} x y e = ap (λ (o : Option A). elim o as (λ _. A) [ None ↦ x | Some z ↦ z ]) e
 
 -- a step of the description is the instruction there
 step_there : (code : List Instr) (at : ℕ) (j : Instr) → slice_get (map step_of code) at ≡ Some (Plain j) → (i : Instr) × ((slice_get code at ≡ Some i) × (step_of i ≡ Plain j))
 step_there [] at j e = cc
-step_there (i ∷ code) zero j e = (i, (refl, some_same (Plain j) (step_of i) (Plain j) e))
+step_there (i ∷ code) zero j e = (i, (refl, some_same (step_of i) (Plain j) e))
 step_there (i ∷ code) (suc at) j e = step_there code at j e
 
 -- the same instruction over bits
 zip_there : (p : List ℕ) (code over : List Instr) (at : ℕ) (i : Instr) → AllZip (IsMoved p) code over → slice_get code at ≡ Some i → (o : Instr) × ((slice_get over at ≡ Some o) × IsMoved p i o)
 zip_there p [] over at i z e = cc
 zip_there p (x ∷ code) [] at i z e = absurd z
-zip_there p (x ∷ code) (o ∷ over) zero i z e = (o, (refl, subst (λ (y : Instr). IsMoved p y o) (some_same x x i e) z.0))
+zip_there p (x ∷ code) (o ∷ over) zero i z e = (o, (refl, subst (λ (y : Instr). IsMoved p y o) (some_same x i e) z.0))
 zip_there p (x ∷ code) (o ∷ over) (suc at) i z e = zip_there p code over at i z.1 e
 
 -- the same unit over bits
@@ -56,7 +56,7 @@ unfolding ArePlacedUnits
 unit_there places first [] overs number unit h e = cc
 unit_there places first (u ∷ us) [] number unit h e = absurd h
 unit_there places first (u ∷ us) (o ∷ os) zero unit h e =
-    (o, (refl, subst (λ (n : ℕ). IsPlacedUnit (slice_index_or places n []) unit o) (nothing first) (subst (λ (v : CodeUnit). IsPlacedUnit (slice_index_or places first []) v o) (some_same u u unit e) h.0)))
+    (o, (refl, subst (λ (n : ℕ). IsPlacedUnit (slice_index_or places n []) unit o) (nothing first) (subst (λ (v : CodeUnit). IsPlacedUnit (slice_index_or places first []) v o) (some_same u unit e) h.0)))
   where
     nothing : (n : ℕ) → n ≡ n + 0
     nothing n = omega arith
@@ -102,7 +102,7 @@ linked_there : (us : List CodeUnit) (number start at : ℕ) (unit : CodeUnit) (o
 unfolding start_in code_from
 linked_there [] number start at unit o e f = cc
 linked_there (u ∷ us) zero start at unit o e f =
-    let same : slice_get u.code.items at ≡ Some o = ap (λ (v : CodeUnit). slice_get v.code.items at) (some_same u u unit e) ∙ f in
+    let same : slice_get u.code.items at ≡ Some o = ap (λ (v : CodeUnit). slice_get v.code.items at) (some_same u unit e) ∙ f in
     (0, (nothing start, ap (λ (n : ℕ). slice_get (map (moved_by start) u.code.items ++ code_from (start + length u.code.items) us) n) (front at) ∙ get_front (map (moved_by start) u.code.items) (code_from (start + length u.code.items) us) at (moved_by start o) (map_there (moved_by start) u.code.items at o same)))
   where
     nothing : (n : ℕ) → n ≡ n + 0

@@ -1,5 +1,5 @@
 -- Values that go to a scalar variable: the last instruction writes its register.
-use Rattle.std.proofs.Common.{◌≡◌, ◌∙◌, ℕ, ◌+◌, ◌<◌, ◌≤◌, ◌^◌, ◌==◌, Bool, true, false, List, [], ◌∷◌, length, slice_index, slice_set, Option, Some, None, refl, sym, ap, subst, if◌then◌else◌, arith}
+use Rattle.std.proofs.Common.{◌≡◌, ◌∙◌, ℕ, ◌+◌, ◌<◌, ◌≤◌, ◌^◌, Bool, true, false, length, slice_index, slice_set, Some, refl, sym, ap, subst, if◌then◌else◌, arith}
 use Rattle.std.proofs.lemmas.Bool.{eqb-true, eq-eqb}
 use Rattle.std.proofs.lemmas.List.{get_or-set_other, get_or-set_same}
 use Rattle.std.proofs.Math.ListN.{length-set}
@@ -11,9 +11,9 @@ use Rattle.code_lengths.specs.Growth.{Extended}
 use Rattle.code_lengths.specs.Naming.{variable_named}
 use Rattle.code_lengths.proofs.Drafting.{extended}
 use Rattle.lower_base.specs.declared.emit.Out.{Out}
-use Rattle.lower_base.specs.Constants.{constant_register, first_free, register_with}
+use Rattle.lower_base.specs.Constants.{first_free}
 use Rattle.lower_base.specs.Drafts.{Draft, with_instr}
-use Rattle.lower_base.specs.Layouts.{Layout, register_of}
+use Rattle.lower_base.specs.Layouts.{register_of}
 use Rattle.paris_code.specs.declared.instr.Instr.{Instr}
 use Rattle.paris_code.specs.Code.{CodeState, Goes, with_register}
 use Rattle.source_meaning.specs.State.{State, is_same, with_scalar}
@@ -21,7 +21,9 @@ use Rattle.source_meaning.specs.Values.{Scalar, Value}
 use Rattle.code_follows.proofs.Following.{HasRegisters, IsScalar, Keeps, Sim, held}
 use Rattle.code_follows.proofs.Settings.{At, Reaches, Setting, Within, and_one, at_next, begins_here, layout, one, onto, placed_instr}
 use Rattle.code_follows.proofs.Values.{Dest}
-use Rattle.code_follows.proofs.Words.{held_wide, some_same}
+use Rattle.code_follows.proofs.ConstantRegisters.{behind_variables}
+use Rattle.code_follows.proofs.Standing.{some_same}
+use Rattle.code_follows.proofs.Words.{held_wide}
 
 -- names are the same exactly where they are equal
 same_is : (x y : Variable) → is_same x y ≡ true → x ≡ y
@@ -42,23 +44,6 @@ same_itself (V.File m) = eq-eqb m m refl
 same_itself (V.Param m) = eq-eqb m m refl
 same_itself (V.Local m) = eq-eqb m m refl
 
--- constants stand behind the variables
-search_above : (words : List ℕ) (word first r : ℕ) → register_with word words first ≡ Some r → first ≤ r
-unfolding register_with
-search_above [] word first r is = cc
-search_above (w ∷ words) word first r is = by (w == word) (λ e. search_above words word (first + 1) r e) is
-  where
-    some_same : (a b : ℕ) → Some a ≡ Some b → a ≡ b
-    some_same a b e = ap (λ (o : Option ℕ). elim o as (λ _. ℕ) [ None ↦ 0 | Some x ↦ x ]) e
-
-    by : (b : Bool) → (register_with word words (first + 1) ≡ Some r → first + 1 ≤ r) → (if b then Some first else register_with word words (first + 1)) ≡ Some r → first ≤ r
-    by true later e = let h = some_same first r e in omega (arith, h)
-    by false later e = let h = later e in omega (arith, h)
-
-constant_above : (l : Layout) (word r : ℕ) → constant_register l word ≡ Some r → l.end ≤ r
-unfolding constant_register
-constant_above l word r is = search_above l.constants word l.end r is
-
 module _ (g : Setting) (has : HasRegisters g) (alive : Variable → Type 0) (x : Variable) (info : VarInfo) (lives : alive x) (scalar : IsScalar g x info) where
   abbrev own : ℕ
   own = register_of (layout g) x
@@ -74,7 +59,7 @@ module _ (g : Setting) (has : HasRegisters g) (alive : Variable → Type 0) (x :
     registers = length-set s.registers own (held info.elem w) ∙ h.registers;
     scalars = λ y other living known. by_name y other living known (is_same x y) refl;
     small = λ y other living known. small_name y other living known (is_same x y) refl;
-    constants = λ word r is. get_or-set_other s.registers own r (held info.elem w) 0 (λ e. let a = constant_above (layout g) word r is in let b = has.below x info scalar.0 in omega (arith, e, a, b)) ∙ h.constants word r is;
+    constants = λ word r is. get_or-set_other s.registers own r (held info.elem w) 0 (λ e. let a = behind_variables (layout g) word r is in let b = has.below x info scalar.0 in omega (arith, e, a, b)) ∙ h.constants word r is;
     turns = h.turns;
     output = h.output;
     input = h.input;

@@ -12,12 +12,15 @@ use Rattle.source_meaning.specs.Programs.{Done, End, EndsEarly, Run, meaning}
 use Rattle.source_meaning.specs.State as Source
 use Rattle.code_follows.specs.Fragment.{IsScalarProgram}
 
--- how the code ends where the source does
+-- how the code ends where the source does, before the end of `main` and at all
+abbrev pub end_of : Source.Early → CodeEnd
+end_of (Source.Fault fault place position) = Machine.Fault fault place position
+end_of Source.Stopped = Machine.Stopped
+end_of Source.InputBroken = Machine.InputBroken
+
 abbrev pub end_of_run : End → CodeEnd
 end_of_run Done = Machine.Done
-end_of_run (EndsEarly (Source.Fault fault place position)) = Machine.Fault fault place position
-end_of_run (EndsEarly Source.Stopped) = Machine.Stopped
-end_of_run (EndsEarly Source.InputBroken) = Machine.InputBroken
+end_of_run (EndsEarly early) = end_of early
 
 -- an input, as the code sees it
 abbrev pub mark_of : Source.Rest → Machine.Mark
