@@ -1,5 +1,5 @@
 -- Every statement of the fragment.
-use Rattle.std.proofs.Common.{◌≡◌, ◌∙◌, ℕ, zero, suc, take, ◌+◌, ◌≤◌, false, List, [], ◌++◌, map, Vec, Global, length, Some, refl, sym, ap, subst, arith, None}
+use Rattle.std.proofs.Common.{◌≡◌, ◌∙◌, ℕ, ◌+◌, ◌≤◌, false, List, [], ◌++◌, map, Vec, Global, length, Some, sym, subst, arith, None}
 use mathlib.Core.Former.{Count}
 use Rattle.std.proofs.lemmas.List.{length-map}
 use Rattle.std.specs.List.{All}
@@ -21,8 +21,7 @@ use Rattle.code_lengths.proofs.Drafting.{as_it_was, extended}
 use Rattle.lower_base.specs.Constants.{first_free}
 use Rattle.lower_base.specs.Drafts.{Draft, Fails, Made, Makes, then_make, with_instr}
 use Rattle.lower_stmt.specs.declared.statement.Frame.{Frame}
-use Rattle.lower_stmt.specs.Programs.{outcome_of}
-use Rattle.lower_stmt.specs.Statements.{else_of, loaded, part_of, restored, statement_of, statements_of}
+use Rattle.lower_stmt.specs.Statements.{else_of, part_of, restored, statement_of, statements_of}
 use Rattle.lower_stmt.specs.Variables.{declared as declared_in}
 use Rattle.meaning_laws.proofs.Parts.{behind as state_after}
 use Rattle.paris_code.specs.declared.instr.Instr.TheVariants as I
@@ -32,7 +31,6 @@ use Rattle.source_meaning.specs.State.{Outcome, State, is_among, spend_turn, the
 use Rattle.source_meaning.specs.Statements.{Broke, Continued, Onward, all_executed, declared, done, else_executed, executed, initialised, then_go, Leaving}
 use Rattle.source_meaning.specs.Values.{Active, Scope, Value}
 use Rattle.lower_base.specs.declared.emit.Out.{Out}
-use Rattle.paris_code.specs.declared.operands.Field.{Field}
 use Rattle.code_follows.proofs.Declaring.{block_declared, clears, none_begun}
 use Rattle.code_follows.specs.Fragment.{AreInStatements, IsEffect, IsFreshLocal, IsInElse, IsInStatement, IsTested}
 use Rattle.code_follows.proofs.Assigning.{effect_follows}
@@ -40,9 +38,10 @@ use Rattle.code_follows.proofs.Choices.{Agrees, if_alone, if_else}
 use Rattle.code_follows.proofs.Executing.{Jumped, Left, follows_from, go_on}
 use Rattle.code_follows.proofs.ForLoops.{do_agrees, for_agrees, while_agrees}
 use Rattle.code_follows.proofs.Following.{Extends, Follows, HasRegisters, Ran, Sim, delayed, keeps_all}
-use Rattle.code_follows.proofs.Jumping.{jumps, moved_to, sim_moved}
+use Rattle.code_follows.proofs.Jumping.{nothing_restored, jumps, moved_to, sim_moved}
+use Rattle.code_follows.proofs.Returning.{return_follows}
 use Rattle.code_follows.proofs.Settings.{At, Setting, Within, layout, start, stay}
-use Rattle.code_follows.proofs.Statements.{expression_code, statement_made}
+use Rattle.code_follows.proofs.Statements.{StandsInMain, expression_code, returned_code, statement_made}
 
 module _ (g : Setting) (has : HasRegisters g) (alive : Variable → Type 0) (every : (x : Variable) → alive x) (numbers : NumbersVariables g.instance (layout g)) (ready : (n : ℕ) (d : Draft) → IsReady g.typed g.instance (layout g) n d)
     (declares : (n : ℕ) (d : Draft) → d.homes ≡ [] → HasDeclared g.typed g.instance (layout g) n d) (scope : Scope) (active : Active)
@@ -58,19 +57,6 @@ module _ (g : Setting) (has : HasRegisters g) (alive : Variable → Type 0) (eve
   effect_statement f n d s0 (Source.Ends early u) (Makes out e) h = h
   effect_statement f n d s0 (Source.Gives v u) Fails h = tt
   effect_statement f n d s0 (Source.Ends early u) Fails h = tt
-
-  no_fields : List Field
-  no_fields = []
-
-  nothing_taken : (k : ℕ) → take k no_fields ≡ no_fields
-  unfolding no_fields
-  nothing_taken zero = refl
-  nothing_taken (suc k) = refl
-
-  -- no context is saved
-  nothing_restored : (k : ℕ) (d : Draft) → restored [] k d ≡ d
-  unfolding restored loaded no_fields
-  nothing_restored k d = ap (λ (list : List Field). loaded list d) (nothing_taken k)
 
   -- a jump out of a loop
   jumps_out : (f : Frame) (k n place : ℕ) (d : Draft) (s0 : CodeState) (st : State) → At g s0 (length d.code) → Sim g alive st s0 → Within g (with_instr (I.FrontJump place) d) → Jumped g alive d s0 st place
@@ -97,13 +83,13 @@ module _ (g : Setting) (has : HasRegisters g) (alive : Variable → Type 0) (eve
   unfolding AreShapedStatements AreLowerableStatements StatementsNameVariables row_variables
   row_rest n s rest c = record { shaped = c.shaped.1; lowerable = c.lowerable.1; names = c.names.1; stands = second_part (variables_of s) (row_variables rest) c.stands }
 
-  pub row_grows : {k : Count} (row : Row_of-TStmt k) (f : Frame) (n : ℕ) (d : Draft) → f.outcome ≡ outcome_of g.instance.result → StandsAmong f [] → d.homes ≡ [] → RowCode n row → Extends g d (statements_of g.typed (layout g) row f [] n d)
+  pub row_grows : {k : Count} (row : Row_of-TStmt k) (f : Frame) (n : ℕ) (d : Draft) → StandsInMain g f → StandsAmong f [] → d.homes ≡ [] → RowCode n row → Extends g d (statements_of g.typed (layout g) row f [] n d)
   unfolding statements_of Extends then_make
-  row_grows end_of-TStmt f n d outcome among none c = (0, as_it_was d)
-  row_grows (more_of-TStmt s rest) f n d outcome among none c =
-      let made = statement_made g numbers declares s f n d outcome among (row_first n s rest c) none in
+  row_grows end_of-TStmt f n d framed among none c = (0, as_it_was d)
+  row_grows (more_of-TStmt s rest) f n d framed among none c =
+      let made = statement_made g numbers declares s f n d framed among (row_first n s rest c) none in
       subst (λ (m : Made ℕ). Extends g d (then_make m (λ m' after. statements_of g.typed (layout g) rest f [] m' after))) (sym made.is)
-      (grown_on d made.e _ (statements_of g.typed (layout g) rest f [] (behind n s) made.e) made.extended (row_grows rest f (behind n s) made.e outcome among made.homes (row_rest n s rest c)))
+      (grown_on d made.e _ (statements_of g.typed (layout g) rest f [] (behind n s) made.e) made.extended (row_grows rest f (behind n s) made.e framed among made.homes (row_rest n s rest c)))
     where
       grown_on : (d e : Draft) (k : ℕ) (m : Made ℕ) → Extended d k e → Extends g e m → Extends g d m
       grown_on d e k (Makes x h) a b = (k + b.0, extended d e h k b.0 a b.1)
@@ -132,17 +118,17 @@ module _ (g : Setting) (has : HasRegisters g) (alive : Variable → Type 0) (eve
 
   -- a block whose variables have no initialisers
   block_follows : {k : Count} (locals : List LocalVar) (row : Row_of-TStmt k) (f : Frame) (n : ℕ) (d : Draft) (s0 : CodeState) (st : State) → All IsFreshLocal locals → StandFrom (variables_of g.instance.body) n (map info_of locals) → RowCode (n + length locals) row
-      → f.outcome ≡ outcome_of g.instance.result → StandsAmong f [] → d.homes ≡ [] → first_free (layout g) ≤ d.regs → At g s0 (length d.code) → Sim g alive st s0
+      → StandsInMain g f → StandsAmong f [] → d.homes ≡ [] → first_free (layout g) ≤ d.regs → At g s0 (length d.code) → Sim g alive st s0
       → ((e : Draft) (t : CodeState) (u : State) → e.homes ≡ [] → first_free (layout g) ≤ e.regs → At g t (length e.code) → Sim g alive u t → Follows g (Left g alive f e t) t (all_executed scope row (n + length locals) active u) (statements_of g.typed (layout g) row f [] (n + length locals) e))
       → Follows g (Left g alive f d s0) s0 (then_go (initialised scope active n locals (zeroed n (length locals) st)) (all_executed scope row (n + length locals) active)) (then_make (declared_in g.typed (layout g) false locals n d) (λ m after. statements_of g.typed (layout g) row f [] m after))
   unfolding then_go then_make
-  block_follows locals row f n d s0 st fresh stand code outcome among none free at sim next =
+  block_follows locals row f n d s0 st fresh stand code framed among none free at sim next =
       let c = clears g has alive every locals n d fresh stand in
       let after : State = zeroed n (length locals) st in
       let homes : c.e.homes ≡ [] = c.grown.homes ∙ none in
       subst (λ (o : Outcome Leaving). Follows g (Left g alive f d s0) s0 (then_go o (all_executed scope row (n + length locals) active)) (then_make (declared_in g.typed (layout g) false locals n d) (λ m after. statements_of g.typed (layout g) row f [] m after))) (sym (none_begun g has alive every scope active locals n after fresh))
       (subst (λ (m : Made ℕ). Follows g (Left g alive f d s0) s0 (all_executed scope row (n + length locals) active after) (then_make m (λ m' after. statements_of g.typed (layout g) row f [] m' after))) (sym (block_declared g has alive every locals n d fresh stand))
-      (delayed g (Left g alive f d s0) c.e s0 (all_executed scope row (n + length locals) active after) (statements_of g.typed (layout g) row f [] (n + length locals) c.e) (row_grows row f (n + length locals) c.e outcome among homes code) (λ within.
+      (delayed g (Left g alive f d s0) c.e s0 (all_executed scope row (n + length locals) active after) (statements_of g.typed (layout g) row f [] (n + length locals) c.e) (row_grows row f (n + length locals) c.e framed among homes code) (λ within.
       let ran = c.runs s0 st free at sim within in
       follows_from g alive f d c.e (length locals) s0 ran.t (all_executed scope row (n + length locals) active after) (statements_of g.typed (layout g) row f [] (n + length locals) c.e) c.grown ran.go ran.keeps
       (next c.e ran.t after homes (omega (arith, free, c.grown.regs)) ran.at ran.sim))))
@@ -159,16 +145,16 @@ module _ (g : Setting) (has : HasRegisters g) (alive : Variable → Type 0) (eve
     stands = subst (λ (k : ℕ). StandFrom (variables_of g.instance.body) (n + k) (row_variables row)) (length-map locals.items info_of) (second_part (map info_of locals.items) (row_variables row) (block_stands n locals p row c));
   }
 
-  row_onward : {k : Count} (s : TStmt) (rest : Row_of-TStmt k) (f : Frame) (n : ℕ) (d : Draft) (s0 : CodeState) (st : State) → f.outcome ≡ outcome_of g.instance.result → StandsAmong f [] → d.homes ≡ [] → first_free (layout g) ≤ d.regs → RowCode n (more_of-TStmt s rest)
+  row_onward : {k : Count} (s : TStmt) (rest : Row_of-TStmt k) (f : Frame) (n : ℕ) (d : Draft) (s0 : CodeState) (st : State) → StandsInMain g f → StandsAmong f [] → d.homes ≡ [] → first_free (layout g) ≤ d.regs → RowCode n (more_of-TStmt s rest)
       → Follows g (Left g alive f d s0) s0 (executed scope s n active st) (statement_of g.typed (layout g) s f [] n d)
       → ((e : Draft) (t : CodeState) (u : State) → e.homes ≡ [] → first_free (layout g) ≤ e.regs → At g t (length e.code) → Sim g alive u t → Follows g (Left g alive f e t) t (all_executed scope rest (n + declared s) active u) (statements_of g.typed (layout g) rest f [] (n + declared s) e))
       → Follows g (Left g alive f d s0) s0 (then_go (executed scope s n active st) (all_executed scope rest (n + declared s) active)) (then_make (statement_of g.typed (layout g) s f [] n d) (λ m after. statements_of g.typed (layout g) rest f [] m after))
   unfolding then_make declared
-  row_onward s rest f n d s0 st outcome among none free c first next =
-      let made = statement_made g numbers declares s f n d outcome among (row_first n s rest c) none in
+  row_onward s rest f n d s0 st framed among none free c first next =
+      let made = statement_made g numbers declares s f n d framed among (row_first n s rest c) none in
       subst (λ (m : Made ℕ). Follows g (Left g alive f d s0) s0 (then_go (executed scope s n active st) (all_executed scope rest (n + declared s) active)) (then_make m (λ m' after. statements_of g.typed (layout g) rest f [] m' after))) (sym made.is)
       (go_on g alive f d s0 (executed scope s n active st) (all_executed scope rest (n + declared s) active) (behind n s) made.e (statements_of g.typed (layout g) rest f [] (behind n s) made.e)
-      (subst (λ (m : Made ℕ). Follows g (Left g alive f d s0) s0 (executed scope s n active st) m) made.is first) (row_grows rest f (behind n s) made.e outcome among made.homes (row_rest n s rest c))
+      (subst (λ (m : Made ℕ). Follows g (Left g alive f d s0) s0 (executed scope s n active st) m) made.is first) (row_grows rest f (behind n s) made.e framed among made.homes (row_rest n s rest c))
       (λ u ran. follows_from g alive f d made.e ran.grown.0 s0 ran.t (all_executed scope rest (n + declared s) active u) (statements_of g.typed (layout g) rest f [] (behind n s) made.e) ran.grown.1 ran.go ran.keeps
       (next made.e ran.t u made.homes (omega (arith, free, ran.grown.1.regs)) ran.at ran.sim)))
 
@@ -176,25 +162,26 @@ module _ (g : Setting) (has : HasRegisters g) (alive : Variable → Type 0) (eve
     unfolding IsInStatement IsInElse IsTested AreInStatements executed all_executed declared else_executed statement_of statements_of else_of
 
     pub statement_follows : (s : TStmt) → IsInStatement s → Follows_it s
-    statement_follows (S.Block' locals p statements) h f n d s0 st outcome among none free at sim c =
-        block_follows locals.items statements f n d s0 st h.0 (first_part (map info_of locals.items) (row_variables statements) (block_stands n locals p statements c)) (block_code n locals p statements c) outcome among none free at sim
-        (λ e t u none_e free_e at_e sim_e. row_follows statements h.1 f (n + length locals.items) e t u outcome among none_e free_e at_e sim_e (block_code n locals p statements c))
-    statement_follows (S.Expression e) h f n d s0 st outcome among none free at sim c = expression_follows e h f n d s0 st free at sim c
-    statement_follows S.Empty h f n d s0 st outcome among none free at sim c = stays_here f n d s0 st at sim
-    statement_follows (S.If' test p first None') h f n d s0 st outcome among none free at sim c = if_alone g has alive every numbers ready declares scope active test p first h.0 (statement_follows first h.1) f n d s0 st outcome among none free at sim c
-    statement_follows (S.If' test p first (Some' q second)) h f n d s0 st outcome among none free at sim c =
-        if_else g has alive every numbers ready declares scope active test p first q second h.0 (statement_follows first h.1) (statement_follows second h.2) f n d s0 st outcome among none free at sim c
-    statement_follows (S.While' test p body) h f n d s0 st outcome among none free at sim c = while_agrees g has alive every numbers ready declares scope active falls test p body h.0 (statement_follows body h.1) f n d s0 st outcome among none free at sim c
-    statement_follows (S.For' first None step p body) h f n d s0 st outcome among none free at sim c = absurd h.1
-    statement_follows (S.For' first (Some test) step p body) h f n d s0 st outcome among none free at sim c = for_agrees g has alive every numbers ready declares scope active falls first step test p body h.0 h.1 h.2 (statement_follows body h.3) f n d s0 st outcome among none free at sim c
-    statement_follows (S.Do' p body test) h f n d s0 st outcome among none free at sim c = do_agrees g has alive every numbers ready declares scope active falls test p body h.1 (statement_follows body h.0) f n d s0 st outcome among none free at sim c
-    statement_follows S.Break h f n d s0 st outcome among none free at sim c = breaks f f.saved.in_loop n d s0 st at sim
-    statement_follows S.Continue h f n d s0 st outcome among none free at sim c = continues f f.saved.in_loop n d s0 st at sim
-    statement_follows _ h f n d s0 st outcome among none free at sim c = absurd h
+    statement_follows (S.Block' locals p statements) h f n d s0 st framed among none free at sim c =
+        block_follows locals.items statements f n d s0 st h.0 (first_part (map info_of locals.items) (row_variables statements) (block_stands n locals p statements c)) (block_code n locals p statements c) framed among none free at sim
+        (λ e t u none_e free_e at_e sim_e. row_follows statements h.1 f (n + length locals.items) e t u framed among none_e free_e at_e sim_e (block_code n locals p statements c))
+    statement_follows (S.Expression e) h f n d s0 st framed among none free at sim c = expression_follows e h f n d s0 st free at sim c
+    statement_follows S.Empty h f n d s0 st framed among none free at sim c = stays_here f n d s0 st at sim
+    statement_follows (S.If' test p first None') h f n d s0 st framed among none free at sim c = if_alone g has alive every numbers ready declares scope active test p first h.0 (statement_follows first h.1) f n d s0 st framed among none free at sim c
+    statement_follows (S.If' test p first (Some' q second)) h f n d s0 st framed among none free at sim c =
+        if_else g has alive every numbers ready declares scope active test p first q second h.0 (statement_follows first h.1) (statement_follows second h.2) f n d s0 st framed among none free at sim c
+    statement_follows (S.While' test p body) h f n d s0 st framed among none free at sim c = while_agrees g has alive every numbers ready declares scope active falls test p body h.0 (statement_follows body h.1) f n d s0 st framed among none free at sim c
+    statement_follows (S.For' first None step p body) h f n d s0 st framed among none free at sim c = absurd h.1
+    statement_follows (S.For' first (Some test) step p body) h f n d s0 st framed among none free at sim c = for_agrees g has alive every numbers ready declares scope active falls first step test p body h.0 h.1 h.2 (statement_follows body h.3) f n d s0 st framed among none free at sim c
+    statement_follows (S.Do' p body test) h f n d s0 st framed among none free at sim c = do_agrees g has alive every numbers ready declares scope active falls test p body h.1 (statement_follows body h.0) f n d s0 st framed among none free at sim c
+    statement_follows S.Break h f n d s0 st framed among none free at sim c = breaks f f.saved.in_loop n d s0 st at sim
+    statement_follows S.Continue h f n d s0 st framed among none free at sim c = continues f f.saved.in_loop n d s0 st at sim
+    statement_follows (S.Return e) h f n d s0 st framed among none free at sim c = return_follows g has alive every ready scope active e h f n d s0 st framed free at sim (returned_code g numbers declares e n c)
+    statement_follows _ h f n d s0 st framed among none free at sim c = absurd h
 
-    pub row_follows : {k : Count} (row : Row_of-TStmt k) → AreInStatements row → (f : Frame) (n : ℕ) (d : Draft) (s0 : CodeState) (st : State) → f.outcome ≡ outcome_of g.instance.result → StandsAmong f [] → d.homes ≡ [] → first_free (layout g) ≤ d.regs → At g s0 (length d.code) → Sim g alive st s0
+    pub row_follows : {k : Count} (row : Row_of-TStmt k) → AreInStatements row → (f : Frame) (n : ℕ) (d : Draft) (s0 : CodeState) (st : State) → StandsInMain g f → StandsAmong f [] → d.homes ≡ [] → first_free (layout g) ≤ d.regs → At g s0 (length d.code) → Sim g alive st s0
         → RowCode n row → Follows g (Left g alive f d s0) s0 (all_executed scope row n active st) (statements_of g.typed (layout g) row f [] n d)
-    row_follows end_of-TStmt h f n d s0 st outcome among none free at sim c = stays_here f n d s0 st at sim
-    row_follows (more_of-TStmt s rest) h f n d s0 st outcome among none free at sim c =
-        row_onward s rest f n d s0 st outcome among none free c (statement_follows s h.0 f n d s0 st outcome among none free at sim (row_first n s rest c))
-        (λ e t u none_e free_e at_e sim_e. row_follows rest h.1 f (n + declared s) e t u outcome among none_e free_e at_e sim_e (row_rest n s rest c))
+    row_follows end_of-TStmt h f n d s0 st framed among none free at sim c = stays_here f n d s0 st at sim
+    row_follows (more_of-TStmt s rest) h f n d s0 st framed among none free at sim c =
+        row_onward s rest f n d s0 st framed among none free c (statement_follows s h.0 f n d s0 st framed among none free at sim (row_first n s rest c))
+        (λ e t u none_e free_e at_e sim_e. row_follows rest h.1 f (n + declared s) e t u framed among none_e free_e at_e sim_e (row_rest n s rest c))

@@ -85,6 +85,8 @@ module _ (scope : Scope) (active : Active) where
     closed (S.While' test p body) h k n st = rounds_closed st.turns _ _ _ st (λ s. tt)
     closed (S.Do' p body test) h k n st = round_closed _ _ (λ s. rounds_closed s.turns _ _ _ s (λ u. tt))
     closed (S.For' first test step p body) h k n st = go_closed _ _ (done_closed first st) (λ s. rounds_closed s.turns _ _ _ s (λ u. done_closed step u))
+    closed (S.Return None) h k n st = tt
+    closed (S.Return (Some e)) h k n st = do_closed _ _ (λ v u. tt)
     closed S.Break h k n st = absurd k
     closed S.Continue h k n st = absurd k
     closed _ h k n st = absurd h

@@ -1,14 +1,11 @@
 -- The example is a scalar program.
-use Rattle.std.proofs.Common.{◌≡◌, ◌∙◌, ℕ, zero, suc, false, List, [], ◌∷◌, ◌++◌, Option, Some, None, Global, refl, sym, ap, subst, arith}
+use Rattle.std.proofs.Common.{◌≡◌, ◌∙◌, ℕ, zero, suc, List, [], ◌∷◌, ◌++◌, Option, Some, None, Global, refl, sym, ap, subst, arith}
 use Rattle.std.proofs.Common.{lit<}
-use denote.Hole.Carrier
-use Rattle.cstar_tree.specs.declared.typed.TStmt.TheBlock.{shown-the_row-TStmt-0}
 use Rattle.std.specs.List.{All}
-use Rattle.cstar_tree.specs.declared.typed.TStmt.{end_of-TStmt, more_of-TStmt, out-TStmt}
+use Rattle.cstar_tree.specs.declared.typed.TStmt.{end_of-TStmt, more_of-TStmt}
 use Rattle.cstar_tree.specs.declared.typed.VarInfo.{VarInfo}
 use Rattle.cstar_tree.specs.Variables.{variables_of}
 use Rattle.code_lengths.proofs.Declaring.{of_block, of_expression, of_for, row_variables}
-use Rattle.lower_stmt.specs.Statements.{ends_in_return, is_return, returns_last}
 use Rattle.source_meaning.specs.Examples.{number, variable, vec}
 use Rattle.code_follows.specs.Example.{ExampleIsScalar, body, main, prints, sums, turns}
 use Rattle.code_follows.specs.Fragment.{AreClosed, AreIn, AreInStatements, IsClosed, IsEffect, IsIn, IsInLocal, IsInStatement, IsMainBody, IsPlainVariable, IsTested, IsVariable, IsWordVariable}
@@ -34,10 +31,6 @@ own heap =
     prints_declare : variables_of (prints heap) ≡ []
     prints_declare = of_expression _
 
-no_return : (heap : Global) → ends_in_return (body heap) ≡ false
-unfolding ends_in_return returns_last is_return out-TStmt Carrier.out Carrier.shown shown-the_row-TStmt-0
-no_return heap = refl
-
 pub is_scalar : ExampleIsScalar
 unfolding IsMainBody IsInStatement IsEffect IsIn IsTested IsVariable AreIn AreInStatements AreClosed IsClosed
 is_scalar heap = record {
@@ -59,6 +52,5 @@ is_scalar heap = record {
     (tt, (tt, tt)),
   );
   locals = subst (λ (xs : List VarInfo). All IsWordVariable xs) (sym (own heap)) (all_one IsWordVariable (variable number None 0) (refl, refl));
-  ending = no_return heap;
   variables = all_one IsPlainVariable (variable number None 1) ((refl, refl), omega arith);
 }

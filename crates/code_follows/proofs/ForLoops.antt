@@ -26,7 +26,6 @@ use Rattle.lower_expr.specs.Lengths.{used_length_of}
 use Rattle.lower_stmt.specs.declared.statement.Frame.{Frame}
 use Rattle.lower_stmt.specs.Frames.{has_result, in_loop}
 use Rattle.lower_stmt.specs.Lengths.{at_loop, condition_length_of, part_length_of, statement_length_of}
-use Rattle.lower_stmt.specs.Programs.{outcome_of}
 use Rattle.lower_stmt.specs.Statements.{jump_back_of, part_of, statement_of}
 use Rattle.meaning_laws.proofs.Parts.{behind as state_after}
 use Rattle.paris_code.specs.declared.instr.Instr.TheVariants as I
@@ -46,7 +45,7 @@ use Rattle.code_follows.proofs.Jumping.{jumps, moved_to, sim_moved}
 use Rattle.code_follows.proofs.Loops.{do_runs, loop_runs}
 use Rattle.code_follows.proofs.Settings.{At, Setting, and_one, code_more, earlier, layout, regs_more, start, stay}
 use Rattle.code_follows.proofs.Starting.{go_after}
-use Rattle.code_follows.proofs.Statements.{MadeSo, do_body, do_test, statement_made}
+use Rattle.code_follows.proofs.Statements.{MadeSo, StandsInMain, do_body, do_test, statement_made}
 
 module _ (g : Setting) (has : HasRegisters g) (alive : Variable → Type 0) (every : (x : Variable) → alive x) (numbers : NumbersVariables g.instance (layout g)) (ready : (n : ℕ) (d : Draft) → IsReady g.typed g.instance (layout g) n d)
     (declares : (n : ℕ) (d : Draft) → d.homes ≡ [] → HasDeclared g.typed g.instance (layout g) n d) (scope : Scope) (active : Active)
@@ -111,7 +110,7 @@ module _ (g : Setting) (has : HasRegisters g) (alive : Variable → Type 0) (eve
       body_code = record { shaped = c.shaped.3; lowerable = c.lowerable.3; names = c.names.3; stands = subst (λ (own : List VarInfo). StandFrom (variables_of g.instance.body) n own) (of_for first (Some test) step p body) c.stands };
     }
 
-    module _ (f : Frame) (n : ℕ) (d : Draft) (outcome : f.outcome ≡ outcome_of g.instance.result) (among : StandsAmong f []) (none : d.homes ≡ []) (c : ForCode n) where
+    module _ (f : Frame) (n : ℕ) (d : Draft) (framed : StandsInMain g f) (among : StandsAmong f []) (none : d.homes ≡ []) (c : ForCode n) where
       made_first : PartMade first d
       made_first = part_made n first d c.first_code
 
@@ -139,9 +138,9 @@ module _ (g : Setting) (has : HasRegisters g) (alive : Variable → Type 0) (eve
       abbrev before_body : Draft
       before_body = with_instr I.FrontTurn enters
 
-      inner_outcome : inner.outcome ≡ outcome_of g.instance.result
+      inner_frame : StandsInMain g inner
       unfolding in_loop
-      inner_outcome = outcome
+      inner_frame = record { outcome = framed.outcome; main = framed.main; scalar = framed.scalar }
 
       inner_among : StandsAmong inner []
       unfolding in_loop at_loop
@@ -153,7 +152,7 @@ module _ (g : Setting) (has : HasRegisters g) (alive : Variable → Type 0) (eve
 
       made_body : MadeSo g numbers declares before_body long (behind n body) (statement_of g.typed (layout g) body inner [] n before_body)
       unfolding in_loop has_result
-      made_body = statement_made g numbers declares body inner n before_body inner_outcome inner_among c.body_code begin_homes
+      made_body = statement_made g numbers declares body inner n before_body inner_frame inner_among c.body_code begin_homes
 
       made_step : PartMade step made_body.e
       made_step = part_made n step made_body.e c.step_code
@@ -221,7 +220,7 @@ module _ (g : Setting) (has : HasRegisters g) (alive : Variable → Type 0) (eve
           delayed g (Left g alive f made_first.e t) behind_loop t go_round (Makes (behind n body) behind_loop) (0, as_it_was behind_loop) (λ within.
           loop_runs g alive scope active test body n (behind n body) isin inner made_first.e enters made_body.e made_step.e made_test.e made_test.r turn (λ v. done scope active step v) within so.3 so.0 so.2 long (part_length_of g.typed (layout g) step) (used_length_of g.typed (layout g) 32 true test) made_body.extended made_step.extended made_test.extended (omega (arith, regs1, regs2))
           (falls body n)
-          (λ s v here_s sim_s. subst (λ (m : Made ℕ). Follows g (Left g alive inner before_body s) s (executed scope body n active v) m) made_body.is (agrees inner n before_body s v inner_outcome inner_among begin_homes (omega (arith, free, regs1, regs2)) here_s sim_s c.body_code))
+          (λ s v here_s sim_s. subst (λ (m : Made ℕ). Follows g (Left g alive inner before_body s) s (executed scope body n active v) m) made_body.is (agrees inner n before_body s v inner_frame inner_among begin_homes (omega (arith, free, regs1, regs2)) here_s sim_s c.body_code))
           (part_falls n step)
           (λ s v here_s sim_s. subst (λ (m : Made (Unit {0})). Follows g (RanOn g alive made_body.e s) s (done scope active step v) m) made_step.is (part_follows n step steps c.step_code made_body.e s v (omega (arith, free, regs1, regs2, longer)) here_s sim_s))
           (λ s v here_s sim_s. subst (λ (m : Made ℕ). Follows g (Tested g alive made_step.e s) s (passes scope active test v) m) made_test.is (test_follows g alive has every n (ready n) scope active test isin c.test_code made_step.e s v (omega (arith, free, regs1, regs2, longer, more)) here_s sim_s))
@@ -230,17 +229,17 @@ module _ (g : Setting) (has : HasRegisters g) (alive : Variable → Type 0) (eve
 
     pub for_agrees : Agrees g has alive every numbers ready declares scope active whole
     unfolding executed statement_of passes_or_absent then_make Extends
-    for_agrees f n d s0 st outcome among none free at sim code =
+    for_agrees f n d s0 st framed among none free at sim code =
         let c = for_code n code in
-        let b = made_first f n d outcome among none c in
+        let b = made_first f n d framed among none c in
         let longer = b.extended.regs in
         let go_round : State → Outcome Leaving = λ u. rounds u.turns (passes scope active test) (λ v. executed scope body n active v) (λ v. done scope active step v) u in
-        subst (λ (m : Made (Unit {0})). Follows g (Left g alive f d s0) s0 (then_go (done scope active first st) go_round) (then_make m (λ u begun. loop_code f n d outcome among none c begun))) (sym b.is)
-        (subst (λ (m : Made ℕ). Follows g (Left g alive f d s0) s0 (then_go (done scope active first st) go_round) m) (sym (loop_is f n d outcome among none c))
-        (go_after g has alive every ready scope active d s0 (Left g alive f d s0) (done scope active first st) go_round tt b.e (Makes (behind n body) (behind_loop f n d outcome among none c))
+        subst (λ (m : Made (Unit {0})). Follows g (Left g alive f d s0) s0 (then_go (done scope active first st) go_round) (then_make m (λ u begun. loop_code f n d framed among none c begun))) (sym b.is)
+        (subst (λ (m : Made ℕ). Follows g (Left g alive f d s0) s0 (then_go (done scope active first st) go_round) m) (sym (loop_is f n d framed among none c))
+        (go_after g has alive every ready scope active d s0 (Left g alive f d s0) (done scope active first st) go_round tt b.e (Makes (behind n body) (behind_loop f n d framed among none c))
         (subst (λ (m : Made (Unit {0})). Follows g (RanOn g alive d s0) s0 (done scope active first st) m) b.is (part_follows n first begins c.first_code d s0 st free at sim))
-        (steps_in_all f n d outcome among none c, all_grown f n d outcome among none c)
-        (λ u ran. follows_from g alive f d b.e ran.grown.0 s0 ran.t (go_round u) (Makes (behind n body) (behind_loop f n d outcome among none c)) ran.grown.1 ran.go ran.keeps (turns_follow f n d outcome among none c ran.t u (omega (arith, free, longer)) ran.at ran.sim))))
+        (steps_in_all f n d framed among none c, all_grown f n d framed among none c)
+        (λ u ran. follows_from g alive f d b.e ran.grown.0 s0 ran.t (go_round u) (Makes (behind n body) (behind_loop f n d framed among none c)) ran.grown.1 ran.go ran.keeps (turns_follow f n d framed among none c ran.t u (omega (arith, free, longer)) ran.at ran.sim))))
 
   -- `while` is `for` with its condition alone
   module _ (test : TExpr) (p : Boxed) (body : TStmt) (isin : IsIn test) (agrees : Agrees g has alive every numbers ready declares scope active body) where
@@ -269,13 +268,13 @@ module _ (g : Setting) (has : HasRegisters g) (alive : Variable → Type 0) (eve
 
     pub while_agrees : Agrees g has alive every numbers ready declares scope active (S.While' test p body)
     unfolding executed done passes_or_absent then_go
-    while_agrees f n d s0 st outcome among none free at sim c =
+    while_agrees f n d s0 st framed among none free at sim c =
         subst (λ (m : Made ℕ). Follows g (Left g alive f d s0) s0 (rounds st.turns (passes scope active test) (λ u. executed scope body n active u) (λ u. Source.Gives Onward u) st) m) (same_code f n d)
-        (for_agrees None None test p body tt isin tt agrees f n d s0 st outcome among none free at sim (while_code n c))
+        (for_agrees None None test p body tt isin tt agrees f n d s0 st framed among none free at sim (while_code n c))
 
   -- `do`
   module _ (test : TExpr) (p : Boxed) (body : TStmt) (isin : IsIn test) (agrees : Agrees g has alive every numbers ready declares scope active body) where
-    module _ (f : Frame) (n : ℕ) (d : Draft) (outcome : f.outcome ≡ outcome_of g.instance.result) (among : StandsAmong f []) (none : d.homes ≡ []) (c : HasStatementCode g.typed g.instance n (S.Do' p body test)) where
+    module _ (f : Frame) (n : ℕ) (d : Draft) (framed : StandsInMain g f) (among : StandsAmong f []) (none : d.homes ≡ []) (c : HasStatementCode g.typed g.instance n (S.Do' p body test)) where
       abbrev do_long : ℕ
       do_long = statement_length_of g.typed (layout g) (has_result f) (at_loop f.saved) body
 
@@ -294,9 +293,9 @@ module _ (g : Setting) (has : HasRegisters g) (alive : Variable → Type 0) (eve
       abbrev do_before : Draft
       do_before = with_instr I.FrontTurn d
 
-      do_outcome : do_inner.outcome ≡ outcome_of g.instance.result
+      do_frame : StandsInMain g do_inner
       unfolding in_loop
-      do_outcome = outcome
+      do_frame = record { outcome = framed.outcome; main = framed.main; scalar = framed.scalar }
 
       do_among : StandsAmong do_inner []
       unfolding in_loop at_loop
@@ -308,7 +307,7 @@ module _ (g : Setting) (has : HasRegisters g) (alive : Variable → Type 0) (eve
 
       made_do : MadeSo g numbers declares do_before do_long (behind n body) (statement_of g.typed (layout g) body do_inner [] n do_before)
       unfolding in_loop has_result
-      made_do = statement_made g numbers declares body do_inner n do_before do_outcome do_among (do_body g numbers declares n p body test c) do_homes
+      made_do = statement_made g numbers declares body do_inner n do_before do_frame do_among (do_body g numbers declares n p body test c) do_homes
 
       made_while : TestMade g alive has every n (ready n) scope active test made_do.e
       made_while = test_made g alive has every n (ready n) scope active test made_do.e isin (do_test g numbers declares n p body test c)
@@ -348,7 +347,7 @@ module _ (g : Setting) (has : HasRegisters g) (alive : Variable → Type 0) (eve
           delayed g (Left g alive f d t) behind_do t go_round (Makes (behind n body) behind_do) (0, as_it_was behind_do) (λ within.
           do_runs g alive scope active test body n (behind n body) isin do_inner d d made_do.e made_do.e made_while.e made_while.r do_turn (λ v. Source.Gives Onward v) within so.2 so.0 so.1 do_long 0 (used_length_of g.typed (layout g) 32 true test) made_do.extended (as_it_was made_do.e) made_while.extended (omega (arith, regs1))
           (falls body n)
-          (λ s v here_s sim_s. subst (λ (m : Made ℕ). Follows g (Left g alive do_inner do_before s) s (executed scope body n active v) m) made_do.is (agrees do_inner n do_before s v do_outcome do_among do_homes (omega (arith, free, regs1)) here_s sim_s (do_body g numbers declares n p body test c)))
+          (λ s v here_s sim_s. subst (λ (m : Made ℕ). Follows g (Left g alive do_inner do_before s) s (executed scope body n active v) m) made_do.is (agrees do_inner n do_before s v do_frame do_among do_homes (omega (arith, free, regs1)) here_s sim_s (do_body g numbers declares n p body test c)))
           (λ v. omega arith)
           (λ s v here_s sim_s within_s. (refl, record { grown = (0, as_it_was made_do.e); t = s; go = stay g s; at = here_s; sim = sim_s; keeps = keeps_all g made_do.e s }))
           (λ s v here_s sim_s. subst (λ (m : Made ℕ). Follows g (Tested g alive made_do.e s) s (passes scope active test v) m) made_while.is (test_follows g alive has every n (ready n) scope active test isin (do_test g numbers declares n p body test c) made_do.e s v (omega (arith, free, regs1, longer)) here_s sim_s))
@@ -356,6 +355,6 @@ module _ (g : Setting) (has : HasRegisters g) (alive : Variable → Type 0) (eve
 
     pub do_agrees : Agrees g has alive every numbers ready declares scope active (S.Do' p body test)
     unfolding executed
-    do_agrees f n d s0 st outcome among none free at sim c =
-        subst (λ (m : Made ℕ). Follows g (Left g alive f d s0) s0 (then_round (spend_turn st (λ v. executed scope body n active v)) (λ s. rounds s.turns (passes scope active test) (λ v. executed scope body n active v) (λ v. Source.Gives Onward v) s)) m) (sym (do_is f n d outcome among none c))
-        (do_follows f n d outcome among none c s0 st free at sim)
+    do_agrees f n d s0 st framed among none free at sim c =
+        subst (λ (m : Made ℕ). Follows g (Left g alive f d s0) s0 (then_round (spend_turn st (λ v. executed scope body n active v)) (λ s. rounds s.turns (passes scope active test) (λ v. executed scope body n active v) (λ v. Source.Gives Onward v) s)) m) (sym (do_is f n d framed among none c))
+        (do_follows f n d framed among none c s0 st free at sim)

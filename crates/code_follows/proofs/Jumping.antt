@@ -1,9 +1,11 @@
 -- Jumps and turns of the code.
-use Rattle.std.proofs.Common.{◌≡◌, ◌∙◌, ℕ, suc, ◌+◌, ◌-◌, ◌==◌, Bool, true, false, not, length, slice_index, refl, ap, if◌then◌else◌, arith}
+use Rattle.std.proofs.Common.{◌≡◌, ◌∙◌, ℕ, zero, suc, ◌+◌, ◌-◌, ◌==◌, Bool, true, false, not, List, [], take, length, slice_index, refl, ap, if◌then◌else◌, arith}
 use Rattle.std.proofs.lemmas.Bool.Decides.{nat_tests}
 use Rattle.cstar_tree.specs.declared.typed.Variable.{Variable}
 use Rattle.lower_base.specs.Drafts.{Draft, step as step_of, with_instr}
+use Rattle.lower_stmt.specs.Statements.{loaded, restored}
 use Rattle.paris_code.specs.declared.instr.Instr.TheVariants as I
+use Rattle.paris_code.specs.declared.operands.Field.{Field}
 use Rattle.paris_code.specs.Code as Machine
 use Rattle.paris_code.specs.Code.{CodeState, Ends, Goes, begun, jumped, turned}
 use Rattle.source_meaning.specs.State as Source
@@ -11,6 +13,19 @@ use Rattle.source_meaning.specs.State.{State}
 use Rattle.source_meaning.specs.Values.{nonzero}
 use Rattle.code_follows.proofs.Following.{Finishes, Sim}
 use Rattle.code_follows.proofs.Settings.{At, Reaches, Setting, Within, begins_here, ends_now, one, start}
+
+no_fields : List Field
+no_fields = []
+
+nothing_taken : (k : ℕ) → take k no_fields ≡ no_fields
+unfolding no_fields
+nothing_taken zero = refl
+nothing_taken (suc k) = refl
+
+-- no context is saved
+pub nothing_restored : (k : ℕ) (d : Draft) → restored [] k d ≡ d
+unfolding restored loaded no_fields
+nothing_restored k d = ap (λ (list : List Field). loaded list d) (nothing_taken k)
 
 module _ (g : Setting) (alive : Variable → Type 0) where
   -- the state at another place

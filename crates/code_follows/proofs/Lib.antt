@@ -7,6 +7,7 @@ pub mod ConstantRegisters
 pub mod Declaring
 pub mod Effects
 pub mod Examples
+pub mod Endings
 pub mod Executing
 pub mod Expressions
 pub mod Following
@@ -18,6 +19,7 @@ pub mod Operators
 pub mod Printing
 pub mod Programs
 pub mod Putting
+pub mod Returning
 pub mod Settings
 pub mod Standing
 pub mod Starting

@@ -17,12 +17,14 @@ use Rattle.code_lengths.specs.Naming.{variable_named}
 use Rattle.code_lengths.specs.Ready.{HasStatementCode, IsCodable}
 use Rattle.cstar_compile.specs.Compiled.{IsCompiled}
 use Rattle.lower_base.specs.Constants.{constant_register, first_free}
-use Rattle.lower_base.specs.Drafts.{Draft, Fails, Made, Makes, step as step_of, then_make, with_instr}
+use Rattle.lower_base.specs.Drafts.{Draft, Fails, Made, Makes, then_make, with_instr}
 use Rattle.lower_base.specs.Layouts.{Layout, register_of}
 use Rattle.lower_stmt.specs.declared.statement.Frame.{Frame}
+use Rattle.lower_stmt.specs.declared.statement.Outcome.{Outcome as Result}
+use Rattle.lower_stmt.specs.declared.statement.Outcome.TheVariants as R
 use Rattle.lower_stmt.specs.Frames.{with_end}
-use Rattle.lower_stmt.specs.Programs.{blank, body_frame}
-use Rattle.lower_stmt.specs.Statements.{body_of, ended, statements_of}
+use Rattle.lower_stmt.specs.Programs.{blank, body_frame, outcome_of}
+use Rattle.lower_stmt.specs.Statements.{body_of, ended, ends_in_return, statements_of}
 use Rattle.lower_stmt.specs.Variables.{all_initialised, declared as declared_in}
 use Rattle.meaning_laws.proofs.Parts.{behind as state_after}
 use Rattle.meaning_laws.proofs.Programs.{calls_grow}
@@ -52,10 +54,13 @@ use Rattle.std.specs.Prelude.{nat_le}
 use Rattle.std.specs.List.{All}
 use Rattle.code_follows.proofs.ConstantRegisters.{constant_at}
 use Rattle.code_follows.proofs.Closed.{NoJump, begins_closed, closed_row, go_closed}
+use Rattle.code_follows.proofs.Endings.{NeverOnward, body_never, never_second}
 use Rattle.code_follows.proofs.Executing.{Halted, Left, RanOn, follows_from}
 use Rattle.code_follows.proofs.Following.{Extends, Follows, HasRegisters, Sim, held}
 use Rattle.code_follows.proofs.Openings.{all_declared, all_numbered, all_ready, apart, below, constants_grow, constants_run, empty_unit, ending, first_is, has_unit, main_is, named_word, no_homes, behind_files, end_is, starts_at_zero, with_starts, the_layout, the_setting, the_words, with_constants, within_all}
-use Rattle.code_follows.proofs.Settings.{onto, At, EndsIn, Reaches, Setting, Within, and_one, begins_here, earlier, ends_later, ends_now, start}
+use Rattle.code_follows.proofs.Returning.{halts}
+use Rattle.code_follows.proofs.Statements.{StandsInMain}
+use Rattle.code_follows.proofs.Settings.{onto, At, Reaches, Setting, Within, and_one, earlier, ends_later, start}
 use Rattle.code_follows.proofs.Words.{held_wide}
 
 no_code : Made (Unit {0})
@@ -64,6 +69,12 @@ no_code = Fails
 nothing_made : (d : Draft) → no_code ≡ Makes tt d → ⊥
 unfolding no_code
 nothing_made d e = cc
+
+-- a result that is scalar, or none, is not parallel
+not_parallel : (o : Option VarInfo) → ((info : VarInfo) → o ≡ Some info → info.shape ≡ None) → outcome_of o ≡ R.Parallel → ⊥
+unfolding outcome_of
+not_parallel None scalar is = cc
+not_parallel (Some info) scalar is = let none = scalar info refl in let same : outcome_of (Some info) ≡ R.Scalar = ap (λ (o : Option ℕ). elim o as (λ _. Result) [ None ↦ R.Scalar | Some s ↦ R.Parallel ]) none in cc
 
 module _ (t : Typed) (image : Image) (p : IsScalarProgram t) (codable : IsCodable t) (compiled : IsCompiled t image) where
   abbrev g : Setting
@@ -103,7 +114,7 @@ module _ (t : Typed) (image : Image) (p : IsScalarProgram t) (codable : IsCodabl
     pub n : ℕ
     pub e : Draft
     pub is : statements_of t own row frame [] (0 + length locals) begin ≡ Makes n e
-    pub unit : with_instr I.FrontHalt e ≡ (has_unit t image p codable compiled).unit
+    pub unit : ended true p.main.body e ≡ (has_unit t image p codable compiled).unit
 
   abbrev finish : Made ℕ → Made (Unit {0})
   finish m = ending t image p codable compiled m
@@ -131,9 +142,7 @@ module _ (t : Typed) (image : Image) (p : IsScalarProgram t) (codable : IsCodabl
           n = n;
           e = e;
           is = made_is;
-          unit =
-              sym (ap (λ (b : Bool). if b then e else with_instr I.FrontHalt e) p.ending)
-              ∙ ap draft_of (sym (ap finish made_is) ∙ whole);
+          unit = ap draft_of (sym (ap finish made_is) ∙ whole);
         }
         by Fails made_is whole = absurd (nothing_made (has_unit t image p codable compiled).unit (sym (ap finish made_is) ∙ whole))
 
@@ -219,13 +228,9 @@ module _ (t : Typed) (image : Image) (p : IsScalarProgram t) (codable : IsCodabl
 
     -- ---- the end
 
-    halts : (e : Draft) (u : CodeState) → Within g (with_instr I.FrontHalt e) → At g u (length e.code) → EndsIn g u Machine.Done u
-    unfolding begun step_of
-    halts e u within at = ends_now g u u Machine.Done (begins_here g I.FrontHalt e u within refl at)
-
-    ended_so : (d e : Draft) (n : ℕ) (s : CodeState) (leaving : Leaving) (u : State) → Within g (with_instr I.FrontHalt e) → NoJump (Source.Gives leaving u) → Left g alive frame d s leaving u n e → Halted g alive s u
+    ended_so : (d e : Draft) (n : ℕ) (s : CodeState) (leaving : Leaving) (u : State) → (leaving ≡ Onward → Within g (with_instr I.FrontHalt e)) → NoJump (Source.Gives leaving u) → Left g alive frame d s leaving u n e → Halted g alive s u
     unfolding Left NoJump
-    ended_so d e n s Onward u within closed ran = record { t = ran.t; ends = ends_later g s ran.t ran.t Machine.Done ran.go (halts e ran.t within ran.at); turns = ran.sim.turns; output = ran.sim.output }
+    ended_so d e n s Onward u within closed ran = record { t = ran.t; ends = ends_later g s ran.t ran.t Machine.Done ran.go (halts g e ran.t (within refl) ran.at); turns = ran.sim.turns; output = ran.sim.output }
     ended_so d e n s Broke u within closed ran = absurd closed
     ended_so d e n s Continued u within closed ran = absurd closed
     ended_so d e n s (Returned v) u within closed ran = ran
@@ -233,14 +238,26 @@ module _ (t : Typed) (image : Image) (p : IsScalarProgram t) (codable : IsCodabl
     abbrev run_from : Outcome Leaving → Run
     run_from o = run_of (then_do o (λ leaving after. Source.Gives (result_of p.main.result leaving) (left first_state after)))
 
-    comes : (d e : Draft) (n : ℕ) (s : CodeState) (o : Outcome Leaving) → Within g (with_instr I.FrontHalt e) → NoJump o → Reaches g opened s → Follows g (Left g alive frame d s) s o (Makes n e) → ComesTo image opened (run_from o)
+    -- the code of the body is of the unit, and where the body is left at its end a halt stands behind it
+    record EndsSo (o : Outcome Leaving) (e : Draft) : Type 0 where
+      pub inside : Within g e
+      pub halt : (u : State) → o ≡ Source.Gives Onward u → Within g (with_instr I.FrontHalt e)
+
+    ends_by : (o : Outcome Leaving) (e : Draft) (b : Bool) → (if b then e else with_instr I.FrontHalt e) ≡ (has_unit t image p codable compiled).unit → (b ≡ true → NeverOnward o) → EndsSo o e
+    unfolding NeverOnward
+    ends_by o e true unit never = record { inside = subst (λ (d : Draft). Within g d) (sym unit) (within_all t image p codable compiled); halt = λ u is. absurd (subst NeverOnward is (never refl)) }
+    ends_by o e false unit never =
+        let whole : Within g (with_instr I.FrontHalt e) = subst (λ (d : Draft). Within g d) (sym unit) (within_all t image p codable compiled) in
+        record { inside = earlier g e (with_instr I.FrontHalt e) 1 (and_one g I.FrontHalt e) whole; halt = λ u is. whole }
+
+    comes : (d e : Draft) (n : ℕ) (s : CodeState) (o : Outcome Leaving) → EndsSo o e → NoJump o → Reaches g opened s → Follows g (Left g alive frame d s) s o (Makes n e) → ComesTo image opened (run_from o)
     unfolding Follows then_do run_of left
-    comes d e n s (Source.Gives leaving u) within closed go follows =
-        let h = ended_so d e n s leaving u within closed (follows (earlier g e (with_instr I.FrontHalt e) 1 (and_one g I.FrontHalt e) within)) in
+    comes d e n s (Source.Gives leaving u) so closed go follows =
+        let h = ended_so d e n s leaving u (λ is. so.halt u (ap (λ (l : Leaving). Source.Gives l u) is)) closed (follows so.inside) in
         let x = ends_later g opened s h.t Machine.Done go h.ends in
         record { steps = x.steps; last = h.t; ends = x.is; turns = h.turns; output = h.output }
-    comes d e n s (Source.Ends early u) within closed go follows =
-        let h = follows (earlier g e (with_instr I.FrontHalt e) 1 (and_one g I.FrontHalt e) within) in
+    comes d e n s (Source.Ends early u) so closed go follows =
+        let h = follows so.inside in
         let x = ends_later g opened s h.t (end_of early) go h.ends in
         record { steps = x.steps; last = h.t; ends = x.is; turns = h.turns; output = h.output }
 
@@ -262,30 +279,32 @@ module _ (t : Typed) (image : Image) (p : IsScalarProgram t) (codable : IsCodabl
           zero_anyway false = refl
 
       body_comes : All IsInLocal locals → AreInStatements row → AreClosed row → StandFrom (variables_of p.main.body) 0 (map info_of locals) → AreCoded g has alive every (all_ready t p (the_words t image p codable compiled)) scope active (0 + length locals) locals
-          → RowCode g has alive every (all_numbered t p (the_words t image p codable compiled)) (all_ready t p (the_words t image p codable compiled)) (all_declared t p (the_words t image p codable compiled)) scope active falls (0 + length locals) row → Built locals row → ComesTo image opened (run_from body_run)
-      unfolding Extends blank body_frame first_free zeroed
-      body_comes isin inside closed stand initial code b =
+          → RowCode g has alive every (all_numbered t p (the_words t image p codable compiled)) (all_ready t p (the_words t image p codable compiled)) (all_declared t p (the_words t image p codable compiled)) scope active falls (0 + length locals) row → (ends_in_return p.main.body ≡ true → (n : ℕ) (st : State) → NeverOnward (all_executed scope row n active st)) → Built locals row → ComesTo image opened (run_from body_run)
+      unfolding Extends blank body_frame first_free zeroed ended with_end
+      body_comes isin inside closed stand initial code never b =
           let ready = all_ready t p (the_words t image p codable compiled) in
-          let whole : Within g (with_instr I.FrontHalt b.e) = subst (λ (d : Draft). Within g d) (sym b.unit) (within_all t image p codable compiled) in
+          let ends : EndsSo body_run b.e = ends_by body_run b.e (ends_in_return p.main.body) b.unit (λ h. never_second (initialised scope active 0 locals begun_body) _ (λ u. never h (0 + length locals) u)) in
           let begins : Extends g begun_there (Makes (tt {0}) b.begin) = subst (λ (m : Made (Unit {0})). Extends g begun_there m) b.started (initials_grow g has alive every ready scope active (0 + length locals) locals 0 begun_there isin initial) in
           let homes : b.begin.homes ≡ [] = begins.1.homes ∙ starts_grown.1.homes ∙ no_homes t image p codable compiled in
-          let grown : Extends g b.begin (Makes b.n b.e) = subst (λ (m : Made ℕ). Extends g b.begin m) b.is (row_grows g has alive every (all_numbered t p (the_words t image p codable compiled)) ready (all_declared t p (the_words t image p codable compiled)) scope active falls row frame (0 + length locals) b.begin refl among homes code) in
-          let at_end : Within g b.e = earlier g b.e (with_instr I.FrontHalt b.e) 1 (and_one g I.FrontHalt b.e) whole in
-          let first : Within g begun_there = earlier g begun_there b.begin begins.0 begins.1 (earlier g b.begin b.e grown.0 grown.1 at_end) in
+          let grown : Extends g b.begin (Makes b.n b.e) = subst (λ (m : Made ℕ). Extends g b.begin m) b.is (row_grows g has alive every (all_numbered t p (the_words t image p codable compiled)) ready (all_declared t p (the_words t image p codable compiled)) scope active falls row frame (0 + length locals) b.begin framed among homes code) in
+          let first : Within g begun_there = earlier g begun_there b.begin begins.0 begins.1 (earlier g b.begin b.e grown.0 grown.1 ends.inside) in
           let c = opened_so first in
           let free_before = (constants_grow t image p codable compiled).regs in
           let longer = starts_grown.1.regs in
           let free : first_free own ≤ begun_there.regs = omega (arith, free_before, longer) in
           let more = begins.1.regs in
           let sim : Sim g alive begun_body c.there = sim_same g has alive every in_main begun_body c.there same_scalars refl refl refl c.sim in
-          comes begun_there b.e b.n c.there body_run whole (go_closed _ _ (begins_closed scope active 0 locals begun_body) (λ u. closed_row scope active row inside closed (0 + length locals) u)) c.go
+          comes begun_there b.e b.n c.there body_run ends (go_closed _ _ (begins_closed scope active 0 locals begun_body) (λ u. closed_row scope active row inside closed (0 + length locals) u)) c.go
           (go_after g has alive every ready scope active begun_there c.there (Left g alive frame begun_there c.there) (initialised scope active 0 locals begun_body) (all_executed scope row (0 + length locals) active) tt b.begin (Makes b.n b.e)
           (subst (λ (m : Made (Unit {0})). Follows g (RanOn g alive begun_there c.there) c.there (initialised scope active 0 locals begun_body) m) b.started (initials_follow g has alive every ready scope active (0 + length locals) locals 0 begun_there c.there begun_body isin stand initial free c.at sim))
           grown
           (λ u ran. follows_from g alive frame begun_there b.begin begins.0 c.there ran.t (all_executed scope row (0 + length locals) active u) (Makes b.n b.e) begins.1 ran.go ran.keeps
           (subst (λ (m : Made ℕ). Follows g (Left g alive frame b.begin ran.t) ran.t (all_executed scope row (0 + length locals) active u) m) b.is
-          (row_follows g has alive every (all_numbered t p (the_words t image p codable compiled)) ready (all_declared t p (the_words t image p codable compiled)) scope active falls row inside frame (0 + length locals) b.begin ran.t u refl among homes (omega (arith, free, more)) ran.at ran.sim code))))
+          (row_follows g has alive every (all_numbered t p (the_words t image p codable compiled)) ready (all_declared t p (the_words t image p codable compiled)) scope active falls row inside frame (0 + length locals) b.begin ran.t u framed among homes (omega (arith, free, more)) ran.at ran.sim code))))
         where
+          framed : StandsInMain g frame
+          framed = record { outcome = refl; main = refl; scalar = not_parallel p.main.result p.result }
+
           among : StandsAmong frame []
           among = record { loop = omega arith; all = refl }
 
@@ -302,7 +321,7 @@ module _ (t : Typed) (image : Image) (p : IsScalarProgram t) (codable : IsCodabl
         ∙ sym (ap (λ (b : TStmt). finish (body_of t own frame b begun_there)) is)
         ∙ main_is t image p codable compiled in
         subst (λ (r : Run). ComesTo image opened r) (sym (ap (λ (o : Option Instance). run_of (run_body t (calls t turns) o [] active first_state)) (first_is t p (the_words t image p codable compiled)) ∙ ap (λ (b : TStmt). run_from (executed scope b 0 active in_main)) is))
-        (body_comes locals.items row h.0 h.1 h.2 stand initial code (built_so locals.items row (all_initialised t own locals.items 0 begun_there) refl whole))
+        (body_comes locals.items row h.0 h.1 h.2 stand initial code (λ ends. body_never scope active locals q row (sym (ap (λ (b : TStmt). ends_in_return b) is) ∙ ends)) (built_so locals.items row (all_initialised t own locals.items 0 begun_there) refl whole))
     runs _ is h = absurd h
 
 pub means_source : CodeMeansSource

@@ -1,5 +1,6 @@
 -- The code of statements follows the source.
-use Rattle.std.proofs.Common.{◌≡◌, ◌∙◌, ℕ, List, [], ◌∷◌, length, refl, sym, ap, subst, arith}
+use Rattle.std.proofs.Common.{◌≡◌, ◌∙◌, ℕ, Option, Some, None, List, [], ◌∷◌, length, true, refl, sym, ap, subst, arith}
+use Rattle.std.specs.Prelude.{IfSome}
 use Rattle.cstar_tree.specs.declared.typed.TExpr.{TExpr}
 use Rattle.cstar_tree.specs.declared.typed.TStmt.{TStmt, Row_of-TStmt, end_of-TStmt, more_of-TStmt, Held-TStmt-If-2, None', Some'}
 use Rattle.cstar_tree.specs.declared.typed.TStmt as S
@@ -11,17 +12,24 @@ use Rattle.code_lengths.specs.NamingStatements.{behind}
 use Rattle.code_lengths.specs.Ready.{Declares, HasCode, HasDeclared, HasStatementCode, NumbersVariables}
 use Rattle.code_lengths.specs.LowerableStatements.{IsLowerableStatement}
 use Rattle.code_lengths.specs.NamingStatements.{StandFrom, StatementNamesVariables}
-use Rattle.code_lengths.specs.ShapedStatements.{IsShapedStatement}
+use Rattle.code_lengths.specs.ShapedStatements.{IsShapedPart, IsShapedStatement}
 use Rattle.code_lengths.proofs.Declaring.{else_variables, first_part, of_do, of_if, second_part}
 use Rattle.code_lengths.proofs.StatementLengths.{statements}
 use Rattle.source_meaning.proofs.ConstantLaws.{Boxed}
 use Rattle.lower_base.specs.Drafts.{Draft, Fails, Made, Makes}
 use Rattle.lower_stmt.specs.declared.statement.Frame.{Frame}
+use Rattle.lower_stmt.specs.declared.statement.Outcome.TheVariants as R
 use Rattle.lower_stmt.specs.Frames.{has_result}
 use Rattle.lower_stmt.specs.Lengths.{statement_length_of}
 use Rattle.lower_stmt.specs.Programs.{outcome_of}
 use Rattle.lower_stmt.specs.Statements.{statement_of}
 use Rattle.code_follows.proofs.Settings.{Setting, layout}
+
+-- the frame of a statement of `main`
+pub record StandsInMain (g : Setting) (f : Frame) : Type 0 where
+  pub outcome : f.outcome ≡ outcome_of g.instance.result
+  pub main : f.is_main ≡ true
+  pub scalar : f.outcome ≡ R.Parallel → ⊥
 
 no_length : {A : Type 0} (xs : List A) → length xs ≡ 0 → xs ≡ []
 no_length [] e = refl
@@ -36,10 +44,10 @@ module _ (g : Setting) (numbers : NumbersVariables g.instance (layout g)) (decla
     pub homes : e.homes ≡ []
 
   -- where no variable is parallel no home is added
-  pub statement_made : (s : TStmt) (f : Frame) (n : ℕ) (d : Draft) → f.outcome ≡ outcome_of g.instance.result → StandsAmong f [] → HasStatementCode g.typed g.instance n s → d.homes ≡ []
+  pub statement_made : (s : TStmt) (f : Frame) (n : ℕ) (d : Draft) → StandsInMain g f → StandsAmong f [] → HasStatementCode g.typed g.instance n s → d.homes ≡ []
       → MadeSo d (statement_length_of g.typed (layout g) (has_result f) f.saved s) (behind n s) (statement_of g.typed (layout g) s f [] n d)
   unfolding Leads
-  statement_made s f n d outcome among c none = by (statement_of g.typed (layout g) s f [] n d) refl (statements g.typed g.instance (layout g) s f [] n d numbers outcome among c (declared n d none))
+  statement_made s f n d framed among c none = by (statement_of g.typed (layout g) s f [] n d) refl (statements g.typed g.instance (layout g) s f [] n d numbers framed.outcome among c (declared n d none))
     where
       by : (made : Made ℕ) → statement_of g.typed (layout g) s f [] n d ≡ made → Leads d (statement_length_of g.typed (layout g) (has_result f) f.saved s) (Declares g.typed g.instance (layout g) (behind n s)) made
           → MadeSo d (statement_length_of g.typed (layout g) (has_result f) f.saved s) (behind n s) (statement_of g.typed (layout g) s f [] n d)
@@ -95,3 +103,8 @@ module _ (g : Setting) (numbers : NumbersVariables g.instance (layout g)) (decla
   pub expression_code : (n : ℕ) (e : TExpr) → HasStatementCode g.typed g.instance n (S.Expression e) → HasCode g.typed g.instance n e
   unfolding IsShapedStatement IsLowerableStatement StatementNamesVariables
   expression_code n e c = record { shaped = c.shaped; lowerable = c.lowerable; names = c.names }
+
+  pub returned_code : (e : Option TExpr) (n : ℕ) → HasStatementCode g.typed g.instance n (S.Return e) → IfSome e (λ x. HasCode g.typed g.instance n x)
+  unfolding IsShapedStatement IsLowerableStatement StatementNamesVariables IsShapedPart
+  returned_code None n c = tt
+  returned_code (Some e) n c = record { shaped = c.shaped; lowerable = c.lowerable.1; names = c.names }

@@ -1,5 +1,5 @@
 -- The programs of which it is said so far that their code means them: scalar ones of 32 bits.
-use Rattle.std.specs.Prelude.{◌≡◌, ◌<◌, ◌^◌, false, [], ◌∷◌, IfSome, Option, Some, None}
+use Rattle.std.specs.Prelude.{◌≡◌, ◌<◌, ◌^◌, [], ◌∷◌, IfSome, Option, Some, None}
 use Rattle.std.specs.List.{All}
 use Rattle.cstar_tree.specs.declared.typed.TExpr.{TExpr, Row_of-TExpr, end_of-TExpr, more_of-TExpr}
 use Rattle.cstar_tree.specs.declared.typed.TExpr as T
@@ -12,7 +12,6 @@ use Rattle.cstar_tree.specs.declared.typed.ValueType.{ValueType}
 use Rattle.cstar_tree.specs.declared.typed.VarInfo.{VarInfo}
 use Rattle.cstar_tree.specs.Typed.{type_of}
 use Rattle.cstar_tree.specs.Variables.{variables_of}
-use Rattle.lower_stmt.specs.Statements.{ends_in_return}
 
 -- a scalar type of 32 bits
 abbrev pub IsWord : ValueType → Type 0
@@ -75,6 +74,7 @@ unfoldable mutual
   IsInStatement (S.For' first test step p body) = IfSome first IsEffect × IsTested test × IfSome step IsEffect × IsInStatement body
   IsInStatement S.Break = Unit {0}
   IsInStatement S.Continue = Unit {0}
+  IsInStatement (S.Return e) = IfSome e IsIn
   IsInStatement _ = ⊥
 
   pub AreInStatements : {n : _} → Row_of-TStmt n → Type 0
@@ -111,7 +111,7 @@ IsMainBody _ = ⊥
 abbrev pub IsPlainVariable : VarInfo → Type 0
 IsPlainVariable info = IsWordVariable info × (info.start < 2 ^ 32)
 
--- a program of one function, which ends without `return`
+-- a program of one function
 pub record IsScalarProgram (t : Typed) : Type 0 where
   pub main : Instance
   pub instances : t.instances.items ≡ main ∷ []
@@ -119,5 +119,4 @@ pub record IsScalarProgram (t : Typed) : Type 0 where
   pub result : (info : VarInfo) → main.result ≡ Some info → info.shape ≡ None
   pub body : IsMainBody main.body
   pub locals : All IsWordVariable (variables_of main.body)
-  pub ending : ends_in_return main.body ≡ false
   pub variables : All IsPlainVariable t.vars.items
