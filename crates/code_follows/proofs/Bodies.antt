@@ -1,5 +1,5 @@
 -- Every statement of the fragment.
-use Rattle.std.proofs.Common.{◌≡◌, ◌∙◌, ℕ, ◌+◌, ◌≤◌, false, List, [], ◌++◌, map, Vec, Global, length, Some, sym, subst, arith, None}
+use Rattle.std.proofs.Common.{◌≡◌, ◌∙◌, ℕ, ◌+◌, ◌≤◌, false, List, [], ◌++◌, map, Vec, Global, length, Some, sym, subst, arith, None, refl}
 use mathlib.Core.Former.{Count}
 use Rattle.std.proofs.lemmas.List.{length-map}
 use Rattle.std.specs.List.{All}
@@ -9,6 +9,7 @@ use Rattle.cstar_tree.specs.declared.typed.TStmt.{TStmt, Row_of-TStmt, end_of-TS
 use Rattle.cstar_tree.specs.declared.typed.TStmt as S
 use Rattle.cstar_tree.specs.declared.typed.VarInfo.{VarInfo}
 use Rattle.cstar_tree.specs.declared.typed.Variable.{Variable}
+use Rattle.cstar_tree.specs.declared.typed.Variable.TheVariants as V
 use Rattle.cstar_tree.specs.Variables.{variables_of}
 use Rattle.code_lengths.specs.Agreement.{StandsAmong}
 use Rattle.code_lengths.specs.Growth.{Extended}
@@ -22,7 +23,7 @@ use Rattle.lower_base.specs.Constants.{first_free}
 use Rattle.lower_base.specs.Drafts.{Draft, Fails, Made, Makes, then_make, with_instr}
 use Rattle.lower_stmt.specs.declared.statement.Frame.{Frame}
 use Rattle.lower_stmt.specs.Statements.{else_of, part_of, restored, statement_of, statements_of}
-use Rattle.lower_stmt.specs.Variables.{declared as declared_in}
+use Rattle.lower_stmt.specs.Variables.{all_initialised, declared as declared_in}
 use Rattle.meaning_laws.proofs.Parts.{behind as state_after}
 use Rattle.paris_code.specs.declared.instr.Instr.TheVariants as I
 use Rattle.paris_code.specs.Code.{CodeState}
@@ -31,16 +32,17 @@ use Rattle.source_meaning.specs.State.{Outcome, State, is_among, spend_turn, the
 use Rattle.source_meaning.specs.Statements.{Broke, Continued, Onward, all_executed, declared, done, else_executed, executed, initialised, then_go, Leaving}
 use Rattle.source_meaning.specs.Values.{Active, Scope, Value}
 use Rattle.lower_base.specs.declared.emit.Out.{Out}
-use Rattle.code_follows.proofs.Declaring.{block_declared, clears, none_begun}
-use Rattle.code_follows.specs.Fragment.{AreInStatements, IsEffect, IsFreshLocal, IsInElse, IsInStatement, IsTested}
+use Rattle.code_follows.proofs.Declaring.{Clears, Started, clears, sim_fewer}
+use Rattle.code_follows.specs.Fragment.{AreInStatements, IsEffect, IsInLocal, IsInElse, IsInStatement, IsTested}
 use Rattle.code_follows.proofs.Assigning.{effect_follows}
 use Rattle.code_follows.proofs.Choices.{Agrees, if_alone, if_else}
-use Rattle.code_follows.proofs.Executing.{Jumped, Left, follows_from, go_on}
+use Rattle.code_follows.proofs.Executing.{Jumped, Left, RanOn, follows_from, go_on}
 use Rattle.code_follows.proofs.ForLoops.{do_agrees, for_agrees, while_agrees}
-use Rattle.code_follows.proofs.Following.{Extends, Follows, HasRegisters, Ran, Sim, delayed, keeps_all}
+use Rattle.code_follows.proofs.Following.{Extends, Follows, HasRegisters, Ran, Sim, delayed, extends_made, keeps_all, nothing_said}
 use Rattle.code_follows.proofs.Jumping.{nothing_restored, jumps, moved_to, sim_moved}
 use Rattle.code_follows.proofs.Returning.{return_follows}
 use Rattle.code_follows.proofs.Settings.{At, Setting, Within, layout, start, stay}
+use Rattle.code_follows.proofs.Starting.{AreCoded, coded, go_after, initials_follow, initials_grow}
 use Rattle.code_follows.proofs.Statements.{StandsInMain, expression_code, returned_code, statement_made}
 
 module _ (g : Setting) (has : HasRegisters g) (alive : Variable → Type 0) (every : (x : Variable) → alive x) (numbers : NumbersVariables g.instance (layout g)) (ready : (n : ℕ) (d : Draft) → IsReady g.typed g.instance (layout g) n d)
@@ -116,23 +118,6 @@ module _ (g : Setting) (has : HasRegisters g) (alive : Variable → Type 0) (eve
   continues f k n d s0 st at sim =
       subst (λ (e : Draft). Follows g (Left g alive f d s0) s0 (Source.Gives Continued st) (Makes n (with_instr (I.FrontJump f.next) e))) (sym (nothing_restored k d)) (λ within. jumps_out f k n f.next d s0 st at sim within)
 
-  -- a block whose variables have no initialisers
-  block_follows : {k : Count} (locals : List LocalVar) (row : Row_of-TStmt k) (f : Frame) (n : ℕ) (d : Draft) (s0 : CodeState) (st : State) → All IsFreshLocal locals → StandFrom (variables_of g.instance.body) n (map info_of locals) → RowCode (n + length locals) row
-      → StandsInMain g f → StandsAmong f [] → d.homes ≡ [] → first_free (layout g) ≤ d.regs → At g s0 (length d.code) → Sim g alive st s0
-      → ((e : Draft) (t : CodeState) (u : State) → e.homes ≡ [] → first_free (layout g) ≤ e.regs → At g t (length e.code) → Sim g alive u t → Follows g (Left g alive f e t) t (all_executed scope row (n + length locals) active u) (statements_of g.typed (layout g) row f [] (n + length locals) e))
-      → Follows g (Left g alive f d s0) s0 (then_go (initialised scope active n locals (zeroed n (length locals) st)) (all_executed scope row (n + length locals) active)) (then_make (declared_in g.typed (layout g) false locals n d) (λ m after. statements_of g.typed (layout g) row f [] m after))
-  unfolding then_go then_make
-  block_follows locals row f n d s0 st fresh stand code framed among none free at sim next =
-      let c = clears g has alive every locals n d fresh stand in
-      let after : State = zeroed n (length locals) st in
-      let homes : c.e.homes ≡ [] = c.grown.homes ∙ none in
-      subst (λ (o : Outcome Leaving). Follows g (Left g alive f d s0) s0 (then_go o (all_executed scope row (n + length locals) active)) (then_make (declared_in g.typed (layout g) false locals n d) (λ m after. statements_of g.typed (layout g) row f [] m after))) (sym (none_begun g has alive every scope active locals n after fresh))
-      (subst (λ (m : Made ℕ). Follows g (Left g alive f d s0) s0 (all_executed scope row (n + length locals) active after) (then_make m (λ m' after. statements_of g.typed (layout g) row f [] m' after))) (sym (block_declared g has alive every locals n d fresh stand))
-      (delayed g (Left g alive f d s0) c.e s0 (all_executed scope row (n + length locals) active after) (statements_of g.typed (layout g) row f [] (n + length locals) c.e) (row_grows row f (n + length locals) c.e framed among homes code) (λ within.
-      let ran = c.runs s0 st free at sim within in
-      follows_from g alive f d c.e (length locals) s0 ran.t (all_executed scope row (n + length locals) active after) (statements_of g.typed (layout g) row f [] (n + length locals) c.e) c.grown ran.go ran.keeps
-      (next c.e ran.t after homes (omega (arith, free, c.grown.regs)) ran.at ran.sim))))
-
   pub block_stands : (n : ℕ) (locals : Vec LocalVar Global) (p : Vec (Unit {0}) Global) (row : _) → HasStatementCode g.typed g.instance n (S.Block' locals p row) → StandFrom (variables_of g.instance.body) n (map info_of locals.items ++ row_variables row)
   block_stands n locals p row c = subst (λ (own : List VarInfo). StandFrom (variables_of g.instance.body) n own) (of_block locals p row) c.stands
 
@@ -144,6 +129,47 @@ module _ (g : Setting) (has : HasRegisters g) (alive : Variable → Type 0) (eve
     names = c.names.1;
     stands = subst (λ (k : ℕ). StandFrom (variables_of g.instance.body) (n + k) (row_variables row)) (length-map locals.items info_of) (second_part (map info_of locals.items) (row_variables row) (block_stands n locals p row c));
   }
+
+  -- a block: its variables, and then its statements
+  block_follows : {k : Count} (locals : List LocalVar) (row : Row_of-TStmt k) (f : Frame) (n : ℕ) (d : Draft) (s0 : CodeState) (st : State) → All IsInLocal locals → StandFrom (variables_of g.instance.body) n (map info_of locals) → AreCoded g has alive every ready scope active n locals → RowCode (n + length locals) row
+      → StandsInMain g f → StandsAmong f [] → d.homes ≡ [] → first_free (layout g) ≤ d.regs → At g s0 (length d.code) → Sim g alive st s0
+      → ((e : Draft) (t : CodeState) (u : State) → e.homes ≡ [] → first_free (layout g) ≤ e.regs → At g t (length e.code) → Sim g alive u t → Follows g (Left g alive f e t) t (all_executed scope row (n + length locals) active u) (statements_of g.typed (layout g) row f [] (n + length locals) e))
+      → Follows g (Left g alive f d s0) s0 (then_go (initialised scope active n locals (zeroed n (length locals) st)) (all_executed scope row (n + length locals) active)) (then_make (declared_in g.typed (layout g) false locals n d) (λ m after. statements_of g.typed (layout g) row f [] m after))
+  unfolding declared_in then_make Extends
+  block_follows locals row f n d s0 st isin stand initial code framed among none free at sim next =
+      subst (λ (m : Made (Unit {0})). Follows g (Left g alive f d s0) s0 whole (then_make (then_make m (λ u between. then_make (all_initialised g.typed (layout g) locals n between) (λ v after. Makes (n + length locals) after))) (λ m' after. statements_of g.typed (layout g) row f [] m' after))) (sym c.is)
+      (by (all_initialised g.typed (layout g) locals n c.e) refl)
+    where
+      c : Clears g has alive locals n d
+      c = clears g has alive locals n d isin stand
+
+      after_zero : State
+      after_zero = zeroed n (length locals) st
+
+      whole : Outcome Leaving
+      whole = then_go (initialised scope active n locals after_zero) (all_executed scope row (n + length locals) active)
+
+      by : (m : Made (Unit {0})) → all_initialised g.typed (layout g) locals n c.e ≡ m → Follows g (Left g alive f d s0) s0 whole (then_make (then_make m (λ v after. Makes (n + length locals) after)) (λ m' after. statements_of g.typed (layout g) row f [] m' after))
+      by Fails is = nothing_said g (Left g alive f d s0) s0 whole
+      by (Makes u e) is =
+          let grows : (j : ℕ) × Extended c.e j e = subst (λ (m : Made (Unit {0})). Extends g c.e m) is (initials_grow g has alive every ready scope active locals n c.e isin initial) in
+          let homes : e.homes ≡ [] = grows.1.homes ∙ c.grown.homes ∙ none in
+          let made : Made ℕ = statements_of g.typed (layout g) row f [] (n + length locals) e in
+          let grows_on : Extends g e made = row_grows row f (n + length locals) e framed among homes code in
+          delayed g (Left g alive f d s0) c.e s0 whole made (extends_made g c.e e grows.0 made grows.1 grows_on) (λ within.
+          let ran = c.runs s0 st (λ j less. every (V.Local j)) free at sim within in
+          let started : Sim g (Started locals n) after_zero ran.t = sim_fewer g (λ x. alive x × Started locals n x) (Started locals n) after_zero ran.t (λ x h. (every x, h)) ran.sim in
+          let longer = c.grown.regs in
+          let more = grows.1.regs in
+          follows_from g alive f d c.e c.count s0 ran.t whole made c.grown ran.go ran.keeps
+          (go_after g has alive every ready scope active c.e ran.t (Left g alive f c.e ran.t) (initialised scope active n locals after_zero) (all_executed scope row (n + length locals) active) u e made
+          (subst (λ (m : Made (Unit {0})). Follows g (RanOn g alive c.e ran.t) ran.t (initialised scope active n locals after_zero) m) is (initials_follow g has alive every ready scope active locals n c.e ran.t after_zero isin stand initial (omega (arith, free, longer)) ran.at started)) grows_on
+          (λ v one. follows_from g alive f c.e e grows.0 ran.t one.t (all_executed scope row (n + length locals) active v) made grows.1 one.go one.keeps (next e one.t v homes (omega (arith, free, longer, more)) one.at one.sim))))
+
+  -- what has code of a block's initialisers
+  pub block_initials : (n : ℕ) (locals : Vec LocalVar Global) (p : Vec (Unit {0}) Global) (row : _) → HasStatementCode g.typed g.instance n (S.Block' locals p row) → AreCoded g has alive every ready scope active n locals.items
+  unfolding IsShapedStatement IsLowerableStatement StatementNamesVariables
+  block_initials n locals p row c = coded g has alive every ready scope active n locals.items c.shaped.0 c.lowerable.0 c.names.0
 
   row_onward : {k : Count} (s : TStmt) (rest : Row_of-TStmt k) (f : Frame) (n : ℕ) (d : Draft) (s0 : CodeState) (st : State) → StandsInMain g f → StandsAmong f [] → d.homes ≡ [] → first_free (layout g) ≤ d.regs → RowCode n (more_of-TStmt s rest)
       → Follows g (Left g alive f d s0) s0 (executed scope s n active st) (statement_of g.typed (layout g) s f [] n d)
@@ -163,7 +189,7 @@ module _ (g : Setting) (has : HasRegisters g) (alive : Variable → Type 0) (eve
 
     pub statement_follows : (s : TStmt) → IsInStatement s → Follows_it s
     statement_follows (S.Block' locals p statements) h f n d s0 st framed among none free at sim c =
-        block_follows locals.items statements f n d s0 st h.0 (first_part (map info_of locals.items) (row_variables statements) (block_stands n locals p statements c)) (block_code n locals p statements c) framed among none free at sim
+        block_follows locals.items statements f n d s0 st h.0 (first_part (map info_of locals.items) (row_variables statements) (block_stands n locals p statements c)) (block_initials n locals p statements c) (block_code n locals p statements c) framed among none free at sim
         (λ e t u none_e free_e at_e sim_e. row_follows statements h.1 f (n + length locals.items) e t u framed among none_e free_e at_e sim_e (block_code n locals p statements c))
     statement_follows (S.Expression e) h f n d s0 st framed among none free at sim c = expression_follows e h f n d s0 st free at sim c
     statement_follows S.Empty h f n d s0 st framed among none free at sim c = stays_here f n d s0 st at sim

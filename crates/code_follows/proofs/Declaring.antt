@@ -5,34 +5,27 @@ use Rattle.std.specs.Prelude.{nat_le, ◌||◌}
 use Rattle.std.specs.List.{All}
 use Rattle.std.proofs.lemmas.Bool.Decides.{nat_tests}
 use Rattle.cstar_tree.specs.declared.typed.LocalVar.{LocalVar}
-use Rattle.cstar_tree.specs.declared.typed.TExpr.{TExpr}
 use Rattle.cstar_tree.specs.declared.typed.VarInfo.{VarInfo}
 use Rattle.cstar_tree.specs.declared.typed.Variable.{Variable}
 use Rattle.cstar_tree.specs.declared.typed.Variable.TheVariants as V
 use Rattle.cstar_tree.specs.Variables.{variables_of}
 use Rattle.code_lengths.specs.Growth.{Extended}
-use Rattle.code_lengths.specs.Naming.{variable_named}
+use Rattle.code_lengths.specs.Naming.{IsDeclared, variable_named}
 use Rattle.code_lengths.specs.NamingStatements.{StandFrom}
 use Rattle.code_lengths.proofs.Declaring.{at_length, info_of, second_part}
 use Rattle.code_lengths.proofs.Drafting.{as_it_was, extended}
 use Rattle.lower_base.specs.Constants.{first_free}
 use Rattle.lower_base.specs.Drafts.{Draft, Made, Makes, step as step_of, then_make, with_instr}
 use Rattle.lower_base.specs.Layouts.{entries_of, register_of}
-use Rattle.lower_stmt.specs.Variables.{all_cleared, all_initialised, begins_constant, cleared, cleared_fields, declared as declared_in, initialised as initialised_in, variable_of, with_home}
-use Rattle.lower_expr.specs.Effects.{put_to}
-use Rattle.lower_expr.specs.Steps.{has_word}
+use Rattle.lower_stmt.specs.Variables.{all_cleared, begins_constant, cleared, cleared_fields, with_home}
 use Rattle.paris_code.specs.declared.instr.Instr.TheVariants as I
 use Rattle.paris_code.specs.Code.{CodeState, begun, with_register}
-use Rattle.source_meaning.specs.State as Source
-use Rattle.source_meaning.specs.State.{Outcome, State, is_among, is_same, with_scalar, zeroed}
-use Rattle.source_meaning.specs.Statements.{Onward, initialised, initialised_one, then_go}
-use Rattle.source_meaning.specs.Targets.{variable_target}
-use Rattle.source_meaning.specs.Values.{Active, Scope}
-use Rattle.code_follows.specs.Fragment.{IsFreshLocal}
+use Rattle.source_meaning.specs.State.{State, is_among, is_same, with_scalar, zeroed}
+use Rattle.code_follows.specs.Fragment.{IsInLocal}
 use Rattle.code_follows.proofs.Executing.{ran_from}
 use Rattle.code_follows.proofs.Following.{HasRegisters, IsScalar, Keeps, Ran, Sim, held, input_of, keeps_all}
 use Rattle.code_follows.proofs.Settings.{At, Setting, Within, and_one, at_next, begins_here, earlier, layout, one, regs_more, stay}
-use Rattle.code_follows.proofs.Stores.{below_free, sim_written}
+use Rattle.code_follows.proofs.Stores.{below_free, same_is, sim_begun}
 use Rattle.code_follows.proofs.Words.{held_wide}
 
 -- what holds of all holds of those behind the first
@@ -62,10 +55,27 @@ zeroed_more n len st (V.File k) = refl
 zeroed_more n len st (V.Param k) = refl
 zeroed_more n len st (V.Local k) = ap (λ (b : Bool). if b then 0 else st.scalar (V.Local k)) (among_more n len k) ∙ either_zero (nat_le (n + 1) k && nat_lt k (n + 1 + len)) (n == k) (st.scalar (V.Local k))
 
-module _ (g : Setting) (has : HasRegisters g) (alive : Variable → Type 0) (every : (x : Variable) → alive x) where
+-- the variables that hold their values where so far into a block the initialiser of the first of these is
+-- next: all but those that begin as constants, whose turn is still to come
+unfoldable pub Started : List LocalVar → ℕ → Variable → Type 0
+Started [] n x = Unit {0}
+Started (local ∷ locals) n x = (begins_constant local ≡ true → x ≡ V.Local n → ⊥) × Started locals (n + 1) x
+
+local_same : (j k : ℕ) → V.Local j ≡ V.Local k → j ≡ k
+local_same j k e = ap (λ (x : Variable). elim x as (λ _. ℕ) [ V.File m ↦ 0 | V.Param m ↦ 0 | V.Local m ↦ m ]) e
+
+-- what is declared before a block's variables is alive among them
+pub started_before : (locals : List LocalVar) (n m : ℕ) (x : Variable) → m ≤ n → IsDeclared m x → Started locals n x
+unfolding Started IsDeclared
+started_before [] n m x less h = tt
+started_before (local ∷ locals) n m (V.File k) less h = ((λ b e. cc), started_before locals (n + 1) m (V.File k) (omega (arith, less)) h)
+started_before (local ∷ locals) n m (V.Param k) less h = ((λ b e. cc), started_before locals (n + 1) m (V.Param k) (omega (arith, less)) h)
+started_before (local ∷ locals) n m (V.Local k) less h = ((λ b e. let same = local_same k n e in omega (arith, same, h, less)), started_before locals (n + 1) m (V.Local k) (omega (arith, less)) h)
+
+module _ (g : Setting) where
   -- what is said of the source's state is said of one with the same scalar variables
-  pub sim_same : (u v : State) (s : CodeState) → ((x : Variable) → v.scalar x ≡ u.scalar x) → v.turns ≡ u.turns → v.output ≡ u.output → input_of v ≡ input_of u → Sim g alive u s → Sim g alive v s
-  sim_same u v s same turns output input h = record {
+  pub sim_same : (alive : Variable → Type 0) (u v : State) (s : CodeState) → ((x : Variable) → v.scalar x ≡ u.scalar x) → v.turns ≡ u.turns → v.output ≡ u.output → input_of v ≡ input_of u → Sim g alive u s → Sim g alive v s
+  sim_same alive u v s same turns output input h = record {
     registers = h.registers;
     scalars = λ x info living scalar. h.scalars x info living scalar ∙ ap (λ (w : ℕ). held info.elem w) (sym (same x));
     small = λ x info living scalar. subst (λ (w : ℕ). w < 2 ^ info.elem.bits) (sym (same x)) (h.small x info living scalar);
@@ -74,6 +84,22 @@ module _ (g : Setting) (has : HasRegisters g) (alive : Variable → Type 0) (eve
     output = h.output ∙ sym output;
     input = h.input ∙ sym input;
   }
+
+  -- what holds of more variables holds of fewer
+  pub sim_fewer : (more fewer : Variable → Type 0) (st : State) (s : CodeState) → ((x : Variable) → fewer x → more x) → Sim g more st s → Sim g fewer st s
+  sim_fewer more fewer st s among h = record {
+    registers = h.registers;
+    scalars = λ x info living scalar. h.scalars x info (among x living) scalar;
+    small = λ x info living scalar. h.small x info (among x living) scalar;
+    constants = h.constants;
+    turns = h.turns;
+    output = h.output;
+    input = h.input;
+  }
+
+  ran_fewer : (more fewer : Variable → Type 0) (d : Draft) (s : CodeState) (u v : State) (e : Draft) → ((x : Variable) → fewer x → more x) → ((x : Variable) → v.scalar x ≡ u.scalar x) → v.turns ≡ u.turns → v.output ≡ u.output → input_of v ≡ input_of u
+      → Ran g more d s u e → Ran g fewer d s v e
+  ran_fewer more fewer d s u v e among same turns output input r = record { grown = r.grown; t = r.t; go = r.go; at = r.at; keeps = r.keeps; sim = sim_fewer more fewer v r.t among (sim_same more u v r.t same turns output input r.sim) }
 
   -- the first of variables that stand from a number on, and the others
   pub first_is_named : (n : ℕ) (info : VarInfo) (rest : List VarInfo) → StandFrom (variables_of g.instance.body) n (info ∷ rest) → variable_named g.typed g.instance (V.Local n) ≡ Some info
@@ -84,13 +110,6 @@ module _ (g : Setting) (has : HasRegisters g) (alive : Variable → Type 0) (eve
   pub others_stand : (n : ℕ) (info : VarInfo) (rest : List VarInfo) → StandFrom (variables_of g.instance.body) n (info ∷ rest) → StandFrom (variables_of g.instance.body) (n + 1) rest
   others_stand n info rest stand = second_part (info ∷ []) rest stand
 
-  -- variables without initialisers become 0
-  pub record Clears (locals : List LocalVar) (n : ℕ) (d : Draft) : Type 0 where
-    pub e : Draft
-    pub is : all_cleared (layout g) false locals n d ≡ Makes tt e
-    pub grown : Extended d (length locals) e
-    pub runs : (s : CodeState) (st : State) → first_free (layout g) ≤ d.regs → At g s (length d.code) → Sim g alive st s → Within g e → Ran g alive d s (zeroed n (length locals) st) e
-
   nothing_zeroed : (n : ℕ) (st : State) (y : Variable) → (zeroed n 0 st).scalar y ≡ st.scalar y
   unfolding zeroed is_among
   nothing_zeroed n st (V.File k) = refl
@@ -100,77 +119,117 @@ module _ (g : Setting) (has : HasRegisters g) (alive : Variable → Type 0) (eve
       none : (n k : ℕ) → (nat_le n k && nat_lt k (n + 0)) ≡ false
       none n k = grind (arith, nat_tests)
 
-  pub clears : (locals : List LocalVar) (n : ℕ) (d : Draft) → All IsFreshLocal locals → StandFrom (variables_of g.instance.body) n (map info_of locals) → Clears locals n d
-  unfolding all_cleared cleared begins_constant then_make begun step_of zeroed with_scalar
-  clears [] n d fresh stand = record {
-    e = d;
-    is = refl;
-    grown = as_it_was d;
-    runs = λ s st free at sim within. record { grown = (0, as_it_was d); t = s; go = stay g s; at = at; sim = sim_same st (zeroed n 0 st) s (nothing_zeroed n st) refl refl refl sim; keeps = keeps_all g d s };
+module _ (g : Setting) (has : HasRegisters g) where
+  -- The variables of a block become 0, but for the registers of those that begin as constants. Those of
+  -- the source that are still to come are alive before, as their registers hold numbers of earlier rounds.
+  pub record Clears (before : Variable → Type 0) (locals : List LocalVar) (n : ℕ) (d : Draft) : Type 0 where
+    pub e : Draft
+    pub is : all_cleared (layout g) false locals n d ≡ Makes tt e
+    pub count : ℕ
+    pub grown : Extended d count e
+    pub runs : (s : CodeState) (st : State) → ((k : ℕ) → n ≤ k → before (V.Local k)) → first_free (layout g) ≤ d.regs → At g s (length d.code) → Sim g before st s → Within g e
+        → Ran g (λ x. before x × Started locals n x) d s (zeroed n (length locals) st) e
+
+  cleared_so : (local : LocalVar) → local.info.shape ≡ None → (n : ℕ) (d : Draft) (b : Bool) → begins_constant local ≡ b → (next : Draft → Made (Unit {0}))
+      → then_make (cleared (layout g) false local n d) (λ u after. next after) ≡ next (if b then d else with_instr (I.FrontConst (register_of (layout g) (V.Local n)) 0) d)
+  unfolding cleared then_make
+  cleared_so local plain n d b is next =
+      ap (λ (o : Option ℕ). then_make (elim o as (λ _. Made (Unit {0})) [
+        | None ↦ if false || begins_constant local then Makes (tt {0}) d else Makes (tt {0}) (with_instr (I.FrontConst (register_of (layout g) (V.Local n)) 0) d)
+        | Some s ↦ cleared_fields (entries_of local.info) s local.info.elem.bits (with_home d)
+      ]) (λ u after. next after)) plain
+      ∙ ap (λ (c : Bool). then_make (if false || c then Makes (tt {0}) d else Makes (tt {0}) (with_instr (I.FrontConst (register_of (layout g) (V.Local n)) 0) d)) (λ u after. next after)) is ∙ by b
+    where
+      by : (b : Bool) → then_make (if false || b then Makes (tt {0}) d else Makes (tt {0}) (with_instr (I.FrontConst (register_of (layout g) (V.Local n)) 0) d)) (λ u after. next after) ≡ next (if b then d else with_instr (I.FrontConst (register_of (layout g) (V.Local n)) 0) d)
+      by true = refl
+      by false = refl
+
+  small_zero : (bits : ℕ) → bits ≡ 32 → 0 < 2 ^ bits
+  small_zero bits wide = subst (λ (b : ℕ). 0 < 2 ^ b) (sym wide) (omega arith)
+
+  -- one that begins as a constant waits
+  waits : (before : Variable → Type 0) (local : LocalVar) (locals : List LocalVar) (n : ℕ) (d : Draft) → IsInLocal local → begins_constant local ≡ true → Clears (λ x. before x × (x ≡ V.Local n → ⊥)) locals (n + 1) d → Clears before (local ∷ locals) n d
+  unfolding all_cleared zeroed with_scalar Started
+  waits before local locals n d isin begins rest = record {
+    e = rest.e;
+    is = cleared_so local isin.0.0 n d true begins (λ after. all_cleared (layout g) false locals (n + 1) after) ∙ rest.is;
+    count = rest.count;
+    grown = rest.grown;
+    runs = λ s st later free at sim within.
+        let others : Variable → Type 0 = λ x. before x × (x ≡ V.Local n → ⊥) in
+        let st1 : State = with_scalar (V.Local n) 0 st in
+        let sim1 : Sim g others st1 s = waiting before st s sim in
+        let ran = rest.runs s st1 (λ k less. (later k (omega (arith, less)), λ e. let same = local_same k n e in omega (arith, same, less))) free at sim1 within in
+        ran_fewer g (λ x. others x × Started locals (n + 1) x) (λ x. before x × Started (local ∷ locals) n x) d s (zeroed (n + 1) (length locals) st1) (zeroed n (suc (length locals)) st) rest.e
+        (λ x h. ((h.0, h.1.0 begins), h.1.1)) (zeroed_more n (length locals) st) refl refl refl ran;
   }
-  clears (local ∷ locals) n d fresh stand =
-      let first = all_first IsFreshLocal local locals fresh in
-      let named : variable_named g.typed g.instance (V.Local n) ≡ Some local.info = first_is_named n local.info (map info_of locals) stand in
-      let scalar : IsScalar g (V.Local n) local.info = (named, first.0.0) in
+    where
+      waiting : (before : Variable → Type 0) (st : State) (s : CodeState) → Sim g before st s → Sim g (λ x. before x × (x ≡ V.Local n → ⊥)) (with_scalar (V.Local n) 0 st) s
+      waiting before st s sim = record {
+        registers = sim.registers;
+        scalars = λ x info living scalar. sim.scalars x info living.0 scalar ∙ ap (λ (w : ℕ). held info.elem w) (sym (not_it x living.1));
+        small = λ x info living scalar. subst (λ (w : ℕ). w < 2 ^ info.elem.bits) (sym (not_it x living.1)) (sim.small x info living.0 scalar);
+        constants = sim.constants;
+        turns = sim.turns;
+        output = sim.output;
+        input = sim.input;
+      }
+        where
+          not_it : (x : Variable) → (x ≡ V.Local n → ⊥) → (with_scalar (V.Local n) 0 st).scalar x ≡ st.scalar x
+          not_it x other = by (is_same (V.Local n) x) refl
+            where
+              by : (b : Bool) → is_same (V.Local n) x ≡ b → (if is_same (V.Local n) x then 0 else st.scalar x) ≡ st.scalar x
+              by true is = absurd (other (sym (same_is (V.Local n) x is)))
+              by false is = ap (λ (b : Bool). if b then 0 else st.scalar x) is
+
+  -- any other one becomes 0 at once
+  clears_one : (before : Variable → Type 0) (local : LocalVar) (locals : List LocalVar) (n : ℕ) (d : Draft) → IsInLocal local → begins_constant local ≡ false → StandFrom (variables_of g.instance.body) n (info_of local ∷ map info_of locals) → Clears before locals (n + 1) (with_instr (I.FrontConst (register_of (layout g) (V.Local n)) 0) d) → Clears before (local ∷ locals) n d
+  unfolding all_cleared begun step_of zeroed with_scalar Started
+  clears_one before local locals n d isin begins stand rest =
+      let scalar : IsScalar g (V.Local n) local.info = (first_is_named g n local.info (map info_of locals) stand, isin.0.0) in
       let r : ℕ = register_of (layout g) (V.Local n) in
       let between : Draft = with_instr (I.FrontConst r 0) d in
-      let rest = clears locals (n + 1) between (all_rest IsFreshLocal local locals fresh) (others_stand n local.info (map info_of locals) stand) in
-      let grows : Extended d (1 + length locals) rest.e = extended d between rest.e 1 (length locals) (and_one g (I.FrontConst r 0) d) rest.grown in
-      let zero_held : held local.info.elem 0 ≡ 0 = held_wide local.info.elem 0 first.0.1 (omega arith) in
+      let zero_held : held local.info.elem 0 ≡ 0 = held_wide local.info.elem 0 isin.0.1 (omega arith) in
       record {
         e = rest.e;
-        is = cleared_so local first n d (λ after. all_cleared (layout g) false locals (n + 1) after) ∙ rest.is;
-        grown = subst (λ (k : ℕ). Extended d k rest.e) (one_more (length locals)) grows;
-        runs = λ s st free at sim within.
+        is = cleared_so local isin.0.0 n d false begins (λ after. all_cleared (layout g) false locals (n + 1) after) ∙ rest.is;
+        count = 1 + rest.count;
+        grown = extended d between rest.e 1 rest.count (and_one g (I.FrontConst r 0) d) rest.grown;
+        runs = λ s st later free at sim within.
             let s1 : CodeState = with_register r 0 s in
             let st1 : State = with_scalar (V.Local n) 0 st in
             let more = regs_more g (I.FrontConst r 0) d in
-            let low = below_free g has alive (V.Local n) local.info (every (V.Local n)) scalar in
-            let first_within : Within g between = earlier g between rest.e (length locals) rest.grown within in
+            let low = below_free g has (V.Local n) local.info scalar in
+            let first_within : Within g between = earlier g between rest.e rest.count rest.grown within in
             let inside : r < length s.registers = omega (arith, low, free, first_within.regs, more, sim.registers) in
-            let sim1 : Sim g alive st1 s1 = subst (λ (w : ℕ). Sim g alive st1 (with_register r w s)) zero_held (sim_written g has alive (V.Local n) local.info (every (V.Local n)) scalar st s 0 (small_zero local.info.elem.bits first.0.1) inside sim) in
+            let sim1 : Sim g before st1 s1 = subst (λ (w : ℕ). Sim g before st1 (with_register r w s)) zero_held (sim_begun g has (V.Local n) local.info scalar before before (λ y living other. living) st s 0 (small_zero local.info.elem.bits isin.0.1) inside sim) in
             let kept : Keeps g d s s1 = λ q lo hi. get_or-set_other s.registers r q 0 0 (λ e. omega (arith, e, low, lo)) in
-            let later = rest.runs s1 st1 (omega (arith, free, more)) (at_next g (I.FrontConst r 0) d s (s.at + 1) at refl) sim1 within in
-            let all = ran_from g alive d between 1 s s1 (zeroed (n + 1) (length locals) st1) rest.e (and_one g (I.FrontConst r 0) d) (one g s s1 (begins_here g (I.FrontConst r 0) d s first_within refl at)) kept later in
-            record { grown = all.grown; t = all.t; go = all.go; at = all.at; keeps = all.keeps; sim = sim_same (zeroed (n + 1) (length locals) st1) (zeroed n (suc (length locals)) st) all.t (zeroed_more n (length locals) st) refl refl refl all.sim };
+            let ran = rest.runs s1 st1 (λ k less. later k (omega (arith, less))) (omega (arith, free, more)) (at_next g (I.FrontConst r 0) d s (s.at + 1) at refl) sim1 within in
+            let all = ran_from g (λ x. before x × Started locals (n + 1) x) d between 1 s s1 (zeroed (n + 1) (length locals) st1) rest.e (and_one g (I.FrontConst r 0) d) (one g s s1 (begins_here g (I.FrontConst r 0) d s first_within refl at)) kept ran in
+            ran_fewer g (λ x. before x × Started locals (n + 1) x) (λ x. before x × Started (local ∷ locals) n x) d s (zeroed (n + 1) (length locals) st1) (zeroed n (suc (length locals)) st) rest.e
+            (λ x h. (h.0, h.1.1)) (zeroed_more n (length locals) st) refl refl refl all;
       }
+
+  pub clears : (before : Variable → Type 0) (locals : List LocalVar) (n : ℕ) (d : Draft) → All IsInLocal locals → StandFrom (variables_of g.instance.body) n (map info_of locals) → Clears before locals n d
+  unfolding all_cleared zeroed Started
+  clears before [] n d isin stand = record {
+    e = d;
+    is = refl;
+    count = 0;
+    grown = as_it_was d;
+    runs = λ s st later free at sim within. record {
+      grown = (0, as_it_was d);
+      t = s;
+      go = stay g s;
+      at = at;
+      keeps = keeps_all g d s;
+      sim = sim_fewer g before (λ x. before x × Started [] n x) (zeroed n 0 st) s (λ x h. h.0) (sim_same g before st (zeroed n 0 st) s (nothing_zeroed g n st) refl refl refl sim);
+    };
+  }
+  clears before (local ∷ locals) n d isin stand =
+      by (begins_constant local) refl (clears (λ x. before x × (x ≡ V.Local n → ⊥)) locals (n + 1) d (all_rest IsInLocal local locals isin) (others_stand g n local.info (map info_of locals) stand))
+      (clears before locals (n + 1) (with_instr (I.FrontConst (register_of (layout g) (V.Local n)) 0) d) (all_rest IsInLocal local locals isin) (others_stand g n local.info (map info_of locals) stand))
     where
-      one_more : (k : ℕ) → 1 + k ≡ suc k
-      one_more k = omega arith
-
-      small_zero : (bits : ℕ) → bits ≡ 32 → 0 < 2 ^ bits
-      small_zero bits wide = subst (λ (b : ℕ). 0 < 2 ^ b) (sym wide) (omega arith)
-
-      cleared_so : (local : LocalVar) → IsFreshLocal local → (n : ℕ) (d : Draft) (next : Draft → Made (Unit {0})) → then_make (cleared (layout g) false local n d) (λ u after. next after) ≡ next (with_instr (I.FrontConst (register_of (layout g) (V.Local n)) 0) d)
-      cleared_so local fresh n d next =
-          ap (λ (o : Option ℕ). then_make (elim o as (λ _. Made (Unit {0})) [
-            | None ↦ if false || begins_constant local then Makes tt d else Makes tt (with_instr (I.FrontConst (register_of (layout g) (V.Local n)) 0) d)
-            | Some s ↦ cleared_fields (entries_of local.info) s local.info.elem.bits (with_home d)
-          ]) (λ u after. next after)) fresh.0.0
-          ∙ ap (λ (o : Option TExpr). then_make (if false || (elim o as (λ _. Bool) [ None ↦ false | Some e ↦ has_word true e ]) then Makes tt d else Makes tt (with_instr (I.FrontConst (register_of (layout g) (V.Local n)) 0) d)) (λ u after. next after)) fresh.1
-
-  -- nothing else is done for them, by the code and by the source
-  pub none_initialised : (locals : List LocalVar) (n : ℕ) (d : Draft) → All IsFreshLocal locals → all_initialised g.typed (layout g) locals n d ≡ Makes tt d
-  unfolding all_initialised initialised_in then_make
-  none_initialised [] n d fresh = refl
-  none_initialised (local ∷ locals) n d fresh =
-      ap (λ (o : Option TExpr). then_make (elim o as (λ _. Made (Unit {0})) [
-        | None ↦ Makes tt d
-        | Some e ↦ then_make (variable_of g.typed (layout g) local.info n d) (λ dest between. then_make (put_to g.typed (layout g) dest e between) (λ u after. Makes tt after))
-      ]) (λ u after. all_initialised g.typed (layout g) locals (n + 1) after)) (all_first IsFreshLocal local locals fresh).1
-      ∙ none_initialised locals (n + 1) d (all_rest IsFreshLocal local locals fresh)
-
-  -- a block whose variables have no initialisers begins so
-  pub block_declared : (locals : List LocalVar) (n : ℕ) (d : Draft) (fresh : All IsFreshLocal locals) (stand : StandFrom (variables_of g.instance.body) n (map info_of locals)) → declared_in g.typed (layout g) false locals n d ≡ Makes (n + length locals) (clears locals n d fresh stand).e
-  unfolding declared_in then_make
-  block_declared locals n d fresh stand =
-      let c = clears locals n d fresh stand in
-      ap (λ (m : Made (Unit {0})). then_make m (λ u between. then_make (all_initialised g.typed (layout g) locals n between) (λ v after. Makes (n + length locals) after))) c.is
-      ∙ ap (λ (m : Made (Unit {0})). then_make m (λ v after. Makes (n + length locals) after)) (none_initialised locals n c.e fresh)
-
-  pub none_begun : (scope : Scope) (active : Active) (locals : List LocalVar) (n : ℕ) (st : State) → All IsFreshLocal locals → initialised scope active n locals st ≡ Source.Gives Onward st
-  unfolding initialised initialised_one then_go
-  none_begun scope active [] n st fresh = refl
-  none_begun scope active (local ∷ locals) n st fresh =
-      ap (λ (o : Option TExpr). then_go (initialised_one scope active (variable_target local.info.shape (V.Local n) 0) o st) (initialised scope active (n + 1) locals)) (all_first IsFreshLocal local locals fresh).1
-      ∙ none_begun scope active locals (n + 1) st (all_rest IsFreshLocal local locals fresh)
+      by : (b : Bool) → begins_constant local ≡ b → Clears (λ x. before x × (x ≡ V.Local n → ⊥)) locals (n + 1) d → Clears before locals (n + 1) (with_instr (I.FrontConst (register_of (layout g) (V.Local n)) 0) d) → Clears before (local ∷ locals) n d
+      by true is waiting done = waits before local locals n d (all_first IsInLocal local locals isin) is waiting
+      by false is waiting done = clears_one before local locals n d (all_first IsInLocal local locals isin) is stand done

@@ -177,6 +177,14 @@ module _ (g : Setting) where
   then_gives R Q s (Source.Gives x st) f Fails h next = tt
   then_gives R Q s (Source.Ends early st) f Fails h next = tt
 
+  -- what is said follows from what else is said
+  pub follows_other : {A B : Type 0} (R Q : A → State → B → Draft → Type 0) (s : CodeState) (o : Outcome A) (made : Made B) → Follows R s o made → ((x : A) (st : State) (y : B) (e : Draft) → R x st y e → Q x st y e) → Follows Q s o made
+  unfolding Follows
+  follows_other R Q s (Source.Gives x st) (Makes y e) h next = λ w. next x st y e (h w)
+  follows_other R Q s (Source.Ends early st) (Makes y e) h next = h
+  follows_other R Q s (Source.Gives x st) Fails h next = tt
+  follows_other R Q s (Source.Ends early st) Fails h next = tt
+
   -- a part whose code is made, and then another
   pub then_on : {A B C D : Type 0} (R : A → State → B → Draft → Type 0) (Q : C → State → D → Draft → Type 0) (s : CodeState) (o : Outcome A) (k : A → State → Outcome C) (y : B) (e : Draft) (made : Made D) → Follows R s o (Makes y e) → Extends e made
       → ((x : A) (st : State) → R x st y e → Follows Q s (k x st) made) → Follows Q s (then_do o k) made

@@ -43,7 +43,7 @@ use Rattle.code_follows.specs.Agreement.{CodeMeansSource, ComesTo, end_of, mark_
 use Rattle.code_follows.specs.Fragment.{AreClosed, AreInStatements, IsInLocal, IsMainBody, IsPlainVariable, IsScalarProgram}
 use Rattle.code_follows.proofs.Bodies.{RowCode, block_code, block_stands, row_follows, row_grows}
 use Rattle.code_follows.proofs.Beginnings.{starts_grow, starts_run}
-use Rattle.code_follows.proofs.Declaring.{sim_same}
+use Rattle.code_follows.proofs.Declaring.{Started, sim_fewer, sim_same}
 use Rattle.code_follows.proofs.Starting.{AreCoded, coded, go_after, initials_follow, initials_grow, none_cleared}
 use Rattle.code_lengths.specs.ShapedStatements.{IsShapedStatement}
 use Rattle.code_lengths.specs.LowerableStatements.{IsLowerableStatement}
@@ -278,13 +278,13 @@ module _ (t : Typed) (image : Image) (p : IsScalarProgram t) (codable : IsCodabl
           zero_anyway true = refl
           zero_anyway false = refl
 
-      body_comes : All IsInLocal locals → AreInStatements row → AreClosed row → StandFrom (variables_of p.main.body) 0 (map info_of locals) → AreCoded g has alive every (all_ready t p (the_words t image p codable compiled)) scope active (0 + length locals) locals
+      body_comes : All IsInLocal locals → AreInStatements row → AreClosed row → StandFrom (variables_of p.main.body) 0 (map info_of locals) → AreCoded g has alive every (all_ready t p (the_words t image p codable compiled)) scope active 0 locals
           → RowCode g has alive every (all_numbered t p (the_words t image p codable compiled)) (all_ready t p (the_words t image p codable compiled)) (all_declared t p (the_words t image p codable compiled)) scope active falls (0 + length locals) row → (ends_in_return p.main.body ≡ true → (n : ℕ) (st : State) → NeverOnward (all_executed scope row n active st)) → Built locals row → ComesTo image opened (run_from body_run)
       unfolding Extends blank body_frame first_free zeroed ended with_end
       body_comes isin inside closed stand initial code never b =
           let ready = all_ready t p (the_words t image p codable compiled) in
           let ends : EndsSo body_run b.e = ends_by body_run b.e (ends_in_return p.main.body) b.unit (λ h. never_second (initialised scope active 0 locals begun_body) _ (λ u. never h (0 + length locals) u)) in
-          let begins : Extends g begun_there (Makes (tt {0}) b.begin) = subst (λ (m : Made (Unit {0})). Extends g begun_there m) b.started (initials_grow g has alive every ready scope active (0 + length locals) locals 0 begun_there isin initial) in
+          let begins : Extends g begun_there (Makes (tt {0}) b.begin) = subst (λ (m : Made (Unit {0})). Extends g begun_there m) b.started (initials_grow g has alive every ready scope active locals 0 begun_there isin initial) in
           let homes : b.begin.homes ≡ [] = begins.1.homes ∙ starts_grown.1.homes ∙ no_homes t image p codable compiled in
           let grown : Extends g b.begin (Makes b.n b.e) = subst (λ (m : Made ℕ). Extends g b.begin m) b.is (row_grows g has alive every (all_numbered t p (the_words t image p codable compiled)) ready (all_declared t p (the_words t image p codable compiled)) scope active falls row frame (0 + length locals) b.begin framed among homes code) in
           let first : Within g begun_there = earlier g begun_there b.begin begins.0 begins.1 (earlier g b.begin b.e grown.0 grown.1 ends.inside) in
@@ -293,10 +293,10 @@ module _ (t : Typed) (image : Image) (p : IsScalarProgram t) (codable : IsCodabl
           let longer = starts_grown.1.regs in
           let free : first_free own ≤ begun_there.regs = omega (arith, free_before, longer) in
           let more = begins.1.regs in
-          let sim : Sim g alive begun_body c.there = sim_same g has alive every in_main begun_body c.there same_scalars refl refl refl c.sim in
+          let sim : Sim g alive begun_body c.there = sim_same g alive in_main begun_body c.there same_scalars refl refl refl c.sim in
           comes begun_there b.e b.n c.there body_run ends (go_closed _ _ (begins_closed scope active 0 locals begun_body) (λ u. closed_row scope active row inside closed (0 + length locals) u)) c.go
           (go_after g has alive every ready scope active begun_there c.there (Left g alive frame begun_there c.there) (initialised scope active 0 locals begun_body) (all_executed scope row (0 + length locals) active) tt b.begin (Makes b.n b.e)
-          (subst (λ (m : Made (Unit {0})). Follows g (RanOn g alive begun_there c.there) c.there (initialised scope active 0 locals begun_body) m) b.started (initials_follow g has alive every ready scope active (0 + length locals) locals 0 begun_there c.there begun_body isin stand initial free c.at sim))
+          (subst (λ (m : Made (Unit {0})). Follows g (RanOn g alive begun_there c.there) c.there (initialised scope active 0 locals begun_body) m) b.started (initials_follow g has alive every ready scope active locals 0 begun_there c.there begun_body isin stand initial free c.at (sim_fewer g alive (Started locals 0) begun_body c.there (λ x h. every x) sim)))
           grown
           (λ u ran. follows_from g alive frame begun_there b.begin begins.0 c.there ran.t (all_executed scope row (0 + length locals) active u) (Makes b.n b.e) begins.1 ran.go ran.keeps
           (subst (λ (m : Made ℕ). Follows g (Left g alive frame b.begin ran.t) ran.t (all_executed scope row (0 + length locals) active u) m) b.is
@@ -315,7 +315,7 @@ module _ (t : Typed) (image : Image) (p : IsScalarProgram t) (codable : IsCodabl
         let c : HasStatementCode t p.main 0 (S.Block' locals q row) = subst (λ (s : TStmt). HasStatementCode t p.main 0 s) is (codable 0 p.main (first_is t p (the_words t image p codable compiled))).1 in
         let code = block_code g has alive every (all_numbered t p (the_words t image p codable compiled)) ready (all_declared t p (the_words t image p codable compiled)) scope active falls 0 locals q row c in
         let stand = first_part (map info_of locals.items) (row_variables row) (block_stands g has alive every (all_numbered t p (the_words t image p codable compiled)) ready (all_declared t p (the_words t image p codable compiled)) scope active falls 0 locals q row c) in
-        let initial = coded g has alive every ready scope active (0 + length locals.items) locals.items c.shaped.0 c.lowerable.0 c.names.0 in
+        let initial = coded g has alive every ready scope active 0 locals.items c.shaped.0 c.lowerable.0 c.names.0 in
         let whole : finish (statements_behind locals.items row (all_initialised t own locals.items 0 begun_there)) ≡ the_unit =
         sym (ap (λ (m : Made (Unit {0})). finish (then_make (then_make m (λ u between. then_make (all_initialised t own locals.items 0 between) (λ v after. Makes (0 + length locals.items) after))) (λ number after. statements_of t own row frame [] number after))) (none_cleared g has alive every ready scope active locals.items 0 begun_there h.0))
         ∙ sym (ap (λ (b : TStmt). finish (body_of t own frame b begun_there)) is)

@@ -1,16 +1,19 @@
--- The initialisers of the variables of `main`.
-use Rattle.std.proofs.Common.{◌≡◌, ◌∙◌, ℕ, ◌+◌, ◌≤◌, true, List, [], ◌∷◌, map, length, Option, Some, None, refl, sym, ap, subst, arith}
-use Rattle.std.specs.Prelude.{IfSome}
+-- The initialisers of the variables of a block.
+use Rattle.std.proofs.Common.{◌≡◌, ◌∙◌, ℕ, ◌+◌, ◌<◌, ◌≤◌, ◌^◌, Bool, true, false, not, List, [], ◌∷◌, map, length, Option, Some, None, refl, sym, ap, subst, if◌then◌else◌, arith}
+use Rattle.std.proofs.lemmas.List.{get_or-set_other}
+use Rattle.std.specs.Prelude.{IfSome, is_none}
 use Rattle.std.specs.List.{All}
 use Rattle.cstar_tree.specs.declared.typed.LocalVar.{LocalVar}
 use Rattle.cstar_tree.specs.declared.typed.TExpr.{TExpr}
 use Rattle.cstar_tree.specs.declared.typed.VarInfo.{VarInfo}
 use Rattle.cstar_tree.specs.declared.typed.Variable.{Variable}
 use Rattle.cstar_tree.specs.declared.typed.Variable.TheVariants as V
+use Rattle.cstar_tree.specs.Typed.{type_of}
 use Rattle.cstar_tree.specs.Variables.{variables_of}
 use Rattle.code_lengths.specs.Growth.{Extended}
 use Rattle.code_lengths.specs.LowerableStatements.{IsLowerableLocal}
-use Rattle.code_lengths.specs.NamingStatements.{InitialNamesVariables, StandFrom}
+use Rattle.code_lengths.specs.Naming.{IsDeclared, NamesVariables}
+use Rattle.code_lengths.specs.NamingStatements.{InitialsNameVariables, StandFrom}
 use Rattle.code_lengths.specs.Ready.{HasCode, IsReady}
 use Rattle.code_lengths.specs.ShapedStatements.{AreShapedLocals, IsShapedInitial}
 use Rattle.code_lengths.proofs.Agreeing.{expressions}
@@ -19,27 +22,33 @@ use Rattle.code_lengths.proofs.Drafting.{as_it_was}
 use Rattle.lower_base.specs.declared.emit.Out.{Out}
 use Rattle.lower_base.specs.declared.emit.Out.TheVariants as O
 use Rattle.lower_base.specs.Constants.{first_free}
-use Rattle.lower_base.specs.Drafts.{Draft, Fails, Made, Makes, then_make}
+use Rattle.lower_base.specs.Drafts.{Draft, Fails, Made, Makes, first_bits, step as step_of, then_make, with_instr}
 use Rattle.lower_base.specs.Layouts.{entries_of, field_of, register_of}
-use Rattle.lower_base.specs.Drafts.{first_bits}
-use Rattle.lower_expr.specs.Effects.{put_to}
+use Rattle.lower_expr.specs.Effects.{computed_to, put_to}
 use Rattle.lower_expr.specs.Operands.{standing}
-use Rattle.lower_stmt.specs.Variables.{all_cleared, all_initialised, cleared, cleared_fields, initialised as initialised_in, variable_of, with_home}
-use Rattle.paris_code.specs.Code.{CodeState}
+use Rattle.lower_expr.specs.Steps.{has_word, register_word, word_for, word_put}
+use Rattle.lower_stmt.specs.Variables.{all_cleared, all_initialised, begins_constant, cleared, cleared_fields, initialised as initialised_in, variable_of, with_home}
+use Rattle.paris_code.specs.declared.instr.Instr.TheVariants as I
+use Rattle.paris_code.specs.Code.{CodeState, begun, with_register}
+use Rattle.source_meaning.specs.Constants.{constant_of, is_constant, then_value}
+use Rattle.source_meaning.specs.Constants as Const
+use Rattle.source_meaning.proofs.ConstantLaws.{value_means}
 use Rattle.source_meaning.specs.Expressions.{evaluated}
 use Rattle.source_meaning.specs.State as Source
-use Rattle.source_meaning.specs.State.{Outcome, State, then_do, with_scalar}
+use Rattle.source_meaning.specs.State.{Outcome, State, is_same, then_do, with_scalar}
 use Rattle.source_meaning.specs.Statements.{Broke, Continued, Leaving, Onward, Returned, initialised, initialised_one, then_go}
 use Rattle.source_meaning.specs.Targets.{OfScalar, Target, stored, variable_target}
-use Rattle.source_meaning.specs.Values.{Active, Scope, Value, number}
+use Rattle.source_meaning.specs.Values.{Active, Scalar, Scope, Value, number}
 use Rattle.code_follows.specs.Fragment.{IsIn, IsInLocal}
-use Rattle.code_follows.proofs.Declaring.{all_first, all_rest, first_is_named, others_stand}
+use Rattle.code_follows.proofs.Declaring.{Started, all_first, all_rest, first_is_named, others_stand, sim_fewer, started_before}
 use Rattle.code_follows.proofs.Executing.{RanOn, gives, no_break, no_continue, no_return, ran_from}
-use Rattle.code_follows.proofs.Following.{Extends, Follows, HasRegisters, IsScalar, Keeps, Ran, Sim, delayed, extends_then, finished, finishes_later, keeps_all, then_follows}
+use Rattle.code_follows.proofs.Following.{Extends, Follows, HasRegisters, IsScalar, Keeps, Ran, Sim, delayed, extends_then, finished, finishes_later, follows_other, held, keeps_all, then_follows}
 use Rattle.code_follows.proofs.Putting.{Put, put_follows}
-use Rattle.code_follows.proofs.Settings.{At, Reaches, Setting, layout, stay}
+use Rattle.code_follows.proofs.Settings.{At, Reaches, Setting, and_one, at_next, begins_here, layout, one, regs_more, stay}
+use Rattle.code_follows.proofs.Standing.{some_same}
+use Rattle.code_follows.proofs.Stores.{below_free, same_itself, sim_begun}
 use Rattle.code_follows.proofs.Values.{extends_grown}
-use Rattle.code_follows.proofs.Words.{kept}
+use Rattle.code_follows.proofs.Words.{constant_below, held_wide, kept, word_type}
 
 -- statements that follow an assignment
 go_do : {A : Type 0} (o : Outcome A) (h : A → State → State) (k : State → Outcome Leaving) → then_go (then_do o (λ v after. Source.Gives Onward (h v after))) k ≡ then_do o (λ v after. k (h v after))
@@ -51,6 +60,41 @@ make_twice : {A B : Type 0} (m : Made A) (next : Unit {0} → Draft → Made B) 
 unfolding then_make
 make_twice (Makes x e) next = refl
 make_twice Fails next = refl
+
+-- an expression that is a constant, with the word that holds it
+record StandsAsWord (e : TExpr) (word : ℕ) : Type 0 where
+  pub value : ℕ
+  pub constant : is_constant e ≡ true
+  pub is : Const.value_of e ≡ Some value
+  pub same : held (type_of e).elem value ≡ word
+  pub stands : register_word e ≡ Some word
+
+stands_as : (e : TExpr) (word : ℕ) → register_word e ≡ Some word → StandsAsWord e word
+unfolding register_word constant_of
+stands_as e word h = by (is_constant e) (Const.value_of e) refl refl h
+  where
+    by : (b : Bool) (v : Option ℕ) → is_constant e ≡ b → Const.value_of e ≡ v → then_value (if b then v else None) (λ w. Some (held (type_of e).elem w)) ≡ Some word → StandsAsWord e word
+    by true (Some w) is_c is_v is = record { value = w; constant = is_c; is = is_v; same = some_same (held (type_of e).elem w) word is; stands = h }
+    by true None is_c is_v is = cc
+    by false v is_c is_v is = cc
+
+starts_none : (local : LocalVar) → local.initial ≡ None → begins_constant local ≡ false
+unfolding begins_constant
+starts_none local is = ap (λ (o : Option TExpr). elim o as (λ _. Bool) [ None ↦ false | Some e ↦ has_word true e ]) is
+
+-- a variable begins as a constant, or with another value
+begins_either : {A : Type 0} (local : LocalVar) (e : TExpr) → local.initial ≡ Some e → (b : Bool) → begins_constant local ≡ b → ((word : ℕ) → StandsAsWord e word → A) → (begins_constant local ≡ false → A) → A
+unfolding begins_constant has_word
+begins_either local e is false begins one other = other begins
+begins_either {A = A} local e is true begins one other = by (register_word e) refl (sym (ap (λ (o : Option TExpr). elim o as (λ _. Bool) [ None ↦ false | Some e ↦ has_word true e ]) is) ∙ begins)
+  where
+    by : (o : Option ℕ) → register_word e ≡ o → not (is_none (register_word e)) ≡ true → A
+    by (Some word) there h = one word (stands_as e word there)
+    by None there h = let none : not (is_none (register_word e)) ≡ false = ap (λ (o : Option ℕ). not (is_none o)) there in cc
+
+declared_itself : (n : ℕ) → IsDeclared (n + 1) (V.Local n)
+unfolding IsDeclared
+declared_itself n = omega arith
 
 module _ (g : Setting) (has : HasRegisters g) (alive : Variable → Type 0) (every : (x : Variable) → alive x) (ready : (n : ℕ) (d : Draft) → IsReady g.typed g.instance (layout g) n d) (scope : Scope) (active : Active) where
   pub go_after : {B D : Type 0} (d : Draft) (s : CodeState) (Q : Leaving → State → D → Draft → Type 0) (o : Outcome Leaving) (k : State → Outcome Leaving) (y : B) (e : Draft) (made : Made D) → Follows g (RanOn g alive d s) s o (Makes y e) → Extends g e made
@@ -71,18 +115,16 @@ module _ (g : Setting) (has : HasRegisters g) (alive : Variable → Type 0) (eve
 
   -- what has code of the initialisers
   unfoldable pub AreCoded : ℕ → List LocalVar → Type 0
-  AreCoded all [] = Unit {0}
-  AreCoded all (local ∷ locals) = IfSome local.initial (HasCode g.typed g.instance all) × AreCoded all locals
+  AreCoded n [] = Unit {0}
+  AreCoded n (local ∷ locals) = IfSome local.initial (HasCode g.typed g.instance (n + 1)) × AreCoded (n + 1) locals
 
-  pub coded : (all : ℕ) (locals : List LocalVar) → AreShapedLocals locals → All (IsLowerableLocal g.typed) locals → All (InitialNamesVariables g.typed g.instance all) locals → AreCoded all locals
-  unfolding AreCoded AreShapedLocals IsShapedInitial
-  coded all [] shaped lowerable names = tt
-  coded all (local ∷ locals) shaped lowerable names = (
-    by local.initial shaped.0 (all_first (IsLowerableLocal g.typed) local locals lowerable) (all_first (InitialNamesVariables g.typed g.instance all) local locals names),
-    coded all locals shaped.1 (all_rest (IsLowerableLocal g.typed) local locals lowerable) (all_rest (InitialNamesVariables g.typed g.instance all) local locals names),
-  )
+  pub coded : (n : ℕ) (locals : List LocalVar) → AreShapedLocals locals → All (IsLowerableLocal g.typed) locals → InitialsNameVariables g.typed g.instance n locals → AreCoded n locals
+  unfolding AreCoded AreShapedLocals IsShapedInitial InitialsNameVariables
+  coded n [] shaped lowerable names = tt
+  coded n (local ∷ locals) shaped lowerable names =
+      (by local.initial shaped.0 (all_first (IsLowerableLocal g.typed) local locals lowerable) names.0, coded (n + 1) locals shaped.1 (all_rest (IsLowerableLocal g.typed) local locals lowerable) names.1)
     where
-      by : (o : Option TExpr) → IsShapedInitial local.info o → IsLowerableLocal g.typed (record local { initial = o }) → InitialNamesVariables g.typed g.instance all (record local { initial = o }) → IfSome o (HasCode g.typed g.instance all)
+      by : (o : Option TExpr) → IsShapedInitial local.info o → IsLowerableLocal g.typed (record local { initial = o }) → IfSome o (NamesVariables g.typed g.instance (n + 1)) → IfSome o (HasCode g.typed g.instance (n + 1))
       by None shape lower name = tt
       by (Some e) shape lower name = record { shaped = shape.1; lowerable = lower.2; names = name }
 
@@ -108,51 +150,127 @@ module _ (g : Setting) (has : HasRegisters g) (alive : Variable → Type 0) (eve
       ap (λ (m : Made Out). then_make (then_make m (λ dest between. then_make (put_to g.typed (layout g) dest e between) (λ u after. Makes tt after))) next) (variable_is info n d plain)
       ∙ make_twice (put_to g.typed (layout g) (O.Scalar (register_of (layout g) (V.Local n))) e d) next
 
-  pub initials_grow : (all : ℕ) (locals : List LocalVar) (n : ℕ) (d : Draft) → All IsInLocal locals → AreCoded all locals → Extends g d (all_initialised g.typed (layout g) locals n d)
+  -- its register holds what is put there
+  local_grows : (n : ℕ) (e : TExpr) (d : Draft) → IsIn e → HasCode g.typed g.instance (n + 1) e → Extends g d (put_to g.typed (layout g) (O.Scalar (register_of (layout g) (V.Local n))) e d)
+  local_grows n e d h k =
+      extends_grown g has alive _ d _ _ ((expressions g.typed g.instance (layout g)).put_register (register_of (layout g) (V.Local n)) (n + 1) e d k (gives g alive has every (n + 1) (ready (n + 1)) scope active e h, kept e h) (ready (n + 1) d))
+
+  pub initials_grow : (locals : List LocalVar) (n : ℕ) (d : Draft) → All IsInLocal locals → AreCoded n locals → Extends g d (all_initialised g.typed (layout g) locals n d)
   unfolding all_initialised initialised_in AreCoded Extends then_make
-  initials_grow all [] n d isin c = (0, as_it_was d)
-  initials_grow all (local ∷ locals) n d isin c =
+  initials_grow [] n d isin c = (0, as_it_was d)
+  initials_grow (local ∷ locals) n d isin c =
       let first = all_first IsInLocal local locals isin in
-      by local.initial first.1 c.0 (λ e. initials_grow all locals (n + 1) e (all_rest IsInLocal local locals isin) c.1)
+      by local.initial first.1 c.0 (λ e. initials_grow locals (n + 1) e (all_rest IsInLocal local locals isin) c.1)
     where
-      by : (o : Option TExpr) → IfSome o IsIn → IfSome o (HasCode g.typed g.instance all) → ((e : Draft) → Extends g e (all_initialised g.typed (layout g) locals (n + 1) e)) → Extends g d (then_make (initial_put local.info n o d) (λ u after. all_initialised g.typed (layout g) locals (n + 1) after))
+      by : (o : Option TExpr) → IfSome o IsIn → IfSome o (HasCode g.typed g.instance (n + 1)) → ((e : Draft) → Extends g e (all_initialised g.typed (layout g) locals (n + 1) e)) → Extends g d (then_make (initial_put local.info n o d) (λ u after. all_initialised g.typed (layout g) locals (n + 1) after))
       by None h k rest = rest d
       by (Some e) h k rest =
           subst (λ (m : Made (Unit {0})). Extends g d m) (sym (put_is local.info n e d (λ u after. all_initialised g.typed (layout g) locals (n + 1) after) (all_first IsInLocal local locals isin).0.0))
-          (extends_then g d (put_to g.typed (layout g) (O.Scalar (register_of (layout g) (V.Local n))) e d) (λ out after. all_initialised g.typed (layout g) locals (n + 1) after)
-          (extends_grown g has alive _ d _ _ ((expressions g.typed g.instance (layout g)).put_register (register_of (layout g) (V.Local n)) all e d k (gives g alive has every all (ready all) scope active e h, kept e h) (ready all d))) (λ out after. rest after))
+          (extends_then g d (put_to g.typed (layout g) (O.Scalar (register_of (layout g) (V.Local n))) e d) (λ out after. all_initialised g.typed (layout g) locals (n + 1) after) (local_grows n e d h k) (λ out after. rest after))
 
-  pub initials_follow : (all : ℕ) (locals : List LocalVar) (n : ℕ) (d : Draft) (s : CodeState) (st : State) → All IsInLocal locals → StandFrom (variables_of g.instance.body) n (map info_of locals) → AreCoded all locals → first_free (layout g) ≤ d.regs → At g s (length d.code) → Sim g alive st s
+  -- a value is put in the register of the next variable, which is alive behind it
+  abbrev Begun : LocalVar → List LocalVar → ℕ → Draft → CodeState → Value → State → Draft → Type 0
+  Begun local locals n d s v u f = (word : ℕ) × ((v ≡ Scalar word) × Ran g (Started locals (n + 1)) d s (with_scalar (V.Local n) word u) f)
+
+  abbrev Puts_one : LocalVar → List LocalVar → ℕ → TExpr → Draft → CodeState → State → Type 0
+  Puts_one local locals n e d s st = Follows g (λ v u (out : Out) f. Begun local locals n d s v u f) s (evaluated scope e active st) (put_to g.typed (layout g) (O.Scalar (register_of (layout g) (V.Local n))) e d)
+
+  -- a constant
+  constant_put : (local : LocalVar) (locals : List LocalVar) (n : ℕ) (e : TExpr) (word : ℕ) (d : Draft) (s : CodeState) (st : State) → IsScalar g (V.Local n) local.info → local.info.elem.bits ≡ 32 → IsIn e → StandsAsWord e word → first_free (layout g) ≤ d.regs → At g s (length d.code) → Sim g (Started (local ∷ locals) n) st s
+      → Puts_one local locals n e d s st
+  unfolding put_to word_for word_put Follows begun step_of Started
+  constant_put local locals n e word d s st scalar wide isin c free at sim =
+      let r : ℕ = register_of (layout g) (V.Local n) in
+      let i = I.FrontConst r word in
+      let few : c.value < 2 ^ 32 = subst (λ (o : Option ℕ). IfSome o (λ v. v < 2 ^ 32)) c.is (constant_below e isin) in
+      let gives_it : evaluated scope e active st ≡ Source.Gives (Scalar c.value) st = subst (λ (o : Option ℕ). Const.IsValueOf e o) c.is (value_means e c.constant) scope active st in
+      let is_held : held local.info.elem c.value ≡ word = held_wide local.info.elem c.value wide few ∙ sym (held_wide (type_of e).elem c.value (word_type e isin).1 few) ∙ c.same in
+      subst (λ (o : Outcome Value). Follows g (λ v u (out : Out) f. Begun local locals n d s v u f) s o (put_to g.typed (layout g) (O.Scalar r) e d)) (sym gives_it)
+      (subst (λ (m : Made Out). Follows g (λ v u (out : Out) f. Begun local locals n d s v u f) s (Source.Gives (Scalar c.value) st) m)
+      (sym (ap (λ (o : Option ℕ). elim o as (λ _. Made Out) [ Some w ↦ Makes (O.Scalar r) (with_instr (I.FrontConst r w) d) | None ↦ computed_to g.typed (layout g) (O.Scalar r) e d ]) c.stands))
+      (λ within.
+      let low = below_free g has (V.Local n) local.info scalar in
+      let more = regs_more g i d in
+      let inside : r < length s.registers = omega (arith, low, free, within.regs, more, sim.registers) in
+      let t : CodeState = with_register r word s in (
+        c.value,
+        (
+          refl,
+          record {
+            grown = (1, and_one g i d);
+            t = t;
+            go = one g s t (begins_here g i d s within refl at);
+            at = at_next g i d s (s.at + 1) at refl;
+            keeps = λ q lo hi. get_or-set_other s.registers r q word 0 (λ e. omega (arith, e, low, lo));
+            sim = subst (λ (w : ℕ). Sim g (Started locals (n + 1)) (with_scalar (V.Local n) c.value st) (with_register r w s)) is_held
+                (sim_begun g has (V.Local n) local.info scalar (Started (local ∷ locals) n) (Started locals (n + 1)) (λ y later other. ((λ b e. no_other y other e), later)) st s c.value (subst (λ (k : ℕ). c.value < 2 ^ k) (sym wide) few) inside sim);
+          },
+        ),
+      )))
+    where
+      no_other : (y : Variable) → is_same (V.Local n) y ≡ false → y ≡ V.Local n → ⊥
+      no_other y other e = let same : is_same (V.Local n) y ≡ true = ap (λ (z : Variable). is_same (V.Local n) z) e ∙ same_itself (V.Local n) in cc
+
+  -- any other value
+  value_put : (local : LocalVar) (locals : List LocalVar) (n : ℕ) (e : TExpr) (d : Draft) (s : CodeState) (st : State) → begins_constant local ≡ false → IsScalar g (V.Local n) local.info → local.info.elem.bits ≡ 32 → IsIn e → HasCode g.typed g.instance (n + 1) e
+      → first_free (layout g) ≤ d.regs → At g s (length d.code) → Sim g (Started (local ∷ locals) n) st s → Puts_one local locals n e d s st
+  unfolding Started
+  value_put local locals n e d s st begins scalar wide isin c free at sim =
+      follows_on (evaluated scope e active st) (put_to g.typed (layout g) (O.Scalar (register_of (layout g) (V.Local n))) e d)
+      (put_follows g has (Started (local ∷ locals) n) (n + 1) (λ y h. lives y h) (ready (n + 1)) scope active (V.Local n) local.info (lives (V.Local n) itself) scalar wide e isin c d s st free at sim)
+    where
+      never : begins_constant local ≡ true → ⊥
+      never b = cc
+
+      lives : (y : Variable) → IsDeclared (n + 1) y → Started (local ∷ locals) n y
+      lives y h = ((λ b e. never b), started_before locals (n + 1) (n + 1) y (omega arith) h)
+
+      itself : IsDeclared (n + 1) (V.Local n)
+      itself = declared_itself n
+
+      follows_on : (o : Outcome Value) (made : Made Out) → Follows g (Put g has (Started (local ∷ locals) n) (n + 1) (λ y h. lives y h) (ready (n + 1)) scope active (V.Local n) local.info (lives (V.Local n) itself) scalar wide d s) s o made → Follows g (λ v u (out : Out) f. Begun local locals n d s v u f) s o made
+      follows_on o made h = follows_other g _ _ s o made h (λ v u out f p. (
+        p.word,
+        (p.value, record { grown = p.grown; t = p.t; go = p.go; at = p.at; keeps = p.keeps; sim = sim_fewer g (Started (local ∷ locals) n) (Started locals (n + 1)) (with_scalar (V.Local n) p.word u) p.t (λ y later. ((λ b e. never b), later)) p.sim }),
+      ))
+
+  pub initials_follow : (locals : List LocalVar) (n : ℕ) (d : Draft) (s : CodeState) (st : State) → All IsInLocal locals → StandFrom (variables_of g.instance.body) n (map info_of locals) → AreCoded n locals → first_free (layout g) ≤ d.regs → At g s (length d.code) → Sim g (Started locals n) st s
       → Follows g (RanOn g alive d s) s (initialised scope active n locals st) (all_initialised g.typed (layout g) locals n d)
-  unfolding all_initialised initialised_in initialised initialised_one AreCoded Follows then_make then_go variable_target stored number
-  initials_follow all [] n d s st isin stand c free at sim = λ within. (refl, record { grown = (0, as_it_was d); t = s; go = stay g s; at = at; sim = sim; keeps = keeps_all g d s })
-  initials_follow all (local ∷ locals) n d s st isin stand c free at sim =
+  unfolding all_initialised initialised_in initialised initialised_one AreCoded Follows then_make then_go variable_target stored number Started begins_constant
+  initials_follow [] n d s st isin stand c free at sim = λ within. (refl, record { grown = (0, as_it_was d); t = s; go = stay g s; at = at; sim = sim_fewer g (Started [] n) alive st s (λ x h. tt) sim; keeps = keeps_all g d s })
+  initials_follow (local ∷ locals) n d s st isin stand c free at sim =
       let first = all_first IsInLocal local locals isin in
-      by local.initial first.1 c.0 (λ e t u free_e at_e sim_e. initials_follow all locals (n + 1) e t u (all_rest IsInLocal local locals isin) (others_stand g has alive every n local.info (map info_of locals) stand) c.1 free_e at_e sim_e)
+      by local.initial refl first.1 c.0 (λ e t u free_e at_e sim_e. initials_follow locals (n + 1) e t u (all_rest IsInLocal local locals isin) (others_stand g n local.info (map info_of locals) stand) c.1 free_e at_e sim_e)
     where
       there : Target
       there = variable_target local.info.shape (V.Local n) 0
 
-      by : (o : Option TExpr) → IfSome o IsIn → IfSome o (HasCode g.typed g.instance all)
-          → ((e : Draft) (t : CodeState) (u : State) → first_free (layout g) ≤ e.regs → At g t (length e.code) → Sim g alive u t → Follows g (RanOn g alive e t) t (initialised scope active (n + 1) locals u) (all_initialised g.typed (layout g) locals (n + 1) e))
+      scalar : IsScalar g (V.Local n) local.info
+      scalar = (first_is_named g n local.info (map info_of locals) stand, (all_first IsInLocal local locals isin).0.0)
+
+      wide : local.info.elem.bits ≡ 32
+      wide = (all_first IsInLocal local locals isin).0.1
+
+      by : (o : Option TExpr) → local.initial ≡ o → IfSome o IsIn → IfSome o (HasCode g.typed g.instance (n + 1))
+          → ((e : Draft) (t : CodeState) (u : State) → first_free (layout g) ≤ e.regs → At g t (length e.code) → Sim g (Started locals (n + 1)) u t → Follows g (RanOn g alive e t) t (initialised scope active (n + 1) locals u) (all_initialised g.typed (layout g) locals (n + 1) e))
           → Follows g (RanOn g alive d s) s (then_go (initialised_one scope active there o st) (initialised scope active (n + 1) locals)) (then_make (initial_put local.info n o d) (λ u after. all_initialised g.typed (layout g) locals (n + 1) after))
-      by None h k rest = rest d s st free at sim
-      by (Some e) h k rest =
+      by None is h k rest = rest d s st free at (sim_fewer g (Started (local ∷ locals) n) (Started locals (n + 1)) st s (λ y later. ((λ b e. let none = starts_none local is in cc), later)) sim)
+      by (Some e) is h k rest =
           let x : Variable = V.Local n in
-          let word = (all_first IsInLocal local locals isin).0 in
-          let scalar : IsScalar g x local.info = (first_is_named g has alive every n local.info (map info_of locals) stand, word.0) in
           let next : Draft → Made (Unit {0}) = λ after. all_initialised g.typed (layout g) locals (n + 1) after in
           let go_on : State → Outcome Leaving = λ u. initialised scope active (n + 1) locals u in
-          let there_is : there ≡ OfScalar x = ap (λ (o : Option ℕ). variable_target o x 0) word.0 in
-          subst (λ (m : Made (Unit {0})). Follows g (RanOn g alive d s) s (then_go (initialised_one scope active there (Some e) st) go_on) m) (sym (put_is local.info n e d (λ u after. next after) word.0))
+          let there_is : there ≡ OfScalar x = ap (λ (o : Option ℕ). variable_target o x 0) scalar.1 in
+          let puts : Puts_one local locals n e d s st = begins_either local e is (begins_constant local) refl (λ word w. constant_put local locals n e word d s st scalar wide h w free at sim) (λ begins. value_put local locals n e d s st begins scalar wide h k free at sim) in
+          subst (λ (m : Made (Unit {0})). Follows g (RanOn g alive d s) s (then_go (initialised_one scope active there (Some e) st) go_on) m) (sym (put_is local.info n e d (λ u after. next after) scalar.1))
           (subst (λ (o : Outcome Leaving). Follows g (RanOn g alive d s) s o (then_make (put_to g.typed (layout g) (O.Scalar (register_of (layout g) x)) e d) (λ out after. next after))) (sym (go_do (evaluated scope e active st) (λ v after. stored active there v after) go_on))
           (subst (λ (target : Target). Follows g (RanOn g alive d s) s (then_do (evaluated scope e active st) (λ v after. go_on (stored active target v after))) (then_make (put_to g.typed (layout g) (O.Scalar (register_of (layout g) x)) e d) (λ out after. next after))) (sym there_is)
-          (then_follows g (Put g has alive all (λ y b. every y) (ready all) scope active x local.info (every x) scalar word.1 d s) (RanOn g alive d s) s s (evaluated scope e active st) (λ v after. go_on (stored active (OfScalar x) v after)) (put_to g.typed (layout g) (O.Scalar (register_of (layout g) x)) e d) (λ out after. next after) (stay g s)
-          (put_follows g has alive all (λ y b. every y) (ready all) scope active x local.info (every x) scalar word.1 e h k d s st free at sim) (λ out after. initials_grow all locals (n + 1) after (all_rest IsInLocal local locals isin) c.1)
+          (then_follows g (λ v u (out : Out) f. Begun local locals n d s v u f) (RanOn g alive d s) s s (evaluated scope e active st) (λ v after. go_on (stored active (OfScalar x) v after)) (put_to g.typed (layout g) (O.Scalar (register_of (layout g) x)) e d) (λ out after. next after) (stay g s)
+          puts (λ out after. initials_grow locals (n + 1) after (all_rest IsInLocal local locals isin) c.1)
           (λ v u out f p.
-          let more = p.grown.1.regs in
-          subst (λ (after : State). Follows g (RanOn g alive d s) s (go_on after) (next f)) (sym (ap (λ (w : Value). stored active (OfScalar x) w u) p.value))
-          (run_from d f p.grown.0 s p.t (go_on (with_scalar x p.word u)) (next f) p.grown.1 p.go p.keeps (rest f p.t (with_scalar x p.word u) (omega (arith, free, more)) p.at p.sim))))))
+          let ran = p.1.1 in
+          let more = ran.grown.1.regs in
+          subst (λ (after : State). Follows g (RanOn g alive d s) s (go_on after) (next f)) (sym (ap (λ (w : Value). stored active (OfScalar x) w u) p.1.0))
+          (run_from d f ran.grown.0 s ran.t (go_on (with_scalar x p.0 u)) (next f) ran.grown.1 ran.go ran.keeps (rest f ran.t (with_scalar x p.0 u) (omega (arith, free, more)) ran.at ran.sim))))))
 
   -- the registers of `main` are zero already
   pub none_cleared : (locals : List LocalVar) (n : ℕ) (d : Draft) → All IsInLocal locals → all_cleared (layout g) true locals n d ≡ Makes tt d

@@ -26,7 +26,7 @@ use Rattle.code_follows.proofs.Standing.{some_same}
 use Rattle.code_follows.proofs.Words.{held_wide}
 
 -- names are the same exactly where they are equal
-same_is : (x y : Variable) → is_same x y ≡ true → x ≡ y
+pub same_is : (x y : Variable) → is_same x y ≡ true → x ≡ y
 unfolding is_same
 same_is (V.File m) (V.File n) e = ap V.File (eqb-true m n e)
 same_is (V.Param m) (V.Param n) e = ap V.Param (eqb-true m n e)
@@ -38,13 +38,13 @@ same_is (V.Param m) (V.Local n) e = cc
 same_is (V.Local m) (V.File n) e = cc
 same_is (V.Local m) (V.Param n) e = cc
 
-same_itself : (x : Variable) → is_same x x ≡ true
+pub same_itself : (x : Variable) → is_same x x ≡ true
 unfolding is_same
 same_itself (V.File m) = eq-eqb m m refl
 same_itself (V.Param m) = eq-eqb m m refl
 same_itself (V.Local m) = eq-eqb m m refl
 
-module _ (g : Setting) (has : HasRegisters g) (alive : Variable → Type 0) (x : Variable) (info : VarInfo) (lives : alive x) (scalar : IsScalar g x info) where
+module _ (g : Setting) (has : HasRegisters g) (x : Variable) (info : VarInfo) (scalar : IsScalar g x info) where
   abbrev own : ℕ
   own = register_of (layout g) x
 
@@ -52,10 +52,10 @@ module _ (g : Setting) (has : HasRegisters g) (alive : Variable → Type 0) (x :
   unfolding first_free
   below_free = let b = has.below x info scalar.0 in omega (arith, b)
 
-  -- the register of the variable takes a number
-  pub sim_written : (st : State) (s : CodeState) (w : ℕ) → w < 2 ^ info.elem.bits → own < length s.registers → Sim g alive st s → Sim g alive (with_scalar x w st) (with_register own (held info.elem w) s)
+  -- the register of the variable takes a number, and from then on the variable may be alive
+  pub sim_begun : (alive later : Variable → Type 0) → ((y : Variable) → later y → is_same x y ≡ false → alive y) → (st : State) (s : CodeState) (w : ℕ) → w < 2 ^ info.elem.bits → own < length s.registers → Sim g alive st s → Sim g later (with_scalar x w st) (with_register own (held info.elem w) s)
   unfolding with_scalar
-  sim_written st s w few inside h = record {
+  sim_begun alive later before st s w few inside h = record {
     registers = length-set s.registers own (held info.elem w) ∙ h.registers;
     scalars = λ y other living known. by_name y other living known (is_same x y) refl;
     small = λ y other living known. small_name y other living known (is_same x y) refl;
@@ -68,13 +68,13 @@ module _ (g : Setting) (has : HasRegisters g) (alive : Variable → Type 0) (x :
       infos : (y : Variable) (other : VarInfo) → variable_named g.typed g.instance y ≡ Some other → x ≡ y → info ≡ other
       infos y other known e = some_same info other (sym scalar.0 ∙ ap (λ (z : Variable). variable_named g.typed g.instance z) e ∙ known)
 
-      by_name : (y : Variable) (other : VarInfo) → alive y → IsScalar g y other → (b : Bool) → is_same x y ≡ b → slice_index (slice_set s.registers own (held info.elem w)) (register_of (layout g) y) ≡ held other.elem (if is_same x y then w else st.scalar y)
+      by_name : (y : Variable) (other : VarInfo) → later y → IsScalar g y other → (b : Bool) → is_same x y ≡ b → slice_index (slice_set s.registers own (held info.elem w)) (register_of (layout g) y) ≡ held other.elem (if is_same x y then w else st.scalar y)
       by_name y other living known true is =
           let e : x ≡ y = same_is x y is in
           ap (λ (z : Variable). slice_index (slice_set s.registers own (held info.elem w)) (register_of (layout g) z)) (sym e) ∙ get_or-set_same s.registers own (held info.elem w) 0 inside
           ∙ ap (λ (i : VarInfo). held i.elem w) (infos y other known.0 e) ∙ ap (λ (b : Bool). held other.elem (if b then w else st.scalar y)) (sym is)
       by_name y other living known false is =
-          get_or-set_other s.registers own (register_of (layout g) y) (held info.elem w) 0 (λ e. differs y other known.0 is (sym e)) ∙ h.scalars y other living known ∙ ap (λ (b : Bool). held other.elem (if b then w else st.scalar y)) (sym is)
+          get_or-set_other s.registers own (register_of (layout g) y) (held info.elem w) 0 (λ e. differs y other known.0 is (sym e)) ∙ h.scalars y other (before y living is) known ∙ ap (λ (b : Bool). held other.elem (if b then w else st.scalar y)) (sym is)
         where
           differs : (y : Variable) (other : VarInfo) → variable_named g.typed g.instance y ≡ Some other → is_same x y ≡ false → own ≡ register_of (layout g) y → ⊥
           differs y other known is e =
@@ -82,11 +82,15 @@ module _ (g : Setting) (has : HasRegisters g) (alive : Variable → Type 0) (x :
               let there : is_same x y ≡ true = ap (λ (z : Variable). is_same x z) (sym same) ∙ same_itself x in
               cc
 
-      small_name : (y : Variable) (other : VarInfo) → alive y → IsScalar g y other → (b : Bool) → is_same x y ≡ b → (if is_same x y then w else st.scalar y) < 2 ^ other.elem.bits
+      small_name : (y : Variable) (other : VarInfo) → later y → IsScalar g y other → (b : Bool) → is_same x y ≡ b → (if is_same x y then w else st.scalar y) < 2 ^ other.elem.bits
       small_name y other living known true is =
           let e : x ≡ y = same_is x y is in
           subst (λ (b : Bool). (if b then w else st.scalar y) < 2 ^ other.elem.bits) (sym is) (subst (λ (i : VarInfo). w < 2 ^ i.elem.bits) (infos y other known.0 e) few)
-      small_name y other living known false is = subst (λ (b : Bool). (if b then w else st.scalar y) < 2 ^ other.elem.bits) (sym is) (h.small y other living known)
+      small_name y other living known false is = subst (λ (b : Bool). (if b then w else st.scalar y) < 2 ^ other.elem.bits) (sym is) (h.small y other (before y living is) known)
+
+module _ (g : Setting) (has : HasRegisters g) (alive : Variable → Type 0) (x : Variable) (info : VarInfo) (lives : alive x) (scalar : IsScalar g x info) where
+  abbrev register : ℕ
+  register = register_of (layout g) x
 
   -- the code arrives behind a draft, where the variable has the value
   pub record IsPut (d : Draft) (s : CodeState) (v : Value) (st : State) (out : Out) (e : Draft) : Type 0 where
@@ -100,21 +104,21 @@ module _ (g : Setting) (has : HasRegisters g) (alive : Variable → Type 0) (x :
     pub sim : Sim g alive (with_scalar x word st) t
     pub keeps : Keeps g d s t
 
-  pub variable_dest : (elem : Elem) (d : Draft) (s0 : CodeState) → elem.bits ≡ 32 → info.elem.bits ≡ 32 → first_free (layout g) ≤ d.regs → Dest g has alive elem d s0 (λ v st out e. IsPut d s0 v st out e) own
+  pub variable_dest : (elem : Elem) (d : Draft) (s0 : CodeState) → elem.bits ≡ 32 → info.elem.bits ≡ 32 → first_free (layout g) ≤ d.regs → Dest g has alive elem d s0 (λ v st out e. IsPut d s0 v st out e) register
   variable_dest elem d s0 wide also free = record {
     puts = λ e n i s st w go here sim grows keeps within plain does few.
-        let low = below_free in
+        let low = below_free g has x info scalar in
         let small : w < 2 ^ 32 = subst (λ (k : ℕ). w < 2 ^ k) wide few in
-        let inside : own < length s.registers = omega (arith, low, free, grows.regs, within_regs e i within, sim.registers) in
+        let inside : register < length s.registers = omega (arith, low, free, grows.regs, within_regs e i within, sim.registers) in
         let words : held elem w ≡ held info.elem w = held_wide elem w wide small ∙ sym (held_wide info.elem w also small) in
-        let t : CodeState = with_register own (held info.elem w) s in
+        let t : CodeState = with_register register (held info.elem w) s in
         record {
           grown = (n + 1, extended d e (with_instr i e) n 1 grows (and_one g i e));
           t = t;
-          go = onto g s0 s t go (one g s t (begins_here g i e s within plain here ∙ does ∙ ap (λ (v : ℕ). Goes (with_register own v s)) words));
+          go = onto g s0 s t go (one g s t (begins_here g i e s within plain here ∙ does ∙ ap (λ (v : ℕ). Goes (with_register register v s)) words));
           at = at_next g i e s (s.at + 1) here refl;
-          sim = sim_written st s w (subst (λ (k : ℕ). w < 2 ^ k) (sym also) small) inside sim;
-          keeps = λ r lo hi. get_or-set_other s.registers own r (held info.elem w) 0 (λ e. omega (arith, e, low, lo)) ∙ keeps r lo hi;
+          sim = sim_begun g has x info scalar alive alive (λ y living other. living) st s w (subst (λ (k : ℕ). w < 2 ^ k) (sym also) small) inside sim;
+          keeps = λ r lo hi. get_or-set_other s.registers register r (held info.elem w) 0 (λ e. omega (arith, e, low, lo)) ∙ keeps r lo hi;
           word = w;
           value = refl;
           small = small;

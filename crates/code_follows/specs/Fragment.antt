@@ -49,11 +49,7 @@ IsEffect e = IsIn e
 abbrev pub IsWordVariable : VarInfo → Type 0
 IsWordVariable info = (info.shape ≡ None) × (info.elem.bits ≡ 32)
 
--- a variable of a block without an initialiser
-abbrev pub IsFreshLocal : LocalVar → Type 0
-IsFreshLocal local = IsWordVariable local.info × (local.initial ≡ None)
-
--- a variable of a block, with or without one
+-- a variable of a block, with an initialiser or without
 abbrev pub IsInLocal : LocalVar → Type 0
 IsInLocal local = IsWordVariable local.info × IfSome local.initial IsIn
 
@@ -62,10 +58,10 @@ unfoldable pub IsTested : Option TExpr → Type 0
 IsTested None = ⊥
 IsTested (Some e) = IsIn e
 
--- statements of these, whose variables have no initialisers
+-- statements of these
 unfoldable mutual
   pub IsInStatement : TStmt → Type 0
-  IsInStatement (S.Block' locals p statements) = All IsFreshLocal locals.items × AreInStatements statements
+  IsInStatement (S.Block' locals p statements) = All IsInLocal locals.items × AreInStatements statements
   IsInStatement (S.Expression e) = IsEffect e
   IsInStatement S.Empty = Unit {0}
   IsInStatement (S.If' test p first second) = IsIn test × IsInStatement first × IsInElse second
@@ -102,7 +98,7 @@ unfoldable mutual
   IsClosedElse None' = Unit {0}
   IsClosedElse (Some' p s) = IsClosed s
 
--- a block of such statements, whose own variables may have initialisers
+-- a block of such statements
 unfoldable pub IsMainBody : TStmt → Type 0
 IsMainBody (S.Block' locals p statements) = All IsInLocal locals.items × AreInStatements statements × AreClosed statements
 IsMainBody _ = ⊥

@@ -5,6 +5,7 @@ pub mod Pieces
 pub mod Communication
 pub mod SpotPieces
 pub mod CallPieces
+pub mod NamedLater
 pub mod OperandPieces
 pub mod ValuePieces
 pub mod AssignPieces

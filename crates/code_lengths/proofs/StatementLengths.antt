@@ -38,7 +38,8 @@ use Rattle.code_lengths.specs.Growth.{Anything, Extended, Grows, Leads, Stands}
 use Rattle.code_lengths.specs.Lowerable.{InRegister, IsLowerable, IsValueFor}
 use Rattle.code_lengths.specs.LowerableStatements.{AreLowerableStatements, IsLowerableElse, IsGivenBack, IsLowerableLocal, IsLowerableStatement, IsTest}
 use Rattle.code_lengths.specs.Naming.{IsDeclared, NamesVariables, variable_named}
-use Rattle.code_lengths.specs.NamingStatements.{ElseNamesVariables, InitialNamesVariables, StandFrom, StatementNamesVariables, StatementsNameVariables, behind}
+use Rattle.code_lengths.proofs.NamedLater.{initial_later}
+use Rattle.code_lengths.specs.NamingStatements.{ElseNamesVariables, InitialsNameVariables, StandFrom, StatementNamesVariables, StatementsNameVariables, behind}
 use Rattle.code_lengths.specs.Ready.{Arrives, Declares, HasCode, HasDeclared, IsReady, NumbersVariables}
 use Rattle.code_lengths.specs.ShapedStatements.{IsShapedPart, IsShapedInitial, AreShapedLocals, IsShapedStatement, AreShapedStatements, IsShapedElse}
 use Rattle.code_lengths.proofs.Agreeing.{expressions}
@@ -304,16 +305,16 @@ module _ (t : Typed) (i : Instance) (l : Layout) (numbers : NumbersVariables i l
       bind Anything Anything between _ 0 _ _ (initial_put_grows all info dest e between at (record { shaped = h.1; lowerable = w.2; names = v }) w.1 (ready_behind t i l all _ d between x ready))
       (λ _ after _. makes Anything tt after after 0 tt (as_it_was after))))
 
-  all_initialised_grow : (all : ℕ) (locals : List LocalVar) (n : ℕ) (d : Draft) → AreShapedLocals locals → All (IsLowerableLocal t) locals → All (InitialNamesVariables t i all) locals →
+  all_initialised_grow : (all : ℕ) (locals : List LocalVar) (n : ℕ) (d : Draft) → AreShapedLocals locals → All (IsLowerableLocal t) locals → InitialsNameVariables t i n locals →
       StandFrom (variables_of i.body) n (map info_of locals) → n + length locals ≤ all → IsReady t i l all d → Grows d (initials t l locals) Anything (all_initialised t l locals n d)
-  unfolding all_initialised initialised initials AreShapedLocals variable_named IsDeclared
+  unfolding all_initialised initialised initials AreShapedLocals InitialsNameVariables variable_named IsDeclared
   all_initialised_grow all [] n d h w v z less ready = makes Anything tt d d 0 tt (as_it_was d)
   all_initialised_grow all (local ∷ locals) n d h w v z less ready =
       bind_behind Anything Anything d _ _ _ _
-      (initial_by local.initial all local.info n d h.0 (All-head (IsLowerableLocal t) local locals w) (All-head (InitialNamesVariables t i all) local locals v)
+      (initial_by local.initial all local.info n d h.0 (All-head (IsLowerableLocal t) local locals w) (initial_later t i (n + 1) all local.initial (omega (arith, less)) v.0)
       (λ plain parallel. let one = one_entry_of local.info plain parallel in
       ready.fields (V.Local n) local.info 0 (at_number local.info (map info_of locals) z) (omega (arith, less)) parallel (omega (arith, one))) ready)
-      (λ _ after _ x. all_initialised_grow all locals (n + 1) after h.1 (All-tail (IsLowerableLocal t) local locals w) (All-tail (InitialNamesVariables t i all) local locals v)
+      (λ _ after _ x. all_initialised_grow all locals (n + 1) after h.1 (All-tail (IsLowerableLocal t) local locals w) v.1
       (second_part (local.info ∷ []) (map info_of locals) z) (omega (arith, less)) (ready_behind t i l all _ d after x ready))
 
   -- ---- what stays declared
@@ -337,7 +338,7 @@ module _ (t : Typed) (i : Instance) (l : Layout) (numbers : NumbersVariables i l
   recounted : (n m : ℕ) (d : Draft) (a : ℕ) (made : Made ℕ) → n ≡ m → Leads d a (Declares t i l n) made → Leads d a (Declares t i l m) made
   recounted n m d a made is g = subst (λ (k : ℕ). Leads d a (Declares t i l k) made) is g
 
-  declared_lead : (at_start : Bool) (locals : List LocalVar) (n : ℕ) (d : Draft) → AreShapedLocals locals → All (IsLowerableLocal t) locals → All (InitialNamesVariables t i (n + length locals)) locals →
+  declared_lead : (at_start : Bool) (locals : List LocalVar) (n : ℕ) (d : Draft) → AreShapedLocals locals → All (IsLowerableLocal t) locals → InitialsNameVariables t i n locals →
       StandFrom (variables_of i.body) n (map info_of locals) → HasDeclared t i l n d → Leads d (locals_length_of t l at_start locals) (Declares t i l (n + length locals)) (declared t l at_start locals n d)
   unfolding declared
   declared_lead at_start locals n d h w v z y =

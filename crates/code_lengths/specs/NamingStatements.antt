@@ -1,8 +1,7 @@
 -- The variables that a typed statement names are those of the program and of the instance in which it
 -- stands, of those of its blocks the ones that are declared before, and those that it declares have
 -- their numbers among the instance's.
-use Rattle.std.specs.Prelude.{◌≡◌, ℕ, ◌+◌, List, ◌++◌, length, IfSome}
-use Rattle.std.specs.List.{All}
+use Rattle.std.specs.Prelude.{◌≡◌, ℕ, ◌+◌, List, [], ◌∷◌, ◌++◌, length, IfSome}
 use Rattle.cstar_tree.specs.declared.typed.Instance.{Instance}
 use Rattle.cstar_tree.specs.declared.typed.LocalVar.{LocalVar}
 use Rattle.cstar_tree.specs.declared.typed.TStmt.{TStmt, Row_of-TStmt, end_of-TStmt, more_of-TStmt, Held-TStmt-If-2, None', Some'}
@@ -19,19 +18,20 @@ pub record StandFrom (all : List VarInfo) (number : ℕ) (own : List VarInfo) : 
   pub all_are : all ≡ before ++ (own ++ behind)
   pub number_is : length before ≡ number
 
-abbrev pub InitialNamesVariables : Typed → Instance → ℕ → LocalVar → Type 0
-InitialNamesVariables t i n local = IfSome local.initial (NamesVariables t i n)
+-- the initialiser of each of a block's variables stands behind that variable and those before it
+unfoldable pub InitialsNameVariables : Typed → Instance → ℕ → List LocalVar → Type 0
+InitialsNameVariables t i n [] = Unit {0}
+InitialsNameVariables t i n (local ∷ locals) = IfSome local.initial (NamesVariables t i (n + 1)) × InitialsNameVariables t i (n + 1) locals
 
 -- so many variables are declared behind a statement, where so many are before it
 abbrev pub behind : ℕ → TStmt → ℕ
 behind n s = n + length (variables_of s)
 
 unfoldable mutual
-  -- the statement stands where so many variables of the blocks are declared; initialisers stand behind
-  -- all variables of their block
+  -- the statement stands where so many variables of the blocks are declared
   pub StatementNamesVariables : Typed → Instance → ℕ → TStmt → Type 0
   StatementNamesVariables t i n (S.Block' locals p statements) =
-      All (InitialNamesVariables t i (n + length locals.items)) locals.items × StatementsNameVariables t i (n + length locals.items) statements
+      InitialsNameVariables t i n locals.items × StatementsNameVariables t i (n + length locals.items) statements
   StatementNamesVariables t i n (S.Expression e) = NamesVariables t i n e
   StatementNamesVariables t i n (S.If' test p first second) =
       NamesVariables t i n test × StatementNamesVariables t i n first × ElseNamesVariables t i (behind n first) second

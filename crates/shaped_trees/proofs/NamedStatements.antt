@@ -1,9 +1,7 @@
 -- What the rules of typing give statements and declarations names the variables of its instance, where
 -- those that it declares stand among them from the number on that its place has.
-use Rattle.std.proofs.Common.{◌≡◌, ℕ, ◌+◌, ◌≤◌, ℤ, pos, negsuc, IfSome, List, [], ◌∷◌, ◌++◌, length, map, slice_get, Option, Some, None, arith, length-append, ap, ◌∙◌, sym, subst}
-use Rattle.std.specs.List.{All}
+use Rattle.std.proofs.Common.{◌≡◌, ℕ, suc, ◌+◌, ◌≤◌, ℤ, pos, negsuc, IfSome, List, [], ◌∷◌, ◌++◌, length, map, slice_get, Option, Some, None, arith, length-append, ap, ◌∙◌, sym, subst}
 use Rattle.std.proofs.lemmas.List.{length-map, map-append}
-use Rattle.std.proofs.lemmas.List.Elements.{All-append, All-nil, All-cons}
 use Rattle.std.proofs.lemmas.Option.{none-some, same_Some}
 use Rattle.cstar_tree.specs.declared.syntax.Block.{Block}
 use Rattle.cstar_tree.specs.declared.syntax.Declaration.{Declaration}
@@ -30,7 +28,8 @@ use Rattle.cstar_tree.specs.TypedParts.{concat}
 use Rattle.cstar_tree.specs.Variables.{variables_of}
 use Rattle.code_lengths.specs.Naming.{HasItsShape, HasVariable, IsDeclared, KnowsVariables, NamesVariables, variable_named}
 use Rattle.code_lengths.proofs.Declaring.{at_number, else_variables, first_part, info_of, of_do, of_everywhere, of_for, of_if, of_where, of_while, of_with, second_part}
-use Rattle.code_lengths.specs.NamingStatements.{ElseNamesVariables, InitialNamesVariables, StandFrom, StatementNamesVariables}
+use Rattle.code_lengths.proofs.NamedLater.{still_there}
+use Rattle.code_lengths.specs.NamingStatements.{ElseNamesVariables, InitialsNameVariables, StandFrom, StatementNamesVariables}
 use Rattle.shaped_trees.specs.Places.{IsShapeOf, KnowsShapes}
 use Rattle.shaped_trees.proofs.Counting.{as_many, of_block}
 use Rattle.shaped_trees.proofs.KnownShapes.{behind_all, behind_each, in_block, shape_there, type_there, under_shape}
@@ -51,16 +50,6 @@ same_value here ty (Some e) variable is = by_length (constant_number here e) is
     by_length (Some (negsuc k)) is = elim (none-some variable is) [ ]
 
 module _ (t : Typed) (i : Instance) where
-  -- a variable that is declared stays so
-  still_declared : {n m : ℕ} (v : Variable) → n ≤ m → IsDeclared n v → IsDeclared m v
-  unfolding IsDeclared
-  still_declared (V.File k) more is = tt
-  still_declared (V.Param k) more is = tt
-  still_declared (V.Local k) more is = omega (arith, more, is)
-
-  still_there : {n m : ℕ} {v : Variable} {ty : VariableType} → n ≤ m → HasVariable t i n v ty → HasVariable t i m v ty
-  still_there {v = v} more has = record { word = has.word; start = has.start; named = has.named; declared = still_declared v more has.declared; shape = has.shape }
-
   -- a name that stands for a variable stands for one that is there, where so many are declared
   abbrev pub MeansVariable : ℕ → Meaning → Type 0
   MeansVariable n (a_shape number) = Unit {0}
@@ -80,7 +69,7 @@ module _ (t : Typed) (i : Instance) where
       KnowsVariables t i (record here { names = declared here.names word (a_variable v ty); locals = locals })
   unfolding meaning
   behind_name here word v ty locals more new k other w of found =
-      declared_one (MeansVariable locals) here.names word (a_variable v ty) (all_mean locals _ (λ x u f is. still_there more (k x u f is))) new other (a_variable w (Some of)) found
+      declared_one (MeansVariable locals) here.names word (a_variable v ty) (all_mean locals _ (λ x u f is. still_there t i more (k x u f is))) new other (a_variable w (Some of)) found
 
   -- ---- places: the variables that they know are there, and their shapes are the program's
 
@@ -103,7 +92,7 @@ module _ (t : Typed) (i : Instance) where
   known_behind : (here : Here) (s : Stmt) → IsKnown here → IsKnown (behind here s)
   unfolding meaning
   known_behind here s k = record {
-    variables = λ word v ty found. still_there (omega arith) (k.variables word v ty found);
+    variables = λ word v ty found. still_there t i (omega arith) (k.variables word v ty found);
     shapes = record { named = k.shapes.named; current = k.shapes.current };
   }
 
@@ -112,6 +101,17 @@ module _ (t : Typed) (i : Instance) where
   known_under here shape is k = record { variables = k.variables; shapes = under_shape t here shape is k.shapes }
 
   -- ---- declarations
+
+  all_initials : (n : ℕ) (locals rest : List LocalVar) → InitialsNameVariables t i n locals → InitialsNameVariables t i (n + length locals) rest → InitialsNameVariables t i n (locals ++ rest)
+  unfolding InitialsNameVariables
+  all_initials n [] rest h k = subst (λ (m : ℕ). InitialsNameVariables t i m rest) (nothing_more n) k
+    where
+      nothing_more : (n : ℕ) → n + 0 ≡ n
+      nothing_more n = omega arith
+  all_initials n (local ∷ locals) rest h k = (h.0, all_initials (n + 1) locals rest h.1 (subst (λ (m : ℕ). InitialsNameVariables t i m rest) (one_later n (length locals)) k))
+    where
+      one_later : (n m : ℕ) → n + suc m ≡ n + 1 + m
+      one_later n m = omega arith
 
   module _ (program : Program) where
     behind_one : (here : Here) (ty : ValueType) (d : Declarator) (local : LocalVar) → TypesLocal program here ty d local → HasItsShape t ty → slice_get (variables_of i.body) here.locals ≡ Some local.info →
@@ -127,10 +127,10 @@ module _ (t : Typed) (i : Instance) where
           shape = subst (HasItsShape t) (sym (same_value here ty d.length typed.variable typed.its_type)) shape;
         })) k
 
-    -- so many variables are declared behind declarations, and as many at least in all
-    record Declares (behind_them : Here) (number last : ℕ) (locals : List LocalVar) : Type 0 where
+    -- so many variables are declared behind declarations, and their initialisers name those before them
+    record Declares (behind_them : Here) (number : ℕ) (locals : List LocalVar) : Type 0 where
       knows : KnowsVariables t i behind_them
-      initials : All (InitialNamesVariables t i last) locals
+      initials : InitialsNameVariables t i number locals
       number_is : number + length locals ≡ behind_them.locals
 
     initial_names : {here : Here} {n : ℕ} {ty : ValueType} {initial : Option Initializer} {f : Option TExpr} → TypesInitial program here ty initial f → Knows t i n here → IfSome f (NamesVariables t i n)
@@ -138,36 +138,31 @@ module _ (t : Typed) (i : Instance) where
     initial_names {n = n} (Y.initial at at_hand takes fit) k = fitted t i n fit (named t i n program at k)
 
     locals_name : {here : Here} {ty : ValueType} {ds : List Declarator} {ls : List LocalVar} → TypesLocals program here ty ds ls → HasItsShape t ty → KnowsVariables t i here →
-        (last : ℕ) → here.locals + length ls ≤ last → StandFrom (variables_of i.body) here.locals (map info_of ls) → Declares (behind_declarators here (Some ty) ds) here.locals last ls
-    unfolding behind_declarators
-    locals_name Y.no_variable shape k last least s = record { knows = k; initials = All-nil (InitialNamesVariables t i last); number_is = omega arith }
-    locals_name (Y.next_variable {here = here} {ty = ty} {d = d} {ds = ds} {l = l} {ls = ls} at more) shape k last least s =
+        StandFrom (variables_of i.body) here.locals (map info_of ls) → Declares (behind_declarators here (Some ty) ds) here.locals ls
+    unfolding behind_declarators InitialsNameVariables
+    locals_name Y.no_variable shape k s = record { knows = k; initials = tt; number_is = omega arith }
+    locals_name (Y.next_variable {here = here} {ty = ty} {d = d} {ds = ds} {l = l} {ls = ls} at more) shape k s =
         let there = behind_one here ty d l at shape (at_number l.info (map info_of ls) s) k in
-        let less : here.locals + 1 ≤ last = omega (arith, least) in
-        let rest = locals_name more shape there last (omega (arith, least)) (second_part (l.info ∷ []) (map info_of ls) s) in
+        let rest = locals_name more shape there (second_part (l.info ∷ []) (map info_of ls) s) in
         let number = rest.number_is in
-        record {
-          knows = rest.knows;
-          initials = All-cons (InitialNamesVariables t i last) l ls (initial_names at.initial (λ word v of found. still_there less (there word v of found))) rest.initials;
-          number_is = omega (arith, number);
-        }
+        record { knows = rest.knows; initials = (initial_names at.initial there, rest.initials); number_is = omega (arith, number) }
 
     declarations_name : {here : Here} {ds : List Declaration} {ls : List LocalVar} → TypesDeclarations program here ds ls → IsKnown here →
-        (last : ℕ) → here.locals + length ls ≤ last → StandFrom (variables_of i.body) here.locals (map info_of ls) → Declares (behind_declarations here ds) here.locals last ls
-    unfolding behind_declarations
-    declarations_name Y.no_declaration k last least s = record { knows = k.variables; initials = All-nil (InitialNamesVariables t i last); number_is = omega arith }
-    declarations_name (Y.next_declaration {here = here} {ty = ty} {d = d} {ds = ds} {ls = ls} {rest = rest} is at more) k last least s =
+        StandFrom (variables_of i.body) here.locals (map info_of ls) → Declares (behind_declarations here ds) here.locals ls
+    unfolding behind_declarations InitialsNameVariables
+    declarations_name Y.no_declaration k s = record { knows = k.variables; initials = tt; number_is = omega arith }
+    declarations_name (Y.next_declaration {here = here} {ty = ty} {d = d} {ds = ds} {ls = ls} {rest = rest} is at more) k s =
         let long = length-append ls rest in
         let both = subst (StandFrom (variables_of i.body) here.locals) (map-append info_of ls rest) s in
-        let first = locals_name at (type_there t here d.type_name ty k.shapes is) k.variables last (omega (arith, least, long)) (first_part (map info_of ls) (map info_of rest) both) in
+        let first = locals_name at (type_there t here d.type_name ty k.shapes is) k.variables (first_part (map info_of ls) (map info_of rest) both) in
         let number_is = first.number_is in
         let number = ap (λ (n : ℕ). here.locals + n) (length-map ls info_of) ∙ first.number_is in
-        let others = declarations_name more (record { variables = first.knows; shapes = behind_all t here (Some ty) d.variables.items k.shapes }) last (omega (arith, least, long, number_is))
+        let others = declarations_name more (record { variables = first.knows; shapes = behind_all t here (Some ty) d.variables.items k.shapes })
         (subst (λ (n : ℕ). StandFrom (variables_of i.body) n (map info_of rest)) number (second_part (map info_of ls) (map info_of rest) both)) in
         let others_is = others.number_is in
         record {
           knows = subst (λ (known : Option ValueType). KnowsVariables t i (behind_declarations (behind_declarators here known d.variables.items) ds)) (sym is) others.knows;
-          initials = All-append (InitialNamesVariables t i last) ls rest first.initials others.initials;
+          initials = all_initials here.locals ls rest first.initials (subst (λ (n : ℕ). InitialsNameVariables t i n rest) (sym first.number_is) others.initials);
           number_is = subst (λ (known : Option ValueType). here.locals + length (ls ++ rest) ≡ (behind_declarations (behind_declarators here known d.variables.items) ds).locals) (sym is) (omega (arith, long, number_is, others_is));
         }
 
@@ -240,9 +235,9 @@ module _ (t : Typed) (i : Instance) where
 
         pub parts_name : {here : Here} {block : Block} {locals : List LocalVar} {statements : List TStmt} → TypesBlock program returns here block locals statements → IsKnown here →
             StandFrom (variables_of i.body) here.locals (map info_of locals ++ concat (map variables_of statements)) →
-            All (InitialNamesVariables t i (here.locals + length locals)) locals × EachNamesVariables t i (here.locals + length locals) statements
+            InitialsNameVariables t i here.locals locals × EachNamesVariables t i (here.locals + length locals) statements
         parts_name {here = here} {locals = locals} {statements = statements} (Y.block block declarations at) k s =
-            let d = declarations_name declarations k (here.locals + length locals) (omega arith) (first_part (map info_of locals) (concat (map variables_of statements)) s) in
+            let d = declarations_name declarations k (first_part (map info_of locals) (concat (map variables_of statements)) s) in
             let number = ap (λ (n : ℕ). here.locals + n) (length-map locals info_of) ∙ d.number_is in (
               d.initials,
               subst (λ (n : ℕ). EachNamesVariables t i n statements) (sym d.number_is)

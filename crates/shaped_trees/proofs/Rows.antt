@@ -23,7 +23,7 @@ use Rattle.code_lengths.specs.Lowerable.{AreLowerable, IsLowerable}
 use Rattle.code_lengths.specs.LowerableStatements.{AreLowerableStatements, IsLowerableLocal, IsLowerableStatement}
 use Rattle.shaped_trees.specs.Casts.{BlockNamesShapes, ExpressionNamesShapes, ExpressionsNameShapes, StatementNamesShapes, StatementsNameShapes}
 use Rattle.code_lengths.specs.Naming.{AllNameVariables, NamesVariables}
-use Rattle.code_lengths.specs.NamingStatements.{InitialNamesVariables, StatementNamesVariables, StatementsNameVariables, behind}
+use Rattle.code_lengths.specs.NamingStatements.{InitialsNameVariables, StatementNamesVariables, StatementsNameVariables, behind}
 
 -- ---- typed expressions
 
@@ -124,7 +124,7 @@ statements_name_variables t i n k end_of-TStmt all = tt
 statements_name_variables t i n k (more_of-TStmt s rest) all = (all.0, statements_name_variables t i (behind n s) _ rest all.1)
 
 pub block_names_variables : (t : Typed) (i : Instance) (n : ℕ) (locals : Vec LocalVar Global) (statements : Vec TStmt Global) →
-    All (InitialNamesVariables t i (n + length locals.items)) locals.items → EachNamesVariables t i (n + length locals.items) statements.items → StatementNamesVariables t i n (R.Block locals statements)
+    InitialsNameVariables t i n locals.items → EachNamesVariables t i (n + length locals.items) statements.items → StatementNamesVariables t i n (R.Block locals statements)
 unfolding StatementNamesVariables
 block_names_variables t i n locals statements declared all =
     let row = typed_statements (R.Block locals statements) in
