@@ -1,6 +1,7 @@
 pub mod Assigning
 pub mod Beginnings
 pub mod Bodies
+pub mod Branching
 pub mod Choices
 pub mod Closed
 pub mod ConstantRegisters
@@ -12,6 +13,7 @@ pub mod Expressions
 pub mod Following
 pub mod ForLoops
 pub mod Jumping
+pub mod Logical
 pub mod Loops
 pub mod Openings
 pub mod Operators

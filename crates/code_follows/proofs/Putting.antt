@@ -25,7 +25,7 @@ use Rattle.lower_base.specs.Drafts.{Draft, Made, Makes, in_register, step as ste
 use Rattle.lower_base.specs.Layouts.{register_of}
 use Rattle.lower_expr.specs.declared.spots.Spot.{Spot}
 use Rattle.lower_expr.specs.declared.spots.Spot.TheVariants as S
-use Rattle.lower_expr.specs.Effects.{binary_to, bits_for, computed_to, converted_to, goes_unchanged, moved, put_to}
+use Rattle.lower_expr.specs.Effects.{binary_to, bits_for, computed_to, converted_to, goes_unchanged, logical_to, moved, put_to}
 use Rattle.lower_expr.specs.Kinds.{operand_bits, unary_bits}
 use Rattle.lower_expr.specs.Operands.{is_plus, is_quiet}
 use Rattle.lower_expr.specs.Spots.{loaded, variable_spot}
@@ -173,7 +173,7 @@ module _ (g : Setting) (has : HasRegisters g) (alive : Variable → Type 0) (n :
       negated_follows g has alive ty U.Not (type_of inner).elem (word_type inner isin).1 word refl d s (Put d s) own free (dest ty.elem d s word.1 free) st _ (λ u. evaluated scope inner active u) (operand g has alive n lives ready scope active true (unary_bits 32 U.Not inner) inner isin c) here sim
 
   computed_follows : (e : TExpr) → IsIn e → HasCode g.typed g.instance n e → Puts (λ st. evaluated scope e active st) (λ d. computed_to g.typed (layout g) (O.Scalar own) e d)
-  unfolding computed_to evaluated IsIn moved bits_for binary_to
+  unfolding computed_to evaluated IsIn moved bits_for binary_to logical_to
   computed_follows (T.Number ty value) h c = copied_to ty.elem h.0.1 _ _ (operand g has alive n lives ready scope active true 32 (T.Number ty value) h c)
   computed_follows (T.PositionsOf ty shape value) h c = copied_to ty.elem h.0.1 _ _ (operand g has alive n lives ready scope active true 32 (T.PositionsOf ty shape value) h c)
   computed_follows (T.RankOf ty shape value) h c = copied_to ty.elem h.0.1 _ _ (operand g has alive n lives ready scope active true 32 (T.RankOf ty shape value) h c)
@@ -184,6 +184,8 @@ module _ (g : Setting) (has : HasRegisters g) (alive : Variable → Type 0) (n :
       unchanged ty p operand h.0 d s st (put_converted ty (type_of operand).elem h.0 (word_type operand h.1).1 _ _ (computed_follows operand h.1 (convert_code g has alive n lives ready scope active ty p operand c)) d s st free here sim)
   computed_follows (T.Unary' ty op p inner) h c = unary_put ty op p inner h.0 h.1 (unary_code g has alive n lives ready scope active ty op p inner c) (computed_follows inner h.1 (unary_code g has alive n lives ready scope active ty op p inner c))
   computed_follows (T.Binary' ty place op p left q right) h c = binary_put ty place op left right h.0 h.1 h.2 (left_code g has alive n lives ready scope active ty place op p q left right c) (right_code g has alive n lives ready scope active ty place op p q left right c)
+  computed_follows (T.LogicalOr' ty p left q right) h c = copied_to ty.elem h.0.1 _ _ (operand g has alive n lives ready scope active true 32 (T.LogicalOr' ty p left q right) h c)
+  computed_follows (T.LogicalAnd' ty p left q right) h c = copied_to ty.elem h.0.1 _ _ (operand g has alive n lives ready scope active true 32 (T.LogicalAnd' ty p left q right) h c)
   computed_follows _ h c = absurd h
 
   -- a constant goes to the register at once
