@@ -19,7 +19,7 @@ use Rattle.source_meaning.specs.State.{Outcome, State, then_do}
 use Rattle.source_meaning.specs.Values.{Value, nonzero, number}
 use Rattle.code_follows.proofs.Following.{Arrives, Extends, Follows, delayed, finished, finishes_later, keeps_all}
 use Rattle.code_follows.proofs.Jumping.{moved_to, returns_to, skips}
-use Rattle.code_follows.proofs.Settings.{At, Reaches, Setting, Within, and_one, code_more, start}
+use Rattle.code_follows.proofs.Settings.{At, Reaches, Setting, Within, and_one, code_more, earlier, start}
 use Rattle.code_follows.proofs.Words.{below_word, held_wide}
 
 -- code of so many instructions, whose value stands in a register
@@ -72,3 +72,10 @@ module _ (g : Setting) (alive : Variable → Type 0) where
   unfolding jump_if_decided
   jump_long true x target e = code_more g (I.FrontJumpNonzero x target) e
   jump_long false x target e = code_more g (I.FrontJumpZero x target) e
+
+  -- a part whose code is made, with more code behind it
+  pub goes_on : {A B C : Type 0} (R : A → State → B → Draft → Type 0) (Q : A → State → C → Draft → Type 0) (s s0 : CodeState) (o : Outcome A) (y : B) (e : Draft) (z : C) (f : Draft) (n : ℕ) → Reaches g s s0 → Follows g R s0 o (Makes y e) → Extended e n f
+      → ((x : A) (st : State) → R x st y e → Within g f → Q x st z f) → Follows g Q s o (Makes z f)
+  unfolding Follows
+  goes_on R Q s s0 (Source.Gives x st) y e z f n go follows grows next = λ w. next x st (follows (earlier g e f n grows w)) w
+  goes_on R Q s s0 (Source.Ends early st) y e z f n go follows grows next = λ w. finishes_later g early st s s0 go (follows (earlier g e f n grows w))

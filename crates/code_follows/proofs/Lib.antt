@@ -3,6 +3,7 @@ pub mod Beginnings
 pub mod Bodies
 pub mod Branching
 pub mod Choices
+pub mod Choosing
 pub mod Closed
 pub mod ConstantRegisters
 pub mod Declaring

@@ -1,4 +1,4 @@
--- The programs of which it is said so far that their code means them: scalar ones of 32 bits, with `&&` and `||`.
+-- The programs of which it is said so far that their code means them: scalar ones of 32 bits, with `&&`, `||` and `?:`.
 use Rattle.std.specs.Prelude.{◌≡◌, ◌<◌, ◌^◌, false, [], ◌∷◌, IfSome, Option, Some, None}
 use Rattle.std.specs.List.{All}
 use Rattle.cstar_tree.specs.declared.typed.TExpr.{TExpr, Row_of-TExpr, end_of-TExpr, more_of-TExpr}
@@ -30,6 +30,7 @@ IsIn (T.Unary' ty op p operand) = IsWord ty × IsIn operand
 IsIn (T.Binary' ty place op p left q right) = IsWord ty × IsIn left × IsIn right
 IsIn (T.LogicalOr' ty p left q right) = IsWord ty × IsIn left × IsIn right
 IsIn (T.LogicalAnd' ty p left q right) = IsWord ty × IsIn left × IsIn right
+IsIn (T.Choice' ty p test q first r second) = IsWord ty × IsIn test × IsIn first × IsIn second
 IsIn _ = ⊥
 
 -- a scalar variable of 32 bits, as it is used
