@@ -352,6 +352,9 @@ module _ (g : Setting) (has : HasRegisters g) (alive : Variable → Type 0) (n :
   in_effect (T.Convert' ty p operand) h = h
   in_effect (T.Unary' ty op p operand) h = h
   in_effect (T.Binary' ty place op p left q right) h = h
+  in_effect (T.LogicalOr' ty p left q right) h = h
+  in_effect (T.LogicalAnd' ty p left q right) h = h
+  in_effect (T.Choice' ty p test q first r second) h = h
   in_effect _ h = absurd h
 
   pub effect_follows : (e : TExpr) → IsEffect e → HasCode g.typed g.instance n e → Runs (λ st. evaluated scope e active st) (λ d. effect_of g.typed (layout g) e d)
@@ -376,4 +379,7 @@ module _ (g : Setting) (has : HasRegisters g) (alive : Variable → Type 0) (n :
   effect_follows (T.Convert' ty p operand) h c = pure_follows (T.Convert' ty p operand) h c
   effect_follows (T.Unary' ty op p operand) h c = pure_follows (T.Unary' ty op p operand) h c
   effect_follows (T.Binary' ty place op p left q right) h c = pure_follows (T.Binary' ty place op p left q right) h c
+  effect_follows (T.LogicalOr' ty p left q right) h c = pure_follows (T.LogicalOr' ty p left q right) h c
+  effect_follows (T.LogicalAnd' ty p left q right) h c = pure_follows (T.LogicalAnd' ty p left q right) h c
+  effect_follows (T.Choice' ty p test q first r second) h c = pure_follows (T.Choice' ty p test q first r second) h c
   effect_follows _ h c = absurd h

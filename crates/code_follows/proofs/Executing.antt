@@ -161,6 +161,9 @@ module _ (g : Setting) (alive : Variable → Type 0) where
     gives (T.Convert' ty p operand) h = tt
     gives (T.Unary' ty op p operand) h = tt
     gives (T.Binary' ty place op p left q right) h = tt
+    gives (T.LogicalOr' ty p left q right) h = tt
+    gives (T.LogicalAnd' ty p left q right) h = tt
+    gives (T.Choice' ty p test q first r second) h = tt
     gives _ h = absurd h
 
     -- the code of a condition is made

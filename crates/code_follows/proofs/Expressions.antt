@@ -1,5 +1,5 @@
 -- The code of every expression of the fragment gives its value, as a value and as an operand.
-use Rattle.std.proofs.Common.{◌≡◌, ◌∙◌, ℕ, ◌<◌, ◌-◌, ◌^◌, ◌==◌, Bool, true, false, Option, Some, None, refl, sym, ap, subst, if◌then◌else◌}
+use Rattle.std.proofs.Common.{◌≡◌, ◌∙◌, ℕ, ◌<◌, ◌≤◌, ◌-◌, ◌^◌, ◌==◌, Bool, true, false, length, Option, Some, None, refl, sym, ap, subst, if◌then◌else◌, arith}
 use Rattle.std.specs.Prelude.{IfSome, is_none, ◌||◌, nat_le, nat_lt}
 use Rattle.cstar_base.specs.declared.elem.Elem.{Elem}
 use Rattle.cstar_base.specs.declared.operators.Op.{Op}
@@ -14,7 +14,7 @@ use Rattle.cstar_tree.specs.declared.typed.VarInfo.{VarInfo}
 use Rattle.cstar_tree.specs.declared.typed.Variable.{Variable}
 use Rattle.cstar_tree.specs.StatementTypes.{variable_info}
 use Rattle.cstar_tree.specs.Typed.{type_of}
-use Rattle.code_lengths.specs.Lowerable.{IsLowerable}
+use Rattle.code_lengths.specs.Lowerable.{GivesValue, IsLowerable}
 use Rattle.code_lengths.specs.Naming.{HasVariable, IsDeclared, NamesVariables, plain}
 use Rattle.code_lengths.specs.Ready.{HasCode, IsReady}
 use Rattle.code_lengths.specs.Shaped.{IsShaped}
@@ -23,29 +23,36 @@ use Rattle.code_lengths.proofs.Drafting.{as_it_was}
 use Rattle.constant_trees.proofs.Words.{converted_below}
 use Rattle.lower_base.specs.declared.emit.Out.{Out}
 use Rattle.lower_base.specs.declared.emit.Out.TheVariants as O
-use Rattle.lower_base.specs.Constants.{constant_register}
+use Rattle.lower_base.specs.Constants.{constant_register, first_free}
+use Rattle.lower_base.specs.Kinds.{bits_of, kind_of}
 use Rattle.lower_base.specs.Drafts.{Draft, Made, Makes, first_bits, then_make, with_instr}
 use Rattle.lower_base.specs.Layouts.{Layout, field_of, register_of}
 use Rattle.lower_expr.specs.declared.operands.Own.{Own}
 use Rattle.lower_expr.specs.Kinds.{is_unchanged, operand_bits, unary_bits}
+use Rattle.lower_expr.specs.Lengths.{arm_length, arm_length_of, used_length_of}
 use Rattle.lower_expr.specs.Operands.{held as held_in, in_place, is_plus, is_quiet, operand_by, own_of, standing}
 use Rattle.lower_expr.specs.Steps.{converted_in_place, field_converted, is_kept, put_test, register_word, shifted_back}
+use Rattle.paris_code.specs.Code.{CodeState}
 use Rattle.paris_code.specs.declared.instr.Instr.TheVariants as I
 use Rattle.paris_code.specs.declared.operands.Konst.TheVariants as K
 use Rattle.paris_code.specs.declared.operands.Operation.TheVariants as Act
-use Rattle.lower_expr.specs.Values.{Code, cast_from, register_cast_by, truth_of, unary_by, value_of}
+use Rattle.lower_expr.specs.Values.{Code, arm_by, arm_of, cast_from, choice_by, condition_by, condition_of, logical_by, next_of, register_cast_by, scalar_choice_of, truth_of, unary_by, value_of}
 use Rattle.quiet_operands.proofs.Unchanged as Quiet
 use Rattle.source_meaning.specs.Constants.{constant_of, is_constant, then_value}
 use Rattle.source_meaning.specs.Constants as Const
 use Rattle.source_meaning.specs.Expressions.{evaluated, mapped}
+use Rattle.source_meaning.specs.Narrowing.{and_then, choose, or_then}
 use Rattle.source_meaning.specs.State as Source
 use Rattle.source_meaning.specs.State.{Outcome, State, then_do}
-use Rattle.source_meaning.specs.Values.{Active, Scalar, Scope, Value, at, convert_to, unary_of}
+use Rattle.source_meaning.specs.Values.{Active, Scalar, Scope, Value, at, convert_to, nonzero, number, unary_of}
 use Rattle.source_meaning.proofs.ConstantLaws.{Boxed, value_means}
 use Rattle.code_follows.specs.Fragment.{IsIn, IsWord}
-use Rattle.code_follows.proofs.Following.{Arrives, Extends, Follows, HasRegisters, IsScalar, held, keeps_all, then_follows, then_gives}
-use Rattle.code_follows.proofs.Settings.{Setting, layout, stay}
-use Rattle.code_follows.proofs.Values.{Does, Value_of, binary_follows, constant_follows, conversion_is, extends_grown, mapped_is, read_is, rewrapped, unary_follows, variable_follows}
+use Rattle.code_follows.proofs.Branching.{IsMadeWord, made_word}
+use Rattle.code_follows.proofs.Choosing.{Arm_does, IsMadeTo, Lands, arm_follows, arm_made, choice_is, choose_is, constant_arm, fresh_lands, scalar_choice_follows}
+use Rattle.code_follows.proofs.Following.{Arrives, Extends, Follows, HasRegisters, IsScalar, Sim, held, keeps_all, then_follows, then_gives}
+use Rattle.code_follows.proofs.Logical.{and_is, joined, logical_follows, or_is}
+use Rattle.code_follows.proofs.Settings.{At, Setting, layout, stay}
+use Rattle.code_follows.proofs.Values.{Dest, Does, Value_of, binary_follows, constant_follows, conversion_is, extends_grown, fresh_dest, mapped_is, read_is, rewrapped, unary_follows, variable_follows, with_reg}
 use Rattle.code_follows.proofs.Standing.{some_same}
 use Rattle.code_follows.proofs.Words.{below_bits, below_word, constant_below, held_converted, held_wide, kept, word_type}
 
@@ -127,6 +134,9 @@ module _ (g : Setting) (has : HasRegisters g) (alive : Variable → Type 0) (n :
   own_is bits (T.DimOf ty shape axis value) own st h v small is = cc
   own_is bits (T.Unary' ty op p operand) own st h v small is = cc
   own_is bits (T.Binary' ty place op p left q right) own st h v small is = cc
+  own_is bits (T.LogicalOr' ty p left q right) own st h v small is = cc
+  own_is bits (T.LogicalAnd' ty p left q right) own st h v small is = cc
+  own_is bits (T.Choice' ty p test q first r second) own st h v small is = cc
   own_is bits _ own st h v small is = absurd h
 
   -- an operand where it stands, or by its code
@@ -291,6 +301,98 @@ module _ (g : Setting) (has : HasRegisters g) (alive : Variable → Type 0) (n :
   operand_value : (quiet : Bool) (bits : ℕ) (e : TExpr) → IsIn e → HasCode g.typed g.instance n e → Agrees quiet bits e → Does g has alive (type_of e).elem quiet (λ st. evaluated scope e active st) (λ d. operand_by g.typed (layout g) bits (value_of g.typed (layout g) bits e) quiet e d)
   operand_value quiet bits e h c agrees = operand_follows quiet bits e (λ d. value_of g.typed (layout g) bits e d) h c.names agrees
 
+  -- the operands of `&&` and of `||` have code that gives values
+  record AreOperands (left right : TExpr) : Type 0 where
+    pub one : HasCode g.typed g.instance n left
+    pub other : HasCode g.typed g.instance n right
+    pub one_gives : GivesValue g.typed left
+    pub other_gives : GivesValue g.typed right
+
+  or_operands : (ty : ValueType) (p q : Boxed) (left right : TExpr) → HasCode g.typed g.instance n (T.LogicalOr' ty p left q right) → AreOperands left right
+  unfolding IsShaped IsLowerable NamesVariables
+  or_operands ty p q left right h = record {
+    one = record { shaped = h.shaped.0; lowerable = h.lowerable.1; names = h.names.0 };
+    other = record { shaped = h.shaped.1; lowerable = h.lowerable.2; names = h.names.1 };
+    one_gives = h.lowerable.0.left_gives;
+    other_gives = h.lowerable.0.right_gives;
+  }
+
+  and_operands : (ty : ValueType) (p q : Boxed) (left right : TExpr) → HasCode g.typed g.instance n (T.LogicalAnd' ty p left q right) → AreOperands left right
+  unfolding IsShaped IsLowerable NamesVariables
+  and_operands ty p q left right h = record {
+    one = record { shaped = h.shaped.0; lowerable = h.lowerable.1; names = h.names.0 };
+    other = record { shaped = h.shaped.1; lowerable = h.lowerable.2; names = h.names.1 };
+    one_gives = h.lowerable.0.left_gives;
+    other_gives = h.lowerable.0.right_gives;
+  }
+
+  pub word_is_made : (bits : ℕ) (e : TExpr) → IsIn e → HasCode g.typed g.instance n e → GivesValue g.typed e → (d : Draft) → IsMadeWord (used_length_of g.typed (layout g) bits true e) d (operand_by g.typed (layout g) bits (value_of g.typed (layout g) bits e) true e d)
+  word_is_made bits e h c gives d = made_word g.typed e _ d _ (kept e h) gives ((expressions g.typed g.instance (layout g)).operand bits n true e d c (ready d))
+
+  logical_value : (is_or : Bool) (ty : ValueType) (quiet : Bool) (bits : ℕ) (left right : TExpr) (next : Value → State → Outcome Value) → IsWord ty → IsIn left → IsIn right → AreOperands left right
+      → ((v : Value) (st : State) → next v st ≡ joined is_or (λ u. evaluated scope right active u) (nonzero (number v)) st) → Agrees true (bits_of (kind_of left)) left → Agrees true (bits_of (kind_of right)) right
+      → Does g has alive ty.elem quiet (λ st. then_do (evaluated scope left active st) next) (λ d. logical_by is_or ty.shape bits (condition_of g.typed (layout g) left) (condition_of g.typed (layout g) right) d)
+  unfolding condition_by
+  logical_value is_or ty quiet bits left right next word h k c next_is one other =
+      logical_follows g has alive is_or ty quiet (type_of left).elem (type_of right).elem _ _ _ _ (λ st. evaluated scope left active st) (λ st. evaluated scope right active st) next word (word_type left h).1 (word_type right k).1
+      (operand_value true (bits_of (kind_of left)) left h c.one one) (operand_value true (bits_of (kind_of right)) right k c.other other)
+      (word_is_made (bits_of (kind_of left)) left h c.one c.one_gives) (word_is_made (bits_of (kind_of right)) right k c.other c.other_gives) next_is
+      bits (condition_of g.typed (layout g) left) (condition_of g.typed (layout g) right) refl refl refl
+
+  -- the condition and the arms of `?:` have code that gives values
+  pub record AreChosen (test first second : TExpr) : Type 0 where
+    pub condition : HasCode g.typed g.instance n test
+    pub one : HasCode g.typed g.instance n first
+    pub other : HasCode g.typed g.instance n second
+    pub condition_gives : GivesValue g.typed test
+    pub one_gives : GivesValue g.typed first
+    pub other_gives : GivesValue g.typed second
+
+  pub choice_parts : (ty : ValueType) (p q r : Boxed) (test first second : TExpr) → HasCode g.typed g.instance n (T.Choice' ty p test q first r second) → AreChosen test first second
+  unfolding IsShaped IsLowerable NamesVariables
+  choice_parts ty p q r test first second h = record {
+    condition = record { shaped = h.shaped.0; lowerable = h.lowerable.4; names = h.names.0 };
+    one = record { shaped = h.shaped.1; lowerable = h.lowerable.5; names = h.names.1 };
+    other = record { shaped = h.shaped.2; lowerable = h.lowerable.6; names = h.names.2 };
+    condition_gives = h.lowerable.0;
+    one_gives = h.lowerable.2.gives;
+    other_gives = h.lowerable.3.gives;
+  }
+
+  arm_is_made : (ty : ValueType) (bits : ℕ) (e : TExpr) → ty.shape ≡ None → IsIn e → HasCode g.typed g.instance n e → GivesValue g.typed e → (r : ℕ) (d : Draft) → IsMadeTo r (arm_length_of g.typed (layout g) ty bits e) d (arm_of g.typed (layout g) bits e (O.Scalar r) d)
+  unfolding arm_length_of arm_of
+  arm_is_made ty bits e scalar h c gives r d =
+      subst (λ (o : Option ℕ). IsMadeTo r (arm_length (is_none o) (used_length_of g.typed (layout g) bits true e) e) d (arm_by (next_of g.typed (layout g) bits true e) e (O.Scalar r) d)) (sym scalar)
+      (arm_made g r (used_length_of g.typed (layout g) bits true e) (next_of g.typed (layout g) bits true e) e d (word_is_made bits e h c gives d))
+
+  arm_does : (elem : Elem) (bits : ℕ) (e : TExpr) → elem.bits ≡ 32 → IsIn e → HasCode g.typed g.instance n e → GivesValue g.typed e → Agrees true bits e → Arm_does g has alive elem (λ st. evaluated scope e active st) (arm_of g.typed (layout g) bits e)
+  unfolding arm_of
+  arm_does elem bits e wide h c gives agrees =
+      arm_follows g has alive elem (type_of e).elem _ e (next_of g.typed (layout g) bits true e) (λ st. evaluated scope e active st) wide (word_type e h).1 (operand_value true bits e h c agrees) (word_is_made bits e h c gives) (λ w is. constant_arm scope active e w h is)
+
+  -- `?:` into the register of which something is said
+  pub choice_goes : (ty : ValueType) (bits : ℕ) (test first second : TExpr) → IsWord ty → IsIn test → IsIn first → IsIn second → AreChosen test first second → Agrees true (bits_of (kind_of test)) test → Agrees true bits first → Agrees true bits second
+      → (d : Draft) (s : CodeState) (st : State) (R : Value → State → Out → Draft → Type 0) (r : ℕ) → first_free (layout g) ≤ d.regs → At g s (length d.code) → Sim g alive st s → Dest g has alive ty.elem d s R r → Lands g has alive r R
+      → Follows g R s (then_do (evaluated scope test active st) (λ v after. choose (type_of test).shape v (evaluated scope first) (evaluated scope second) active after)) (scalar_choice_of g.typed (layout g) ty bits test first second (O.Scalar r) d)
+  unfolding scalar_choice_of
+  choice_goes ty bits test first second word h k m c tests one other d s st R r free here sim dest lands =
+      scalar_choice_follows g has alive ty.elem (type_of test).elem _ _ _ (next_of g.typed (layout g) (bits_of (kind_of test)) true test) (arm_of g.typed (layout g) bits first) (arm_of g.typed (layout g) bits second)
+      (λ u. evaluated scope test active u) (λ u. evaluated scope first active u) (λ u. evaluated scope second active u) (λ v after. choose (type_of test).shape v (evaluated scope first) (evaluated scope second) active after) (word_type test h).1
+      (operand_value true (bits_of (kind_of test)) test h c.condition tests) (arm_does ty.elem bits first word.1 k c.one c.one_gives one) (arm_does ty.elem bits second word.1 m c.other c.other_gives other)
+      (word_is_made (bits_of (kind_of test)) test h c.condition c.condition_gives) (arm_is_made ty bits first word.0 k c.one c.one_gives) (arm_is_made ty bits second word.0 m c.other c.other_gives)
+      (λ v u. choose_is (type_of test).shape v (evaluated scope first) (evaluated scope second) active u (word_type test h).0) d s st R r free here sim dest lands
+
+  choice_value : (ty : ValueType) (quiet : Bool) (bits : ℕ) (p q r : Boxed) (test first second : TExpr) → IsWord ty → IsIn test → IsIn first → IsIn second → AreChosen test first second → Agrees true (bits_of (kind_of test)) test → Agrees true bits first → Agrees true bits second
+      → Does g has alive ty.elem quiet (λ st. then_do (evaluated scope test active st) (λ v after. choose (type_of test).shape v (evaluated scope first) (evaluated scope second) active after)) (λ d. value_of g.typed (layout g) bits (T.Choice' ty p test q first r second) d)
+  unfolding value_of scalar_choice_of arm_of
+  choice_value ty quiet bits p q r test first second word h k m c tests one other d s st free here sim =
+      subst (λ (made : Made Out). Follows g (Value_of g has alive ty.elem quiet d s) s (then_do (evaluated scope test active st) (λ v after. choose (type_of test).shape v (evaluated scope first) (evaluated scope second) active after)) made)
+      (sym (ap (λ (b : Bool). choice_by ty bits (is_kept test) (operand_by g.typed (layout g) (bits_of (kind_of test)) (λ e. value_of g.typed (layout g) (bits_of (kind_of test)) test e) (b || is_quiet first) test) (arm_of g.typed (layout g) bits first) (arm_of g.typed (layout g) bits second)
+      (arm_length_of g.typed (layout g) ty bits first) (arm_length_of g.typed (layout g) ty bits second) d) (kept test h)
+      ∙ choice_is ty bits (is_kept test) (next_of g.typed (layout g) (bits_of (kind_of test)) true test) (arm_of g.typed (layout g) bits first) (arm_of g.typed (layout g) bits second)
+      (arm_length_of g.typed (layout g) ty bits first) (arm_length_of g.typed (layout g) ty bits second) d word.0 (kept test h)))
+      (choice_goes ty bits test first second word h k m c tests one other (with_reg d) s st (Value_of g has alive ty.elem quiet d s) d.regs (omega (arith, free)) here sim (fresh_dest g has alive ty.elem quiet d s free) (fresh_lands g has alive ty.elem quiet d s d.regs))
+
   pub value_follows : (quiet : Bool) (bits : ℕ) (e : TExpr) → IsIn e → HasCode g.typed g.instance n e → Agrees quiet bits e
   unfolding evaluated value_of IsIn
   value_follows quiet bits (T.Number ty value) h c = λ d s st free here sim. constant_follows g has alive ty.elem quiet value d s st h.0.1 h.1 free here sim
@@ -311,6 +413,17 @@ module _ (g : Setting) (has : HasRegisters g) (alive : Variable → Type 0) (n :
       binary_follows g has alive ty (is_quiet right) op place (type_of left).elem (type_of right).elem _ (λ st. evaluated scope right active st) scope active h.0 (word_type left h.1).1 (word_type right h.2).1
       (λ st calm. Quiet.expression scope right active st calm) (operand_value true (operand_bits bits op left right) right h.2 other_code (value_follows true (operand_bits bits op left right) right h.2 other_code)) (operand_grows true (operand_bits bits op left right) right other_code) quiet bits left right _
       (λ st. evaluated scope left active st) refl (operand_value (is_quiet right) (operand_bits bits op left right) left h.1 one_code (value_follows (is_quiet right) (operand_bits bits op left right) left h.1 one_code))
+  value_follows quiet bits (T.LogicalOr' ty p left q right) h c =
+      let o = or_operands ty p q left right c in
+      logical_value true ty quiet bits left right (λ v after. or_then ty.shape (type_of left).shape v (evaluated scope right) active after) h.0 h.1 h.2 o (λ v st. or_is ty.shape (type_of left).shape v (evaluated scope right) active st h.0.0 (word_type left h.1).0)
+      (value_follows true (bits_of (kind_of left)) left h.1 o.one) (value_follows true (bits_of (kind_of right)) right h.2 o.other)
+  value_follows quiet bits (T.LogicalAnd' ty p left q right) h c =
+      let o = and_operands ty p q left right c in
+      logical_value false ty quiet bits left right (λ v after. and_then ty.shape (type_of left).shape v (evaluated scope right) active after) h.0 h.1 h.2 o (λ v st. and_is ty.shape (type_of left).shape v (evaluated scope right) active st h.0.0 (word_type left h.1).0)
+      (value_follows true (bits_of (kind_of left)) left h.1 o.one) (value_follows true (bits_of (kind_of right)) right h.2 o.other)
+  value_follows quiet bits (T.Choice' ty p test q first r second) h c =
+      let o = choice_parts ty p q r test first second c in
+      choice_value ty quiet bits p q r test first second h.0 h.1 h.2 h.3 o (value_follows true (bits_of (kind_of test)) test h.1 o.condition) (value_follows true bits first h.2 o.one) (value_follows true bits second h.3 o.other)
   value_follows quiet bits _ h c = absurd h
 
   pub operand : (quiet : Bool) (bits : ℕ) (e : TExpr) → IsIn e → HasCode g.typed g.instance n e → Does g has alive (type_of e).elem quiet (λ st. evaluated scope e active st) (λ d. operand_by g.typed (layout g) bits (value_of g.typed (layout g) bits e) quiet e d)

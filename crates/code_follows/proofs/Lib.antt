@@ -1,7 +1,9 @@
 pub mod Assigning
 pub mod Beginnings
 pub mod Bodies
+pub mod Branching
 pub mod Choices
+pub mod Choosing
 pub mod Closed
 pub mod ConstantRegisters
 pub mod Declaring
@@ -13,6 +15,7 @@ pub mod Expressions
 pub mod Following
 pub mod ForLoops
 pub mod Jumping
+pub mod Logical
 pub mod Loops
 pub mod Openings
 pub mod Operators

@@ -22,34 +22,37 @@ use Rattle.lower_base.specs.declared.emit.Out.{Out}
 use Rattle.lower_base.specs.declared.emit.Out.TheVariants as O
 use Rattle.lower_base.specs.Constants.{first_free}
 use Rattle.lower_base.specs.Drafts.{Draft, Made, Makes, in_register, step as step_of, then_make, with_instr}
+use Rattle.lower_base.specs.Kinds.{bits_of, kind_of}
 use Rattle.lower_base.specs.Layouts.{register_of}
 use Rattle.lower_expr.specs.declared.spots.Spot.{Spot}
 use Rattle.lower_expr.specs.declared.spots.Spot.TheVariants as S
-use Rattle.lower_expr.specs.Effects.{binary_to, bits_for, computed_to, converted_to, goes_unchanged, moved, put_to}
+use Rattle.lower_expr.specs.Effects.{binary_to, bits_for, computed_to, converted_to, goes_unchanged, logical_to, moved, put_to}
 use Rattle.lower_expr.specs.Kinds.{operand_bits, unary_bits}
 use Rattle.lower_expr.specs.Operands.{is_plus, is_quiet}
 use Rattle.lower_expr.specs.Spots.{loaded, variable_spot}
 use Rattle.lower_expr.specs.Steps.{put_value, register_word, word_for, word_put}
-use Rattle.lower_expr.specs.Values.{Code, next_of, read_to, register_binary_of, registers_by, spot_of}
+use Rattle.lower_expr.specs.Values.{Code, next_of, read_to, register_binary_of, registers_by, scalar_choice_of, spot_of}
 use Rattle.paris_code.specs.declared.instr.Instr.TheVariants as I
 use Rattle.paris_code.specs.Code.{CodeState, Goes, begun, with_register}
 use Rattle.quiet_operands.proofs.Unchanged as Quiet
 use Rattle.source_meaning.specs.Constants.{constant_of, is_constant, then_value}
 use Rattle.source_meaning.specs.Constants as Const
 use Rattle.source_meaning.specs.Expressions.{evaluated, mapped, operated}
+use Rattle.source_meaning.specs.Narrowing.{choose}
 use Rattle.source_meaning.specs.State as Source
 use Rattle.source_meaning.specs.State.{Outcome, State, then_do, with_scalar}
 use Rattle.source_meaning.specs.Targets.{read, variable_target}
 use Rattle.source_meaning.specs.Values.{Active, Scalar, Scope, Value, at, convert_to, unary_of}
 use Rattle.source_meaning.proofs.ConstantLaws.{Boxed, value_means}
 use Rattle.code_follows.specs.Fragment.{IsIn, IsWord}
-use Rattle.code_follows.proofs.Expressions.{brackets_code, convert_code, left_code, named, operand, operand_grows, right_code, unary_code}
+use Rattle.code_follows.proofs.Choosing.{put_lands}
+use Rattle.code_follows.proofs.Expressions.{AreChosen, brackets_code, choice_goes, choice_parts, convert_code, left_code, named, operand, operand_grows, right_code, unary_code, value_follows}
 use Rattle.code_follows.proofs.Following.{Arrives, Extends, Follows, HasRegisters, IsScalar, Sim, held, keeps_all, then_follows, then_gives}
 use Rattle.code_follows.proofs.Operators.{wide_signed}
 use Rattle.code_follows.proofs.Settings.{At, Setting, and_one, layout, stay}
 use Rattle.code_follows.proofs.Stores.{IsPut, variable_dest}
 use Rattle.code_follows.proofs.Values.{Dest, Does, Value_of, conversion_is, extends_in_register, mapped_is, negated_follows, read_is, registers_follow}
-use Rattle.code_follows.proofs.Words.{below_bits, below_word, constant_below, held_converted, held_wide, word_type}
+use Rattle.code_follows.proofs.Words.{below_bits, below_word, constant_below, held_converted, held_wide, kept, word_type}
 
 module _ (g : Setting) (has : HasRegisters g) (alive : Variable → Type 0) (n : ℕ) (lives : (x : Variable) → IsDeclared n x → alive x) (ready : (d : Draft) → IsReady g.typed g.instance (layout g) n d) (scope : Scope) (active : Active)
     (x : Variable) (info : VarInfo) (living : alive x) (scalar : IsScalar g x info) (also : info.elem.bits ≡ 32) where
@@ -172,8 +175,18 @@ module _ (g : Setting) (has : HasRegisters g) (alive : Variable → Type 0) (n :
   unary_put ty U.Not p inner word isin c puts = λ d s st free here sim.
       negated_follows g has alive ty U.Not (type_of inner).elem (word_type inner isin).1 word refl d s (Put d s) own free (dest ty.elem d s word.1 free) st _ (λ u. evaluated scope inner active u) (operand g has alive n lives ready scope active true (unary_bits 32 U.Not inner) inner isin c) here sim
 
+  -- `?:` computes the chosen value straight into the register
+  choice_put : (ty : ValueType) (p q r : Boxed) (test first second : TExpr) → IsWord ty → IsIn test → IsIn first → IsIn second → AreChosen g has alive n lives ready scope active test first second
+      → Puts (λ st. then_do (evaluated scope test active st) (λ v after. choose (type_of test).shape v (evaluated scope first) (evaluated scope second) active after)) (λ d. computed_to g.typed (layout g) (O.Scalar own) (T.Choice' ty p test q first r second) d)
+  unfolding computed_to bits_for
+  choice_put ty p q r test first second word h k m c d s st free here sim =
+      subst (λ (made : Made Out). Follows g (Put d s) s (then_do (evaluated scope test active st) (λ v after. choose (type_of test).shape v (evaluated scope first) (evaluated scope second) active after)) made)
+      (sym (ap (λ (b : Bool). if b then scalar_choice_of g.typed (layout g) ty 32 test first second (O.Scalar own) d else moved g.typed (layout g) (O.Scalar own) (T.Choice' ty p test q first r second) d) (kept test h)))
+      (choice_goes g has alive n lives ready scope active ty 32 test first second word h k m c (value_follows g has alive n lives ready scope active true (bits_of (kind_of test)) test h c.condition) (value_follows g has alive n lives ready scope active true 32 first k c.one)
+      (value_follows g has alive n lives ready scope active true 32 second m c.other) d s st (Put d s) own free here sim (dest ty.elem d s word.1 free) (put_lands g has alive x info living scalar d s own))
+
   computed_follows : (e : TExpr) → IsIn e → HasCode g.typed g.instance n e → Puts (λ st. evaluated scope e active st) (λ d. computed_to g.typed (layout g) (O.Scalar own) e d)
-  unfolding computed_to evaluated IsIn moved bits_for binary_to
+  unfolding computed_to evaluated IsIn moved bits_for binary_to logical_to
   computed_follows (T.Number ty value) h c = copied_to ty.elem h.0.1 _ _ (operand g has alive n lives ready scope active true 32 (T.Number ty value) h c)
   computed_follows (T.PositionsOf ty shape value) h c = copied_to ty.elem h.0.1 _ _ (operand g has alive n lives ready scope active true 32 (T.PositionsOf ty shape value) h c)
   computed_follows (T.RankOf ty shape value) h c = copied_to ty.elem h.0.1 _ _ (operand g has alive n lives ready scope active true 32 (T.RankOf ty shape value) h c)
@@ -184,6 +197,9 @@ module _ (g : Setting) (has : HasRegisters g) (alive : Variable → Type 0) (n :
       unchanged ty p operand h.0 d s st (put_converted ty (type_of operand).elem h.0 (word_type operand h.1).1 _ _ (computed_follows operand h.1 (convert_code g has alive n lives ready scope active ty p operand c)) d s st free here sim)
   computed_follows (T.Unary' ty op p inner) h c = unary_put ty op p inner h.0 h.1 (unary_code g has alive n lives ready scope active ty op p inner c) (computed_follows inner h.1 (unary_code g has alive n lives ready scope active ty op p inner c))
   computed_follows (T.Binary' ty place op p left q right) h c = binary_put ty place op left right h.0 h.1 h.2 (left_code g has alive n lives ready scope active ty place op p q left right c) (right_code g has alive n lives ready scope active ty place op p q left right c)
+  computed_follows (T.LogicalOr' ty p left q right) h c = copied_to ty.elem h.0.1 _ _ (operand g has alive n lives ready scope active true 32 (T.LogicalOr' ty p left q right) h c)
+  computed_follows (T.LogicalAnd' ty p left q right) h c = copied_to ty.elem h.0.1 _ _ (operand g has alive n lives ready scope active true 32 (T.LogicalAnd' ty p left q right) h c)
+  computed_follows (T.Choice' ty p test q first r second) h c = choice_put ty p q r test first second h.0 h.1 h.2 h.3 (choice_parts g has alive n lives ready scope active ty p q r test first second c)
   computed_follows _ h c = absurd h
 
   -- a constant goes to the register at once

@@ -1,6 +1,7 @@
 -- Numbers of 32 bits and the words that hold them, and constants.
-use Rattle.std.proofs.Common.{◌≡◌, ◌∙◌, ℕ, ◌<◌, ◌^◌, ◌==◌, true, not, ◌&&◌, Bool, false, Option, Some, None, refl, sym, ap, subst, if◌then◌else◌}
+use Rattle.std.proofs.Common.{◌≡◌, ◌∙◌, ℕ, ◌<◌, ◌^◌, ◌==◌, true, not, ◌&&◌, Bool, false, Option, Some, None, refl, sym, ap, subst, if◌then◌else◌, arith}
 use Rattle.std.specs.Prelude.{IfSome, is_none}
+use Rattle.std.specs.Int.{from_bool}
 use Rattle.cstar_base.specs.declared.elem.Elem.{Elem}
 use Rattle.cstar_base.specs.Numbers.{converted, number_of, residue, truth_of}
 use Rattle.cstar_base.proofs.NumberLaws.{residue_of_number}
@@ -8,11 +9,12 @@ use Rattle.cstar_tree.specs.declared.typed.TExpr.{TExpr}
 use Rattle.cstar_tree.specs.declared.typed.TExpr as T
 use Rattle.cstar_tree.specs.declared.typed.ValueType.{ValueType}
 use Rattle.cstar_tree.specs.Typed.{type_of}
-use Rattle.constant_trees.proofs.Words.{converted_below, operate_below, unary_below}
+use Rattle.constant_trees.proofs.Words.{converted_below, from_bool_below, operate_below, unary_below}
 use Rattle.lower_expr.specs.Operands.{is_quiet}
 use Rattle.lower_expr.specs.Steps.{is_kept}
 use Rattle.source_meaning.specs.Constants.{then_value, value_of}
 use Rattle.source_meaning.specs.Reductions.{int_type}
+use Rattle.source_meaning.specs.Values.{nonzero}
 use Rattle.code_follows.specs.Fragment.{IsIn, IsWord}
 use Rattle.code_follows.proofs.Following.{held}
 
@@ -46,6 +48,9 @@ word_type (T.Brackets' ty p inner) h = subst (λ (y : ValueType). IsWord y) (sym
 word_type (T.Convert' ty p operand) h = h.0
 word_type (T.Unary' ty op p operand) h = h.0
 word_type (T.Binary' ty place op p left q right) h = h.0
+word_type (T.LogicalOr' ty p left q right) h = h.0
+word_type (T.LogicalAnd' ty p left q right) h = h.0
+word_type (T.Choice' ty p test q first r second) h = h.0
 word_type _ h = absurd h
 
 none_is : (o : Option ℕ) → o ≡ None → is_none o ≡ true
@@ -62,12 +67,27 @@ kept (T.Brackets' ty p inner) h = kept inner h.1
 kept (T.Convert' ty p operand) h = kept operand h.1
 kept (T.Unary' ty op p operand) h = none_is ty.shape h.0.0
 kept (T.Binary' ty place op p left q right) h = none_is ty.shape h.0.0
+kept (T.LogicalOr' ty p left q right) h = none_is ty.shape h.0.0
+kept (T.LogicalAnd' ty p left q right) h = none_is ty.shape h.0.0
+kept (T.Choice' ty p test q first r second) h = none_is ty.shape h.0.0
 kept _ h = absurd h
 
 -- the value of a constant is a word
 then_below : (o : Option ℕ) (next : ℕ → Option ℕ) → IfSome o (λ v. v < 2 ^ 32) → ((v : ℕ) → v < 2 ^ 32 → IfSome (next v) (λ w. w < 2 ^ 32)) → IfSome (then_value o next) (λ w. w < 2 ^ 32)
 then_below None next h f = tt
 then_below (Some v) next h f = f v h
+
+or_below : (b : Bool) (o : Option ℕ) → IfSome o (λ v. v < 2 ^ 32) → IfSome (if b then Some 1 else then_value o (λ w. Some (from_bool (nonzero w)))) (λ w. w < 2 ^ 32)
+or_below true o h = omega arith
+or_below false o h = then_below o _ h (λ w few. from_bool_below (nonzero w))
+
+and_below : (b : Bool) (o : Option ℕ) → IfSome o (λ v. v < 2 ^ 32) → IfSome (if b then then_value o (λ w. Some (from_bool (nonzero w))) else Some 0) (λ w. w < 2 ^ 32)
+and_below true o h = then_below o _ h (λ w few. from_bool_below (nonzero w))
+and_below false o h = omega arith
+
+either_below : (b : Bool) (o p : Option ℕ) → IfSome o (λ v. v < 2 ^ 32) → IfSome p (λ v. v < 2 ^ 32) → IfSome (if b then o else p) (λ w. w < 2 ^ 32)
+either_below true o p h k = h
+either_below false o p h k = k
 
 pub constant_below : (e : TExpr) → IsIn e → IfSome (value_of e) (λ v. v < 2 ^ 32)
 unfolding IsIn value_of
@@ -82,6 +102,9 @@ constant_below (T.Convert' ty p operand) h =
 constant_below (T.Unary' ty op p operand) h = then_below (value_of operand) _ (constant_below operand h.1) (λ v few. unary_below op v few)
 constant_below (T.Binary' ty place op p left q right) h =
     then_below (value_of left) _ (constant_below left h.1) (λ v few. then_below (value_of right) _ (constant_below right h.2) (λ w small. operate_below op (not (type_of left).elem.signed) v w few small))
+constant_below (T.LogicalOr' ty p left q right) h = then_below (value_of left) _ (constant_below left h.1) (λ v few. or_below (nonzero v) (value_of right) (constant_below right h.2))
+constant_below (T.LogicalAnd' ty p left q right) h = then_below (value_of left) _ (constant_below left h.1) (λ v few. and_below (nonzero v) (value_of right) (constant_below right h.2))
+constant_below (T.Choice' ty p test q first r second) h = then_below (value_of test) _ (constant_below test h.1) (λ v few. either_below (nonzero v) (value_of first) (value_of second) (constant_below first h.2) (constant_below second h.3))
 constant_below _ h = absurd h
 
 both : (a b : Bool) → a ≡ true → b ≡ true → (a && b) ≡ true
@@ -101,4 +124,8 @@ in_quiet (T.Brackets' ty p inner) h = in_quiet inner h.1
 in_quiet (T.Convert' ty p operand) h = in_quiet operand h.1
 in_quiet (T.Unary' ty op p operand) h = in_quiet operand h.1
 in_quiet (T.Binary' ty place op p left q right) h = both (is_quiet left) (is_quiet right) (in_quiet left h.1) (in_quiet right h.2)
+in_quiet (T.LogicalOr' ty p left q right) h = both (is_quiet left) (is_quiet right) (in_quiet left h.1) (in_quiet right h.2)
+in_quiet (T.LogicalAnd' ty p left q right) h = both (is_quiet left) (is_quiet right) (in_quiet left h.1) (in_quiet right h.2)
+in_quiet (T.Choice' ty p test q first r second) h =
+    both (is_quiet test && is_quiet first) (is_quiet second) (both (is_quiet test) (is_quiet first) (in_quiet test h.1) (in_quiet first h.2)) (in_quiet second h.3)
 in_quiet _ h = absurd h

@@ -27,6 +27,9 @@ IsIn (T.Brackets' ty p inner) = (ty ≡ type_of inner) × IsIn inner
 IsIn (T.Convert' ty p operand) = IsWord ty × IsIn operand
 IsIn (T.Unary' ty op p operand) = IsWord ty × IsIn operand
 IsIn (T.Binary' ty place op p left q right) = IsWord ty × IsIn left × IsIn right
+IsIn (T.LogicalOr' ty p left q right) = IsWord ty × IsIn left × IsIn right
+IsIn (T.LogicalAnd' ty p left q right) = IsWord ty × IsIn left × IsIn right
+IsIn (T.Choice' ty p test q first r second) = IsWord ty × IsIn test × IsIn first × IsIn second
 IsIn _ = ⊥
 
 -- a scalar variable of 32 bits, as it is used
