@@ -1,5 +1,5 @@
 -- Numbers of 32 bits and the words that hold them, and constants.
-use Rattle.std.proofs.Common.{◌≡◌, ◌∙◌, ℕ, ◌<◌, ◌^◌, ◌==◌, true, not, ◌&&◌, Bool, false, Option, Some, None, refl, sym, ap, subst, if◌then◌else◌}
+use Rattle.std.proofs.Common.{◌≡◌, ◌∙◌, ℕ, ◌<◌, ◌^◌, ◌==◌, true, not, Option, Some, None, refl, sym, ap, subst, if◌then◌else◌}
 use Rattle.std.specs.Prelude.{IfSome, is_none}
 use Rattle.cstar_base.specs.declared.elem.Elem.{Elem}
 use Rattle.cstar_base.specs.Numbers.{converted, number_of, residue, truth_of}
@@ -9,7 +9,6 @@ use Rattle.cstar_tree.specs.declared.typed.TExpr as T
 use Rattle.cstar_tree.specs.declared.typed.ValueType.{ValueType}
 use Rattle.cstar_tree.specs.Typed.{type_of}
 use Rattle.constant_trees.proofs.Words.{converted_below, operate_below, unary_below}
-use Rattle.lower_expr.specs.Operands.{is_quiet}
 use Rattle.lower_expr.specs.Steps.{is_kept}
 use Rattle.source_meaning.specs.Constants.{then_value, value_of}
 use Rattle.source_meaning.specs.Reductions.{int_type}
@@ -83,22 +82,3 @@ constant_below (T.Unary' ty op p operand) h = then_below (value_of operand) _ (c
 constant_below (T.Binary' ty place op p left q right) h =
     then_below (value_of left) _ (constant_below left h.1) (λ v few. then_below (value_of right) _ (constant_below right h.2) (λ w small. operate_below op (not (type_of left).elem.signed) v w few small))
 constant_below _ h = absurd h
-
-both : (a b : Bool) → a ≡ true → b ≡ true → (a && b) ≡ true
-both true true h k = refl
-both false b h k = cc
-both true false h k = cc
-
--- what is of the fragment has no effects
-pub in_quiet : (e : TExpr) → IsIn e → is_quiet e ≡ true
-unfolding IsIn is_quiet
-in_quiet (T.Number ty value) h = refl
-in_quiet (T.PositionsOf ty shape value) h = refl
-in_quiet (T.RankOf ty shape value) h = refl
-in_quiet (T.DimOf ty shape axis value) h = refl
-in_quiet (T.Variable ty x) h = refl
-in_quiet (T.Brackets' ty p inner) h = in_quiet inner h.1
-in_quiet (T.Convert' ty p operand) h = in_quiet operand h.1
-in_quiet (T.Unary' ty op p operand) h = in_quiet operand h.1
-in_quiet (T.Binary' ty place op p left q right) h = both (is_quiet left) (is_quiet right) (in_quiet left h.1) (in_quiet right h.2)
-in_quiet _ h = absurd h
