@@ -22,12 +22,14 @@ use Rattle.lower_stmt.specs.Variables.{all_cleared, all_initialised, begins_cons
 use Rattle.lower_expr.specs.Effects.{put_to}
 use Rattle.lower_expr.specs.Steps.{has_word}
 use Rattle.paris_code.specs.declared.instr.Instr.TheVariants as I
+use Rattle.paris_code.specs.Code as Machine
 use Rattle.paris_code.specs.Code.{CodeState, begun, with_register}
 use Rattle.source_meaning.specs.State as Source
 use Rattle.source_meaning.specs.State.{Outcome, State, is_among, is_same, with_scalar, zeroed}
 use Rattle.source_meaning.specs.Statements.{Onward, initialised, initialised_one, then_go}
 use Rattle.source_meaning.specs.Targets.{variable_target}
 use Rattle.source_meaning.specs.Values.{Active, Scope}
+use Rattle.code_follows.specs.Agreement.{AreBytes}
 use Rattle.code_follows.specs.Fragment.{IsFreshLocal}
 use Rattle.code_follows.proofs.Executing.{ran_from}
 use Rattle.code_follows.proofs.Following.{HasRegisters, IsScalar, Keeps, Ran, Sim, held, input_of, keeps_all}
@@ -73,6 +75,7 @@ module _ (g : Setting) (has : HasRegisters g) (alive : Variable → Type 0) (eve
     turns = h.turns ∙ sym turns;
     output = h.output ∙ sym output;
     input = h.input ∙ sym input;
+    bytes = subst (λ (i : Machine.Rest). AreBytes i.bytes) (sym input) h.bytes;
   }
 
   -- the first of variables that stand from a number on, and the others

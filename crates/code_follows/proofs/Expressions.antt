@@ -43,6 +43,7 @@ use Rattle.source_meaning.specs.State.{Outcome, State, then_do}
 use Rattle.source_meaning.specs.Values.{Active, Scalar, Scope, Value, at, convert_to, unary_of}
 use Rattle.source_meaning.proofs.ConstantLaws.{Boxed, value_means}
 use Rattle.code_follows.specs.Fragment.{IsIn, IsWord}
+use Rattle.code_follows.proofs.Bytes.{byte_follows}
 use Rattle.code_follows.proofs.Following.{Arrives, Extends, Follows, HasRegisters, IsScalar, held, keeps_all, then_follows, then_gives}
 use Rattle.code_follows.proofs.Settings.{Setting, layout, stay}
 use Rattle.code_follows.proofs.Values.{Does, Value_of, binary_follows, constant_follows, conversion_is, extends_grown, mapped_is, read_is, rewrapped, unary_follows, variable_follows}
@@ -121,6 +122,7 @@ module _ (g : Setting) (has : HasRegisters g) (alive : Variable → Type 0) (n :
             small = few;
             same = held_wide ty.elem (converted ty.elem (type_of operand).elem o.word) h.0.1 few ∙ held_converted ty.elem (type_of operand).elem o.word h.0.1 ∙ o.same;
           }
+  own_is bits (T.GetChar ty) own st h v small is = cc
   own_is bits (T.Number ty value) own st h v small is = cc
   own_is bits (T.PositionsOf ty shape value) own st h v small is = cc
   own_is bits (T.RankOf ty shape value) own st h v small is = cc
@@ -300,6 +302,7 @@ module _ (g : Setting) (has : HasRegisters g) (alive : Variable → Type 0) (n :
   value_follows quiet bits (T.Variable ty x) h c = λ d s st free here sim.
       let v = named ty x c in
       variable_follows g has alive quiet bits n ty x d s st h v (lives x v.declared) free here sim
+  value_follows quiet bits (T.GetChar ty) h c = byte_follows g has alive ty.elem quiet h.1
   value_follows quiet bits (T.Brackets' ty p inner) h c = bracketed ty inner quiet _ _ h.0 (value_follows quiet bits inner h.1 (brackets_code ty p inner c))
   value_follows quiet bits (T.Convert' ty p operand) h c =
       converts ty quiet bits p operand (kept operand h.1) (conversion_follows ty quiet (type_of operand).elem _ _ h.0 (value_follows quiet bits operand h.1 (convert_code ty p operand c)))

@@ -1,6 +1,7 @@
 pub mod Assigning
 pub mod Beginnings
 pub mod Bodies
+pub mod Bytes
 pub mod Choices
 pub mod Closed
 pub mod ConstantRegisters

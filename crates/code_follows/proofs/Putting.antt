@@ -43,6 +43,7 @@ use Rattle.source_meaning.specs.Targets.{read, variable_target}
 use Rattle.source_meaning.specs.Values.{Active, Scalar, Scope, Value, at, convert_to, unary_of}
 use Rattle.source_meaning.proofs.ConstantLaws.{Boxed, value_means}
 use Rattle.code_follows.specs.Fragment.{IsIn, IsWord}
+use Rattle.code_follows.proofs.Bytes.{byte_put}
 use Rattle.code_follows.proofs.Expressions.{brackets_code, convert_code, left_code, named, operand, operand_grows, right_code, unary_code}
 use Rattle.code_follows.proofs.Following.{Arrives, Extends, Follows, HasRegisters, IsScalar, Sim, held, keeps_all, then_follows, then_gives}
 use Rattle.code_follows.proofs.Operators.{wide_signed}
@@ -173,12 +174,13 @@ module _ (g : Setting) (has : HasRegisters g) (alive : Variable → Type 0) (n :
       negated_follows g has alive ty U.Not (type_of inner).elem (word_type inner isin).1 word refl d s (Put d s) own free (dest ty.elem d s word.1 free) st _ (λ u. evaluated scope inner active u) (operand g has alive n lives ready scope active true (unary_bits 32 U.Not inner) inner isin c) here sim
 
   computed_follows : (e : TExpr) → IsIn e → HasCode g.typed g.instance n e → Puts (λ st. evaluated scope e active st) (λ d. computed_to g.typed (layout g) (O.Scalar own) e d)
-  unfolding computed_to evaluated IsIn moved bits_for binary_to
+  unfolding computed_to evaluated IsIn moved bits_for binary_to in_register
   computed_follows (T.Number ty value) h c = copied_to ty.elem h.0.1 _ _ (operand g has alive n lives ready scope active true 32 (T.Number ty value) h c)
   computed_follows (T.PositionsOf ty shape value) h c = copied_to ty.elem h.0.1 _ _ (operand g has alive n lives ready scope active true 32 (T.PositionsOf ty shape value) h c)
   computed_follows (T.RankOf ty shape value) h c = copied_to ty.elem h.0.1 _ _ (operand g has alive n lives ready scope active true 32 (T.RankOf ty shape value) h c)
   computed_follows (T.DimOf ty shape axis value) h c = copied_to ty.elem h.0.1 _ _ (operand g has alive n lives ready scope active true 32 (T.DimOf ty shape axis value) h c)
   computed_follows (T.Variable ty y) h c = variable_put ty y h (named g has alive n lives ready scope active ty y c)
+  computed_follows (T.GetChar ty) h c = λ d s st free here sim. byte_put g has alive x info living scalar also d s st free here sim
   computed_follows (T.Brackets' ty p inner) h c = computed_follows inner h.1 (brackets_code g has alive n lives ready scope active ty p inner c)
   computed_follows (T.Convert' ty p operand) h c = λ d s st free here sim.
       unchanged ty p operand h.0 d s st (put_converted ty (type_of operand).elem h.0 (word_type operand h.1).1 _ _ (computed_follows operand h.1 (convert_code g has alive n lives ready scope active ty p operand c)) d s st free here sim)

@@ -18,12 +18,14 @@ use Rattle.lower_stmt.specs.Statements.{ends_in_return}
 abbrev pub IsWord : ValueType → Type 0
 IsWord ty = (ty.shape ≡ None) × (ty.elem.bits ≡ 32)
 
+-- an expression whose value is used: of numbers, variables, `getchar` and operators
 unfoldable pub IsIn : TExpr → Type 0
 IsIn (T.Number ty value) = IsWord ty × (value < 2 ^ 32)
 IsIn (T.PositionsOf ty shape value) = IsWord ty × (value < 2 ^ 32)
 IsIn (T.RankOf ty shape value) = IsWord ty × (value < 2 ^ 32)
 IsIn (T.DimOf ty shape axis value) = IsWord ty × (value < 2 ^ 32)
 IsIn (T.Variable ty x) = IsWord ty
+IsIn (T.GetChar ty) = IsWord ty
 IsIn (T.Brackets' ty p inner) = (ty ≡ type_of inner) × IsIn inner
 IsIn (T.Convert' ty p operand) = IsWord ty × IsIn operand
 IsIn (T.Unary' ty op p operand) = IsWord ty × IsIn operand
