@@ -160,6 +160,7 @@ module _ (g : Setting) (alive : Variable → Type 0) where
     gives (T.GetChar ty) h = tt
     gives (T.Brackets' ty p inner) h = gives inner h.1
     gives (T.Convert' ty p operand) h = tt
+    gives (T.Casts' ty elems p operand) h = tt
     gives (T.Unary' ty op p operand) h = tt
     gives (T.Binary' ty place op p left q right) h = tt
     gives _ h = absurd h

@@ -1,5 +1,5 @@
 -- The code of every expression of the fragment gives its value, as a value and as an operand.
-use Rattle.std.proofs.Common.{◌≡◌, ◌∙◌, ℕ, ◌<◌, ◌-◌, ◌^◌, ◌==◌, Bool, true, false, Option, Some, None, refl, sym, ap, subst, if◌then◌else◌}
+use Rattle.std.proofs.Common.{◌≡◌, ◌∙◌, ℕ, ◌<◌, ◌-◌, ◌^◌, ◌==◌, Bool, true, false, Vec, Global, Option, Some, None, refl, sym, ap, subst, if◌then◌else◌}
 use Rattle.std.specs.Prelude.{IfSome, is_none, ◌||◌, nat_le, nat_lt}
 use Rattle.cstar_base.specs.declared.elem.Elem.{Elem}
 use Rattle.cstar_base.specs.declared.operators.Op.{Op}
@@ -24,7 +24,7 @@ use Rattle.constant_trees.proofs.Words.{converted_below}
 use Rattle.lower_base.specs.declared.emit.Out.{Out}
 use Rattle.lower_base.specs.declared.emit.Out.TheVariants as O
 use Rattle.lower_base.specs.Constants.{constant_register}
-use Rattle.lower_base.specs.Drafts.{Draft, Made, Makes, first_bits, then_make, with_instr}
+use Rattle.lower_base.specs.Drafts.{Draft, Fails, Made, Makes, first_bits, then_make, with_instr}
 use Rattle.lower_base.specs.Layouts.{Layout, field_of, register_of}
 use Rattle.lower_expr.specs.declared.operands.Own.{Own}
 use Rattle.lower_expr.specs.Kinds.{is_unchanged, operand_bits, unary_bits}
@@ -44,6 +44,8 @@ use Rattle.source_meaning.specs.Values.{Active, Scalar, Scope, Value, at, conver
 use Rattle.source_meaning.proofs.ConstantLaws.{Boxed, value_means}
 use Rattle.code_follows.specs.Fragment.{IsIn, IsWord}
 use Rattle.code_follows.proofs.Bytes.{byte_follows}
+use Rattle.code_follows.proofs.Casts.{casts_follow, fresh_casts}
+use Rattle.code_follows.proofs.Fresh.{IsFresh, fresh_binary, fresh_byte, fresh_constant, fresh_unary, fresh_variable}
 use Rattle.code_follows.proofs.Following.{Arrives, Extends, Follows, HasRegisters, IsScalar, held, keeps_all, then_follows, then_gives}
 use Rattle.code_follows.proofs.Settings.{Setting, layout, stay}
 use Rattle.code_follows.proofs.Values.{Does, Value_of, binary_follows, constant_follows, conversion_is, extends_grown, mapped_is, read_is, rewrapped, unary_follows, variable_follows}
@@ -123,6 +125,7 @@ module _ (g : Setting) (has : HasRegisters g) (alive : Variable → Type 0) (n :
             same = held_wide ty.elem (converted ty.elem (type_of operand).elem o.word) h.0.1 few ∙ held_converted ty.elem (type_of operand).elem o.word h.0.1 ∙ o.same;
           }
   own_is bits (T.GetChar ty) own st h v small is = cc
+  own_is bits (T.Casts' ty elems p operand) own st h v small is = cc
   own_is bits (T.Number ty value) own st h v small is = cc
   own_is bits (T.PositionsOf ty shape value) own st h v small is = cc
   own_is bits (T.RankOf ty shape value) own st h v small is = cc
@@ -256,6 +259,10 @@ module _ (g : Setting) (has : HasRegisters g) (alive : Variable → Type 0) (n :
   unfolding IsShaped IsLowerable NamesVariables
   convert_code ty p operand h = record { shaped = h.shaped.1; lowerable = h.lowerable.1; names = h.names }
 
+  pub casts_code : (ty : ValueType) (elems : Vec Elem Global) (p : Boxed) (operand : TExpr) → HasCode g.typed g.instance n (T.Casts' ty elems p operand) → HasCode g.typed g.instance n operand
+  unfolding IsShaped IsLowerable NamesVariables
+  casts_code ty elems p operand h = record { shaped = h.shaped.1; lowerable = h.lowerable.1; names = h.names }
+
   pub left_code : (ty : ValueType) (place : Place) (op : Op) (p q : Boxed) (left right : TExpr) → HasCode g.typed g.instance n (T.Binary' ty place op p left q right) → HasCode g.typed g.instance n left
   unfolding IsShaped IsLowerable NamesVariables
   left_code ty place op p q left right h = record { shaped = h.shaped.0; lowerable = h.lowerable.2; names = h.names.0 }
@@ -290,6 +297,37 @@ module _ (g : Setting) (has : HasRegisters g) (alive : Variable → Type 0) (n :
   unary_value ty quiet bits U.Complement operand word wide value does = unary_follows g has alive ty U.Complement (type_of operand).elem wide word refl quiet (λ e. value_of g.typed (layout g) bits operand e) (λ e. operand_by g.typed (layout g) (unary_bits bits U.Complement operand) (value_of g.typed (layout g) (unary_bits bits U.Complement operand) operand) true operand e) (λ st. evaluated scope operand active st) bits does
   unary_value ty quiet bits U.Not operand word wide value does = unary_follows g has alive ty U.Not (type_of operand).elem wide word refl quiet (λ e. value_of g.typed (layout g) bits operand e) (λ e. operand_by g.typed (layout g) (unary_bits bits U.Not operand) (value_of g.typed (layout g) (unary_bits bits U.Not operand) operand) true operand e) (λ st. evaluated scope operand active st) bits does
 
+  -- the register of a value is a fresh one
+  fresh_converted : (ty : ValueType) (bits : ℕ) (p : Boxed) (operand : TExpr) → ty.elem.bits ≡ 32 → is_kept operand ≡ true → (d : Draft) → IsFresh d (value_of g.typed (layout g) bits operand d) → IsFresh d (value_of g.typed (layout g) bits (T.Convert' ty p operand) d)
+  unfolding value_of register_cast_by then_make IsFresh converted_in_place
+  fresh_converted ty bits p operand wide is d fresh =
+      subst (λ (made : Made Out). IsFresh d made)
+      (sym (ap (λ (b : Bool). if b then register_cast_by ty.elem (λ e. value_of g.typed (layout g) bits operand e) d else cast_from g.typed (layout g) bits ty operand (λ e. truth_of g.typed (layout g) operand e) (λ m e. value_of g.typed (layout g) m operand e) d) is))
+      (by (value_of g.typed (layout g) bits operand d) fresh)
+    where
+      by : (made : Made Out) → IsFresh d made → IsFresh d (then_make made (λ v after. converted_in_place v ty.elem after))
+      by (Makes (O.Scalar r) e) h = subst (λ (made : Made Out). IsFresh d made) (sym (unconverted ty.elem (O.Scalar r) e wide (λ x. cc))) h
+      by (Makes (O.Field f) e) h = subst (λ (made : Made Out). IsFresh d made) (sym (unconverted ty.elem (O.Field f) e wide (λ x. cc))) tt
+      by (Makes O.Nothing e) h = tt
+      by Fails h = tt
+
+  fresh_value : (bits : ℕ) (e : TExpr) → IsIn e → HasCode g.typed g.instance n e → (d : Draft) → IsFresh d (value_of g.typed (layout g) bits e d)
+  unfolding value_of IsIn
+  fresh_value bits (T.Number ty value) h c d = fresh_constant g has alive value d
+  fresh_value bits (T.PositionsOf ty shape value) h c d = fresh_constant g has alive value d
+  fresh_value bits (T.RankOf ty shape value) h c d = fresh_constant g has alive value d
+  fresh_value bits (T.DimOf ty shape axis value) h c d = fresh_constant g has alive value d
+  fresh_value bits (T.Variable ty x) h c d = fresh_variable g has alive ty x bits d h.0
+  fresh_value bits (T.GetChar ty) h c d = fresh_byte g has alive d
+  fresh_value bits (T.Brackets' ty p inner) h c d = fresh_value bits inner h.1 (brackets_code ty p inner c) d
+  fresh_value bits (T.Convert' ty p operand) h c d = fresh_converted ty bits p operand h.0.1 (kept operand h.1) d (fresh_value bits operand h.1 (convert_code ty p operand c) d)
+  fresh_value bits (T.Casts' ty elems p operand) h c d = fresh_casts g has alive ty false elems.items (type_of operand).elem h.0 h.1 (λ e. value_of g.typed (layout g) bits operand e) d (fresh_value bits operand h.2 (casts_code ty elems p operand c) d)
+  fresh_value bits (T.Unary' ty op p operand) h c d =
+      fresh_unary g has alive ty bits op (λ e. value_of g.typed (layout g) bits operand e) _ d h.0.0 (fresh_value bits operand h.1 (unary_code ty op p operand c) d) (operand_grows true (unary_bits bits op operand) operand (unary_code ty op p operand c))
+  fresh_value bits (T.Binary' ty place op p left q right) h c d =
+      fresh_binary g has alive ty bits op place _ _ left right d h.0.0 (operand_grows (is_quiet right) (operand_bits bits op left right) left (left_code ty place op p q left right c)) (operand_grows true (operand_bits bits op left right) right (right_code ty place op p q left right c))
+  fresh_value bits _ h c d = absurd h
+
   operand_value : (quiet : Bool) (bits : ℕ) (e : TExpr) → IsIn e → HasCode g.typed g.instance n e → Agrees quiet bits e → Does g has alive (type_of e).elem quiet (λ st. evaluated scope e active st) (λ d. operand_by g.typed (layout g) bits (value_of g.typed (layout g) bits e) quiet e d)
   operand_value quiet bits e h c agrees = operand_follows quiet bits e (λ d. value_of g.typed (layout g) bits e d) h c.names agrees
 
@@ -306,6 +344,9 @@ module _ (g : Setting) (has : HasRegisters g) (alive : Variable → Type 0) (n :
   value_follows quiet bits (T.Brackets' ty p inner) h c = bracketed ty inner quiet _ _ h.0 (value_follows quiet bits inner h.1 (brackets_code ty p inner c))
   value_follows quiet bits (T.Convert' ty p operand) h c =
       converts ty quiet bits p operand (kept operand h.1) (conversion_follows ty quiet (type_of operand).elem _ _ h.0 (value_follows quiet bits operand h.1 (convert_code ty p operand c)))
+  value_follows quiet bits (T.Casts' ty elems p operand) h c =
+      let part = casts_code ty elems p operand c in
+      casts_follow g has alive ty quiet elems.items (type_of operand).elem h.0 h.1 (λ d. value_of g.typed (layout g) bits operand d) (λ st. evaluated scope operand active st) (λ d. fresh_value bits operand h.2 part d) (value_follows false bits operand h.2 part)
   value_follows quiet bits (T.Unary' ty op p operand) h c =
       unary_value ty quiet bits op operand h.0 (word_type operand h.1).1 (value_follows quiet bits operand h.1 (unary_code ty op p operand c)) (operand_value true (unary_bits bits op operand) operand h.1 (unary_code ty op p operand c) (value_follows true (unary_bits bits op operand) operand h.1 (unary_code ty op p operand c)))
   value_follows quiet bits (T.Binary' ty place op p left q right) h c =

@@ -2,6 +2,7 @@ pub mod Assigning
 pub mod Beginnings
 pub mod Bodies
 pub mod Bytes
+pub mod Casts
 pub mod Choices
 pub mod Closed
 pub mod ConstantRegisters
@@ -12,6 +13,7 @@ pub mod Executing
 pub mod Expressions
 pub mod Following
 pub mod ForLoops
+pub mod Fresh
 pub mod Jumping
 pub mod Loops
 pub mod Openings

@@ -184,6 +184,7 @@ module _ (g : Setting) (has : HasRegisters g) (alive : Variable → Type 0) (n :
   computed_follows (T.Brackets' ty p inner) h c = computed_follows inner h.1 (brackets_code g has alive n lives ready scope active ty p inner c)
   computed_follows (T.Convert' ty p operand) h c = λ d s st free here sim.
       unchanged ty p operand h.0 d s st (put_converted ty (type_of operand).elem h.0 (word_type operand h.1).1 _ _ (computed_follows operand h.1 (convert_code g has alive n lives ready scope active ty p operand c)) d s st free here sim)
+  computed_follows (T.Casts' ty elems p inner) h c = copied_to ty.elem h.0.1 _ _ (operand g has alive n lives ready scope active true 32 (T.Casts' ty elems p inner) h c)
   computed_follows (T.Unary' ty op p inner) h c = unary_put ty op p inner h.0 h.1 (unary_code g has alive n lives ready scope active ty op p inner c) (computed_follows inner h.1 (unary_code g has alive n lives ready scope active ty op p inner c))
   computed_follows (T.Binary' ty place op p left q right) h c = binary_put ty place op left right h.0 h.1 h.2 (left_code g has alive n lives ready scope active ty place op p q left right c) (right_code g has alive n lives ready scope active ty place op p q left right c)
   computed_follows _ h c = absurd h

@@ -1,5 +1,5 @@
 -- Numbers of 32 bits and the words that hold them, and constants.
-use Rattle.std.proofs.Common.{◌≡◌, ◌∙◌, ℕ, ◌<◌, ◌^◌, ◌==◌, true, not, Option, Some, None, refl, sym, ap, subst, if◌then◌else◌}
+use Rattle.std.proofs.Common.{◌≡◌, ◌∙◌, ℕ, ◌<◌, ◌^◌, ◌==◌, true, not, List, [], ◌∷◌, Option, Some, None, refl, sym, ap, subst, if◌then◌else◌}
 use Rattle.std.specs.Prelude.{IfSome, is_none}
 use Rattle.cstar_base.specs.declared.elem.Elem.{Elem}
 use Rattle.cstar_base.specs.Numbers.{converted, number_of, residue, truth_of}
@@ -12,11 +12,12 @@ use Rattle.constant_trees.proofs.Words.{converted_below, operate_below, unary_be
 use Rattle.lower_expr.specs.Steps.{is_kept}
 use Rattle.source_meaning.specs.Constants.{then_value, value_of}
 use Rattle.source_meaning.specs.Reductions.{int_type}
+use Rattle.source_meaning.specs.Values.{cast_through, cast_type}
 use Rattle.code_follows.specs.Fragment.{IsIn, IsWord}
 use Rattle.code_follows.proofs.Following.{held}
 
 -- a conversion to 32 bits takes the residue of the number
-wide_converted : (to from : Elem) (w : ℕ) → to.bits ≡ 32 → converted to from w ≡ residue 32 (number_of from.bits from.signed w)
+pub wide_converted : (to from : Elem) (w : ℕ) → to.bits ≡ 32 → converted to from w ≡ residue 32 (number_of from.bits from.signed w)
 unfolding converted
 wide_converted to from w wide = ap (λ (n : ℕ). if n == 1 then truth_of (number_of from.bits from.signed w) else residue n (number_of from.bits from.signed w)) wide
 
@@ -44,6 +45,7 @@ word_type (T.Variable ty x) h = h
 word_type (T.GetChar ty) h = h
 word_type (T.Brackets' ty p inner) h = subst (λ (y : ValueType). IsWord y) (sym h.0) (word_type inner h.1)
 word_type (T.Convert' ty p operand) h = h.0
+word_type (T.Casts' ty elems p operand) h = h.0
 word_type (T.Unary' ty op p operand) h = h.0
 word_type (T.Binary' ty place op p left q right) h = h.0
 word_type _ h = absurd h
@@ -61,9 +63,16 @@ kept (T.Variable ty x) h = none_is ty.shape h.0
 kept (T.GetChar ty) h = none_is ty.shape h.0
 kept (T.Brackets' ty p inner) h = kept inner h.1
 kept (T.Convert' ty p operand) h = kept operand h.1
+kept (T.Casts' ty elems p operand) h = none_is ty.shape h.0.0
 kept (T.Unary' ty op p operand) h = none_is ty.shape h.0.0
 kept (T.Binary' ty place op p left q right) h = none_is ty.shape h.0.0
 kept _ h = absurd h
+
+-- what a chain of casts gives is a number of its type
+pub through_below : (kinds : List Elem) (from : Elem) (w : ℕ) → w < 2 ^ from.bits → cast_through kinds from w < 2 ^ (cast_type kinds from).bits
+unfolding cast_through cast_type
+through_below [] from w few = few
+through_below (kind ∷ inner) from w few = converted_below kind (cast_type inner from) (cast_through inner from w)
 
 -- the value of a constant is a word
 then_below : (o : Option ℕ) (next : ℕ → Option ℕ) → IfSome o (λ v. v < 2 ^ 32) → ((v : ℕ) → v < 2 ^ 32 → IfSome (next v) (λ w. w < 2 ^ 32)) → IfSome (then_value o next) (λ w. w < 2 ^ 32)
@@ -81,6 +90,9 @@ constant_below (T.GetChar ty) h = tt
 constant_below (T.Brackets' ty p inner) h = constant_below inner h.1
 constant_below (T.Convert' ty p operand) h =
     then_below (value_of operand) _ (constant_below operand h.1) (λ v few. below_word ty.elem.bits (converted ty.elem (type_of operand).elem v) h.0.1 (converted_below ty.elem (type_of operand).elem v))
+constant_below (T.Casts' ty elems p operand) h =
+    let from : Elem = (type_of operand).elem in
+    then_below (value_of operand) _ (constant_below operand h.2) (λ v few. below_word (cast_type elems.items from).bits (cast_through elems.items from v) (ap (λ (e : Elem). e.bits) (sym h.1) ∙ h.0.1) (through_below elems.items from v (below_bits from.bits v (word_type operand h.2).1 few)))
 constant_below (T.Unary' ty op p operand) h = then_below (value_of operand) _ (constant_below operand h.1) (λ v few. unary_below op v few)
 constant_below (T.Binary' ty place op p left q right) h =
     then_below (value_of left) _ (constant_below left h.1) (λ v few. then_below (value_of right) _ (constant_below right h.2) (λ w small. operate_below op (not (type_of left).elem.signed) v w few small))
