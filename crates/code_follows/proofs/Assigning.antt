@@ -348,8 +348,10 @@ module _ (g : Setting) (has : HasRegisters g) (alive : Variable → Type 0) (n :
   in_effect (T.RankOf ty shape value) h = h
   in_effect (T.DimOf ty shape axis value) h = h
   in_effect (T.Variable ty x) h = h
+  in_effect (T.GetChar ty) h = h
   in_effect (T.Brackets' ty p inner) h = h
   in_effect (T.Convert' ty p operand) h = h
+  in_effect (T.Casts' ty elems p operand) h = h
   in_effect (T.Unary' ty op p operand) h = h
   in_effect (T.Binary' ty place op p left q right) h = h
   in_effect (T.LogicalOr' ty p left q right) h = h
@@ -376,6 +378,8 @@ module _ (g : Setting) (has : HasRegisters g) (alive : Variable → Type 0) (n :
   effect_follows (T.RankOf ty shape value) h c = pure_follows (T.RankOf ty shape value) h c
   effect_follows (T.DimOf ty shape axis value) h c = pure_follows (T.DimOf ty shape axis value) h c
   effect_follows (T.Variable ty x) h c = pure_follows (T.Variable ty x) h c
+  effect_follows (T.GetChar ty) h c = pure_follows (T.GetChar ty) h c
+  effect_follows (T.Casts' ty elems p operand) h c = pure_follows (T.Casts' ty elems p operand) h c
   effect_follows (T.Convert' ty p operand) h c = pure_follows (T.Convert' ty p operand) h c
   effect_follows (T.Unary' ty op p operand) h c = pure_follows (T.Unary' ty op p operand) h c
   effect_follows (T.Binary' ty place op p left q right) h c = pure_follows (T.Binary' ty place op p left q right) h c

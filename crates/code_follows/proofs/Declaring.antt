@@ -19,9 +19,11 @@ use Rattle.lower_base.specs.Drafts.{Draft, Made, Makes, step as step_of, then_ma
 use Rattle.lower_base.specs.Layouts.{entries_of, register_of}
 use Rattle.lower_stmt.specs.Variables.{all_cleared, begins_constant, cleared, cleared_fields, with_home}
 use Rattle.paris_code.specs.declared.instr.Instr.TheVariants as I
+use Rattle.paris_code.specs.Code as Machine
 use Rattle.paris_code.specs.Code.{CodeState, begun, with_register}
 use Rattle.source_meaning.specs.State.{State, is_among, is_same, with_scalar, zeroed}
 use Rattle.code_follows.specs.Fragment.{IsInLocal}
+use Rattle.code_follows.specs.Agreement.{AreBytes}
 use Rattle.code_follows.proofs.Executing.{ran_from}
 use Rattle.code_follows.proofs.Following.{HasRegisters, IsScalar, Keeps, Ran, Sim, held, input_of, keeps_all}
 use Rattle.code_follows.proofs.Settings.{At, Setting, Within, and_one, at_next, begins_here, earlier, layout, one, regs_more, stay}
@@ -83,6 +85,7 @@ module _ (g : Setting) where
     turns = h.turns ∙ sym turns;
     output = h.output ∙ sym output;
     input = h.input ∙ sym input;
+    bytes = subst (λ (i : Machine.Rest). AreBytes i.bytes) (sym input) h.bytes;
   }
 
   -- what holds of more variables holds of fewer
@@ -95,6 +98,7 @@ module _ (g : Setting) where
     turns = h.turns;
     output = h.output;
     input = h.input;
+    bytes = h.bytes;
   }
 
   ran_fewer : (more fewer : Variable → Type 0) (d : Draft) (s : CodeState) (u v : State) (e : Draft) → ((x : Variable) → fewer x → more x) → ((x : Variable) → v.scalar x ≡ u.scalar x) → v.turns ≡ u.turns → v.output ≡ u.output → input_of v ≡ input_of u
@@ -173,6 +177,7 @@ module _ (g : Setting) (has : HasRegisters g) where
         turns = sim.turns;
         output = sim.output;
         input = sim.input;
+        bytes = sim.bytes;
       }
         where
           not_it : (x : Variable) → (x ≡ V.Local n → ⊥) → (with_scalar (V.Local n) 0 st).scalar x ≡ st.scalar x

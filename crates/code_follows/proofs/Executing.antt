@@ -157,8 +157,10 @@ module _ (g : Setting) (alive : Variable → Type 0) where
     gives (T.RankOf ty shape value) h = tt
     gives (T.DimOf ty shape axis value) h = tt
     gives (T.Variable ty x) h = tt
+    gives (T.GetChar ty) h = tt
     gives (T.Brackets' ty p inner) h = gives inner h.1
     gives (T.Convert' ty p operand) h = tt
+    gives (T.Casts' ty elems p operand) h = tt
     gives (T.Unary' ty op p operand) h = tt
     gives (T.Binary' ty place op p left q right) h = tt
     gives (T.LogicalOr' ty p left q right) h = tt

@@ -1,5 +1,5 @@
 -- The code of every expression of the fragment gives its value, as a value and as an operand.
-use Rattle.std.proofs.Common.{◌≡◌, ◌∙◌, ℕ, ◌<◌, ◌≤◌, ◌-◌, ◌^◌, ◌==◌, Bool, true, false, length, Option, Some, None, refl, sym, ap, subst, if◌then◌else◌, arith}
+use Rattle.std.proofs.Common.{◌≡◌, ◌∙◌, ℕ, ◌<◌, ◌≤◌, ◌-◌, ◌^◌, ◌==◌, Bool, true, false, length, Option, Some, None, refl, sym, ap, subst, if◌then◌else◌, arith, Vec, Global}
 use Rattle.std.specs.Prelude.{IfSome, is_none, ◌||◌, nat_le, nat_lt}
 use Rattle.cstar_base.specs.declared.elem.Elem.{Elem}
 use Rattle.cstar_base.specs.declared.operators.Op.{Op}
@@ -25,7 +25,7 @@ use Rattle.lower_base.specs.declared.emit.Out.{Out}
 use Rattle.lower_base.specs.declared.emit.Out.TheVariants as O
 use Rattle.lower_base.specs.Constants.{constant_register, first_free}
 use Rattle.lower_base.specs.Kinds.{bits_of, kind_of}
-use Rattle.lower_base.specs.Drafts.{Draft, Made, Makes, first_bits, then_make, with_instr}
+use Rattle.lower_base.specs.Drafts.{Draft, Made, Makes, first_bits, then_make, with_instr, Fails}
 use Rattle.lower_base.specs.Layouts.{Layout, field_of, register_of}
 use Rattle.lower_expr.specs.declared.operands.Own.{Own}
 use Rattle.lower_expr.specs.Kinds.{is_unchanged, operand_bits, unary_bits}
@@ -53,6 +53,9 @@ use Rattle.code_follows.proofs.Following.{Arrives, Extends, Follows, HasRegister
 use Rattle.code_follows.proofs.Logical.{and_is, joined, logical_follows, or_is}
 use Rattle.code_follows.proofs.Settings.{At, Setting, layout, stay}
 use Rattle.code_follows.proofs.Values.{Dest, Does, Value_of, binary_follows, constant_follows, conversion_is, extends_grown, fresh_dest, mapped_is, read_is, rewrapped, unary_follows, variable_follows, with_reg}
+use Rattle.code_follows.proofs.Bytes.{byte_follows}
+use Rattle.code_follows.proofs.Casts.{casts_follow, fresh_casts}
+use Rattle.code_follows.proofs.Fresh.{IsFresh, fresh_binary, fresh_byte, fresh_choice, fresh_constant, fresh_logical, fresh_unary, fresh_variable}
 use Rattle.code_follows.proofs.Standing.{some_same}
 use Rattle.code_follows.proofs.Words.{below_bits, below_word, constant_below, held_converted, held_wide, kept, word_type}
 
@@ -128,6 +131,8 @@ module _ (g : Setting) (has : HasRegisters g) (alive : Variable → Type 0) (n :
             small = few;
             same = held_wide ty.elem (converted ty.elem (type_of operand).elem o.word) h.0.1 few ∙ held_converted ty.elem (type_of operand).elem o.word h.0.1 ∙ o.same;
           }
+  own_is bits (T.GetChar ty) own st h v small is = cc
+  own_is bits (T.Casts' ty elems p operand) own st h v small is = cc
   own_is bits (T.Number ty value) own st h v small is = cc
   own_is bits (T.PositionsOf ty shape value) own st h v small is = cc
   own_is bits (T.RankOf ty shape value) own st h v small is = cc
@@ -264,6 +269,10 @@ module _ (g : Setting) (has : HasRegisters g) (alive : Variable → Type 0) (n :
   unfolding IsShaped IsLowerable NamesVariables
   convert_code ty p operand h = record { shaped = h.shaped.1; lowerable = h.lowerable.1; names = h.names }
 
+  pub casts_code : (ty : ValueType) (elems : Vec Elem Global) (p : Boxed) (operand : TExpr) → HasCode g.typed g.instance n (T.Casts' ty elems p operand) → HasCode g.typed g.instance n operand
+  unfolding IsShaped IsLowerable NamesVariables
+  casts_code ty elems p operand h = record { shaped = h.shaped.1; lowerable = h.lowerable.1; names = h.names }
+
   pub left_code : (ty : ValueType) (place : Place) (op : Op) (p q : Boxed) (left right : TExpr) → HasCode g.typed g.instance n (T.Binary' ty place op p left q right) → HasCode g.typed g.instance n left
   unfolding IsShaped IsLowerable NamesVariables
   left_code ty place op p q left right h = record { shaped = h.shaped.0; lowerable = h.lowerable.2; names = h.names.0 }
@@ -298,8 +307,19 @@ module _ (g : Setting) (has : HasRegisters g) (alive : Variable → Type 0) (n :
   unary_value ty quiet bits U.Complement operand word wide value does = unary_follows g has alive ty U.Complement (type_of operand).elem wide word refl quiet (λ e. value_of g.typed (layout g) bits operand e) (λ e. operand_by g.typed (layout g) (unary_bits bits U.Complement operand) (value_of g.typed (layout g) (unary_bits bits U.Complement operand) operand) true operand e) (λ st. evaluated scope operand active st) bits does
   unary_value ty quiet bits U.Not operand word wide value does = unary_follows g has alive ty U.Not (type_of operand).elem wide word refl quiet (λ e. value_of g.typed (layout g) bits operand e) (λ e. operand_by g.typed (layout g) (unary_bits bits U.Not operand) (value_of g.typed (layout g) (unary_bits bits U.Not operand) operand) true operand e) (λ st. evaluated scope operand active st) bits does
 
-  operand_value : (quiet : Bool) (bits : ℕ) (e : TExpr) → IsIn e → HasCode g.typed g.instance n e → Agrees quiet bits e → Does g has alive (type_of e).elem quiet (λ st. evaluated scope e active st) (λ d. operand_by g.typed (layout g) bits (value_of g.typed (layout g) bits e) quiet e d)
-  operand_value quiet bits e h c agrees = operand_follows quiet bits e (λ d. value_of g.typed (layout g) bits e d) h c.names agrees
+  -- the register of a value is a fresh one
+  fresh_converted : (ty : ValueType) (bits : ℕ) (p : Boxed) (operand : TExpr) → ty.elem.bits ≡ 32 → is_kept operand ≡ true → (d : Draft) → IsFresh d (value_of g.typed (layout g) bits operand d) → IsFresh d (value_of g.typed (layout g) bits (T.Convert' ty p operand) d)
+  unfolding value_of register_cast_by then_make IsFresh converted_in_place
+  fresh_converted ty bits p operand wide is d fresh =
+      subst (λ (made : Made Out). IsFresh d made)
+      (sym (ap (λ (b : Bool). if b then register_cast_by ty.elem (λ e. value_of g.typed (layout g) bits operand e) d else cast_from g.typed (layout g) bits ty operand (λ e. truth_of g.typed (layout g) operand e) (λ m e. value_of g.typed (layout g) m operand e) d) is))
+      (by (value_of g.typed (layout g) bits operand d) fresh)
+    where
+      by : (made : Made Out) → IsFresh d made → IsFresh d (then_make made (λ v after. converted_in_place v ty.elem after))
+      by (Makes (O.Scalar r) e) h = subst (λ (made : Made Out). IsFresh d made) (sym (unconverted ty.elem (O.Scalar r) e wide (λ x. cc))) h
+      by (Makes (O.Field f) e) h = subst (λ (made : Made Out). IsFresh d made) (sym (unconverted ty.elem (O.Field f) e wide (λ x. cc))) tt
+      by (Makes O.Nothing e) h = tt
+      by Fails h = tt
 
   -- the operands of `&&` and of `||` have code that gives values
   record AreOperands (left right : TExpr) : Type 0 where
@@ -326,19 +346,6 @@ module _ (g : Setting) (has : HasRegisters g) (alive : Variable → Type 0) (n :
     other_gives = h.lowerable.0.right_gives;
   }
 
-  pub word_is_made : (bits : ℕ) (e : TExpr) → IsIn e → HasCode g.typed g.instance n e → GivesValue g.typed e → (d : Draft) → IsMadeWord (used_length_of g.typed (layout g) bits true e) d (operand_by g.typed (layout g) bits (value_of g.typed (layout g) bits e) true e d)
-  word_is_made bits e h c gives d = made_word g.typed e _ d _ (kept e h) gives ((expressions g.typed g.instance (layout g)).operand bits n true e d c (ready d))
-
-  logical_value : (is_or : Bool) (ty : ValueType) (quiet : Bool) (bits : ℕ) (left right : TExpr) (next : Value → State → Outcome Value) → IsWord ty → IsIn left → IsIn right → AreOperands left right
-      → ((v : Value) (st : State) → next v st ≡ joined is_or (λ u. evaluated scope right active u) (nonzero (number v)) st) → Agrees true (bits_of (kind_of left)) left → Agrees true (bits_of (kind_of right)) right
-      → Does g has alive ty.elem quiet (λ st. then_do (evaluated scope left active st) next) (λ d. logical_by is_or ty.shape bits (condition_of g.typed (layout g) left) (condition_of g.typed (layout g) right) d)
-  unfolding condition_by
-  logical_value is_or ty quiet bits left right next word h k c next_is one other =
-      logical_follows g has alive is_or ty quiet (type_of left).elem (type_of right).elem _ _ _ _ (λ st. evaluated scope left active st) (λ st. evaluated scope right active st) next word (word_type left h).1 (word_type right k).1
-      (operand_value true (bits_of (kind_of left)) left h c.one one) (operand_value true (bits_of (kind_of right)) right k c.other other)
-      (word_is_made (bits_of (kind_of left)) left h c.one c.one_gives) (word_is_made (bits_of (kind_of right)) right k c.other c.other_gives) next_is
-      bits (condition_of g.typed (layout g) left) (condition_of g.typed (layout g) right) refl refl refl
-
   -- the condition and the arms of `?:` have code that gives values
   pub record AreChosen (test first second : TExpr) : Type 0 where
     pub condition : HasCode g.typed g.instance n test
@@ -358,6 +365,48 @@ module _ (g : Setting) (has : HasRegisters g) (alive : Variable → Type 0) (n :
     one_gives = h.lowerable.2.gives;
     other_gives = h.lowerable.3.gives;
   }
+
+  condition_grows : (e : TExpr) → HasCode g.typed g.instance n e → (d : Draft) → Extends g d ((condition_of g.typed (layout g) e).code d)
+  unfolding condition_by
+  condition_grows e c d = operand_grows true (bits_of (kind_of e)) e c d
+
+  fresh_value : (bits : ℕ) (e : TExpr) → IsIn e → HasCode g.typed g.instance n e → (d : Draft) → IsFresh d (value_of g.typed (layout g) bits e d)
+  unfolding value_of IsIn
+  fresh_value bits (T.Number ty value) h c d = fresh_constant g has alive value d
+  fresh_value bits (T.PositionsOf ty shape value) h c d = fresh_constant g has alive value d
+  fresh_value bits (T.RankOf ty shape value) h c d = fresh_constant g has alive value d
+  fresh_value bits (T.DimOf ty shape axis value) h c d = fresh_constant g has alive value d
+  fresh_value bits (T.Variable ty x) h c d = fresh_variable g has alive ty x bits d h.0
+  fresh_value bits (T.GetChar ty) h c d = fresh_byte g has alive d
+  fresh_value bits (T.Brackets' ty p inner) h c d = fresh_value bits inner h.1 (brackets_code ty p inner c) d
+  fresh_value bits (T.Convert' ty p operand) h c d = fresh_converted ty bits p operand h.0.1 (kept operand h.1) d (fresh_value bits operand h.1 (convert_code ty p operand c) d)
+  fresh_value bits (T.Casts' ty elems p operand) h c d = fresh_casts g has alive ty false elems.items (type_of operand).elem h.0 h.1 (λ e. value_of g.typed (layout g) bits operand e) d (fresh_value bits operand h.2 (casts_code ty elems p operand c) d)
+  fresh_value bits (T.Unary' ty op p operand) h c d =
+      fresh_unary g has alive ty bits op (λ e. value_of g.typed (layout g) bits operand e) _ d h.0.0 (fresh_value bits operand h.1 (unary_code ty op p operand c) d) (operand_grows true (unary_bits bits op operand) operand (unary_code ty op p operand c))
+  fresh_value bits (T.Binary' ty place op p left q right) h c d =
+      fresh_binary g has alive ty bits op place _ _ left right d h.0.0 (operand_grows (is_quiet right) (operand_bits bits op left right) left (left_code ty place op p q left right c)) (operand_grows true (operand_bits bits op left right) right (right_code ty place op p q left right c))
+  fresh_value bits (T.LogicalOr' ty p left q right) h c d = fresh_logical g has alive true ty.shape bits (condition_of g.typed (layout g) left) (condition_of g.typed (layout g) right) d h.0.0 (condition_grows left (or_operands ty p q left right c).one) (condition_grows right (or_operands ty p q left right c).other)
+  fresh_value bits (T.LogicalAnd' ty p left q right) h c d = fresh_logical g has alive false ty.shape bits (condition_of g.typed (layout g) left) (condition_of g.typed (layout g) right) d h.0.0 (condition_grows left (and_operands ty p q left right c).one) (condition_grows right (and_operands ty p q left right c).other)
+  fresh_value bits (T.Choice' ty p test q first r second) h c d =
+      let parts = choice_parts ty p q r test first second c in
+      fresh_choice g has alive ty bits (is_kept test) _ _ _ first second _ _ d h.0.0 (kept test h.1) (operand_grows (is_kept test || is_quiet first) (bits_of (kind_of test)) test parts.condition) (operand_grows true bits first parts.one) (operand_grows true bits second parts.other)
+  fresh_value bits _ h c d = absurd h
+
+  operand_value : (quiet : Bool) (bits : ℕ) (e : TExpr) → IsIn e → HasCode g.typed g.instance n e → Agrees quiet bits e → Does g has alive (type_of e).elem quiet (λ st. evaluated scope e active st) (λ d. operand_by g.typed (layout g) bits (value_of g.typed (layout g) bits e) quiet e d)
+  operand_value quiet bits e h c agrees = operand_follows quiet bits e (λ d. value_of g.typed (layout g) bits e d) h c.names agrees
+
+  pub word_is_made : (bits : ℕ) (e : TExpr) → IsIn e → HasCode g.typed g.instance n e → GivesValue g.typed e → (d : Draft) → IsMadeWord (used_length_of g.typed (layout g) bits true e) d (operand_by g.typed (layout g) bits (value_of g.typed (layout g) bits e) true e d)
+  word_is_made bits e h c gives d = made_word g.typed e _ d _ (kept e h) gives ((expressions g.typed g.instance (layout g)).operand bits n true e d c (ready d))
+
+  logical_value : (is_or : Bool) (ty : ValueType) (quiet : Bool) (bits : ℕ) (left right : TExpr) (next : Value → State → Outcome Value) → IsWord ty → IsIn left → IsIn right → AreOperands left right
+      → ((v : Value) (st : State) → next v st ≡ joined is_or (λ u. evaluated scope right active u) (nonzero (number v)) st) → Agrees true (bits_of (kind_of left)) left → Agrees true (bits_of (kind_of right)) right
+      → Does g has alive ty.elem quiet (λ st. then_do (evaluated scope left active st) next) (λ d. logical_by is_or ty.shape bits (condition_of g.typed (layout g) left) (condition_of g.typed (layout g) right) d)
+  unfolding condition_by
+  logical_value is_or ty quiet bits left right next word h k c next_is one other =
+      logical_follows g has alive is_or ty quiet (type_of left).elem (type_of right).elem _ _ _ _ (λ st. evaluated scope left active st) (λ st. evaluated scope right active st) next word (word_type left h).1 (word_type right k).1
+      (operand_value true (bits_of (kind_of left)) left h c.one one) (operand_value true (bits_of (kind_of right)) right k c.other other)
+      (word_is_made (bits_of (kind_of left)) left h c.one c.one_gives) (word_is_made (bits_of (kind_of right)) right k c.other c.other_gives) next_is
+      bits (condition_of g.typed (layout g) left) (condition_of g.typed (layout g) right) refl refl refl
 
   arm_is_made : (ty : ValueType) (bits : ℕ) (e : TExpr) → ty.shape ≡ None → IsIn e → HasCode g.typed g.instance n e → GivesValue g.typed e → (r : ℕ) (d : Draft) → IsMadeTo r (arm_length_of g.typed (layout g) ty bits e) d (arm_of g.typed (layout g) bits e (O.Scalar r) d)
   unfolding arm_length_of arm_of
@@ -402,9 +451,13 @@ module _ (g : Setting) (has : HasRegisters g) (alive : Variable → Type 0) (n :
   value_follows quiet bits (T.Variable ty x) h c = λ d s st free here sim.
       let v = named ty x c in
       variable_follows g has alive quiet bits n ty x d s st h v (lives x v.declared) free here sim
+  value_follows quiet bits (T.GetChar ty) h c = byte_follows g has alive ty.elem quiet h.1
   value_follows quiet bits (T.Brackets' ty p inner) h c = bracketed ty inner quiet _ _ h.0 (value_follows quiet bits inner h.1 (brackets_code ty p inner c))
   value_follows quiet bits (T.Convert' ty p operand) h c =
       converts ty quiet bits p operand (kept operand h.1) (conversion_follows ty quiet (type_of operand).elem _ _ h.0 (value_follows quiet bits operand h.1 (convert_code ty p operand c)))
+  value_follows quiet bits (T.Casts' ty elems p operand) h c =
+      let part = casts_code ty elems p operand c in
+      casts_follow g has alive ty quiet elems.items (type_of operand).elem h.0 h.1 (λ d. value_of g.typed (layout g) bits operand d) (λ st. evaluated scope operand active st) (λ d. fresh_value bits operand h.2 part d) (value_follows false bits operand h.2 part)
   value_follows quiet bits (T.Unary' ty op p operand) h c =
       unary_value ty quiet bits op operand h.0 (word_type operand h.1).1 (value_follows quiet bits operand h.1 (unary_code ty op p operand c)) (operand_value true (unary_bits bits op operand) operand h.1 (unary_code ty op p operand c) (value_follows true (unary_bits bits op operand) operand h.1 (unary_code ty op p operand c)))
   value_follows quiet bits (T.Binary' ty place op p left q right) h c =

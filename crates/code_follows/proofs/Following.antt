@@ -20,7 +20,7 @@ use Rattle.source_meaning.specs.Reductions.{int_type}
 use Rattle.source_meaning.specs.State as Source
 use Rattle.source_meaning.specs.State.{Early, Outcome, State, is_same, then_do, with_scalar}
 use Rattle.source_meaning.specs.Values.{Scalar, Value}
-use Rattle.code_follows.specs.Agreement.{end_of, mark_of}
+use Rattle.code_follows.specs.Agreement.{AreBytes, end_of, mark_of}
 use Rattle.code_follows.proofs.ConstantRegisters.{below_values}
 use Rattle.code_follows.proofs.Settings.{At, EndsIn, Reaches, Setting, Within, earlier, ends_later, layout}
 
@@ -51,6 +51,7 @@ module _ (g : Setting) where
     pub turns : s.turns ≡ st.turns
     pub output : s.output ≡ st.output
     pub input : s.input ≡ input_of st
+    pub bytes : AreBytes st.input
 
   -- what stood in the registers of values stays
   abbrev pub Keeps : Draft → CodeState → CodeState → Type 0
@@ -145,6 +146,7 @@ module _ (g : Setting) where
     turns = h.turns;
     output = h.output;
     input = h.input;
+    bytes = h.bytes;
   }
 
   pub register_kept : (d : Draft) (s : CodeState) (r v : ℕ) → d.regs ≤ r → Keeps d s (with_register r v s)

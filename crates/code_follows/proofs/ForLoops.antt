@@ -35,7 +35,7 @@ use Rattle.source_meaning.specs.Expressions.{evaluated}
 use Rattle.source_meaning.specs.State as Source
 use Rattle.source_meaning.specs.State.{Outcome, State, spend_turn, then_do}
 use Rattle.source_meaning.specs.Statements.{Leaving, Onward, done, executed, passes, passes_or_absent, rounds, then_go, then_round}
-use Rattle.source_meaning.specs.Values.{Active, Scope, Value}
+use Rattle.source_meaning.specs.Values.{Active, Scope, Value, nonzero, number}
 use Rattle.code_follows.specs.Fragment.{IsEffect, IsIn}
 use Rattle.code_follows.proofs.Assigning.{effect_follows}
 use Rattle.code_follows.proofs.Choices.{Agrees}
@@ -84,6 +84,14 @@ module _ (g : Setting) (has : HasRegisters g) (alive : Variable → Type 0) (eve
   unfolding done executed state_after
   part_falls n None st = omega arith
   part_falls n (Some e) st = falls (S.Expression e) n st
+
+  test_falls : (n : ℕ) (test : TExpr) (st : State) → (state_after (passes scope active test st)).turns ≤ st.turns
+  unfolding passes done executed state_after then_do
+  test_falls n test st = by (evaluated scope test active st) (falls (S.Expression test) n st)
+    where
+      by : (o : Outcome Value) → (state_after (then_do o (λ v after. Source.Gives Onward after))).turns ≤ st.turns → (state_after (then_do o (λ v after. Source.Gives (nonzero (number v)) after))).turns ≤ st.turns
+      by (Source.Gives v u) h = h
+      by (Source.Ends early u) h = h
 
   part_code : (n : ℕ) (o : Option TExpr) → IsShapedPart o → IfSome o (IsLowerable g.typed) → IfSome o (NamesVariables g.typed g.instance n) → IfSome o (HasCode g.typed g.instance n)
   unfolding IsShapedPart
@@ -218,7 +226,7 @@ module _ (g : Setting) (has : HasRegisters g) (alive : Variable → Type 0) (eve
           let at_test = so.1 in
           let go_round : Outcome Leaving = rounds u.turns (passes scope active test) (λ v. executed scope body n active v) (λ v. done scope active step v) u in
           delayed g (Left g alive f made_first.e t) behind_loop t go_round (Makes (behind n body) behind_loop) (0, as_it_was behind_loop) (λ within.
-          loop_runs g alive scope active test body n (behind n body) isin inner made_first.e enters made_body.e made_step.e made_test.e made_test.r turn (λ v. done scope active step v) within so.3 so.0 so.2 long (part_length_of g.typed (layout g) step) (used_length_of g.typed (layout g) 32 true test) made_body.extended made_step.extended made_test.extended (omega (arith, regs1, regs2))
+          loop_runs g alive scope active test body n (behind n body) (test_falls n test) inner made_first.e enters made_body.e made_step.e made_test.e made_test.r turn (λ v. done scope active step v) within so.3 so.0 so.2 long (part_length_of g.typed (layout g) step) (used_length_of g.typed (layout g) 32 true test) made_body.extended made_step.extended made_test.extended (omega (arith, regs1, regs2))
           (falls body n)
           (λ s v here_s sim_s. subst (λ (m : Made ℕ). Follows g (Left g alive inner before_body s) s (executed scope body n active v) m) made_body.is (agrees inner n before_body s v inner_frame inner_among begin_homes (omega (arith, free, regs1, regs2)) here_s sim_s c.body_code))
           (part_falls n step)
@@ -345,7 +353,7 @@ module _ (g : Setting) (has : HasRegisters g) (alive : Variable → Type 0) (eve
           let longer = made_do.extended.regs in
           let go_round : Outcome Leaving = then_round (spend_turn u (λ v. executed scope body n active v)) (λ s. rounds s.turns (passes scope active test) (λ v. executed scope body n active v) (λ v. Source.Gives Onward v) s) in
           delayed g (Left g alive f d t) behind_do t go_round (Makes (behind n body) behind_do) (0, as_it_was behind_do) (λ within.
-          do_runs g alive scope active test body n (behind n body) isin do_inner d d made_do.e made_do.e made_while.e made_while.r do_turn (λ v. Source.Gives Onward v) within so.2 so.0 so.1 do_long 0 (used_length_of g.typed (layout g) 32 true test) made_do.extended (as_it_was made_do.e) made_while.extended (omega (arith, regs1))
+          do_runs g alive scope active test body n (behind n body) (test_falls n test) do_inner d d made_do.e made_do.e made_while.e made_while.r do_turn (λ v. Source.Gives Onward v) within so.2 so.0 so.1 do_long 0 (used_length_of g.typed (layout g) 32 true test) made_do.extended (as_it_was made_do.e) made_while.extended (omega (arith, regs1))
           (falls body n)
           (λ s v here_s sim_s. subst (λ (m : Made ℕ). Follows g (Left g alive do_inner do_before s) s (executed scope body n active v) m) made_do.is (agrees do_inner n do_before s v do_frame do_among do_homes (omega (arith, free, regs1)) here_s sim_s (do_body g numbers declares n p body test c)))
           (λ v. omega arith)

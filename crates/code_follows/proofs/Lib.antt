@@ -2,6 +2,8 @@ pub mod Assigning
 pub mod Beginnings
 pub mod Bodies
 pub mod Branching
+pub mod Bytes
+pub mod Casts
 pub mod Choices
 pub mod Choosing
 pub mod Closed
@@ -14,6 +16,7 @@ pub mod Executing
 pub mod Expressions
 pub mod Following
 pub mod ForLoops
+pub mod Fresh
 pub mod Jumping
 pub mod Logical
 pub mod Loops

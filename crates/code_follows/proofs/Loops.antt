@@ -1,5 +1,5 @@
 -- The turns of a loop.
-use Rattle.std.proofs.Common.{◌≡◌, ◌∙◌, ℕ, zero, suc, ◌+◌, ◌≤◌, Bool, true, false, length, refl, sym, ap, arith}
+use Rattle.std.proofs.Common.{◌≡◌, ◌∙◌, ℕ, zero, suc, ◌+◌, ◌≤◌, Bool, true, false, length, refl, sym, ap, subst, arith}
 use Rattle.cstar_tree.specs.declared.typed.TExpr.{TExpr}
 use Rattle.cstar_tree.specs.declared.typed.TStmt.{TStmt}
 use Rattle.cstar_tree.specs.declared.typed.Variable.{Variable}
@@ -10,31 +10,17 @@ use Rattle.meaning_laws.proofs.Parts.{behind as state_after}
 use Rattle.paris_code.specs.declared.instr.Instr.TheVariants as I
 use Rattle.paris_code.specs.Code as Machine
 use Rattle.paris_code.specs.Code.{CodeState}
-use Rattle.quiet_operands.specs.Quiet.{state_behind}
-use Rattle.quiet_operands.proofs.Unchanged as Quiet
-use Rattle.source_meaning.specs.Expressions.{evaluated}
 use Rattle.source_meaning.specs.State as Source
 use Rattle.source_meaning.specs.State.{Outcome, State, spend_turn, then_do}
 use Rattle.source_meaning.specs.Statements.{Broke, Continued, Leaving, Onward, Returned, executed, passes, rounds, then_go, then_round}
-use Rattle.source_meaning.specs.Values.{Active, Scope, Value, nonzero, number}
-use Rattle.code_follows.specs.Fragment.{IsIn}
+use Rattle.source_meaning.specs.Values.{Active, Scope}
 use Rattle.code_follows.proofs.Executing.{Halted, Jumped, Left, RanOn, Tested, no_break, no_continue, no_return}
 use Rattle.code_follows.proofs.Following.{Finishes, Follows, Keeps, Sim, finishes_later, keeps_all}
 use Rattle.code_follows.proofs.Jumping.{behind_turn, moved_to, returns_to, sim_moved, sim_spent, spends, stops}
-use Rattle.code_follows.proofs.Words.{in_quiet}
 use Rattle.code_follows.proofs.Settings.{At, Reaches, Setting, Within, and_one, code_more, earlier, ends_later, onto, start}
 
--- so its test leaves the state
-test_still : (scope : Scope) (active : Active) (test : TExpr) (st u : State) (b : Bool) → IsIn test → passes scope active test st ≡ Source.Gives b u → u ≡ st
-unfolding passes then_do state_behind
-test_still scope active test st u b isin is = by (evaluated scope test active st) (Quiet.expression scope test active st (in_quiet test isin)) is
-  where
-    by : (o : Outcome Value) → state_behind o ≡ st → then_do o (λ v after. Source.Gives (nonzero (number v)) after) ≡ Source.Gives b u → u ≡ st
-    by (Source.Gives v w) h e = sym (ap state_behind e) ∙ h
-    by (Source.Ends early w) h e = cc
-
 -- a loop: the turn stands behind one draft, the body behind it, then the step, the test, and the jump back
-module _ (g : Setting) (alive : Variable → Type 0) (scope : Scope) (active : Active) (test : TExpr) (body : TStmt) (n number : ℕ) (isin : IsIn test) (f : Frame) (d before_turn behind_body stepped tested : Draft) (r turn : ℕ) (step : State → Outcome Leaving) where
+module _ (g : Setting) (alive : Variable → Type 0) (scope : Scope) (active : Active) (test : TExpr) (body : TStmt) (n number : ℕ) (test_falls : (st : State) → (state_after (passes scope active test st)).turns ≤ st.turns) (f : Frame) (d before_turn behind_body stepped tested : Draft) (r turn : ℕ) (step : State → Outcome Leaving) where
   abbrev before_body : Draft
   before_body = with_instr I.FrontTurn before_turn
 
@@ -130,6 +116,11 @@ module _ (g : Setting) (alive : Variable → Type 0) (scope : Scope) (active : A
           keeps = kept_by_test s t.t t.keeps;
         }
 
+    -- behind the test there are no more turns
+    falls_by : (st u : State) (b : Bool) → passes scope active test st ≡ Source.Gives b u → u.turns ≤ st.turns
+    unfolding state_after
+    falls_by st u b is = subst (λ (o : Outcome Bool). (state_after o).turns ≤ st.turns) is (test_falls st)
+
     abbrev a_round : State → Outcome Leaving
     a_round u = executed scope body n active u
 
@@ -138,9 +129,10 @@ module _ (g : Setting) (alive : Variable → Type 0) (scope : Scope) (active : A
     unfolding then_do LoopEnds Follows
     last_round s st none (Source.Gives true u) is h =
         let t = h within_tested in
-        let same : u ≡ st = test_still scope active test st u true isin is in
+        let fewer : u.turns ≤ st.turns = falls_by st u true is in
+        let over : u.turns ≡ 0 = omega (arith, fewer, none) in
         let back = again_at s u t in
-        finishes_later g Source.Stopped u s (moved_to g alive (turn + start g) t.t) back.0 (stops g alive before_turn (moved_to g alive (turn + start g) t.t) u within_turn back.1 (sim_moved g alive u t.t (turn + start g) t.sim) (ap (λ (v : State). v.turns) same ∙ none))
+        finishes_later g Source.Stopped u s (moved_to g alive (turn + start g) t.t) back.0 (stops g alive before_turn (moved_to g alive (turn + start g) t.t) u within_turn back.1 (sim_moved g alive u t.t (turn + start g) t.sim) over)
     last_round s st none (Source.Gives false u) is h = left_at s u (h within_tested)
     last_round s st none (Source.Ends early u) is h = h within_tested
 
@@ -150,8 +142,7 @@ module _ (g : Setting) (alive : Variable → Type 0) (scope : Scope) (active : A
     unfolding then_do LoopEnds Follows
     next_round fuel s st few next again (Source.Gives true u) is h =
         let t = h within_tested in
-        let same : u ≡ st = test_still scope active test st u true isin is in
-        let fewer : u.turns ≡ st.turns = ap (λ (v : State). v.turns) same in
+        let fewer : u.turns ≤ st.turns = falls_by st u true is in
         let back = again_at s u t in
         let t1 : CodeState = moved_to g alive (turn + start g) t.t in
         ends_from s t1 (then_round (spend_turn u a_round) next) back.0 (kept_by_test s t.t t.keeps)

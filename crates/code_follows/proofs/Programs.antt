@@ -39,7 +39,7 @@ use Rattle.source_meaning.specs.State as Source
 use Rattle.source_meaning.specs.State.{Outcome, State, then_do, zeroed, is_among}
 use Rattle.source_meaning.specs.Statements.{Broke, Continued, Leaving, Onward, Returned, all_executed, executed, initialised, then_go}
 use Rattle.source_meaning.specs.Values.{Active, Scope}
-use Rattle.code_follows.specs.Agreement.{CodeMeansSource, ComesTo, end_of, mark_of}
+use Rattle.code_follows.specs.Agreement.{AreBytes, CodeMeansSource, ComesTo, end_of, mark_of}
 use Rattle.code_follows.specs.Fragment.{AreClosed, AreInStatements, IsInLocal, IsMainBody, IsPlainVariable, IsScalarProgram}
 use Rattle.code_follows.proofs.Bodies.{RowCode, block_code, block_stands, row_follows, row_grows}
 use Rattle.code_follows.proofs.Beginnings.{starts_grow, starts_run}
@@ -148,7 +148,7 @@ module _ (t : Typed) (image : Image) (p : IsScalarProgram t) (codable : IsCodabl
 
   -- ---- one run
 
-  module _ (memory : BitMemory) (input : List ℕ) (rest : Source.Rest) (turns : ℕ) (winner : Winner) where
+  module _ (memory : BitMemory) (input : List ℕ) (rest : Source.Rest) (turns : ℕ) (winner : Winner) (are : AreBytes input) where
     abbrev opened : CodeState
     opened = opening image memory turns (record { bytes = input; mark = mark_of rest })
 
@@ -221,6 +221,7 @@ module _ (t : Typed) (image : Image) (p : IsScalarProgram t) (codable : IsCodabl
           turns = same_turns;
           output = same_output;
           input = same_input;
+          bytes = are;
         }
           where
             scalars : (x : Variable) (info : VarInfo) → variable_named t p.main x ≡ Some info → slice_index u.registers (register_of own x) ≡ held info.elem (in_main.scalar x)
@@ -325,4 +326,4 @@ module _ (t : Typed) (image : Image) (p : IsScalarProgram t) (codable : IsCodabl
     runs _ is h = absurd h
 
 pub means_source : CodeMeansSource
-means_source t image p codable compiled memory input rest turns winner = runs t image p codable compiled memory input rest turns winner p.main.body refl p.body
+means_source t image p codable compiled memory input rest turns winner are = runs t image p codable compiled memory input rest turns winner are p.main.body refl p.body

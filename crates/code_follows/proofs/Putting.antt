@@ -47,6 +47,7 @@ use Rattle.source_meaning.proofs.ConstantLaws.{Boxed, value_means}
 use Rattle.code_follows.specs.Fragment.{IsIn, IsWord}
 use Rattle.code_follows.proofs.Choosing.{put_lands}
 use Rattle.code_follows.proofs.Expressions.{AreChosen, brackets_code, choice_goes, choice_parts, convert_code, left_code, named, operand, operand_grows, right_code, unary_code, value_follows}
+use Rattle.code_follows.proofs.Bytes.{byte_put}
 use Rattle.code_follows.proofs.Following.{Arrives, Extends, Follows, HasRegisters, IsScalar, Sim, held, keeps_all, then_follows, then_gives}
 use Rattle.code_follows.proofs.Operators.{wide_signed}
 use Rattle.code_follows.proofs.Settings.{At, Setting, and_one, layout, stay}
@@ -186,15 +187,17 @@ module _ (g : Setting) (has : HasRegisters g) (alive : Variable → Type 0) (n :
       (value_follows g has alive n lives ready scope active true 32 second m c.other) d s st (Put d s) own free here sim (dest ty.elem d s word.1 free) (put_lands g has alive x info living scalar d s own))
 
   computed_follows : (e : TExpr) → IsIn e → HasCode g.typed g.instance n e → Puts (λ st. evaluated scope e active st) (λ d. computed_to g.typed (layout g) (O.Scalar own) e d)
-  unfolding computed_to evaluated IsIn moved bits_for binary_to logical_to
+  unfolding computed_to evaluated IsIn moved bits_for binary_to in_register logical_to
   computed_follows (T.Number ty value) h c = copied_to ty.elem h.0.1 _ _ (operand g has alive n lives ready scope active true 32 (T.Number ty value) h c)
   computed_follows (T.PositionsOf ty shape value) h c = copied_to ty.elem h.0.1 _ _ (operand g has alive n lives ready scope active true 32 (T.PositionsOf ty shape value) h c)
   computed_follows (T.RankOf ty shape value) h c = copied_to ty.elem h.0.1 _ _ (operand g has alive n lives ready scope active true 32 (T.RankOf ty shape value) h c)
   computed_follows (T.DimOf ty shape axis value) h c = copied_to ty.elem h.0.1 _ _ (operand g has alive n lives ready scope active true 32 (T.DimOf ty shape axis value) h c)
   computed_follows (T.Variable ty y) h c = variable_put ty y h (named g has alive n lives ready scope active ty y c)
+  computed_follows (T.GetChar ty) h c = λ d s st free here sim. byte_put g has alive x info living scalar also d s st free here sim
   computed_follows (T.Brackets' ty p inner) h c = computed_follows inner h.1 (brackets_code g has alive n lives ready scope active ty p inner c)
   computed_follows (T.Convert' ty p operand) h c = λ d s st free here sim.
       unchanged ty p operand h.0 d s st (put_converted ty (type_of operand).elem h.0 (word_type operand h.1).1 _ _ (computed_follows operand h.1 (convert_code g has alive n lives ready scope active ty p operand c)) d s st free here sim)
+  computed_follows (T.Casts' ty elems p inner) h c = copied_to ty.elem h.0.1 _ _ (operand g has alive n lives ready scope active true 32 (T.Casts' ty elems p inner) h c)
   computed_follows (T.Unary' ty op p inner) h c = unary_put ty op p inner h.0 h.1 (unary_code g has alive n lives ready scope active ty op p inner c) (computed_follows inner h.1 (unary_code g has alive n lives ready scope active ty op p inner c))
   computed_follows (T.Binary' ty place op p left q right) h c = binary_put ty place op left right h.0 h.1 h.2 (left_code g has alive n lives ready scope active ty place op p q left right c) (right_code g has alive n lives ready scope active ty place op p q left right c)
   computed_follows (T.LogicalOr' ty p left q right) h c = copied_to ty.elem h.0.1 _ _ (operand g has alive n lives ready scope active true 32 (T.LogicalOr' ty p left q right) h c)

@@ -145,7 +145,7 @@ module _ (g : Setting) (has : HasRegisters g) (alive : Variable → Type 0) wher
       (ap (λ (w : ℕ). Goes (with_register d.regs w s)) (sym (held_wide elem value wide few))) (omega arith) (omega arith) (below_bits elem.bits value wide few)
 
   -- a variable is copied to a fresh register
-  copied : (ty : ValueType) (x : Variable) (bits : ℕ) (d : Draft) → ty.shape ≡ None
+  pub copied : (ty : ValueType) (x : Variable) (bits : ℕ) (d : Draft) → ty.shape ≡ None
       → read_by g.typed (layout g) (T.Variable ty x) ty bits (λ between. Makes (variable_spot (layout g) ty x) between) d ≡ Makes (O.Scalar d.regs) (with_instr (I.FrontMove d.regs (register_of (layout g) x)) (with_reg d))
   unfolding read_by fresh_for a_register then_make read_to variable_spot loaded in_register
   copied ty x bits d scalar =
@@ -223,7 +223,7 @@ module _ (g : Setting) (has : HasRegisters g) (alive : Variable → Type 0) wher
 
   -- the next instruction changes no register
   pub sim_onward : (st : State) (s : CodeState) → Sim g alive st s → Sim g alive st (Machine.onward s)
-  sim_onward st s h = record { registers = h.registers; scalars = h.scalars; small = h.small; constants = h.constants; turns = h.turns; output = h.output; input = h.input }
+  sim_onward st s h = record { registers = h.registers; scalars = h.scalars; small = h.small; constants = h.constants; turns = h.turns; output = h.output; input = h.input; bytes = h.bytes }
 
   -- a scalar operation on the words of two registers
   computes : (elem : Elem) (d e : Draft) (n : ℕ) (s0 s : CodeState) (st : State) (R : Value → State → Out → Draft → Type 0) (m : Machine) (r a b x y : ℕ) → elem.bits ≡ 32 → Dest elem d s0 R r → Reaches g s0 s → At g s (length e.code) → Sim g alive st s → Extended d n e
@@ -294,7 +294,7 @@ module _ (g : Setting) (has : HasRegisters g) (alive : Variable → Type 0) wher
           (extended d e checks n 1 grows (and_one g (I.FrontCheckDivisor place b) e)) keeps is_a is_b few small within)
 
   -- a binary operator
-  binary_is : (ty : ValueType) (bits : ℕ) (op : Op) (place : Place) (first second : Code) (left right : TExpr) (d : Draft) → ty.shape ≡ None
+  pub binary_is : (ty : ValueType) (bits : ℕ) (op : Op) (place : Place) (first second : Code) (left right : TExpr) (d : Draft) → ty.shape ≡ None
       → binary_by ty.shape bits op place first left second right d ≡ registers_by op (is_signed (type_of left).elem) place d.regs first second (with_reg d)
   unfolding binary_by a_register then_make
   binary_is ty bits op place first second left right d scalar = ap (λ (o : Option ℕ). binary_by o bits op place first left second right d) scalar
@@ -401,7 +401,7 @@ module _ (g : Setting) (has : HasRegisters g) (alive : Variable → Type 0) wher
       by (Some r) is = λ within. (refl, record { grown = (0, as_it_was d); t = s; go = stay g s; at = at; sim = sim; keeps = keeps_all g d s; is = sim.constants word r is })
       by None is = λ within. (refl, takes_word word d (with_reg d) 0 (I.FrontConst d.regs word) s s st d.regs free (stay g s) at sim (and_register d) (keeps_all g d s) within refl refl (omega arith) (omega arith))
 
-  extends_word : (word : ℕ) (d : Draft) → Extends g d (word_in (layout g) word d)
+  pub extends_word : (word : ℕ) (d : Draft) → Extends g d (word_in (layout g) word d)
   unfolding word_in Extends a_register then_make
   extends_word word d = by (constant_register (layout g) word)
     where

@@ -1,5 +1,5 @@
 -- Numbers of 32 bits and the words that hold them, and constants.
-use Rattle.std.proofs.Common.{◌≡◌, ◌∙◌, ℕ, ◌<◌, ◌^◌, ◌==◌, true, not, ◌&&◌, Bool, false, Option, Some, None, refl, sym, ap, subst, if◌then◌else◌, arith}
+use Rattle.std.proofs.Common.{◌≡◌, ◌∙◌, ℕ, ◌<◌, ◌^◌, ◌==◌, true, not, Bool, false, Option, Some, None, refl, sym, ap, subst, if◌then◌else◌, arith, List, [], ◌∷◌}
 use Rattle.std.specs.Prelude.{IfSome, is_none}
 use Rattle.std.specs.Int.{from_bool}
 use Rattle.cstar_base.specs.declared.elem.Elem.{Elem}
@@ -10,16 +10,15 @@ use Rattle.cstar_tree.specs.declared.typed.TExpr as T
 use Rattle.cstar_tree.specs.declared.typed.ValueType.{ValueType}
 use Rattle.cstar_tree.specs.Typed.{type_of}
 use Rattle.constant_trees.proofs.Words.{converted_below, from_bool_below, operate_below, unary_below}
-use Rattle.lower_expr.specs.Operands.{is_quiet}
 use Rattle.lower_expr.specs.Steps.{is_kept}
 use Rattle.source_meaning.specs.Constants.{then_value, value_of}
 use Rattle.source_meaning.specs.Reductions.{int_type}
-use Rattle.source_meaning.specs.Values.{nonzero}
+use Rattle.source_meaning.specs.Values.{nonzero, cast_through, cast_type}
 use Rattle.code_follows.specs.Fragment.{IsIn, IsWord}
 use Rattle.code_follows.proofs.Following.{held}
 
 -- a conversion to 32 bits takes the residue of the number
-wide_converted : (to from : Elem) (w : ℕ) → to.bits ≡ 32 → converted to from w ≡ residue 32 (number_of from.bits from.signed w)
+pub wide_converted : (to from : Elem) (w : ℕ) → to.bits ≡ 32 → converted to from w ≡ residue 32 (number_of from.bits from.signed w)
 unfolding converted
 wide_converted to from w wide = ap (λ (n : ℕ). if n == 1 then truth_of (number_of from.bits from.signed w) else residue n (number_of from.bits from.signed w)) wide
 
@@ -44,8 +43,10 @@ word_type (T.PositionsOf ty shape value) h = h.0
 word_type (T.RankOf ty shape value) h = h.0
 word_type (T.DimOf ty shape axis value) h = h.0
 word_type (T.Variable ty x) h = h
+word_type (T.GetChar ty) h = h
 word_type (T.Brackets' ty p inner) h = subst (λ (y : ValueType). IsWord y) (sym h.0) (word_type inner h.1)
 word_type (T.Convert' ty p operand) h = h.0
+word_type (T.Casts' ty elems p operand) h = h.0
 word_type (T.Unary' ty op p operand) h = h.0
 word_type (T.Binary' ty place op p left q right) h = h.0
 word_type (T.LogicalOr' ty p left q right) h = h.0
@@ -63,14 +64,22 @@ kept (T.PositionsOf ty shape value) h = none_is ty.shape h.0.0
 kept (T.RankOf ty shape value) h = none_is ty.shape h.0.0
 kept (T.DimOf ty shape axis value) h = none_is ty.shape h.0.0
 kept (T.Variable ty x) h = none_is ty.shape h.0
+kept (T.GetChar ty) h = none_is ty.shape h.0
 kept (T.Brackets' ty p inner) h = kept inner h.1
 kept (T.Convert' ty p operand) h = kept operand h.1
+kept (T.Casts' ty elems p operand) h = none_is ty.shape h.0.0
 kept (T.Unary' ty op p operand) h = none_is ty.shape h.0.0
 kept (T.Binary' ty place op p left q right) h = none_is ty.shape h.0.0
 kept (T.LogicalOr' ty p left q right) h = none_is ty.shape h.0.0
 kept (T.LogicalAnd' ty p left q right) h = none_is ty.shape h.0.0
 kept (T.Choice' ty p test q first r second) h = none_is ty.shape h.0.0
 kept _ h = absurd h
+
+-- what a chain of casts gives is a number of its type
+pub through_below : (kinds : List Elem) (from : Elem) (w : ℕ) → w < 2 ^ from.bits → cast_through kinds from w < 2 ^ (cast_type kinds from).bits
+unfolding cast_through cast_type
+through_below [] from w few = few
+through_below (kind ∷ inner) from w few = converted_below kind (cast_type inner from) (cast_through inner from w)
 
 -- the value of a constant is a word
 then_below : (o : Option ℕ) (next : ℕ → Option ℕ) → IfSome o (λ v. v < 2 ^ 32) → ((v : ℕ) → v < 2 ^ 32 → IfSome (next v) (λ w. w < 2 ^ 32)) → IfSome (then_value o next) (λ w. w < 2 ^ 32)
@@ -96,9 +105,13 @@ constant_below (T.PositionsOf ty shape value) h = h.1
 constant_below (T.RankOf ty shape value) h = h.1
 constant_below (T.DimOf ty shape axis value) h = h.1
 constant_below (T.Variable ty x) h = tt
+constant_below (T.GetChar ty) h = tt
 constant_below (T.Brackets' ty p inner) h = constant_below inner h.1
 constant_below (T.Convert' ty p operand) h =
     then_below (value_of operand) _ (constant_below operand h.1) (λ v few. below_word ty.elem.bits (converted ty.elem (type_of operand).elem v) h.0.1 (converted_below ty.elem (type_of operand).elem v))
+constant_below (T.Casts' ty elems p operand) h =
+    let from : Elem = (type_of operand).elem in
+    then_below (value_of operand) _ (constant_below operand h.2) (λ v few. below_word (cast_type elems.items from).bits (cast_through elems.items from v) (ap (λ (e : Elem). e.bits) (sym h.1) ∙ h.0.1) (through_below elems.items from v (below_bits from.bits v (word_type operand h.2).1 few)))
 constant_below (T.Unary' ty op p operand) h = then_below (value_of operand) _ (constant_below operand h.1) (λ v few. unary_below op v few)
 constant_below (T.Binary' ty place op p left q right) h =
     then_below (value_of left) _ (constant_below left h.1) (λ v few. then_below (value_of right) _ (constant_below right h.2) (λ w small. operate_below op (not (type_of left).elem.signed) v w few small))
@@ -106,26 +119,3 @@ constant_below (T.LogicalOr' ty p left q right) h = then_below (value_of left) _
 constant_below (T.LogicalAnd' ty p left q right) h = then_below (value_of left) _ (constant_below left h.1) (λ v few. and_below (nonzero v) (value_of right) (constant_below right h.2))
 constant_below (T.Choice' ty p test q first r second) h = then_below (value_of test) _ (constant_below test h.1) (λ v few. either_below (nonzero v) (value_of first) (value_of second) (constant_below first h.2) (constant_below second h.3))
 constant_below _ h = absurd h
-
-both : (a b : Bool) → a ≡ true → b ≡ true → (a && b) ≡ true
-both true true h k = refl
-both false b h k = cc
-both true false h k = cc
-
--- what is of the fragment has no effects
-pub in_quiet : (e : TExpr) → IsIn e → is_quiet e ≡ true
-unfolding IsIn is_quiet
-in_quiet (T.Number ty value) h = refl
-in_quiet (T.PositionsOf ty shape value) h = refl
-in_quiet (T.RankOf ty shape value) h = refl
-in_quiet (T.DimOf ty shape axis value) h = refl
-in_quiet (T.Variable ty x) h = refl
-in_quiet (T.Brackets' ty p inner) h = in_quiet inner h.1
-in_quiet (T.Convert' ty p operand) h = in_quiet operand h.1
-in_quiet (T.Unary' ty op p operand) h = in_quiet operand h.1
-in_quiet (T.Binary' ty place op p left q right) h = both (is_quiet left) (is_quiet right) (in_quiet left h.1) (in_quiet right h.2)
-in_quiet (T.LogicalOr' ty p left q right) h = both (is_quiet left) (is_quiet right) (in_quiet left h.1) (in_quiet right h.2)
-in_quiet (T.LogicalAnd' ty p left q right) h = both (is_quiet left) (is_quiet right) (in_quiet left h.1) (in_quiet right h.2)
-in_quiet (T.Choice' ty p test q first r second) h =
-    both (is_quiet test && is_quiet first) (is_quiet second) (both (is_quiet test) (is_quiet first) (in_quiet test h.1) (in_quiet first h.2)) (in_quiet second h.3)
-in_quiet _ h = absurd h

@@ -1,5 +1,6 @@
 -- The code of a compiled program means its source.
-use Rattle.std.specs.Prelude.{◌≡◌, ℕ, List}
+use Rattle.std.specs.Prelude.{◌≡◌, ◌<◌, ◌^◌, ℕ, List}
+use Rattle.std.specs.List.{All}
 use Rattle.cstar_base.specs.declared.operators.Winner.{Winner}
 use Rattle.cstar_compile.specs.Compiled.{IsCompiled}
 use Rattle.cstar_tree.specs.declared.typed.Typed.{Typed}
@@ -27,6 +28,10 @@ abbrev pub mark_of : Source.Rest → Machine.Mark
 mark_of Source.InputEnds = Machine.End
 mark_of Source.InputFails = Machine.Broken
 
+-- the bytes of an input
+abbrev pub AreBytes : List ℕ → Type 0
+AreBytes bytes = All (λ (byte : ℕ). byte < 2 ^ 8) bytes
+
 -- the code comes from a state to the end of a run, with its turns and its output
 pub record ComesTo (image : Image) (s : CodeState) (run : Run) : Type 0 where
   pub steps : ℕ
@@ -35,10 +40,10 @@ pub record ComesTo (image : Image) (s : CodeState) (run : Run) : Type 0 where
   pub turns : last.turns ≡ run.final.turns
   pub output : last.output ≡ run.final.output
 
--- For every input, every number of turns and every winner, the code that the compiler makes of such a program
+-- For every input of bytes, every number of turns and every winner, the code that the compiler makes of such a program
 -- comes to the end of the source's meaning, with the turns that it leaves and the bytes that it prints.
 abbrev pub CodeMeansSource : Type 0
 CodeMeansSource =
     (t : Typed) (image : Image) → IsScalarProgram t → IsCodable t → IsCompiled t image →
-    (memory : BitMemory) (input : List ℕ) (rest : Source.Rest) (turns : ℕ) (winner : Winner) →
+    (memory : BitMemory) (input : List ℕ) (rest : Source.Rest) (turns : ℕ) (winner : Winner) → AreBytes input →
     ComesTo image (opening image memory turns (record { bytes = input; mark = mark_of rest })) (meaning t input rest turns winner)

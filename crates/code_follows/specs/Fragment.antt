@@ -12,19 +12,24 @@ use Rattle.cstar_tree.specs.declared.typed.ValueType.{ValueType}
 use Rattle.cstar_tree.specs.declared.typed.VarInfo.{VarInfo}
 use Rattle.cstar_tree.specs.Typed.{type_of}
 use Rattle.cstar_tree.specs.Variables.{variables_of}
+use Rattle.source_meaning.specs.Values.{cast_type}
 
 -- a scalar type of 32 bits
 abbrev pub IsWord : ValueType → Type 0
 IsWord ty = (ty.shape ≡ None) × (ty.elem.bits ≡ 32)
 
+-- An expression whose value is used: of numbers, variables, `getchar`, operators and conversions. Casts lead
+-- to 32 bits, by whichever types.
 unfoldable pub IsIn : TExpr → Type 0
 IsIn (T.Number ty value) = IsWord ty × (value < 2 ^ 32)
 IsIn (T.PositionsOf ty shape value) = IsWord ty × (value < 2 ^ 32)
 IsIn (T.RankOf ty shape value) = IsWord ty × (value < 2 ^ 32)
 IsIn (T.DimOf ty shape axis value) = IsWord ty × (value < 2 ^ 32)
 IsIn (T.Variable ty x) = IsWord ty
+IsIn (T.GetChar ty) = IsWord ty
 IsIn (T.Brackets' ty p inner) = (ty ≡ type_of inner) × IsIn inner
 IsIn (T.Convert' ty p operand) = IsWord ty × IsIn operand
+IsIn (T.Casts' ty elems p operand) = IsWord ty × (ty.elem ≡ cast_type elems.items (type_of operand).elem) × IsIn operand
 IsIn (T.Unary' ty op p operand) = IsWord ty × IsIn operand
 IsIn (T.Binary' ty place op p left q right) = IsWord ty × IsIn left × IsIn right
 IsIn (T.LogicalOr' ty p left q right) = IsWord ty × IsIn left × IsIn right
