@@ -101,7 +101,7 @@ module _ (g : Setting) (has : HasRegisters g) (alive : Variable → Type 0) (n :
 
   -- what a part does, whatever it gives
   abbrev Does_so : (State → Outcome Value) → (Draft → Made Out) → Type 0
-  Does_so part code = (d : Draft) (s : CodeState) (st : State) → first_free (layout g) ≤ d.regs → At g s (length d.code) → Sim g alive st s → Follows g (λ v u out e. Ran g alive d s u e) s (part st) (code d)
+  Does_so part code = (d : Draft) (s : CodeState) (st : State) → g.begins ≤ d.regs → At g s (length d.code) → Sim g alive st s → Follows g (λ v u out e. Ran g alive d s u e) s (part st) (code d)
 
   -- without an operator the value is put in the variable
   set_follows : (place : Place) (ty : ValueType) (value : TExpr) → ty.shape ≡ None → IsIn value → HasCode g.typed g.instance n value
@@ -130,7 +130,7 @@ module _ (g : Setting) (has : HasRegisters g) (alive : Variable → Type 0) (n :
     extends_behind : (b : ℕ) (between : Draft) → Extends g between (behind_value b between)
     extends_behind b between = subst (λ (made : Made Out). Extends g between made) (sym (written_is b between)) (extends_operated g has alive o signed place own own b between)
 
-    with_value : (d : Draft) (s : CodeState) (v : Value) (u : State) (out : Out) (e : Draft) → first_free (layout g) ≤ d.regs → Arrives g alive (type_of value).elem true d s v u out e
+    with_value : (d : Draft) (s : CodeState) (v : Value) (u : State) (out : Out) (e : Draft) → g.begins ≤ d.regs → Arrives g alive (type_of value).elem true d s v u out e
         → Follows g (λ v u out e. Ran g alive d s u e) s (assigned scope active place op ty (type_of value) (OfScalar x) v u) (in_register out (λ b. behind_value b e))
     unfolding in_register Follows number
     with_value d s v u out e free arr =
@@ -203,7 +203,7 @@ module _ (g : Setting) (has : HasRegisters g) (alive : Variable → Type 0) (n :
         by Sp.Increment is_signed = refl
         by Sp.Decrement is_signed = refl
 
-    with_one : (order : StepOrder) (d : Draft) (s : CodeState) (st : State) (q : ℕ) (e : Draft) → first_free (layout g) ≤ d.regs → HasWord g has alive 1 d e s st q
+    with_one : (order : StepOrder) (d : Draft) (s : CodeState) (st : State) (q : ℕ) (e : Draft) → g.begins ≤ d.regs → HasWord g has alive 1 d e s st q
         → Follows g (λ v u out e. Ran g alive d s u e) s (stepped scope active op order ty (OfScalar x) st) (behind_one q e)
     unfolding Follows number
     with_one order d s st q e free h =
@@ -251,7 +251,7 @@ no_place = record { line = 0; col = 0 }
 
 module _ (g : Setting) (has : HasRegisters g) (alive : Variable → Type 0) (n : ℕ) (lives : (x : Variable) → IsDeclared n x → alive x) (ready : (d : Draft) → IsReady g.typed g.instance (layout g) n d) (scope : Scope) (active : Active) where
   abbrev pub Runs : (State → Outcome Value) → (Draft → Made Out) → Type 0
-  Runs part code = (d : Draft) (s : CodeState) (st : State) → first_free (layout g) ≤ d.regs → At g s (length d.code) → Sim g alive st s → Follows g (λ v u out e. Ran g alive d s u e) s (part st) (code d)
+  Runs part code = (d : Draft) (s : CodeState) (st : State) → g.begins ≤ d.regs → At g s (length d.code) → Sim g alive st s → Follows g (λ v u out e. Ran g alive d s u e) s (part st) (code d)
 
   -- the variable, where it is written so
   abbrev chosen : Variable → Bool → Option Own

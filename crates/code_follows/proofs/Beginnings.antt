@@ -86,6 +86,7 @@ module _ (l : Layout) where
       pub turns : t.turns ≡ s.turns
       pub output : t.output ≡ s.output
       pub input : t.input ≡ s.input
+      pub returns : t.returns ≡ s.returns
 
     one_run : (info : VarInfo) (n : ℕ) (d : Draft) (s : CodeState) → IsPlainVariable info → At g s (length d.code) → Within g (start_put info n d) → n < length s.registers → slice_index s.registers n ≡ 0 → Written n info.start s (start_put info n d)
     unfolding start_put scalar_begun begun step_of register_of
@@ -98,7 +99,7 @@ module _ (l : Layout) where
         last = with_instr (I.FrontConvert n n info.elem) between
 
         by : (b : Bool) → (info.start == 0) ≡ b → Within g (if b then d else last) → Written n info.start s (if b then d else last)
-        by true none within = record { t = s; go = stay g s; at = here; registers = refl; is = zero_there ∙ sym (eqb-true info.start 0 none); others = λ q apart. refl; turns = refl; output = refl; input = refl }
+        by true none within = record { t = s; go = stay g s; at = here; registers = refl; is = zero_there ∙ sym (eqb-true info.start 0 none); others = λ q apart. refl; turns = refl; output = refl; input = refl; returns = refl }
         by false some within =
             let s1 : CodeState = with_register n info.start s in
             let s2 : CodeState = with_register n info.start s1 in
@@ -118,6 +119,7 @@ module _ (l : Layout) where
               turns = refl;
               output = refl;
               input = refl;
+              returns = refl;
             }
 
     -- the variables from a number on have their numbers, and the other registers what they had
@@ -132,10 +134,11 @@ module _ (l : Layout) where
       pub turns : t.turns ≡ s.turns
       pub output : t.output ≡ s.output
       pub input : t.input ≡ s.input
+      pub returns : t.returns ≡ s.returns
 
     pub starts_run : (infos : List VarInfo) (n : ℕ) (d : Draft) (s : CodeState) → All IsPlainVariable infos → At g s (length d.code) → Within g (starts_put infos n d) → n + length infos ≤ length s.registers → ((q : ℕ) → n ≤ q → q < n + length infos → slice_index s.registers q ≡ 0) → Started infos n s (starts_put infos n d)
     unfolding starts_put
-    starts_run [] n d s all here within room zeros = record { t = s; go = stay g s; at = here; registers = refl; are = λ k info is. none k info is; below = λ q b. refl; above = λ q b. refl; turns = refl; output = refl; input = refl }
+    starts_run [] n d s all here within room zeros = record { t = s; go = stay g s; at = here; registers = refl; are = λ k info is. none k info is; below = λ q b. refl; above = λ q b. refl; turns = refl; output = refl; input = refl; returns = refl }
       where
         nothing : List VarInfo
         nothing = []
@@ -160,6 +163,7 @@ module _ (l : Layout) where
           turns = rest.turns ∙ first.turns;
           output = rest.output ∙ first.output;
           input = rest.input ∙ first.input;
+          returns = rest.returns ∙ first.returns;
         }
       where
         fits : (k : ℕ) → n + suc k ≤ length s.registers → n < length s.registers

@@ -102,7 +102,7 @@ module _ (g : Setting) (has : HasRegisters g) (alive : Variable → Type 0) (eve
   unfolding Follows Left
   stays_here f n d s0 st at sim = λ within. record { grown = (0, as_it_was d); t = s0; go = stay g s0; at = at; sim = sim; keeps = keeps_all g d s0 }
 
-  expression_follows : (e : TExpr) → IsEffect e → (f : Frame) (n : ℕ) (d : Draft) (s0 : CodeState) (st : State) → first_free (layout g) ≤ d.regs → At g s0 (length d.code) → Sim g alive st s0 → HasStatementCode g.typed g.instance n (S.Expression e)
+  expression_follows : (e : TExpr) → IsEffect e → (f : Frame) (n : ℕ) (d : Draft) (s0 : CodeState) (st : State) → g.begins ≤ d.regs → At g s0 (length d.code) → Sim g alive st s0 → HasStatementCode g.typed g.instance n (S.Expression e)
       → Follows g (Left g alive f d s0) s0 (done scope active (Some e) st) (then_make (part_of g.typed (layout g) (Some e) d) (λ u after. Makes n after))
   unfolding done part_of
   expression_follows e h f n d s0 st free at sim c =
@@ -132,8 +132,8 @@ module _ (g : Setting) (has : HasRegisters g) (alive : Variable → Type 0) (eve
 
   -- a block: its variables, and then its statements
   block_follows : {k : Count} (locals : List LocalVar) (row : Row_of-TStmt k) (f : Frame) (n : ℕ) (d : Draft) (s0 : CodeState) (st : State) → All IsInLocal locals → StandFrom (variables_of g.instance.body) n (map info_of locals) → AreCoded g has alive every ready scope active n locals → RowCode (n + length locals) row
-      → StandsInMain g f → StandsAmong f [] → d.homes ≡ [] → first_free (layout g) ≤ d.regs → At g s0 (length d.code) → Sim g alive st s0
-      → ((e : Draft) (t : CodeState) (u : State) → e.homes ≡ [] → first_free (layout g) ≤ e.regs → At g t (length e.code) → Sim g alive u t → Follows g (Left g alive f e t) t (all_executed scope row (n + length locals) active u) (statements_of g.typed (layout g) row f [] (n + length locals) e))
+      → StandsInMain g f → StandsAmong f [] → d.homes ≡ [] → g.begins ≤ d.regs → At g s0 (length d.code) → Sim g alive st s0
+      → ((e : Draft) (t : CodeState) (u : State) → e.homes ≡ [] → g.begins ≤ e.regs → At g t (length e.code) → Sim g alive u t → Follows g (Left g alive f e t) t (all_executed scope row (n + length locals) active u) (statements_of g.typed (layout g) row f [] (n + length locals) e))
       → Follows g (Left g alive f d s0) s0 (then_go (initialised scope active n locals (zeroed n (length locals) st)) (all_executed scope row (n + length locals) active)) (then_make (declared_in g.typed (layout g) false locals n d) (λ m after. statements_of g.typed (layout g) row f [] m after))
   unfolding declared_in then_make Extends
   block_follows locals row f n d s0 st isin stand initial code framed among none free at sim next =
@@ -171,9 +171,9 @@ module _ (g : Setting) (has : HasRegisters g) (alive : Variable → Type 0) (eve
   unfolding IsShapedStatement IsLowerableStatement StatementNamesVariables
   block_initials n locals p row c = coded g has alive every ready scope active n locals.items c.shaped.0 c.lowerable.0 c.names.0
 
-  row_onward : {k : Count} (s : TStmt) (rest : Row_of-TStmt k) (f : Frame) (n : ℕ) (d : Draft) (s0 : CodeState) (st : State) → StandsInMain g f → StandsAmong f [] → d.homes ≡ [] → first_free (layout g) ≤ d.regs → RowCode n (more_of-TStmt s rest)
+  row_onward : {k : Count} (s : TStmt) (rest : Row_of-TStmt k) (f : Frame) (n : ℕ) (d : Draft) (s0 : CodeState) (st : State) → StandsInMain g f → StandsAmong f [] → d.homes ≡ [] → g.begins ≤ d.regs → RowCode n (more_of-TStmt s rest)
       → Follows g (Left g alive f d s0) s0 (executed scope s n active st) (statement_of g.typed (layout g) s f [] n d)
-      → ((e : Draft) (t : CodeState) (u : State) → e.homes ≡ [] → first_free (layout g) ≤ e.regs → At g t (length e.code) → Sim g alive u t → Follows g (Left g alive f e t) t (all_executed scope rest (n + declared s) active u) (statements_of g.typed (layout g) rest f [] (n + declared s) e))
+      → ((e : Draft) (t : CodeState) (u : State) → e.homes ≡ [] → g.begins ≤ e.regs → At g t (length e.code) → Sim g alive u t → Follows g (Left g alive f e t) t (all_executed scope rest (n + declared s) active u) (statements_of g.typed (layout g) rest f [] (n + declared s) e))
       → Follows g (Left g alive f d s0) s0 (then_go (executed scope s n active st) (all_executed scope rest (n + declared s) active)) (then_make (statement_of g.typed (layout g) s f [] n d) (λ m after. statements_of g.typed (layout g) rest f [] m after))
   unfolding then_make declared
   row_onward s rest f n d s0 st framed among none free c first next =
@@ -205,7 +205,7 @@ module _ (g : Setting) (has : HasRegisters g) (alive : Variable → Type 0) (eve
     statement_follows (S.Return e) h f n d s0 st framed among none free at sim c = return_follows g has alive every ready scope active e h f n d s0 st framed free at sim (returned_code g numbers declares e n c)
     statement_follows _ h f n d s0 st framed among none free at sim c = absurd h
 
-    pub row_follows : {k : Count} (row : Row_of-TStmt k) → AreInStatements row → (f : Frame) (n : ℕ) (d : Draft) (s0 : CodeState) (st : State) → StandsInMain g f → StandsAmong f [] → d.homes ≡ [] → first_free (layout g) ≤ d.regs → At g s0 (length d.code) → Sim g alive st s0
+    pub row_follows : {k : Count} (row : Row_of-TStmt k) → AreInStatements row → (f : Frame) (n : ℕ) (d : Draft) (s0 : CodeState) (st : State) → StandsInMain g f → StandsAmong f [] → d.homes ≡ [] → g.begins ≤ d.regs → At g s0 (length d.code) → Sim g alive st s0
         → RowCode n row → Follows g (Left g alive f d s0) s0 (all_executed scope row n active st) (statements_of g.typed (layout g) row f [] n d)
     row_follows end_of-TStmt h f n d s0 st framed among none free at sim c = stays_here f n d s0 st at sim
     row_follows (more_of-TStmt s rest) h f n d s0 st framed among none free at sim c =

@@ -20,7 +20,7 @@ use Rattle.source_meaning.specs.State as Source
 use Rattle.source_meaning.specs.State.{Outcome, State}
 use Rattle.source_meaning.specs.Values.{Scalar, Value}
 use Rattle.code_follows.specs.Agreement.{AreBytes, mark_of}
-use Rattle.code_follows.proofs.Following.{Follows, HasRegisters, IsScalar, Sim, fresh_lasts, held, register_is, register_kept, register_set}
+use Rattle.code_follows.proofs.Following.{Follows, HasRegisters, IsScalar, Sim, fresh_lasts, held, register_is, register_kept, register_set, variable_kept}
 use Rattle.code_follows.proofs.Settings.{At, Reaches, Setting, Within, and_one, at_next, begins_here, ends_now, layout, one, placed_instr, regs_more}
 use Rattle.code_follows.proofs.Stores.{IsPut, below_free, sim_begun}
 use Rattle.code_follows.proofs.Values.{Does, Value_of, and_register, with_reg}
@@ -51,6 +51,7 @@ module _ (g : Setting) (has : HasRegisters g) (alive : Variable → Type 0) wher
     turns = h.turns;
     output = h.output;
     input = refl;
+    returns = h.returns;
     bytes = more_bytes byte more (subst (λ (xs : List ℕ). AreBytes xs) is h.bytes);
   }
 
@@ -99,7 +100,7 @@ module _ (g : Setting) (has : HasRegisters g) (alive : Variable → Type 0) wher
         go = go;
         at = at_next g instr (with_reg d) s (s.at + 1) here refl;
         sim = register_set g alive v (reading rest s) d.regs w has free later;
-        keeps = register_kept g d s d.regs w (omega arith);
+        keeps = register_kept g d s d.regs w has free (omega arith) (omega (arith, regs, within.own));
         holds = record {
           register = d.regs;
           word = w;
@@ -116,7 +117,7 @@ module _ (g : Setting) (has : HasRegisters g) (alive : Variable → Type 0) wher
     abbrev own : ℕ
     own = register_of (layout g) x
 
-    pub byte_put : (d : Draft) (s : CodeState) (st : State) → first_free (layout g) ≤ d.regs → At g s (length d.code) → Sim g alive st s
+    pub byte_put : (d : Draft) (s : CodeState) (st : State) → g.begins ≤ d.regs → At g s (length d.code) → Sim g alive st s
         → Follows g (λ v u out e. IsPut g has alive x info living scalar d s v u out e) s (next_byte st) (Makes (O.Scalar own) (with_instr (I.FrontGetByte own) d))
     byte_put d s st free here sim =
         reads own d s st (λ v u out e. IsPut g has alive x info living scalar d s v u out e) here sim (λ w rest v few later within go.
@@ -134,5 +135,5 @@ module _ (g : Setting) (has : HasRegisters g) (alive : Variable → Type 0) wher
           value = refl;
           small = few;
           sim = sim_begun g has x info scalar alive alive (λ y later other. later) v (reading rest s) w (below_bits info.elem.bits w also few) inside later;
-          keeps = λ r lo hi. get_or-set_other s.registers own r (held info.elem w) 0 (λ e. omega (arith, e, low, lo));
+          keeps = variable_kept g d s x info (held info.elem w) has scalar.0;
         })

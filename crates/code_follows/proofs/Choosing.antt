@@ -29,7 +29,7 @@ use Rattle.source_meaning.specs.Values.{Active, Scalar, Scope, Value, nonzero, n
 use Rattle.source_meaning.proofs.ConstantLaws.{value_means}
 use Rattle.code_follows.specs.Fragment.{IsIn}
 use Rattle.code_follows.proofs.Branching.{IsMadeWord, decided_goes, goes_on, jump_long, jump_more, tested}
-use Rattle.code_follows.proofs.Following.{Arrives, Extends, Follows, HasRegisters, IsScalar, Keeps, Sim, delayed, held, keeps_all, keeps_on, then_on}
+use Rattle.code_follows.proofs.Following.{Arrives, Extends, Follows, HasRegisters, IsScalar, Keeps, Sim, delayed, held, keeps_all, keeps_on, then_on, kept_later}
 use Rattle.code_follows.proofs.Jumping.{jumps, moved_to, sim_moved}
 use Rattle.code_follows.proofs.Settings.{At, Reaches, Setting, Within, and_one, earlier, layout, onto, start, stay}
 use Rattle.code_follows.proofs.Stores.{IsPut}
@@ -110,7 +110,7 @@ module _ (g : Setting) (has : HasRegisters g) (alive : Variable → Type 0) wher
             is = holds.is;
             value = holds.value;
             small = holds.small;
-            lasts = λ u t later stays same. holds.lasts u t later (λ q low high. stays q low (omega (arith, high, regs))) same;
+            lasts = λ u t later stays same. holds.lasts u t later (λ q kept. stays q (kept_later g e f q (omega (arith, regs)) kept)) same;
           };
         };
   }
@@ -133,7 +133,7 @@ module _ (g : Setting) (has : HasRegisters g) (alive : Variable → Type 0) wher
   -- what the code of an arm does, whatever is said of its last instruction
   abbrev pub Arm_does : Elem → (State → Outcome Value) → Arm → Type 1
   Arm_does elem part arm =
-      (d e : Draft) (n : ℕ) (s0 s : CodeState) (st : State) (R : Value → State → Out → Draft → Type 0) (r : ℕ) → first_free (layout g) ≤ d.regs → Dest g has alive elem d s0 R r → Reaches g s0 s → At g s (length e.code) → Sim g alive st s → Extended d n e → Keeps g d s0 s
+      (d e : Draft) (n : ℕ) (s0 s : CodeState) (st : State) (R : Value → State → Out → Draft → Type 0) (r : ℕ) → g.begins ≤ d.regs → Dest g has alive elem d s0 R r → Reaches g s0 s → At g s (length e.code) → Sim g alive st s → Extended d n e → Keeps g d s0 s
       → Follows g R s0 (part st) (arm (O.Scalar r) e)
 
   pub arm_follows : (elem from : Elem) (long : ℕ) (e : TExpr) (code : Code) (part : State → Outcome Value) → elem.bits ≡ 32 → from.bits ≡ 32 → Does g has alive from true part code → ((d : Draft) → IsMadeWord long d (code d)) → ((w : ℕ) → register_word e ≡ Some w → IsNumber part w)
@@ -167,7 +167,7 @@ module _ (g : Setting) (has : HasRegisters g) (alive : Variable → Type 0) wher
   module _ (elem from : Elem) (long_test long more : ℕ) (test : Code) (first second : Arm) (condition one other : State → Outcome Value) (next : Value → State → Outcome Value) (wide : from.bits ≡ 32) (test_does : Does g has alive from true condition test)
       (first_does : Arm_does elem one first) (second_does : Arm_does elem other second) (test_made : (d : Draft) → IsMadeWord long_test d (test d)) (first_made : (r : ℕ) (d : Draft) → IsMadeTo r long d (first (O.Scalar r) d)) (second_made : (r : ℕ) (d : Draft) → IsMadeTo r more d (second (O.Scalar r) d))
       (next_is : (v : Value) (st : State) → next v st ≡ (if nonzero (number v) then one st else other st)) where
-    module _ (d : Draft) (s : CodeState) (st : State) (R : Value → State → Out → Draft → Type 0) (r : ℕ) (free : first_free (layout g) ≤ d.regs) (there : At g s (length d.code)) (sim : Sim g alive st s) (dest : Dest g has alive elem d s R r) (lands : Lands r R) where
+    module _ (d : Draft) (s : CodeState) (st : State) (R : Value → State → Out → Draft → Type 0) (r : ℕ) (free : g.begins ≤ d.regs) (there : At g s (length d.code)) (sim : Sim g alive st s) (dest : Dest g has alive elem d s R r) (lands : Lands r R) where
       -- the drafts, one behind another
       abbrev tests : IsMadeWord long_test d (test d)
       tests = test_made d

@@ -25,7 +25,7 @@ use Rattle.source_meaning.specs.State.{State, is_among, is_same, with_scalar, ze
 use Rattle.code_follows.specs.Fragment.{IsInLocal}
 use Rattle.code_follows.specs.Agreement.{AreBytes}
 use Rattle.code_follows.proofs.Executing.{ran_from}
-use Rattle.code_follows.proofs.Following.{HasRegisters, IsScalar, Keeps, Ran, Sim, held, input_of, keeps_all}
+use Rattle.code_follows.proofs.Following.{HasRegisters, IsScalar, Keeps, Ran, Sim, held, input_of, keeps_all, variable_kept}
 use Rattle.code_follows.proofs.Settings.{At, Setting, Within, and_one, at_next, begins_here, earlier, layout, one, regs_more, stay}
 use Rattle.code_follows.proofs.Stores.{below_free, same_is, sim_begun}
 use Rattle.code_follows.proofs.Words.{held_wide}
@@ -85,6 +85,7 @@ module _ (g : Setting) where
     turns = h.turns ∙ sym turns;
     output = h.output ∙ sym output;
     input = h.input ∙ sym input;
+    returns = h.returns;
     bytes = subst (λ (i : Machine.Rest). AreBytes i.bytes) (sym input) h.bytes;
   }
 
@@ -98,7 +99,7 @@ module _ (g : Setting) where
     turns = h.turns;
     output = h.output;
     input = h.input;
-    bytes = h.bytes;
+    bytes = h.bytes; returns = h.returns;
   }
 
   ran_fewer : (more fewer : Variable → Type 0) (d : Draft) (s : CodeState) (u v : State) (e : Draft) → ((x : Variable) → fewer x → more x) → ((x : Variable) → v.scalar x ≡ u.scalar x) → v.turns ≡ u.turns → v.output ≡ u.output → input_of v ≡ input_of u
@@ -131,7 +132,7 @@ module _ (g : Setting) (has : HasRegisters g) where
     pub is : all_cleared (layout g) false locals n d ≡ Makes tt e
     pub count : ℕ
     pub grown : Extended d count e
-    pub runs : (s : CodeState) (st : State) → ((k : ℕ) → n ≤ k → before (V.Local k)) → first_free (layout g) ≤ d.regs → At g s (length d.code) → Sim g before st s → Within g e
+    pub runs : (s : CodeState) (st : State) → ((k : ℕ) → n ≤ k → before (V.Local k)) → g.begins ≤ d.regs → At g s (length d.code) → Sim g before st s → Within g e
         → Ran g (λ x. before x × Started locals n x) d s (zeroed n (length locals) st) e
 
   cleared_so : (local : LocalVar) → local.info.shape ≡ None → (n : ℕ) (d : Draft) (b : Bool) → begins_constant local ≡ b → (next : Draft → Made (Unit {0}))
@@ -177,7 +178,7 @@ module _ (g : Setting) (has : HasRegisters g) where
         turns = sim.turns;
         output = sim.output;
         input = sim.input;
-        bytes = sim.bytes;
+        bytes = sim.bytes; returns = sim.returns;
       }
         where
           not_it : (x : Variable) → (x ≡ V.Local n → ⊥) → (with_scalar (V.Local n) 0 st).scalar x ≡ st.scalar x
@@ -208,7 +209,7 @@ module _ (g : Setting) (has : HasRegisters g) where
             let first_within : Within g between = earlier g between rest.e rest.count rest.grown within in
             let inside : r < length s.registers = omega (arith, low, free, first_within.regs, more, sim.registers) in
             let sim1 : Sim g before st1 s1 = subst (λ (w : ℕ). Sim g before st1 (with_register r w s)) zero_held (sim_begun g has (V.Local n) local.info scalar before before (λ y living other. living) st s 0 (small_zero local.info.elem.bits isin.0.1) inside sim) in
-            let kept : Keeps g d s s1 = λ q lo hi. get_or-set_other s.registers r q 0 0 (λ e. omega (arith, e, low, lo)) in
+            let kept : Keeps g d s s1 = variable_kept g d s (V.Local n) local.info 0 has scalar.0 in
             let ran = rest.runs s1 st1 (λ k less. later k (omega (arith, less))) (omega (arith, free, more)) (at_next g (I.FrontConst r 0) d s (s.at + 1) at refl) sim1 within in
             let all = ran_from g (λ x. before x × Started locals (n + 1) x) d between 1 s s1 (zeroed (n + 1) (length locals) st1) rest.e (and_one g (I.FrontConst r 0) d) (one g s s1 (begins_here g (I.FrontConst r 0) d s first_within refl at)) kept ran in
             ran_fewer g (λ x. before x × Started locals (n + 1) x) (λ x. before x × Started (local ∷ locals) n x) d s (zeroed (n + 1) (length locals) st1) (zeroed n (suc (length locals)) st) rest.e

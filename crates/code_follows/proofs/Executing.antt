@@ -134,7 +134,7 @@ module _ (g : Setting) (alive : Variable → Type 0) where
     pub is : nonzero (slice_index t.registers r) ≡ b
 
   module _ (has : HasRegisters g) (every : (x : Variable) → alive x) (n : ℕ) (ready : (d : Draft) → IsReady g.typed g.instance (layout g) n d) (scope : Scope) (active : Active) where
-    pub test_follows : (test : TExpr) → IsIn test → HasCode g.typed g.instance n test → (d : Draft) (s : CodeState) (st : State) → first_free (layout g) ≤ d.regs → At g s (length d.code) → Sim g alive st s
+    pub test_follows : (test : TExpr) → IsIn test → HasCode g.typed g.instance n test → (d : Draft) (s : CodeState) (st : State) → g.begins ≤ d.regs → At g s (length d.code) → Sim g alive st s
         → Follows g (Tested d s) s (passes scope active test st) (condition_of g.typed (layout g) test d)
     unfolding passes condition_of Extends Follows in_register number
     test_follows test isin c d s st free here sim =

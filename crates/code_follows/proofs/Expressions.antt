@@ -421,7 +421,7 @@ module _ (g : Setting) (has : HasRegisters g) (alive : Variable → Type 0) (n :
 
   -- `?:` into the register of which something is said
   pub choice_goes : (ty : ValueType) (bits : ℕ) (test first second : TExpr) → IsWord ty → IsIn test → IsIn first → IsIn second → AreChosen test first second → Agrees true (bits_of (kind_of test)) test → Agrees true bits first → Agrees true bits second
-      → (d : Draft) (s : CodeState) (st : State) (R : Value → State → Out → Draft → Type 0) (r : ℕ) → first_free (layout g) ≤ d.regs → At g s (length d.code) → Sim g alive st s → Dest g has alive ty.elem d s R r → Lands g has alive r R
+      → (d : Draft) (s : CodeState) (st : State) (R : Value → State → Out → Draft → Type 0) (r : ℕ) → g.begins ≤ d.regs → At g s (length d.code) → Sim g alive st s → Dest g has alive ty.elem d s R r → Lands g has alive r R
       → Follows g R s (then_do (evaluated scope test active st) (λ v after. choose (type_of test).shape v (evaluated scope first) (evaluated scope second) active after)) (scalar_choice_of g.typed (layout g) ty bits test first second (O.Scalar r) d)
   unfolding scalar_choice_of
   choice_goes ty bits test first second word h k m c tests one other d s st R r free here sim dest lands =

@@ -1,5 +1,5 @@
 -- The code of a unit follows the source: what registers hold, and what one instruction does to that.
-use Rattle.std.proofs.Common.{◌≡◌, ◌∙◌, ℕ, ◌+◌, ◌<◌, ◌≤◌, ◌^◌, Bool, true, length, slice_index, Some, None, refl, arith}
+use Rattle.std.proofs.Common.{◌≡◌, ◌∙◌, ℕ, ◌+◌, ◌<◌, ◌≤◌, ◌^◌, Bool, true, length, slice_index, Some, None, refl, arith, ◌⊎◌, inl, inr, subst, sym}
 use Rattle.std.proofs.lemmas.List.{get_or-set_other, get_or-set_same}
 use Rattle.std.proofs.Math.ListN.{length-set}
 use Rattle.cstar_base.specs.declared.elem.Elem.{Elem}
@@ -34,6 +34,9 @@ input_of st = record { bytes = st.input; mark = mark_of st.rest }
 -- the registers of an instance's variables are below the constants, each variable has its own
 pub record HasRegisters (g : Setting) : Type 0 where
   pub below : (x : Variable) (info : VarInfo) → variable_named g.typed g.instance x ≡ Some info → register_of (layout g) x < (layout g).end
+  pub free : first_free (layout g) ≤ g.begins
+  pub spared_variable : (r : ℕ) → g.spared r → (x : Variable) (info : VarInfo) → variable_named g.typed g.instance x ≡ Some info → r ≡ register_of (layout g) x → ⊥
+  pub spared_own : (r : ℕ) → g.spared r → g.begins ≤ r → r < g.ends → ⊥
   pub apart : (x y : Variable) (info other : VarInfo) → variable_named g.typed g.instance x ≡ Some info → variable_named g.typed g.instance y ≡ Some other → register_of (layout g) x ≡ register_of (layout g) y → x ≡ y
 
 module _ (g : Setting) where
@@ -51,14 +54,31 @@ module _ (g : Setting) where
     pub turns : s.turns ≡ st.turns
     pub output : s.output ≡ st.output
     pub input : s.input ≡ input_of st
+    pub returns : s.returns ≡ g.returns
     pub bytes : AreBytes st.input
 
-  -- what stood in the registers of values stays
+  -- a register of a value, or one that is spared
+  unfoldable pub IsKept : Draft → ℕ → Type 0
+  IsKept d r = ((g.begins ≤ r) × (r < d.regs)) ⊎ g.spared r
+
+  -- what stood in these stays
   abbrev pub Keeps : Draft → CodeState → CodeState → Type 0
-  Keeps d s t = (r : ℕ) → first_free (layout g) ≤ r → r < d.regs → slice_index t.registers r ≡ slice_index s.registers r
+  Keeps d s t = (r : ℕ) → IsKept d r → slice_index t.registers r ≡ slice_index s.registers r
+
+  pub kept_later : (d e : Draft) (r : ℕ) → d.regs ≤ e.regs → IsKept d r → IsKept e r
+  unfolding IsKept
+  kept_later d e r more (inl own) = inl (own.0, omega (arith, own.1, more))
+  kept_later d e r more (inr spared) = inr spared
+
+  pub value_kept : (d : Draft) (r : ℕ) → g.begins ≤ r → r < d.regs → IsKept d r
+  unfolding IsKept
+  value_kept d r low high = inl (low, high)
+
+  pub keeps_less : (d e : Draft) (s t : CodeState) → d.regs ≤ e.regs → Keeps e s t → Keeps d s t
+  keeps_less d e s t more keeps r kept = keeps r (kept_later d e r more kept)
 
   pub keeps_on : (d e : Draft) (n : ℕ) (s t u : CodeState) → Extended d n e → Keeps d s t → Keeps e t u → Keeps d s u
-  keeps_on d e n s t u x a b r low high = b r low (omega (arith, high, x.regs)) ∙ a r low high
+  keeps_on d e n s t u x a b r kept = b r (kept_later d e r x.regs kept) ∙ a r kept
 
   -- the code goes on from a draft
   unfoldable pub Extends : {A : Type 0} → Draft → Made A → Type 0
@@ -136,21 +156,29 @@ module _ (g : Setting) where
     pub holds : Holds alive elem quiet e st t out v
 
   -- a register that holds no variable and no constant takes a number
-  pub register_set : (alive : Variable → Type 0) (st : State) (s : CodeState) (r v : ℕ) → HasRegisters g → first_free (layout g) ≤ r → Sim alive st s → Sim alive st (with_register r v s)
+  pub register_set : (alive : Variable → Type 0) (st : State) (s : CodeState) (r v : ℕ) → HasRegisters g → g.begins ≤ r → Sim alive st s → Sim alive st (with_register r v s)
   unfolding first_free
   register_set alive st s r v has low h = record {
     registers = length-set s.registers r v ∙ h.registers;
-    scalars = λ x info known scalar. get_or-set_other s.registers r (register_of (layout g) x) v 0 (λ e. let b = has.below x info scalar.0 in omega (arith, e, b, low)) ∙ h.scalars x info known scalar;
+    scalars = λ x info known scalar. get_or-set_other s.registers r (register_of (layout g) x) v 0 (λ e. let b = has.below x info scalar.0 in let free = has.free in omega (arith, e, b, free, low)) ∙ h.scalars x info known scalar;
     small = h.small;
-    constants = λ word q is. get_or-set_other s.registers r q v 0 (λ e. let b = below_values (layout g) word q is in omega (arith, e, b, low)) ∙ h.constants word q is;
+    constants = λ word q is. get_or-set_other s.registers r q v 0 (λ e. let b = below_values (layout g) word q is in let free = has.free in omega (arith, e, b, free, low)) ∙ h.constants word q is;
     turns = h.turns;
     output = h.output;
     input = h.input;
-    bytes = h.bytes;
+    bytes = h.bytes; returns = h.returns;
   }
 
-  pub register_kept : (d : Draft) (s : CodeState) (r v : ℕ) → d.regs ≤ r → Keeps d s (with_register r v s)
-  register_kept d s r v low q from below = get_or-set_other s.registers r q v 0 (λ e. omega (arith, e, low, below))
+  pub register_kept : (d : Draft) (s : CodeState) (r v : ℕ) → HasRegisters g → g.begins ≤ d.regs → d.regs ≤ r → r < g.ends → Keeps d s (with_register r v s)
+  unfolding IsKept
+  register_kept d s r v has free low high q (inl own) = get_or-set_other s.registers r q v 0 (λ e. let below = own.1 in omega (arith, e, low, below))
+  register_kept d s r v has free low high q (inr spared) = get_or-set_other s.registers r q v 0 (λ e. has.spared_own r (subst (λ (n : ℕ). g.spared n) e spared) (omega (arith, free, low)) high)
+
+  -- the register of a variable is none of those that are kept
+  pub variable_kept : (d : Draft) (s : CodeState) (x : Variable) (info : VarInfo) (v : ℕ) → HasRegisters g → variable_named g.typed g.instance x ≡ Some info → Keeps d s (with_register (register_of (layout g) x) v s)
+  unfolding IsKept first_free
+  variable_kept d s x info v has named q (inl own) = get_or-set_other s.registers (register_of (layout g) x) q v 0 (λ e. let below = has.below x info named in let free = has.free in let low = own.0 in omega (arith, e, below, free, low))
+  variable_kept d s x info v has named q (inr spared) = get_or-set_other s.registers (register_of (layout g) x) q v 0 (λ e. has.spared_variable q spared x info named e)
 
   pub register_is : (s : CodeState) (r v : ℕ) → r < length s.registers → slice_index (with_register r v s).registers r ≡ v
   register_is s r v h = get_or-set_same s.registers r v 0 h
@@ -164,11 +192,12 @@ module _ (g : Setting) where
   knowing R s (Source.Ends early st) Fails h = tt
 
   pub keeps_all : (d : Draft) (s : CodeState) → Keeps d s s
-  keeps_all d s r low below = refl
+  keeps_all d s r kept = refl
 
   -- a register of a value
-  pub fresh_lasts : (alive : Variable → Type 0) (e : Draft) (st : State) (s : CodeState) (r w v : ℕ) → first_free (layout g) ≤ r → r < e.regs → slice_index s.registers r ≡ v → (u : State) (t : CodeState) → Sim alive u t → Keeps e s t → slice_index t.registers r ≡ v
-  fresh_lasts alive e st s r w v low below is u t sim keeps = keeps r low below ∙ is
+  pub fresh_lasts : (alive : Variable → Type 0) (e : Draft) (st : State) (s : CodeState) (r w v : ℕ) → g.begins ≤ r → r < e.regs → slice_index s.registers r ≡ v → (u : State) (t : CodeState) → Sim alive u t → Keeps e s t → slice_index t.registers r ≡ v
+  unfolding IsKept
+  fresh_lasts alive e st s r w v low below is u t sim keeps = keeps r (inl (low, below)) ∙ is
 
   -- a part, and what is made of its value
   pub then_gives : {A B C : Type 0} (R : A → State → B → Draft → Type 0) (Q : C → State → B → Draft → Type 0) (s : CodeState) (o : Outcome A) (f : A → C) (made : Made B) → Follows R s o made → ((x : A) (st : State) (y : B) (e : Draft) → R x st y e → Q (f x) st y e)

@@ -74,7 +74,7 @@ module _ (g : Setting) (has : HasRegisters g) (alive : Variable → Type 0) (eve
   effect_ran d s (Source.Gives v u) Fails h = tt
   effect_ran d s (Source.Ends early u) Fails h = tt
 
-  part_follows : (n : ℕ) (o : Option TExpr) → IfSome o IsEffect → IfSome o (HasCode g.typed g.instance n) → (d : Draft) (s : CodeState) (st : State) → first_free (layout g) ≤ d.regs → At g s (length d.code) → Sim g alive st s
+  part_follows : (n : ℕ) (o : Option TExpr) → IfSome o IsEffect → IfSome o (HasCode g.typed g.instance n) → (d : Draft) (s : CodeState) (st : State) → g.begins ≤ d.regs → At g s (length d.code) → Sim g alive st s
       → Follows g (RanOn g alive d s) s (done scope active o st) (part_of g.typed (layout g) o d)
   unfolding done part_of Follows
   part_follows n None h c d s st free here sim = λ within. (refl, record { grown = (0, as_it_was d); t = s; go = stay g s; at = here; sim = sim; keeps = keeps_all g d s })
@@ -214,7 +214,7 @@ module _ (g : Setting) (has : HasRegisters g) (alive : Variable → Type 0) (eve
       all_grown = extended made_first.e enters behind_loop 1 (1 + (long + (part_length_of g.typed (layout g) step + (used_length_of g.typed (layout g) 32 true test + 1)))) (and_one g (I.FrontJump place) made_first.e) enters_grown
 
       -- the turns, behind the first part
-      turns_follow : (t : CodeState) (u : State) → first_free (layout g) ≤ made_first.e.regs → At g t (length made_first.e.code) → Sim g alive u t
+      turns_follow : (t : CodeState) (u : State) → g.begins ≤ made_first.e.regs → At g t (length made_first.e.code) → Sim g alive u t
           → Follows g (Left g alive f made_first.e t) t (rounds u.turns (passes scope active test) (λ v. executed scope body n active v) (λ v. done scope active step v) u) (Makes (behind n body) behind_loop)
       unfolding Extends in_loop
       turns_follow t u free at sim =
@@ -344,7 +344,7 @@ module _ (g : Setting) (has : HasRegisters g) (alive : Variable → Type 0) (eve
           (extended do_before made_do.e behind_do do_long (used_length_of g.typed (layout g) 32 true test + 1) made_do.extended
           (extended made_do.e made_while.e behind_do (used_length_of g.typed (layout g) 32 true test) 1 made_while.extended (and_one g (I.FrontJumpNonzero made_while.r do_turn) made_while.e)))
 
-      do_follows : (t : CodeState) (u : State) → first_free (layout g) ≤ d.regs → At g t (length d.code) → Sim g alive u t
+      do_follows : (t : CodeState) (u : State) → g.begins ≤ d.regs → At g t (length d.code) → Sim g alive u t
           → Follows g (Left g alive f d t) t (then_round (spend_turn u (λ v. executed scope body n active v)) (λ s. rounds s.turns (passes scope active test) (λ v. executed scope body n active v) (λ v. Source.Gives Onward v) s)) (Makes (behind n body) behind_do)
       unfolding Extends in_loop state_after Follows
       do_follows t u free at sim =

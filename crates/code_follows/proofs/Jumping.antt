@@ -33,7 +33,7 @@ module _ (g : Setting) (alive : Variable → Type 0) where
   moved_to place s = record s { at = place }
 
   pub sim_moved : (st : State) (s : CodeState) (place : ℕ) → Sim g alive st s → Sim g alive st (moved_to place s)
-  sim_moved st s place h = record { registers = h.registers; scalars = h.scalars; small = h.small; constants = h.constants; turns = h.turns; output = h.output; input = h.input; bytes = h.bytes }
+  sim_moved st s place h = record { registers = h.registers; scalars = h.scalars; small = h.small; constants = h.constants; turns = h.turns; output = h.output; input = h.input; bytes = h.bytes; returns = h.returns }
 
   -- a jump
   pub jumps : (target : ℕ) (e : Draft) (s : CodeState) → Within g (with_instr (I.FrontJump target) e) → At g s (length e.code) → Reaches g s (moved_to (target + start g) s)
@@ -83,4 +83,4 @@ module _ (g : Setting) (alive : Variable → Type 0) where
       ∙ ap (λ (n : ℕ). Goes (behind_turn s n)) one_less)
 
   pub sim_spent : (st : State) (s : CodeState) (left : ℕ) → Sim g alive st s → Sim g alive (record st { turns = left }) (behind_turn s left)
-  sim_spent st s left h = record { registers = h.registers; scalars = h.scalars; small = h.small; constants = h.constants; turns = refl; output = h.output; input = h.input; bytes = h.bytes }
+  sim_spent st s left h = record { registers = h.registers; scalars = h.scalars; small = h.small; constants = h.constants; turns = refl; output = h.output; input = h.input; bytes = h.bytes; returns = h.returns }

@@ -15,7 +15,7 @@ use Rattle.source_meaning.specs.State.{Outcome, State, spend_turn, then_do}
 use Rattle.source_meaning.specs.Statements.{Broke, Continued, Leaving, Onward, Returned, executed, passes, rounds, then_go, then_round}
 use Rattle.source_meaning.specs.Values.{Active, Scope}
 use Rattle.code_follows.proofs.Executing.{Halted, Jumped, Left, RanOn, Tested, no_break, no_continue, no_return}
-use Rattle.code_follows.proofs.Following.{Finishes, Follows, Keeps, Sim, finishes_later, keeps_all}
+use Rattle.code_follows.proofs.Following.{Finishes, Follows, Keeps, Sim, finishes_later, keeps_all, keeps_less}
 use Rattle.code_follows.proofs.Jumping.{behind_turn, moved_to, returns_to, sim_moved, sim_spent, spends, stops}
 use Rattle.code_follows.proofs.Settings.{At, Reaches, Setting, Within, and_one, code_more, earlier, ends_later, onto, start}
 
@@ -40,7 +40,7 @@ module _ (g : Setting) (alive : Variable → Type 0) (scope : Scope) (active : A
 
   pub ends_from : (s t : CodeState) (o : Outcome Leaving) → Reaches g s t → Keeps g d s t → LoopEnds t o → LoopEnds s o
   unfolding LoopEnds
-  ends_from s t (Source.Gives Onward st) go keeps j = record { t = j.t; go = onto g s t j.t go j.go; at = j.at; sim = j.sim; keeps = λ q lo hi. j.keeps q lo hi ∙ keeps q lo hi }
+  ends_from s t (Source.Gives Onward st) go keeps j = record { t = j.t; go = onto g s t j.t go j.go; at = j.at; sim = j.sim; keeps = λ q kept. j.keeps q kept ∙ keeps q kept }
   ends_from s t (Source.Gives (Returned v) st) go keeps h = halted_from s t st go h
   ends_from s t (Source.Gives Broke st) go keeps h = absurd h
   ends_from s t (Source.Gives Continued st) go keeps h = absurd h
@@ -65,13 +65,13 @@ module _ (g : Setting) (alive : Variable → Type 0) (scope : Scope) (active : A
 
     -- what is kept behind the body is kept behind the loop's beginning
     kept_by_body : (s t : CodeState) → Keeps g before_body s t → Keeps g d s t
-    kept_by_body s t keeps q lo hi = keeps q lo (omega (arith, hi, regs))
+    kept_by_body s t keeps = keeps_less g d before_body s t regs keeps
 
     kept_by_step : (s t : CodeState) → Keeps g behind_body s t → Keeps g d s t
-    kept_by_step s t keeps q lo hi = keeps q lo (omega (arith, hi, regs, body_grows.regs))
+    kept_by_step s t keeps = keeps_less g d behind_body s t (omega (arith, regs, body_grows.regs)) keeps
 
     kept_by_test : (s t : CodeState) → Keeps g stepped s t → Keeps g d s t
-    kept_by_test s t keeps q lo hi = keeps q lo (omega (arith, hi, regs, body_grows.regs, step_grows.regs))
+    kept_by_test s t keeps = keeps_less g d stepped s t (omega (arith, regs, body_grows.regs, step_grows.regs)) keeps
 
     -- a turn, the body, and what comes next
     pub take_turn : (u : State) (t : CodeState) (next : State → Outcome Leaving) → At g t (length before_turn.code) → Sim g alive u t → ((m : ℕ) (v : State) (w : CodeState) → u.turns ≡ suc m → v.turns ≤ m → At g w (length behind_body.code) → Sim g alive v w → LoopEnds w (next v))

@@ -59,10 +59,11 @@ module _ (g : Setting) where
     pub turns : t.turns ≡ s.turns
     pub output : t.output ≡ s.output
     pub input : t.input ≡ s.input
+    pub returns : t.returns ≡ s.returns
 
   pub constants_run : (words : List ℕ) (r : ℕ) (d : Draft) (s : CodeState) → At g s (length d.code) → Within g (constants_put words r d) → r + length words ≤ length s.registers → Constants words r s (constants_put words r d)
   unfolding constants_put begun step_of
-  constants_run [] r d s here within room = record { t = s; go = stay g s; at = here; registers = refl; below = λ q b. refl; are = λ i b. absurd (omega (arith, b)); turns = refl; output = refl; input = refl }
+  constants_run [] r d s here within room = record { t = s; go = stay g s; at = here; registers = refl; below = λ q b. refl; are = λ i b. absurd (omega (arith, b)); turns = refl; output = refl; input = refl; returns = refl }
   constants_run (w ∷ words) r d s here within room =
       let e : Draft = with_instr (I.FrontConst r w) d in
       let early : Within g e = earlier g e (constants_put words (r + 1) e) (length words) (constants_extend words (r + 1) e) within in
@@ -79,6 +80,7 @@ module _ (g : Setting) where
         turns = rest.turns;
         output = rest.output;
         input = rest.input;
+        returns = rest.returns;
       }
     where
       fits : (n : ℕ) → r + suc n ≤ length s.registers → length (with_register r w s).registers ≡ length s.registers → r + 1 + n ≤ length (with_register r w s).registers
@@ -276,6 +278,11 @@ module _ (t : Typed) (image : Image) (p : IsScalarProgram t) (codable : IsCodabl
     is_unit = unit_there.1.0;
     instance = p.main;
     is_instance = first_is t p the_words;
+    is_main = true;
+    begins = base;
+    ends = has_unit.unit.regs;
+    spared = λ r. ⊥;
+    returns = [];
   }
 
   pub slots_are : image.slots ≡ has_unit.unit.regs
@@ -288,6 +295,7 @@ module _ (t : Typed) (image : Image) (p : IsScalarProgram t) (codable : IsCodabl
     more = [];
     code = ap (λ (d : Draft). d.code) unit_there.1.1 ∙ sym (append-nil has_unit.unit.code);
     regs = let h = slots_are in omega (arith, h);
+    own = omega arith;
   }
 
   -- ---- what stands before the body

@@ -94,7 +94,7 @@ module _ (g : Setting) (has : HasRegisters g) (alive : Variable → Type 0) (n :
   unfolding are_quiet
   first_quiet quiet e rest calm is = Quiet.both (is_quiet e) (are_quiet rest) (calm is)
 
-  arguments_follow : {k : Count} (quiet : Bool) (row : Row_of-TExpr k) → (quiet ≡ true → are_quiet row ≡ true) → AreIn row → HaveCode g.typed g.instance n row → (outs : List Out) (d : Draft) (s : CodeState) (st : State) → first_free (layout g) ≤ d.regs → At g s (length d.code) → Sim g alive st s
+  arguments_follow : {k : Count} (quiet : Bool) (row : Row_of-TExpr k) → (quiet ≡ true → are_quiet row ≡ true) → AreIn row → HaveCode g.typed g.instance n row → (outs : List Out) (d : Draft) (s : CodeState) (st : State) → g.begins ≤ d.regs → At g s (length d.code) → Sim g alive st s
       → Follows g (Given quiet d s st outs) s (operands scope row active st) (values_of g.typed (layout g) false quiet row outs d)
   unfolding AreIn HaveCode operands values_of Follows AreHeld state_behind
   arguments_follow quiet end_of-TExpr calm h c outs d s st free here sim = λ within. record {
@@ -116,7 +116,7 @@ module _ (g : Setting) (has : HasRegisters g) (alive : Variable → Type 0) (n :
       (λ v u out after both. first v u out after both (λ f regs. arguments_follow quiet rest (λ is. (first_quiet quiet e rest calm is).1) h.1 c.1 (outs ++ out ∷ []) after f u regs))
     where
       first : (v : Value) (u : State) (out : Out) (after : Draft) → (both : (evaluated scope e active st ≡ Source.Gives v u) × Arrives g alive (type_of e).elem quiet d s v u out after)
-          → ((t : CodeState) → first_free (layout g) ≤ after.regs → At g t (length after.code) → Sim g alive u t → Follows g (Given quiet after t u (outs ++ out ∷ [])) t (operands scope rest active u) (values_of g.typed (layout g) false quiet rest (outs ++ out ∷ []) after))
+          → ((t : CodeState) → g.begins ≤ after.regs → At g t (length after.code) → Sim g alive u t → Follows g (Given quiet after t u (outs ++ out ∷ [])) t (operands scope rest active u) (values_of g.typed (layout g) false quiet rest (outs ++ out ∷ []) after))
           → Follows g (Given quiet d s st outs) s (then_do (operands scope rest active u) (λ given later. Source.Gives (record { elem = (type_of e).elem; value = v } ∷ given) later)) (values_of g.typed (layout g) false quiet rest (outs ++ out ∷ []) after)
       first v u out after both others =
           let arr = both.1 in
@@ -164,7 +164,7 @@ module _ (g : Setting) (has : HasRegisters g) (alive : Variable → Type 0) (n :
   -- the source and the code print the same
   sim_printed : (bytes : List ℕ) (st : State) (s : CodeState) → Sim g alive st s → Sim g alive (with_output bytes st) (with_printed bytes s)
   unfolding with_output
-  sim_printed bytes st s h = record { registers = h.registers; scalars = h.scalars; small = h.small; constants = h.constants; turns = h.turns; output = ap (λ (o : List ℕ). o ++ bytes) h.output; input = h.input; bytes = h.bytes }
+  sim_printed bytes st s h = record { registers = h.registers; scalars = h.scalars; small = h.small; constants = h.constants; turns = h.turns; output = ap (λ (o : List ℕ). o ++ bytes) h.output; input = h.input; bytes = h.bytes; returns = h.returns }
 
   printed_on : (one rest : List ℕ) (st : State) → with_output (one ++ rest) st ≡ with_output rest (with_output one st)
   unfolding with_output
@@ -196,7 +196,7 @@ module _ (g : Setting) (has : HasRegisters g) (alive : Variable → Type 0) (n :
       → Prints rest (with_instr instr d) (with_printed text s) (with_output text st) made → Prints (text ++ rest) d s st made
   prints_one instr text rest d s st made plain begins here grows later =
       delayed g (λ v u out f. Ran g alive d s u f) (with_instr instr d) s (Source.Gives Nothing (with_output (text ++ rest) st)) made grows (λ within.
-      from_before d (with_instr instr d) 1 s (with_printed text s) (Source.Gives Nothing (with_output (text ++ rest) st)) made (and_one g instr d) (one g s (with_printed text s) (begins_here g instr d s within plain here ∙ begins)) (λ r low high. refl)
+      from_before d (with_instr instr d) 1 s (with_printed text s) (Source.Gives Nothing (with_output (text ++ rest) st)) made (and_one g instr d) (one g s (with_printed text s) (begins_here g instr d s within plain here ∙ begins)) (λ r kept. refl)
       (subst (λ (u : State). Follows g (λ v w out f. Ran g alive (with_instr instr d) (with_printed text s) w f) (with_printed text s) (Source.Gives Nothing u) made) (sym (printed_on text rest st)) later))
 
   pieces_follow : (pieces : List Piece) (words : List ℕ) (outs : List Out) (d : Draft) (s : CodeState) (st : State) → At g s (length d.code) → Sim g alive st s → Stand words outs s.registers
@@ -221,7 +221,7 @@ module _ (g : Setting) (has : HasRegisters g) (alive : Variable → Type 0) (n :
   arguments_code end_of-TExpr shaped lowerable names = tt
   arguments_code (more_of-TExpr e rest) shaped lowerable names = (record { shaped = shaped.0; lowerable = lowerable.0; names = names.0 }, arguments_code rest shaped.1 lowerable.1 names.1)
 
-  pub printf_follows : {k : Count} (pieces : List Piece) (row : Row_of-TExpr k) → AreIn row → HaveCode g.typed g.instance n row → (d : Draft) (s : CodeState) (st : State) → first_free (layout g) ≤ d.regs → At g s (length d.code) → Sim g alive st s
+  pub printf_follows : {k : Count} (pieces : List Piece) (row : Row_of-TExpr k) → AreIn row → HaveCode g.typed g.instance n row → (d : Draft) (s : CodeState) (st : State) → g.begins ≤ d.regs → At g s (length d.code) → Sim g alive st s
       → Follows g (λ v u out e. Ran g alive d s u e) s (then_do (operands scope row active st) (λ given after. Source.Gives Nothing (with_output (printed pieces (map number (given_values given))) after))) (then_make (values_of g.typed (layout g) false (are_quiet row) row [] d) (λ given after. pieces_printed pieces given after))
   printf_follows pieces row isin c d s st free here sim =
       then_follows g (Given (are_quiet row) d s st []) (λ v u out e. Ran g alive d s u e) s s (operands scope row active st) _ _ _ (stay g s) (arguments_follow (are_quiet row) row (λ is. is) isin c [] d s st free here sim) (λ given e. pieces_grow pieces given e)

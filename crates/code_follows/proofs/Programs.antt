@@ -87,7 +87,7 @@ module _ (t : Typed) (image : Image) (p : IsScalarProgram t) (codable : IsCodabl
   own = the_layout t image p codable compiled
 
   has : HasRegisters g
-  has = record { below = below t p (the_words t image p codable compiled); apart = apart t p (the_words t image p codable compiled) }
+  has = record { free = omega arith; spared_variable = λ r none x info named e. none; spared_own = λ r none low high. none; below = below t p (the_words t image p codable compiled); apart = apart t p (the_words t image p codable compiled) }
 
   begins_at : start g ≡ 0
   begins_at = starts_at_zero compiled.after.units.items
@@ -209,11 +209,11 @@ module _ (t : Typed) (image : Image) (p : IsScalarProgram t) (codable : IsCodabl
         let long = c.registers in
         let zeros : (q : ℕ) → q < own.end → slice_index c.t.registers q ≡ 0 = λ q low. c.below q low ∙ get_or-replicate image.slots q 0 0 (omega (arith, low, grown, inside)) in
         let b = starts_run own g t.vars.items 0 constants_there c.t p.variables c.at within (omega (arith, end, long, many, grown, inside)) (λ q lo hi. zeros q (omega (arith, hi, end))) in
-        record { there = b.t; go = onto g opened c.t b.t c.go b.go; at = b.at; sim = sim_so b.t (b.registers ∙ long ∙ many) b.are (λ q hi low. b.above q hi ∙ zeros q low) (λ i k. b.above (own.end + i) (omega (arith, end)) ∙ c.are i k) (b.turns ∙ c.turns) (b.output ∙ c.output) (b.input ∙ c.input) }
+        record { there = b.t; go = onto g opened c.t b.t c.go b.go; at = b.at; sim = sim_so b.t (b.registers ∙ long ∙ many) b.are (λ q hi low. b.above q hi ∙ zeros q low) (λ i k. b.above (own.end + i) (omega (arith, end)) ∙ c.are i k) (b.turns ∙ c.turns) (b.output ∙ c.output) (b.input ∙ c.input) (b.returns ∙ c.returns) }
       where
         sim_so : (u : CodeState) → length u.registers ≡ image.slots → ((k : ℕ) (info : VarInfo) → slice_get t.vars.items k ≡ Some info → slice_index u.registers (0 + k) ≡ info.start) → ((q : ℕ) → 0 + length t.vars.items ≤ q → q < own.end → slice_index u.registers q ≡ 0)
-            → ((i : ℕ) → i < length own.constants → slice_index u.registers (own.end + i) ≡ slice_index own.constants i) → u.turns ≡ opened.turns → u.output ≡ opened.output → u.input ≡ opened.input → Sim g alive in_main u
-        sim_so u long files zeros constants same_turns same_output same_input = record {
+            → ((i : ℕ) → i < length own.constants → slice_index u.registers (own.end + i) ≡ slice_index own.constants i) → u.turns ≡ opened.turns → u.output ≡ opened.output → u.input ≡ opened.input → u.returns ≡ opened.returns → Sim g alive in_main u
+        sim_so u long files zeros constants same_turns same_output same_input same_returns = record {
           registers = long;
           scalars = λ x info living scalar. scalars x info scalar.0;
           small = λ x info living scalar. subst (λ (b : ℕ). in_main.scalar x < 2 ^ b) (sym (named_word t p (the_words t image p codable compiled) x info scalar.0).1) (zero_or_started x info scalar.0);
@@ -221,6 +221,7 @@ module _ (t : Typed) (image : Image) (p : IsScalarProgram t) (codable : IsCodabl
           turns = same_turns;
           output = same_output;
           input = same_input;
+          returns = same_returns;
           bytes = are;
         }
           where

@@ -66,9 +66,9 @@ module _ (g : Setting) (has : HasRegisters g) (alive : Variable → Type 0) (n :
 
   -- an expression whose value the code puts there
   abbrev pub Puts : (State → Outcome Value) → (Draft → Made Out) → Type 0
-  Puts part code = (d : Draft) (s : CodeState) (st : State) → first_free (layout g) ≤ d.regs → At g s (length d.code) → Sim g alive st s → Follows g (Put d s) s (part st) (code d)
+  Puts part code = (d : Draft) (s : CodeState) (st : State) → g.begins ≤ d.regs → At g s (length d.code) → Sim g alive st s → Follows g (Put d s) s (part st) (code d)
 
-  dest : (elem : Elem) (d : Draft) (s : CodeState) → elem.bits ≡ 32 → first_free (layout g) ≤ d.regs → Dest g has alive elem d s (Put d s) own
+  dest : (elem : Elem) (d : Draft) (s : CodeState) → elem.bits ≡ 32 → g.begins ≤ d.regs → Dest g has alive elem d s (Put d s) own
   dest elem d s wide free = variable_dest g has alive x info living scalar elem d s wide also free
 
   -- a value copied from where it stands

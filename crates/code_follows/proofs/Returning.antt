@@ -93,7 +93,7 @@ module _ (g : Setting) (has : HasRegisters g) (alive : Variable → Type 0) (eve
   unfolding with_end
   ends_main f k main after = ap (λ (b : Bool). with_end b (restored [] k after)) main ∙ ap (λ (e : Draft). with_instr I.FrontHalt e) (nothing_restored k after)
 
-  pub return_follows : (e : Option TExpr) → IfSome e IsIn → (f : Frame) (n : ℕ) (d : Draft) (s0 : CodeState) (st : State) → StandsInMain g f → first_free (layout g) ≤ d.regs → At g s0 (length d.code) → Sim g alive st s0 → IfSome e (λ x. HasCode g.typed g.instance n x)
+  pub return_follows : (e : Option TExpr) → IfSome e IsIn → (f : Frame) (n : ℕ) (d : Draft) (s0 : CodeState) (st : State) → StandsInMain g f → g.begins ≤ d.regs → At g s0 (length d.code) → Sim g alive st s0 → IfSome e (λ x. HasCode g.typed g.instance n x)
       → Follows g (Left g alive f d s0) s0 (executed scope (S.Return e) n active st) (statement_of g.typed (layout g) (S.Return e) f [] n d)
   unfolding executed statement_of returned_by given_back then_make Follows Left
   return_follows None h f n d s0 st framed free at sim c =

@@ -1,5 +1,5 @@
 -- A unit of a compiled program, and how the code of its image stands for its drafts.
-use Rattle.std.proofs.Common.{◌≡◌, ◌∙◌, ℕ, suc, ◌+◌, ◌≤◌, List, [], ◌∷◌, ◌++◌, length, map, slice_get, Option, Some, refl, ap, arith, append_assoc, length-append}
+use Rattle.std.proofs.Common.{◌≡◌, ◌∙◌, ℕ, suc, ◌+◌, ◌≤◌, List, [], ◌∷◌, ◌++◌, length, map, slice_get, Option, Some, refl, ap, arith, append_assoc, length-append, Bool}
 use Rattle.std.specs.List.{slice_index_or}
 use Rattle.cstar_link.specs.Linked.{code_from, moved_by}
 use Rattle.cstar_tree.specs.declared.typed.Instance.{Instance}
@@ -18,7 +18,7 @@ use Rattle.paris_code.specs.Moving.{moved_instr}
 use Rattle.paris_code.specs.Proper.{IsUnit}
 use Rattle.code_follows.proofs.Standing.{stands, start_in}
 
-pub record Setting : Type 0 where
+pub record Setting : Type 1 where
   pub typed : Typed
   pub words : List ℕ
   pub image : Image
@@ -31,6 +31,13 @@ pub record Setting : Type 0 where
   pub is_unit : IsUnit before number unit
   pub instance : Instance
   pub is_instance : slice_get typed.instances.items number ≡ Some instance
+  -- whether it is `main`, the registers of its own values, those that its code leaves as they are until it
+  -- returns, and where the calls that are open go on
+  pub is_main : Bool
+  pub begins : ℕ
+  pub ends : ℕ
+  pub spared : ℕ → Type 0
+  pub returns : List ℕ
 
 module _ (g : Setting) where
   abbrev pub whole : List Step
@@ -47,12 +54,14 @@ module _ (g : Setting) where
     pub more : List Step
     pub code : whole ≡ e.code ++ more
     pub regs : e.regs ≤ g.image.slots
+    pub own : e.regs ≤ g.ends
 
   pub earlier : (d e : Draft) (n : ℕ) → Extended d n e → Within e → Within d
   earlier d e n x w = record {
     more = x.more ++ w.more;
     code = w.code ∙ ap (λ (c : List Step). c ++ w.more) x.code ∙ append_assoc d.code x.more w.more;
     regs = omega (arith, x.regs, w.regs);
+    own = omega (arith, x.regs, w.own);
   }
 
   -- the code stands at a place of the unit

@@ -42,7 +42,7 @@ use Rattle.source_meaning.specs.Values.{Active, Scalar, Scope, Value, number}
 use Rattle.code_follows.specs.Fragment.{IsIn, IsInLocal}
 use Rattle.code_follows.proofs.Declaring.{Started, all_first, all_rest, first_is_named, others_stand, sim_fewer, started_before}
 use Rattle.code_follows.proofs.Executing.{RanOn, gives, no_break, no_continue, no_return, ran_from}
-use Rattle.code_follows.proofs.Following.{Extends, Follows, HasRegisters, IsScalar, Keeps, Ran, Sim, delayed, extends_then, finished, finishes_later, follows_other, held, keeps_all, then_follows}
+use Rattle.code_follows.proofs.Following.{Extends, Follows, HasRegisters, IsScalar, Keeps, Ran, Sim, delayed, extends_then, finished, finishes_later, follows_other, held, keeps_all, then_follows, variable_kept}
 use Rattle.code_follows.proofs.Putting.{Put, put_follows}
 use Rattle.code_follows.proofs.Settings.{At, Reaches, Setting, and_one, at_next, begins_here, layout, one, regs_more, stay}
 use Rattle.code_follows.proofs.Standing.{some_same}
@@ -176,7 +176,7 @@ module _ (g : Setting) (has : HasRegisters g) (alive : Variable → Type 0) (eve
   Puts_one local locals n e d s st = Follows g (λ v u (out : Out) f. Begun local locals n d s v u f) s (evaluated scope e active st) (put_to g.typed (layout g) (O.Scalar (register_of (layout g) (V.Local n))) e d)
 
   -- a constant
-  constant_put : (local : LocalVar) (locals : List LocalVar) (n : ℕ) (e : TExpr) (word : ℕ) (d : Draft) (s : CodeState) (st : State) → IsScalar g (V.Local n) local.info → local.info.elem.bits ≡ 32 → IsIn e → StandsAsWord e word → first_free (layout g) ≤ d.regs → At g s (length d.code) → Sim g (Started (local ∷ locals) n) st s
+  constant_put : (local : LocalVar) (locals : List LocalVar) (n : ℕ) (e : TExpr) (word : ℕ) (d : Draft) (s : CodeState) (st : State) → IsScalar g (V.Local n) local.info → local.info.elem.bits ≡ 32 → IsIn e → StandsAsWord e word → g.begins ≤ d.regs → At g s (length d.code) → Sim g (Started (local ∷ locals) n) st s
       → Puts_one local locals n e d s st
   unfolding put_to word_for word_put Follows begun step_of Started
   constant_put local locals n e word d s st scalar wide isin c free at sim =
@@ -201,7 +201,7 @@ module _ (g : Setting) (has : HasRegisters g) (alive : Variable → Type 0) (eve
             t = t;
             go = one g s t (begins_here g i d s within refl at);
             at = at_next g i d s (s.at + 1) at refl;
-            keeps = λ q lo hi. get_or-set_other s.registers r q word 0 (λ e. omega (arith, e, low, lo));
+            keeps = variable_kept g d s (V.Local n) local.info word has scalar.0;
             sim = subst (λ (w : ℕ). Sim g (Started locals (n + 1)) (with_scalar (V.Local n) c.value st) (with_register r w s)) is_held
                 (sim_begun g has (V.Local n) local.info scalar (Started (local ∷ locals) n) (Started locals (n + 1)) (λ y later other. ((λ b e. no_other y other e), later)) st s c.value (subst (λ (k : ℕ). c.value < 2 ^ k) (sym wide) few) inside sim);
           },
@@ -213,7 +213,7 @@ module _ (g : Setting) (has : HasRegisters g) (alive : Variable → Type 0) (eve
 
   -- any other value
   value_put : (local : LocalVar) (locals : List LocalVar) (n : ℕ) (e : TExpr) (d : Draft) (s : CodeState) (st : State) → begins_constant local ≡ false → IsScalar g (V.Local n) local.info → local.info.elem.bits ≡ 32 → IsIn e → HasCode g.typed g.instance (n + 1) e
-      → first_free (layout g) ≤ d.regs → At g s (length d.code) → Sim g (Started (local ∷ locals) n) st s → Puts_one local locals n e d s st
+      → g.begins ≤ d.regs → At g s (length d.code) → Sim g (Started (local ∷ locals) n) st s → Puts_one local locals n e d s st
   unfolding Started
   value_put local locals n e d s st begins scalar wide isin c free at sim =
       follows_on (evaluated scope e active st) (put_to g.typed (layout g) (O.Scalar (register_of (layout g) (V.Local n))) e d)
@@ -234,7 +234,7 @@ module _ (g : Setting) (has : HasRegisters g) (alive : Variable → Type 0) (eve
         (p.value, record { grown = p.grown; t = p.t; go = p.go; at = p.at; keeps = p.keeps; sim = sim_fewer g (Started (local ∷ locals) n) (Started locals (n + 1)) (with_scalar (V.Local n) p.word u) p.t (λ y later. ((λ b e. never b), later)) p.sim }),
       ))
 
-  pub initials_follow : (locals : List LocalVar) (n : ℕ) (d : Draft) (s : CodeState) (st : State) → All IsInLocal locals → StandFrom (variables_of g.instance.body) n (map info_of locals) → AreCoded n locals → first_free (layout g) ≤ d.regs → At g s (length d.code) → Sim g (Started locals n) st s
+  pub initials_follow : (locals : List LocalVar) (n : ℕ) (d : Draft) (s : CodeState) (st : State) → All IsInLocal locals → StandFrom (variables_of g.instance.body) n (map info_of locals) → AreCoded n locals → g.begins ≤ d.regs → At g s (length d.code) → Sim g (Started locals n) st s
       → Follows g (RanOn g alive d s) s (initialised scope active n locals st) (all_initialised g.typed (layout g) locals n d)
   unfolding all_initialised initialised_in initialised initialised_one AreCoded Follows then_make then_go variable_target stored number Started begins_constant
   initials_follow [] n d s st isin stand c free at sim = λ within. (refl, record { grown = (0, as_it_was d); t = s; go = stay g s; at = at; sim = sim_fewer g (Started [] n) alive st s (λ x h. tt) sim; keeps = keeps_all g d s })
@@ -252,7 +252,7 @@ module _ (g : Setting) (has : HasRegisters g) (alive : Variable → Type 0) (eve
       wide = (all_first IsInLocal local locals isin).0.1
 
       by : (o : Option TExpr) → local.initial ≡ o → IfSome o IsIn → IfSome o (HasCode g.typed g.instance (n + 1))
-          → ((e : Draft) (t : CodeState) (u : State) → first_free (layout g) ≤ e.regs → At g t (length e.code) → Sim g (Started locals (n + 1)) u t → Follows g (RanOn g alive e t) t (initialised scope active (n + 1) locals u) (all_initialised g.typed (layout g) locals (n + 1) e))
+          → ((e : Draft) (t : CodeState) (u : State) → g.begins ≤ e.regs → At g t (length e.code) → Sim g (Started locals (n + 1)) u t → Follows g (RanOn g alive e t) t (initialised scope active (n + 1) locals u) (all_initialised g.typed (layout g) locals (n + 1) e))
           → Follows g (RanOn g alive d s) s (then_go (initialised_one scope active there o st) (initialised scope active (n + 1) locals)) (then_make (initial_put local.info n o d) (λ u after. all_initialised g.typed (layout g) locals (n + 1) after))
       by None is h k rest = rest d s st free at (sim_fewer g (Started (local ∷ locals) n) (Started locals (n + 1)) st s (λ y later. ((λ b e. let none = starts_none local is in cc), later)) sim)
       by (Some e) is h k rest =

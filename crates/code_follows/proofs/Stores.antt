@@ -9,7 +9,7 @@ use Rattle.cstar_tree.specs.declared.typed.Variable.{Variable}
 use Rattle.cstar_tree.specs.declared.typed.Variable.TheVariants as V
 use Rattle.code_lengths.specs.Growth.{Extended}
 use Rattle.code_lengths.specs.Naming.{variable_named}
-use Rattle.code_lengths.proofs.Drafting.{extended}
+use Rattle.code_lengths.proofs.Drafting.{extended, as_it_was}
 use Rattle.lower_base.specs.declared.emit.Out.{Out}
 use Rattle.lower_base.specs.Constants.{first_free}
 use Rattle.lower_base.specs.Drafts.{Draft, with_instr}
@@ -18,7 +18,7 @@ use Rattle.paris_code.specs.declared.instr.Instr.{Instr}
 use Rattle.paris_code.specs.Code.{CodeState, Goes, with_register}
 use Rattle.source_meaning.specs.State.{State, is_same, with_scalar}
 use Rattle.source_meaning.specs.Values.{Scalar, Value}
-use Rattle.code_follows.proofs.Following.{HasRegisters, IsScalar, Keeps, Sim, held}
+use Rattle.code_follows.proofs.Following.{HasRegisters, IsScalar, Keeps, Sim, held, variable_kept, keeps_on}
 use Rattle.code_follows.proofs.Settings.{At, Reaches, Setting, Within, and_one, at_next, begins_here, layout, one, onto, placed_instr}
 use Rattle.code_follows.proofs.Values.{Dest}
 use Rattle.code_follows.proofs.ConstantRegisters.{behind_variables}
@@ -48,9 +48,9 @@ module _ (g : Setting) (has : HasRegisters g) (x : Variable) (info : VarInfo) (s
   abbrev own : ℕ
   own = register_of (layout g) x
 
-  pub below_free : own < first_free (layout g)
+  pub below_free : own < g.begins
   unfolding first_free
-  below_free = let b = has.below x info scalar.0 in omega (arith, b)
+  below_free = let b = has.below x info scalar.0 in let free = has.free in omega (arith, b, free)
 
   -- the register of the variable takes a number, and from then on the variable may be alive
   pub sim_begun : (alive later : Variable → Type 0) → ((y : Variable) → later y → is_same x y ≡ false → alive y) → (st : State) (s : CodeState) (w : ℕ) → w < 2 ^ info.elem.bits → own < length s.registers → Sim g alive st s → Sim g later (with_scalar x w st) (with_register own (held info.elem w) s)
@@ -63,7 +63,7 @@ module _ (g : Setting) (has : HasRegisters g) (x : Variable) (info : VarInfo) (s
     turns = h.turns;
     output = h.output;
     input = h.input;
-    bytes = h.bytes;
+    bytes = h.bytes; returns = h.returns;
   }
     where
       infos : (y : Variable) (other : VarInfo) → variable_named g.typed g.instance y ≡ Some other → x ≡ y → info ≡ other
@@ -105,7 +105,7 @@ module _ (g : Setting) (has : HasRegisters g) (alive : Variable → Type 0) (x :
     pub sim : Sim g alive (with_scalar x word st) t
     pub keeps : Keeps g d s t
 
-  pub variable_dest : (elem : Elem) (d : Draft) (s0 : CodeState) → elem.bits ≡ 32 → info.elem.bits ≡ 32 → first_free (layout g) ≤ d.regs → Dest g has alive elem d s0 (λ v st out e. IsPut d s0 v st out e) register
+  pub variable_dest : (elem : Elem) (d : Draft) (s0 : CodeState) → elem.bits ≡ 32 → info.elem.bits ≡ 32 → g.begins ≤ d.regs → Dest g has alive elem d s0 (λ v st out e. IsPut d s0 v st out e) register
   variable_dest elem d s0 wide also free = record {
     puts = λ e n i s st w go here sim grows keeps within plain does few.
         let low = below_free g has x info scalar in
@@ -119,7 +119,7 @@ module _ (g : Setting) (has : HasRegisters g) (alive : Variable → Type 0) (x :
           go = onto g s0 s t go (one g s t (begins_here g i e s within plain here ∙ does ∙ ap (λ (v : ℕ). Goes (with_register register v s)) words));
           at = at_next g i e s (s.at + 1) here refl;
           sim = sim_begun g has x info scalar alive alive (λ y living other. living) st s w (subst (λ (k : ℕ). w < 2 ^ k) (sym also) small) inside sim;
-          keeps = λ r lo hi. get_or-set_other s.registers register r (held info.elem w) 0 (λ e. omega (arith, e, low, lo)) ∙ keeps r lo hi;
+          keeps = keeps_on g d d 0 s0 s t (as_it_was d) keeps (variable_kept g d s x info (held info.elem w) has scalar.0);
           word = w;
           value = refl;
           small = small;

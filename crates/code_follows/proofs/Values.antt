@@ -51,7 +51,7 @@ use Rattle.source_meaning.specs.State.{Outcome, State, then_do}
 use Rattle.source_meaning.specs.Targets.{read, variable_target}
 use Rattle.source_meaning.specs.Values.{Active, Scalar, Scope, Value, at, convert_to, each, failing, unary_of, unless}
 use Rattle.code_follows.specs.Fragment.{IsWord}
-use Rattle.code_follows.proofs.Following.{Arrives, Extends, Follows, HasRegisters, IsScalar, Keeps, Sim, extends_then, finishes_later, fresh_lasts, held, keeps_all, keeps_on, knowing, register_is, register_kept, register_set, then_follows}
+use Rattle.code_follows.proofs.Following.{Arrives, Extends, Follows, HasRegisters, IsScalar, Keeps, Sim, extends_then, finishes_later, fresh_lasts, held, keeps_all, keeps_on, knowing, register_is, register_kept, register_set, then_follows, keeps_less}
 use Rattle.code_follows.proofs.Operators.{by_machine, machine_below, machine_same, minus_same, wide_signed}
 use Rattle.code_follows.proofs.Settings.{At, Reaches, Setting, Within, and_one, at_next, begins_here, earlier, ends_now, layout, one, onto, placed_instr, regs_more, stay}
 use Rattle.code_follows.proofs.Words.{below_bits, below_word, held_wide}
@@ -82,11 +82,11 @@ module _ (g : Setting) (has : HasRegisters g) (alive : Variable → Type 0) wher
     pub is : slice_index t.registers q ≡ word
 
   -- an instruction that puts a word in a register of a value, which is taken before it
-  pub takes_word : (word : ℕ) (d e : Draft) (n : ℕ) (i : Instr) (s0 s : CodeState) (st : State) (r : ℕ) → first_free (layout g) ≤ d.regs → Reaches g s0 s → At g s (length e.code) → Sim g alive st s → Extended d n e → Keeps g d s0 s
+  pub takes_word : (word : ℕ) (d e : Draft) (n : ℕ) (i : Instr) (s0 s : CodeState) (st : State) (r : ℕ) → g.begins ≤ d.regs → Reaches g s0 s → At g s (length e.code) → Sim g alive st s → Extended d n e → Keeps g d s0 s
       → Within g (with_instr i e) → step_of i ≡ Plain i → begun g.image (placed_instr g i) s ≡ Goes (with_register r word s) → d.regs ≤ r → r < e.regs → HasWord word d (with_instr i e) s0 st r
   takes_word word d e n i s0 s st r free go here sim grows keeps within plain does low high =
       let t : CodeState = with_register r word s in
-      let low_free : first_free (layout g) ≤ r = omega (arith, free, low) in
+      let low_free : g.begins ≤ r = omega (arith, free, low) in
       let regs = regs_more g i e in
       let inside : r < length s.registers = omega (arith, high, regs, within.regs, sim.registers) in
       record {
@@ -95,12 +95,12 @@ module _ (g : Setting) (has : HasRegisters g) (alive : Variable → Type 0) wher
         go = onto g s0 s t go (one g s t (begins_here g i e s within plain here ∙ does));
         at = at_next g i e s (s.at + 1) here refl;
         sim = register_set g alive st s r word has low_free sim;
-        keeps = keeps_on g d d 0 s0 s t (as_it_was d) keeps (register_kept g d s r word low);
+        keeps = keeps_on g d d 0 s0 s t (as_it_was d) keeps (register_kept g d s r word has free low (omega (arith, high, regs, within.own)));
         is = register_is g s r word inside;
       }
 
   -- the same, as the value of a type
-  pub sets_register : (elem : Elem) (quiet : Bool) (d e : Draft) (n : ℕ) (i : Instr) (s0 s : CodeState) (st : State) (r w : ℕ) → first_free (layout g) ≤ d.regs → Reaches g s0 s → At g s (length e.code) → Sim g alive st s
+  pub sets_register : (elem : Elem) (quiet : Bool) (d e : Draft) (n : ℕ) (i : Instr) (s0 s : CodeState) (st : State) (r w : ℕ) → g.begins ≤ d.regs → Reaches g s0 s → At g s (length e.code) → Sim g alive st s
       → Extended d n e → Keeps g d s0 s → Within g (with_instr i e) → step_of i ≡ Plain i → begun g.image (placed_instr g i) s ≡ Goes (with_register r (held elem w) s) → d.regs ≤ r → r < e.regs → w < 2 ^ elem.bits
       → Arrives g alive elem quiet d s0 (Scalar w) st (O.Scalar r) (with_instr i e)
   sets_register elem quiet d e n i s0 s st r w free go here sim grows keeps within plain does low high small =
@@ -130,14 +130,14 @@ module _ (g : Setting) (has : HasRegisters g) (alive : Variable → Type 0) wher
         → begun g.image (placed_instr g i) s ≡ Goes (with_register r (held elem w) s) → w < 2 ^ elem.bits → R (Scalar w) st (O.Scalar r) (with_instr i e)
 
   -- a fresh one
-  pub fresh_dest : (elem : Elem) (quiet : Bool) (d : Draft) (s0 : CodeState) → first_free (layout g) ≤ d.regs → Dest elem (with_reg d) s0 (λ v st out e. Arrives g alive elem quiet d s0 v st out e) d.regs
+  pub fresh_dest : (elem : Elem) (quiet : Bool) (d : Draft) (s0 : CodeState) → g.begins ≤ d.regs → Dest elem (with_reg d) s0 (λ v st out e. Arrives g alive elem quiet d s0 v st out e) d.regs
   fresh_dest elem quiet d s0 free = record {
     puts = λ e n i s st w go here sim grows keeps within plain does few.
-        sets_register elem quiet d e (0 + n) i s0 s st d.regs w free go here sim (extended d (with_reg d) e 0 n (and_register d) grows) (λ r lo hi. keeps r lo (omega (arith, hi))) within plain does (omega arith) (omega (arith, grows.regs)) few;
+        sets_register elem quiet d e (0 + n) i s0 s st d.regs w free go here sim (extended d (with_reg d) e 0 n (and_register d) grows) (keeps_less g d (with_reg d) s0 s (omega arith) keeps) within plain does (omega arith) (omega (arith, grows.regs)) few;
   }
 
   -- a number goes to a fresh register
-  pub constant_follows : (elem : Elem) (quiet : Bool) (value : ℕ) (d : Draft) (s : CodeState) (st : State) → elem.bits ≡ 32 → value < 2 ^ 32 → first_free (layout g) ≤ d.regs → At g s (length d.code) → Sim g alive st s
+  pub constant_follows : (elem : Elem) (quiet : Bool) (value : ℕ) (d : Draft) (s : CodeState) (st : State) → elem.bits ≡ 32 → value < 2 ^ 32 → g.begins ≤ d.regs → At g s (length d.code) → Sim g alive st s
       → Follows g (λ v u out e. Arrives g alive elem quiet d s v u out e) s (Source.Gives (Scalar value) st) (constant_in value d)
   unfolding Follows constant_in a_register then_make begun step_of
   constant_follows elem quiet value d s st wide few free at sim = λ within.
@@ -159,7 +159,7 @@ module _ (g : Setting) (has : HasRegisters g) (alive : Variable → Type 0) wher
   named_scalar : (n : ℕ) (ty : ValueType) (x : Variable) → (v : HasVariable g.typed g.instance n x (plain ty)) → ty.shape ≡ None → IsScalar g x (variable_info v.word (plain ty) v.start)
   named_scalar n ty x v scalar = (v.named, scalar)
 
-  pub variable_follows : (quiet : Bool) (bits n : ℕ) (ty : ValueType) (x : Variable) (d : Draft) (s : CodeState) (st : State) → IsWord ty → HasVariable g.typed g.instance n x (plain ty) → alive x → first_free (layout g) ≤ d.regs → At g s (length d.code) → Sim g alive st s
+  pub variable_follows : (quiet : Bool) (bits n : ℕ) (ty : ValueType) (x : Variable) (d : Draft) (s : CodeState) (st : State) → IsWord ty → HasVariable g.typed g.instance n x (plain ty) → alive x → g.begins ≤ d.regs → At g s (length d.code) → Sim g alive st s
       → Follows g (λ v u out e. Arrives g alive ty.elem quiet d s v u out e) s (Source.Gives (read st (variable_target ty.shape x 0)) st) (read_by g.typed (layout g) (T.Variable ty x) ty bits (λ between. Makes (variable_spot (layout g) ty x) between) d)
   unfolding Follows begun step_of
   variable_follows quiet bits n ty x d s st word v lives free at sim =
@@ -223,7 +223,7 @@ module _ (g : Setting) (has : HasRegisters g) (alive : Variable → Type 0) wher
 
   -- the next instruction changes no register
   pub sim_onward : (st : State) (s : CodeState) → Sim g alive st s → Sim g alive st (Machine.onward s)
-  sim_onward st s h = record { registers = h.registers; scalars = h.scalars; small = h.small; constants = h.constants; turns = h.turns; output = h.output; input = h.input; bytes = h.bytes }
+  sim_onward st s h = record { registers = h.registers; scalars = h.scalars; small = h.small; constants = h.constants; turns = h.turns; output = h.output; input = h.input; bytes = h.bytes; returns = h.returns }
 
   -- a scalar operation on the words of two registers
   computes : (elem : Elem) (d e : Draft) (n : ℕ) (s0 s : CodeState) (st : State) (R : Value → State → Out → Draft → Type 0) (m : Machine) (r a b x y : ℕ) → elem.bits ≡ 32 → Dest elem d s0 R r → Reaches g s0 s → At g s (length e.code) → Sim g alive st s → Extended d n e
@@ -302,7 +302,7 @@ module _ (g : Setting) (has : HasRegisters g) (alive : Variable → Type 0) wher
   -- what a value's code does, from wherever it begins
   abbrev pub Does : Elem → Bool → (State → Outcome Value) → Code → Type 0
   Does elem quiet part code =
-      (d : Draft) (s : CodeState) (st : State) → first_free (layout g) ≤ d.regs → At g s (length d.code) → Sim g alive st s → Follows g (Value_of elem quiet d s) s (part st) (code d)
+      (d : Draft) (s : CodeState) (st : State) → g.begins ≤ d.regs → At g s (length d.code) → Sim g alive st s → Follows g (Value_of elem quiet d s) s (part st) (code d)
 
   abbrev pub Grows_on : Code → Type 0
   Grows_on code = (d : Draft) → Extends g d (code d)
@@ -321,7 +321,7 @@ module _ (g : Setting) (has : HasRegisters g) (alive : Variable → Type 0) wher
     grows_first : (r : ℕ) (v : Out) (between : Draft) → Extends g between (behind_first r v between)
     grows_first r v between = extends_in_register between v _ (λ a. extends_then g between (second between) _ (other_grows between) (λ w after. grows_second r a w after))
 
-    module _ (d : Draft) (s : CodeState) (R : Value → State → Out → Draft → Type 0) (r : ℕ) (free : first_free (layout g) ≤ d.regs) (dest : Dest ty.elem d s R r) where
+    module _ (d : Draft) (s : CodeState) (R : Value → State → Out → Draft → Type 0) (r : ℕ) (free : g.begins ≤ d.regs) (dest : Dest ty.elem d s R r) where
       abbrev source_behind : Value → State → Outcome Value
       source_behind v st1 = then_do (other st1) (λ w after. operated scope active ty place op (not from.signed) v w after)
 
@@ -374,7 +374,7 @@ module _ (g : Setting) (has : HasRegisters g) (alive : Variable → Type 0) wher
   -- a unary operator on the word of a register
   abbrev Negates : UnaryOp → ValueType → Type 1
   Negates op ty =
-      (d e : Draft) (n : ℕ) (s0 s : CodeState) (st : State) (R : Value → State → Out → Draft → Type 0) (r a x : ℕ) → first_free (layout g) ≤ d.regs → Dest ty.elem d s0 R r → Reaches g s0 s → At g s (length e.code) → Sim g alive st s → Extended d n e → Keeps g d s0 s
+      (d e : Draft) (n : ℕ) (s0 s : CodeState) (st : State) (R : Value → State → Out → Draft → Type 0) (r a x : ℕ) → g.begins ≤ d.regs → Dest ty.elem d s0 R r → Reaches g s0 s → At g s (length e.code) → Sim g alive st s → Extended d n e → Keeps g d s0 s
       → ((t : CodeState) → Sim g alive st t → Keeps g e s t → slice_index t.registers a ≡ x) → x < 2 ^ 32 → Follows g R s0 (Source.Gives (Scalar (unary_of op x)) st) (register_negated (layout g) op r a e)
 
   minus : (ty : ValueType) → ty.elem.bits ≡ 32 → Negates U.Minus ty
@@ -392,7 +392,7 @@ module _ (g : Setting) (has : HasRegisters g) (alive : Variable → Type 0) wher
       (ap (λ (q : ℕ). Goes (with_register r (2 ^ 32 - 1 - q) s)) (is s sim (keeps_all g e s)) ∙ ap (λ (w : ℕ). Goes (with_register r w s)) (sym (held_wide ty.elem (2 ^ 32 - 1 - x) wide below))) (below_bits ty.elem.bits (2 ^ 32 - 1 - x) wide below)
 
   -- a number in a register, where it stands or in a fresh one
-  pub word_follows : (word : ℕ) (d : Draft) (s : CodeState) (st : State) → first_free (layout g) ≤ d.regs → At g s (length d.code) → Sim g alive st s → Follows g (λ (u : Unit {0}) after q e. (after ≡ st) × HasWord word d e s st q) s (Source.Gives tt st) (word_in (layout g) word d)
+  pub word_follows : (word : ℕ) (d : Draft) (s : CodeState) (st : State) → g.begins ≤ d.regs → At g s (length d.code) → Sim g alive st s → Follows g (λ (u : Unit {0}) after q e. (after ≡ st) × HasWord word d e s st q) s (Source.Gives tt st) (word_in (layout g) word d)
   unfolding word_in Follows a_register then_make begun step_of
   word_follows word d s st free at sim = by (constant_register (layout g) word) refl
     where
@@ -455,7 +455,7 @@ module _ (g : Setting) (has : HasRegisters g) (alive : Variable → Type 0) wher
     unfolding negated
     grows_operand r v e = extends_in_register e v _ (λ a. extends_negated op r a e)
 
-    module _ (d : Draft) (s : CodeState) (R : Value → State → Out → Draft → Type 0) (r : ℕ) (free : first_free (layout g) ≤ d.regs) (dest : Dest ty.elem d s R r) where
+    module _ (d : Draft) (s : CodeState) (R : Value → State → Out → Draft → Type 0) (r : ℕ) (free : g.begins ≤ d.regs) (dest : Dest ty.elem d s R r) where
       with_operand : (v : Value) (st : State) (out : Out) (e : Draft) → Arrives g alive from true d s v st out e → Follows g R s (Source.Gives (mapped ty (unary_of op) v) st) (behind_operand r out e)
       unfolding negated in_register at
       with_operand v st out e arr =
