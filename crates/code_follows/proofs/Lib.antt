@@ -3,6 +3,7 @@ pub mod Beginnings
 pub mod Bodies
 pub mod Bytes
 pub mod Casts
+pub mod Changing
 pub mod Choices
 pub mod Closed
 pub mod ConstantRegisters
@@ -16,6 +17,7 @@ pub mod ForLoops
 pub mod Fresh
 pub mod Jumping
 pub mod Loops
+pub mod Nested
 pub mod Openings
 pub mod Operators
 pub mod Printing

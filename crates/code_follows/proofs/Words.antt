@@ -48,6 +48,8 @@ word_type (T.Convert' ty p operand) h = h.0
 word_type (T.Casts' ty elems p operand) h = h.0
 word_type (T.Unary' ty op p operand) h = h.0
 word_type (T.Binary' ty place op p left q right) h = h.0
+word_type (T.Assign' ty place op p target q value) h = h.0
+word_type (T.Step' ty op order p target) h = h.0
 word_type _ h = absurd h
 
 none_is : (o : Option ℕ) → o ≡ None → is_none o ≡ true
@@ -66,6 +68,8 @@ kept (T.Convert' ty p operand) h = kept operand h.1
 kept (T.Casts' ty elems p operand) h = none_is ty.shape h.0.0
 kept (T.Unary' ty op p operand) h = none_is ty.shape h.0.0
 kept (T.Binary' ty place op p left q right) h = none_is ty.shape h.0.0
+kept (T.Assign' ty place op p target q value) h = none_is ty.shape h.0.0
+kept (T.Step' ty op order p target) h = none_is ty.shape h.0.0
 kept _ h = absurd h
 
 -- what a chain of casts gives is a number of its type
@@ -96,4 +100,6 @@ constant_below (T.Casts' ty elems p operand) h =
 constant_below (T.Unary' ty op p operand) h = then_below (value_of operand) _ (constant_below operand h.1) (λ v few. unary_below op v few)
 constant_below (T.Binary' ty place op p left q right) h =
     then_below (value_of left) _ (constant_below left h.1) (λ v few. then_below (value_of right) _ (constant_below right h.2) (λ w small. operate_below op (not (type_of left).elem.signed) v w few small))
+constant_below (T.Assign' ty place op p target q value) h = tt
+constant_below (T.Step' ty op order p target) h = tt
 constant_below _ h = absurd h
