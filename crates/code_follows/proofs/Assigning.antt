@@ -40,7 +40,7 @@ use Rattle.source_meaning.specs.State.{Outcome, State, then_do, with_scalar}
 use Rattle.source_meaning.specs.Targets.{OfScalar, assigned, stepped, variable_target}
 use Rattle.source_meaning.specs.Values.{Active, Scope, Value, number}
 use Rattle.code_follows.specs.Fragment.{AreIn, IsEffect, IsIn, IsVariable, IsWord}
-use Rattle.code_follows.proofs.Changing.{only_set, operated_set_is, plain_type, scalar_type, set_is, stepped_is, stepping}
+use Rattle.code_follows.proofs.Changing.{no_place, only_set, operated_set_is, plain_type, scalar_type, set_is, stepped_is, stepping}
 use Rattle.code_follows.proofs.Expressions.{assign_names, brackets_code, operand, step_names, target_named, value_follows}
 use Rattle.code_follows.proofs.Printing.{printf_code, printf_follows}
 use Rattle.code_follows.proofs.Following.{Arrives, Extends, Follows, HasRegisters, IsScalar, Ran, Sim, keeps_all, then_follows, then_gives, then_silent}
@@ -153,9 +153,6 @@ module _ (g : Setting) (has : HasRegisters g) (alive : Variable → Type 0) (n :
         (word_follows g has alive 1 d s st free here sim) (λ q e. extends_one q e) (λ u after q e h. with_one order d s st q e free h.1)
 
 -- ---- effects as they stand in the tree
-
-no_place : Place
-no_place = record { line = 0; col = 0 }
 
 module _ (g : Setting) (has : HasRegisters g) (alive : Variable → Type 0) (n : ℕ) (lives : (x : Variable) → IsDeclared n x → alive x) (ready : (d : Draft) → IsReady g.typed g.instance (layout g) n d) (scope : Scope) (active : Active) where
   abbrev pub Runs : (State → Outcome Value) → (Draft → Made Out) → Type 0

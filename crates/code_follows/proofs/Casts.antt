@@ -149,7 +149,7 @@ module _ (g : Setting) (has : HasRegisters g) (alive : Variable → Type 0) wher
             value = refl;
             small = subst (λ (elem : Elem). number < 2 ^ elem.bits) (sym same) (through_below kinds from w arr.holds.small);
             lasts = λ v t later stays still.
-            fresh_lasts g alive (casts_put kinds r e) u h.t r number (held ty.elem number) (omega (arith, free, is_fresh.0)) (omega (arith, is_fresh.1, longer)) (h.is ∙ ap (λ (elem : Elem). held elem number) (sym same)) v t later stays;
+                fresh_lasts g alive (casts_put kinds r e) u h.t r number (held ty.elem number) (omega (arith, free, is_fresh.0)) (omega (arith, is_fresh.1, longer)) (h.is ∙ ap (λ (elem : Elem). held elem number) (sym same)) v t later stays;
           };
         }))
 

@@ -64,6 +64,10 @@ only_set A.Shr is = cc
 only_set A.Min is = cc
 only_set A.Max is = cc
 
+-- a step has no place of its own: it never divides
+pub no_place : Place
+no_place = record { line = 0; col = 0 }
+
 -- the operator of a step
 abbrev pub stepping : StepOp → Op
 stepping Sp.Increment = P.Add

@@ -50,7 +50,7 @@ clear_fresh l d (Makes O.Nothing e) h = tt
 clear_fresh l d Fails h = tt
 
 module _ (g : Setting) (has : HasRegisters g) (alive : Variable → Type 0) where
-  -- what is known of the register of what follows
+  -- what is known of code that is made, beside what it does
   pub made_so : (P : Made Out → Type 0) (R : Value → State → Out → Draft → Type 0) (s : CodeState) (o : Outcome Value) (made : Made Out) → P made → Follows g R s o made → Follows g (λ v u out e. P (Makes out e) × R v u out e) s o made
   unfolding Follows
   made_so P R s (Source.Gives v u) (Makes out e) fresh h = λ w. (fresh, h w)

@@ -43,7 +43,7 @@ use Rattle.source_meaning.specs.State.{Outcome, State, then_do, with_scalar}
 use Rattle.source_meaning.specs.Targets.{OfScalar, assigned, step_value, stepped}
 use Rattle.source_meaning.specs.Values.{Active, Scalar, Scope, Value, at as value_at, number}
 use Rattle.code_follows.specs.Fragment.{IsWord}
-use Rattle.code_follows.proofs.Changing.{only_set, operated_set_is, scalar_type, set_is, stepped_is, stepping}
+use Rattle.code_follows.proofs.Changing.{no_place, only_set, operated_set_is, scalar_type, set_is, stepped_is, stepping}
 use Rattle.code_follows.proofs.Following.{Arrives, Extends, Follows, HasRegisters, IsScalar, Keeps, Sim, delayed, extends_then, finishes_later, fresh_lasts, held, keeps_all, keeps_on, register_is, register_kept, register_set, then_follows, then_on}
 use Rattle.code_follows.proofs.Fresh.{IsClear, IsFresh, fresh_register, fresh_then, made_so}
 use Rattle.code_follows.proofs.Settings.{At, Reaches, Setting, Within, and_one, at_next, begins_here, layout, one, onto, regs_more, stay}
@@ -99,9 +99,10 @@ module _ (g : Setting) (has : HasRegisters g) (alive : Variable → Type 0) (x :
   stands : (elem : Elem) (quiet : Bool) (d : Draft) (s : CodeState) (w : ℕ) (u : State) (r : ℕ) (e : Draft) → elem.bits ≡ 32 → (arr : Arrives g alive elem quiet d s (Scalar w) u (O.Scalar r) e) → (slice_index arr.t.registers r ≡ w) × (w < 2 ^ 32)
   stands elem quiet d s w u r e wide arr =
       let word : w ≡ arr.holds.word = some_word w arr.holds.word arr.holds.value in
-      let few : arr.holds.word < 2 ^ 32 = below_word elem.bits arr.holds.word wide arr.holds.small in
-      (ap (λ (q : ℕ). slice_index arr.t.registers q) (register_same r arr.holds.register arr.holds.is) ∙ arr.holds.lasts u arr.t arr.sim (keeps_all g e arr.t) (λ h. refl) ∙ held_wide elem arr.holds.word wide few ∙ sym word,
-      subst (λ (k : ℕ). k < 2 ^ 32) (sym word) few)
+      let few : arr.holds.word < 2 ^ 32 = below_word elem.bits arr.holds.word wide arr.holds.small in (
+        ap (λ (q : ℕ). slice_index arr.t.registers q) (register_same r arr.holds.register arr.holds.is) ∙ arr.holds.lasts u arr.t arr.sim (keeps_all g e arr.t) (λ h. refl) ∙ held_wide elem arr.holds.word wide few ∙ sym word,
+        subst (λ (k : ℕ). k < 2 ^ 32) (sym word) few,
+      )
 
   -- a value in a register is shortened to no fewer bits
   pub lowest_follows : (elem : Elem) (quiet : Bool) (d : Draft) (s : CodeState) (bits : ℕ) (o : Outcome Value) (made : Made Out) → Follows g (Value_of g has alive elem quiet d s) s o made → Follows g (Value_of g has alive elem quiet d s) s o (lowest bits made)
@@ -125,7 +126,6 @@ module _ (g : Setting) (has : HasRegisters g) (alive : Variable → Type 0) (x :
   grows_store O.Nothing e = tt
 
   module _ (scope : Scope) (active : Active) (place : Place) (elem : Elem) (wide : elem.bits ≡ 32) where
-
     stores : (quiet : Bool) (d : Draft) (s : CodeState) (w : ℕ) (u : State) (r : ℕ) (e : Draft) → first_free (layout g) ≤ d.regs → Arrives g alive elem false d s (Scalar w) u (O.Scalar r) e
         → Follows g (Value_of g has alive elem quiet d s) s (Source.Gives (Scalar w) (with_scalar x w u)) (kept_store (O.Scalar r) e)
     unfolding Follows then_make put_value in_register
@@ -187,7 +187,7 @@ module _ (g : Setting) (has : HasRegisters g) (alive : Variable → Type 0) (x :
               value = refl;
               small = below_bits elem.bits (shown w) wide (small w word_few);
               lasts = λ v t2 later stays same.
-              fresh_lasts g alive (with_instr i e) st t res w (held elem (shown w)) (omega (arith, free, low_res)) (omega (arith, high_res, more, regs)) (shows s1 w keeps inside) v t2 later stays;
+                  fresh_lasts g alive (with_instr i e) st t res w (held elem (shown w)) (omega (arith, free, low_res)) (omega (arith, high_res, more, regs)) (shows s1 w keeps inside) v t2 later stays;
             };
           };
           there = register_is g s1 r (held elem w) inside ∙ held_wide elem w wide word_few;
@@ -379,9 +379,6 @@ module _ (g : Setting) (has : HasRegisters g) (alive : Variable → Type 0) (x :
         by Fails = refl
 
   -- ---- as they stand in the tree
-
-  no_place : Place
-  no_place = record { line = 0; col = 0 }
 
   abbrev target : Elem → TExpr
   target elem = T.Variable (scalar_type elem) x
