@@ -1,12 +1,10 @@
 -- The code of assignments to scalar variables of 32 bits, and of steps.
-use Rattle.std.proofs.Common.{◌≡◌, ◌∙◌, ℕ, ◌<◌, ◌≤◌, ◌^◌, ◌==◌, ◌&&◌, Bool, true, false, not, Vec, Global, length, slice_index, Option, Some, None, refl, sym, ap, subst, if◌then◌else◌, arith}
+use Rattle.std.proofs.Common.{◌≡◌, ◌∙◌, ℕ, ◌<◌, ◌≤◌, ◌^◌, ◌&&◌, Bool, true, not, Vec, Global, length, slice_index, Option, Some, None, refl, sym, ap, subst, if◌then◌else◌, arith}
 use Rattle.std.proofs.lemmas.Bool.{eq-eqb}
 use Rattle.cstar_base.specs.declared.elem.Elem.{Elem}
-use Rattle.cstar_base.specs.declared.faults.RunFault.TheVariants.{DivZero}
 use Rattle.cstar_base.specs.declared.operators.Op.{Op}
-use Rattle.cstar_base.specs.declared.operators.Op.TheVariants as P
 use Rattle.cstar_base.specs.declared.operators.Place.{Place}
-use Rattle.cstar_base.specs.Operators.{divides, outcome}
+use Rattle.cstar_base.specs.Operators.{divides}
 use Rattle.cstar_tree.specs.declared.syntax.AssignOp.{AssignOp}
 use Rattle.cstar_tree.specs.declared.syntax.AssignOp.TheVariants as A
 use Rattle.cstar_tree.specs.declared.syntax.StepOp.{StepOp}
@@ -19,9 +17,7 @@ use Rattle.cstar_tree.specs.declared.typed.ValueType.{ValueType}
 use Rattle.cstar_tree.specs.declared.typed.VarInfo.{VarInfo}
 use Rattle.cstar_tree.specs.declared.typed.Variable.{Variable}
 use Rattle.cstar_tree.specs.Typed.{type_of}
-use Rattle.code_lengths.specs.Naming.{HasVariable, IsDeclared, NamesVariables, plain}
-use Rattle.code_lengths.specs.Lowerable.{IsLowerable}
-use Rattle.code_lengths.specs.Shaped.{IsShaped}
+use Rattle.code_lengths.specs.Naming.{HasVariable, IsDeclared, plain}
 use Rattle.cstar_tree.specs.StatementTypes.{variable_info}
 use Rattle.code_lengths.specs.Ready.{HasCode, HaveCode, IsReady}
 use Rattle.lower_base.specs.declared.emit.Out.{Out}
@@ -37,62 +33,22 @@ use Rattle.lower_expr.specs.Steps.{assigned_signed, is_kept, on_registers, opera
 use Rattle.lower_expr.specs.Values.{Code, next_of, step_operation, value_of}
 use Rattle.paris_code.specs.declared.instr.Instr.TheVariants as I
 use Rattle.paris_code.specs.Code.{CodeState}
-use Rattle.source_meaning.specs.Expressions.{evaluated, operated}
-use Rattle.source_meaning.specs.Reductions.{divides_by_zero, promoted, updated}
-use Rattle.source_meaning.proofs.ConstantLaws.{Boxed}
+use Rattle.source_meaning.specs.Expressions.{evaluated}
+use Rattle.source_meaning.specs.Reductions.{promoted}
 use Rattle.source_meaning.specs.State as Source
 use Rattle.source_meaning.specs.State.{Outcome, State, then_do, with_scalar}
-use Rattle.source_meaning.specs.Targets.{OfScalar, assign_to, assigned, new_value, read, step_op, step_value, stepped, stored, variable_target}
-use Rattle.source_meaning.specs.Values.{Active, Scalar, Scope, Value, at, each, failing, number, unless}
+use Rattle.source_meaning.specs.Targets.{OfScalar, assigned, stepped, variable_target}
+use Rattle.source_meaning.specs.Values.{Active, Scope, Value, number}
 use Rattle.code_follows.specs.Fragment.{AreIn, IsEffect, IsIn, IsVariable, IsWord}
-use Rattle.code_follows.proofs.Effects.{divides_is, updated_is, wide_type}
-use Rattle.code_follows.proofs.Expressions.{brackets_code, operand, value_follows}
+use Rattle.code_follows.proofs.Changing.{no_place, only_set, operated_set_is, plain_type, scalar_type, set_is, stepped_is, stepping}
+use Rattle.code_follows.proofs.Expressions.{assign_names, brackets_code, operand, step_names, target_named, value_follows}
 use Rattle.code_follows.proofs.Printing.{printf_code, printf_follows}
 use Rattle.code_follows.proofs.Following.{Arrives, Extends, Follows, HasRegisters, IsScalar, Ran, Sim, keeps_all, then_follows, then_gives, then_silent}
 use Rattle.code_follows.proofs.Putting.{Put, put_follows}
 use Rattle.code_follows.proofs.Settings.{At, Setting, layout, stay}
 use Rattle.code_follows.proofs.Stores.{variable_dest}
-use Rattle.code_follows.proofs.Values.{Value_of, HasWord, extends_in_register, extends_operated, operated_is, operates, word_follows}
+use Rattle.code_follows.proofs.Values.{Value_of, HasWord, extends_in_register, extends_operated, operates, word_follows}
 use Rattle.code_follows.proofs.Words.{below_word, held_wide, kept, word_type}
-
--- a scalar type
-abbrev scalar_type : Elem → ValueType
-scalar_type elem = record { elem = elem; shape = None }
-
-plain_type : (ty : ValueType) → ty.shape ≡ None → ty ≡ scalar_type ty.elem
-plain_type ty scalar = ap (λ (o : Option ℕ). record { elem = ty.elem; shape = o }) scalar
-
--- what an assignment without an operator does to a scalar variable
-pub set_is : (scope : Scope) (active : Active) (place : Place) (x : Variable) (ty from : ValueType) (w : ℕ) (st : State) → ty.shape ≡ None → from.shape ≡ None → assigned scope active place A.Set ty from (OfScalar x) (Scalar w) st ≡ Source.Gives (Scalar w) (with_scalar x w st)
-unfolding assigned failing unless divides_by_zero assign_to new_value read stored each at number updated
-set_is scope active place x ty from w st one two =
-    ap (λ (t : ValueType). assigned scope active place A.Set t from (OfScalar x) (Scalar w) st) (plain_type ty one)
-    ∙ ap (λ (f : ValueType). assigned scope active place A.Set (scalar_type ty.elem) f (OfScalar x) (Scalar w) st) (plain_type from two)
-
--- where a condition fails no divisor is 0
-not_zero : (d z : Bool) → (d && z) ≡ false → d ≡ true → z ≡ false
-not_zero true z e h = e
-not_zero false z e h = cc
-
-module _ (g : Setting) (has : HasRegisters g) (alive : Variable → Type 0) where
-  -- one with an operator is the operator, and then a store
-  operated_set_is : (scope : Scope) (active : Active) (place : Place) (x : Variable) (op : AssignOp) (o : Op) (ty from : ValueType) (w : ℕ) (st : State) → IsWord ty → IsWord from → st.scalar x < 2 ^ 32 → w < 2 ^ 32 → assign_op_of op ≡ Some o
-      → assigned scope active place op ty from (OfScalar x) (Scalar w) st
-      ≡ then_do (operated scope active ty place o (not (assigned_signed o ty.elem from.elem)) (Scalar (st.scalar x)) (Scalar w) st) (λ v after. Source.Gives v (with_scalar x (number v) after))
-  unfolding assigned failing unless assign_to new_value read stored each at number then_do
-  operated_set_is scope active place x op o ty from w st word also few small is =
-      ap (λ (t : ValueType). assigned scope active place op t from (OfScalar x) (Scalar w) st) (plain_type ty word.0)
-      ∙ ap (λ (f : ValueType). assigned scope active place op (scalar_type ty.elem) f (OfScalar x) (Scalar w) st) (plain_type from also.0)
-      ∙ ap (λ (b : Bool). unless (if b then Some None else None) DivZero place st (Source.Gives (Scalar (updated op ty.elem from.elem (st.scalar x) w)) (with_scalar x (updated op ty.elem from.elem (st.scalar x) w) st))) (divides_is op o w is)
-      ∙ by (divides o && (w == 0)) refl
-      ∙ ap (λ (r : Outcome Value). then_do r (λ v after. Source.Gives v (with_scalar x (number v) after))) (sym (operated_is g has alive scope active ty place o (not (assigned_signed o ty.elem from.elem)) (st.scalar x) w st word.0))
-    where
-      by : (b : Bool) → (divides o && (w == 0)) ≡ b → unless (if b then Some None else None) DivZero place st (Source.Gives (Scalar (updated op ty.elem from.elem (st.scalar x) w)) (with_scalar x (updated op ty.elem from.elem (st.scalar x) w) st))
-          ≡ then_do (if divides o && (w == 0) then Source.Ends (Source.Fault DivZero place None) st else Source.Gives (Scalar (outcome o 32 (not (assigned_signed o ty.elem from.elem)) (st.scalar x) w)) st) (λ v after. Source.Gives v (with_scalar x (number v) after))
-      by true fails = ap (λ (b : Bool). then_do (if b then Source.Ends (Source.Fault DivZero place None) st else Source.Gives (Scalar (outcome o 32 (not (assigned_signed o ty.elem from.elem)) (st.scalar x) w)) st) (λ v after. Source.Gives v (with_scalar x (number v) after))) (sym fails)
-      by false fails =
-          ap (λ (u : ℕ). Source.Gives (Scalar u) (with_scalar x u st)) (updated_is op o ty.elem from.elem (st.scalar x) w word.1 also.1 few small is (not_zero (divides o) (w == 0) fails))
-          ∙ ap (λ (b : Bool). then_do (if b then Source.Ends (Source.Fault DivZero place None) st else Source.Gives (Scalar (outcome o 32 (not (assigned_signed o ty.elem from.elem)) (st.scalar x) w)) st) (λ v after. Source.Gives v (with_scalar x (number v) after))) (sym fails)
 
 module _ (g : Setting) (has : HasRegisters g) (alive : Variable → Type 0) (n : ℕ) (lives : (x : Variable) → IsDeclared n x → alive x) (ready : (d : Draft) → IsReady g.typed g.instance (layout g) n d) (scope : Scope) (active : Active)
     (x : Variable) (info : VarInfo) (living : alive x) (scalar : IsScalar g x info) (also : info.elem.bits ≡ 32) where
@@ -156,36 +112,6 @@ module _ (g : Setting) (has : HasRegisters g) (alive : Variable → Type 0) (n :
 
   -- ---- steps
 
-  abbrev stepping : StepOp → Op
-  stepping Sp.Increment = P.Add
-  stepping Sp.Decrement = P.Sub
-
-  stepping_is : (op : StepOp) → assign_op_of (step_op op) ≡ Some (stepping op)
-  unfolding assign_op_of
-  stepping_is Sp.Increment = refl
-  stepping_is Sp.Decrement = refl
-
-  never_divides : (op : StepOp) → divides (stepping op) ≡ false
-  unfolding divides
-  never_divides Sp.Increment = refl
-  never_divides Sp.Decrement = refl
-
-  stepped_is : (place : Place) (op : StepOp) (order : StepOrder) (ty : ValueType) (st : State) → IsWord ty → st.scalar x < 2 ^ 32
-      → stepped scope active op order ty (OfScalar x) st
-      ≡ then_do (operated scope active ty place (stepping op) (not (assigned_signed (stepping op) ty.elem (promoted ty.elem))) (Scalar (st.scalar x)) (Scalar 1) st) (λ v after. Source.Gives (step_value order (Scalar (st.scalar x)) v) (with_scalar x (number v) after))
-  unfolding stepped assign_to new_value read stored each at number then_do
-  stepped_is place op order ty st word few =
-      let one : Elem = promoted ty.elem in
-      let wide_one : one.bits ≡ 32 = ap (λ (e : Elem). e.bits) (wide_type ty.elem word.1) ∙ word.1 in
-      let some : divides (stepping op) ≡ true → (1 == 0) ≡ false = λ h. refl in
-      stepped_by op ty.elem ∙ ap (λ (u : ℕ). Source.Gives (step_value order (Scalar (st.scalar x)) (Scalar u)) (with_scalar x u st)) (updated_is (step_op op) (stepping op) ty.elem one (st.scalar x) 1 word.1 wide_one few (omega arith) (stepping_is op) some)
-      ∙ sym (ap (λ (r : Outcome Value). then_do r (λ v after. Source.Gives (step_value order (Scalar (st.scalar x)) v) (with_scalar x (number v) after)))
-      (operated_is g has alive scope active ty place (stepping op) (not (assigned_signed (stepping op) ty.elem one)) (st.scalar x) 1 st word.0
-      ∙ ap (λ (b : Bool). if b && (1 == 0) then Source.Ends (Source.Fault DivZero place None) st else Source.Gives (Scalar (outcome (stepping op) 32 (not (assigned_signed (stepping op) ty.elem one)) (st.scalar x) 1)) st) (never_divides op)))
-    where
-      stepped_by : (op : StepOp) (elem : Elem) → stepped scope active op order ty (OfScalar x) st ≡ Source.Gives (step_value order (Scalar (st.scalar x)) (Scalar (updated (step_op op) ty.elem (promoted ty.elem) (st.scalar x) 1))) (with_scalar x (updated (step_op op) ty.elem (promoted ty.elem) (st.scalar x) 1) st)
-      stepped_by op elem = ap (λ (t : ValueType). stepped scope active op order t (OfScalar x) st) (plain_type ty word.0)
-
   module _ (place : Place) (op : StepOp) (ty : ValueType) (word : IsWord ty) where
     abbrev sign : Bool
     sign = assigned_signed (stepping op) ty.elem (promoted ty.elem)
@@ -211,7 +137,7 @@ module _ (g : Setting) (has : HasRegisters g) (alive : Variable → Type 0) (n :
         let few : old < 2 ^ 32 = below_word info.elem.bits old also (h.sim.small x info living scalar) in
         let is_a : slice_index h.t.registers own ≡ old = h.sim.scalars x info living scalar ∙ held_wide info.elem old also few in
         subst (λ (made : Made Out). Follows g (λ v u out e. Ran g alive d s u e) s (stepped scope active op order ty (OfScalar x) st) made) (sym (stepped_so q e))
-        (subst (λ (r : Outcome Value). Follows g (λ v u out e. Ran g alive d s u e) s r (Makes (O.Scalar own) (operated_in (stepping op) sign place own own q e))) (sym (stepped_is place op order ty st word few))
+        (subst (λ (r : Outcome Value). Follows g (λ v u out e. Ran g alive d s u e) s r (Makes (O.Scalar own) (operated_in (stepping op) sign place own own q e))) (sym (stepped_is g has alive scope active x place op order ty st word few))
         (then_silent g (Put g has alive n lives ready scope active x info living scalar also d s) (λ v u out e. Ran g alive d s u e) s _ _ (Makes (O.Scalar own) (operated_in (stepping op) sign place own own q e))
         (operates g has alive ty (stepping op) place sign d e h.grown.0 s h.t st (Put g has alive n lives ready scope active x info living scalar also d s) scope active own own q old 1 word
         (variable_dest g has alive x info living scalar ty.elem d s word.1 also free) h.go h.at h.sim h.grown.1 h.keeps is_a h.is few (omega arith))
@@ -227,27 +153,6 @@ module _ (g : Setting) (has : HasRegisters g) (alive : Variable → Type 0) (n :
         (word_follows g has alive 1 d s st free here sim) (λ q e. extends_one q e) (λ u after q e h. with_one order d s st q e free h.1)
 
 -- ---- effects as they stand in the tree
-
--- the only assignment without an operator
-only_set : (op : AssignOp) → assign_op_of op ≡ None → op ≡ A.Set
-unfolding assign_op_of
-only_set A.Set is = refl
-only_set A.Add is = cc
-only_set A.Sub is = cc
-only_set A.Mul is = cc
-only_set A.Div is = cc
-only_set A.Rem is = cc
-only_set A.Mod is = cc
-only_set A.And is = cc
-only_set A.Or is = cc
-only_set A.Xor is = cc
-only_set A.Shl is = cc
-only_set A.Shr is = cc
-only_set A.Min is = cc
-only_set A.Max is = cc
-
-no_place : Place
-no_place = record { line = 0; col = 0 }
 
 module _ (g : Setting) (has : HasRegisters g) (alive : Variable → Type 0) (n : ℕ) (lives : (x : Variable) → IsDeclared n x → alive x) (ready : (d : Draft) → IsReady g.typed g.instance (layout g) n d) (scope : Scope) (active : Active) where
   abbrev pub Runs : (State → Outcome Value) → (Draft → Made Out) → Type 0
@@ -277,19 +182,6 @@ module _ (g : Setting) (has : HasRegisters g) (alive : Variable → Type 0) (n :
   steps_it : (elem : Elem) (x : Variable) (op : StepOp) (whole : Code) (d : Draft) → step_effect g.typed (layout g) op (T.Variable (scalar_type elem) x) whole d ≡ variable_stepped (layout g) elem op (O.Scalar (register_of (layout g) x)) d
   unfolding step_effect own_of standing then_make
   steps_it elem x op whole d = refl
-
-  -- what is known of the variable that is written
-  target_named : (tty : ValueType) (x : Variable) → NamesVariables g.typed g.instance n (T.Variable tty x) → HasVariable g.typed g.instance n x (plain tty)
-  unfolding NamesVariables
-  target_named tty x v = v
-
-  assign_names : (ty : ValueType) (place : Place) (op : AssignOp) (p q : Boxed) (target value : TExpr) → HasCode g.typed g.instance n (T.Assign' ty place op p target q value) → NamesVariables g.typed g.instance n target × HasCode g.typed g.instance n value
-  unfolding NamesVariables IsShaped IsLowerable
-  assign_names ty place op p q target value c = (c.names.0, record { shaped = c.shaped.3; lowerable = c.lowerable.3; names = c.names.1 })
-
-  step_names : (ty : ValueType) (op : StepOp) (order : StepOrder) (p : Boxed) (target : TExpr) → HasCode g.typed g.instance n (T.Step' ty op order p target) → NamesVariables g.typed g.instance n target
-  unfolding NamesVariables
-  step_names ty op order p target c = c.names
 
   assigns : (elem : Elem) (place : Place) (op : AssignOp) (x : Variable) (value : TExpr) (whole : Code) → elem.bits ≡ 32 → HasVariable g.typed g.instance n x (plain (scalar_type elem)) → IsIn value → HasCode g.typed g.instance n value
       → Runs (λ st. then_do (evaluated scope value active st) (λ v after. assigned scope active place op (scalar_type elem) (type_of value) (OfScalar x) v after)) (λ d. assignment_effect g.typed (layout g) op place (T.Variable (scalar_type elem) x) value whole d)
@@ -357,19 +249,21 @@ module _ (g : Setting) (has : HasRegisters g) (alive : Variable → Type 0) (n :
   in_effect (T.LogicalOr' ty p left q right) h = h
   in_effect (T.LogicalAnd' ty p left q right) h = h
   in_effect (T.Choice' ty p test q first r second) h = h
+  in_effect (T.Assign' ty place op p target q value) h = h
+  in_effect (T.Step' ty op order p target) h = h
   in_effect _ h = absurd h
 
   pub effect_follows : (e : TExpr) → IsEffect e → HasCode g.typed g.instance n e → Runs (λ st. evaluated scope e active st) (λ d. effect_of g.typed (layout g) e d)
   unfolding IsEffect effect_of evaluated IsVariable IsIn
   effect_follows (T.Assign' ty place op p (T.Variable tty x) q value) h c =
-      let names = assign_names ty place op p q (T.Variable tty x) value c in
+      let names = assign_names g has alive n lives ready scope active ty place op p q (T.Variable tty x) value c in
       subst (λ (t : ValueType). Runs (λ st. then_do (Source.Gives (variable_target tty.shape x 0) st) (λ there between. then_do (evaluated scope value active between) (λ v after. assigned scope active place op t (type_of value) there v after)))
       (λ d. assignment_effect g.typed (layout g) op place (T.Variable tty x) value (λ e. value_of g.typed (layout g) ty.elem.bits (T.Assign' ty place op p (T.Variable tty x) q value) e) d)) (sym h.1)
-      (assign_runs tty place op x value (λ e. value_of g.typed (layout g) ty.elem.bits (T.Assign' ty place op p (T.Variable tty x) q value) e) h.2 (target_named tty x names.0) h.3 names.1)
+      (assign_runs tty place op x value (λ e. value_of g.typed (layout g) ty.elem.bits (T.Assign' ty place op p (T.Variable tty x) q value) e) h.2 (target_named g has alive n lives ready scope active tty x names.0) h.3 names.1)
   effect_follows (T.Assign' ty place op p _ q value) h c = absurd h.2
   effect_follows (T.Step' ty op order p (T.Variable tty x)) h c =
       subst (λ (t : ValueType). Runs (λ st. then_do (Source.Gives (variable_target tty.shape x 0) st) (λ there after. stepped scope active op order t there after)) (λ d. step_effect g.typed (layout g) op (T.Variable tty x) (λ e. value_of g.typed (layout g) ty.elem.bits (T.Step' ty op order p (T.Variable tty x)) e) d)) (sym h.1)
-      (step_runs tty op order x (λ e. value_of g.typed (layout g) ty.elem.bits (T.Step' ty op order p (T.Variable tty x)) e) h.2 (target_named tty x (step_names ty op order p (T.Variable tty x) c)))
+      (step_runs tty op order x (λ e. value_of g.typed (layout g) ty.elem.bits (T.Step' ty op order p (T.Variable tty x)) e) h.2 (target_named g has alive n lives ready scope active tty x (step_names g has alive n lives ready scope active ty op order p (T.Variable tty x) c)))
   effect_follows (T.Step' ty op order p _) h c = absurd h.2
   effect_follows (T.Brackets' ty p inner) h c = effect_follows inner (in_effect inner h.1) (brackets_code g has alive n lives ready scope active ty p inner c)
   effect_follows (T.Printf' ty pieces p arguments) h c = printf_runs ty pieces p arguments h (printf_code g has alive n lives ready scope active ty pieces p arguments c)

@@ -108,7 +108,7 @@ module _ (g : Setting) (has : HasRegisters g) (alive : Variable → Type 0) wher
           value = refl;
           small = below_bits elem.bits w wide few;
           lasts = λ u t after stays same.
-          fresh_lasts g alive (with_instr instr (with_reg d)) v (with_register d.regs w (reading rest s)) d.regs w (held elem w) free (omega (arith, regs)) (register_is g s d.regs w inside ∙ sym (held_wide elem w wide few)) u t after stays;
+              fresh_lasts g alive (with_instr instr (with_reg d)) v (with_register d.regs w (reading rest s)) d.regs w (held elem w) free (omega (arith, regs)) (register_is g s d.regs w inside ∙ sym (held_wide elem w wide few)) u t after stays;
         };
       })
 

@@ -26,7 +26,7 @@ use Rattle.source_meaning.specs.State as Source
 use Rattle.source_meaning.specs.State.{Outcome, State, then_do}
 use Rattle.source_meaning.specs.Values.{Scalar, Value, at as value_at, cast_through, cast_type}
 use Rattle.code_follows.specs.Fragment.{IsWord}
-use Rattle.code_follows.proofs.Fresh.{IsFresh, fresh_too}
+use Rattle.code_follows.proofs.Fresh.{IsFresh, made_so}
 use Rattle.code_follows.proofs.Following.{Arrives, Extends, Follows, HasRegisters, fresh_lasts, held, keeps_all, then_follows}
 use Rattle.code_follows.proofs.Settings.{Setting, Within, and_one, earlier, layout, stay}
 use Rattle.code_follows.proofs.Values.{Does, HasWord, Value_of, extends_in_register, mapped_is, takes_word}
@@ -149,7 +149,7 @@ module _ (g : Setting) (has : HasRegisters g) (alive : Variable → Type 0) wher
             value = refl;
             small = subst (λ (elem : Elem). number < 2 ^ elem.bits) (sym same) (through_below kinds from w arr.holds.small);
             lasts = λ v t later stays still.
-            fresh_lasts g alive (casts_put kinds r e) u h.t r number (held ty.elem number) (omega (arith, free, is_fresh.0)) (omega (arith, is_fresh.1, longer)) (h.is ∙ ap (λ (elem : Elem). held elem number) (sym same)) v t later stays;
+                fresh_lasts g alive (casts_put kinds r e) u h.t r number (held ty.elem number) (omega (arith, free, is_fresh.0)) (omega (arith, is_fresh.1, longer)) (h.is ∙ ap (λ (elem : Elem). held elem number) (sym same)) v t later stays;
           };
         }))
 
@@ -157,7 +157,7 @@ module _ (g : Setting) (has : HasRegisters g) (alive : Variable → Type 0) wher
         → Does g has alive ty.elem quiet (λ st. then_do (part st) (λ v after. Source.Gives (mapped ty (λ w. cast_through kinds from w) v) after)) (λ d. then_make (code d) (λ v after. behind_operand v after))
     casts_follow code part fresh does d s st free here sim =
         then_follows g (λ v u out e. IsFresh d (Makes out e) × Arrives g alive from false d s v u out e) (Value_of g has alive ty.elem quiet d s) s s (part st) _ (code d) (λ v after. behind_operand v after) (stay g s)
-        (fresh_too g has alive (Value_of g has alive from false d s) d s (part st) (code d) (fresh d) (does d s st free here sim)) (λ v e. grows_cast v e) (λ v u out e both. with_operand d s v u out e free both.0 both.1)
+        (made_so g has alive (λ made. IsFresh d made) (Value_of g has alive from false d s) s (part st) (code d) (fresh d) (does d s st free here sim)) (λ v e. grows_cast v e) (λ v u out e both. with_operand d s v u out e free both.0 both.1)
 
     -- the register of what is cast is that of the whole
     pub fresh_casts : (code : Code) (d : Draft) → IsFresh d (code d) → IsFresh d (then_make (code d) (λ v after. behind_operand v after))

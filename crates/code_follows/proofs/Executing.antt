@@ -13,7 +13,7 @@ use Rattle.lower_base.specs.declared.emit.Out.{Out}
 use Rattle.lower_base.specs.declared.emit.Out.TheVariants as O
 use Rattle.lower_base.specs.Constants.{first_free}
 use Rattle.lower_base.specs.Drafts.{Draft, Fails, Made, Makes, here, in_register, then_make}
-use Rattle.lower_expr.specs.Lengths.{used_length_of}
+use Rattle.lower_expr.specs.Lengths.{bare, is_send, is_sent, used_length_of}
 use Rattle.lower_expr.specs.Steps.{is_kept}
 use Rattle.lower_expr.specs.Values.{next_of}
 use Rattle.lower_stmt.specs.declared.statement.Frame.{Frame}
@@ -25,7 +25,7 @@ use Rattle.source_meaning.specs.State as Source
 use Rattle.source_meaning.specs.State.{Early, Outcome, State, then_do}
 use Rattle.source_meaning.specs.Statements.{Broke, Continued, Leaving, Onward, Returned, passes, then_go}
 use Rattle.source_meaning.specs.Values.{Active, Scope, Value, nonzero, number}
-use Rattle.code_follows.specs.Fragment.{IsIn}
+use Rattle.code_follows.specs.Fragment.{IsIn, IsVariable}
 use Rattle.code_follows.proofs.Expressions.{operand}
 use Rattle.code_follows.proofs.Following.{Arrives, Extends, Follows, HasRegisters, Keeps, Ran, Sim, finishes_later, keeps_all, keeps_on, then_follows}
 use Rattle.code_follows.proofs.Settings.{At, EndsIn, Reaches, Setting, ends_later, layout, onto, stay}
@@ -151,7 +151,7 @@ module _ (g : Setting) (alive : Variable → Type 0) where
             (λ within. record { grown = arr.extended; t = arr.t; go = arr.go; at = arr.at; sim = arr.sim; keeps = arr.keeps; is = ap nonzero there }))
 
     pub gives : (e : TExpr) → IsIn e → GivesValue g.typed e
-    unfolding GivesValue IsIn
+    unfolding GivesValue IsIn IsVariable is_send bare is_sent
     gives (T.Number ty value) h = tt
     gives (T.PositionsOf ty shape value) h = tt
     gives (T.RankOf ty shape value) h = tt
@@ -166,6 +166,9 @@ module _ (g : Setting) (alive : Variable → Type 0) where
     gives (T.LogicalOr' ty p left q right) h = tt
     gives (T.LogicalAnd' ty p left q right) h = tt
     gives (T.Choice' ty p test q first r second) h = tt
+    gives (T.Assign' ty place op p (T.Variable tty x) q value) h = refl
+    gives (T.Assign' ty place op p _ q value) h = absurd h.2
+    gives (T.Step' ty op order p target) h = tt
     gives _ h = absurd h
 
     -- the code of a condition is made

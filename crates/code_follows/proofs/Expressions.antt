@@ -1,5 +1,5 @@
 -- The code of every expression of the fragment gives its value, as a value and as an operand.
-use Rattle.std.proofs.Common.{◌≡◌, ◌∙◌, ℕ, ◌<◌, ◌≤◌, ◌-◌, ◌^◌, ◌==◌, Bool, true, false, length, Option, Some, None, refl, sym, ap, subst, if◌then◌else◌, arith, Vec, Global}
+use Rattle.std.proofs.Common.{◌≡◌, ◌∙◌, ℕ, ◌<◌, ◌≤◌, ◌-◌, ◌^◌, ◌==◌, Bool, true, false, length, Option, Some, None, refl, sym, ap, subst, if◌then◌else◌, arith, Vec, Global, inl}
 use Rattle.std.specs.Prelude.{IfSome, is_none, ◌||◌, nat_le, nat_lt}
 use Rattle.cstar_base.specs.declared.elem.Elem.{Elem}
 use Rattle.cstar_base.specs.declared.operators.Op.{Op}
@@ -15,11 +15,15 @@ use Rattle.cstar_tree.specs.declared.typed.Variable.{Variable}
 use Rattle.cstar_tree.specs.StatementTypes.{variable_info}
 use Rattle.cstar_tree.specs.Typed.{type_of}
 use Rattle.code_lengths.specs.Lowerable.{GivesValue, IsLowerable}
+use Rattle.cstar_tree.specs.declared.syntax.AssignOp.{AssignOp}
+use Rattle.cstar_tree.specs.declared.syntax.StepOp.{StepOp}
+use Rattle.cstar_tree.specs.declared.typed.StepOrder.{StepOrder}
 use Rattle.code_lengths.specs.Naming.{HasVariable, IsDeclared, NamesVariables, plain}
 use Rattle.code_lengths.specs.Ready.{HasCode, IsReady}
 use Rattle.code_lengths.specs.Shaped.{IsShaped}
 use Rattle.code_lengths.proofs.Agreeing.{expressions}
 use Rattle.code_lengths.proofs.Drafting.{as_it_was}
+use Rattle.code_lengths.proofs.OperandPieces.{operand_grows as operand_grown}
 use Rattle.constant_trees.proofs.Words.{converted_below}
 use Rattle.lower_base.specs.declared.emit.Out.{Out}
 use Rattle.lower_base.specs.declared.emit.Out.TheVariants as O
@@ -36,17 +40,17 @@ use Rattle.paris_code.specs.Code.{CodeState}
 use Rattle.paris_code.specs.declared.instr.Instr.TheVariants as I
 use Rattle.paris_code.specs.declared.operands.Konst.TheVariants as K
 use Rattle.paris_code.specs.declared.operands.Operation.TheVariants as Act
-use Rattle.lower_expr.specs.Values.{Code, arm_by, arm_of, cast_from, choice_by, condition_by, condition_of, logical_by, next_of, register_cast_by, scalar_choice_of, truth_of, unary_by, value_of}
+use Rattle.lower_expr.specs.Values.{Code, arm_by, arm_of, cast_from, choice_by, condition_by, condition_of, logical_by, next_of, register_cast_by, scalar_choice_of, truth_of, unary_by, value_of, taken_bits}
 use Rattle.quiet_operands.proofs.Unchanged as Quiet
 use Rattle.source_meaning.specs.Constants.{constant_of, is_constant, then_value}
 use Rattle.source_meaning.specs.Constants as Const
-use Rattle.source_meaning.specs.Expressions.{evaluated, mapped}
+use Rattle.source_meaning.specs.Expressions.{evaluated, mapped, located}
 use Rattle.source_meaning.specs.Narrowing.{and_then, choose, or_then}
 use Rattle.source_meaning.specs.State as Source
 use Rattle.source_meaning.specs.State.{Outcome, State, then_do}
 use Rattle.source_meaning.specs.Values.{Active, Scalar, Scope, Value, at, convert_to, nonzero, number, unary_of}
 use Rattle.source_meaning.proofs.ConstantLaws.{Boxed, value_means}
-use Rattle.code_follows.specs.Fragment.{IsIn, IsWord}
+use Rattle.code_follows.specs.Fragment.{IsIn, IsWord, IsVariable}
 use Rattle.code_follows.proofs.Branching.{IsMadeWord, made_word}
 use Rattle.code_follows.proofs.Choosing.{Arm_does, IsMadeTo, Lands, arm_follows, arm_made, choice_is, choose_is, constant_arm, fresh_lands, scalar_choice_follows}
 use Rattle.code_follows.proofs.Following.{Arrives, Extends, Follows, HasRegisters, IsScalar, Sim, held, keeps_all, then_follows, then_gives}
@@ -55,7 +59,12 @@ use Rattle.code_follows.proofs.Settings.{At, Setting, layout, stay}
 use Rattle.code_follows.proofs.Values.{Dest, Does, Value_of, binary_follows, constant_follows, conversion_is, extends_grown, fresh_dest, mapped_is, read_is, rewrapped, unary_follows, variable_follows, with_reg}
 use Rattle.code_follows.proofs.Bytes.{byte_follows}
 use Rattle.code_follows.proofs.Casts.{casts_follow, fresh_casts}
-use Rattle.code_follows.proofs.Fresh.{IsFresh, fresh_binary, fresh_byte, fresh_choice, fresh_constant, fresh_logical, fresh_unary, fresh_variable}
+use Rattle.code_follows.proofs.Fresh.{IsFresh, fresh_binary, fresh_byte, fresh_choice, fresh_constant, fresh_logical, fresh_unary, fresh_variable, IsClear, clear_fresh}
+use Rattle.source_meaning.specs.Targets.{variable_target}
+use Rattle.code_follows.proofs.ConstantRegisters.{below_values}
+use Rattle.code_follows.proofs.Changing.{plain_type, scalar_type}
+use Rattle.code_follows.proofs.Nested.{assigned_value, fresh_assigned, fresh_stepped, stepped_value}
+use Rattle.code_follows.proofs.Stores.{before_values}
 use Rattle.code_follows.proofs.Standing.{some_same}
 use Rattle.code_follows.proofs.Words.{below_bits, below_word, constant_below, held_converted, held_wide, kept, word_type}
 
@@ -142,6 +151,8 @@ module _ (g : Setting) (has : HasRegisters g) (alive : Variable → Type 0) (n :
   own_is bits (T.LogicalOr' ty p left q right) own st h v small is = cc
   own_is bits (T.LogicalAnd' ty p left q right) own st h v small is = cc
   own_is bits (T.Choice' ty p test q first r second) own st h v small is = cc
+  own_is bits (T.Assign' ty place op p target q value) own st h v small is = cc
+  own_is bits (T.Step' ty op order p target) own st h v small is = cc
   own_is bits _ own st h v small is = absurd h
 
   -- an operand where it stands, or by its code
@@ -281,6 +292,19 @@ module _ (g : Setting) (has : HasRegisters g) (alive : Variable → Type 0) (n :
   unfolding IsShaped IsLowerable NamesVariables
   right_code ty place op p q left right h = record { shaped = h.shaped.1; lowerable = h.lowerable.3; names = h.names.1 }
 
+  -- what is known of the variable that is written
+  pub target_named : (tty : ValueType) (x : Variable) → NamesVariables g.typed g.instance n (T.Variable tty x) → HasVariable g.typed g.instance n x (plain tty)
+  unfolding NamesVariables
+  target_named tty x v = v
+
+  pub assign_names : (ty : ValueType) (place : Place) (op : AssignOp) (p q : Boxed) (target value : TExpr) → HasCode g.typed g.instance n (T.Assign' ty place op p target q value) → NamesVariables g.typed g.instance n target × HasCode g.typed g.instance n value
+  unfolding NamesVariables IsShaped IsLowerable
+  assign_names ty place op p q target value c = (c.names.0, record { shaped = c.shaped.3; lowerable = c.lowerable.3; names = c.names.1 })
+
+  pub step_names : (ty : ValueType) (op : StepOp) (order : StepOrder) (p : Boxed) (target : TExpr) → HasCode g.typed g.instance n (T.Step' ty op order p target) → NamesVariables g.typed g.instance n target
+  unfolding NamesVariables
+  step_names ty op order p target c = c.names
+
   pub operand_grows : (quiet : Bool) (bits : ℕ) (e : TExpr) → HasCode g.typed g.instance n e → (d : Draft) → Extends g d (operand_by g.typed (layout g) bits (value_of g.typed (layout g) bits e) quiet e d)
   operand_grows quiet bits e h d = extends_grown g has alive _ d _ _ ((expressions g.typed g.instance (layout g)).operand bits n quiet e d h (ready d))
 
@@ -369,9 +393,27 @@ module _ (g : Setting) (has : HasRegisters g) (alive : Variable → Type 0) (n :
   condition_grows : (e : TExpr) → HasCode g.typed g.instance n e → (d : Draft) → Extends g d ((condition_of g.typed (layout g) e).code d)
   unfolding condition_by
   condition_grows e c d = operand_grows true (bits_of (kind_of e)) e c d
+  -- an assignment and a step as values
+  other_grows : (m k : ℕ) (e : TExpr) → HasCode g.typed g.instance n e → (d : Draft) → Extends g d (operand_by g.typed (layout g) m (value_of g.typed (layout g) k e) true e d)
+  other_grows m k e c d = extends_grown g has alive _ d _ _ (operand_grown g.typed g.instance (layout g) n m true e (value_of g.typed (layout g) k e) _ d c (ready d) ((expressions g.typed g.instance (layout g)).value k n e d c (ready d)))
+
+  fresh_assign : (bits : ℕ) (ty tty : ValueType) (place : Place) (op : AssignOp) (p q : Boxed) (x : Variable) (value : TExpr) → IsWord tty → HasVariable g.typed g.instance n x (plain tty) → IsIn value → HasCode g.typed g.instance n value
+      → ((m : ℕ) (d : Draft) → IsFresh d (value_of g.typed (layout g) m value d)) → (d : Draft) → IsFresh d (value_of g.typed (layout g) bits (T.Assign' ty place op p (T.Variable tty x) q value) d)
+  unfolding value_of
+  fresh_assign bits ty tty place op p q x value word v isin c fresh d =
+      subst (λ (t : ValueType). HasVariable g.typed g.instance n x (plain t) → IsFresh d (value_of g.typed (layout g) bits (T.Assign' ty place op p (T.Variable t x) q value) d)) (sym (plain_type tty word.0)) (λ w.
+      let target : TExpr = T.Variable (scalar_type tty.elem) x in
+      fresh_assigned g has alive x (variable_info w.word (plain (scalar_type tty.elem)) w.start) (lives x w.declared) (w.named, refl) word.1 place op tty.elem (T.Assign' ty place op p target q value) value bits (λ e. value_of g.typed (layout g) (taken_bits bits op target value) value e) d word.1 (kept value isin)
+      (fresh (taken_bits bits op target value) d) (λ m b. other_grows m (taken_bits bits op target value) value c b)) v
+
+  fresh_step : (bits : ℕ) (ty tty : ValueType) (op : StepOp) (order : StepOrder) (p : Boxed) (x : Variable) → IsWord tty → HasVariable g.typed g.instance n x (plain tty) → (d : Draft) → IsFresh d (value_of g.typed (layout g) bits (T.Step' ty op order p (T.Variable tty x)) d)
+  unfolding value_of
+  fresh_step bits ty tty op order p x word v d =
+      subst (λ (t : ValueType). HasVariable g.typed g.instance n x (plain t) → IsFresh d (value_of g.typed (layout g) bits (T.Step' ty op order p (T.Variable t x)) d)) (sym (plain_type tty word.0)) (λ w.
+      fresh_stepped g has alive x (variable_info w.word (plain (scalar_type tty.elem)) w.start) (lives x w.declared) (w.named, refl) word.1 scope active op order tty.elem (T.Step' ty op order p (T.Variable (scalar_type tty.elem) x)) bits d word.1) v
 
   fresh_value : (bits : ℕ) (e : TExpr) → IsIn e → HasCode g.typed g.instance n e → (d : Draft) → IsFresh d (value_of g.typed (layout g) bits e d)
-  unfolding value_of IsIn
+  unfolding value_of IsIn IsVariable
   fresh_value bits (T.Number ty value) h c d = fresh_constant g has alive value d
   fresh_value bits (T.PositionsOf ty shape value) h c d = fresh_constant g has alive value d
   fresh_value bits (T.RankOf ty shape value) h c d = fresh_constant g has alive value d
@@ -390,7 +432,31 @@ module _ (g : Setting) (has : HasRegisters g) (alive : Variable → Type 0) (n :
   fresh_value bits (T.Choice' ty p test q first r second) h c d =
       let parts = choice_parts ty p q r test first second c in
       fresh_choice g has alive ty bits (is_kept test) _ _ _ first second _ _ d h.0.0 (kept test h.1) (operand_grows (is_kept test || is_quiet first) (bits_of (kind_of test)) test parts.condition) (operand_grows true bits first parts.one) (operand_grows true bits second parts.other)
+  fresh_value bits (T.Assign' ty place op p (T.Variable tty x) q value) h c d =
+      let names = assign_names ty place op p q (T.Variable tty x) value c in
+      fresh_assign bits ty tty place op p q x value h.2 (target_named tty x names.0) h.3 names.1 (λ m e. fresh_value m value h.3 names.1 e) d
+  fresh_value bits (T.Assign' ty place op p _ q value) h c d = absurd h.2
+  fresh_value bits (T.Step' ty op order p (T.Variable tty x)) h c d = fresh_step bits ty tty op order p x h.2 (target_named tty x (step_names ty op order p (T.Variable tty x) c)) d
+  fresh_value bits (T.Step' ty op order p _) h c d = absurd h.2
   fresh_value bits _ h c d = absurd h
+
+  -- an operand in its place leaves its register alone
+  clear_operand : (bits : ℕ) (e : TExpr) (code : Code) → IsIn e → NamesVariables g.typed g.instance n e → ((d : Draft) → IsFresh d (code d)) → (st : State) → ((x : Variable) (info : VarInfo) → alive x → IsScalar g x info → st.scalar x < 2 ^ info.elem.bits)
+      → (d : Draft) → IsClear (layout g) d (operand_by g.typed (layout g) bits code true e d)
+  unfolding operand_by in_place standing IsClear
+  clear_operand bits e code isin names fresh st small d = by_held (held_in (layout g) e) refl
+    where
+      by_place : (o : Option Own) → own_of bits e ≡ o → IsClear (layout g) d (elim o as (λ _. Made Out) [ Some own ↦ standing g.typed (layout g) bits own d | None ↦ code d ])
+      by_place None is = clear_fresh (layout g) d (code d) (fresh d)
+      by_place (Some own) is =
+          let o = own_is bits e own st isin names small is in
+          subst (λ (made : Made Out). IsClear (layout g) d made)
+          (sym (ap (λ (shape : Option ℕ). elim shape as (λ _. Made Out) [ None ↦ Makes (O.Scalar (register_of (layout g) own.variable)) d | Some _ ↦ then_make (field_of g.typed (layout g) own.variable 0 d) (λ f after. Makes (O.Field (first_bits bits f)) after) ]) o.shape))
+          (inl (before_values g has own.variable o.info o.scalar))
+
+      by_held : (o : Option ℕ) → held_in (layout g) e ≡ o → IsClear (layout g) d (elim o as (λ _. Made Out) [ Some r ↦ Makes (O.Scalar r) d | None ↦ elim (own_of bits e) as (λ _. Made Out) [ Some own ↦ standing g.typed (layout g) bits own d | None ↦ code d ] ])
+      by_held None is = by_place (own_of bits e) refl
+      by_held (Some r) is = let h = held_stands (layout g) e r is in inl (below_values (layout g) (held (type_of e).elem h.word) r h.register)
 
   operand_value : (quiet : Bool) (bits : ℕ) (e : TExpr) → IsIn e → HasCode g.typed g.instance n e → Agrees quiet bits e → Does g has alive (type_of e).elem quiet (λ st. evaluated scope e active st) (λ d. operand_by g.typed (layout g) bits (value_of g.typed (layout g) bits e) quiet e d)
   operand_value quiet bits e h c agrees = operand_follows quiet bits e (λ d. value_of g.typed (layout g) bits e d) h c.names agrees
@@ -441,9 +507,27 @@ module _ (g : Setting) (has : HasRegisters g) (alive : Variable → Type 0) (n :
       ∙ choice_is ty bits (is_kept test) (next_of g.typed (layout g) (bits_of (kind_of test)) true test) (arm_of g.typed (layout g) bits first) (arm_of g.typed (layout g) bits second)
       (arm_length_of g.typed (layout g) ty bits first) (arm_length_of g.typed (layout g) ty bits second) d word.0 (kept test h)))
       (choice_goes ty bits test first second word h k m c tests one other (with_reg d) s st (Value_of g has alive ty.elem quiet d s) d.regs (omega (arith, free)) here sim (fresh_dest g has alive ty.elem quiet d s free) (fresh_lands g has alive ty.elem quiet d s d.regs))
+  assign_value : (quiet : Bool) (bits : ℕ) (ty tty : ValueType) (place : Place) (op : AssignOp) (p q : Boxed) (x : Variable) (value : TExpr) → IsWord tty → ty ≡ tty → HasVariable g.typed g.instance n x (plain tty) → IsIn value → HasCode g.typed g.instance n value
+      → ((m : ℕ) (d : Draft) → IsFresh d (value_of g.typed (layout g) m value d)) → ((calm : Bool) (m : ℕ) → Agrees calm m value) → Agrees quiet bits (T.Assign' ty place op p (T.Variable tty x) q value)
+  unfolding value_of evaluated located then_do variable_target
+  assign_value quiet bits ty tty place op p q x value word same v isin c fresh agrees =
+      subst (λ (t : ValueType). Agrees quiet bits (T.Assign' t place op p (T.Variable tty x) q value)) (sym same)
+      (subst (λ (t : ValueType). HasVariable g.typed g.instance n x (plain t) → Agrees quiet bits (T.Assign' t place op p (T.Variable t x) q value)) (sym (plain_type tty word.0)) (λ w.
+      let target : TExpr = T.Variable (scalar_type tty.elem) x in
+      let m : ℕ = taken_bits bits op target value in
+      let code : Code = λ e. value_of g.typed (layout g) m value e in
+      assigned_value g has alive x (variable_info w.word (plain (scalar_type tty.elem)) w.start) (lives x w.declared) (w.named, refl) word.1 scope active place op tty.elem (T.Assign' (scalar_type tty.elem) place op p target q value) value bits quiet code (λ st. evaluated scope value active st) word.1
+      (word_type value isin) (kept value isin) (agrees false m) (λ k. operand_follows true k value code isin c.names (agrees true m)) (λ k st s sim d. clear_operand k value code isin c.names (fresh m) st sim.small d)) v)
+
+  step_value_follows : (quiet : Bool) (bits : ℕ) (ty tty : ValueType) (op : StepOp) (order : StepOrder) (p : Boxed) (x : Variable) → IsWord tty → ty ≡ tty → HasVariable g.typed g.instance n x (plain tty) → Agrees quiet bits (T.Step' ty op order p (T.Variable tty x))
+  unfolding value_of evaluated located then_do variable_target
+  step_value_follows quiet bits ty tty op order p x word same v =
+      subst (λ (t : ValueType). Agrees quiet bits (T.Step' t op order p (T.Variable tty x))) (sym same)
+      (subst (λ (t : ValueType). HasVariable g.typed g.instance n x (plain t) → Agrees quiet bits (T.Step' t op order p (T.Variable t x))) (sym (plain_type tty word.0)) (λ w.
+      stepped_value g has alive x (variable_info w.word (plain (scalar_type tty.elem)) w.start) (lives x w.declared) (w.named, refl) word.1 scope active op order tty.elem word.1 quiet bits (T.Step' (scalar_type tty.elem) op order p (T.Variable (scalar_type tty.elem) x))) v)
 
   pub value_follows : (quiet : Bool) (bits : ℕ) (e : TExpr) → IsIn e → HasCode g.typed g.instance n e → Agrees quiet bits e
-  unfolding evaluated value_of IsIn
+  unfolding evaluated value_of IsIn IsVariable
   value_follows quiet bits (T.Number ty value) h c = λ d s st free here sim. constant_follows g has alive ty.elem quiet value d s st h.0.1 h.1 free here sim
   value_follows quiet bits (T.PositionsOf ty shape value) h c = λ d s st free here sim. constant_follows g has alive ty.elem quiet value d s st h.0.1 h.1 free here sim
   value_follows quiet bits (T.RankOf ty shape value) h c = λ d s st free here sim. constant_follows g has alive ty.elem quiet value d s st h.0.1 h.1 free here sim
@@ -477,6 +561,12 @@ module _ (g : Setting) (has : HasRegisters g) (alive : Variable → Type 0) (n :
   value_follows quiet bits (T.Choice' ty p test q first r second) h c =
       let o = choice_parts ty p q r test first second c in
       choice_value ty quiet bits p q r test first second h.0 h.1 h.2 h.3 o (value_follows true (bits_of (kind_of test)) test h.1 o.condition) (value_follows true bits first h.2 o.one) (value_follows true bits second h.3 o.other)
+  value_follows quiet bits (T.Assign' ty place op p (T.Variable tty x) q value) h c =
+      let names = assign_names ty place op p q (T.Variable tty x) value c in
+      assign_value quiet bits ty tty place op p q x value h.2 h.1 (target_named tty x names.0) h.3 names.1 (λ m d. fresh_value m value h.3 names.1 d) (λ calm m. value_follows calm m value h.3 names.1)
+  value_follows quiet bits (T.Assign' ty place op p _ q value) h c = absurd h.2
+  value_follows quiet bits (T.Step' ty op order p (T.Variable tty x)) h c = step_value_follows quiet bits ty tty op order p x h.2 h.1 (target_named tty x (step_names ty op order p (T.Variable tty x) c))
+  value_follows quiet bits (T.Step' ty op order p _) h c = absurd h.2
   value_follows quiet bits _ h c = absurd h
 
   pub operand : (quiet : Bool) (bits : ℕ) (e : TExpr) → IsIn e → HasCode g.typed g.instance n e → Does g has alive (type_of e).elem quiet (λ st. evaluated scope e active st) (λ d. operand_by g.typed (layout g) bits (value_of g.typed (layout g) bits e) quiet e d)

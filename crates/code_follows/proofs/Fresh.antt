@@ -1,5 +1,6 @@
 -- The code of a value leaves it in a register that was not taken before.
-use Rattle.std.proofs.Common.{◌≡◌, ℕ, ◌+◌, ◌<◌, ◌≤◌, Bool, true, false, not, Option, Some, None, sym, subst, if◌then◌else◌, arith}
+use Rattle.std.proofs.Common.{◌≡◌, ℕ, ◌+◌, ◌<◌, ◌≤◌, Bool, true, false, not, Option, Some, None, sym, subst, if◌then◌else◌, arith, inr}
+use Rattle.std.specs.Prelude.{◌⊎◌}
 use Rattle.cstar_base.specs.declared.operators.Op.{Op}
 use Rattle.cstar_base.specs.declared.operators.Place.{Place}
 use Rattle.cstar_tree.specs.declared.typed.TExpr.{TExpr}
@@ -10,9 +11,9 @@ use Rattle.cstar_tree.specs.declared.typed.ValueType.{ValueType}
 use Rattle.cstar_tree.specs.declared.typed.Variable.{Variable}
 use Rattle.lower_base.specs.declared.emit.Out.{Out}
 use Rattle.lower_base.specs.declared.emit.Out.TheVariants as O
-use Rattle.lower_base.specs.Constants.{word_in}
+use Rattle.lower_base.specs.Constants.{word_in, first_free}
 use Rattle.lower_base.specs.Drafts.{Draft, Fails, Made, Makes, a_register, fresh_for, in_register, then_make, with_instr}
-use Rattle.lower_base.specs.Layouts.{register_of}
+use Rattle.lower_base.specs.Layouts.{register_of, Layout}
 use Rattle.lower_expr.specs.Operands.{is_plus}
 use Rattle.lower_expr.specs.Spots.{variable_spot}
 use Rattle.lower_expr.specs.Steps.{constant_in, negated, put_value, register_negated, register_word, word_for, word_put}
@@ -37,14 +38,28 @@ IsFresh d (Makes (O.Field f) e) = Unit {0}
 IsFresh d (Makes O.Nothing e) = Unit {0}
 IsFresh d Fails = Unit {0}
 
+-- a register of a variable or a constant, or one that is taken behind the draft
+unfoldable pub IsClear : Layout → Draft → Made Out → Type 0
+IsClear l d (Makes (O.Scalar r) e) = (r < first_free l) ⊎ (d.regs ≤ r)
+IsClear l d (Makes (O.Field f) e) = Unit {0}
+IsClear l d (Makes O.Nothing e) = Unit {0}
+IsClear l d Fails = Unit {0}
+
+pub clear_fresh : (l : Layout) (d : Draft) (made : Made Out) → IsFresh d made → IsClear l d made
+unfolding IsFresh IsClear
+clear_fresh l d (Makes (O.Scalar r) e) h = inr h.0
+clear_fresh l d (Makes (O.Field f) e) h = tt
+clear_fresh l d (Makes O.Nothing e) h = tt
+clear_fresh l d Fails h = tt
+
 module _ (g : Setting) (has : HasRegisters g) (alive : Variable → Type 0) where
-  -- what is known of the register of what follows
-  pub fresh_too : (R : Value → State → Out → Draft → Type 0) (d : Draft) (s : CodeState) (o : Outcome Value) (made : Made Out) → IsFresh d made → Follows g R s o made → Follows g (λ v u out e. IsFresh d (Makes out e) × R v u out e) s o made
+  -- what is known of code that is made, beside what it does
+  pub made_so : (P : Made Out → Type 0) (R : Value → State → Out → Draft → Type 0) (s : CodeState) (o : Outcome Value) (made : Made Out) → P made → Follows g R s o made → Follows g (λ v u out e. P (Makes out e) × R v u out e) s o made
   unfolding Follows
-  fresh_too R d s (Source.Gives v u) (Makes out e) fresh h = λ w. (fresh, h w)
-  fresh_too R d s (Source.Ends early u) (Makes out e) fresh h = h
-  fresh_too R d s (Source.Gives v u) Fails fresh h = tt
-  fresh_too R d s (Source.Ends early u) Fails fresh h = tt
+  made_so P R s (Source.Gives v u) (Makes out e) fresh h = λ w. (fresh, h w)
+  made_so P R s (Source.Ends early u) (Makes out e) fresh h = h
+  made_so P R s (Source.Gives v u) Fails fresh h = tt
+  made_so P R s (Source.Ends early u) Fails fresh h = tt
 
   pub fresh_then : {A : Type 0} (d e : Draft) (made : Made A) (next : A → Draft → Made Out) → Extends g e made → ((x : A) (f : Draft) → e.regs ≤ f.regs → IsFresh d (next x f)) → IsFresh d (then_make made next)
   unfolding IsFresh Extends then_make

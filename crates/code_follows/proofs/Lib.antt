@@ -4,6 +4,7 @@ pub mod Bodies
 pub mod Branching
 pub mod Bytes
 pub mod Casts
+pub mod Changing
 pub mod Choices
 pub mod Choosing
 pub mod Closed
@@ -20,6 +21,7 @@ pub mod Fresh
 pub mod Jumping
 pub mod Logical
 pub mod Loops
+pub mod Nested
 pub mod Openings
 pub mod Operators
 pub mod Printing

@@ -203,6 +203,8 @@ module _ (g : Setting) (has : HasRegisters g) (alive : Variable → Type 0) (n :
   computed_follows (T.LogicalOr' ty p left q right) h c = copied_to ty.elem h.0.1 _ _ (operand g has alive n lives ready scope active true 32 (T.LogicalOr' ty p left q right) h c)
   computed_follows (T.LogicalAnd' ty p left q right) h c = copied_to ty.elem h.0.1 _ _ (operand g has alive n lives ready scope active true 32 (T.LogicalAnd' ty p left q right) h c)
   computed_follows (T.Choice' ty p test q first r second) h c = choice_put ty p q r test first second h.0 h.1 h.2 h.3 (choice_parts g has alive n lives ready scope active ty p q r test first second c)
+  computed_follows (T.Assign' ty place op p target q value) h c = copied_to ty.elem h.0.1 _ _ (operand g has alive n lives ready scope active true 32 (T.Assign' ty place op p target q value) h c)
+  computed_follows (T.Step' ty op order p target) h c = copied_to ty.elem h.0.1 _ _ (operand g has alive n lives ready scope active true 32 (T.Step' ty op order p target) h c)
   computed_follows _ h c = absurd h
 
   -- a constant goes to the register at once

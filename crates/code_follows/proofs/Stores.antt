@@ -48,6 +48,10 @@ module _ (g : Setting) (has : HasRegisters g) (x : Variable) (info : VarInfo) (s
   abbrev own : ℕ
   own = register_of (layout g) x
 
+  pub before_values : own < first_free (layout g)
+  unfolding first_free
+  before_values = let b = has.below x info scalar.0 in omega (arith, b)
+
   pub below_free : own < g.begins
   unfolding first_free
   below_free = let b = has.below x info scalar.0 in let free = has.free in omega (arith, b, free)

@@ -63,11 +63,11 @@ with_reg d = record d { regs = d.regs + 1 }
 pub and_register : (d : Draft) → Extended d 0 (with_reg d)
 and_register d = record { name = refl; more = []; code = append_nothing d.code; long = refl; entries = []; fields = append_nothing d.fields; regs = omega arith; homes = refl }
 
-some_word : (a b : ℕ) → Scalar a ≡ Scalar b → a ≡ b
+pub some_word : (a b : ℕ) → Scalar a ≡ Scalar b → a ≡ b
 unfolding at
 some_word a b e = ap (λ (v : Value). at v 0) e
 
-register_same : (a b : ℕ) → O.Scalar a ≡ O.Scalar b → a ≡ b
+pub register_same : (a b : ℕ) → O.Scalar a ≡ O.Scalar b → a ≡ b
 register_same a b e = ap (λ (o : Out). elim o as (λ _. ℕ) [ O.Scalar r ↦ r | O.Field f ↦ 0 | O.Nothing ↦ 0 ]) e
 
 module _ (g : Setting) (has : HasRegisters g) (alive : Variable → Type 0) where

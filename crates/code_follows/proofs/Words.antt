@@ -52,6 +52,8 @@ word_type (T.Binary' ty place op p left q right) h = h.0
 word_type (T.LogicalOr' ty p left q right) h = h.0
 word_type (T.LogicalAnd' ty p left q right) h = h.0
 word_type (T.Choice' ty p test q first r second) h = h.0
+word_type (T.Assign' ty place op p target q value) h = h.0
+word_type (T.Step' ty op order p target) h = h.0
 word_type _ h = absurd h
 
 none_is : (o : Option ℕ) → o ≡ None → is_none o ≡ true
@@ -73,6 +75,8 @@ kept (T.Binary' ty place op p left q right) h = none_is ty.shape h.0.0
 kept (T.LogicalOr' ty p left q right) h = none_is ty.shape h.0.0
 kept (T.LogicalAnd' ty p left q right) h = none_is ty.shape h.0.0
 kept (T.Choice' ty p test q first r second) h = none_is ty.shape h.0.0
+kept (T.Assign' ty place op p target q value) h = none_is ty.shape h.0.0
+kept (T.Step' ty op order p target) h = none_is ty.shape h.0.0
 kept _ h = absurd h
 
 -- what a chain of casts gives is a number of its type
@@ -118,4 +122,6 @@ constant_below (T.Binary' ty place op p left q right) h =
 constant_below (T.LogicalOr' ty p left q right) h = then_below (value_of left) _ (constant_below left h.1) (λ v few. or_below (nonzero v) (value_of right) (constant_below right h.2))
 constant_below (T.LogicalAnd' ty p left q right) h = then_below (value_of left) _ (constant_below left h.1) (λ v few. and_below (nonzero v) (value_of right) (constant_below right h.2))
 constant_below (T.Choice' ty p test q first r second) h = then_below (value_of test) _ (constant_below test h.1) (λ v few. either_below (nonzero v) (value_of first) (value_of second) (constant_below first h.2) (constant_below second h.3))
+constant_below (T.Assign' ty place op p target q value) h = tt
+constant_below (T.Step' ty op order p target) h = tt
 constant_below _ h = absurd h

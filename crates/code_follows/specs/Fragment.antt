@@ -18,8 +18,13 @@ use Rattle.source_meaning.specs.Values.{cast_type}
 abbrev pub IsWord : ValueType → Type 0
 IsWord ty = (ty.shape ≡ None) × (ty.elem.bits ≡ 32)
 
--- An expression whose value is used: of numbers, variables, `getchar`, operators and conversions. Casts lead
--- to 32 bits, by whichever types.
+-- a scalar variable of 32 bits, as it is used
+unfoldable pub IsVariable : TExpr → Type 0
+IsVariable (T.Variable ty x) = IsWord ty
+IsVariable _ = ⊥
+
+-- An expression whose value is used: of numbers, variables, `getchar`, operators, conversions, and assignments
+-- and steps of scalar variables. Casts lead to 32 bits, by whichever types.
 unfoldable pub IsIn : TExpr → Type 0
 IsIn (T.Number ty value) = IsWord ty × (value < 2 ^ 32)
 IsIn (T.PositionsOf ty shape value) = IsWord ty × (value < 2 ^ 32)
@@ -35,21 +40,16 @@ IsIn (T.Binary' ty place op p left q right) = IsWord ty × IsIn left × IsIn rig
 IsIn (T.LogicalOr' ty p left q right) = IsWord ty × IsIn left × IsIn right
 IsIn (T.LogicalAnd' ty p left q right) = IsWord ty × IsIn left × IsIn right
 IsIn (T.Choice' ty p test q first r second) = IsWord ty × IsIn test × IsIn first × IsIn second
+IsIn (T.Assign' ty place op p target q value) = IsWord ty × (ty ≡ type_of target) × IsVariable target × IsIn value
+IsIn (T.Step' ty op order p target) = IsWord ty × (ty ≡ type_of target) × IsVariable target
 IsIn _ = ⊥
-
--- a scalar variable of 32 bits, as it is used
-unfoldable pub IsVariable : TExpr → Type 0
-IsVariable (T.Variable ty x) = IsWord ty
-IsVariable _ = ⊥
 
 unfoldable pub AreIn : {n : _} → Row_of-TExpr n → Type 0
 AreIn end_of-TExpr = Unit {0}
 AreIn (more_of-TExpr e rest) = IsIn e × AreIn rest
 
--- what is evaluated without its value being used
+-- what is evaluated without its value being used: `printf` too
 unfoldable pub IsEffect : TExpr → Type 0
-IsEffect (T.Assign' ty place op p target q value) = IsWord ty × (ty ≡ type_of target) × IsVariable target × IsIn value
-IsEffect (T.Step' ty op order p target) = IsWord ty × (ty ≡ type_of target) × IsVariable target
 IsEffect (T.Printf' ty pieces p arguments) = AreIn arguments
 IsEffect e = IsIn e
 
