@@ -13,7 +13,7 @@ use Rattle.lower_base.specs.declared.emit.Out.{Out}
 use Rattle.lower_base.specs.declared.emit.Out.TheVariants as O
 use Rattle.lower_base.specs.Constants.{constant_register, first_free}
 use Rattle.lower_base.specs.Drafts.{Draft, Fails, Made, Makes, then_make}
-use Rattle.lower_base.specs.Layouts.{register_of}
+use Rattle.lower_base.specs.Layouts.{register_of, result_register}
 use Rattle.paris_code.specs.Code as Machine
 use Rattle.paris_code.specs.Code.{CodeEnd, CodeState, Goes, begun, onward, step, with_register}
 use Rattle.source_meaning.specs.Reductions.{int_type}
@@ -35,6 +35,8 @@ input_of st = record { bytes = st.input; mark = mark_of st.rest }
 pub record HasRegisters (g : Setting) : Type 0 where
   pub below : (x : Variable) (info : VarInfo) → variable_named g.typed g.instance x ≡ Some info → register_of (layout g) x < (layout g).end
   pub free : first_free (layout g) ≤ g.begins
+  pub result : result_register (layout g) < (layout g).end
+  pub result_apart : (x : Variable) (info : VarInfo) → variable_named g.typed g.instance x ≡ Some info → register_of (layout g) x ≡ result_register (layout g) → ⊥
   pub spared_variable : (r : ℕ) → g.spared r → (x : Variable) (info : VarInfo) → variable_named g.typed g.instance x ≡ Some info → r ≡ register_of (layout g) x → ⊥
   pub spared_own : (r : ℕ) → g.spared r → g.begins ≤ r → r < g.ends → ⊥
   pub apart : (x y : Variable) (info other : VarInfo) → variable_named g.typed g.instance x ≡ Some info → variable_named g.typed g.instance y ≡ Some other → register_of (layout g) x ≡ register_of (layout g) y → x ≡ y

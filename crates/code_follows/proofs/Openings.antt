@@ -193,6 +193,17 @@ module _ (t : Typed) (p : IsScalarProgram t) (words : List ℕ) where
   below (V.Param k) info is = let none : slice_get p.main.params.items k ≡ None = ap (λ (xs : List VarInfo). slice_get xs k) p.params in cc
   below (V.Local k) info is = let inside = slice_get_within (variables_of p.main.body) k info is in let end = end_is in let base = base_is in let none = no_params in omega (arith, inside, end, base, none)
 
+  -- the result has a register of its own
+  pub result_below : result_register own_layout < own_layout.end
+  unfolding result_register
+  result_below = let end = end_is in let base = base_is in let none = no_params in omega (arith, end, base, none)
+
+  pub result_apart : (x : Variable) (info : VarInfo) → variable_named t p.main x ≡ Some info → register_of own_layout x ≡ result_register own_layout → ⊥
+  unfolding register_of result_register variable_named
+  result_apart (V.File k) info is e = let inside = slice_get_within t.vars.items k info is in let base = base_is in let none = no_params in omega (arith, inside, base, none, e)
+  result_apart (V.Param k) info is e = let none : slice_get p.main.params.items k ≡ None = ap (λ (xs : List VarInfo). slice_get xs k) p.params in cc
+  result_apart (V.Local k) info is e = omega (arith, e)
+
   -- block variables stand behind those of the file
   pub behind_files : (k : ℕ) → 0 + length t.vars.items ≤ register_of own_layout (V.Local k)
   unfolding register_of result_register

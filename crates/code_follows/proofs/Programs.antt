@@ -57,7 +57,7 @@ use Rattle.code_follows.proofs.Closed.{NoJump, begins_closed, closed_row, go_clo
 use Rattle.code_follows.proofs.Endings.{NeverOnward, body_never, never_second}
 use Rattle.code_follows.proofs.Executing.{Halted, Left, RanOn, follows_from}
 use Rattle.code_follows.proofs.Following.{Extends, Follows, HasRegisters, Sim, held}
-use Rattle.code_follows.proofs.Openings.{all_declared, all_numbered, all_ready, apart, below, constants_grow, constants_run, empty_unit, ending, first_is, has_unit, main_is, named_word, no_homes, behind_files, end_is, starts_at_zero, with_starts, the_layout, the_setting, the_words, with_constants, within_all}
+use Rattle.code_follows.proofs.Openings.{result_apart, result_below, all_declared, all_numbered, all_ready, apart, below, constants_grow, constants_run, empty_unit, ending, first_is, has_unit, main_is, named_word, no_homes, behind_files, end_is, starts_at_zero, with_starts, the_layout, the_setting, the_words, with_constants, within_all}
 use Rattle.code_follows.proofs.Returning.{halts}
 use Rattle.code_follows.proofs.Statements.{StandsInMain}
 use Rattle.code_follows.proofs.Settings.{onto, At, Reaches, Setting, Within, and_one, earlier, ends_later, start}
@@ -87,7 +87,7 @@ module _ (t : Typed) (image : Image) (p : IsScalarProgram t) (codable : IsCodabl
   own = the_layout t image p codable compiled
 
   has : HasRegisters g
-  has = record { free = omega arith; spared_variable = λ r none x info named e. none; spared_own = λ r none low high. none; below = below t p (the_words t image p codable compiled); apart = apart t p (the_words t image p codable compiled) }
+  has = record { free = omega arith; result = result_below t p (the_words t image p codable compiled); result_apart = result_apart t p (the_words t image p codable compiled); spared_variable = λ r none x info named e. none; spared_own = λ r none low high. none; below = below t p (the_words t image p codable compiled); apart = apart t p (the_words t image p codable compiled) }
 
   begins_at : start g ≡ 0
   begins_at = starts_at_zero compiled.after.units.items
