@@ -51,7 +51,7 @@ module _ (g : Setting) (has : HasRegisters g) (alive : Variable → Type 0) wher
     turns = h.turns;
     output = h.output;
     input = refl;
-    returns = h.returns;
+    returns = h.returns; few = h.few;
     bytes = more_bytes byte more (subst (λ (xs : List ℕ). AreBytes xs) is h.bytes);
   }
 

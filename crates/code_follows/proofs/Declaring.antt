@@ -86,6 +86,7 @@ module _ (g : Setting) where
     output = h.output ∙ sym output;
     input = h.input ∙ sym input;
     returns = h.returns;
+    few = subst (λ (k : ℕ). k ≤ g.most) (sym turns) h.few;
     bytes = subst (λ (i : Machine.Rest). AreBytes i.bytes) (sym input) h.bytes;
   }
 
@@ -99,7 +100,7 @@ module _ (g : Setting) where
     turns = h.turns;
     output = h.output;
     input = h.input;
-    bytes = h.bytes; returns = h.returns;
+    bytes = h.bytes; returns = h.returns; few = h.few;
   }
 
   ran_fewer : (more fewer : Variable → Type 0) (d : Draft) (s : CodeState) (u v : State) (e : Draft) → ((x : Variable) → fewer x → more x) → ((x : Variable) → v.scalar x ≡ u.scalar x) → v.turns ≡ u.turns → v.output ≡ u.output → input_of v ≡ input_of u
@@ -178,7 +179,7 @@ module _ (g : Setting) (has : HasRegisters g) where
         turns = sim.turns;
         output = sim.output;
         input = sim.input;
-        bytes = sim.bytes; returns = sim.returns;
+        bytes = sim.bytes; returns = sim.returns; few = sim.few;
       }
         where
           not_it : (x : Variable) → (x ≡ V.Local n → ⊥) → (with_scalar (V.Local n) 0 st).scalar x ≡ st.scalar x

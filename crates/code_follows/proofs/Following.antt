@@ -57,6 +57,7 @@ module _ (g : Setting) where
     pub output : s.output ≡ st.output
     pub input : s.input ≡ input_of st
     pub returns : s.returns ≡ g.returns
+    pub few : st.turns ≤ g.most
     pub bytes : AreBytes st.input
 
   -- a register of a value, or one that is spared
@@ -168,7 +169,7 @@ module _ (g : Setting) where
     turns = h.turns;
     output = h.output;
     input = h.input;
-    bytes = h.bytes; returns = h.returns;
+    bytes = h.bytes; returns = h.returns; few = h.few;
   }
 
   pub register_kept : (d : Draft) (s : CodeState) (r v : ℕ) → HasRegisters g → g.begins ≤ d.regs → d.regs ≤ r → r < g.ends → Keeps d s (with_register r v s)

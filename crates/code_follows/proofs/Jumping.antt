@@ -33,7 +33,7 @@ module _ (g : Setting) (alive : Variable → Type 0) where
   moved_to place s = record s { at = place }
 
   pub sim_moved : (st : State) (s : CodeState) (place : ℕ) → Sim g alive st s → Sim g alive st (moved_to place s)
-  sim_moved st s place h = record { registers = h.registers; scalars = h.scalars; small = h.small; constants = h.constants; turns = h.turns; output = h.output; input = h.input; bytes = h.bytes; returns = h.returns }
+  sim_moved st s place h = record { registers = h.registers; scalars = h.scalars; small = h.small; constants = h.constants; turns = h.turns; output = h.output; input = h.input; bytes = h.bytes; returns = h.returns; few = h.few }
 
   -- a jump
   pub jumps : (target : ℕ) (e : Draft) (s : CodeState) → Within g (with_instr (I.FrontJump target) e) → At g s (length e.code) → Reaches g s (moved_to (target + start g) s)
@@ -82,5 +82,5 @@ module _ (g : Setting) (alive : Variable → Type 0) where
       one g s (behind_turn s left) (begins_here g I.FrontTurn e s within refl here ∙ ap (λ (b : Bool). if b then Ends Machine.Stopped s else Goes (record s { at = s.at + 1; turns = s.turns - 1 })) some_left
       ∙ ap (λ (n : ℕ). Goes (behind_turn s n)) one_less)
 
-  pub sim_spent : (st : State) (s : CodeState) (left : ℕ) → Sim g alive st s → Sim g alive (record st { turns = left }) (behind_turn s left)
-  sim_spent st s left h = record { registers = h.registers; scalars = h.scalars; small = h.small; constants = h.constants; turns = refl; output = h.output; input = h.input; bytes = h.bytes; returns = h.returns }
+  pub sim_spent : (st : State) (s : CodeState) (left : ℕ) → st.turns ≡ suc left → Sim g alive st s → Sim g alive (record st { turns = left }) (behind_turn s left)
+  sim_spent st s left some h = record { registers = h.registers; scalars = h.scalars; small = h.small; constants = h.constants; turns = refl; output = h.output; input = h.input; bytes = h.bytes; returns = h.returns; few = let m = h.few in omega (arith, m, some) }

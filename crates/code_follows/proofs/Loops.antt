@@ -98,7 +98,7 @@ module _ (g : Setting) (alive : Variable → Type 0) (scope : Scope) (active : A
             let one_on : s1.at ≡ t.at + 1 = refl in
             let more = code_more g I.FrontTurn before_turn in
             ends_from t s1 (then_round (executed scope body n active (record u { turns = m })) next) (spends g alive before_turn t u m within_turn here sim is) (keeps_all g d t)
-            (by_body m is (executed scope body n active (record u { turns = m })) (falls (record u { turns = m })) (body_follows s1 (record u { turns = m }) (omega (arith, here, more)) (sim_spent g alive u t m sim)))
+            (by_body m is (executed scope body n active (record u { turns = m })) (falls (record u { turns = m })) (body_follows s1 (record u { turns = m }) (omega (arith, here, more)) (sim_spent g alive u t m is sim)))
 
     -- where the test passes the code is at the turn again, and else behind the loop
     again_at : (s : CodeState) (u : State) → (t : Tested g alive stepped s true u r tested) → Reaches g s (moved_to g alive (turn + start g) t.t) × At g (moved_to g alive (turn + start g) t.t) (length before_turn.code)

@@ -253,7 +253,7 @@ unfolding own_result_of own_field_of
 no_own_field None d plain = refl
 no_own_field (Some info) d plain = ap (λ (o : Option ℕ). elim o as (λ _. Made (Unit {0})) [ None ↦ Makes tt d | Some s ↦ then_make (an_entry s info.elem.bits W.Own d) (λ index after. Makes tt after) ]) (plain info refl)
 
-module _ (t : Typed) (image : Image) (p : IsScalarProgram t) (codable : IsCodable t) (compiled : IsCompiled t image) where
+module _ (t : Typed) (image : Image) (p : IsScalarProgram t) (codable : IsCodable t) (compiled : IsCompiled t image) (turns : ℕ) where
   abbrev pub the_words : List ℕ
   the_words = compiled.lowered.words
 
@@ -294,6 +294,7 @@ module _ (t : Typed) (image : Image) (p : IsScalarProgram t) (codable : IsCodabl
     ends = has_unit.unit.regs;
     spared = λ r. ⊥;
     returns = [];
+    most = turns;
   }
 
   pub slots_are : image.slots ≡ has_unit.unit.regs

@@ -76,18 +76,18 @@ unfolding outcome_of
 not_parallel None scalar is = cc
 not_parallel (Some info) scalar is = let none = scalar info refl in let same : outcome_of (Some info) ≡ R.Scalar = ap (λ (o : Option ℕ). elim o as (λ _. Result) [ None ↦ R.Scalar | Some s ↦ R.Parallel ]) none in cc
 
-module _ (t : Typed) (image : Image) (p : IsScalarProgram t) (codable : IsCodable t) (compiled : IsCompiled t image) where
+module _ (t : Typed) (image : Image) (p : IsScalarProgram t) (codable : IsCodable t) (compiled : IsCompiled t image) (turns : ℕ) where
   abbrev g : Setting
-  g = the_setting t image p codable compiled
+  g = the_setting t image p codable compiled turns
 
   abbrev alive : Variable → Type 0
   alive x = Unit {0}
 
   abbrev own : Layout
-  own = the_layout t image p codable compiled
+  own = the_layout t image p codable compiled turns
 
   has : HasRegisters g
-  has = record { free = omega arith; result = result_below t p (the_words t image p codable compiled); result_apart = result_apart t p (the_words t image p codable compiled); spared_variable = λ r none x info named e. none; spared_own = λ r none low high. none; below = below t p (the_words t image p codable compiled); apart = apart t p (the_words t image p codable compiled) }
+  has = record { free = omega arith; result = result_below t p (the_words t image p codable compiled turns); result_apart = result_apart t p (the_words t image p codable compiled turns); spared_variable = λ r none x info named e. none; spared_own = λ r none low high. none; below = below t p (the_words t image p codable compiled turns); apart = apart t p (the_words t image p codable compiled turns) }
 
   begins_at : start g ≡ 0
   begins_at = starts_at_zero compiled.after.units.items
@@ -96,10 +96,10 @@ module _ (t : Typed) (image : Image) (p : IsScalarProgram t) (codable : IsCodabl
   frame = body_frame true p.main
 
   abbrev constants_there : Draft
-  constants_there = with_constants t image p codable compiled
+  constants_there = with_constants t image p codable compiled turns
 
   abbrev begun_there : Draft
-  begun_there = with_starts t image p codable compiled
+  begun_there = with_starts t image p codable compiled turns
 
   starts_grown : (k : ℕ) × Extended constants_there k begun_there
   starts_grown = starts_grow own t.vars.items 0 g constants_there
@@ -114,13 +114,13 @@ module _ (t : Typed) (image : Image) (p : IsScalarProgram t) (codable : IsCodabl
     pub n : ℕ
     pub e : Draft
     pub is : statements_of t own row frame [] (0 + length locals) begin ≡ Makes n e
-    pub unit : ended true p.main.body e ≡ (has_unit t image p codable compiled).unit
+    pub unit : ended true p.main.body e ≡ (has_unit t image p codable compiled turns).unit
 
   abbrev finish : Made ℕ → Made (Unit {0})
-  finish m = ending t image p codable compiled m
+  finish m = ending t image p codable compiled turns m
 
   abbrev the_unit : Made (Unit {0})
-  the_unit = Makes tt (has_unit t image p codable compiled).unit
+  the_unit = Makes tt (has_unit t image p codable compiled turns).unit
 
   module _ {k : Count} (locals : List LocalVar) (row : Row_of-TStmt k) where
     abbrev statements_behind : Made (Unit {0}) → Made ℕ
@@ -132,7 +132,7 @@ module _ (t : Typed) (image : Image) (p : IsScalarProgram t) (codable : IsCodabl
 
     built_so : (m : Made (Unit {0})) → all_initialised t own locals 0 begun_there ≡ m → finish (statements_behind m) ≡ the_unit → Built locals row
     unfolding then_make ended with_end no_code draft_of
-    built_so Fails started whole = absurd (nothing_made (has_unit t image p codable compiled).unit whole)
+    built_so Fails started whole = absurd (nothing_made (has_unit t image p codable compiled turns).unit whole)
     built_so (Makes u d) started whole = by (statements_of t own row frame [] (0 + length locals) d) refl whole
       where
         by : (m : Made ℕ) → statements_of t own row frame [] (0 + length locals) d ≡ m → finish (statements_of t own row frame [] (0 + length locals) d) ≡ the_unit → Built locals row
@@ -144,11 +144,11 @@ module _ (t : Typed) (image : Image) (p : IsScalarProgram t) (codable : IsCodabl
           is = made_is;
           unit = ap draft_of (sym (ap finish made_is) ∙ whole);
         }
-        by Fails made_is whole = absurd (nothing_made (has_unit t image p codable compiled).unit (sym (ap finish made_is) ∙ whole))
+        by Fails made_is whole = absurd (nothing_made (has_unit t image p codable compiled turns).unit (sym (ap finish made_is) ∙ whole))
 
   -- ---- one run
 
-  module _ (memory : BitMemory) (input : List ℕ) (rest : Source.Rest) (turns : ℕ) (winner : Winner) (are : AreBytes input) where
+  module _ (memory : BitMemory) (input : List ℕ) (rest : Source.Rest) (winner : Winner) (are : AreBytes input) where
     abbrev opened : CodeState
     opened = opening image memory turns (record { bytes = input; mark = mark_of rest })
 
@@ -181,7 +181,7 @@ module _ (t : Typed) (image : Image) (p : IsScalarProgram t) (codable : IsCodabl
         front : (k : ℕ) → k ≡ 0 + k
         front k = omega arith
     register_value (V.Param k) info is u files zeros = let none : slice_get p.main.params.items k ≡ None = ap (λ (xs : List VarInfo). slice_get xs k) p.params in cc
-    register_value (V.Local k) info is u files zeros = zeros (register_of own (V.Local k)) (behind_files t p (the_words t image p codable compiled) k) (below t p (the_words t image p codable compiled) (V.Local k) info is)
+    register_value (V.Local k) info is u files zeros = zeros (register_of own (V.Local k)) (behind_files t p (the_words t image p codable compiled turns) k) (below t p (the_words t image p codable compiled turns) (V.Local k) info is)
 
     -- the code is at the body, with the constants and the values of the file's variables in their registers
     record Opened : Type 0 where
@@ -201,11 +201,11 @@ module _ (t : Typed) (image : Image) (p : IsScalarProgram t) (codable : IsCodabl
     opened_so within =
         let at = begins_at in
         let many : length opened.registers ≡ image.slots = length-replicate image.slots 0 in
-        let grown = (constants_grow t image p codable compiled).regs in
+        let grown = (constants_grow t image p codable compiled turns).regs in
         let before : Within g constants_there = earlier g constants_there begun_there starts_grown.0 starts_grown.1 within in
         let inside = before.regs in
-        let end = end_is t p (the_words t image p codable compiled) in
-        let c = constants_run g own.constants own.end (empty_unit t image p codable compiled) opened (omega (arith, at)) before (omega (arith, many, grown, inside)) in
+        let end = end_is t p (the_words t image p codable compiled turns) in
+        let c = constants_run g own.constants own.end (empty_unit t image p codable compiled turns) opened (omega (arith, at)) before (omega (arith, many, grown, inside)) in
         let long = c.registers in
         let zeros : (q : ℕ) → q < own.end → slice_index c.t.registers q ≡ 0 = λ q low. c.below q low ∙ get_or-replicate image.slots q 0 0 (omega (arith, low, grown, inside)) in
         let b = starts_run own g t.vars.items 0 constants_there c.t p.variables c.at within (omega (arith, end, long, many, grown, inside)) (λ q lo hi. zeros q (omega (arith, hi, end))) in
@@ -216,17 +216,18 @@ module _ (t : Typed) (image : Image) (p : IsScalarProgram t) (codable : IsCodabl
         sim_so u long files zeros constants same_turns same_output same_input same_returns = record {
           registers = long;
           scalars = λ x info living scalar. scalars x info scalar.0;
-          small = λ x info living scalar. subst (λ (b : ℕ). in_main.scalar x < 2 ^ b) (sym (named_word t p (the_words t image p codable compiled) x info scalar.0).1) (zero_or_started x info scalar.0);
+          small = λ x info living scalar. subst (λ (b : ℕ). in_main.scalar x < 2 ^ b) (sym (named_word t p (the_words t image p codable compiled turns) x info scalar.0).1) (zero_or_started x info scalar.0);
           constants = λ word r is. constant_there u constants word r is;
           turns = same_turns;
           output = same_output;
           input = same_input;
           returns = same_returns;
+          few = omega arith;
           bytes = are;
         }
           where
             scalars : (x : Variable) (info : VarInfo) → variable_named t p.main x ≡ Some info → slice_index u.registers (register_of own x) ≡ held info.elem (in_main.scalar x)
-            scalars x info is = register_value x info is u files zeros ∙ sym (held_wide info.elem (in_main.scalar x) (named_word t p (the_words t image p codable compiled) x info is).1 (zero_or_started x info is))
+            scalars x info is = register_value x info is u files zeros ∙ sym (held_wide info.elem (in_main.scalar x) (named_word t p (the_words t image p codable compiled turns) x info is).1 (zero_or_started x info is))
 
     -- ---- the end
 
@@ -245,11 +246,11 @@ module _ (t : Typed) (image : Image) (p : IsScalarProgram t) (codable : IsCodabl
       pub inside : Within g e
       pub halt : (u : State) → o ≡ Source.Gives Onward u → Within g (with_instr I.FrontHalt e)
 
-    ends_by : (o : Outcome Leaving) (e : Draft) (b : Bool) → (if b then e else with_instr I.FrontHalt e) ≡ (has_unit t image p codable compiled).unit → (b ≡ true → NeverOnward o) → EndsSo o e
+    ends_by : (o : Outcome Leaving) (e : Draft) (b : Bool) → (if b then e else with_instr I.FrontHalt e) ≡ (has_unit t image p codable compiled turns).unit → (b ≡ true → NeverOnward o) → EndsSo o e
     unfolding NeverOnward
-    ends_by o e true unit never = record { inside = subst (λ (d : Draft). Within g d) (sym unit) (within_all t image p codable compiled); halt = λ u is. absurd (subst NeverOnward is (never refl)) }
+    ends_by o e true unit never = record { inside = subst (λ (d : Draft). Within g d) (sym unit) (within_all t image p codable compiled turns); halt = λ u is. absurd (subst NeverOnward is (never refl)) }
     ends_by o e false unit never =
-        let whole : Within g (with_instr I.FrontHalt e) = subst (λ (d : Draft). Within g d) (sym unit) (within_all t image p codable compiled) in
+        let whole : Within g (with_instr I.FrontHalt e) = subst (λ (d : Draft). Within g d) (sym unit) (within_all t image p codable compiled turns) in
         record { inside = earlier g e (with_instr I.FrontHalt e) 1 (and_one g I.FrontHalt e) whole; halt = λ u is. whole }
 
     comes : (d e : Draft) (n : ℕ) (s : CodeState) (o : Outcome Leaving) → EndsSo o e → NoJump o → Reaches g opened s → Follows g (Left g alive frame d s) s o (Makes n e) → ComesTo image opened (run_from o)
@@ -280,18 +281,18 @@ module _ (t : Typed) (image : Image) (p : IsScalarProgram t) (codable : IsCodabl
           zero_anyway true = refl
           zero_anyway false = refl
 
-      body_comes : All IsInLocal locals → AreInStatements row → AreClosed row → StandFrom (variables_of p.main.body) 0 (map info_of locals) → AreCoded g has alive every (all_ready t p (the_words t image p codable compiled)) scope active 0 locals
-          → RowCode g has alive every (all_numbered t p (the_words t image p codable compiled)) (all_ready t p (the_words t image p codable compiled)) (all_declared t p (the_words t image p codable compiled)) scope active falls (0 + length locals) row → (ends_in_return p.main.body ≡ true → (n : ℕ) (st : State) → NeverOnward (all_executed scope row n active st)) → Built locals row → ComesTo image opened (run_from body_run)
+      body_comes : All IsInLocal locals → AreInStatements row → AreClosed row → StandFrom (variables_of p.main.body) 0 (map info_of locals) → AreCoded g has alive every (all_ready t p (the_words t image p codable compiled turns)) scope active 0 locals
+          → RowCode g has alive every (all_numbered t p (the_words t image p codable compiled turns)) (all_ready t p (the_words t image p codable compiled turns)) (all_declared t p (the_words t image p codable compiled turns)) scope active falls (0 + length locals) row → (ends_in_return p.main.body ≡ true → (n : ℕ) (st : State) → NeverOnward (all_executed scope row n active st)) → Built locals row → ComesTo image opened (run_from body_run)
       unfolding Extends blank body_frame first_free zeroed ended with_end
       body_comes isin inside closed stand initial code never b =
-          let ready = all_ready t p (the_words t image p codable compiled) in
+          let ready = all_ready t p (the_words t image p codable compiled turns) in
           let ends : EndsSo body_run b.e = ends_by body_run b.e (ends_in_return p.main.body) b.unit (λ h. never_second (initialised scope active 0 locals begun_body) _ (λ u. never h (0 + length locals) u)) in
           let begins : Extends g begun_there (Makes (tt {0}) b.begin) = subst (λ (m : Made (Unit {0})). Extends g begun_there m) b.started (initials_grow g has alive every ready scope active locals 0 begun_there isin initial) in
-          let homes : b.begin.homes ≡ [] = begins.1.homes ∙ starts_grown.1.homes ∙ no_homes t image p codable compiled in
-          let grown : Extends g b.begin (Makes b.n b.e) = subst (λ (m : Made ℕ). Extends g b.begin m) b.is (row_grows g has alive every (all_numbered t p (the_words t image p codable compiled)) ready (all_declared t p (the_words t image p codable compiled)) scope active falls row frame (0 + length locals) b.begin framed among homes code) in
+          let homes : b.begin.homes ≡ [] = begins.1.homes ∙ starts_grown.1.homes ∙ no_homes t image p codable compiled turns in
+          let grown : Extends g b.begin (Makes b.n b.e) = subst (λ (m : Made ℕ). Extends g b.begin m) b.is (row_grows g has alive every (all_numbered t p (the_words t image p codable compiled turns)) ready (all_declared t p (the_words t image p codable compiled turns)) scope active falls row frame (0 + length locals) b.begin framed among homes code) in
           let first : Within g begun_there = earlier g begun_there b.begin begins.0 begins.1 (earlier g b.begin b.e grown.0 grown.1 ends.inside) in
           let c = opened_so first in
-          let free_before = (constants_grow t image p codable compiled).regs in
+          let free_before = (constants_grow t image p codable compiled turns).regs in
           let longer = starts_grown.1.regs in
           let free : first_free own ≤ begun_there.regs = omega (arith, free_before, longer) in
           let more = begins.1.regs in
@@ -302,7 +303,7 @@ module _ (t : Typed) (image : Image) (p : IsScalarProgram t) (codable : IsCodabl
           grown
           (λ u ran. follows_from g alive frame begun_there b.begin begins.0 c.there ran.t (all_executed scope row (0 + length locals) active u) (Makes b.n b.e) begins.1 ran.go ran.keeps
           (subst (λ (m : Made ℕ). Follows g (Left g alive frame b.begin ran.t) ran.t (all_executed scope row (0 + length locals) active u) m) b.is
-          (row_follows g has alive every (all_numbered t p (the_words t image p codable compiled)) ready (all_declared t p (the_words t image p codable compiled)) scope active falls row inside frame (0 + length locals) b.begin ran.t u framed among homes (omega (arith, free, more)) ran.at ran.sim code))))
+          (row_follows g has alive every (all_numbered t p (the_words t image p codable compiled turns)) ready (all_declared t p (the_words t image p codable compiled turns)) scope active falls row inside frame (0 + length locals) b.begin ran.t u framed among homes (omega (arith, free, more)) ran.at ran.sim code))))
         where
           framed : StandsInMain g frame
           framed = record { outcome = refl; main = refl; scalar = not_parallel p.main.result p.result }
@@ -313,18 +314,18 @@ module _ (t : Typed) (image : Image) (p : IsScalarProgram t) (codable : IsCodabl
     runs : (body : TStmt) → p.main.body ≡ body → IsMainBody body → ComesTo image opened (meaning t input rest turns winner)
     unfolding IsMainBody IsShapedStatement IsLowerableStatement StatementNamesVariables body_of declared_in then_make meaning run_body executed body_frame
     runs (S.Block' locals q row) is h =
-        let ready = all_ready t p (the_words t image p codable compiled) in
-        let c : HasStatementCode t p.main 0 (S.Block' locals q row) = subst (λ (s : TStmt). HasStatementCode t p.main 0 s) is (codable 0 p.main (first_is t p (the_words t image p codable compiled))).1 in
-        let code = block_code g has alive every (all_numbered t p (the_words t image p codable compiled)) ready (all_declared t p (the_words t image p codable compiled)) scope active falls 0 locals q row c in
-        let stand = first_part (map info_of locals.items) (row_variables row) (block_stands g has alive every (all_numbered t p (the_words t image p codable compiled)) ready (all_declared t p (the_words t image p codable compiled)) scope active falls 0 locals q row c) in
+        let ready = all_ready t p (the_words t image p codable compiled turns) in
+        let c : HasStatementCode t p.main 0 (S.Block' locals q row) = subst (λ (s : TStmt). HasStatementCode t p.main 0 s) is (codable 0 p.main (first_is t p (the_words t image p codable compiled turns))).1 in
+        let code = block_code g has alive every (all_numbered t p (the_words t image p codable compiled turns)) ready (all_declared t p (the_words t image p codable compiled turns)) scope active falls 0 locals q row c in
+        let stand = first_part (map info_of locals.items) (row_variables row) (block_stands g has alive every (all_numbered t p (the_words t image p codable compiled turns)) ready (all_declared t p (the_words t image p codable compiled turns)) scope active falls 0 locals q row c) in
         let initial = coded g has alive every ready scope active 0 locals.items c.shaped.0 c.lowerable.0 c.names.0 in
         let whole : finish (statements_behind locals.items row (all_initialised t own locals.items 0 begun_there)) ≡ the_unit =
         sym (ap (λ (m : Made (Unit {0})). finish (then_make (then_make m (λ u between. then_make (all_initialised t own locals.items 0 between) (λ v after. Makes (0 + length locals.items) after))) (λ number after. statements_of t own row frame [] number after))) (none_cleared g has alive every ready scope active locals.items 0 begun_there h.0))
         ∙ sym (ap (λ (b : TStmt). finish (body_of t own frame b begun_there)) is)
-        ∙ main_is t image p codable compiled in
-        subst (λ (r : Run). ComesTo image opened r) (sym (ap (λ (o : Option Instance). run_of (run_body t (calls t turns) o [] active first_state)) (first_is t p (the_words t image p codable compiled)) ∙ ap (λ (b : TStmt). run_from (executed scope b 0 active in_main)) is))
+        ∙ main_is t image p codable compiled turns in
+        subst (λ (r : Run). ComesTo image opened r) (sym (ap (λ (o : Option Instance). run_of (run_body t (calls t turns) o [] active first_state)) (first_is t p (the_words t image p codable compiled turns)) ∙ ap (λ (b : TStmt). run_from (executed scope b 0 active in_main)) is))
         (body_comes locals.items row h.0 h.1 h.2 stand initial code (λ ends. body_never scope active locals q row (sym (ap (λ (b : TStmt). ends_in_return b) is) ∙ ends)) (built_so locals.items row (all_initialised t own locals.items 0 begun_there) refl whole))
     runs _ is h = absurd h
 
 pub means_source : CodeMeansSource
-means_source t image p codable compiled memory input rest turns winner are = runs t image p codable compiled memory input rest turns winner are p.main.body refl p.body
+means_source t image p codable compiled memory input rest turns winner are = runs t image p codable compiled turns memory input rest winner are p.main.body refl p.body

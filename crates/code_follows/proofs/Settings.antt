@@ -32,12 +32,13 @@ pub record Setting : Type 1 where
   pub instance : Instance
   pub is_instance : slice_get typed.instances.items number ≡ Some instance
   -- whether it is `main`, the registers of its own values, those that its code leaves as they are until it
-  -- returns, and where the calls that are open go on
+  -- returns, where the calls that are open go on, and how many turns are left at most
   pub is_main : Bool
   pub begins : ℕ
   pub ends : ℕ
   pub spared : ℕ → Type 0
   pub returns : List ℕ
+  pub most : ℕ
 
 module _ (g : Setting) where
   abbrev pub whole : List Step

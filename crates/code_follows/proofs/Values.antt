@@ -223,7 +223,7 @@ module _ (g : Setting) (has : HasRegisters g) (alive : Variable → Type 0) wher
 
   -- the next instruction changes no register
   pub sim_onward : (st : State) (s : CodeState) → Sim g alive st s → Sim g alive st (Machine.onward s)
-  sim_onward st s h = record { registers = h.registers; scalars = h.scalars; small = h.small; constants = h.constants; turns = h.turns; output = h.output; input = h.input; bytes = h.bytes; returns = h.returns }
+  sim_onward st s h = record { registers = h.registers; scalars = h.scalars; small = h.small; constants = h.constants; turns = h.turns; output = h.output; input = h.input; bytes = h.bytes; returns = h.returns; few = h.few }
 
   -- a scalar operation on the words of two registers
   computes : (elem : Elem) (d e : Draft) (n : ℕ) (s0 s : CodeState) (st : State) (R : Value → State → Out → Draft → Type 0) (m : Machine) (r a b x y : ℕ) → elem.bits ≡ 32 → Dest elem d s0 R r → Reaches g s0 s → At g s (length e.code) → Sim g alive st s → Extended d n e
