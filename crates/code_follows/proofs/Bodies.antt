@@ -43,7 +43,7 @@ use Rattle.code_follows.proofs.Jumping.{nothing_restored, jumps, moved_to, sim_m
 use Rattle.code_follows.proofs.Returning.{return_follows}
 use Rattle.code_follows.proofs.Settings.{At, Setting, Within, layout, start, stay}
 use Rattle.code_follows.proofs.Starting.{AreCoded, coded, go_after, initials_follow, initials_grow}
-use Rattle.code_follows.proofs.Statements.{StandsInMain, expression_code, returned_code, statement_made}
+use Rattle.code_follows.proofs.Statements.{StandsIn, expression_code, returned_code, statement_made}
 
 module _ (g : Setting) (has : HasRegisters g) (alive : Variable → Type 0) (every : (x : Variable) → alive x) (numbers : NumbersVariables g.instance (layout g)) (ready : (n : ℕ) (d : Draft) → IsReady g.typed g.instance (layout g) n d)
     (declares : (n : ℕ) (d : Draft) → d.homes ≡ [] → HasDeclared g.typed g.instance (layout g) n d) (scope : Scope) (active : Active)
@@ -85,7 +85,7 @@ module _ (g : Setting) (has : HasRegisters g) (alive : Variable → Type 0) (eve
   unfolding AreShapedStatements AreLowerableStatements StatementsNameVariables row_variables
   row_rest n s rest c = record { shaped = c.shaped.1; lowerable = c.lowerable.1; names = c.names.1; stands = second_part (variables_of s) (row_variables rest) c.stands }
 
-  pub row_grows : {k : Count} (row : Row_of-TStmt k) (f : Frame) (n : ℕ) (d : Draft) → StandsInMain g f → StandsAmong f [] → d.homes ≡ [] → RowCode n row → Extends g d (statements_of g.typed (layout g) row f [] n d)
+  pub row_grows : {k : Count} (row : Row_of-TStmt k) (f : Frame) (n : ℕ) (d : Draft) → StandsIn g f → StandsAmong f [] → d.homes ≡ [] → RowCode n row → Extends g d (statements_of g.typed (layout g) row f [] n d)
   unfolding statements_of Extends then_make
   row_grows end_of-TStmt f n d framed among none c = (0, as_it_was d)
   row_grows (more_of-TStmt s rest) f n d framed among none c =
@@ -132,7 +132,7 @@ module _ (g : Setting) (has : HasRegisters g) (alive : Variable → Type 0) (eve
 
   -- a block: its variables, and then its statements
   block_follows : {k : Count} (locals : List LocalVar) (row : Row_of-TStmt k) (f : Frame) (n : ℕ) (d : Draft) (s0 : CodeState) (st : State) → All IsInLocal locals → StandFrom (variables_of g.instance.body) n (map info_of locals) → AreCoded g has alive every ready scope active n locals → RowCode (n + length locals) row
-      → StandsInMain g f → StandsAmong f [] → d.homes ≡ [] → g.begins ≤ d.regs → At g s0 (length d.code) → Sim g alive st s0
+      → StandsIn g f → StandsAmong f [] → d.homes ≡ [] → g.begins ≤ d.regs → At g s0 (length d.code) → Sim g alive st s0
       → ((e : Draft) (t : CodeState) (u : State) → e.homes ≡ [] → g.begins ≤ e.regs → At g t (length e.code) → Sim g alive u t → Follows g (Left g alive f e t) t (all_executed scope row (n + length locals) active u) (statements_of g.typed (layout g) row f [] (n + length locals) e))
       → Follows g (Left g alive f d s0) s0 (then_go (initialised scope active n locals (zeroed n (length locals) st)) (all_executed scope row (n + length locals) active)) (then_make (declared_in g.typed (layout g) false locals n d) (λ m after. statements_of g.typed (layout g) row f [] m after))
   unfolding declared_in then_make Extends
@@ -171,7 +171,7 @@ module _ (g : Setting) (has : HasRegisters g) (alive : Variable → Type 0) (eve
   unfolding IsShapedStatement IsLowerableStatement StatementNamesVariables
   block_initials n locals p row c = coded g has alive every ready scope active n locals.items c.shaped.0 c.lowerable.0 c.names.0
 
-  row_onward : {k : Count} (s : TStmt) (rest : Row_of-TStmt k) (f : Frame) (n : ℕ) (d : Draft) (s0 : CodeState) (st : State) → StandsInMain g f → StandsAmong f [] → d.homes ≡ [] → g.begins ≤ d.regs → RowCode n (more_of-TStmt s rest)
+  row_onward : {k : Count} (s : TStmt) (rest : Row_of-TStmt k) (f : Frame) (n : ℕ) (d : Draft) (s0 : CodeState) (st : State) → StandsIn g f → StandsAmong f [] → d.homes ≡ [] → g.begins ≤ d.regs → RowCode n (more_of-TStmt s rest)
       → Follows g (Left g alive f d s0) s0 (executed scope s n active st) (statement_of g.typed (layout g) s f [] n d)
       → ((e : Draft) (t : CodeState) (u : State) → e.homes ≡ [] → g.begins ≤ e.regs → At g t (length e.code) → Sim g alive u t → Follows g (Left g alive f e t) t (all_executed scope rest (n + declared s) active u) (statements_of g.typed (layout g) rest f [] (n + declared s) e))
       → Follows g (Left g alive f d s0) s0 (then_go (executed scope s n active st) (all_executed scope rest (n + declared s) active)) (then_make (statement_of g.typed (layout g) s f [] n d) (λ m after. statements_of g.typed (layout g) rest f [] m after))
@@ -205,7 +205,7 @@ module _ (g : Setting) (has : HasRegisters g) (alive : Variable → Type 0) (eve
     statement_follows (S.Return e) h f n d s0 st framed among none free at sim c = return_follows g has alive every ready scope active e h f n d s0 st framed free at sim (returned_code g numbers declares e n c)
     statement_follows _ h f n d s0 st framed among none free at sim c = absurd h
 
-    pub row_follows : {k : Count} (row : Row_of-TStmt k) → AreInStatements row → (f : Frame) (n : ℕ) (d : Draft) (s0 : CodeState) (st : State) → StandsInMain g f → StandsAmong f [] → d.homes ≡ [] → g.begins ≤ d.regs → At g s0 (length d.code) → Sim g alive st s0
+    pub row_follows : {k : Count} (row : Row_of-TStmt k) → AreInStatements row → (f : Frame) (n : ℕ) (d : Draft) (s0 : CodeState) (st : State) → StandsIn g f → StandsAmong f [] → d.homes ≡ [] → g.begins ≤ d.regs → At g s0 (length d.code) → Sim g alive st s0
         → RowCode n row → Follows g (Left g alive f d s0) s0 (all_executed scope row n active st) (statements_of g.typed (layout g) row f [] n d)
     row_follows end_of-TStmt h f n d s0 st framed among none free at sim c = stays_here f n d s0 st at sim
     row_follows (more_of-TStmt s rest) h f n d s0 st framed among none free at sim c =

@@ -28,14 +28,14 @@ use Rattle.code_follows.proofs.Executing.{Left, TestMade, Tested, follows_from, 
 use Rattle.code_follows.proofs.Following.{Extends, Follows, HasRegisters, Ran, Sim, delayed, then_on}
 use Rattle.code_follows.proofs.Jumping.{jumps, moved_to, sim_moved, skips}
 use Rattle.code_follows.proofs.Settings.{At, Reaches, Setting, Within, and_one, code_more, earlier, layout, onto, start}
-use Rattle.code_follows.proofs.Statements.{MadeSo, StandsInMain, if_first, if_second, if_test, statement_made}
+use Rattle.code_follows.proofs.Statements.{MadeSo, StandsIn, if_first, if_second, if_test, statement_made}
 
 module _ (g : Setting) (has : HasRegisters g) (alive : Variable → Type 0) (every : (x : Variable) → alive x) (numbers : NumbersVariables g.instance (layout g)) (ready : (n : ℕ) (d : Draft) → IsReady g.typed g.instance (layout g) n d)
     (declares : (n : ℕ) (d : Draft) → d.homes ≡ [] → HasDeclared g.typed g.instance (layout g) n d) (scope : Scope) (active : Active) where
   -- the code of a statement follows it
   abbrev pub Agrees : TStmt → Type 0
   Agrees s =
-      (f : Frame) (n : ℕ) (d : Draft) (s0 : CodeState) (st : State) → StandsInMain g f → StandsAmong f [] → d.homes ≡ [] → g.begins ≤ d.regs → At g s0 (length d.code) → Sim g alive st s0 → HasStatementCode g.typed g.instance n s
+      (f : Frame) (n : ℕ) (d : Draft) (s0 : CodeState) (st : State) → StandsIn g f → StandsAmong f [] → d.homes ≡ [] → g.begins ≤ d.regs → At g s0 (length d.code) → Sim g alive st s0 → HasStatementCode g.typed g.instance n s
       → Follows g (Left g alive f d s0) s0 (executed scope s n active st) (statement_of g.typed (layout g) s f [] n d)
 
   -- code that is left at its end jumps over more code
@@ -67,7 +67,7 @@ module _ (g : Setting) (has : HasRegisters g) (alive : Variable → Type 0) (eve
       by (Source.Ends early st) h1 = λ w. h1 (within_e w)
 
   module _ (test : TExpr) (p : Boxed) (first : TStmt) (second : Held-TStmt-If-2) (isin : IsIn test) (first_agrees : Agrees first) where
-    module _ (f : Frame) (n : ℕ) (d : Draft) (s0 : CodeState) (st : State) (framed : StandsInMain g f) (among : StandsAmong f []) (none : d.homes ≡ []) (free : g.begins ≤ d.regs) (at : At g s0 (length d.code)) (sim : Sim g alive st s0)
+    module _ (f : Frame) (n : ℕ) (d : Draft) (s0 : CodeState) (st : State) (framed : StandsIn g f) (among : StandsAmong f []) (none : d.homes ≡ []) (free : g.begins ≤ d.regs) (at : At g s0 (length d.code)) (sim : Sim g alive st s0)
         (c : HasStatementCode g.typed g.instance n (S.If' test p first second)) where
       abbrev long : ℕ
       long = statement_length_of g.typed (layout g) (has_result f) f.saved first
@@ -152,7 +152,7 @@ module _ (g : Setting) (has : HasRegisters g) (alive : Variable → Type 0) (eve
           }
 
   module _ (test : TExpr) (p : Boxed) (first : TStmt) (q : Boxed) (second : TStmt) (isin : IsIn test) (first_agrees : Agrees first) (second_agrees : Agrees second) where
-    module _ (f : Frame) (n : ℕ) (d : Draft) (s0 : CodeState) (st : State) (framed : StandsInMain g f) (among : StandsAmong f []) (none : d.homes ≡ []) (free : g.begins ≤ d.regs) (at : At g s0 (length d.code)) (sim : Sim g alive st s0)
+    module _ (f : Frame) (n : ℕ) (d : Draft) (s0 : CodeState) (st : State) (framed : StandsIn g f) (among : StandsAmong f []) (none : d.homes ≡ []) (free : g.begins ≤ d.regs) (at : At g s0 (length d.code)) (sim : Sim g alive st s0)
         (c : HasStatementCode g.typed g.instance n (S.If' test p first (Some' q second))) where
       abbrev condition : TestMade g alive has every n (ready n) scope active test d
       condition = tests test p first (Some' q second) isin first_agrees f n d s0 st framed among none free at sim c

@@ -1,5 +1,5 @@
 -- How statements are left, and what one behind another does.
-use Rattle.std.proofs.Common.{◌≡◌, ◌∙◌, ℕ, ◌+◌, ◌<◌, ◌≤◌, ◌^◌, Bool, true, false, length, slice_index, refl, sym, ap, subst, Option}
+use Rattle.std.proofs.Common.{◌≡◌, ◌∙◌, ℕ, ◌+◌, ◌<◌, ◌≤◌, ◌^◌, Bool, true, false, length, slice_index, refl, sym, ap, subst, Option, Some, None, if◌then◌else◌}
 use Rattle.cstar_tree.specs.declared.typed.TExpr.{TExpr}
 use Rattle.cstar_tree.specs.declared.typed.TExpr as T
 use Rattle.cstar_tree.specs.declared.typed.Variable.{Variable}
@@ -13,21 +13,22 @@ use Rattle.lower_base.specs.declared.emit.Out.{Out}
 use Rattle.lower_base.specs.declared.emit.Out.TheVariants as O
 use Rattle.lower_base.specs.Constants.{first_free}
 use Rattle.lower_base.specs.Drafts.{Draft, Fails, Made, Makes, here, in_register, then_make}
+use Rattle.lower_base.specs.Layouts.{result_register}
 use Rattle.lower_expr.specs.Lengths.{bare, is_send, is_sent, used_length_of}
 use Rattle.lower_expr.specs.Steps.{is_kept}
 use Rattle.lower_expr.specs.Values.{next_of}
 use Rattle.lower_stmt.specs.declared.statement.Frame.{Frame}
 use Rattle.lower_stmt.specs.Statements.{condition_of}
 use Rattle.paris_code.specs.Code as Machine
-use Rattle.paris_code.specs.Code.{CodeState}
+use Rattle.paris_code.specs.Code.{CodeState, Ends, Goes, returned, step}
 use Rattle.source_meaning.specs.Expressions.{evaluated}
 use Rattle.source_meaning.specs.State as Source
 use Rattle.source_meaning.specs.State.{Early, Outcome, State, then_do}
 use Rattle.source_meaning.specs.Statements.{Broke, Continued, Leaving, Onward, Returned, passes, then_go}
-use Rattle.source_meaning.specs.Values.{Active, Scope, Value, nonzero, number}
+use Rattle.source_meaning.specs.Values.{Active, Scope, Value, nonzero, number, Scalar}
 use Rattle.code_follows.specs.Fragment.{IsIn, IsVariable}
 use Rattle.code_follows.proofs.Expressions.{operand}
-use Rattle.code_follows.proofs.Following.{Arrives, Extends, Follows, HasRegisters, Keeps, Ran, Sim, finishes_later, keeps_all, keeps_on, then_follows}
+use Rattle.code_follows.proofs.Following.{Arrives, Extends, Follows, HasRegisters, Keeps, Ran, Sim, finishes_later, keeps_all, keeps_on, then_follows, spared_kept, result_kept}
 use Rattle.code_follows.proofs.Settings.{At, EndsIn, Reaches, Setting, ends_later, layout, onto, stay}
 use Rattle.code_follows.proofs.Values.{Value_of, extends_in_register}
 use Rattle.code_follows.proofs.Words.{below_word, held_wide, kept, word_type}
@@ -55,12 +56,38 @@ module _ (g : Setting) (alive : Variable → Type 0) where
     pub sim : Sim g alive st t
     pub keeps : Keeps g d s t
 
-  -- the run is over
-  pub record Halted (s : CodeState) (st : State) : Type 0 where
+  -- the register of the result, where there is one, has what is given back, or what it had where nothing is
+  unfoldable pub IsGiven : CodeState → CodeState → Option Value → Type 0
+  IsGiven s t None = slice_index t.registers (result_register (layout g)) ≡ slice_index s.registers (result_register (layout g))
+  IsGiven s t (Some v) = (g.instance.result ≡ None → ⊥) → (word : ℕ) × ((v ≡ Scalar word) × (word < 2 ^ 32) × (slice_index t.registers (result_register (layout g)) ≡ word))
+
+  -- the next instruction leaves the function: `main` ends, and any other one goes back
+  abbrev pub Leaves : CodeState → Type 0
+  Leaves t = step g.image t ≡ (if g.is_main then Ends Machine.Done t else Goes (returned t))
+
+  -- the code comes to where the function is left
+  pub record Returns (s : CodeState) (st : State) (v : Option Value) : Type 0 where
     pub t : CodeState
-    pub ends : EndsIn g s Machine.Done t
-    pub turns : t.turns ≡ st.turns
-    pub output : t.output ≡ st.output
+    pub go : Reaches g s t
+    pub sim : Sim g alive st t
+    pub leaves : Leaves t
+    pub spares : (r : ℕ) → g.spared r → slice_index t.registers r ≡ slice_index s.registers r
+    pub given : IsGiven s t v
+
+  given_from : (s u t : CodeState) (v : Option Value) → slice_index u.registers (result_register (layout g)) ≡ slice_index s.registers (result_register (layout g)) → IsGiven u t v → IsGiven s t v
+  unfolding IsGiven
+  given_from s u t None same h = h ∙ same
+  given_from s u t (Some v) same h = h
+
+  pub returns_from : (d : Draft) (s t : CodeState) (st : State) (v : Option Value) → Reaches g s t → Keeps g d s t → Returns t st v → Returns s st v
+  returns_from d s t st v go keeps r = record {
+    t = r.t;
+    go = onto g s t r.t go r.go;
+    sim = r.sim;
+    leaves = r.leaves;
+    spares = λ q spared. r.spares q spared ∙ keeps q (spared_kept g d q spared);
+    given = given_from s t r.t v (keeps (result_register (layout g)) (result_kept g d)) r.given;
+  }
 
   -- the code arrives behind a draft, and the source goes on
   abbrev pub RanOn : {A : Type 0} → Draft → CodeState → Leaving → State → A → Draft → Type 0
@@ -71,7 +98,7 @@ module _ (g : Setting) (alive : Variable → Type 0) where
   Left f d s Onward st m e = Ran g alive d s st e
   Left f d s Broke st m e = Jumped d s st f.after
   Left f d s Continued st m e = Jumped d s st f.next
-  Left f d s (Returned v) st m e = Halted s st
+  Left f d s (Returned v) st m e = Returns s st v
 
   -- seen from an earlier draft and state
   pub ran_from : (d e : Draft) (n : ℕ) (s t : CodeState) (st : State) (f : Draft) → Extended d n e → Reaches g s t → Keeps g d s t → Ran g alive e t st f → Ran g alive d s st f
@@ -92,7 +119,7 @@ module _ (g : Setting) (alive : Variable → Type 0) where
   left_from f d e n s t Onward st m h x go keeps r = ran_from d e n s t st h x go keeps r
   left_from f d e n s t Broke st m h x go keeps r = jumped_from d e n s t st f.after x go keeps r
   left_from f d e n s t Continued st m h x go keeps r = jumped_from d e n s t st f.next x go keeps r
-  left_from f d e n s t (Returned v) st m h x go keeps r = record { t = r.t; ends = ends_later g s t r.t Machine.Done go r.ends; turns = r.turns; output = r.output }
+  left_from f d e n s t (Returned v) st m h x go keeps r = returns_from d s t st v go keeps r
 
   pub follows_from : (f : Frame) (d e : Draft) (n : ℕ) (s t : CodeState) (o : Outcome Leaving) (made : Made ℕ) → Extended d n e → Reaches g s t → Keeps g d s t → Follows g (Left f e t) t o made → Follows g (Left f d s) s o made
   unfolding Follows

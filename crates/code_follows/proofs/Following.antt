@@ -35,9 +35,11 @@ input_of st = record { bytes = st.input; mark = mark_of st.rest }
 pub record HasRegisters (g : Setting) : Type 0 where
   pub below : (x : Variable) (info : VarInfo) → variable_named g.typed g.instance x ≡ Some info → register_of (layout g) x < (layout g).end
   pub free : first_free (layout g) ≤ g.begins
+  pub room : (layout g).end ≤ g.image.slots
   pub result : result_register (layout g) < (layout g).end
   pub result_apart : (x : Variable) (info : VarInfo) → variable_named g.typed g.instance x ≡ Some info → register_of (layout g) x ≡ result_register (layout g) → ⊥
   pub spared_variable : (r : ℕ) → g.spared r → (x : Variable) (info : VarInfo) → variable_named g.typed g.instance x ≡ Some info → r ≡ register_of (layout g) x → ⊥
+  pub spared_result : g.spared (result_register (layout g)) → ⊥
   pub spared_own : (r : ℕ) → g.spared r → g.begins ≤ r → r < g.ends → ⊥
   pub apart : (x y : Variable) (info other : VarInfo) → variable_named g.typed g.instance x ≡ Some info → variable_named g.typed g.instance y ≡ Some other → register_of (layout g) x ≡ register_of (layout g) y → x ≡ y
 
@@ -60,9 +62,9 @@ module _ (g : Setting) where
     pub few : st.turns ≤ g.most
     pub bytes : AreBytes st.input
 
-  -- a register of a value, or one that is spared
+  -- a register of a value, one that is spared, or that of the result
   unfoldable pub IsKept : Draft → ℕ → Type 0
-  IsKept d r = ((g.begins ≤ r) × (r < d.regs)) ⊎ g.spared r
+  IsKept d r = ((g.begins ≤ r) × (r < d.regs)) ⊎ (g.spared r ⊎ (r ≡ result_register (layout g)))
 
   -- what stood in these stays
   abbrev pub Keeps : Draft → CodeState → CodeState → Type 0
@@ -71,7 +73,15 @@ module _ (g : Setting) where
   pub kept_later : (d e : Draft) (r : ℕ) → d.regs ≤ e.regs → IsKept d r → IsKept e r
   unfolding IsKept
   kept_later d e r more (inl own) = inl (own.0, omega (arith, own.1, more))
-  kept_later d e r more (inr spared) = inr spared
+  kept_later d e r more (inr other) = inr other
+
+  pub spared_kept : (d : Draft) (r : ℕ) → g.spared r → IsKept d r
+  unfolding IsKept
+  spared_kept d r spared = inr (inl spared)
+
+  pub result_kept : (d : Draft) → IsKept d (result_register (layout g))
+  unfolding IsKept
+  result_kept d = inr (inr refl)
 
   pub value_kept : (d : Draft) (r : ℕ) → g.begins ≤ r → r < d.regs → IsKept d r
   unfolding IsKept
@@ -173,15 +183,17 @@ module _ (g : Setting) where
   }
 
   pub register_kept : (d : Draft) (s : CodeState) (r v : ℕ) → HasRegisters g → g.begins ≤ d.regs → d.regs ≤ r → r < g.ends → Keeps d s (with_register r v s)
-  unfolding IsKept
+  unfolding IsKept first_free
   register_kept d s r v has free low high q (inl own) = get_or-set_other s.registers r q v 0 (λ e. let below = own.1 in omega (arith, e, low, below))
-  register_kept d s r v has free low high q (inr spared) = get_or-set_other s.registers r q v 0 (λ e. has.spared_own r (subst (λ (n : ℕ). g.spared n) e spared) (omega (arith, free, low)) high)
+  register_kept d s r v has free low high q (inr (inr is)) = get_or-set_other s.registers r q v 0 (λ e. let below = has.result in let begins = has.free in omega (arith, e, is, below, begins, free, low))
+  register_kept d s r v has free low high q (inr (inl spared)) = get_or-set_other s.registers r q v 0 (λ e. has.spared_own r (subst (λ (n : ℕ). g.spared n) e spared) (omega (arith, free, low)) high)
 
   -- the register of a variable is none of those that are kept
   pub variable_kept : (d : Draft) (s : CodeState) (x : Variable) (info : VarInfo) (v : ℕ) → HasRegisters g → variable_named g.typed g.instance x ≡ Some info → Keeps d s (with_register (register_of (layout g) x) v s)
   unfolding IsKept first_free
   variable_kept d s x info v has named q (inl own) = get_or-set_other s.registers (register_of (layout g) x) q v 0 (λ e. let below = has.below x info named in let free = has.free in let low = own.0 in omega (arith, e, below, free, low))
-  variable_kept d s x info v has named q (inr spared) = get_or-set_other s.registers (register_of (layout g) x) q v 0 (λ e. has.spared_variable q spared x info named e)
+  variable_kept d s x info v has named q (inr (inr is)) = get_or-set_other s.registers (register_of (layout g) x) q v 0 (λ e. has.result_apart x info named (sym e ∙ is))
+  variable_kept d s x info v has named q (inr (inl spared)) = get_or-set_other s.registers (register_of (layout g) x) q v 0 (λ e. has.spared_variable q spared x info named e)
 
   pub register_is : (s : CodeState) (r v : ℕ) → r < length s.registers → slice_index (with_register r v s).registers r ≡ v
   register_is s r v h = get_or-set_same s.registers r v 0 h

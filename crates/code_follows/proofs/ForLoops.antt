@@ -45,7 +45,7 @@ use Rattle.code_follows.proofs.Jumping.{jumps, moved_to, sim_moved}
 use Rattle.code_follows.proofs.Loops.{do_runs, loop_runs}
 use Rattle.code_follows.proofs.Settings.{At, Setting, and_one, code_more, earlier, layout, regs_more, start, stay}
 use Rattle.code_follows.proofs.Starting.{go_after}
-use Rattle.code_follows.proofs.Statements.{MadeSo, StandsInMain, do_body, do_test, statement_made}
+use Rattle.code_follows.proofs.Statements.{MadeSo, StandsIn, do_body, do_test, statement_made}
 
 module _ (g : Setting) (has : HasRegisters g) (alive : Variable → Type 0) (every : (x : Variable) → alive x) (numbers : NumbersVariables g.instance (layout g)) (ready : (n : ℕ) (d : Draft) → IsReady g.typed g.instance (layout g) n d)
     (declares : (n : ℕ) (d : Draft) → d.homes ≡ [] → HasDeclared g.typed g.instance (layout g) n d) (scope : Scope) (active : Active)
@@ -118,7 +118,7 @@ module _ (g : Setting) (has : HasRegisters g) (alive : Variable → Type 0) (eve
       body_code = record { shaped = c.shaped.3; lowerable = c.lowerable.3; names = c.names.3; stands = subst (λ (own : List VarInfo). StandFrom (variables_of g.instance.body) n own) (of_for first (Some test) step p body) c.stands };
     }
 
-    module _ (f : Frame) (n : ℕ) (d : Draft) (framed : StandsInMain g f) (among : StandsAmong f []) (none : d.homes ≡ []) (c : ForCode n) where
+    module _ (f : Frame) (n : ℕ) (d : Draft) (framed : StandsIn g f) (among : StandsAmong f []) (none : d.homes ≡ []) (c : ForCode n) where
       made_first : PartMade first d
       made_first = part_made n first d c.first_code
 
@@ -146,7 +146,7 @@ module _ (g : Setting) (has : HasRegisters g) (alive : Variable → Type 0) (eve
       abbrev before_body : Draft
       before_body = with_instr I.FrontTurn enters
 
-      inner_frame : StandsInMain g inner
+      inner_frame : StandsIn g inner
       unfolding in_loop
       inner_frame = record { outcome = framed.outcome; main = framed.main; scalar = framed.scalar }
 
@@ -282,7 +282,7 @@ module _ (g : Setting) (has : HasRegisters g) (alive : Variable → Type 0) (eve
 
   -- `do`
   module _ (test : TExpr) (p : Boxed) (body : TStmt) (isin : IsIn test) (agrees : Agrees g has alive every numbers ready declares scope active body) where
-    module _ (f : Frame) (n : ℕ) (d : Draft) (framed : StandsInMain g f) (among : StandsAmong f []) (none : d.homes ≡ []) (c : HasStatementCode g.typed g.instance n (S.Do' p body test)) where
+    module _ (f : Frame) (n : ℕ) (d : Draft) (framed : StandsIn g f) (among : StandsAmong f []) (none : d.homes ≡ []) (c : HasStatementCode g.typed g.instance n (S.Do' p body test)) where
       abbrev do_long : ℕ
       do_long = statement_length_of g.typed (layout g) (has_result f) (at_loop f.saved) body
 
@@ -301,7 +301,7 @@ module _ (g : Setting) (has : HasRegisters g) (alive : Variable → Type 0) (eve
       abbrev do_before : Draft
       do_before = with_instr I.FrontTurn d
 
-      do_frame : StandsInMain g do_inner
+      do_frame : StandsIn g do_inner
       unfolding in_loop
       do_frame = record { outcome = framed.outcome; main = framed.main; scalar = framed.scalar }
 

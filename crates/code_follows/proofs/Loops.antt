@@ -14,7 +14,7 @@ use Rattle.source_meaning.specs.State as Source
 use Rattle.source_meaning.specs.State.{Outcome, State, spend_turn, then_do}
 use Rattle.source_meaning.specs.Statements.{Broke, Continued, Leaving, Onward, Returned, executed, passes, rounds, then_go, then_round}
 use Rattle.source_meaning.specs.Values.{Active, Scope}
-use Rattle.code_follows.proofs.Executing.{Halted, Jumped, Left, RanOn, Tested, no_break, no_continue, no_return}
+use Rattle.code_follows.proofs.Executing.{Jumped, Returns, returns_from, Left, RanOn, Tested, no_break, no_continue, no_return}
 use Rattle.code_follows.proofs.Following.{Finishes, Follows, Keeps, Sim, finishes_later, keeps_all, keeps_less}
 use Rattle.code_follows.proofs.Jumping.{behind_turn, moved_to, returns_to, sim_moved, sim_spent, spends, stops}
 use Rattle.code_follows.proofs.Settings.{At, Reaches, Setting, Within, and_one, code_more, earlier, ends_later, onto, start}
@@ -30,18 +30,15 @@ module _ (g : Setting) (alive : Variable → Type 0) (scope : Scope) (active : A
   -- the loop is left behind it, or the run is over
   unfoldable pub LoopEnds : CodeState → Outcome Leaving → Type 0
   LoopEnds s (Source.Gives Onward st) = Jumped g alive d s st (length behind_loop.code)
-  LoopEnds s (Source.Gives (Returned v) st) = Halted g alive s st
+  LoopEnds s (Source.Gives (Returned v) st) = Returns g alive s st v
   LoopEnds s (Source.Gives Broke st) = ⊥
   LoopEnds s (Source.Gives Continued st) = ⊥
   LoopEnds s (Source.Ends early st) = Finishes g early st s
 
-  halted_from : (s t : CodeState) (st : State) → Reaches g s t → Halted g alive t st → Halted g alive s st
-  halted_from s t st go h = record { t = h.t; ends = ends_later g s t h.t Machine.Done go h.ends; turns = h.turns; output = h.output }
-
   pub ends_from : (s t : CodeState) (o : Outcome Leaving) → Reaches g s t → Keeps g d s t → LoopEnds t o → LoopEnds s o
   unfolding LoopEnds
   ends_from s t (Source.Gives Onward st) go keeps j = record { t = j.t; go = onto g s t j.t go j.go; at = j.at; sim = j.sim; keeps = λ q kept. j.keeps q kept ∙ keeps q kept }
-  ends_from s t (Source.Gives (Returned v) st) go keeps h = halted_from s t st go h
+  ends_from s t (Source.Gives (Returned v) st) go keeps h = returns_from g alive d s t st v go keeps h
   ends_from s t (Source.Gives Broke st) go keeps h = absurd h
   ends_from s t (Source.Gives Continued st) go keeps h = absurd h
   ends_from s t (Source.Ends early st) go keeps h = finishes_later g early st s t go h

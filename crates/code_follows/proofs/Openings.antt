@@ -8,7 +8,7 @@ use Rattle.cstar_tree.specs.declared.typed.Typed.{Typed}
 use Rattle.cstar_tree.specs.declared.typed.VarInfo.{VarInfo}
 use Rattle.cstar_tree.specs.declared.typed.Variable.{Variable}
 use Rattle.cstar_tree.specs.declared.typed.Variable.TheVariants as V
-use Rattle.code_lengths.specs.Agreement.{HasUnit}
+use Rattle.code_lengths.specs.Agreement.{HasUnit, opening_of}
 use Rattle.code_lengths.specs.Growth.{Extended}
 use Rattle.code_lengths.specs.Naming.{variable_named}
 use Rattle.code_lengths.specs.Ready.{HasDeclared, IsCodable, IsReady, NumbersVariables}
@@ -17,7 +17,7 @@ use Rattle.code_lengths.proofs.UnitLengths.{units}
 use Rattle.cstar_compile.specs.Compiled.{IsCompiled}
 use Rattle.cstar_tree.specs.Variables.{variables_of}
 use Rattle.std.specs.List.{All}
-use Rattle.code_follows.proofs.Beginnings.{starts_are, starts_put}
+use Rattle.code_follows.proofs.Beginnings.{starts_grow, starts_are, starts_put}
 use Rattle.code_follows.proofs.Declaring.{all_first, all_rest}
 use Rattle.code_follows.proofs.Standing.{start_in}
 use Rattle.std.specs.Prelude.{fold, is_none, take}
@@ -26,6 +26,7 @@ use Rattle.code_follows.specs.Fragment.{IsPlainVariable, IsScalarProgram, IsWord
 use Rattle.code_lengths.proofs.Drafting.{and_instr, as_it_was, extended}
 use Rattle.lower_base.specs.Constants.{first_free}
 use Rattle.paris_code.specs.declared.program.Owner.TheVariants as W
+use Rattle.lower_base.specs.Drafts as Drafts
 use Rattle.lower_base.specs.Drafts.{Draft, Made, Makes, an_entry, draft, step as step_of, then_make, with_instr}
 use Rattle.lower_base.specs.Layouts.{Layout}
 use Rattle.lower_stmt.specs.Statements.{body_of, ended}
@@ -339,3 +340,24 @@ module _ (t : Typed) (image : Image) (p : IsScalarProgram t) (codable : IsCodabl
       ∙ sym (ap (λ (m : Made (Unit {0})). then_make m (λ n ready. then_make (begun_of t the_layout true ready) (λ m start. ending (body_of t the_layout (body_frame true p.main) p.main.body start)))) (no_own_field p.main.result empty_unit p.result))
       ∙ sym (ap (λ (xs : List VarInfo). then_make (own_fields_of xs empty_unit) (λ k d. then_make (own_result_of p.main.result d) (λ n ready. then_make (begun_of t the_layout true ready) (λ m start. ending (body_of t the_layout (body_frame true p.main) p.main.body start))))) p.params)
       ∙ has_unit.made
+
+  -- the unit has no fewer registers than what stands before the body
+  pub opening_is : opening_of t the_layout true base p.main ≡ Makes tt with_starts
+  unfolding opening_of own_fields_of begun_of then_make
+  opening_is =
+      ap (λ (xs : List VarInfo). then_make (own_fields_of xs empty_unit) (λ k d. then_make (own_result_of p.main.result d) (λ n ready. begun_of t the_layout true ready))) p.params
+      ∙ ap (λ (m : Made (Unit {0})). then_make m (λ n ready. begun_of t the_layout true ready)) (no_own_field p.main.result empty_unit p.result)
+      ∙ starts_are the_layout t t.vars.items 0 with_constants p.variables
+
+  pub unit_long : base ≤ has_unit.unit.regs
+  unfolding blank
+  unit_long =
+      let start : has_unit.start ≡ with_starts = made_same (sym has_unit.begins ∙ opening_is) in
+      let regs : has_unit.start.regs ≡ with_starts.regs = ap (λ (d : Draft). d.regs) start in
+      let constants = constants_grow.regs in
+      let starts = (starts_grow the_layout t.vars.items 0 the_setting with_constants).1.regs in
+      let rest = has_unit.rest.1.regs in
+      omega (arith, regs, constants, starts, rest)
+    where
+      made_same : {d e : Draft} → Makes (tt {0}) d ≡ Makes (tt {0}) e → d ≡ e
+      made_same {d} {e} is = ap (λ (m : Made (Unit {0})). elim m as (λ _. Draft) [ Makes u x ↦ x | Drafts.Fails ↦ d ]) is

@@ -38,7 +38,7 @@ use Rattle.source_meaning.specs.Programs.{Run, by_owner, calls, entered, left, m
 use Rattle.source_meaning.specs.State as Source
 use Rattle.source_meaning.specs.State.{Outcome, State, then_do, zeroed, is_among}
 use Rattle.source_meaning.specs.Statements.{Broke, Continued, Leaving, Onward, Returned, all_executed, executed, initialised, then_go}
-use Rattle.source_meaning.specs.Values.{Active, Scope}
+use Rattle.source_meaning.specs.Values.{Active, Scope, Value}
 use Rattle.code_follows.specs.Agreement.{AreBytes, CodeMeansSource, ComesTo, end_of, mark_of}
 use Rattle.code_follows.specs.Fragment.{AreClosed, AreInStatements, IsInLocal, IsMainBody, IsPlainVariable, IsScalarProgram}
 use Rattle.code_follows.proofs.Bodies.{RowCode, block_code, block_stands, row_follows, row_grows}
@@ -55,12 +55,12 @@ use Rattle.std.specs.List.{All}
 use Rattle.code_follows.proofs.ConstantRegisters.{constant_at}
 use Rattle.code_follows.proofs.Closed.{NoJump, begins_closed, closed_row, go_closed}
 use Rattle.code_follows.proofs.Endings.{NeverOnward, body_never, never_second}
-use Rattle.code_follows.proofs.Executing.{Halted, Left, RanOn, follows_from}
+use Rattle.code_follows.proofs.Executing.{Left, Returns, RanOn, follows_from}
 use Rattle.code_follows.proofs.Following.{Extends, Follows, HasRegisters, Sim, held}
-use Rattle.code_follows.proofs.Openings.{result_apart, result_below, all_declared, all_numbered, all_ready, apart, below, constants_grow, constants_run, empty_unit, ending, first_is, has_unit, main_is, named_word, no_homes, behind_files, end_is, starts_at_zero, with_starts, the_layout, the_setting, the_words, with_constants, within_all}
-use Rattle.code_follows.proofs.Returning.{halts}
-use Rattle.code_follows.proofs.Statements.{StandsInMain}
-use Rattle.code_follows.proofs.Settings.{onto, At, Reaches, Setting, Within, and_one, earlier, ends_later, start}
+use Rattle.code_follows.proofs.Openings.{unit_long, result_apart, result_below, all_declared, all_numbered, all_ready, apart, below, constants_grow, constants_run, empty_unit, ending, first_is, has_unit, main_is, named_word, no_homes, behind_files, end_is, starts_at_zero, with_starts, the_layout, the_setting, the_words, with_constants, within_all}
+use Rattle.code_follows.proofs.Returning.{left_at_end}
+use Rattle.code_follows.proofs.Statements.{StandsIn}
+use Rattle.code_follows.proofs.Settings.{onto, At, EndsIn, Reaches, Setting, Within, and_one, earlier, ends_later, ends_now, start}
 use Rattle.code_follows.proofs.Words.{held_wide}
 
 no_code : Made (Unit {0})
@@ -86,8 +86,12 @@ module _ (t : Typed) (image : Image) (p : IsScalarProgram t) (codable : IsCodabl
   abbrev own : Layout
   own = the_layout t image p codable compiled turns
 
+  room_there : own.end ≤ image.slots
+  unfolding first_free
+  room_there = let grown = (constants_grow t image p codable compiled turns).regs in let whole = (within_all t image p codable compiled turns).regs in let longer = unit_long t image p codable compiled turns in omega (arith, grown, whole, longer)
+
   has : HasRegisters g
-  has = record { free = omega arith; result = result_below t p (the_words t image p codable compiled turns); result_apart = result_apart t p (the_words t image p codable compiled turns); spared_variable = λ r none x info named e. none; spared_own = λ r none low high. none; below = below t p (the_words t image p codable compiled turns); apart = apart t p (the_words t image p codable compiled turns) }
+  has = record { free = omega arith; room = room_there; spared_result = λ none. none; result = result_below t p (the_words t image p codable compiled turns); result_apart = result_apart t p (the_words t image p codable compiled turns); spared_variable = λ r none x info named e. none; spared_own = λ r none low high. none; below = below t p (the_words t image p codable compiled turns); apart = apart t p (the_words t image p codable compiled turns) }
 
   begins_at : start g ≡ 0
   begins_at = starts_at_zero compiled.after.units.items
@@ -231,12 +235,22 @@ module _ (t : Typed) (image : Image) (p : IsScalarProgram t) (codable : IsCodabl
 
     -- ---- the end
 
-    ended_so : (d e : Draft) (n : ℕ) (s : CodeState) (leaving : Leaving) (u : State) → (leaving ≡ Onward → Within g (with_instr I.FrontHalt e)) → NoJump (Source.Gives leaving u) → Left g alive frame d s leaving u n e → Halted g alive s u
-    unfolding Left NoJump
-    ended_so d e n s Onward u within closed ran = record { t = ran.t; ends = ends_later g s ran.t ran.t Machine.Done ran.go (halts g e ran.t (within refl) ran.at); turns = ran.sim.turns; output = ran.sim.output }
+    -- the run is over
+    record Halted (s : CodeState) (st : State) : Type 0 where
+      pub there : CodeState
+      pub ends : EndsIn g s Machine.Done there
+      pub turned : there.turns ≡ st.turns
+      pub printed : there.output ≡ st.output
+
+    halted : (s : CodeState) (st : State) (v : Option Value) → Returns g alive s st v → Halted s st
+    halted s st v r = record { there = r.t; ends = ends_later g s r.t r.t Machine.Done r.go (ends_now g r.t r.t Machine.Done r.leaves); turned = r.sim.turns; printed = r.sim.output }
+
+    ended_so : (d e : Draft) (n : ℕ) (s : CodeState) (leaving : Leaving) (u : State) → (leaving ≡ Onward → Within g (with_instr I.FrontHalt e)) → NoJump (Source.Gives leaving u) → Left g alive frame d s leaving u n e → Halted s u
+    unfolding Left NoJump with_end
+    ended_so d e n s Onward u within closed ran = halted s u None (left_at_end g has alive every (all_ready t p (the_words t image p codable compiled turns)) scope active frame d e s u n (within refl) ran)
     ended_so d e n s Broke u within closed ran = absurd closed
     ended_so d e n s Continued u within closed ran = absurd closed
-    ended_so d e n s (Returned v) u within closed ran = ran
+    ended_so d e n s (Returned v) u within closed ran = halted s u v ran
 
     abbrev run_from : Outcome Leaving → Run
     run_from o = run_of (then_do o (λ leaving after. Source.Gives (result_of p.main.result leaving) (left first_state after)))
@@ -257,8 +271,8 @@ module _ (t : Typed) (image : Image) (p : IsScalarProgram t) (codable : IsCodabl
     unfolding Follows then_do run_of left
     comes d e n s (Source.Gives leaving u) so closed go follows =
         let h = ended_so d e n s leaving u (λ is. so.halt u (ap (λ (l : Leaving). Source.Gives l u) is)) closed (follows so.inside) in
-        let x = ends_later g opened s h.t Machine.Done go h.ends in
-        record { steps = x.steps; last = h.t; ends = x.is; turns = h.turns; output = h.output }
+        let x = ends_later g opened s h.there Machine.Done go h.ends in
+        record { steps = x.steps; last = h.there; ends = x.is; turns = h.turned; output = h.printed }
     comes d e n s (Source.Ends early u) so closed go follows =
         let h = follows so.inside in
         let x = ends_later g opened s h.t (end_of early) go h.ends in
@@ -305,7 +319,7 @@ module _ (t : Typed) (image : Image) (p : IsScalarProgram t) (codable : IsCodabl
           (subst (λ (m : Made ℕ). Follows g (Left g alive frame b.begin ran.t) ran.t (all_executed scope row (0 + length locals) active u) m) b.is
           (row_follows g has alive every (all_numbered t p (the_words t image p codable compiled turns)) ready (all_declared t p (the_words t image p codable compiled turns)) scope active falls row inside frame (0 + length locals) b.begin ran.t u framed among homes (omega (arith, free, more)) ran.at ran.sim code))))
         where
-          framed : StandsInMain g frame
+          framed : StandsIn g frame
           framed = record { outcome = refl; main = refl; scalar = not_parallel p.main.result p.result }
 
           among : StandsAmong frame []

@@ -1,105 +1,176 @@
--- `return` in `main`, which ends the program.
-use Rattle.std.proofs.Common.{◌≡◌, ◌∙◌, ℕ, ◌+◌, ◌≤◌, Bool, true, length, slice_index, [], Option, Some, None, refl, sym, ap, subst}
+-- `return`, and the end of a function.
+use Rattle.std.proofs.Common.{◌≡◌, ◌∙◌, ℕ, ◌+◌, ◌<◌, ◌≤◌, ◌^◌, Bool, true, false, length, slice_index, [], Option, Some, None, refl, sym, ap, subst, if◌then◌else◌, arith}
+use Rattle.std.proofs.lemmas.List.{get_or-set_other, get_or-set_same}
+use Rattle.std.proofs.Math.ListN.{length-set}
 use Rattle.std.specs.Prelude.{IfSome}
+use Rattle.cstar_base.specs.declared.elem.Elem.{Elem}
 use Rattle.cstar_tree.specs.declared.typed.TExpr.{TExpr}
 use Rattle.cstar_tree.specs.declared.typed.TStmt as S
+use Rattle.cstar_tree.specs.declared.typed.VarInfo.{VarInfo}
 use Rattle.cstar_tree.specs.declared.typed.Variable.{Variable}
 use Rattle.cstar_tree.specs.Typed.{type_of}
+use Rattle.code_lengths.specs.Growth.{Extended}
 use Rattle.code_lengths.specs.Ready.{HasCode, IsReady}
 use Rattle.code_lengths.proofs.Drafting.{extended}
 use Rattle.lower_base.specs.declared.emit.Out.{Out}
 use Rattle.lower_base.specs.declared.emit.Out.TheVariants as O
-use Rattle.lower_base.specs.Constants.{first_free}
 use Rattle.lower_base.specs.Drafts.{Draft, Fails, Made, Makes, in_register, step as step_of, then_make, with_instr}
-use Rattle.lower_base.specs.Layouts.{result_register}
+use Rattle.lower_base.specs.Layouts.{register_of, result_register}
 use Rattle.lower_expr.specs.Steps.{put_value}
 use Rattle.lower_expr.specs.Values.{next_of}
 use Rattle.lower_stmt.specs.declared.statement.Frame.{Frame}
 use Rattle.lower_stmt.specs.declared.statement.Outcome.{Outcome}
 use Rattle.lower_stmt.specs.declared.statement.Outcome.TheVariants as R
 use Rattle.lower_stmt.specs.Frames.{with_end}
+use Rattle.lower_stmt.specs.Programs.{outcome_of}
 use Rattle.lower_stmt.specs.Statements.{given_back, restored, returned as returned_by, statement_of, stored_result}
 use Rattle.paris_code.specs.declared.instr.Instr.TheVariants as I
 use Rattle.paris_code.specs.Code as Machine
-use Rattle.paris_code.specs.Code.{CodeState, begun, with_register}
+use Rattle.paris_code.specs.Code.{CodeState, Ends, Goes, begun, returned as returned_to, step, with_register}
 use Rattle.source_meaning.specs.Expressions.{evaluated}
 use Rattle.source_meaning.specs.State as Source
 use Rattle.source_meaning.specs.State.{State, then_do}
-use Rattle.source_meaning.specs.Statements.{Returned, executed, returned}
-use Rattle.source_meaning.specs.Values.{Active, Scope, Value}
+use Rattle.source_meaning.specs.Statements.{Leaving, Returned, executed, returned}
+use Rattle.source_meaning.specs.Values.{Active, Scalar, Scope, Value}
 use Rattle.code_follows.specs.Fragment.{IsIn}
-use Rattle.code_follows.proofs.Executing.{Halted, Left}
+use Rattle.code_follows.proofs.ConstantRegisters.{behind_variables}
+use Rattle.code_follows.proofs.Executing.{IsGiven, Leaves, Left, Returns}
 use Rattle.code_follows.proofs.Expressions.{operand}
-use Rattle.code_follows.proofs.Following.{Extends, Follows, HasRegisters, Sim, delayed, finished}
+use Rattle.code_follows.proofs.Following.{Arrives, Extends, Follows, HasRegisters, Keeps, Ran, Sim, delayed, finished, keeps_all, result_kept, spared_kept}
 use Rattle.code_follows.proofs.Jumping.{nothing_restored}
-use Rattle.code_follows.proofs.Settings.{At, EndsIn, Reaches, Setting, Within, and_one, at_next, begins_here, earlier, ends_later, ends_now, layout, one, onto, stay}
-use Rattle.code_follows.proofs.Statements.{StandsInMain}
+use Rattle.code_follows.proofs.Settings.{At, Reaches, Setting, Within, and_one, at_next, begins_here, earlier, layout, one, onto, stay}
+use Rattle.code_follows.proofs.Statements.{StandsIn}
 use Rattle.code_follows.proofs.Values.{Value_of}
+use Rattle.code_follows.proofs.Words.{below_word, held_wide, word_type}
 
--- the program ends where it halts
-pub halts : (g : Setting) (e : Draft) (s : CodeState) → Within g (with_instr I.FrontHalt e) → At g s (length e.code) → EndsIn g s Machine.Done s
-unfolding begun step_of
-halts g e s within at = ends_now g s s Machine.Done (begins_here g I.FrontHalt e s within refl at)
+-- the function is left where its code ends
+pub leaves : (g : Setting) (alive : Variable → Type 0) (e : Draft) (s : CodeState) → Within g (with_end g.is_main e) → At g s (length e.code) → Leaves g alive s
+unfolding begun step_of with_end
+leaves g alive e s within at = by g.is_main within
+  where
+    by : (b : Bool) → Within g (with_instr (if b then I.FrontHalt else I.FrontReturn) e) → step g.image s ≡ (if b then Ends Machine.Done s else Goes (returned_to s))
+    by true within = begins_here g I.FrontHalt e s within refl at
+    by false within = begins_here g I.FrontReturn e s within refl at
 
 module _ (g : Setting) (has : HasRegisters g) (alive : Variable → Type 0) (every : (x : Variable) → alive x) (ready : (n : ℕ) (d : Draft) → IsReady g.typed g.instance (layout g) n d) (scope : Scope) (active : Active) where
   -- what is behind the code of a `return`
-  abbrev then_halts : ℕ → Draft → Made ℕ
-  then_halts n after = Makes n (with_instr I.FrontHalt after)
+  abbrev then_leaves : ℕ → Draft → Made ℕ
+  then_leaves n after = Makes n (with_end g.is_main after)
 
-  halted : (s0 s : CodeState) (st : State) (e : Draft) → Reaches g s0 s → At g s (length e.code) → s.turns ≡ st.turns → s.output ≡ st.output → Within g (with_instr I.FrontHalt e) → Halted g alive s0 st
-  halted s0 s st e go at turns output within = record { t = s; ends = ends_later g s0 s s Machine.Done go (halts g e s within at); turns = turns; output = output }
+  end_more : (e : Draft) → Extended e 1 (with_end g.is_main e)
+  unfolding with_end
+  end_more e = and_one g (if g.is_main then I.FrontHalt else I.FrontReturn) e
 
-  -- the value of the result is put in its register, and the program ends
-  abbrev stored_then_halts : Outcome → ℕ → Out → Draft → Made ℕ
-  stored_then_halts given n out e = then_make (stored_result (layout g) given out e) (λ u after. then_halts n after)
+  -- the value is put in the register of the result, and the function is left
+  abbrev stored_then_leaves : Outcome → ℕ → Out → Draft → Made ℕ
+  stored_then_leaves given n out e = then_make (stored_result (layout g) given out e) (λ u after. then_leaves n after)
 
-  extends_stored : (given : Outcome) (n : ℕ) (out : Out) (e : Draft) → (given ≡ R.Parallel → ⊥) → Extends g e (stored_then_halts given n out e)
+  extends_stored : (given : Outcome) (n : ℕ) (out : Out) (e : Draft) → (given ≡ R.Parallel → ⊥) → Extends g e (stored_then_leaves given n out e)
   unfolding Extends stored_result put_value in_register then_make
-  extends_stored R.Nothing n out e none = (1, and_one g I.FrontHalt e)
+  extends_stored R.Nothing n out e none = (1, end_more e)
   extends_stored R.Scalar n (O.Scalar r) e none =
       let moves : Draft = with_instr (I.FrontMove (result_register (layout g)) r) e in
-      (2, extended e moves (with_instr I.FrontHalt moves) 1 1 (and_one g (I.FrontMove (result_register (layout g)) r) e) (and_one g I.FrontHalt moves))
+      (2, extended e moves (with_end g.is_main moves) 1 1 (and_one g (I.FrontMove (result_register (layout g)) r) e) (end_more moves))
   extends_stored R.Scalar n (O.Field f) e none = tt
   extends_stored R.Scalar n O.Nothing e none = tt
   extends_stored R.Parallel n out e none = absurd (none refl)
 
-  given_so : (f : Frame) (d : Draft) (s0 : CodeState) (v : Option Value) (u : State) (given : Outcome) (n r : ℕ) (e : Draft) → (given ≡ R.Parallel → ⊥) → (t : CodeState) → Reaches g s0 t → At g t (length e.code) → Sim g alive u t
-      → Follows g (Left g alive f d s0) s0 (Source.Gives (Returned v) u) (stored_then_halts given n (O.Scalar r) e)
-  unfolding Follows Left stored_result put_value in_register then_make begun step_of
-  given_so f d s0 v u R.Nothing n r e none t go at sim = λ within. halted s0 t u e go at sim.turns sim.output within
-  given_so f d s0 v u R.Scalar n r e none t go at sim = λ within.
-      let i = I.FrontMove (result_register (layout g)) r in
+  -- a number in the register of the result is that of no variable and no constant
+  result_set : (st : State) (s : CodeState) (v : ℕ) → Sim g alive st s → Sim g alive st (with_register (result_register (layout g)) v s)
+  result_set st s v h = record {
+    registers = length-set s.registers (result_register (layout g)) v ∙ h.registers;
+    scalars = λ x info known scalar. get_or-set_other s.registers (result_register (layout g)) (register_of (layout g) x) v 0 (λ e. has.result_apart x info scalar.0 e) ∙ h.scalars x info known scalar;
+    small = h.small;
+    constants = λ word q is. get_or-set_other s.registers (result_register (layout g)) q v 0 (λ e. let a = behind_variables (layout g) word q is in let b = has.result in omega (arith, e, a, b)) ∙ h.constants word q is;
+    turns = h.turns;
+    output = h.output;
+    input = h.input;
+    bytes = h.bytes;
+    returns = h.returns;
+    few = h.few;
+  }
+
+  given_so : (f : Frame) (d : Draft) (s0 : CodeState) (w : ℕ) (u : State) (given : Outcome) (n r : ℕ) (e : Draft) (t : CodeState) → (given ≡ R.Parallel → ⊥) → (given ≡ R.Nothing → g.instance.result ≡ None) → Reaches g s0 t → Keeps g d s0 t → At g t (length e.code) → Sim g alive u t
+      → w < 2 ^ 32 → slice_index t.registers r ≡ w → Follows g (Left g alive f d s0) s0 (Source.Gives (Returned (Some (Scalar w))) u) (stored_then_leaves given n (O.Scalar r) e)
+  unfolding Follows Left IsGiven stored_result put_value in_register then_make begun step_of
+  given_so f d s0 w u R.Nothing n r e t none no_result go keeps at sim few is = λ within. record {
+    t = t;
+    go = go;
+    sim = sim;
+    leaves = leaves g alive e t within at;
+    spares = λ k spared. keeps k (spared_kept g d k spared);
+    given = λ some. absurd (some (no_result refl));
+  }
+  given_so f d s0 w u R.Scalar n r e t none no_result go keeps at sim few is = λ within.
+      let q : ℕ = result_register (layout g) in
+      let i = I.FrontMove q r in
       let moves : Draft = with_instr i e in
-      let before : Within g moves = earlier g moves (with_instr I.FrontHalt moves) 1 (and_one g I.FrontHalt moves) within in
-      let t1 : CodeState = with_register (result_register (layout g)) (slice_index t.registers r) t in
-      halted s0 t1 u moves (onto g s0 t t1 go (one g t t1 (begins_here g i e t before refl at))) (at_next g i e t (t.at + 1) at refl) sim.turns sim.output within
-  given_so f d s0 v u R.Parallel n r e none t go at sim = absurd (none refl)
+      let before : Within g moves = earlier g moves (with_end g.is_main moves) 1 (end_more moves) within in
+      let t1 : CodeState = with_register q (slice_index t.registers r) t in
+      let inside : q < length t.registers = let below = has.result in let long = sim.registers in let room = has.room in omega (arith, below, room, long) in
+      record {
+        t = t1;
+        go = onto g s0 t t1 go (one g t t1 (begins_here g i e t before refl at));
+        sim = result_set u t (slice_index t.registers r) sim;
+        leaves = leaves g alive moves t1 within (at_next g i e t (t.at + 1) at refl);
+        spares = λ k spared. get_or-set_other t.registers q k (slice_index t.registers r) 0 (λ e. has.spared_result (subst (λ (m : ℕ). g.spared m) e spared)) ∙ keeps k (spared_kept g d k spared);
+        given = λ some. (w, (refl, few, get_or-set_same t.registers q (slice_index t.registers r) 0 inside ∙ is));
+      }
+  given_so f d s0 w u R.Parallel n r e t none no_result go keeps at sim few is = absurd (none refl)
 
   -- `return` with a value
-  answers : (elem : _) (f : Frame) (d : Draft) (s0 : CodeState) (given : Outcome) (n : ℕ) (what : Value → Option Value) → (given ≡ R.Parallel → ⊥) → (o : Source.Outcome Value) (made : Made Out) → Follows g (Value_of g has alive elem true d s0) s0 o made
-      → Follows g (Left g alive f d s0) s0 (then_do o (λ v after. Source.Gives (Returned (what v)) after)) (then_make (then_make made (λ v after. stored_result (layout g) given v after)) (λ u after. then_halts n after))
-  unfolding Follows then_do then_make
-  answers elem f d s0 given n what none (Source.Gives v u) (Makes out e) h =
-      delayed g (Left g alive f d s0) e s0 (Source.Gives (Returned (what v)) u) (stored_then_halts given n out e) (extends_stored given n out e none) (λ within.
+  answers : (elem : Elem) (f : Frame) (d : Draft) (s0 : CodeState) (given : Outcome) (n : ℕ) (shape : Option ℕ) → shape ≡ None → elem.bits ≡ 32 → (given ≡ R.Parallel → ⊥) → (given ≡ R.Nothing → g.instance.result ≡ None) → (o : Source.Outcome Value) (made : Made Out)
+      → Follows g (Value_of g has alive elem true d s0) s0 o made → Follows g (Left g alive f d s0) s0 (then_do o (λ v after. Source.Gives (Returned (Some (returned active shape v))) after)) (then_make (then_make made (λ v after. stored_result (layout g) given v after)) (λ u after. then_leaves n after))
+  unfolding Follows then_do then_make returned
+  answers elem f d s0 given n shape scalar wide none no_result (Source.Gives v u) (Makes out e) h =
+      delayed g (Left g alive f d s0) e s0 (Source.Gives (Returned (Some (returned active shape v))) u) (stored_then_leaves given n out e) (extends_stored given n out e none) (λ within.
       let arr = h within in
-      subst (λ (o : Out). Follows g (Left g alive f d s0) s0 (Source.Gives (Returned (what v)) u) (stored_then_halts given n o e)) (sym arr.holds.is)
-      (given_so f d s0 (what v) u given n arr.holds.register e none arr.t arr.go arr.at arr.sim))
-  answers elem f d s0 given n what none (Source.Ends early u) (Makes out e) h = finished g (Left g alive f d s0) e s0 early u (stored_then_halts given n out e) (extends_stored given n out e none) h
-  answers elem f d s0 given n what none (Source.Gives v u) Fails h = tt
-  answers elem f d s0 given n what none (Source.Ends early u) Fails h = tt
+      let few : arr.holds.word < 2 ^ 32 = below_word elem.bits arr.holds.word wide arr.holds.small in
+      let there : slice_index arr.t.registers arr.holds.register ≡ arr.holds.word = arr.holds.lasts u arr.t arr.sim (keeps_all g e arr.t) (λ h. refl) ∙ held_wide elem arr.holds.word wide few in
+      let is : returned active shape v ≡ Scalar arr.holds.word = ap (λ (o : Option ℕ). returned active o v) scalar ∙ arr.holds.value in
+      subst (λ (x : Value). Follows g (Left g alive f d s0) s0 (Source.Gives (Returned (Some x)) u) (stored_then_leaves given n out e)) (sym is)
+      (subst (λ (o : Out). Follows g (Left g alive f d s0) s0 (Source.Gives (Returned (Some (Scalar arr.holds.word))) u) (stored_then_leaves given n o e)) (sym arr.holds.is)
+      (given_so f d s0 arr.holds.word u given n arr.holds.register e arr.t none no_result arr.go arr.keeps arr.at arr.sim few there)))
+  answers elem f d s0 given n shape scalar wide none no_result (Source.Ends early u) (Makes out e) h = finished g (Left g alive f d s0) e s0 early u (stored_then_leaves given n out e) (extends_stored given n out e none) h
+  answers elem f d s0 given n shape scalar wide none no_result (Source.Gives v u) Fails h = tt
+  answers elem f d s0 given n shape scalar wide none no_result (Source.Ends early u) Fails h = tt
 
-  -- in `main` no context is loaded, and the program halts
-  ends_main : (f : Frame) (k : ℕ) → f.is_main ≡ true → (after : Draft) → with_end f.is_main (restored [] k after) ≡ with_instr I.FrontHalt after
-  unfolding with_end
-  ends_main f k main after = ap (λ (b : Bool). with_end b (restored [] k after)) main ∙ ap (λ (e : Draft). with_instr I.FrontHalt e) (nothing_restored k after)
+  -- no context is loaded before the function is left
+  ends_so : (f : Frame) (k : ℕ) → f.is_main ≡ g.is_main → (after : Draft) → with_end f.is_main (restored [] k after) ≡ with_end g.is_main after
+  ends_so f k main after = ap (λ (b : Bool). with_end b (restored [] k after)) main ∙ ap (λ (e : Draft). with_end g.is_main e) (nothing_restored k after)
 
-  pub return_follows : (e : Option TExpr) → IfSome e IsIn → (f : Frame) (n : ℕ) (d : Draft) (s0 : CodeState) (st : State) → StandsInMain g f → g.begins ≤ d.regs → At g s0 (length d.code) → Sim g alive st s0 → IfSome e (λ x. HasCode g.typed g.instance n x)
+  no_outcome : (f : Frame) → StandsIn g f → f.outcome ≡ R.Nothing → g.instance.result ≡ None
+  unfolding outcome_of
+  no_outcome f framed is = by g.instance.result (sym framed.outcome ∙ is)
+    where
+      by : (o : Option VarInfo) → outcome_of o ≡ R.Nothing → o ≡ None
+      by None e = refl
+      by (Some info) e = shaped info.shape e
+        where
+          shaped : (o : Option ℕ) → (elim o as (λ _. Outcome) [ None ↦ R.Scalar | Some s ↦ R.Parallel ]) ≡ R.Nothing → Some info ≡ None
+          shaped None e = cc
+          shaped (Some s) e = cc
+
+  pub return_follows : (e : Option TExpr) → IfSome e IsIn → (f : Frame) (n : ℕ) (d : Draft) (s0 : CodeState) (st : State) → StandsIn g f → g.begins ≤ d.regs → At g s0 (length d.code) → Sim g alive st s0 → IfSome e (λ x. HasCode g.typed g.instance n x)
       → Follows g (Left g alive f d s0) s0 (executed scope (S.Return e) n active st) (statement_of g.typed (layout g) (S.Return e) f [] n d)
-  unfolding executed statement_of returned_by given_back then_make Follows Left
+  unfolding executed statement_of returned_by given_back then_make Follows Left IsGiven
   return_follows None h f n d s0 st framed free at sim c =
-      subst (λ (e : Draft). Follows g (Left g alive f d s0) s0 (Source.Gives (Returned None) st) (Makes n e)) (sym (ends_main f f.saved.in_all framed.main d)) (λ within. halted s0 s0 st d (stay g s0) at sim.turns sim.output within)
+      subst (λ (e : Draft). Follows g (Left g alive f d s0) s0 (Source.Gives (Returned None) st) (Makes n e)) (sym (ends_so f f.saved.in_all framed.main d))
+      (λ within. record { t = s0; go = stay g s0; sim = sim; leaves = leaves g alive d s0 within at; spares = λ r spared. refl; given = refl })
   return_follows (Some e) h f n d s0 st framed free at sim c =
       subst (λ (m : Made ℕ). Follows g (Left g alive f d s0) s0 (then_do (evaluated scope e active st) (λ v after. Source.Gives (Returned (Some (returned active (type_of e).shape v))) after)) m)
-      (λ i. then_make (then_make (next_of g.typed (layout g) (type_of e).elem.bits true e d) (λ v after. stored_result (layout g) f.outcome v after)) (λ u after. Makes n (sym (ends_main f f.saved.in_all framed.main after) i)))
-      (answers (type_of e).elem f d s0 f.outcome n (λ v. Some (returned active (type_of e).shape v)) framed.scalar (evaluated scope e active st) (next_of g.typed (layout g) (type_of e).elem.bits true e d)
+      (λ i. then_make (then_make (next_of g.typed (layout g) (type_of e).elem.bits true e d) (λ v after. stored_result (layout g) f.outcome v after)) (λ u after. Makes n (sym (ends_so f f.saved.in_all framed.main after) i)))
+      (answers (type_of e).elem f d s0 f.outcome n (type_of e).shape (word_type e h).0 (word_type e h).1 framed.scalar (no_outcome f framed) (evaluated scope e active st) (next_of g.typed (layout g) (type_of e).elem.bits true e d)
       (operand g has alive n (λ x within. every x) (ready n) scope active true (type_of e).elem.bits e h c d s0 st free at sim))
+
+  -- the function is left at the end of its body
+  pub left_at_end : (f : Frame) (d e : Draft) (s : CodeState) (u : State) (m : ℕ) → Within g (with_end g.is_main e) → Ran g alive d s u e → Returns g alive s u None
+  unfolding IsGiven
+  left_at_end f d e s u m within ran = record {
+    t = ran.t;
+    go = ran.go;
+    sim = ran.sim;
+    leaves = leaves g alive e ran.t within ran.at;
+    spares = λ r spared. ran.keeps r (spared_kept g d r spared);
+    given = ran.keeps (result_register (layout g)) (result_kept g d);
+  }

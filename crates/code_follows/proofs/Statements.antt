@@ -25,10 +25,10 @@ use Rattle.lower_stmt.specs.Programs.{outcome_of}
 use Rattle.lower_stmt.specs.Statements.{statement_of}
 use Rattle.code_follows.proofs.Settings.{Setting, layout}
 
--- the frame of a statement of `main`
-pub record StandsInMain (g : Setting) (f : Frame) : Type 0 where
+-- the frame of a statement of the function
+pub record StandsIn (g : Setting) (f : Frame) : Type 0 where
   pub outcome : f.outcome ≡ outcome_of g.instance.result
-  pub main : f.is_main ≡ true
+  pub main : f.is_main ≡ g.is_main
   pub scalar : f.outcome ≡ R.Parallel → ⊥
 
 no_length : {A : Type 0} (xs : List A) → length xs ≡ 0 → xs ≡ []
@@ -44,7 +44,7 @@ module _ (g : Setting) (numbers : NumbersVariables g.instance (layout g)) (decla
     pub homes : e.homes ≡ []
 
   -- where no variable is parallel no home is added
-  pub statement_made : (s : TStmt) (f : Frame) (n : ℕ) (d : Draft) → StandsInMain g f → StandsAmong f [] → HasStatementCode g.typed g.instance n s → d.homes ≡ []
+  pub statement_made : (s : TStmt) (f : Frame) (n : ℕ) (d : Draft) → StandsIn g f → StandsAmong f [] → HasStatementCode g.typed g.instance n s → d.homes ≡ []
       → MadeSo d (statement_length_of g.typed (layout g) (has_result f) f.saved s) (behind n s) (statement_of g.typed (layout g) s f [] n d)
   unfolding Leads
   statement_made s f n d framed among c none = by (statement_of g.typed (layout g) s f [] n d) refl (statements g.typed g.instance (layout g) s f [] n d numbers framed.outcome among c (declared n d none))
