@@ -60,18 +60,18 @@ module _ (g : Setting) (has : HasRegisters g) (alive : Variable → Type 0) (n :
   Does_so part code = (d : Draft) (s : CodeState) (st : State) → g.begins ≤ d.regs → At g s (length d.code) → Sim g alive st s → Follows g (λ v u out e. Ran g alive d s u e) s (part st) (code d)
 
   -- without an operator the value is put in the variable
-  set_follows : (place : Place) (ty : ValueType) (value : TExpr) → ty.shape ≡ None → IsIn value → HasCode g.typed g.instance n value
+  set_follows : (place : Place) (ty : ValueType) (value : TExpr) → ty.shape ≡ None → (IsIn g.may) value → HasCode g.typed g.instance n value
       → Does_so (λ st. then_do (evaluated scope value active st) (λ v after. assigned scope active place A.Set ty (type_of value) (OfScalar x) v after)) (λ d. put_to g.typed (layout g) (O.Scalar own) value d)
   unfolding Follows
   set_follows place ty value plain isin c d s st free here sim =
       then_silent g (Put g has alive n lives ready scope active x info living scalar also d s) (λ v u out e. Ran g alive d s u e) s (evaluated scope value active st) _ (put_to g.typed (layout g) (O.Scalar own) value d)
       (put_follows g has alive n lives ready scope active x info living scalar also value isin c d s st free here sim) (λ v u out e p.
       subst (λ (r : Outcome Value). Follows g (λ v u out e. Ran g alive d s u e) s r (Makes out e))
-      (sym (ap (λ (w : Value). assigned scope active place A.Set ty (type_of value) (OfScalar x) w u) p.value ∙ set_is scope active place x ty (type_of value) p.word u plain (word_type value isin).0))
+      (sym (ap (λ (w : Value). assigned scope active place A.Set ty (type_of value) (OfScalar x) w u) p.value ∙ set_is scope active place x ty (type_of value) p.word u plain (word_type g.may value isin).0))
       (λ within. record { grown = p.grown; t = p.t; go = p.go; at = p.at; sim = p.sim; keeps = p.keeps }))
 
   -- with one, the operation writes the variable
-  module _ (place : Place) (op : AssignOp) (o : Op) (ty : ValueType) (value : TExpr) (word : IsWord ty) (isin : IsIn value) (c : HasCode g.typed g.instance n value) (is : assign_op_of op ≡ Some o) where
+  module _ (place : Place) (op : AssignOp) (o : Op) (ty : ValueType) (value : TExpr) (word : IsWord ty) (isin : (IsIn g.may) value) (c : HasCode g.typed g.instance n value) (is : assign_op_of op ≡ Some o) where
     abbrev signed : Bool
     signed = assigned_signed o ty.elem (type_of value).elem
 
@@ -92,13 +92,13 @@ module _ (g : Setting) (has : HasRegisters g) (alive : Variable → Type 0) (n :
     with_value d s v u out e free arr =
         let old : ℕ = u.scalar x in
         let few : old < 2 ^ 32 = below_word info.elem.bits old also (arr.sim.small x info living scalar) in
-        let small : arr.holds.word < 2 ^ 32 = below_word (type_of value).elem.bits arr.holds.word (word_type value isin).1 arr.holds.small in
+        let small : arr.holds.word < 2 ^ 32 = below_word (type_of value).elem.bits arr.holds.word (word_type g.may value isin).1 arr.holds.small in
         let is_a : slice_index arr.t.registers own ≡ old = arr.sim.scalars x info living scalar ∙ held_wide info.elem old also few in
-        let is_b : slice_index arr.t.registers arr.holds.register ≡ arr.holds.word = arr.holds.lasts u arr.t arr.sim (keeps_all g e arr.t) (λ h. refl) ∙ held_wide (type_of value).elem arr.holds.word (word_type value isin).1 small in
+        let is_b : slice_index arr.t.registers arr.holds.register ≡ arr.holds.word = arr.holds.lasts u arr.t arr.sim (keeps_all g e arr.t) (λ h. refl) ∙ held_wide (type_of value).elem arr.holds.word (word_type g.may value isin).1 small in
         subst (λ (o' : Out). Follows g (λ v u out e. Ran g alive d s u e) s (assigned scope active place op ty (type_of value) (OfScalar x) v u) (in_register o' (λ b. behind_value b e))) (sym arr.holds.is)
         (subst (λ (made : Made Out). Follows g (λ v u out e. Ran g alive d s u e) s (assigned scope active place op ty (type_of value) (OfScalar x) v u) made) (sym (written_is arr.holds.register e))
         (subst (λ (r : Outcome Value). Follows g (λ v u out e. Ran g alive d s u e) s r (Makes (O.Scalar own) (operated_in o signed place own own arr.holds.register e)))
-        (sym (ap (λ (w : Value). assigned scope active place op ty (type_of value) (OfScalar x) w u) arr.holds.value ∙ operated_set_is g has alive scope active place x op o ty (type_of value) arr.holds.word u word (word_type value isin) few small is))
+        (sym (ap (λ (w : Value). assigned scope active place op ty (type_of value) (OfScalar x) w u) arr.holds.value ∙ operated_set_is g has alive scope active place x op o ty (type_of value) arr.holds.word u word (word_type g.may value isin) few small is))
         (then_silent g (Put g has alive n lives ready scope active x info living scalar also d s) (λ v u out e. Ran g alive d s u e) s _ _ (Makes (O.Scalar own) (operated_in o signed place own own arr.holds.register e))
         (operates g has alive ty o place signed d e arr.extended.0 s arr.t u (Put g has alive n lives ready scope active x info living scalar also d s) scope active own own arr.holds.register old arr.holds.word word
         (variable_dest g has alive x info living scalar ty.elem d s word.1 also free) arr.go arr.at arr.sim arr.extended.1 arr.keeps is_a is_b few small)
@@ -183,12 +183,12 @@ module _ (g : Setting) (has : HasRegisters g) (alive : Variable → Type 0) (n :
   unfolding step_effect own_of standing then_make
   steps_it elem x op whole d = refl
 
-  assigns : (elem : Elem) (place : Place) (op : AssignOp) (x : Variable) (value : TExpr) (whole : Code) → elem.bits ≡ 32 → HasVariable g.typed g.instance n x (plain (scalar_type elem)) → IsIn value → HasCode g.typed g.instance n value
+  assigns : (elem : Elem) (place : Place) (op : AssignOp) (x : Variable) (value : TExpr) (whole : Code) → elem.bits ≡ 32 → HasVariable g.typed g.instance n x (plain (scalar_type elem)) → (IsIn g.may) value → HasCode g.typed g.instance n value
       → Runs (λ st. then_do (evaluated scope value active st) (λ v after. assigned scope active place op (scalar_type elem) (type_of value) (OfScalar x) v after)) (λ d. assignment_effect g.typed (layout g) op place (T.Variable (scalar_type elem) x) value whole d)
   unfolding variable_operated
   assigns elem place op x value whole wide v isin c d s st free here sim =
       subst (λ (made : Made Out). Follows g (λ v u out e. Ran g alive d s u e) s (then_do (evaluated scope value active st) (λ v after. assigned scope active place op (scalar_type elem) (type_of value) (OfScalar x) v after)) made)
-      (sym (writes_it elem x op place value whole d (kept value isin))) (by op (assign_op_of op) refl)
+      (sym (writes_it elem x op place value whole d (kept g.may value isin))) (by op (assign_op_of op) refl)
     where
       info : VarInfo
       info = variable_info v.word (plain (scalar_type elem)) v.start
@@ -200,7 +200,7 @@ module _ (g : Setting) (has : HasRegisters g) (alive : Variable → Type 0) (n :
           (sym (only_set op is)) (set_follows g has alive n lives ready scope active x info (lives x v.declared) (v.named, refl) wide place (scalar_type elem) value refl isin c d s st free here sim)
 
   -- an expression without effects
-  pure_follows : (e : TExpr) → IsIn e → HasCode g.typed g.instance n e → Runs (λ st. evaluated scope e active st) (λ d. value_of g.typed (layout g) (type_of e).elem.bits e d)
+  pure_follows : (e : TExpr) → (IsIn g.may) e → HasCode g.typed g.instance n e → Runs (λ st. evaluated scope e active st) (λ d. value_of g.typed (layout g) (type_of e).elem.bits e d)
   unfolding then_do
   pure_follows e isin c d s st free here sim =
       subst (λ (o : Outcome Value). Follows g (λ v u out e. Ran g alive d s u e) s o (value_of g.typed (layout g) (type_of e).elem.bits e d)) (nothing_done (evaluated scope e active st))
@@ -211,7 +211,7 @@ module _ (g : Setting) (has : HasRegisters g) (alive : Variable → Type 0) (n :
       nothing_done (Source.Gives v u) = refl
       nothing_done (Source.Ends early u) = refl
 
-  assign_runs : (tty : ValueType) (place : Place) (op : AssignOp) (x : Variable) (value : TExpr) (whole : Code) → IsWord tty → HasVariable g.typed g.instance n x (plain tty) → IsIn value → HasCode g.typed g.instance n value
+  assign_runs : (tty : ValueType) (place : Place) (op : AssignOp) (x : Variable) (value : TExpr) (whole : Code) → IsWord tty → HasVariable g.typed g.instance n x (plain tty) → (IsIn g.may) value → HasCode g.typed g.instance n value
       → Runs (λ st. then_do (Source.Gives (variable_target tty.shape x 0) st) (λ there between. then_do (evaluated scope value active between) (λ v after. assigned scope active place op tty (type_of value) there v after)))
       (λ d. assignment_effect g.typed (layout g) op place (T.Variable tty x) value whole d)
   unfolding then_do variable_target
@@ -228,12 +228,12 @@ module _ (g : Setting) (has : HasRegisters g) (alive : Variable → Type 0) (n :
       subst (λ (made : Made Out). Follows g (λ v u out e. Ran g alive d s u e) s (stepped scope active op order (scalar_type tty.elem) (OfScalar x) st) made) (sym (steps_it tty.elem x op whole d))
       (stepped_follows g has alive n lives ready scope active x (variable_info w.word (plain (scalar_type tty.elem)) w.start) (lives x w.declared) (w.named, refl) word.1 no_place op (scalar_type tty.elem) (refl, word.1) order d s st free here sim)) v
 
-  printf_runs : (ty : ValueType) (pieces : Vec Piece Global) (p : Vec (Unit {0}) Global) (arguments : _) → AreIn arguments → HaveCode g.typed g.instance n arguments
+  printf_runs : (ty : ValueType) (pieces : Vec Piece Global) (p : Vec (Unit {0}) Global) (arguments : _) → (AreIn g.may) arguments → HaveCode g.typed g.instance n arguments
       → Runs (λ st. evaluated scope (T.Printf' ty pieces p arguments) active st) (λ d. effect_of g.typed (layout g) (T.Printf' ty pieces p arguments) d)
   unfolding evaluated effect_of value_of
   printf_runs ty pieces p arguments h c = printf_follows g has alive n lives ready scope active pieces.items arguments h c
 
-  in_effect : (e : TExpr) → IsIn e → IsEffect e
+  in_effect : (e : TExpr) → (IsIn g.may) e → (IsEffect g.may) e
   unfolding IsIn IsEffect
   in_effect (T.Number ty value) h = h
   in_effect (T.PositionsOf ty shape value) h = h
@@ -253,7 +253,7 @@ module _ (g : Setting) (has : HasRegisters g) (alive : Variable → Type 0) (n :
   in_effect (T.Step' ty op order p target) h = h
   in_effect _ h = absurd h
 
-  pub effect_follows : (e : TExpr) → IsEffect e → HasCode g.typed g.instance n e → Runs (λ st. evaluated scope e active st) (λ d. effect_of g.typed (layout g) e d)
+  pub effect_follows : (e : TExpr) → (IsEffect g.may) e → HasCode g.typed g.instance n e → Runs (λ st. evaluated scope e active st) (λ d. effect_of g.typed (layout g) e d)
   unfolding IsEffect effect_of evaluated IsVariable IsIn
   effect_follows (T.Assign' ty place op p (T.Variable tty x) q value) h c =
       let names = assign_names g has alive n lives ready scope active ty place op p q (T.Variable tty x) value c in

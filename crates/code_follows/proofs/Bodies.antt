@@ -102,7 +102,7 @@ module _ (g : Setting) (has : HasRegisters g) (alive : Variable → Type 0) (eve
   unfolding Follows Left
   stays_here f n d s0 st at sim = λ within. record { grown = (0, as_it_was d); t = s0; go = stay g s0; at = at; sim = sim; keeps = keeps_all g d s0 }
 
-  expression_follows : (e : TExpr) → IsEffect e → (f : Frame) (n : ℕ) (d : Draft) (s0 : CodeState) (st : State) → g.begins ≤ d.regs → At g s0 (length d.code) → Sim g alive st s0 → HasStatementCode g.typed g.instance n (S.Expression e)
+  expression_follows : (e : TExpr) → (IsEffect g.may) e → (f : Frame) (n : ℕ) (d : Draft) (s0 : CodeState) (st : State) → g.begins ≤ d.regs → At g s0 (length d.code) → Sim g alive st s0 → HasStatementCode g.typed g.instance n (S.Expression e)
       → Follows g (Left g alive f d s0) s0 (done scope active (Some e) st) (then_make (part_of g.typed (layout g) (Some e) d) (λ u after. Makes n after))
   unfolding done part_of
   expression_follows e h f n d s0 st free at sim c =
@@ -131,7 +131,7 @@ module _ (g : Setting) (has : HasRegisters g) (alive : Variable → Type 0) (eve
   }
 
   -- a block: its variables, and then its statements
-  block_follows : {k : Count} (locals : List LocalVar) (row : Row_of-TStmt k) (f : Frame) (n : ℕ) (d : Draft) (s0 : CodeState) (st : State) → All IsInLocal locals → StandFrom (variables_of g.instance.body) n (map info_of locals) → AreCoded g has alive every ready scope active n locals → RowCode (n + length locals) row
+  block_follows : {k : Count} (locals : List LocalVar) (row : Row_of-TStmt k) (f : Frame) (n : ℕ) (d : Draft) (s0 : CodeState) (st : State) → All (IsInLocal g.may) locals → StandFrom (variables_of g.instance.body) n (map info_of locals) → AreCoded g has alive every ready scope active n locals → RowCode (n + length locals) row
       → StandsIn g f → StandsAmong f [] → d.homes ≡ [] → g.begins ≤ d.regs → At g s0 (length d.code) → Sim g alive st s0
       → ((e : Draft) (t : CodeState) (u : State) → e.homes ≡ [] → g.begins ≤ e.regs → At g t (length e.code) → Sim g alive u t → Follows g (Left g alive f e t) t (all_executed scope row (n + length locals) active u) (statements_of g.typed (layout g) row f [] (n + length locals) e))
       → Follows g (Left g alive f d s0) s0 (then_go (initialised scope active n locals (zeroed n (length locals) st)) (all_executed scope row (n + length locals) active)) (then_make (declared_in g.typed (layout g) false locals n d) (λ m after. statements_of g.typed (layout g) row f [] m after))
@@ -187,7 +187,7 @@ module _ (g : Setting) (has : HasRegisters g) (alive : Variable → Type 0) (eve
   mutual
     unfolding IsInStatement IsInElse IsTested AreInStatements executed all_executed declared else_executed statement_of statements_of else_of
 
-    pub statement_follows : (s : TStmt) → IsInStatement s → Follows_it s
+    pub statement_follows : (s : TStmt) → (IsInStatement g.may) s → Follows_it s
     statement_follows (S.Block' locals p statements) h f n d s0 st framed among none free at sim c =
         block_follows locals.items statements f n d s0 st h.0 (first_part (map info_of locals.items) (row_variables statements) (block_stands n locals p statements c)) (block_initials n locals p statements c) (block_code n locals p statements c) framed among none free at sim
         (λ e t u none_e free_e at_e sim_e. row_follows statements h.1 f (n + length locals.items) e t u framed among none_e free_e at_e sim_e (block_code n locals p statements c))
@@ -205,7 +205,7 @@ module _ (g : Setting) (has : HasRegisters g) (alive : Variable → Type 0) (eve
     statement_follows (S.Return e) h f n d s0 st framed among none free at sim c = return_follows g has alive every ready scope active e h f n d s0 st framed free at sim (returned_code g numbers declares e n c)
     statement_follows _ h f n d s0 st framed among none free at sim c = absurd h
 
-    pub row_follows : {k : Count} (row : Row_of-TStmt k) → AreInStatements row → (f : Frame) (n : ℕ) (d : Draft) (s0 : CodeState) (st : State) → StandsIn g f → StandsAmong f [] → d.homes ≡ [] → g.begins ≤ d.regs → At g s0 (length d.code) → Sim g alive st s0
+    pub row_follows : {k : Count} (row : Row_of-TStmt k) → (AreInStatements g.may) row → (f : Frame) (n : ℕ) (d : Draft) (s0 : CodeState) (st : State) → StandsIn g f → StandsAmong f [] → d.homes ≡ [] → g.begins ≤ d.regs → At g s0 (length d.code) → Sim g alive st s0
         → RowCode n row → Follows g (Left g alive f d s0) s0 (all_executed scope row n active st) (statements_of g.typed (layout g) row f [] n d)
     row_follows end_of-TStmt h f n d s0 st framed among none free at sim c = stays_here f n d s0 st at sim
     row_follows (more_of-TStmt s rest) h f n d s0 st framed among none free at sim c =

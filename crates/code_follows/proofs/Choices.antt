@@ -66,7 +66,7 @@ module _ (g : Setting) (has : HasRegisters g) (alive : Variable → Type 0) (eve
       by (Source.Gives (Returned v) st) h1 = λ w. h1 (within_e w)
       by (Source.Ends early st) h1 = λ w. h1 (within_e w)
 
-  module _ (test : TExpr) (p : Boxed) (first : TStmt) (second : Held-TStmt-If-2) (isin : IsIn test) (first_agrees : Agrees first) where
+  module _ (test : TExpr) (p : Boxed) (first : TStmt) (second : Held-TStmt-If-2) (isin : (IsIn g.may) test) (first_agrees : Agrees first) where
     module _ (f : Frame) (n : ℕ) (d : Draft) (s0 : CodeState) (st : State) (framed : StandsIn g f) (among : StandsAmong f []) (none : d.homes ≡ []) (free : g.begins ≤ d.regs) (at : At g s0 (length d.code)) (sim : Sim g alive st s0)
         (c : HasStatementCode g.typed g.instance n (S.If' test p first second)) where
       abbrev long : ℕ
@@ -118,7 +118,7 @@ module _ (g : Setting) (has : HasRegisters g) (alive : Variable → Type 0) (eve
       over : (st1 : State) (r : Tested g alive d s0 false st1 tests.r tests.e) → Within g jump → Reaches g s0 (moved_to g alive (place + start g) r.t)
       over st1 r within = onto g s0 r.t (moved_to g alive (place + start g) r.t) r.go (skips g alive false tests.r place tests.e r.t r.is within r.at)
 
-  pub if_alone : (test : TExpr) (p : Boxed) (first : TStmt) → IsIn test → Agrees first → Agrees (S.If' test p first None')
+  pub if_alone : (test : TExpr) (p : Boxed) (first : TStmt) → (IsIn g.may) test → Agrees first → Agrees (S.If' test p first None')
   unfolding executed else_of past Left Follows Extends here
   if_alone test p first isin first_agrees f n d s0 st framed among none free at sim c =
       let tests = tests test p first None' isin first_agrees f n d s0 st framed among none free at sim c in
@@ -151,7 +151,7 @@ module _ (g : Setting) (has : HasRegisters g) (alive : Variable → Type 0) (eve
             keeps = r.keeps;
           }
 
-  module _ (test : TExpr) (p : Boxed) (first : TStmt) (q : Boxed) (second : TStmt) (isin : IsIn test) (first_agrees : Agrees first) (second_agrees : Agrees second) where
+  module _ (test : TExpr) (p : Boxed) (first : TStmt) (q : Boxed) (second : TStmt) (isin : (IsIn g.may) test) (first_agrees : Agrees first) (second_agrees : Agrees second) where
     module _ (f : Frame) (n : ℕ) (d : Draft) (s0 : CodeState) (st : State) (framed : StandsIn g f) (among : StandsAmong f []) (none : d.homes ≡ []) (free : g.begins ≤ d.regs) (at : At g s0 (length d.code)) (sim : Sim g alive st s0)
         (c : HasStatementCode g.typed g.instance n (S.If' test p first (Some' q second))) where
       abbrev condition : TestMade g alive has every n (ready n) scope active test d

@@ -27,7 +27,7 @@ use Rattle.source_meaning.specs.State as Source
 use Rattle.source_meaning.specs.State.{Outcome, State, then_do}
 use Rattle.source_meaning.specs.Values.{Active, Scalar, Scope, Value, nonzero, number}
 use Rattle.source_meaning.proofs.ConstantLaws.{value_means}
-use Rattle.code_follows.specs.Fragment.{IsIn}
+use Rattle.code_follows.specs.Fragment.{IsIn, May}
 use Rattle.code_follows.proofs.Branching.{IsMadeWord, decided_goes, goes_on, jump_long, jump_more, tested}
 use Rattle.code_follows.proofs.Following.{Arrives, Extends, Follows, HasRegisters, IsScalar, Keeps, Sim, delayed, held, keeps_all, keeps_on, then_on, kept_later}
 use Rattle.code_follows.proofs.Jumping.{jumps, moved_to, sim_moved}
@@ -55,14 +55,14 @@ pub record IsNumber (part : State → Outcome Value) (w : ℕ) : Type 0 where
   pub small : w < 2 ^ 32
   pub gives : (st : State) → part st ≡ Source.Gives (Scalar w) st
 
-pub constant_arm : (scope : Scope) (active : Active) (e : TExpr) (w : ℕ) → IsIn e → register_word e ≡ Some w → IsNumber (λ st. evaluated scope e active st) w
+pub constant_arm : (may : May) (scope : Scope) (active : Active) (e : TExpr) (w : ℕ) → IsIn may e → register_word e ≡ Some w → IsNumber (λ st. evaluated scope e active st) w
 unfolding register_word constant_of
-constant_arm scope active e w isin is = by (is_constant e) (Const.value_of e) refl refl is
+constant_arm may scope active e w isin is = by (is_constant e) (Const.value_of e) refl refl is
   where
     by : (c : Bool) (o : Option ℕ) → is_constant e ≡ c → Const.value_of e ≡ o → then_value (if c then o else None) (λ v. Some (held (type_of e).elem v)) ≡ Some w → IsNumber (λ st. evaluated scope e active st) w
     by true (Some v) is_c is_v h =
-        let few : v < 2 ^ 32 = subst (λ (o : Option ℕ). IfSome o (λ u. u < 2 ^ 32)) is_v (constant_below e isin) in
-        let same : v ≡ w = sym (held_wide (type_of e).elem v (word_type e isin).1 few) ∙ ap (λ (o : Option ℕ). elim o as (λ _. ℕ) [ Some x ↦ x | None ↦ 0 ]) h in
+        let few : v < 2 ^ 32 = subst (λ (o : Option ℕ). IfSome o (λ u. u < 2 ^ 32)) is_v (constant_below may e isin) in
+        let same : v ≡ w = sym (held_wide (type_of e).elem v (word_type may e isin).1 few) ∙ ap (λ (o : Option ℕ). elim o as (λ _. ℕ) [ Some x ↦ x | None ↦ 0 ]) h in
         subst (λ (x : ℕ). IsNumber (λ st. evaluated scope e active st) x) same (record { small = few; gives = λ st. subst (λ (o : Option ℕ). Const.IsValueOf e o) is_v (value_means e is_c) scope active st })
     by true None is_c is_v h = cc
     by false o is_c is_v h = cc

@@ -13,7 +13,7 @@ use Rattle.source_meaning.specs.Expressions.{evaluated}
 use Rattle.source_meaning.specs.Targets.{Target, variable_target}
 use Rattle.cstar_tree.specs.declared.typed.Variable.TheVariants as V
 use Rattle.source_meaning.specs.Values.{Active, Scope}
-use Rattle.code_follows.specs.Fragment.{AreClosed, AreInStatements, IsClosed, IsClosedElse, IsInElse, IsInStatement}
+use Rattle.code_follows.specs.Fragment.{AreClosed, AreInStatements, IsClosed, IsClosedElse, IsInElse, IsInStatement, May}
 
 -- no jump out of a loop
 unfoldable pub NoJump : Outcome Leaving → Type 0
@@ -55,7 +55,7 @@ rounds_closed (suc fuel) test body step st closed = do_closed (test st) _ (λ b 
     by true u again = round_closed (spend_turn u body) _ again
     by false u again = tt
 
-module _ (scope : Scope) (active : Active) where
+module _ (may : May) (scope : Scope) (active : Active) where
   either : (b : Bool) (one other : Outcome Leaving) → NoJump one → NoJump other → NoJump (elim b as (λ _. Outcome Leaving) [ true ↦ one | false ↦ other ])
   either true one other h k = h
   either false one other h k = k
@@ -77,7 +77,7 @@ module _ (scope : Scope) (active : Active) where
   mutual
     unfolding IsInStatement IsInElse AreInStatements IsClosed IsClosedElse AreClosed executed all_executed else_executed NoJump done
 
-    pub closed : (s : TStmt) → IsInStatement s → IsClosed s → (n : ℕ) (st : State) → NoJump (executed scope s n active st)
+    pub closed : (s : TStmt) → (IsInStatement may) s → IsClosed s → (n : ℕ) (st : State) → NoJump (executed scope s n active st)
     closed (S.Block' locals p statements) h k n st = go_closed _ _ (begins_closed n locals.items (zeroed n (length locals.items) st)) (λ u. closed_row statements h.1 k (n + length locals.items) u)
     closed (S.Expression e) h k n st = do_closed _ _ (λ v u. tt)
     closed S.Empty h k n st = tt
@@ -91,10 +91,10 @@ module _ (scope : Scope) (active : Active) where
     closed S.Continue h k n st = absurd k
     closed _ h k n st = absurd h
 
-    pub closed_row : {k : Count} (row : Row_of-TStmt k) → AreInStatements row → AreClosed row → (n : ℕ) (st : State) → NoJump (all_executed scope row n active st)
+    pub closed_row : {k : Count} (row : Row_of-TStmt k) → (AreInStatements may) row → AreClosed row → (n : ℕ) (st : State) → NoJump (all_executed scope row n active st)
     closed_row end_of-TStmt h k n st = tt
     closed_row (more_of-TStmt s rest) h k n st = go_closed _ _ (closed s h.0 k.0 n st) (λ u. closed_row rest h.1 k.1 (n + declared s) u)
 
-    closed_else : (held : Held-TStmt-If-2) → IsInElse held → IsClosedElse held → (n : ℕ) (st : State) → NoJump (else_executed scope held n active st)
+    closed_else : (held : Held-TStmt-If-2) → (IsInElse may) held → IsClosedElse held → (n : ℕ) (st : State) → NoJump (else_executed scope held n active st)
     closed_else None' h k n st = tt
     closed_else (Some' p s) h k n st = closed s h k n st

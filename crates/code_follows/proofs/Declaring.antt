@@ -154,7 +154,7 @@ module _ (g : Setting) (has : HasRegisters g) where
   small_zero bits wide = subst (λ (b : ℕ). 0 < 2 ^ b) (sym wide) (omega arith)
 
   -- one that begins as a constant waits
-  waits : (before : Variable → Type 0) (local : LocalVar) (locals : List LocalVar) (n : ℕ) (d : Draft) → IsInLocal local → begins_constant local ≡ true → Clears (λ x. before x × (x ≡ V.Local n → ⊥)) locals (n + 1) d → Clears before (local ∷ locals) n d
+  waits : (before : Variable → Type 0) (local : LocalVar) (locals : List LocalVar) (n : ℕ) (d : Draft) → (IsInLocal g.may) local → begins_constant local ≡ true → Clears (λ x. before x × (x ≡ V.Local n → ⊥)) locals (n + 1) d → Clears before (local ∷ locals) n d
   unfolding all_cleared zeroed with_scalar Started
   waits before local locals n d isin begins rest = record {
     e = rest.e;
@@ -190,7 +190,7 @@ module _ (g : Setting) (has : HasRegisters g) where
               by false is = ap (λ (b : Bool). if b then 0 else st.scalar x) is
 
   -- any other one becomes 0 at once
-  clears_one : (before : Variable → Type 0) (local : LocalVar) (locals : List LocalVar) (n : ℕ) (d : Draft) → IsInLocal local → begins_constant local ≡ false → StandFrom (variables_of g.instance.body) n (info_of local ∷ map info_of locals) → Clears before locals (n + 1) (with_instr (I.FrontConst (register_of (layout g) (V.Local n)) 0) d) → Clears before (local ∷ locals) n d
+  clears_one : (before : Variable → Type 0) (local : LocalVar) (locals : List LocalVar) (n : ℕ) (d : Draft) → (IsInLocal g.may) local → begins_constant local ≡ false → StandFrom (variables_of g.instance.body) n (info_of local ∷ map info_of locals) → Clears before locals (n + 1) (with_instr (I.FrontConst (register_of (layout g) (V.Local n)) 0) d) → Clears before (local ∷ locals) n d
   unfolding all_cleared begun step_of zeroed with_scalar Started
   clears_one before local locals n d isin begins stand rest =
       let scalar : IsScalar g (V.Local n) local.info = (first_is_named g n local.info (map info_of locals) stand, isin.0.0) in
@@ -217,7 +217,7 @@ module _ (g : Setting) (has : HasRegisters g) where
             (λ x h. (h.0, h.1.1)) (zeroed_more n (length locals) st) refl refl refl all;
       }
 
-  pub clears : (before : Variable → Type 0) (locals : List LocalVar) (n : ℕ) (d : Draft) → All IsInLocal locals → StandFrom (variables_of g.instance.body) n (map info_of locals) → Clears before locals n d
+  pub clears : (before : Variable → Type 0) (locals : List LocalVar) (n : ℕ) (d : Draft) → All (IsInLocal g.may) locals → StandFrom (variables_of g.instance.body) n (map info_of locals) → Clears before locals n d
   unfolding all_cleared zeroed Started
   clears before [] n d isin stand = record {
     e = d;
@@ -234,9 +234,9 @@ module _ (g : Setting) (has : HasRegisters g) where
     };
   }
   clears before (local ∷ locals) n d isin stand =
-      by (begins_constant local) refl (clears (λ x. before x × (x ≡ V.Local n → ⊥)) locals (n + 1) d (all_rest IsInLocal local locals isin) (others_stand g n local.info (map info_of locals) stand))
-      (clears before locals (n + 1) (with_instr (I.FrontConst (register_of (layout g) (V.Local n)) 0) d) (all_rest IsInLocal local locals isin) (others_stand g n local.info (map info_of locals) stand))
+      by (begins_constant local) refl (clears (λ x. before x × (x ≡ V.Local n → ⊥)) locals (n + 1) d (all_rest (IsInLocal g.may) local locals isin) (others_stand g n local.info (map info_of locals) stand))
+      (clears before locals (n + 1) (with_instr (I.FrontConst (register_of (layout g) (V.Local n)) 0) d) (all_rest (IsInLocal g.may) local locals isin) (others_stand g n local.info (map info_of locals) stand))
     where
       by : (b : Bool) → begins_constant local ≡ b → Clears (λ x. before x × (x ≡ V.Local n → ⊥)) locals (n + 1) d → Clears before locals (n + 1) (with_instr (I.FrontConst (register_of (layout g) (V.Local n)) 0) d) → Clears before (local ∷ locals) n d
-      by true is waiting done = waits before local locals n d (all_first IsInLocal local locals isin) is waiting
-      by false is waiting done = clears_one before local locals n d (all_first IsInLocal local locals isin) is stand done
+      by true is waiting done = waits before local locals n d (all_first (IsInLocal g.may) local locals isin) is waiting
+      by false is waiting done = clears_one before local locals n d (all_first (IsInLocal g.may) local locals isin) is stand done

@@ -8,7 +8,7 @@ use Rattle.cstar_tree.specs.Variables.{variables_of}
 use Rattle.code_lengths.proofs.Declaring.{of_block, of_expression, of_for, row_variables}
 use Rattle.source_meaning.specs.Examples.{number, variable, vec}
 use Rattle.code_follows.specs.Example.{ExampleIsScalar, body, main, prints, sums, turns}
-use Rattle.code_follows.specs.Fragment.{AreClosed, AreIn, AreInStatements, IsClosed, IsEffect, IsIn, IsInLocal, IsInStatement, IsMainBody, IsPlainVariable, IsTested, IsVariable, IsWordVariable}
+use Rattle.code_follows.specs.Fragment.{AreClosed, AreIn, AreInStatements, IsClosed, IsEffect, IsIn, IsInLocal, IsInStatement, IsMainBody, IsPlainVariable, IsTested, IsVariable, IsWordVariable, none_may}
 
 all_one : {A : Type 0} (P : A → Type 0) (x : A) → P x → All P (x ∷ [])
 all_one P x h zero other within = h
@@ -39,7 +39,7 @@ is_scalar heap = record {
   params = refl;
   result = λ info is. ap (λ (o : Option VarInfo). elim o as (λ _. Option ℕ) [ None ↦ None | Some x ↦ x.shape ]) (sym is);
   body = (
-    all_one IsInLocal (record { info = variable number None 0; initial = None }) ((refl, refl), tt),
+    all_one (IsInLocal none_may) (record { info = variable number None 0; initial = None }) ((refl, refl), tt),
     (
       (
         ((refl, refl), refl, (refl, refl), ((refl, refl), omega arith)),

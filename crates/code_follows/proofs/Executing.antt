@@ -26,7 +26,7 @@ use Rattle.source_meaning.specs.State as Source
 use Rattle.source_meaning.specs.State.{Early, Outcome, State, then_do}
 use Rattle.source_meaning.specs.Statements.{Broke, Continued, Leaving, Onward, Returned, passes, then_go}
 use Rattle.source_meaning.specs.Values.{Active, Scope, Value, nonzero, number, Scalar}
-use Rattle.code_follows.specs.Fragment.{IsIn, IsVariable}
+use Rattle.code_follows.specs.Fragment.{IsIn, IsVariable, May}
 use Rattle.code_follows.proofs.Expressions.{operand}
 use Rattle.code_follows.proofs.Following.{Arrives, Extends, Follows, HasRegisters, Keeps, Ran, Sim, finishes_later, keeps_all, keeps_on, then_follows, spared_kept, result_kept}
 use Rattle.code_follows.proofs.Settings.{At, EndsIn, Reaches, Setting, ends_later, layout, onto, stay}
@@ -44,8 +44,8 @@ pub no_return : (v : Option Value) → Returned v ≡ Onward → ⊥
 no_return v e = cc
 
 -- a value of the fragment is kept in a register, and there is one
-kept_not : (e : TExpr) → IsIn e → is_kept e ≡ false → ⊥
-kept_not e isin h = let k : is_kept e ≡ true = kept e isin in cc
+kept_not : (may : May) (e : TExpr) → IsIn may e → is_kept e ≡ false → ⊥
+kept_not may e isin h = let k : is_kept e ≡ true = kept may e isin in cc
 
 module _ (g : Setting) (alive : Variable → Type 0) where
   -- a jump led to a place of the unit
@@ -161,7 +161,7 @@ module _ (g : Setting) (alive : Variable → Type 0) where
     pub is : nonzero (slice_index t.registers r) ≡ b
 
   module _ (has : HasRegisters g) (every : (x : Variable) → alive x) (n : ℕ) (ready : (d : Draft) → IsReady g.typed g.instance (layout g) n d) (scope : Scope) (active : Active) where
-    pub test_follows : (test : TExpr) → IsIn test → HasCode g.typed g.instance n test → (d : Draft) (s : CodeState) (st : State) → g.begins ≤ d.regs → At g s (length d.code) → Sim g alive st s
+    pub test_follows : (test : TExpr) → (IsIn g.may) test → HasCode g.typed g.instance n test → (d : Draft) (s : CodeState) (st : State) → g.begins ≤ d.regs → At g s (length d.code) → Sim g alive st s
         → Follows g (Tested d s) s (passes scope active test st) (condition_of g.typed (layout g) test d)
     unfolding passes condition_of Extends Follows in_register number
     test_follows test isin c d s st free here sim =
@@ -170,14 +170,14 @@ module _ (g : Setting) (alive : Variable → Type 0) where
       where
         tests : (v : Value) (u : State) (out : Out) (e : Draft) → Arrives g alive (type_of test).elem true d s v u out e → Follows g (Tested d s) s (Source.Gives (nonzero (number v)) u) (in_register out (λ r. Makes r e))
         tests v u out e arr =
-            let wide = (word_type test isin).1 in
+            let wide = (word_type g.may test isin).1 in
             let few : arr.holds.word < 2 ^ 32 = below_word (type_of test).elem.bits arr.holds.word wide arr.holds.small in
             let there : slice_index arr.t.registers arr.holds.register ≡ arr.holds.word = arr.holds.lasts u arr.t arr.sim (keeps_all g e arr.t) (λ h. refl) ∙ held_wide (type_of test).elem arr.holds.word wide few in
             subst (λ (w : Value). Follows g (Tested d s) s (Source.Gives (nonzero (number w)) u) (in_register out (λ r. Makes r e))) (sym arr.holds.value)
             (subst (λ (o : Out). Follows g (Tested d s) s (Source.Gives (nonzero arr.holds.word) u) (in_register o (λ r. Makes r e))) (sym arr.holds.is)
             (λ within. record { grown = arr.extended; t = arr.t; go = arr.go; at = arr.at; sim = arr.sim; keeps = arr.keeps; is = ap nonzero there }))
 
-    pub gives : (e : TExpr) → IsIn e → GivesValue g.typed e
+    pub gives : (e : TExpr) → (IsIn g.may) e → GivesValue g.typed e
     unfolding GivesValue IsIn IsVariable is_send bare is_sent
     gives (T.Number ty value) h = tt
     gives (T.PositionsOf ty shape value) h = tt
@@ -205,12 +205,12 @@ module _ (g : Setting) (alive : Variable → Type 0) where
       pub is : condition_of g.typed (layout g) test d ≡ Makes r e
       pub extended : Extended d (used_length_of g.typed (layout g) 32 true test) e
 
-    pub test_made : (test : TExpr) (d : Draft) → IsIn test → HasCode g.typed g.instance n test → TestMade test d
+    pub test_made : (test : TExpr) (d : Draft) → (IsIn g.may) test → HasCode g.typed g.instance n test → TestMade test d
     unfolding condition_of Grows IsAtEnd then_make in_register
     test_made test d isin c = by (next_of g.typed (layout g) 32 true test d) refl ((expressions g.typed g.instance (layout g)).operand 32 n true test d c (ready d))
       where
         by : (m : Made Out) → next_of g.typed (layout g) 32 true test d ≡ m → Grows d (used_length_of g.typed (layout g) 32 true test) (IsAtEnd g.typed test) m → TestMade test d
         by (Makes (O.Scalar r) e) is h = record { r = r; e = e; is = ap (λ (m : Made Out). then_make m (λ v after. in_register v (λ q. Makes q after))) is; extended = h.1 }
-        by (Makes (O.Field f) e) is h = absurd (kept_not test isin h.0)
+        by (Makes (O.Field f) e) is h = absurd (kept_not g.may test isin h.0)
         by (Makes O.Nothing e) is h = absurd (h.0 (gives test isin))
         by Fails is h = absurd h

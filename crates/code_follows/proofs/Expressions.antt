@@ -103,7 +103,7 @@ module _ (g : Setting) (has : HasRegisters g) (alive : Variable → Type 0) (n :
     pub small : word < 2 ^ 32
     pub same : held (type_of e).elem word ≡ held info.elem (st.scalar own.variable)
 
-  own_is : (bits : ℕ) (e : TExpr) (own : Own) (st : State) → IsIn e → NamesVariables g.typed g.instance n e → ((x : Variable) (info : VarInfo) → alive x → IsScalar g x info → st.scalar x < 2 ^ info.elem.bits) → own_of bits e ≡ Some own → OwnIs e own st
+  own_is : (bits : ℕ) (e : TExpr) (own : Own) (st : State) → (IsIn g.may) e → NamesVariables g.typed g.instance n e → ((x : Variable) (info : VarInfo) → alive x → IsScalar g x info → st.scalar x < 2 ^ info.elem.bits) → own_of bits e ≡ Some own → OwnIs e own st
   unfolding own_of IsIn NamesVariables evaluated is_unchanged then_do at
   own_is bits (T.Variable ty x) own st word v small is = by (is_none ty.shape || nat_le bits ty.elem.bits) is
     where
@@ -156,7 +156,7 @@ module _ (g : Setting) (has : HasRegisters g) (alive : Variable → Type 0) (n :
   own_is bits _ own st h v small is = absurd h
 
   -- an operand where it stands, or by its code
-  pub operand_follows : (quiet : Bool) (bits : ℕ) (e : TExpr) (code : Code) → IsIn e → NamesVariables g.typed g.instance n e → Does g has alive (type_of e).elem quiet (λ st. evaluated scope e active st) code
+  pub operand_follows : (quiet : Bool) (bits : ℕ) (e : TExpr) (code : Code) → (IsIn g.may) e → NamesVariables g.typed g.instance n e → Does g has alive (type_of e).elem quiet (λ st. evaluated scope e active st) code
       → Does g has alive (type_of e).elem quiet (λ st. evaluated scope e active st) (λ d. operand_by g.typed (layout g) bits code quiet e d)
   unfolding operand_by in_place standing Follows
   operand_follows quiet bits e code isin names does d s st free here sim = by_held (held_in (layout g) e) refl
@@ -166,7 +166,7 @@ module _ (g : Setting) (has : HasRegisters g) (alive : Variable → Type 0) (n :
       by_place false is_quiet (Some own) is = cc
       by_place true is_quiet (Some own) is =
           let o = own_is bits e own st isin names sim.small is in
-          let wide = (word_type e isin).1 in
+          let wide = (word_type g.may e isin).1 in
           subst (λ (made : Made Out). Follows g (Value_of g has alive (type_of e).elem quiet d s) s (evaluated scope e active st) made)
           (sym (ap (λ (shape : Option ℕ). elim shape as (λ _. Made Out) [ None ↦ Makes (O.Scalar (register_of (layout g) own.variable)) d | Some _ ↦ then_make (field_of g.typed (layout g) own.variable 0 d) (λ f after. Makes (O.Field (first_bits bits f)) after) ]) o.shape))
           (subst (λ (r : Outcome Value). Follows g (Value_of g has alive (type_of e).elem quiet d s) s r (Makes (O.Scalar (register_of (layout g) own.variable)) d)) (sym o.gives) (λ within. record {
@@ -191,7 +191,7 @@ module _ (g : Setting) (has : HasRegisters g) (alive : Variable → Type 0) (n :
       by_held None is = by_place quiet refl (if quiet then own_of bits e else None) refl
       by_held (Some r) is =
           let h = held_stands (layout g) e r is in
-          let few : h.word < 2 ^ 32 = subst (λ (o : Option ℕ). IfSome o (λ v. v < 2 ^ 32)) h.value (constant_below e isin) in
+          let few : h.word < 2 ^ 32 = subst (λ (o : Option ℕ). IfSome o (λ v. v < 2 ^ 32)) h.value (constant_below g.may e isin) in
           let gives : evaluated scope e active st ≡ Source.Gives (Scalar h.word) st = subst (λ (o : Option ℕ). Const.IsValueOf e o) h.value (value_means e h.constant) scope active st in
           subst (λ (o : Outcome Value). Follows g (Value_of g has alive (type_of e).elem quiet d s) s o (Makes (O.Scalar r) d)) (sym gives) (λ within. record {
             extended = (0, as_it_was d);
@@ -205,7 +205,7 @@ module _ (g : Setting) (has : HasRegisters g) (alive : Variable → Type 0) (n :
               word = h.word;
               is = refl;
               value = refl;
-              small = below_bits (type_of e).elem.bits h.word (word_type e isin).1 few;
+              small = below_bits (type_of e).elem.bits h.word (word_type g.may e isin).1 few;
               lasts = λ u t later stays same. later.constants (held (type_of e).elem h.word) r h.register;
             };
           })
@@ -397,13 +397,13 @@ module _ (g : Setting) (has : HasRegisters g) (alive : Variable → Type 0) (n :
   other_grows : (m k : ℕ) (e : TExpr) → HasCode g.typed g.instance n e → (d : Draft) → Extends g d (operand_by g.typed (layout g) m (value_of g.typed (layout g) k e) true e d)
   other_grows m k e c d = extends_grown g has alive _ d _ _ (operand_grown g.typed g.instance (layout g) n m true e (value_of g.typed (layout g) k e) _ d c (ready d) ((expressions g.typed g.instance (layout g)).value k n e d c (ready d)))
 
-  fresh_assign : (bits : ℕ) (ty tty : ValueType) (place : Place) (op : AssignOp) (p q : Boxed) (x : Variable) (value : TExpr) → IsWord tty → HasVariable g.typed g.instance n x (plain tty) → IsIn value → HasCode g.typed g.instance n value
+  fresh_assign : (bits : ℕ) (ty tty : ValueType) (place : Place) (op : AssignOp) (p q : Boxed) (x : Variable) (value : TExpr) → IsWord tty → HasVariable g.typed g.instance n x (plain tty) → (IsIn g.may) value → HasCode g.typed g.instance n value
       → ((m : ℕ) (d : Draft) → IsFresh d (value_of g.typed (layout g) m value d)) → (d : Draft) → IsFresh d (value_of g.typed (layout g) bits (T.Assign' ty place op p (T.Variable tty x) q value) d)
   unfolding value_of
   fresh_assign bits ty tty place op p q x value word v isin c fresh d =
       subst (λ (t : ValueType). HasVariable g.typed g.instance n x (plain t) → IsFresh d (value_of g.typed (layout g) bits (T.Assign' ty place op p (T.Variable t x) q value) d)) (sym (plain_type tty word.0)) (λ w.
       let target : TExpr = T.Variable (scalar_type tty.elem) x in
-      fresh_assigned g has alive x (variable_info w.word (plain (scalar_type tty.elem)) w.start) (lives x w.declared) (w.named, refl) word.1 place op tty.elem (T.Assign' ty place op p target q value) value bits (λ e. value_of g.typed (layout g) (taken_bits bits op target value) value e) d word.1 (kept value isin)
+      fresh_assigned g has alive x (variable_info w.word (plain (scalar_type tty.elem)) w.start) (lives x w.declared) (w.named, refl) word.1 place op tty.elem (T.Assign' ty place op p target q value) value bits (λ e. value_of g.typed (layout g) (taken_bits bits op target value) value e) d word.1 (kept g.may value isin)
       (fresh (taken_bits bits op target value) d) (λ m b. other_grows m (taken_bits bits op target value) value c b)) v
 
   fresh_step : (bits : ℕ) (ty tty : ValueType) (op : StepOp) (order : StepOrder) (p : Boxed) (x : Variable) → IsWord tty → HasVariable g.typed g.instance n x (plain tty) → (d : Draft) → IsFresh d (value_of g.typed (layout g) bits (T.Step' ty op order p (T.Variable tty x)) d)
@@ -412,7 +412,7 @@ module _ (g : Setting) (has : HasRegisters g) (alive : Variable → Type 0) (n :
       subst (λ (t : ValueType). HasVariable g.typed g.instance n x (plain t) → IsFresh d (value_of g.typed (layout g) bits (T.Step' ty op order p (T.Variable t x)) d)) (sym (plain_type tty word.0)) (λ w.
       fresh_stepped g has alive x (variable_info w.word (plain (scalar_type tty.elem)) w.start) (lives x w.declared) (w.named, refl) word.1 scope active op order tty.elem (T.Step' ty op order p (T.Variable (scalar_type tty.elem) x)) bits d word.1) v
 
-  fresh_value : (bits : ℕ) (e : TExpr) → IsIn e → HasCode g.typed g.instance n e → (d : Draft) → IsFresh d (value_of g.typed (layout g) bits e d)
+  fresh_value : (bits : ℕ) (e : TExpr) → (IsIn g.may) e → HasCode g.typed g.instance n e → (d : Draft) → IsFresh d (value_of g.typed (layout g) bits e d)
   unfolding value_of IsIn IsVariable
   fresh_value bits (T.Number ty value) h c d = fresh_constant g has alive value d
   fresh_value bits (T.PositionsOf ty shape value) h c d = fresh_constant g has alive value d
@@ -421,7 +421,7 @@ module _ (g : Setting) (has : HasRegisters g) (alive : Variable → Type 0) (n :
   fresh_value bits (T.Variable ty x) h c d = fresh_variable g has alive ty x bits d h.0
   fresh_value bits (T.GetChar ty) h c d = fresh_byte g has alive d
   fresh_value bits (T.Brackets' ty p inner) h c d = fresh_value bits inner h.1 (brackets_code ty p inner c) d
-  fresh_value bits (T.Convert' ty p operand) h c d = fresh_converted ty bits p operand h.0.1 (kept operand h.1) d (fresh_value bits operand h.1 (convert_code ty p operand c) d)
+  fresh_value bits (T.Convert' ty p operand) h c d = fresh_converted ty bits p operand h.0.1 (kept g.may operand h.1) d (fresh_value bits operand h.1 (convert_code ty p operand c) d)
   fresh_value bits (T.Casts' ty elems p operand) h c d = fresh_casts g has alive ty false elems.items (type_of operand).elem h.0 h.1 (λ e. value_of g.typed (layout g) bits operand e) d (fresh_value bits operand h.2 (casts_code ty elems p operand c) d)
   fresh_value bits (T.Unary' ty op p operand) h c d =
       fresh_unary g has alive ty bits op (λ e. value_of g.typed (layout g) bits operand e) _ d h.0.0 (fresh_value bits operand h.1 (unary_code ty op p operand c) d) (operand_grows true (unary_bits bits op operand) operand (unary_code ty op p operand c))
@@ -431,7 +431,7 @@ module _ (g : Setting) (has : HasRegisters g) (alive : Variable → Type 0) (n :
   fresh_value bits (T.LogicalAnd' ty p left q right) h c d = fresh_logical g has alive false ty.shape bits (condition_of g.typed (layout g) left) (condition_of g.typed (layout g) right) d h.0.0 (condition_grows left (and_operands ty p q left right c).one) (condition_grows right (and_operands ty p q left right c).other)
   fresh_value bits (T.Choice' ty p test q first r second) h c d =
       let parts = choice_parts ty p q r test first second c in
-      fresh_choice g has alive ty bits (is_kept test) _ _ _ first second _ _ d h.0.0 (kept test h.1) (operand_grows (is_kept test || is_quiet first) (bits_of (kind_of test)) test parts.condition) (operand_grows true bits first parts.one) (operand_grows true bits second parts.other)
+      fresh_choice g has alive ty bits (is_kept test) _ _ _ first second _ _ d h.0.0 (kept g.may test h.1) (operand_grows (is_kept test || is_quiet first) (bits_of (kind_of test)) test parts.condition) (operand_grows true bits first parts.one) (operand_grows true bits second parts.other)
   fresh_value bits (T.Assign' ty place op p (T.Variable tty x) q value) h c d =
       let names = assign_names ty place op p q (T.Variable tty x) value c in
       fresh_assign bits ty tty place op p q x value h.2 (target_named tty x names.0) h.3 names.1 (λ m e. fresh_value m value h.3 names.1 e) d
@@ -441,7 +441,7 @@ module _ (g : Setting) (has : HasRegisters g) (alive : Variable → Type 0) (n :
   fresh_value bits _ h c d = absurd h
 
   -- an operand in its place leaves its register alone
-  clear_operand : (bits : ℕ) (e : TExpr) (code : Code) → IsIn e → NamesVariables g.typed g.instance n e → ((d : Draft) → IsFresh d (code d)) → (st : State) → ((x : Variable) (info : VarInfo) → alive x → IsScalar g x info → st.scalar x < 2 ^ info.elem.bits)
+  clear_operand : (bits : ℕ) (e : TExpr) (code : Code) → (IsIn g.may) e → NamesVariables g.typed g.instance n e → ((d : Draft) → IsFresh d (code d)) → (st : State) → ((x : Variable) (info : VarInfo) → alive x → IsScalar g x info → st.scalar x < 2 ^ info.elem.bits)
       → (d : Draft) → IsClear (layout g) d (operand_by g.typed (layout g) bits code true e d)
   unfolding operand_by in_place standing IsClear
   clear_operand bits e code isin names fresh st small d = by_held (held_in (layout g) e) refl
@@ -458,56 +458,56 @@ module _ (g : Setting) (has : HasRegisters g) (alive : Variable → Type 0) (n :
       by_held None is = by_place (own_of bits e) refl
       by_held (Some r) is = let h = held_stands (layout g) e r is in inl (below_values (layout g) (held (type_of e).elem h.word) r h.register)
 
-  operand_value : (quiet : Bool) (bits : ℕ) (e : TExpr) → IsIn e → HasCode g.typed g.instance n e → Agrees quiet bits e → Does g has alive (type_of e).elem quiet (λ st. evaluated scope e active st) (λ d. operand_by g.typed (layout g) bits (value_of g.typed (layout g) bits e) quiet e d)
+  operand_value : (quiet : Bool) (bits : ℕ) (e : TExpr) → (IsIn g.may) e → HasCode g.typed g.instance n e → Agrees quiet bits e → Does g has alive (type_of e).elem quiet (λ st. evaluated scope e active st) (λ d. operand_by g.typed (layout g) bits (value_of g.typed (layout g) bits e) quiet e d)
   operand_value quiet bits e h c agrees = operand_follows quiet bits e (λ d. value_of g.typed (layout g) bits e d) h c.names agrees
 
-  pub word_is_made : (bits : ℕ) (e : TExpr) → IsIn e → HasCode g.typed g.instance n e → GivesValue g.typed e → (d : Draft) → IsMadeWord (used_length_of g.typed (layout g) bits true e) d (operand_by g.typed (layout g) bits (value_of g.typed (layout g) bits e) true e d)
-  word_is_made bits e h c gives d = made_word g.typed e _ d _ (kept e h) gives ((expressions g.typed g.instance (layout g)).operand bits n true e d c (ready d))
+  pub word_is_made : (bits : ℕ) (e : TExpr) → (IsIn g.may) e → HasCode g.typed g.instance n e → GivesValue g.typed e → (d : Draft) → IsMadeWord (used_length_of g.typed (layout g) bits true e) d (operand_by g.typed (layout g) bits (value_of g.typed (layout g) bits e) true e d)
+  word_is_made bits e h c gives d = made_word g.typed e _ d _ (kept g.may e h) gives ((expressions g.typed g.instance (layout g)).operand bits n true e d c (ready d))
 
-  logical_value : (is_or : Bool) (ty : ValueType) (quiet : Bool) (bits : ℕ) (left right : TExpr) (next : Value → State → Outcome Value) → IsWord ty → IsIn left → IsIn right → AreOperands left right
+  logical_value : (is_or : Bool) (ty : ValueType) (quiet : Bool) (bits : ℕ) (left right : TExpr) (next : Value → State → Outcome Value) → IsWord ty → (IsIn g.may) left → (IsIn g.may) right → AreOperands left right
       → ((v : Value) (st : State) → next v st ≡ joined is_or (λ u. evaluated scope right active u) (nonzero (number v)) st) → Agrees true (bits_of (kind_of left)) left → Agrees true (bits_of (kind_of right)) right
       → Does g has alive ty.elem quiet (λ st. then_do (evaluated scope left active st) next) (λ d. logical_by is_or ty.shape bits (condition_of g.typed (layout g) left) (condition_of g.typed (layout g) right) d)
   unfolding condition_by
   logical_value is_or ty quiet bits left right next word h k c next_is one other =
-      logical_follows g has alive is_or ty quiet (type_of left).elem (type_of right).elem _ _ _ _ (λ st. evaluated scope left active st) (λ st. evaluated scope right active st) next word (word_type left h).1 (word_type right k).1
+      logical_follows g has alive is_or ty quiet (type_of left).elem (type_of right).elem _ _ _ _ (λ st. evaluated scope left active st) (λ st. evaluated scope right active st) next word (word_type g.may left h).1 (word_type g.may right k).1
       (operand_value true (bits_of (kind_of left)) left h c.one one) (operand_value true (bits_of (kind_of right)) right k c.other other)
       (word_is_made (bits_of (kind_of left)) left h c.one c.one_gives) (word_is_made (bits_of (kind_of right)) right k c.other c.other_gives) next_is
       bits (condition_of g.typed (layout g) left) (condition_of g.typed (layout g) right) refl refl refl
 
-  arm_is_made : (ty : ValueType) (bits : ℕ) (e : TExpr) → ty.shape ≡ None → IsIn e → HasCode g.typed g.instance n e → GivesValue g.typed e → (r : ℕ) (d : Draft) → IsMadeTo r (arm_length_of g.typed (layout g) ty bits e) d (arm_of g.typed (layout g) bits e (O.Scalar r) d)
+  arm_is_made : (ty : ValueType) (bits : ℕ) (e : TExpr) → ty.shape ≡ None → (IsIn g.may) e → HasCode g.typed g.instance n e → GivesValue g.typed e → (r : ℕ) (d : Draft) → IsMadeTo r (arm_length_of g.typed (layout g) ty bits e) d (arm_of g.typed (layout g) bits e (O.Scalar r) d)
   unfolding arm_length_of arm_of
   arm_is_made ty bits e scalar h c gives r d =
       subst (λ (o : Option ℕ). IsMadeTo r (arm_length (is_none o) (used_length_of g.typed (layout g) bits true e) e) d (arm_by (next_of g.typed (layout g) bits true e) e (O.Scalar r) d)) (sym scalar)
       (arm_made g r (used_length_of g.typed (layout g) bits true e) (next_of g.typed (layout g) bits true e) e d (word_is_made bits e h c gives d))
 
-  arm_does : (elem : Elem) (bits : ℕ) (e : TExpr) → elem.bits ≡ 32 → IsIn e → HasCode g.typed g.instance n e → GivesValue g.typed e → Agrees true bits e → Arm_does g has alive elem (λ st. evaluated scope e active st) (arm_of g.typed (layout g) bits e)
+  arm_does : (elem : Elem) (bits : ℕ) (e : TExpr) → elem.bits ≡ 32 → (IsIn g.may) e → HasCode g.typed g.instance n e → GivesValue g.typed e → Agrees true bits e → Arm_does g has alive elem (λ st. evaluated scope e active st) (arm_of g.typed (layout g) bits e)
   unfolding arm_of
   arm_does elem bits e wide h c gives agrees =
-      arm_follows g has alive elem (type_of e).elem _ e (next_of g.typed (layout g) bits true e) (λ st. evaluated scope e active st) wide (word_type e h).1 (operand_value true bits e h c agrees) (word_is_made bits e h c gives) (λ w is. constant_arm scope active e w h is)
+      arm_follows g has alive elem (type_of e).elem _ e (next_of g.typed (layout g) bits true e) (λ st. evaluated scope e active st) wide (word_type g.may e h).1 (operand_value true bits e h c agrees) (word_is_made bits e h c gives) (λ w is. constant_arm g.may scope active e w h is)
 
   -- `?:` into the register of which something is said
-  pub choice_goes : (ty : ValueType) (bits : ℕ) (test first second : TExpr) → IsWord ty → IsIn test → IsIn first → IsIn second → AreChosen test first second → Agrees true (bits_of (kind_of test)) test → Agrees true bits first → Agrees true bits second
+  pub choice_goes : (ty : ValueType) (bits : ℕ) (test first second : TExpr) → IsWord ty → (IsIn g.may) test → (IsIn g.may) first → (IsIn g.may) second → AreChosen test first second → Agrees true (bits_of (kind_of test)) test → Agrees true bits first → Agrees true bits second
       → (d : Draft) (s : CodeState) (st : State) (R : Value → State → Out → Draft → Type 0) (r : ℕ) → g.begins ≤ d.regs → At g s (length d.code) → Sim g alive st s → Dest g has alive ty.elem d s R r → Lands g has alive r R
       → Follows g R s (then_do (evaluated scope test active st) (λ v after. choose (type_of test).shape v (evaluated scope first) (evaluated scope second) active after)) (scalar_choice_of g.typed (layout g) ty bits test first second (O.Scalar r) d)
   unfolding scalar_choice_of
   choice_goes ty bits test first second word h k m c tests one other d s st R r free here sim dest lands =
       scalar_choice_follows g has alive ty.elem (type_of test).elem _ _ _ (next_of g.typed (layout g) (bits_of (kind_of test)) true test) (arm_of g.typed (layout g) bits first) (arm_of g.typed (layout g) bits second)
-      (λ u. evaluated scope test active u) (λ u. evaluated scope first active u) (λ u. evaluated scope second active u) (λ v after. choose (type_of test).shape v (evaluated scope first) (evaluated scope second) active after) (word_type test h).1
+      (λ u. evaluated scope test active u) (λ u. evaluated scope first active u) (λ u. evaluated scope second active u) (λ v after. choose (type_of test).shape v (evaluated scope first) (evaluated scope second) active after) (word_type g.may test h).1
       (operand_value true (bits_of (kind_of test)) test h c.condition tests) (arm_does ty.elem bits first word.1 k c.one c.one_gives one) (arm_does ty.elem bits second word.1 m c.other c.other_gives other)
       (word_is_made (bits_of (kind_of test)) test h c.condition c.condition_gives) (arm_is_made ty bits first word.0 k c.one c.one_gives) (arm_is_made ty bits second word.0 m c.other c.other_gives)
-      (λ v u. choose_is (type_of test).shape v (evaluated scope first) (evaluated scope second) active u (word_type test h).0) d s st R r free here sim dest lands
+      (λ v u. choose_is (type_of test).shape v (evaluated scope first) (evaluated scope second) active u (word_type g.may test h).0) d s st R r free here sim dest lands
 
-  choice_value : (ty : ValueType) (quiet : Bool) (bits : ℕ) (p q r : Boxed) (test first second : TExpr) → IsWord ty → IsIn test → IsIn first → IsIn second → AreChosen test first second → Agrees true (bits_of (kind_of test)) test → Agrees true bits first → Agrees true bits second
+  choice_value : (ty : ValueType) (quiet : Bool) (bits : ℕ) (p q r : Boxed) (test first second : TExpr) → IsWord ty → (IsIn g.may) test → (IsIn g.may) first → (IsIn g.may) second → AreChosen test first second → Agrees true (bits_of (kind_of test)) test → Agrees true bits first → Agrees true bits second
       → Does g has alive ty.elem quiet (λ st. then_do (evaluated scope test active st) (λ v after. choose (type_of test).shape v (evaluated scope first) (evaluated scope second) active after)) (λ d. value_of g.typed (layout g) bits (T.Choice' ty p test q first r second) d)
   unfolding value_of scalar_choice_of arm_of
   choice_value ty quiet bits p q r test first second word h k m c tests one other d s st free here sim =
       subst (λ (made : Made Out). Follows g (Value_of g has alive ty.elem quiet d s) s (then_do (evaluated scope test active st) (λ v after. choose (type_of test).shape v (evaluated scope first) (evaluated scope second) active after)) made)
       (sym (ap (λ (b : Bool). choice_by ty bits (is_kept test) (operand_by g.typed (layout g) (bits_of (kind_of test)) (λ e. value_of g.typed (layout g) (bits_of (kind_of test)) test e) (b || is_quiet first) test) (arm_of g.typed (layout g) bits first) (arm_of g.typed (layout g) bits second)
-      (arm_length_of g.typed (layout g) ty bits first) (arm_length_of g.typed (layout g) ty bits second) d) (kept test h)
+      (arm_length_of g.typed (layout g) ty bits first) (arm_length_of g.typed (layout g) ty bits second) d) (kept g.may test h)
       ∙ choice_is ty bits (is_kept test) (next_of g.typed (layout g) (bits_of (kind_of test)) true test) (arm_of g.typed (layout g) bits first) (arm_of g.typed (layout g) bits second)
-      (arm_length_of g.typed (layout g) ty bits first) (arm_length_of g.typed (layout g) ty bits second) d word.0 (kept test h)))
+      (arm_length_of g.typed (layout g) ty bits first) (arm_length_of g.typed (layout g) ty bits second) d word.0 (kept g.may test h)))
       (choice_goes ty bits test first second word h k m c tests one other (with_reg d) s st (Value_of g has alive ty.elem quiet d s) d.regs (omega (arith, free)) here sim (fresh_dest g has alive ty.elem quiet d s free) (fresh_lands g has alive ty.elem quiet d s d.regs))
-  assign_value : (quiet : Bool) (bits : ℕ) (ty tty : ValueType) (place : Place) (op : AssignOp) (p q : Boxed) (x : Variable) (value : TExpr) → IsWord tty → ty ≡ tty → HasVariable g.typed g.instance n x (plain tty) → IsIn value → HasCode g.typed g.instance n value
+  assign_value : (quiet : Bool) (bits : ℕ) (ty tty : ValueType) (place : Place) (op : AssignOp) (p q : Boxed) (x : Variable) (value : TExpr) → IsWord tty → ty ≡ tty → HasVariable g.typed g.instance n x (plain tty) → (IsIn g.may) value → HasCode g.typed g.instance n value
       → ((m : ℕ) (d : Draft) → IsFresh d (value_of g.typed (layout g) m value d)) → ((calm : Bool) (m : ℕ) → Agrees calm m value) → Agrees quiet bits (T.Assign' ty place op p (T.Variable tty x) q value)
   unfolding value_of evaluated located then_do variable_target
   assign_value quiet bits ty tty place op p q x value word same v isin c fresh agrees =
@@ -517,7 +517,7 @@ module _ (g : Setting) (has : HasRegisters g) (alive : Variable → Type 0) (n :
       let m : ℕ = taken_bits bits op target value in
       let code : Code = λ e. value_of g.typed (layout g) m value e in
       assigned_value g has alive x (variable_info w.word (plain (scalar_type tty.elem)) w.start) (lives x w.declared) (w.named, refl) word.1 scope active place op tty.elem (T.Assign' (scalar_type tty.elem) place op p target q value) value bits quiet code (λ st. evaluated scope value active st) word.1
-      (word_type value isin) (kept value isin) (agrees false m) (λ k. operand_follows true k value code isin c.names (agrees true m)) (λ k st s sim d. clear_operand k value code isin c.names (fresh m) st sim.small d)) v)
+      (word_type g.may value isin) (kept g.may value isin) (agrees false m) (λ k. operand_follows true k value code isin c.names (agrees true m)) (λ k st s sim d. clear_operand k value code isin c.names (fresh m) st sim.small d)) v)
 
   step_value_follows : (quiet : Bool) (bits : ℕ) (ty tty : ValueType) (op : StepOp) (order : StepOrder) (p : Boxed) (x : Variable) → IsWord tty → ty ≡ tty → HasVariable g.typed g.instance n x (plain tty) → Agrees quiet bits (T.Step' ty op order p (T.Variable tty x))
   unfolding value_of evaluated located then_do variable_target
@@ -526,7 +526,7 @@ module _ (g : Setting) (has : HasRegisters g) (alive : Variable → Type 0) (n :
       (subst (λ (t : ValueType). HasVariable g.typed g.instance n x (plain t) → Agrees quiet bits (T.Step' t op order p (T.Variable t x))) (sym (plain_type tty word.0)) (λ w.
       stepped_value g has alive x (variable_info w.word (plain (scalar_type tty.elem)) w.start) (lives x w.declared) (w.named, refl) word.1 scope active op order tty.elem word.1 quiet bits (T.Step' (scalar_type tty.elem) op order p (T.Variable (scalar_type tty.elem) x))) v)
 
-  pub value_follows : (quiet : Bool) (bits : ℕ) (e : TExpr) → IsIn e → HasCode g.typed g.instance n e → Agrees quiet bits e
+  pub value_follows : (quiet : Bool) (bits : ℕ) (e : TExpr) → (IsIn g.may) e → HasCode g.typed g.instance n e → Agrees quiet bits e
   unfolding evaluated value_of IsIn IsVariable
   value_follows quiet bits (T.Number ty value) h c = λ d s st free here sim. constant_follows g has alive ty.elem quiet value d s st h.0.1 h.1 free here sim
   value_follows quiet bits (T.PositionsOf ty shape value) h c = λ d s st free here sim. constant_follows g has alive ty.elem quiet value d s st h.0.1 h.1 free here sim
@@ -538,25 +538,25 @@ module _ (g : Setting) (has : HasRegisters g) (alive : Variable → Type 0) (n :
   value_follows quiet bits (T.GetChar ty) h c = byte_follows g has alive ty.elem quiet h.1
   value_follows quiet bits (T.Brackets' ty p inner) h c = bracketed ty inner quiet _ _ h.0 (value_follows quiet bits inner h.1 (brackets_code ty p inner c))
   value_follows quiet bits (T.Convert' ty p operand) h c =
-      converts ty quiet bits p operand (kept operand h.1) (conversion_follows ty quiet (type_of operand).elem _ _ h.0 (value_follows quiet bits operand h.1 (convert_code ty p operand c)))
+      converts ty quiet bits p operand (kept g.may operand h.1) (conversion_follows ty quiet (type_of operand).elem _ _ h.0 (value_follows quiet bits operand h.1 (convert_code ty p operand c)))
   value_follows quiet bits (T.Casts' ty elems p operand) h c =
       let part = casts_code ty elems p operand c in
       casts_follow g has alive ty quiet elems.items (type_of operand).elem h.0 h.1 (λ d. value_of g.typed (layout g) bits operand d) (λ st. evaluated scope operand active st) (λ d. fresh_value bits operand h.2 part d) (value_follows false bits operand h.2 part)
   value_follows quiet bits (T.Unary' ty op p operand) h c =
-      unary_value ty quiet bits op operand h.0 (word_type operand h.1).1 (value_follows quiet bits operand h.1 (unary_code ty op p operand c)) (operand_value true (unary_bits bits op operand) operand h.1 (unary_code ty op p operand c) (value_follows true (unary_bits bits op operand) operand h.1 (unary_code ty op p operand c)))
+      unary_value ty quiet bits op operand h.0 (word_type g.may operand h.1).1 (value_follows quiet bits operand h.1 (unary_code ty op p operand c)) (operand_value true (unary_bits bits op operand) operand h.1 (unary_code ty op p operand c) (value_follows true (unary_bits bits op operand) operand h.1 (unary_code ty op p operand c)))
   value_follows quiet bits (T.Binary' ty place op p left q right) h c =
       let one_code = left_code ty place op p q left right c in
       let other_code = right_code ty place op p q left right c in
-      binary_follows g has alive ty (is_quiet right) op place (type_of left).elem (type_of right).elem _ (λ st. evaluated scope right active st) scope active h.0 (word_type left h.1).1 (word_type right h.2).1
+      binary_follows g has alive ty (is_quiet right) op place (type_of left).elem (type_of right).elem _ (λ st. evaluated scope right active st) scope active h.0 (word_type g.may left h.1).1 (word_type g.may right h.2).1
       (λ st calm. Quiet.expression scope right active st calm) (operand_value true (operand_bits bits op left right) right h.2 other_code (value_follows true (operand_bits bits op left right) right h.2 other_code)) (operand_grows true (operand_bits bits op left right) right other_code) quiet bits left right _
       (λ st. evaluated scope left active st) refl (operand_value (is_quiet right) (operand_bits bits op left right) left h.1 one_code (value_follows (is_quiet right) (operand_bits bits op left right) left h.1 one_code))
   value_follows quiet bits (T.LogicalOr' ty p left q right) h c =
       let o = or_operands ty p q left right c in
-      logical_value true ty quiet bits left right (λ v after. or_then ty.shape (type_of left).shape v (evaluated scope right) active after) h.0 h.1 h.2 o (λ v st. or_is ty.shape (type_of left).shape v (evaluated scope right) active st h.0.0 (word_type left h.1).0)
+      logical_value true ty quiet bits left right (λ v after. or_then ty.shape (type_of left).shape v (evaluated scope right) active after) h.0 h.1 h.2 o (λ v st. or_is ty.shape (type_of left).shape v (evaluated scope right) active st h.0.0 (word_type g.may left h.1).0)
       (value_follows true (bits_of (kind_of left)) left h.1 o.one) (value_follows true (bits_of (kind_of right)) right h.2 o.other)
   value_follows quiet bits (T.LogicalAnd' ty p left q right) h c =
       let o = and_operands ty p q left right c in
-      logical_value false ty quiet bits left right (λ v after. and_then ty.shape (type_of left).shape v (evaluated scope right) active after) h.0 h.1 h.2 o (λ v st. and_is ty.shape (type_of left).shape v (evaluated scope right) active st h.0.0 (word_type left h.1).0)
+      logical_value false ty quiet bits left right (λ v after. and_then ty.shape (type_of left).shape v (evaluated scope right) active after) h.0 h.1 h.2 o (λ v st. and_is ty.shape (type_of left).shape v (evaluated scope right) active st h.0.0 (word_type g.may left h.1).0)
       (value_follows true (bits_of (kind_of left)) left h.1 o.one) (value_follows true (bits_of (kind_of right)) right h.2 o.other)
   value_follows quiet bits (T.Choice' ty p test q first r second) h c =
       let o = choice_parts ty p q r test first second c in
@@ -569,5 +569,5 @@ module _ (g : Setting) (has : HasRegisters g) (alive : Variable → Type 0) (n :
   value_follows quiet bits (T.Step' ty op order p _) h c = absurd h.2
   value_follows quiet bits _ h c = absurd h
 
-  pub operand : (quiet : Bool) (bits : ℕ) (e : TExpr) → IsIn e → HasCode g.typed g.instance n e → Does g has alive (type_of e).elem quiet (λ st. evaluated scope e active st) (λ d. operand_by g.typed (layout g) bits (value_of g.typed (layout g) bits e) quiet e d)
+  pub operand : (quiet : Bool) (bits : ℕ) (e : TExpr) → (IsIn g.may) e → HasCode g.typed g.instance n e → Does g has alive (type_of e).elem quiet (λ st. evaluated scope e active st) (λ d. operand_by g.typed (layout g) bits (value_of g.typed (layout g) bits e) quiet e d)
   operand quiet bits e h c = operand_value quiet bits e h c (value_follows quiet bits e h c)

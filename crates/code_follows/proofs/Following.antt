@@ -35,6 +35,7 @@ input_of st = record { bytes = st.input; mark = mark_of st.rest }
 pub record HasRegisters (g : Setting) : Type 0 where
   pub below : (x : Variable) (info : VarInfo) → variable_named g.typed g.instance x ≡ Some info → register_of (layout g) x < (layout g).end
   pub free : first_free (layout g) ≤ g.begins
+  pub behind_files : length g.typed.vars.items ≤ (layout g).base
   pub room : (layout g).end ≤ g.image.slots
   pub result : result_register (layout g) < (layout g).end
   pub result_apart : (x : Variable) (info : VarInfo) → variable_named g.typed g.instance x ≡ Some info → register_of (layout g) x ≡ result_register (layout g) → ⊥

@@ -74,7 +74,7 @@ module _ (g : Setting) (has : HasRegisters g) (alive : Variable → Type 0) (eve
   effect_ran d s (Source.Gives v u) Fails h = tt
   effect_ran d s (Source.Ends early u) Fails h = tt
 
-  part_follows : (n : ℕ) (o : Option TExpr) → IfSome o IsEffect → IfSome o (HasCode g.typed g.instance n) → (d : Draft) (s : CodeState) (st : State) → g.begins ≤ d.regs → At g s (length d.code) → Sim g alive st s
+  part_follows : (n : ℕ) (o : Option TExpr) → IfSome o (IsEffect g.may) → IfSome o (HasCode g.typed g.instance n) → (d : Draft) (s : CodeState) (st : State) → g.begins ≤ d.regs → At g s (length d.code) → Sim g alive st s
       → Follows g (RanOn g alive d s) s (done scope active o st) (part_of g.typed (layout g) o d)
   unfolding done part_of Follows
   part_follows n None h c d s st free here sim = λ within. (refl, record { grown = (0, as_it_was d); t = s; go = stay g s; at = here; sim = sim; keeps = keeps_all g d s })
@@ -98,7 +98,7 @@ module _ (g : Setting) (has : HasRegisters g) (alive : Variable → Type 0) (eve
   part_code n None shaped lowerable names = tt
   part_code n (Some e) shaped lowerable names = record { shaped = shaped; lowerable = lowerable; names = names }
 
-  module _ (first step : Option TExpr) (test : TExpr) (p : Boxed) (body : TStmt) (begins : IfSome first IsEffect) (isin : IsIn test) (steps : IfSome step IsEffect) (agrees : Agrees g has alive every numbers ready declares scope active body) where
+  module _ (first step : Option TExpr) (test : TExpr) (p : Boxed) (body : TStmt) (begins : IfSome first (IsEffect g.may)) (isin : (IsIn g.may) test) (steps : IfSome step (IsEffect g.may)) (agrees : Agrees g has alive every numbers ready declares scope active body) where
     abbrev whole : TStmt
     whole = S.For' first (Some test) step p body
 
@@ -250,7 +250,7 @@ module _ (g : Setting) (has : HasRegisters g) (alive : Variable → Type 0) (eve
         (λ u ran. follows_from g alive f d b.e ran.grown.0 s0 ran.t (go_round u) (Makes (behind n body) (behind_loop f n d framed among none c)) ran.grown.1 ran.go ran.keeps (turns_follow f n d framed among none c ran.t u (omega (arith, free, longer)) ran.at ran.sim))))
 
   -- `while` is `for` with its condition alone
-  module _ (test : TExpr) (p : Boxed) (body : TStmt) (isin : IsIn test) (agrees : Agrees g has alive every numbers ready declares scope active body) where
+  module _ (test : TExpr) (p : Boxed) (body : TStmt) (isin : (IsIn g.may) test) (agrees : Agrees g has alive every numbers ready declares scope active body) where
     abbrev as_for : TStmt
     as_for = S.For' None (Some test) None p body
 
@@ -281,7 +281,7 @@ module _ (g : Setting) (has : HasRegisters g) (alive : Variable → Type 0) (eve
         (for_agrees None None test p body tt isin tt agrees f n d s0 st framed among none free at sim (while_code n c))
 
   -- `do`
-  module _ (test : TExpr) (p : Boxed) (body : TStmt) (isin : IsIn test) (agrees : Agrees g has alive every numbers ready declares scope active body) where
+  module _ (test : TExpr) (p : Boxed) (body : TStmt) (isin : (IsIn g.may) test) (agrees : Agrees g has alive every numbers ready declares scope active body) where
     module _ (f : Frame) (n : ℕ) (d : Draft) (framed : StandsIn g f) (among : StandsAmong f []) (none : d.homes ≡ []) (c : HasStatementCode g.typed g.instance n (S.Do' p body test)) where
       abbrev do_long : ℕ
       do_long = statement_length_of g.typed (layout g) (has_result f) (at_loop f.saved) body

@@ -3,6 +3,7 @@ pub mod Beginnings
 pub mod Bodies
 pub mod Branching
 pub mod Bytes
+pub mod Callees
 pub mod Casts
 pub mod Changing
 pub mod Choices

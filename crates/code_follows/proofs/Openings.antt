@@ -22,7 +22,7 @@ use Rattle.code_follows.proofs.Declaring.{all_first, all_rest}
 use Rattle.code_follows.proofs.Standing.{start_in}
 use Rattle.std.specs.Prelude.{fold, is_none, take}
 use Rattle.lower_base.specs.Layouts.{Numbering, Registers, behind, earlier_base, entered, first_named, entries_of, layout_of, nothing_numbered, numbered, param_entries, register_of, registers_of, result_register, with_instance, with_local}
-use Rattle.code_follows.specs.Fragment.{IsPlainVariable, IsScalarProgram, IsWordVariable}
+use Rattle.code_follows.specs.Fragment.{IsPlainVariable, IsScalarProgram, IsWordVariable, none_may}
 use Rattle.code_lengths.proofs.Drafting.{and_instr, as_it_was, extended}
 use Rattle.lower_base.specs.Constants.{first_free}
 use Rattle.paris_code.specs.declared.program.Owner.TheVariants as W
@@ -150,7 +150,7 @@ module _ (t : Typed) (p : IsScalarProgram t) (words : List ℕ) where
       by None = let own = numbered_length (variables_of p.main.body) nothing_numbered in let none : length p.main.params.items ≡ 0 = ap (λ (xs : List VarInfo). length xs) p.params in omega (arith, own, none)
       by (Some k) = let own = numbered_length (variables_of p.main.body) nothing_numbered in let none : length p.main.params.items ≡ 0 = ap (λ (xs : List VarInfo). length xs) p.params in omega (arith, own, none)
 
-  base_is : own_layout.base ≡ length t.vars.items
+  pub base_is : own_layout.base ≡ length t.vars.items
   unfolding layout_of entered registers_of with_instance earlier_base no_numbers
   base_is = subst (λ (xs : List Instance). (elim (slice_get (fold (with_instance xs) (record { bases = []; end = length t.vars.items }) xs).bases 0) as (λ _. ℕ) [ None ↦ 0 | Some base ↦ base ]) ≡ length t.vars.items) (sym p.instances) (by (first_named 0 p.main.name (p.main ∷ [])))
     where
@@ -296,6 +296,7 @@ module _ (t : Typed) (image : Image) (p : IsScalarProgram t) (codable : IsCodabl
     spared = λ r. ⊥;
     returns = [];
     most = turns;
+    may = none_may;
   }
 
   pub slots_are : image.slots ≡ has_unit.unit.regs

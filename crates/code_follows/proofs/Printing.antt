@@ -94,7 +94,7 @@ module _ (g : Setting) (has : HasRegisters g) (alive : Variable → Type 0) (n :
   unfolding are_quiet
   first_quiet quiet e rest calm is = Quiet.both (is_quiet e) (are_quiet rest) (calm is)
 
-  arguments_follow : {k : Count} (quiet : Bool) (row : Row_of-TExpr k) → (quiet ≡ true → are_quiet row ≡ true) → AreIn row → HaveCode g.typed g.instance n row → (outs : List Out) (d : Draft) (s : CodeState) (st : State) → g.begins ≤ d.regs → At g s (length d.code) → Sim g alive st s
+  arguments_follow : {k : Count} (quiet : Bool) (row : Row_of-TExpr k) → (quiet ≡ true → are_quiet row ≡ true) → (AreIn g.may) row → HaveCode g.typed g.instance n row → (outs : List Out) (d : Draft) (s : CodeState) (st : State) → g.begins ≤ d.regs → At g s (length d.code) → Sim g alive st s
       → Follows g (Given quiet d s st outs) s (operands scope row active st) (values_of g.typed (layout g) false quiet row outs d)
   unfolding AreIn HaveCode operands values_of Follows AreHeld state_behind
   arguments_follow quiet end_of-TExpr calm h c outs d s st free here sim = λ within. record {
@@ -133,7 +133,7 @@ module _ (g : Setting) (has : HasRegisters g) (alive : Variable → Type 0) (n :
             same = λ is. r.same is ∙ still is;
             more = out ∷ r.more;
             is = r.is ∙ append_assoc outs (out ∷ []) r.more;
-            held = ((word_type e h.0).1, holds_later (type_of e).elem quiet after later r.grown.0 u w arr.t r.t out v r.grown.1 r.keeps r.same arr.holds, r.held);
+            held = ((word_type g.may e h.0).1, holds_later (type_of e).elem quiet after later r.grown.0 u w arr.t r.t out v r.grown.1 r.keeps r.same arr.holds, r.held);
           })
 
   -- ---- the pieces
@@ -221,7 +221,7 @@ module _ (g : Setting) (has : HasRegisters g) (alive : Variable → Type 0) (n :
   arguments_code end_of-TExpr shaped lowerable names = tt
   arguments_code (more_of-TExpr e rest) shaped lowerable names = (record { shaped = shaped.0; lowerable = lowerable.0; names = names.0 }, arguments_code rest shaped.1 lowerable.1 names.1)
 
-  pub printf_follows : {k : Count} (pieces : List Piece) (row : Row_of-TExpr k) → AreIn row → HaveCode g.typed g.instance n row → (d : Draft) (s : CodeState) (st : State) → g.begins ≤ d.regs → At g s (length d.code) → Sim g alive st s
+  pub printf_follows : {k : Count} (pieces : List Piece) (row : Row_of-TExpr k) → (AreIn g.may) row → HaveCode g.typed g.instance n row → (d : Draft) (s : CodeState) (st : State) → g.begins ≤ d.regs → At g s (length d.code) → Sim g alive st s
       → Follows g (λ v u out e. Ran g alive d s u e) s (then_do (operands scope row active st) (λ given after. Source.Gives Nothing (with_output (printed pieces (map number (given_values given))) after))) (then_make (values_of g.typed (layout g) false (are_quiet row) row [] d) (λ given after. pieces_printed pieces given after))
   printf_follows pieces row isin c d s st free here sim =
       then_follows g (Given (are_quiet row) d s st []) (λ v u out e. Ran g alive d s u e) s s (operands scope row active st) _ _ _ (stay g s) (arguments_follow (are_quiet row) row (λ is. is) isin c [] d s st free here sim) (λ given e. pieces_grow pieces given e)

@@ -57,7 +57,7 @@ use Rattle.code_follows.proofs.Closed.{NoJump, begins_closed, closed_row, go_clo
 use Rattle.code_follows.proofs.Endings.{NeverOnward, body_never, never_second}
 use Rattle.code_follows.proofs.Executing.{Left, Returns, RanOn, follows_from}
 use Rattle.code_follows.proofs.Following.{Extends, Follows, HasRegisters, Sim, held}
-use Rattle.code_follows.proofs.Openings.{unit_long, result_apart, result_below, all_declared, all_numbered, all_ready, apart, below, constants_grow, constants_run, empty_unit, ending, first_is, has_unit, main_is, named_word, no_homes, behind_files, end_is, starts_at_zero, with_starts, the_layout, the_setting, the_words, with_constants, within_all}
+use Rattle.code_follows.proofs.Openings.{base_is, unit_long, result_apart, result_below, all_declared, all_numbered, all_ready, apart, below, constants_grow, constants_run, empty_unit, ending, first_is, has_unit, main_is, named_word, no_homes, behind_files, end_is, starts_at_zero, with_starts, the_layout, the_setting, the_words, with_constants, within_all}
 use Rattle.code_follows.proofs.Returning.{left_at_end}
 use Rattle.code_follows.proofs.Statements.{StandsIn}
 use Rattle.code_follows.proofs.Settings.{onto, At, EndsIn, Reaches, Setting, Within, and_one, earlier, ends_later, ends_now, start}
@@ -91,7 +91,7 @@ module _ (t : Typed) (image : Image) (p : IsScalarProgram t) (codable : IsCodabl
   room_there = let grown = (constants_grow t image p codable compiled turns).regs in let whole = (within_all t image p codable compiled turns).regs in let longer = unit_long t image p codable compiled turns in omega (arith, grown, whole, longer)
 
   has : HasRegisters g
-  has = record { free = omega arith; room = room_there; spared_result = λ none. none; result = result_below t p (the_words t image p codable compiled turns); result_apart = result_apart t p (the_words t image p codable compiled turns); spared_variable = λ r none x info named e. none; spared_own = λ r none low high. none; below = below t p (the_words t image p codable compiled turns); apart = apart t p (the_words t image p codable compiled turns) }
+  has = record { free = omega arith; behind_files = let base = base_is t p (the_words t image p codable compiled turns) in omega (arith, base); room = room_there; spared_result = λ none. none; result = result_below t p (the_words t image p codable compiled turns); result_apart = result_apart t p (the_words t image p codable compiled turns); spared_variable = λ r none x info named e. none; spared_own = λ r none low high. none; below = below t p (the_words t image p codable compiled turns); apart = apart t p (the_words t image p codable compiled turns) }
 
   begins_at : start g ≡ 0
   begins_at = starts_at_zero compiled.after.units.items
@@ -295,7 +295,7 @@ module _ (t : Typed) (image : Image) (p : IsScalarProgram t) (codable : IsCodabl
           zero_anyway true = refl
           zero_anyway false = refl
 
-      body_comes : All IsInLocal locals → AreInStatements row → AreClosed row → StandFrom (variables_of p.main.body) 0 (map info_of locals) → AreCoded g has alive every (all_ready t p (the_words t image p codable compiled turns)) scope active 0 locals
+      body_comes : All (IsInLocal g.may) locals → (AreInStatements g.may) row → AreClosed row → StandFrom (variables_of p.main.body) 0 (map info_of locals) → AreCoded g has alive every (all_ready t p (the_words t image p codable compiled turns)) scope active 0 locals
           → RowCode g has alive every (all_numbered t p (the_words t image p codable compiled turns)) (all_ready t p (the_words t image p codable compiled turns)) (all_declared t p (the_words t image p codable compiled turns)) scope active falls (0 + length locals) row → (ends_in_return p.main.body ≡ true → (n : ℕ) (st : State) → NeverOnward (all_executed scope row n active st)) → Built locals row → ComesTo image opened (run_from body_run)
       unfolding Extends blank body_frame first_free zeroed ended with_end
       body_comes isin inside closed stand initial code never b =
@@ -311,7 +311,7 @@ module _ (t : Typed) (image : Image) (p : IsScalarProgram t) (codable : IsCodabl
           let free : first_free own ≤ begun_there.regs = omega (arith, free_before, longer) in
           let more = begins.1.regs in
           let sim : Sim g alive begun_body c.there = sim_same g alive in_main begun_body c.there same_scalars refl refl refl c.sim in
-          comes begun_there b.e b.n c.there body_run ends (go_closed _ _ (begins_closed scope active 0 locals begun_body) (λ u. closed_row scope active row inside closed (0 + length locals) u)) c.go
+          comes begun_there b.e b.n c.there body_run ends (go_closed _ _ (begins_closed g.may scope active 0 locals begun_body) (λ u. closed_row g.may scope active row inside closed (0 + length locals) u)) c.go
           (go_after g has alive every ready scope active begun_there c.there (Left g alive frame begun_there c.there) (initialised scope active 0 locals begun_body) (all_executed scope row (0 + length locals) active) tt b.begin (Makes b.n b.e)
           (subst (λ (m : Made (Unit {0})). Follows g (RanOn g alive begun_there c.there) c.there (initialised scope active 0 locals begun_body) m) b.started (initials_follow g has alive every ready scope active locals 0 begun_there c.there begun_body isin stand initial free c.at (sim_fewer g alive (Started locals 0) begun_body c.there (λ x h. every x) sim)))
           grown
@@ -325,7 +325,7 @@ module _ (t : Typed) (image : Image) (p : IsScalarProgram t) (codable : IsCodabl
           among : StandsAmong frame []
           among = record { loop = omega arith; all = refl }
 
-    runs : (body : TStmt) → p.main.body ≡ body → IsMainBody body → ComesTo image opened (meaning t input rest turns winner)
+    runs : (body : TStmt) → p.main.body ≡ body → (IsMainBody g.may) body → ComesTo image opened (meaning t input rest turns winner)
     unfolding IsMainBody IsShapedStatement IsLowerableStatement StatementNamesVariables body_of declared_in then_make meaning run_body executed body_frame
     runs (S.Block' locals q row) is h =
         let ready = all_ready t p (the_words t image p codable compiled turns) in

@@ -142,7 +142,7 @@ module _ (g : Setting) (has : HasRegisters g) (alive : Variable → Type 0) (n :
       (λ within. (dest ty.elem d s word.1 free).puts d 0 (I.FrontMove own (register_of (layout g) y)) s st (st.scalar y) (stay g s) here sim (as_it_was d) (keeps_all g d s) within refl
       (ap (λ (w : ℕ). Goes (with_register own w s)) there) (sim.small y other (lives y v.declared) (v.named, word.0))))
 
-  binary_put : (ty : ValueType) (place : Place) (op : Op) (left right : TExpr) → IsWord ty → IsIn left → IsIn right → HasCode g.typed g.instance n left → HasCode g.typed g.instance n right
+  binary_put : (ty : ValueType) (place : Place) (op : Op) (left right : TExpr) → IsWord ty → (IsIn g.may) left → (IsIn g.may) right → HasCode g.typed g.instance n left → HasCode g.typed g.instance n right
       → Puts (λ st. then_do (evaluated scope left active st) (λ v between. then_do (evaluated scope right active between) (λ w after. operated scope active ty place op (not (type_of left).elem.signed) v w after)))
       (λ d. register_binary_of g.typed (layout g) 32 op place left right own d)
   unfolding register_binary_of
@@ -151,8 +151,8 @@ module _ (g : Setting) (has : HasRegisters g) (alive : Variable → Type 0) (n :
       let first : Code = next_of g.typed (layout g) bits (is_quiet right) left in
       let second : Code = next_of g.typed (layout g) bits true right in
       subst (λ (b : Bool). Follows g (Put d s) s (then_do (evaluated scope left active st) (λ v between. then_do (evaluated scope right active between) (λ w after. operated scope active ty place op (not (type_of left).elem.signed) v w after))) (registers_by op b place own first second d))
-      (sym (wide_signed (type_of left).elem (word_type left one).1))
-      (registers_follow g has alive ty (is_quiet right) op place (type_of left).elem (type_of right).elem second (λ st. evaluated scope right active st) scope active word (word_type left one).1 (word_type right two).1
+      (sym (wide_signed (type_of left).elem (word_type g.may left one).1))
+      (registers_follow g has alive ty (is_quiet right) op place (type_of left).elem (type_of right).elem second (λ st. evaluated scope right active st) scope active word (word_type g.may left one).1 (word_type g.may right two).1
       (λ u calm. Quiet.expression scope right active u calm) (operand g has alive n lives ready scope active true bits right two e) (operand_grows g has alive n lives ready scope active true bits right e)
       d s (Put d s) own free (dest ty.elem d s word.1 free) st first (λ u. evaluated scope left active u) (operand g has alive n lives ready scope active (is_quiet right) bits left one c) here sim)
 
@@ -165,28 +165,28 @@ module _ (g : Setting) (has : HasRegisters g) (alive : Variable → Type 0) (n :
       subst (λ (made : Made Out). Follows g (Put d s) s (then_do (evaluated scope inner active st) (λ v after. Source.Gives (convert_to ty (type_of inner).elem v) after)) made)
       (sym (ap (λ (b : Bool). if b then computed_to g.typed (layout g) (O.Scalar own) inner d else converted_to g.typed (layout g) (O.Scalar own) (T.Convert' ty p inner) ty.elem inner d) (eq-eqb ty.elem.bits 32 word.1))) h
 
-  unary_put : (ty : ValueType) (op : UnaryOp) (p : Boxed) (inner : TExpr) → IsWord ty → IsIn inner → HasCode g.typed g.instance n inner → Puts (λ st. evaluated scope inner active st) (λ d. computed_to g.typed (layout g) (O.Scalar own) inner d)
+  unary_put : (ty : ValueType) (op : UnaryOp) (p : Boxed) (inner : TExpr) → IsWord ty → (IsIn g.may) inner → HasCode g.typed g.instance n inner → Puts (λ st. evaluated scope inner active st) (λ d. computed_to g.typed (layout g) (O.Scalar own) inner d)
       → Puts (λ st. then_do (evaluated scope inner active st) (λ v after. Source.Gives (mapped ty (unary_of op) v) after)) (λ d. computed_to g.typed (layout g) (O.Scalar own) (T.Unary' ty op p inner) d)
   unfolding computed_to is_plus bits_for
   unary_put ty U.Plus p inner word isin c puts = put_mapped ty word _ _ puts
   unary_put ty U.Minus p inner word isin c puts = λ d s st free here sim.
-      negated_follows g has alive ty U.Minus (type_of inner).elem (word_type inner isin).1 word refl d s (Put d s) own free (dest ty.elem d s word.1 free) st _ (λ u. evaluated scope inner active u) (operand g has alive n lives ready scope active true (unary_bits 32 U.Minus inner) inner isin c) here sim
+      negated_follows g has alive ty U.Minus (type_of inner).elem (word_type g.may inner isin).1 word refl d s (Put d s) own free (dest ty.elem d s word.1 free) st _ (λ u. evaluated scope inner active u) (operand g has alive n lives ready scope active true (unary_bits 32 U.Minus inner) inner isin c) here sim
   unary_put ty U.Complement p inner word isin c puts = λ d s st free here sim.
-      negated_follows g has alive ty U.Complement (type_of inner).elem (word_type inner isin).1 word refl d s (Put d s) own free (dest ty.elem d s word.1 free) st _ (λ u. evaluated scope inner active u) (operand g has alive n lives ready scope active true (unary_bits 32 U.Complement inner) inner isin c) here sim
+      negated_follows g has alive ty U.Complement (type_of inner).elem (word_type g.may inner isin).1 word refl d s (Put d s) own free (dest ty.elem d s word.1 free) st _ (λ u. evaluated scope inner active u) (operand g has alive n lives ready scope active true (unary_bits 32 U.Complement inner) inner isin c) here sim
   unary_put ty U.Not p inner word isin c puts = λ d s st free here sim.
-      negated_follows g has alive ty U.Not (type_of inner).elem (word_type inner isin).1 word refl d s (Put d s) own free (dest ty.elem d s word.1 free) st _ (λ u. evaluated scope inner active u) (operand g has alive n lives ready scope active true (unary_bits 32 U.Not inner) inner isin c) here sim
+      negated_follows g has alive ty U.Not (type_of inner).elem (word_type g.may inner isin).1 word refl d s (Put d s) own free (dest ty.elem d s word.1 free) st _ (λ u. evaluated scope inner active u) (operand g has alive n lives ready scope active true (unary_bits 32 U.Not inner) inner isin c) here sim
 
   -- `?:` computes the chosen value straight into the register
-  choice_put : (ty : ValueType) (p q r : Boxed) (test first second : TExpr) → IsWord ty → IsIn test → IsIn first → IsIn second → AreChosen g has alive n lives ready scope active test first second
+  choice_put : (ty : ValueType) (p q r : Boxed) (test first second : TExpr) → IsWord ty → (IsIn g.may) test → (IsIn g.may) first → (IsIn g.may) second → AreChosen g has alive n lives ready scope active test first second
       → Puts (λ st. then_do (evaluated scope test active st) (λ v after. choose (type_of test).shape v (evaluated scope first) (evaluated scope second) active after)) (λ d. computed_to g.typed (layout g) (O.Scalar own) (T.Choice' ty p test q first r second) d)
   unfolding computed_to bits_for
   choice_put ty p q r test first second word h k m c d s st free here sim =
       subst (λ (made : Made Out). Follows g (Put d s) s (then_do (evaluated scope test active st) (λ v after. choose (type_of test).shape v (evaluated scope first) (evaluated scope second) active after)) made)
-      (sym (ap (λ (b : Bool). if b then scalar_choice_of g.typed (layout g) ty 32 test first second (O.Scalar own) d else moved g.typed (layout g) (O.Scalar own) (T.Choice' ty p test q first r second) d) (kept test h)))
+      (sym (ap (λ (b : Bool). if b then scalar_choice_of g.typed (layout g) ty 32 test first second (O.Scalar own) d else moved g.typed (layout g) (O.Scalar own) (T.Choice' ty p test q first r second) d) (kept g.may test h)))
       (choice_goes g has alive n lives ready scope active ty 32 test first second word h k m c (value_follows g has alive n lives ready scope active true (bits_of (kind_of test)) test h c.condition) (value_follows g has alive n lives ready scope active true 32 first k c.one)
       (value_follows g has alive n lives ready scope active true 32 second m c.other) d s st (Put d s) own free here sim (dest ty.elem d s word.1 free) (put_lands g has alive x info living scalar d s own))
 
-  computed_follows : (e : TExpr) → IsIn e → HasCode g.typed g.instance n e → Puts (λ st. evaluated scope e active st) (λ d. computed_to g.typed (layout g) (O.Scalar own) e d)
+  computed_follows : (e : TExpr) → (IsIn g.may) e → HasCode g.typed g.instance n e → Puts (λ st. evaluated scope e active st) (λ d. computed_to g.typed (layout g) (O.Scalar own) e d)
   unfolding computed_to evaluated IsIn moved bits_for binary_to in_register logical_to
   computed_follows (T.Number ty value) h c = copied_to ty.elem h.0.1 _ _ (operand g has alive n lives ready scope active true 32 (T.Number ty value) h c)
   computed_follows (T.PositionsOf ty shape value) h c = copied_to ty.elem h.0.1 _ _ (operand g has alive n lives ready scope active true 32 (T.PositionsOf ty shape value) h c)
@@ -196,7 +196,7 @@ module _ (g : Setting) (has : HasRegisters g) (alive : Variable → Type 0) (n :
   computed_follows (T.GetChar ty) h c = λ d s st free here sim. byte_put g has alive x info living scalar also d s st free here sim
   computed_follows (T.Brackets' ty p inner) h c = computed_follows inner h.1 (brackets_code g has alive n lives ready scope active ty p inner c)
   computed_follows (T.Convert' ty p operand) h c = λ d s st free here sim.
-      unchanged ty p operand h.0 d s st (put_converted ty (type_of operand).elem h.0 (word_type operand h.1).1 _ _ (computed_follows operand h.1 (convert_code g has alive n lives ready scope active ty p operand c)) d s st free here sim)
+      unchanged ty p operand h.0 d s st (put_converted ty (type_of operand).elem h.0 (word_type g.may operand h.1).1 _ _ (computed_follows operand h.1 (convert_code g has alive n lives ready scope active ty p operand c)) d s st free here sim)
   computed_follows (T.Casts' ty elems p inner) h c = copied_to ty.elem h.0.1 _ _ (operand g has alive n lives ready scope active true 32 (T.Casts' ty elems p inner) h c)
   computed_follows (T.Unary' ty op p inner) h c = unary_put ty op p inner h.0 h.1 (unary_code g has alive n lives ready scope active ty op p inner c) (computed_follows inner h.1 (unary_code g has alive n lives ready scope active ty op p inner c))
   computed_follows (T.Binary' ty place op p left q right) h c = binary_put ty place op left right h.0 h.1 h.2 (left_code g has alive n lives ready scope active ty place op p q left right c) (right_code g has alive n lives ready scope active ty place op p q left right c)
@@ -208,16 +208,16 @@ module _ (g : Setting) (has : HasRegisters g) (alive : Variable → Type 0) (n :
   computed_follows _ h c = absurd h
 
   -- a constant goes to the register at once
-  word_put_follows : (e : TExpr) (w : ℕ) → IsIn e → is_constant e ≡ true → Const.value_of e ≡ Some w → Puts (λ st. evaluated scope e active st) (λ d. Makes (O.Scalar own) (with_instr (I.FrontConst own (held (type_of e).elem w)) d))
+  word_put_follows : (e : TExpr) (w : ℕ) → (IsIn g.may) e → is_constant e ≡ true → Const.value_of e ≡ Some w → Puts (λ st. evaluated scope e active st) (λ d. Makes (O.Scalar own) (with_instr (I.FrontConst own (held (type_of e).elem w)) d))
   unfolding Follows begun step_of
   word_put_follows e w isin constant value d s st free here sim =
-      let few : w < 2 ^ 32 = subst (λ (o : Option ℕ). IfSome o (λ v. v < 2 ^ 32)) value (constant_below e isin) in
-      let wide = (word_type e isin).1 in
+      let few : w < 2 ^ 32 = subst (λ (o : Option ℕ). IfSome o (λ v. v < 2 ^ 32)) value (constant_below g.may e isin) in
+      let wide = (word_type g.may e isin).1 in
       let gives : evaluated scope e active st ≡ Source.Gives (Scalar w) st = subst (λ (o : Option ℕ). Const.IsValueOf e o) value (value_means e constant) scope active st in
       subst (λ (o : Outcome Value). Follows g (Put d s) s o (Makes (O.Scalar own) (with_instr (I.FrontConst own (held (type_of e).elem w)) d))) (sym gives)
       (λ within. (dest (type_of e).elem d s wide free).puts d 0 (I.FrontConst own (held (type_of e).elem w)) s st w (stay g s) here sim (as_it_was d) (keeps_all g d s) within refl refl (below_bits (type_of e).elem.bits w wide few))
 
-  pub put_follows : (e : TExpr) → IsIn e → HasCode g.typed g.instance n e → Puts (λ st. evaluated scope e active st) (λ d. put_to g.typed (layout g) (O.Scalar own) e d)
+  pub put_follows : (e : TExpr) → (IsIn g.may) e → HasCode g.typed g.instance n e → Puts (λ st. evaluated scope e active st) (λ d. put_to g.typed (layout g) (O.Scalar own) e d)
   unfolding put_to word_for word_put register_word constant_of
   put_follows e isin c d s st free here sim = by (is_constant e) (Const.value_of e) refl refl
     where

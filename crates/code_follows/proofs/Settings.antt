@@ -16,6 +16,7 @@ use Rattle.paris_code.specs.declared.program.Unit.{Unit as CodeUnit}
 use Rattle.paris_code.specs.Code.{CodeEnd, CodeState, Ends, Goes, Next, begun, begun_at, code, go_on, step}
 use Rattle.paris_code.specs.Moving.{moved_instr}
 use Rattle.paris_code.specs.Proper.{IsUnit}
+use Rattle.code_follows.specs.Fragment.{May}
 use Rattle.code_follows.proofs.Standing.{stands, start_in}
 
 pub record Setting : Type 1 where
@@ -32,13 +33,15 @@ pub record Setting : Type 1 where
   pub instance : Instance
   pub is_instance : slice_get typed.instances.items number ≡ Some instance
   -- whether it is `main`, the registers of its own values, those that its code leaves as they are until it
-  -- returns, where the calls that are open go on, and how many turns are left at most
+  -- returns, where the calls that are open go on, and how many turns are left at most, and
+  -- which functions may be called
   pub is_main : Bool
   pub begins : ℕ
   pub ends : ℕ
   pub spared : ℕ → Type 0
   pub returns : List ℕ
   pub most : ℕ
+  pub may : May
 
 module _ (g : Setting) where
   abbrev pub whole : List Step

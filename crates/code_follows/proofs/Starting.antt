@@ -151,21 +151,21 @@ module _ (g : Setting) (has : HasRegisters g) (alive : Variable → Type 0) (eve
       ∙ make_twice (put_to g.typed (layout g) (O.Scalar (register_of (layout g) (V.Local n))) e d) next
 
   -- its register holds what is put there
-  local_grows : (n : ℕ) (e : TExpr) (d : Draft) → IsIn e → HasCode g.typed g.instance (n + 1) e → Extends g d (put_to g.typed (layout g) (O.Scalar (register_of (layout g) (V.Local n))) e d)
+  local_grows : (n : ℕ) (e : TExpr) (d : Draft) → (IsIn g.may) e → HasCode g.typed g.instance (n + 1) e → Extends g d (put_to g.typed (layout g) (O.Scalar (register_of (layout g) (V.Local n))) e d)
   local_grows n e d h k =
-      extends_grown g has alive _ d _ _ ((expressions g.typed g.instance (layout g)).put_register (register_of (layout g) (V.Local n)) (n + 1) e d k (gives g alive has every (n + 1) (ready (n + 1)) scope active e h, kept e h) (ready (n + 1) d))
+      extends_grown g has alive _ d _ _ ((expressions g.typed g.instance (layout g)).put_register (register_of (layout g) (V.Local n)) (n + 1) e d k (gives g alive has every (n + 1) (ready (n + 1)) scope active e h, kept g.may e h) (ready (n + 1) d))
 
-  pub initials_grow : (locals : List LocalVar) (n : ℕ) (d : Draft) → All IsInLocal locals → AreCoded n locals → Extends g d (all_initialised g.typed (layout g) locals n d)
+  pub initials_grow : (locals : List LocalVar) (n : ℕ) (d : Draft) → All (IsInLocal g.may) locals → AreCoded n locals → Extends g d (all_initialised g.typed (layout g) locals n d)
   unfolding all_initialised initialised_in AreCoded Extends then_make
   initials_grow [] n d isin c = (0, as_it_was d)
   initials_grow (local ∷ locals) n d isin c =
-      let first = all_first IsInLocal local locals isin in
-      by local.initial first.1 c.0 (λ e. initials_grow locals (n + 1) e (all_rest IsInLocal local locals isin) c.1)
+      let first = all_first (IsInLocal g.may) local locals isin in
+      by local.initial first.1 c.0 (λ e. initials_grow locals (n + 1) e (all_rest (IsInLocal g.may) local locals isin) c.1)
     where
-      by : (o : Option TExpr) → IfSome o IsIn → IfSome o (HasCode g.typed g.instance (n + 1)) → ((e : Draft) → Extends g e (all_initialised g.typed (layout g) locals (n + 1) e)) → Extends g d (then_make (initial_put local.info n o d) (λ u after. all_initialised g.typed (layout g) locals (n + 1) after))
+      by : (o : Option TExpr) → IfSome o (IsIn g.may) → IfSome o (HasCode g.typed g.instance (n + 1)) → ((e : Draft) → Extends g e (all_initialised g.typed (layout g) locals (n + 1) e)) → Extends g d (then_make (initial_put local.info n o d) (λ u after. all_initialised g.typed (layout g) locals (n + 1) after))
       by None h k rest = rest d
       by (Some e) h k rest =
-          subst (λ (m : Made (Unit {0})). Extends g d m) (sym (put_is local.info n e d (λ u after. all_initialised g.typed (layout g) locals (n + 1) after) (all_first IsInLocal local locals isin).0.0))
+          subst (λ (m : Made (Unit {0})). Extends g d m) (sym (put_is local.info n e d (λ u after. all_initialised g.typed (layout g) locals (n + 1) after) (all_first (IsInLocal g.may) local locals isin).0.0))
           (extends_then g d (put_to g.typed (layout g) (O.Scalar (register_of (layout g) (V.Local n))) e d) (λ out after. all_initialised g.typed (layout g) locals (n + 1) after) (local_grows n e d h k) (λ out after. rest after))
 
   -- a value is put in the register of the next variable, which is alive behind it
@@ -176,15 +176,15 @@ module _ (g : Setting) (has : HasRegisters g) (alive : Variable → Type 0) (eve
   Puts_one local locals n e d s st = Follows g (λ v u (out : Out) f. Begun local locals n d s v u f) s (evaluated scope e active st) (put_to g.typed (layout g) (O.Scalar (register_of (layout g) (V.Local n))) e d)
 
   -- a constant
-  constant_put : (local : LocalVar) (locals : List LocalVar) (n : ℕ) (e : TExpr) (word : ℕ) (d : Draft) (s : CodeState) (st : State) → IsScalar g (V.Local n) local.info → local.info.elem.bits ≡ 32 → IsIn e → StandsAsWord e word → g.begins ≤ d.regs → At g s (length d.code) → Sim g (Started (local ∷ locals) n) st s
+  constant_put : (local : LocalVar) (locals : List LocalVar) (n : ℕ) (e : TExpr) (word : ℕ) (d : Draft) (s : CodeState) (st : State) → IsScalar g (V.Local n) local.info → local.info.elem.bits ≡ 32 → (IsIn g.may) e → StandsAsWord e word → g.begins ≤ d.regs → At g s (length d.code) → Sim g (Started (local ∷ locals) n) st s
       → Puts_one local locals n e d s st
   unfolding put_to word_for word_put Follows begun step_of Started
   constant_put local locals n e word d s st scalar wide isin c free at sim =
       let r : ℕ = register_of (layout g) (V.Local n) in
       let i = I.FrontConst r word in
-      let few : c.value < 2 ^ 32 = subst (λ (o : Option ℕ). IfSome o (λ v. v < 2 ^ 32)) c.is (constant_below e isin) in
+      let few : c.value < 2 ^ 32 = subst (λ (o : Option ℕ). IfSome o (λ v. v < 2 ^ 32)) c.is (constant_below g.may e isin) in
       let gives_it : evaluated scope e active st ≡ Source.Gives (Scalar c.value) st = subst (λ (o : Option ℕ). Const.IsValueOf e o) c.is (value_means e c.constant) scope active st in
-      let is_held : held local.info.elem c.value ≡ word = held_wide local.info.elem c.value wide few ∙ sym (held_wide (type_of e).elem c.value (word_type e isin).1 few) ∙ c.same in
+      let is_held : held local.info.elem c.value ≡ word = held_wide local.info.elem c.value wide few ∙ sym (held_wide (type_of e).elem c.value (word_type g.may e isin).1 few) ∙ c.same in
       subst (λ (o : Outcome Value). Follows g (λ v u (out : Out) f. Begun local locals n d s v u f) s o (put_to g.typed (layout g) (O.Scalar r) e d)) (sym gives_it)
       (subst (λ (m : Made Out). Follows g (λ v u (out : Out) f. Begun local locals n d s v u f) s (Source.Gives (Scalar c.value) st) m)
       (sym (ap (λ (o : Option ℕ). elim o as (λ _. Made Out) [ Some w ↦ Makes (O.Scalar r) (with_instr (I.FrontConst r w) d) | None ↦ computed_to g.typed (layout g) (O.Scalar r) e d ]) c.stands))
@@ -212,7 +212,7 @@ module _ (g : Setting) (has : HasRegisters g) (alive : Variable → Type 0) (eve
       no_other y other e = let same : is_same (V.Local n) y ≡ true = ap (λ (z : Variable). is_same (V.Local n) z) e ∙ same_itself (V.Local n) in cc
 
   -- any other value
-  value_put : (local : LocalVar) (locals : List LocalVar) (n : ℕ) (e : TExpr) (d : Draft) (s : CodeState) (st : State) → begins_constant local ≡ false → IsScalar g (V.Local n) local.info → local.info.elem.bits ≡ 32 → IsIn e → HasCode g.typed g.instance (n + 1) e
+  value_put : (local : LocalVar) (locals : List LocalVar) (n : ℕ) (e : TExpr) (d : Draft) (s : CodeState) (st : State) → begins_constant local ≡ false → IsScalar g (V.Local n) local.info → local.info.elem.bits ≡ 32 → (IsIn g.may) e → HasCode g.typed g.instance (n + 1) e
       → g.begins ≤ d.regs → At g s (length d.code) → Sim g (Started (local ∷ locals) n) st s → Puts_one local locals n e d s st
   unfolding Started
   value_put local locals n e d s st begins scalar wide isin c free at sim =
@@ -234,24 +234,24 @@ module _ (g : Setting) (has : HasRegisters g) (alive : Variable → Type 0) (eve
         (p.value, record { grown = p.grown; t = p.t; go = p.go; at = p.at; keeps = p.keeps; sim = sim_fewer g (Started (local ∷ locals) n) (Started locals (n + 1)) (with_scalar (V.Local n) p.word u) p.t (λ y later. ((λ b e. never b), later)) p.sim }),
       ))
 
-  pub initials_follow : (locals : List LocalVar) (n : ℕ) (d : Draft) (s : CodeState) (st : State) → All IsInLocal locals → StandFrom (variables_of g.instance.body) n (map info_of locals) → AreCoded n locals → g.begins ≤ d.regs → At g s (length d.code) → Sim g (Started locals n) st s
+  pub initials_follow : (locals : List LocalVar) (n : ℕ) (d : Draft) (s : CodeState) (st : State) → All (IsInLocal g.may) locals → StandFrom (variables_of g.instance.body) n (map info_of locals) → AreCoded n locals → g.begins ≤ d.regs → At g s (length d.code) → Sim g (Started locals n) st s
       → Follows g (RanOn g alive d s) s (initialised scope active n locals st) (all_initialised g.typed (layout g) locals n d)
   unfolding all_initialised initialised_in initialised initialised_one AreCoded Follows then_make then_go variable_target stored number Started begins_constant
   initials_follow [] n d s st isin stand c free at sim = λ within. (refl, record { grown = (0, as_it_was d); t = s; go = stay g s; at = at; sim = sim_fewer g (Started [] n) alive st s (λ x h. tt) sim; keeps = keeps_all g d s })
   initials_follow (local ∷ locals) n d s st isin stand c free at sim =
-      let first = all_first IsInLocal local locals isin in
-      by local.initial refl first.1 c.0 (λ e t u free_e at_e sim_e. initials_follow locals (n + 1) e t u (all_rest IsInLocal local locals isin) (others_stand g n local.info (map info_of locals) stand) c.1 free_e at_e sim_e)
+      let first = all_first (IsInLocal g.may) local locals isin in
+      by local.initial refl first.1 c.0 (λ e t u free_e at_e sim_e. initials_follow locals (n + 1) e t u (all_rest (IsInLocal g.may) local locals isin) (others_stand g n local.info (map info_of locals) stand) c.1 free_e at_e sim_e)
     where
       there : Target
       there = variable_target local.info.shape (V.Local n) 0
 
       scalar : IsScalar g (V.Local n) local.info
-      scalar = (first_is_named g n local.info (map info_of locals) stand, (all_first IsInLocal local locals isin).0.0)
+      scalar = (first_is_named g n local.info (map info_of locals) stand, (all_first (IsInLocal g.may) local locals isin).0.0)
 
       wide : local.info.elem.bits ≡ 32
-      wide = (all_first IsInLocal local locals isin).0.1
+      wide = (all_first (IsInLocal g.may) local locals isin).0.1
 
-      by : (o : Option TExpr) → local.initial ≡ o → IfSome o IsIn → IfSome o (HasCode g.typed g.instance (n + 1))
+      by : (o : Option TExpr) → local.initial ≡ o → IfSome o (IsIn g.may) → IfSome o (HasCode g.typed g.instance (n + 1))
           → ((e : Draft) (t : CodeState) (u : State) → g.begins ≤ e.regs → At g t (length e.code) → Sim g (Started locals (n + 1)) u t → Follows g (RanOn g alive e t) t (initialised scope active (n + 1) locals u) (all_initialised g.typed (layout g) locals (n + 1) e))
           → Follows g (RanOn g alive d s) s (then_go (initialised_one scope active there o st) (initialised scope active (n + 1) locals)) (then_make (initial_put local.info n o d) (λ u after. all_initialised g.typed (layout g) locals (n + 1) after))
       by None is h k rest = rest d s st free at (sim_fewer g (Started (local ∷ locals) n) (Started locals (n + 1)) st s (λ y later. ((λ b e. let none = starts_none local is in cc), later)) sim)
@@ -265,7 +265,7 @@ module _ (g : Setting) (has : HasRegisters g) (alive : Variable → Type 0) (eve
           (subst (λ (o : Outcome Leaving). Follows g (RanOn g alive d s) s o (then_make (put_to g.typed (layout g) (O.Scalar (register_of (layout g) x)) e d) (λ out after. next after))) (sym (go_do (evaluated scope e active st) (λ v after. stored active there v after) go_on))
           (subst (λ (target : Target). Follows g (RanOn g alive d s) s (then_do (evaluated scope e active st) (λ v after. go_on (stored active target v after))) (then_make (put_to g.typed (layout g) (O.Scalar (register_of (layout g) x)) e d) (λ out after. next after))) (sym there_is)
           (then_follows g (λ v u (out : Out) f. Begun local locals n d s v u f) (RanOn g alive d s) s s (evaluated scope e active st) (λ v after. go_on (stored active (OfScalar x) v after)) (put_to g.typed (layout g) (O.Scalar (register_of (layout g) x)) e d) (λ out after. next after) (stay g s)
-          puts (λ out after. initials_grow locals (n + 1) after (all_rest IsInLocal local locals isin) c.1)
+          puts (λ out after. initials_grow locals (n + 1) after (all_rest (IsInLocal g.may) local locals isin) c.1)
           (λ v u out f p.
           let ran = p.1.1 in
           let more = ran.grown.1.regs in
@@ -273,12 +273,12 @@ module _ (g : Setting) (has : HasRegisters g) (alive : Variable → Type 0) (eve
           (run_from d f ran.grown.0 s ran.t (go_on (with_scalar x p.0 u)) (next f) ran.grown.1 ran.go ran.keeps (rest f ran.t (with_scalar x p.0 u) (omega (arith, free, more)) ran.at ran.sim))))))
 
   -- the registers of `main` are zero already
-  pub none_cleared : (locals : List LocalVar) (n : ℕ) (d : Draft) → All IsInLocal locals → all_cleared (layout g) true locals n d ≡ Makes tt d
+  pub none_cleared : (locals : List LocalVar) (n : ℕ) (d : Draft) → All (IsInLocal g.may) locals → all_cleared (layout g) true locals n d ≡ Makes tt d
   unfolding all_cleared cleared then_make
   none_cleared [] n d isin = refl
   none_cleared (local ∷ locals) n d isin =
       ap (λ (o : Option ℕ). then_make (elim o as (λ _. Made (Unit {0})) [
         | None ↦ Makes tt d
         | Some s ↦ cleared_fields (entries_of local.info) s local.info.elem.bits (with_home d)
-      ]) (λ u after. all_cleared (layout g) true locals (n + 1) after)) (all_first IsInLocal local locals isin).0.0
-      ∙ none_cleared locals (n + 1) d (all_rest IsInLocal local locals isin)
+      ]) (λ u after. all_cleared (layout g) true locals (n + 1) after)) (all_first (IsInLocal g.may) local locals isin).0.0
+      ∙ none_cleared locals (n + 1) d (all_rest (IsInLocal g.may) local locals isin)

@@ -14,7 +14,7 @@ use Rattle.lower_expr.specs.Steps.{is_kept}
 use Rattle.source_meaning.specs.Constants.{then_value, value_of}
 use Rattle.source_meaning.specs.Reductions.{int_type}
 use Rattle.source_meaning.specs.Values.{nonzero, cast_through, cast_type}
-use Rattle.code_follows.specs.Fragment.{IsIn, IsWord}
+use Rattle.code_follows.specs.Fragment.{IsIn, IsWord, May}
 use Rattle.code_follows.proofs.Following.{held}
 
 -- a conversion to 32 bits takes the residue of the number
@@ -36,48 +36,48 @@ pub below_word : (bits w : ℕ) → bits ≡ 32 → w < 2 ^ bits → w < 2 ^ 32
 below_word bits w wide few = subst (λ (n : ℕ). w < 2 ^ n) wide few
 
 -- the expressions are of scalar types of 32 bits
-pub word_type : (e : TExpr) → IsIn e → IsWord (type_of e)
+pub word_type : (may : May) (e : TExpr) → IsIn may e → IsWord (type_of e)
 unfolding IsIn
-word_type (T.Number ty value) h = h.0
-word_type (T.PositionsOf ty shape value) h = h.0
-word_type (T.RankOf ty shape value) h = h.0
-word_type (T.DimOf ty shape axis value) h = h.0
-word_type (T.Variable ty x) h = h
-word_type (T.GetChar ty) h = h
-word_type (T.Brackets' ty p inner) h = subst (λ (y : ValueType). IsWord y) (sym h.0) (word_type inner h.1)
-word_type (T.Convert' ty p operand) h = h.0
-word_type (T.Casts' ty elems p operand) h = h.0
-word_type (T.Unary' ty op p operand) h = h.0
-word_type (T.Binary' ty place op p left q right) h = h.0
-word_type (T.LogicalOr' ty p left q right) h = h.0
-word_type (T.LogicalAnd' ty p left q right) h = h.0
-word_type (T.Choice' ty p test q first r second) h = h.0
-word_type (T.Assign' ty place op p target q value) h = h.0
-word_type (T.Step' ty op order p target) h = h.0
-word_type _ h = absurd h
+word_type may (T.Number ty value) h = h.0
+word_type may (T.PositionsOf ty shape value) h = h.0
+word_type may (T.RankOf ty shape value) h = h.0
+word_type may (T.DimOf ty shape axis value) h = h.0
+word_type may (T.Variable ty x) h = h
+word_type may (T.GetChar ty) h = h
+word_type may (T.Brackets' ty p inner) h = subst (λ (y : ValueType). IsWord y) (sym h.0) (word_type may inner h.1)
+word_type may (T.Convert' ty p operand) h = h.0
+word_type may (T.Casts' ty elems p operand) h = h.0
+word_type may (T.Unary' ty op p operand) h = h.0
+word_type may (T.Binary' ty place op p left q right) h = h.0
+word_type may (T.LogicalOr' ty p left q right) h = h.0
+word_type may (T.LogicalAnd' ty p left q right) h = h.0
+word_type may (T.Choice' ty p test q first r second) h = h.0
+word_type may (T.Assign' ty place op p target q value) h = h.0
+word_type may (T.Step' ty op order p target) h = h.0
+word_type may _ h = absurd h
 
 none_is : (o : Option ℕ) → o ≡ None → is_none o ≡ true
 none_is o e = ap is_none e
 
-pub kept : (e : TExpr) → IsIn e → is_kept e ≡ true
+pub kept : (may : May) (e : TExpr) → IsIn may e → is_kept e ≡ true
 unfolding IsIn is_kept
-kept (T.Number ty value) h = none_is ty.shape h.0.0
-kept (T.PositionsOf ty shape value) h = none_is ty.shape h.0.0
-kept (T.RankOf ty shape value) h = none_is ty.shape h.0.0
-kept (T.DimOf ty shape axis value) h = none_is ty.shape h.0.0
-kept (T.Variable ty x) h = none_is ty.shape h.0
-kept (T.GetChar ty) h = none_is ty.shape h.0
-kept (T.Brackets' ty p inner) h = kept inner h.1
-kept (T.Convert' ty p operand) h = kept operand h.1
-kept (T.Casts' ty elems p operand) h = none_is ty.shape h.0.0
-kept (T.Unary' ty op p operand) h = none_is ty.shape h.0.0
-kept (T.Binary' ty place op p left q right) h = none_is ty.shape h.0.0
-kept (T.LogicalOr' ty p left q right) h = none_is ty.shape h.0.0
-kept (T.LogicalAnd' ty p left q right) h = none_is ty.shape h.0.0
-kept (T.Choice' ty p test q first r second) h = none_is ty.shape h.0.0
-kept (T.Assign' ty place op p target q value) h = none_is ty.shape h.0.0
-kept (T.Step' ty op order p target) h = none_is ty.shape h.0.0
-kept _ h = absurd h
+kept may (T.Number ty value) h = none_is ty.shape h.0.0
+kept may (T.PositionsOf ty shape value) h = none_is ty.shape h.0.0
+kept may (T.RankOf ty shape value) h = none_is ty.shape h.0.0
+kept may (T.DimOf ty shape axis value) h = none_is ty.shape h.0.0
+kept may (T.Variable ty x) h = none_is ty.shape h.0
+kept may (T.GetChar ty) h = none_is ty.shape h.0
+kept may (T.Brackets' ty p inner) h = kept may inner h.1
+kept may (T.Convert' ty p operand) h = kept may operand h.1
+kept may (T.Casts' ty elems p operand) h = none_is ty.shape h.0.0
+kept may (T.Unary' ty op p operand) h = none_is ty.shape h.0.0
+kept may (T.Binary' ty place op p left q right) h = none_is ty.shape h.0.0
+kept may (T.LogicalOr' ty p left q right) h = none_is ty.shape h.0.0
+kept may (T.LogicalAnd' ty p left q right) h = none_is ty.shape h.0.0
+kept may (T.Choice' ty p test q first r second) h = none_is ty.shape h.0.0
+kept may (T.Assign' ty place op p target q value) h = none_is ty.shape h.0.0
+kept may (T.Step' ty op order p target) h = none_is ty.shape h.0.0
+kept may _ h = absurd h
 
 -- what a chain of casts gives is a number of its type
 pub through_below : (kinds : List Elem) (from : Elem) (w : ℕ) → w < 2 ^ from.bits → cast_through kinds from w < 2 ^ (cast_type kinds from).bits
@@ -102,26 +102,26 @@ either_below : (b : Bool) (o p : Option ℕ) → IfSome o (λ v. v < 2 ^ 32) →
 either_below true o p h k = h
 either_below false o p h k = k
 
-pub constant_below : (e : TExpr) → IsIn e → IfSome (value_of e) (λ v. v < 2 ^ 32)
+pub constant_below : (may : May) (e : TExpr) → IsIn may e → IfSome (value_of e) (λ v. v < 2 ^ 32)
 unfolding IsIn value_of
-constant_below (T.Number ty value) h = h.1
-constant_below (T.PositionsOf ty shape value) h = h.1
-constant_below (T.RankOf ty shape value) h = h.1
-constant_below (T.DimOf ty shape axis value) h = h.1
-constant_below (T.Variable ty x) h = tt
-constant_below (T.GetChar ty) h = tt
-constant_below (T.Brackets' ty p inner) h = constant_below inner h.1
-constant_below (T.Convert' ty p operand) h =
-    then_below (value_of operand) _ (constant_below operand h.1) (λ v few. below_word ty.elem.bits (converted ty.elem (type_of operand).elem v) h.0.1 (converted_below ty.elem (type_of operand).elem v))
-constant_below (T.Casts' ty elems p operand) h =
+constant_below may (T.Number ty value) h = h.1
+constant_below may (T.PositionsOf ty shape value) h = h.1
+constant_below may (T.RankOf ty shape value) h = h.1
+constant_below may (T.DimOf ty shape axis value) h = h.1
+constant_below may (T.Variable ty x) h = tt
+constant_below may (T.GetChar ty) h = tt
+constant_below may (T.Brackets' ty p inner) h = constant_below may inner h.1
+constant_below may (T.Convert' ty p operand) h =
+    then_below (value_of operand) _ (constant_below may operand h.1) (λ v few. below_word ty.elem.bits (converted ty.elem (type_of operand).elem v) h.0.1 (converted_below ty.elem (type_of operand).elem v))
+constant_below may (T.Casts' ty elems p operand) h =
     let from : Elem = (type_of operand).elem in
-    then_below (value_of operand) _ (constant_below operand h.2) (λ v few. below_word (cast_type elems.items from).bits (cast_through elems.items from v) (ap (λ (e : Elem). e.bits) (sym h.1) ∙ h.0.1) (through_below elems.items from v (below_bits from.bits v (word_type operand h.2).1 few)))
-constant_below (T.Unary' ty op p operand) h = then_below (value_of operand) _ (constant_below operand h.1) (λ v few. unary_below op v few)
-constant_below (T.Binary' ty place op p left q right) h =
-    then_below (value_of left) _ (constant_below left h.1) (λ v few. then_below (value_of right) _ (constant_below right h.2) (λ w small. operate_below op (not (type_of left).elem.signed) v w few small))
-constant_below (T.LogicalOr' ty p left q right) h = then_below (value_of left) _ (constant_below left h.1) (λ v few. or_below (nonzero v) (value_of right) (constant_below right h.2))
-constant_below (T.LogicalAnd' ty p left q right) h = then_below (value_of left) _ (constant_below left h.1) (λ v few. and_below (nonzero v) (value_of right) (constant_below right h.2))
-constant_below (T.Choice' ty p test q first r second) h = then_below (value_of test) _ (constant_below test h.1) (λ v few. either_below (nonzero v) (value_of first) (value_of second) (constant_below first h.2) (constant_below second h.3))
-constant_below (T.Assign' ty place op p target q value) h = tt
-constant_below (T.Step' ty op order p target) h = tt
-constant_below _ h = absurd h
+    then_below (value_of operand) _ (constant_below may operand h.2) (λ v few. below_word (cast_type elems.items from).bits (cast_through elems.items from v) (ap (λ (e : Elem). e.bits) (sym h.1) ∙ h.0.1) (through_below elems.items from v (below_bits from.bits v (word_type may operand h.2).1 few)))
+constant_below may (T.Unary' ty op p operand) h = then_below (value_of operand) _ (constant_below may operand h.1) (λ v few. unary_below op v few)
+constant_below may (T.Binary' ty place op p left q right) h =
+    then_below (value_of left) _ (constant_below may left h.1) (λ v few. then_below (value_of right) _ (constant_below may right h.2) (λ w small. operate_below op (not (type_of left).elem.signed) v w few small))
+constant_below may (T.LogicalOr' ty p left q right) h = then_below (value_of left) _ (constant_below may left h.1) (λ v few. or_below (nonzero v) (value_of right) (constant_below may right h.2))
+constant_below may (T.LogicalAnd' ty p left q right) h = then_below (value_of left) _ (constant_below may left h.1) (λ v few. and_below (nonzero v) (value_of right) (constant_below may right h.2))
+constant_below may (T.Choice' ty p test q first r second) h = then_below (value_of test) _ (constant_below may test h.1) (λ v few. either_below (nonzero v) (value_of first) (value_of second) (constant_below may first h.2) (constant_below may second h.3))
+constant_below may (T.Assign' ty place op p target q value) h = tt
+constant_below may (T.Step' ty op order p target) h = tt
+constant_below may _ h = absurd h

@@ -1,5 +1,5 @@
 -- The programs of which it is said so far that their code means them: scalar ones of 32 bits.
-use Rattle.std.specs.Prelude.{◌≡◌, ◌<◌, ◌^◌, [], ◌∷◌, IfSome, Option, Some, None}
+use Rattle.std.specs.Prelude.{ℕ, Bool, ◌≡◌, ◌<◌, ◌^◌, [], ◌∷◌, IfSome, Option, Some, None}
 use Rattle.std.specs.List.{All}
 use Rattle.cstar_tree.specs.declared.typed.TExpr.{TExpr, Row_of-TExpr, end_of-TExpr, more_of-TExpr}
 use Rattle.cstar_tree.specs.declared.typed.TExpr as T
@@ -25,69 +25,78 @@ IsVariable _ = ⊥
 
 -- An expression whose value is used: of numbers, variables, `getchar`, operators, conversions, and assignments
 -- and steps of scalar variables. Casts lead to 32 bits, by whichever types.
-unfoldable pub IsIn : TExpr → Type 0
-IsIn (T.Number ty value) = IsWord ty × (value < 2 ^ 32)
-IsIn (T.PositionsOf ty shape value) = IsWord ty × (value < 2 ^ 32)
-IsIn (T.RankOf ty shape value) = IsWord ty × (value < 2 ^ 32)
-IsIn (T.DimOf ty shape axis value) = IsWord ty × (value < 2 ^ 32)
-IsIn (T.Variable ty x) = IsWord ty
-IsIn (T.GetChar ty) = IsWord ty
-IsIn (T.Brackets' ty p inner) = (ty ≡ type_of inner) × IsIn inner
-IsIn (T.Convert' ty p operand) = IsWord ty × IsIn operand
-IsIn (T.Casts' ty elems p operand) = IsWord ty × (ty.elem ≡ cast_type elems.items (type_of operand).elem) × IsIn operand
-IsIn (T.Unary' ty op p operand) = IsWord ty × IsIn operand
-IsIn (T.Binary' ty place op p left q right) = IsWord ty × IsIn left × IsIn right
-IsIn (T.LogicalOr' ty p left q right) = IsWord ty × IsIn left × IsIn right
-IsIn (T.LogicalAnd' ty p left q right) = IsWord ty × IsIn left × IsIn right
-IsIn (T.Choice' ty p test q first r second) = IsWord ty × IsIn test × IsIn first × IsIn second
-IsIn (T.Assign' ty place op p target q value) = IsWord ty × (ty ≡ type_of target) × IsVariable target × IsIn value
-IsIn (T.Step' ty op order p target) = IsWord ty × (ty ≡ type_of target) × IsVariable target
-IsIn _ = ⊥
 
-unfoldable pub AreIn : {n : _} → Row_of-TExpr n → Type 0
-AreIn end_of-TExpr = Unit {0}
-AreIn (more_of-TExpr e rest) = IsIn e × AreIn rest
+-- which functions may be called, by their instances' numbers: those with a result where its value is used
+abbrev pub May : Type 1
+May = Bool → ℕ → Type 0
+
+-- none
+abbrev pub none_may : May
+none_may with_result number = ⊥
+
+unfoldable pub IsIn : May → TExpr → Type 0
+IsIn may (T.Number ty value) = IsWord ty × (value < 2 ^ 32)
+IsIn may (T.PositionsOf ty shape value) = IsWord ty × (value < 2 ^ 32)
+IsIn may (T.RankOf ty shape value) = IsWord ty × (value < 2 ^ 32)
+IsIn may (T.DimOf ty shape axis value) = IsWord ty × (value < 2 ^ 32)
+IsIn may (T.Variable ty x) = IsWord ty
+IsIn may (T.GetChar ty) = IsWord ty
+IsIn may (T.Brackets' ty p inner) = (ty ≡ type_of inner) × IsIn may inner
+IsIn may (T.Convert' ty p operand) = IsWord ty × IsIn may operand
+IsIn may (T.Casts' ty elems p operand) = IsWord ty × (ty.elem ≡ cast_type elems.items (type_of operand).elem) × IsIn may operand
+IsIn may (T.Unary' ty op p operand) = IsWord ty × IsIn may operand
+IsIn may (T.Binary' ty place op p left q right) = IsWord ty × IsIn may left × IsIn may right
+IsIn may (T.LogicalOr' ty p left q right) = IsWord ty × IsIn may left × IsIn may right
+IsIn may (T.LogicalAnd' ty p left q right) = IsWord ty × IsIn may left × IsIn may right
+IsIn may (T.Choice' ty p test q first r second) = IsWord ty × IsIn may test × IsIn may first × IsIn may second
+IsIn may (T.Assign' ty place op p target q value) = IsWord ty × (ty ≡ type_of target) × IsVariable target × IsIn may value
+IsIn may (T.Step' ty op order p target) = IsWord ty × (ty ≡ type_of target) × IsVariable target
+IsIn may _ = ⊥
+
+unfoldable pub AreIn : {n : _} → May → Row_of-TExpr n → Type 0
+AreIn may end_of-TExpr = Unit {0}
+AreIn may (more_of-TExpr e rest) = IsIn may e × AreIn may rest
 
 -- what is evaluated without its value being used: `printf` too
-unfoldable pub IsEffect : TExpr → Type 0
-IsEffect (T.Printf' ty pieces p arguments) = AreIn arguments
-IsEffect e = IsIn e
+unfoldable pub IsEffect : May → TExpr → Type 0
+IsEffect may (T.Printf' ty pieces p arguments) = AreIn may arguments
+IsEffect may e = IsIn may e
 
 -- a scalar variable of 32 bits, as it is declared
 abbrev pub IsWordVariable : VarInfo → Type 0
 IsWordVariable info = (info.shape ≡ None) × (info.elem.bits ≡ 32)
 
 -- a variable of a block, with an initialiser or without
-abbrev pub IsInLocal : LocalVar → Type 0
-IsInLocal local = IsWordVariable local.info × IfSome local.initial IsIn
+abbrev pub IsInLocal : May → LocalVar → Type 0
+IsInLocal may local = IsWordVariable local.info × IfSome local.initial (IsIn may)
 
 -- the condition of a loop, which is there
-unfoldable pub IsTested : Option TExpr → Type 0
-IsTested None = ⊥
-IsTested (Some e) = IsIn e
+unfoldable pub IsTested : May → Option TExpr → Type 0
+IsTested may None = ⊥
+IsTested may (Some e) = IsIn may e
 
 -- statements of these
 unfoldable mutual
-  pub IsInStatement : TStmt → Type 0
-  IsInStatement (S.Block' locals p statements) = All IsInLocal locals.items × AreInStatements statements
-  IsInStatement (S.Expression e) = IsEffect e
-  IsInStatement S.Empty = Unit {0}
-  IsInStatement (S.If' test p first second) = IsIn test × IsInStatement first × IsInElse second
-  IsInStatement (S.While' test p body) = IsIn test × IsInStatement body
-  IsInStatement (S.Do' p body test) = IsInStatement body × IsIn test
-  IsInStatement (S.For' first test step p body) = IfSome first IsEffect × IsTested test × IfSome step IsEffect × IsInStatement body
-  IsInStatement S.Break = Unit {0}
-  IsInStatement S.Continue = Unit {0}
-  IsInStatement (S.Return e) = IfSome e IsIn
-  IsInStatement _ = ⊥
+  pub IsInStatement : May → TStmt → Type 0
+  IsInStatement may (S.Block' locals p statements) = All (IsInLocal may) locals.items × AreInStatements may statements
+  IsInStatement may (S.Expression e) = IsEffect may e
+  IsInStatement may S.Empty = Unit {0}
+  IsInStatement may (S.If' test p first second) = IsIn may test × IsInStatement may first × IsInElse may second
+  IsInStatement may (S.While' test p body) = IsIn may test × IsInStatement may body
+  IsInStatement may (S.Do' p body test) = IsInStatement may body × IsIn may test
+  IsInStatement may (S.For' first test step p body) = IfSome first (IsEffect may) × IsTested may test × IfSome step (IsEffect may) × IsInStatement may body
+  IsInStatement may S.Break = Unit {0}
+  IsInStatement may S.Continue = Unit {0}
+  IsInStatement may (S.Return e) = IfSome e (IsIn may)
+  IsInStatement may _ = ⊥
 
-  pub AreInStatements : {n : _} → Row_of-TStmt n → Type 0
-  AreInStatements end_of-TStmt = Unit {0}
-  AreInStatements (more_of-TStmt s rest) = IsInStatement s × AreInStatements rest
+  pub AreInStatements : {n : _} → May → Row_of-TStmt n → Type 0
+  AreInStatements may end_of-TStmt = Unit {0}
+  AreInStatements may (more_of-TStmt s rest) = IsInStatement may s × AreInStatements may rest
 
-  pub IsInElse : Held-TStmt-If-2 → Type 0
-  IsInElse None' = Unit {0}
-  IsInElse (Some' p s) = IsInStatement s
+  pub IsInElse : May → Held-TStmt-If-2 → Type 0
+  IsInElse may None' = Unit {0}
+  IsInElse may (Some' p s) = IsInStatement may s
 
 -- in which no loop is left or gone on with from without
 unfoldable mutual
@@ -107,9 +116,9 @@ unfoldable mutual
   IsClosedElse (Some' p s) = IsClosed s
 
 -- a block of such statements
-unfoldable pub IsMainBody : TStmt → Type 0
-IsMainBody (S.Block' locals p statements) = All IsInLocal locals.items × AreInStatements statements × AreClosed statements
-IsMainBody _ = ⊥
+unfoldable pub IsMainBody : May → TStmt → Type 0
+IsMainBody may (S.Block' locals p statements) = All (IsInLocal may) locals.items × AreInStatements may statements × AreClosed statements
+IsMainBody may _ = ⊥
 
 -- a variable of the file, which begins with a number of 32 bits
 abbrev pub IsPlainVariable : VarInfo → Type 0
@@ -121,6 +130,6 @@ pub record IsScalarProgram (t : Typed) : Type 0 where
   pub instances : t.instances.items ≡ main ∷ []
   pub params : main.params.items ≡ []
   pub result : (info : VarInfo) → main.result ≡ Some info → info.shape ≡ None
-  pub body : IsMainBody main.body
+  pub body : IsMainBody none_may main.body
   pub locals : All IsWordVariable (variables_of main.body)
   pub variables : All IsPlainVariable t.vars.items

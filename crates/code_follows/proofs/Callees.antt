@@ -1,0 +1,90 @@
+-- What is known of a function that may be called, and of a run of its code.
+use Rattle.std.proofs.Common.{◌≡◌, ℕ, suc, ◌+◌, ◌<◌, ◌≤◌, ◌^◌, List, [], ◌∷◌, ◌++◌, length, slice_get, slice_index, Option, Some, None}
+use Rattle.std.specs.List.{All, slice_index_or}
+use Rattle.cstar_tree.specs.declared.typed.Instance.{Instance}
+use Rattle.cstar_tree.specs.declared.typed.VarInfo.{VarInfo}
+use Rattle.cstar_tree.specs.declared.typed.Variable.{Variable}
+use Rattle.cstar_tree.specs.declared.typed.Variable.TheVariants as V
+use Rattle.code_lengths.specs.Naming.{variable_named}
+use Rattle.lower_base.specs.Constants.{constant_register}
+use Rattle.lower_base.specs.Layouts.{register_of, result_register}
+use Rattle.paris_code.specs.Code.{CodeState, start_at}
+use Rattle.source_meaning.specs.Programs.{calls, run_body}
+use Rattle.source_meaning.specs.State as Source
+use Rattle.source_meaning.specs.State.{Outcome, State}
+use Rattle.source_meaning.specs.Values.{Active, Call, Nothing, Scalar, Value, number}
+use Rattle.code_follows.specs.Agreement.{AreBytes}
+use Rattle.code_follows.specs.Fragment.{IsWordVariable}
+use Rattle.code_follows.proofs.Following.{Finishes, held, input_of}
+use Rattle.code_follows.proofs.Settings.{Reaches, Setting, layout}
+
+module _ (g : Setting) where
+  -- A function with scalar parameters, and a scalar result or none. Its code, and that of what it calls, may
+  -- change certain registers beside those of the file; these are none of the caller's.
+  pub record Callee (index : ℕ) : Type 1 where
+    pub callee : Instance
+    pub is : slice_get g.typed.instances.items index ≡ Some callee
+    pub base : ℕ
+    pub based : slice_get (layout g).bases index ≡ Some base
+    pub params : All IsWordVariable callee.params.items
+    pub result : (info : VarInfo) → callee.result ≡ Some info → IsWordVariable info
+    pub touches : ℕ → Type 0
+    -- the registers of its parameters, and that of its result behind them
+    pub own : (k : ℕ) → k ≤ length callee.params.items → touches (base + k)
+    pub room : base + length callee.params.items < (layout g).end
+    pub behind_files : length g.typed.vars.items ≤ base
+    pub apart_variable : (r : ℕ) → touches r → (x : Variable) (info : VarInfo) → variable_named g.typed g.instance x ≡ Some info → r ≡ register_of (layout g) x → ⊥
+    pub apart_value : (r : ℕ) → touches r → g.begins ≤ r → r < g.ends → ⊥
+    pub apart_spared : (r : ℕ) → touches r → g.spared r → ⊥
+    pub apart_result : touches (result_register (layout g)) → ⊥
+    pub apart_constant : (word r : ℕ) → constant_register (layout g) word ≡ Some r → touches r → ⊥
+
+  -- the registers hold the scalar variables of the file and the constants; the rest is as in the source
+  pub record Shared (st : State) (s : CodeState) : Type 0 where
+    pub registers : length s.registers ≡ g.image.slots
+    pub files : (k : ℕ) (info : VarInfo) → slice_get g.typed.vars.items k ≡ Some info → slice_index s.registers k ≡ held info.elem (st.scalar (V.File k))
+    pub small : (k : ℕ) (info : VarInfo) → slice_get g.typed.vars.items k ≡ Some info → st.scalar (V.File k) < 2 ^ info.elem.bits
+    pub constants : (word r : ℕ) → constant_register (layout g) word ≡ Some r → slice_index s.registers r ≡ word
+    pub turns : s.turns ≡ st.turns
+    pub output : s.output ≡ st.output
+    pub input : s.input ≡ input_of st
+    pub bytes : AreBytes st.input
+
+  module _ {index : ℕ} (c : Callee index) where
+    -- the register of its result
+    abbrev pub given_in : ℕ
+    given_in = c.base + length c.callee.params.items
+
+    -- the code comes back to a place with what the source gives: the caller's own variables are as they were
+    pub record ComesBack (back : ℕ) (s : CodeState) (before : State) (v : Value) (st : State) : Type 0 where
+      pub t : CodeState
+      pub go : Reaches g s t
+      pub at : t.at ≡ back
+      pub returns : t.returns ≡ g.returns
+      pub shared : Shared st t
+      pub turned : st.turns ≤ before.turns
+      pub params_kept : (k : ℕ) → st.scalar (V.Param k) ≡ before.scalar (V.Param k)
+      pub locals_kept : (k : ℕ) → st.scalar (V.Local k) ≡ before.scalar (V.Local k)
+      pub stays : (r : ℕ) → (c.touches r → ⊥) → length g.typed.vars.items ≤ r → slice_index t.registers r ≡ slice_index s.registers r
+      pub given : (c.callee.result ≡ None → ⊥) → (word : ℕ) × ((v ≡ Scalar word) × (word < 2 ^ 32) × (slice_index t.registers given_in ≡ word))
+
+    -- what the code does, by what the source does
+    unfoldable pub RunsBody : ℕ → CodeState → State → Outcome Value → Type 0
+    RunsBody back s before (Source.Gives v st) = ComesBack back s before v st
+    RunsBody back s before (Source.Ends early st) = Finishes g early st s
+
+    -- the parameters hold the arguments
+    pub record AreGiven (arguments : List Value) (s : CodeState) : Type 0 where
+      pub words : (k : ℕ) → k < length c.callee.params.items → slice_index s.registers (c.base + k) ≡ number (slice_index_or arguments k Nothing)
+      pub few : (k : ℕ) → k < length c.callee.params.items → number (slice_index_or arguments k Nothing) < 2 ^ 32
+
+    -- the code of its body from its first instruction on, where so many turns are left at most
+    pub Enters : ℕ → Active → Type 0
+    Enters m active =
+        (arguments : List Value) (st : State) (s : CodeState) (back : ℕ) → s.at ≡ start_at g.image index → s.returns ≡ g.returns ++ back ∷ [] → Shared st s → st.turns ≤ m → AreGiven arguments s → slice_index s.registers given_in ≡ 0
+        → RunsBody back s st (run_body g.typed (calls g.typed m) (Some c.callee) arguments active st)
+
+  -- each function that may be called runs so, with one turn fewer left
+  pub record MayCall (active : Active) (index : ℕ) : Type 1 where
+    pub callee : Callee index
+    pub enters : (m : ℕ) → g.most ≡ suc m → Enters callee m active
