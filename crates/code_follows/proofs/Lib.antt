@@ -27,6 +27,7 @@ pub mod Operators
 pub mod Printing
 pub mod Programs
 pub mod Putting
+pub mod Regions
 pub mod Returning
 pub mod Settings
 pub mod Standing
