@@ -34,5 +34,6 @@ pub mod Standing
 pub mod Starting
 pub mod Statements
 pub mod Stores
+pub mod Units
 pub mod Values
 pub mod Words

@@ -177,7 +177,7 @@ one_before r (x ∷ xs) zero (suc k) a first second less is one other =
 one_before r (x ∷ xs) (suc j) (suc k) a first second less is one other = one_before (r + size_of x) xs j k a first second (omega (arith, less)) is one other
 
 -- one number is below, the same or above
-in_order : (j k : ℕ) → (j < k) ⊎ ((j ≡ k) ⊎ (k < j))
+pub in_order : (j k : ℕ) → (j < k) ⊎ ((j ≡ k) ⊎ (k < j))
 in_order zero zero = inr (inl refl)
 in_order zero (suc k) = inl (omega arith)
 in_order (suc j) zero = inr (inr (omega arith))
