@@ -5,14 +5,18 @@ use Rattle.std.specs.List.{All}
 use Rattle.cstar_tree.specs.declared.typed.Instance.{Instance}
 use Rattle.cstar_tree.specs.declared.typed.Typed.{Typed}
 use Rattle.cstar_tree.specs.declared.typed.VarInfo.{VarInfo}
+use Rattle.cstar_tree.specs.declared.typed.Variable.{Variable}
 use Rattle.cstar_tree.specs.Variables.{variables_of}
 use Rattle.code_lengths.specs.Agreement.{HasUnit, opening_of}
+use Rattle.code_lengths.specs.Growth.{Extended}
+use Rattle.code_lengths.specs.Naming.{variable_named}
 use Rattle.code_lengths.specs.Ready.{IsCodable}
+use Rattle.code_lengths.proofs.Drafting.{and_instr, as_it_was, extended}
 use Rattle.code_lengths.proofs.UnitLengths.{units}
 use Rattle.cstar_compile.specs.Compiled.{IsCompiled}
 use Rattle.lower_base.specs.Constants.{first_free}
 use Rattle.lower_base.specs.Drafts.{Draft, Fails, Made, Makes, an_entry, draft, then_make, with_instr, with_step}
-use Rattle.lower_base.specs.Layouts.{Layout, entries_of, layout_of}
+use Rattle.lower_base.specs.Layouts.{Layout, entries_of, layout_of, register_of}
 use Rattle.lower_stmt.specs.Programs.{begun, blank, body_frame, constants_put, elements_begun, joined, own_field_of, own_fields_of, own_result_of, scalar_begun, slots_behind, start_value_of, start_values_of, unit_of, units_of}
 use Rattle.lower_stmt.specs.Statements.{body_of, ended}
 use Rattle.paris_code.specs.declared.instr.Instr.TheVariants as I
@@ -23,7 +27,8 @@ use Rattle.paris_code.specs.Proper.{IsUnit}
 use Rattle.code_follows.specs.Fragment.{IsWordVariable}
 use Rattle.code_follows.proofs.Beginnings.{start_put, starts_put}
 use Rattle.code_follows.proofs.Declaring.{all_first, all_rest}
-use Rattle.code_follows.proofs.Regions.{HasScalarInstances, in_order, same_constants, same_end}
+use Rattle.code_follows.proofs.Following.{HasRegisters}
+use Rattle.code_follows.proofs.Regions.{HasScalarInstances, apart, below, in_order, result_apart, result_below, same_constants, same_end}
 use Rattle.code_follows.proofs.Settings.{Setting, Within}
 use Rattle.code_follows.proofs.Standing.{some_same}
 
@@ -65,6 +70,16 @@ constants_take : (words : List ℕ) (r : ℕ) (d : Draft) → ((constants_put wo
 unfolding constants_put with_instr with_step
 constants_take [] r d = (refl, refl)
 constants_take (w ∷ words) r d = constants_take words (r + 1) (with_instr (I.FrontConst r w) d)
+
+pub constants_extend : (words : List ℕ) (r : ℕ) (d : Draft) → Extended d (length words) (constants_put words r d)
+unfolding constants_put
+constants_extend [] r d = as_it_was d
+constants_extend (w ∷ words) r d =
+    let one : Extended d 1 (with_instr (I.FrontConst r w) d) = and_instr (I.FrontConst r w) d d 0 (as_it_was d) in
+    subst (λ (k : ℕ). Extended d k (constants_put words (r + 1) (with_instr (I.FrontConst r w) d))) (count (length words)) (extended d (with_instr (I.FrontConst r w) d) (constants_put words (r + 1) (with_instr (I.FrontConst r w) d)) 1 (length words) one (constants_extend words (r + 1) (with_instr (I.FrontConst r w) d)))
+  where
+    count : (n : ℕ) → 1 + n ≡ suc n
+    count n = omega arith
 
 -- a scalar parameter or result has no field
 no_own_field : (info : VarInfo) (d : Draft) → info.shape ≡ None → own_field_of info d ≡ Makes tt d
@@ -266,3 +281,177 @@ mapped_at : (us : List CodeUnit) (k : ℕ) (d : Draft) → slice_get (map draft 
 mapped_at [] k d is = cc
 mapped_at (u ∷ us) zero d is = (u, (refl, some_same (draft u) d is))
 mapped_at (u ∷ us) (suc k) d is = mapped_at us k d is
+
+-- ---- the units of a compiled program
+
+module _ (t : Typed) (image : Image) (p : HasScalarInstances t) (codable : IsCodable t) (compiled : IsCompiled t image) where
+  abbrev pub the_words : List ℕ
+  the_words = compiled.lowered.words
+
+  abbrev pub layout_at : ℕ → Layout
+  layout_at number = layout_of t the_words number
+
+  -- the first register that neither a variable nor a constant has
+  abbrev pub first_value : ℕ
+  first_value = first_free (layout_of t the_words 0)
+
+  abbrev pub drafts : List Draft
+  drafts = units_of t the_words t.instances.items 0 first_value
+
+  -- the registers of the values of an instance are those from one on and before another
+  unfoldable pub begins : ℕ → ℕ
+  begins number = starts_at drafts number first_value
+
+  unfoldable pub ends : ℕ → ℕ
+  ends number = starts_at drafts (suc number) first_value
+
+  pub begins_first : begins 0 ≡ first_value
+  unfolding begins
+  begins_first = starts_first drafts first_value
+
+  pub begins_next : (k : ℕ) → begins (k + 1) ≡ ends k
+  unfolding begins ends
+  begins_next k = ap (λ (n : ℕ). starts_at drafts n first_value) (next k)
+    where
+      next : (k : ℕ) → k + 1 ≡ suc k
+      next k = omega arith
+
+  all_stand : StandBehind t the_words codable 0 t.instances.items
+  all_stand j i is = ap (λ (n : ℕ). slice_get t.instances.items n) (nothing j) ∙ is
+    where
+      nothing : (j : ℕ) → 0 + j ≡ j
+      nothing j = omega arith
+
+  climb : Climbs drafts first_value
+  climb = all_climb t the_words codable t.instances.items 0 first_value p all_stand
+
+  pub begins_least : (number : ℕ) → begins number ≤ ends number
+  unfolding begins ends
+  begins_least number = climb number
+
+  -- the values of a later instance stand behind those of an earlier one
+  pub ends_before : (j k : ℕ) → j < k → ends j ≤ begins k
+  unfolding begins ends
+  ends_before j k less = climbs_to drafts first_value (suc j) k (omega (arith, less)) climb
+
+  -- no register is of values of two instances
+  pub values_apart : (j k r : ℕ) → begins j ≤ r → r < ends j → begins k ≤ r → r < ends k → j ≡ k
+  values_apart j k r low high other_low other_high = by (in_order j k)
+    where
+      by : (j < k) ⊎ ((j ≡ k) ⊎ (k < j)) → j ≡ k
+      by (inl less) = let h = ends_before j k less in absurd (omega (arith, h, high, other_low))
+      by (inr (inl same)) = same
+      by (inr (inr more)) = let h = ends_before k j more in absurd (omega (arith, h, low, other_high))
+
+  -- values stand behind the variables and the constants, as all layouts say
+  pub begins_free : (other number : ℕ) → first_free (layout_of t the_words other) ≤ begins number
+  unfolding begins first_free
+  begins_free other number =
+      let least = climbs_to drafts first_value 0 number (omega arith) climb in
+      let zeroth = starts_first drafts first_value in
+      let end = same_end t p the_words other 0 in
+      let constants = ap length (same_constants t p the_words other 0) in
+      omega (arith, least, zeroth, end, constants)
+
+  pub slots_are : image.slots ≡ slots_behind first_value drafts
+  slots_are = compiled.linked.slots ∙ compiled.placed.slots ∙ compiled.lowered.as_described.slots ∙ ap (λ (ds : List Draft). slots_behind first_value ds) compiled.lowered.as_described.units
+
+  pub ends_within : (number : ℕ) → ends number ≤ image.slots
+  unfolding ends
+  ends_within number = let most = at_most_behind drafts first_value (suc number) climb in let slots = slots_are in omega (arith, most, slots)
+
+  -- The unit of an instance: the program's, what it is as a draft, and that its values end where its
+  -- registers do.
+  pub record OwnUnit (number : ℕ) (i : Instance) : Type 0 where
+    pub unit : Draft
+    pub placed : CodeUnit
+    pub is_unit : IsUnit compiled.before number placed
+    pub drafted : draft placed ≡ unit
+    pub made : unit_of t (layout_of t the_words number) (number == 0) (begins number) i ≡ Makes tt unit
+    pub last : unit.regs ≡ ends number
+
+  pub own_unit : (number : ℕ) (i : Instance) → slice_get t.instances.items number ≡ Some i → OwnUnit number i
+  unfolding begins ends
+  own_unit number i is =
+      let h : HasOwn t the_words drafts first_value number number i = subst (λ (n : ℕ). HasOwn t the_words drafts first_value number n i) (nothing number) (own_there t the_words codable t.instances.items 0 first_value number i all_stand is) in
+      let at = mapped_at compiled.before.units.items number h.own.unit (ap (λ (ds : List Draft). slice_get ds number) compiled.lowered.as_described.units ∙ h.there) in
+      record { unit = h.own.unit; placed = at.0; is_unit = at.1.0; drafted = at.1.1; made = h.own.made; last = h.ends }
+    where
+      nothing : (n : ℕ) → 0 + n ≡ n
+      nothing n = omega arith
+
+  abbrev pub unit_at : (number : ℕ) (i : Instance) → slice_get t.instances.items number ≡ Some i → Draft
+  unit_at number i is = (own_unit number i is).unit
+
+  abbrev pub setting : (number : ℕ) (i : Instance) → slice_get t.instances.items number ≡ Some i → (ℕ → Type 0) → List ℕ → Setting
+  setting number i is spared returns = record {
+    typed = t;
+    words = the_words;
+    image = image;
+    before = compiled.before;
+    after = compiled.after;
+    placed = compiled.placed.placed;
+    linked = compiled.linked.code;
+    number = number;
+    unit = (own_unit number i is).placed;
+    is_unit = (own_unit number i is).is_unit;
+    instance = i;
+    is_instance = is;
+    is_main = number == 0;
+    begins = begins number;
+    ends = ends number;
+    spared = spared;
+    returns = returns;
+  }
+
+  pub within_all : (number : ℕ) (i : Instance) (is : slice_get t.instances.items number ≡ Some i) (spared : ℕ → Type 0) (returns : List ℕ) → Within (setting number i is spared returns) (unit_at number i is)
+  unfolding draft
+  within_all number i is spared returns = record {
+    more = [];
+    code = ap (λ (d : Draft). d.code) (own_unit number i is).drafted ∙ sym (append-nil (unit_at number i is).code);
+    regs = let last = (own_unit number i is).last in let h = ends_within number in omega (arith, last, h);
+    own = let last = (own_unit number i is).last in omega (arith, last);
+  }
+
+  -- the registers of an instance, where those that are spared are none of its own
+  pub has_registers : (number : ℕ) (i : Instance) (is : slice_get t.instances.items number ≡ Some i) (spared : ℕ → Type 0) (returns : List ℕ)
+      → ((r : ℕ) → spared r → (x : Variable) (info : VarInfo) → variable_named t i x ≡ Some info → r ≡ register_of (layout_of t the_words number) x → ⊥)
+      → ((r : ℕ) → spared r → begins number ≤ r → r < ends number → ⊥) → HasRegisters (setting number i is spared returns)
+  has_registers number i is spared returns variables values = record {
+    below = below t p the_words number i is;
+    free = begins_free number number;
+    result = result_below t p the_words number i is;
+    result_apart = result_apart t p the_words number i is;
+    spared_variable = variables;
+    spared_own = values;
+    apart = apart t p the_words number i is;
+  }
+
+  -- ---- what a unit is made of
+
+  -- the body of an instance, behind what the unit begins with
+  pub made_of : (number : ℕ) (i : Instance) (is : slice_get t.instances.items number ≡ Some i) → body_from t (layout_of t the_words number) (number == 0) i (opened t (layout_of t the_words number) (number == 0) (begins number) i) ≡ Makes tt (unit_at number i is)
+  made_of number i is = sym (unit_is t (layout_of t the_words number) (number == 0) (begins number) i p.variables (p.each number i is)) ∙ (own_unit number i is).made
+
+  -- another instance than `main` has nothing before its body
+  pub other_is : (number : ℕ) (i : Instance) (is : slice_get t.instances.items number ≡ Some i) → (number == 0) ≡ false → body_from t (layout_of t the_words number) false i (blank i.name (begins number)) ≡ Makes tt (unit_at number i is)
+  unfolding opened
+  other_is number i is other =
+      subst (λ (b : Bool). body_from t (layout_of t the_words number) b i (opened t (layout_of t the_words number) b (begins number) i) ≡ Makes tt (unit_at number i is)) other (made_of number i is)
+
+  -- `main` has the constants and the values of the file's variables there
+  abbrev pub empty_unit : Instance → Draft
+  empty_unit i = blank i.name (begins 0)
+
+  abbrev pub with_constants : Instance → Draft
+  with_constants i = constants_put (layout_at 0).constants (layout_at 0).end (empty_unit i)
+
+  abbrev pub with_starts : Instance → Draft
+  with_starts i = starts_put (layout_at 0) t.vars.items 0 (with_constants i)
+
+  pub constants_grow : (i : Instance) → Extended (empty_unit i) (length (layout_at 0).constants) (with_constants i)
+  constants_grow i = constants_extend (layout_at 0).constants (layout_at 0).end (empty_unit i)
+
+  pub main_is : (i : Instance) (is : slice_get t.instances.items 0 ≡ Some i) → body_from t (layout_of t the_words 0) true i (with_starts i) ≡ Makes tt (unit_at 0 i is)
+  unfolding opened
+  main_is i is = made_of 0 i is
