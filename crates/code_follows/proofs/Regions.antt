@@ -20,9 +20,13 @@ use Rattle.code_follows.specs.Fragment.{IsWordVariable}
 use Rattle.code_follows.proofs.Declaring.{all_first, all_rest}
 use Rattle.code_follows.proofs.Standing.{some_same}
 
+-- an instance whose parameters, result and block variables are scalars, those of 32 bits that are variables
+abbrev pub IsScalarInstance : Instance → Type 0
+IsScalarInstance i = All IsWordVariable i.params.items × ((info : VarInfo) → i.result ≡ Some info → info.shape ≡ None) × All IsWordVariable (variables_of i.body)
+
 -- A program whose variables are all scalars of 32 bits, and whose instances have names of their own.
 pub record HasScalarInstances (t : Typed) : Type 0 where
-  pub each : (k : ℕ) (i : Instance) → slice_get t.instances.items k ≡ Some i → (All IsWordVariable i.params.items × ((info : VarInfo) → i.result ≡ Some info → info.shape ≡ None) × All IsWordVariable (variables_of i.body))
+  pub each : (k : ℕ) (i : Instance) → slice_get t.instances.items k ≡ Some i → IsScalarInstance i
   pub names : (j k : ℕ) (a b : Instance) → slice_get t.instances.items j ≡ Some a → slice_get t.instances.items k ≡ Some b → a.name ≡ b.name → j ≡ k
   pub variables : All IsWordVariable t.vars.items
 
@@ -393,6 +397,14 @@ module _ (t : Typed) (p : HasScalarInstances t) (words : List ℕ) where
       let inside = slice_get_within i.params.items k info named in let first = param_register number k in let second = local_register number i j is in absurd (omega (arith, inside, first, second, same))
   apart number i is (V.Local k) (V.Param j) info other named also same =
       let inside = slice_get_within i.params.items j other also in let first = local_register number i k is in let second = param_register number j in absurd (omega (arith, inside, first, second, same))
+
+  -- a variable that an instance knows has none of the registers of another
+  pub other_apart : (j k : ℕ) (a b : Instance) → slice_get t.instances.items j ≡ Some a → slice_get t.instances.items k ≡ Some b → (j ≡ k → ⊥) → (x : Variable) (info : VarInfo) → variable_named t a x ≡ Some info → IsOwn k b (register_of (layout_of t words j) x) → ⊥
+  unfolding variable_named
+  other_apart j k a b one other differ (V.File n) info named own =
+      let inside = slice_get_within t.vars.items n info named in let at = file_register j n in let low = own_behind k b _ other own in omega (arith, inside, at, low)
+  other_apart j k a b one other differ (V.Param n) info named own = differ (own_apart j k a b _ one other (param_own j a n info one named) own)
+  other_apart j k a b one other differ (V.Local n) info named own = differ (own_apart j k a b _ one other (local_own j a n info one named) own)
 
   -- ---- what the code of an instance relies on
 

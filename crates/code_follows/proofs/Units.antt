@@ -1,12 +1,12 @@
 -- The units of a scalar program: what the unit of each instance is, and which registers its values have.
-use Rattle.std.proofs.Common.{◌≡◌, ◌∙◌, ℕ, zero, suc, ◌+◌, ◌-◌, ◌<◌, ◌≤◌, ◌==◌, Bool, true, false, List, [], ◌∷◌, ◌++◌, length, map, slice_get, Option, Some, None, refl, sym, ap, subst, arith, if◌then◌else◌, ◌⊎◌, inl, inr}
+use Rattle.std.proofs.Common.{◌≡◌, ◌∙◌, ℕ, zero, suc, ◌+◌, ◌-◌, ◌<◌, ◌≤◌, ◌==◌, Bool, true, false, List, [], ◌∷◌, length, map, slice_get, Option, Some, None, refl, sym, ap, subst, arith, if◌then◌else◌, ◌⊎◌, inl, inr}
+use Rattle.std.proofs.lemmas.Bool.{eqb-true}
 use Rattle.std.proofs.lemmas.List.{append-nil}
 use Rattle.std.specs.List.{All}
 use Rattle.cstar_tree.specs.declared.typed.Instance.{Instance}
 use Rattle.cstar_tree.specs.declared.typed.Typed.{Typed}
 use Rattle.cstar_tree.specs.declared.typed.VarInfo.{VarInfo}
 use Rattle.cstar_tree.specs.declared.typed.Variable.{Variable}
-use Rattle.cstar_tree.specs.Variables.{variables_of}
 use Rattle.code_lengths.specs.Agreement.{HasUnit, opening_of}
 use Rattle.code_lengths.specs.Growth.{Extended}
 use Rattle.code_lengths.specs.Naming.{variable_named}
@@ -28,13 +28,13 @@ use Rattle.code_follows.specs.Fragment.{IsWordVariable}
 use Rattle.code_follows.proofs.Beginnings.{start_put, starts_put}
 use Rattle.code_follows.proofs.Declaring.{all_first, all_rest}
 use Rattle.code_follows.proofs.Following.{HasRegisters}
-use Rattle.code_follows.proofs.Regions.{HasScalarInstances, apart, below, in_order, result_apart, result_below, same_constants, same_end}
+use Rattle.code_follows.proofs.Regions.{HasScalarInstances, IsScalarInstance, apart, below, in_order, result_apart, result_below, same_constants, same_end}
 use Rattle.code_follows.proofs.Settings.{Setting, Within}
 use Rattle.code_follows.proofs.Standing.{some_same}
 
 -- ---- what a unit begins with
 
--- the first of a scalar's values is a number
+-- the values with which scalar variables of the file begin
 starts_are : (t : Typed) (l : Layout) (infos : List VarInfo) (n : ℕ) (d : Draft) → All IsWordVariable infos → start_values_of t l infos n d ≡ Makes tt (starts_put l infos n d)
 unfolding start_values_of start_value_of then_make start_put starts_put
 starts_are t l [] n d all = refl
@@ -49,7 +49,7 @@ starts_are t l (info ∷ infos) n d all =
     by true = refl
     by false = refl
 
--- neither takes registers or homes
+-- they take no register and no home, nor do constants
 start_takes : (l : Layout) (info : VarInfo) (n : ℕ) (d : Draft) → ((start_put l info n d).regs ≡ d.regs) × ((start_put l info n d).homes ≡ d.homes)
 unfolding start_put scalar_begun with_instr with_step
 start_takes l info n d = by (info.start == 0)
@@ -117,10 +117,6 @@ begun_is : (t : Typed) (l : Layout) (is_main : Bool) (regs : ℕ) (i : Instance)
 unfolding begun opened
 begun_is t l true regs i all = starts_are t l t.vars.items 0 (constants_put l.constants l.end (blank i.name regs)) all
 begun_is t l false regs i all = refl
-
--- an instance whose parameters, result and block variables are scalars
-abbrev pub IsScalarInstance : Instance → Type 0
-IsScalarInstance i = All IsWordVariable i.params.items × ((info : VarInfo) → i.result ≡ Some info → info.shape ≡ None) × All IsWordVariable (variables_of i.body)
 
 opening_is : (t : Typed) (l : Layout) (is_main : Bool) (regs : ℕ) (i : Instance) → All IsWordVariable t.vars.items → IsScalarInstance i → opening_of t l is_main regs i ≡ Makes tt (opened t l is_main regs i)
 unfolding opening_of then_make
@@ -439,6 +435,25 @@ module _ (t : Typed) (image : Image) (p : HasScalarInstances t) (codable : IsCod
   other_is number i is other =
       subst (λ (b : Bool). body_from t (layout_of t the_words number) b i (opened t (layout_of t the_words number) b (begins number) i) ≡ Makes tt (unit_at number i is)) other (made_of number i is)
 
+  pub not_main : (number : ℕ) → (number ≡ 0 → ⊥) → (number == 0) ≡ false
+  not_main number differs = by (number == 0) refl
+    where
+      by : (b : Bool) → (number == 0) ≡ b → b ≡ false
+      by true same = absurd (differs (eqb-true number 0 same))
+      by false other = refl
+
+  pub blank_regs : (number : ℕ) (i : Instance) → (blank i.name (begins number)).regs ≡ begins number
+  unfolding blank
+  blank_regs number i = refl
+
+  pub blank_homes : (number : ℕ) (i : Instance) → (blank i.name (begins number)).homes ≡ []
+  unfolding blank
+  blank_homes number i = refl
+
+  pub blank_code : (number : ℕ) (i : Instance) → (blank i.name (begins number)).code ≡ []
+  unfolding blank
+  blank_code number i = refl
+
   -- `main` has the constants and the values of the file's variables there
   abbrev pub empty_unit : Instance → Draft
   empty_unit i = blank i.name (begins 0)
@@ -451,6 +466,14 @@ module _ (t : Typed) (image : Image) (p : HasScalarInstances t) (codable : IsCod
 
   pub constants_grow : (i : Instance) → Extended (empty_unit i) (length (layout_at 0).constants) (with_constants i)
   constants_grow i = constants_extend (layout_at 0).constants (layout_at 0).end (empty_unit i)
+
+  pub starts_regs : (i : Instance) → (with_starts i).regs ≡ begins 0
+  unfolding opened
+  starts_regs i = opened_regs t (layout_at 0) true (begins 0) i
+
+  pub starts_homes : (i : Instance) → (with_starts i).homes ≡ []
+  unfolding opened
+  starts_homes i = opened_homes t (layout_at 0) true (begins 0) i
 
   pub main_is : (i : Instance) (is : slice_get t.instances.items 0 ≡ Some i) → body_from t (layout_of t the_words 0) true i (with_starts i) ≡ Makes tt (unit_at 0 i is)
   unfolding opened
