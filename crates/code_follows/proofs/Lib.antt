@@ -28,11 +28,13 @@ pub mod Operators
 pub mod Printing
 pub mod Programs
 pub mod Putting
+pub mod Regions
 pub mod Returning
 pub mod Settings
 pub mod Standing
 pub mod Starting
 pub mod Statements
 pub mod Stores
+pub mod Units
 pub mod Values
 pub mod Words
