@@ -1,5 +1,5 @@
 -- Every statement of the fragment.
-use Rattle.std.proofs.Common.{◌≡◌, ◌∙◌, ℕ, ◌+◌, ◌≤◌, false, List, [], ◌++◌, map, Vec, Global, length, Some, sym, subst, arith, None, refl}
+use Rattle.std.proofs.Common.{◌≡◌, ◌∙◌, ℕ, ◌+◌, ◌≤◌, false, List, [], ◌++◌, map, Vec, Global, length, Some, sym, subst, arith, None, refl, ◌⊎◌, inl, true}
 use mathlib.Core.Former.{Count}
 use Rattle.std.proofs.lemmas.List.{length-map}
 use Rattle.std.specs.List.{All}
@@ -15,6 +15,7 @@ use Rattle.code_lengths.specs.Agreement.{StandsAmong}
 use Rattle.code_lengths.specs.Growth.{Extended}
 use Rattle.code_lengths.specs.LowerableStatements.{AreLowerableStatements, IsLowerableStatement}
 use Rattle.code_lengths.specs.ShapedStatements.{AreShapedStatements, IsShapedStatement}
+use Rattle.code_lengths.specs.Naming.{variable_named}
 use Rattle.code_lengths.specs.NamingStatements.{StandFrom, StatementNamesVariables, StatementsNameVariables, behind}
 use Rattle.code_lengths.specs.Ready.{HasDeclared, HasStatementCode, IsReady, NumbersVariables}
 use Rattle.code_lengths.proofs.Declaring.{first_part, info_of, of_block, row_variables, second_part}
@@ -32,7 +33,7 @@ use Rattle.source_meaning.specs.State.{Outcome, State, is_among, spend_turn, the
 use Rattle.source_meaning.specs.Statements.{Broke, Continued, Onward, all_executed, declared, done, else_executed, executed, initialised, then_go, Leaving}
 use Rattle.source_meaning.specs.Values.{Active, Scope, Value}
 use Rattle.lower_base.specs.declared.emit.Out.{Out}
-use Rattle.code_follows.proofs.Declaring.{Clears, Started, clears, sim_fewer}
+use Rattle.code_follows.proofs.Declaring.{Clears, Started, clears, sim_fewer, Alive}
 use Rattle.code_follows.specs.Fragment.{AreInStatements, IsEffect, IsInLocal, IsInElse, IsInStatement, IsTested}
 use Rattle.code_follows.proofs.Assigning.{effect_follows}
 use Rattle.code_follows.proofs.Choices.{Agrees, if_alone, if_else}
@@ -131,17 +132,17 @@ module _ (g : Setting) (has : HasRegisters g) (alive : Variable → Type 0) (eve
   }
 
   -- a block: its variables, and then its statements
-  block_follows : {k : Count} (locals : List LocalVar) (row : Row_of-TStmt k) (f : Frame) (n : ℕ) (d : Draft) (s0 : CodeState) (st : State) → All (IsInLocal g.may) locals → StandFrom (variables_of g.instance.body) n (map info_of locals) → AreCoded g has alive every ready scope active n locals → RowCode (n + length locals) row
-      → StandsIn g f → StandsAmong f [] → d.homes ≡ [] → g.begins ≤ d.regs → At g s0 (length d.code) → Sim g alive st s0
+  pub block_follows : {k : Count} (before : Variable → Type 0) (locals : List LocalVar) (row : Row_of-TStmt k) (f : Frame) (n : ℕ) (d : Draft) (s0 : CodeState) (st : State) → All (IsInLocal g.may) locals → StandFrom (variables_of g.instance.body) n (map info_of locals) → AreCoded g has alive every ready scope active n locals → RowCode (n + length locals) row
+      → StandsIn g f → StandsAmong f [] → d.homes ≡ [] → g.begins ≤ d.regs → At g s0 (length d.code) → Sim g before st s0 → ((x : Variable) (info : VarInfo) → variable_named g.typed g.instance x ≡ Some info → before x ⊎ (is_among n (length locals) x ≡ true))
       → ((e : Draft) (t : CodeState) (u : State) → e.homes ≡ [] → g.begins ≤ e.regs → At g t (length e.code) → Sim g alive u t → Follows g (Left g alive f e t) t (all_executed scope row (n + length locals) active u) (statements_of g.typed (layout g) row f [] (n + length locals) e))
       → Follows g (Left g alive f d s0) s0 (then_go (initialised scope active n locals (zeroed n (length locals) st)) (all_executed scope row (n + length locals) active)) (then_make (declared_in g.typed (layout g) false locals n d) (λ m after. statements_of g.typed (layout g) row f [] m after))
   unfolding declared_in then_make Extends
-  block_follows locals row f n d s0 st isin stand initial code framed among none free at sim next =
+  block_follows before locals row f n d s0 st isin stand initial code framed among none free at sim covers next =
       subst (λ (m : Made (Unit {0})). Follows g (Left g alive f d s0) s0 whole (then_make (then_make m (λ u between. then_make (all_initialised g.typed (layout g) locals n between) (λ v after. Makes (n + length locals) after))) (λ m' after. statements_of g.typed (layout g) row f [] m' after))) (sym c.is)
       (by (all_initialised g.typed (layout g) locals n c.e) refl)
     where
-      c : Clears g has alive locals n d
-      c = clears g has alive locals n d isin stand
+      c : Clears g has before locals n d
+      c = clears g has before locals n d isin stand
 
       after_zero : State
       after_zero = zeroed n (length locals) st
@@ -157,8 +158,8 @@ module _ (g : Setting) (has : HasRegisters g) (alive : Variable → Type 0) (eve
           let made : Made ℕ = statements_of g.typed (layout g) row f [] (n + length locals) e in
           let grows_on : Extends g e made = row_grows row f (n + length locals) e framed among homes code in
           delayed g (Left g alive f d s0) c.e s0 whole made (extends_made g c.e e grows.0 made grows.1 grows_on) (λ within.
-          let ran = c.runs s0 st (λ j less. every (V.Local j)) free at sim within in
-          let started : Sim g (Started locals n) after_zero ran.t = sim_fewer g (λ x. alive x × Started locals n x) (Started locals n) after_zero ran.t (λ x h. (every x, h)) ran.sim in
+          let ran = c.runs s0 st free at sim within in
+          let started : Sim g (Started locals n) after_zero ran.t = sim_fewer g (λ x. Alive before locals n x) (Started locals n) after_zero ran.t (λ x info named h. (covers x info named, h)) ran.sim in
           let longer = c.grown.regs in
           let more = grows.1.regs in
           follows_from g alive f d c.e c.count s0 ran.t whole made c.grown ran.go ran.keeps
@@ -189,7 +190,7 @@ module _ (g : Setting) (has : HasRegisters g) (alive : Variable → Type 0) (eve
 
     pub statement_follows : (s : TStmt) → (IsInStatement g.may) s → Follows_it s
     statement_follows (S.Block' locals p statements) h f n d s0 st framed among none free at sim c =
-        block_follows locals.items statements f n d s0 st h.0 (first_part (map info_of locals.items) (row_variables statements) (block_stands n locals p statements c)) (block_initials n locals p statements c) (block_code n locals p statements c) framed among none free at sim
+        block_follows alive locals.items statements f n d s0 st h.0 (first_part (map info_of locals.items) (row_variables statements) (block_stands n locals p statements c)) (block_initials n locals p statements c) (block_code n locals p statements c) framed among none free at sim (λ x info named. inl (every x))
         (λ e t u none_e free_e at_e sim_e. row_follows statements h.1 f (n + length locals.items) e t u framed among none_e free_e at_e sim_e (block_code n locals p statements c))
     statement_follows (S.Expression e) h f n d s0 st framed among none free at sim c = expression_follows e h f n d s0 st free at sim c
     statement_follows S.Empty h f n d s0 st framed among none free at sim c = stays_here f n d s0 st at sim

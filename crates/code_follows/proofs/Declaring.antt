@@ -1,5 +1,5 @@
 -- The variables of blocks.
-use Rattle.std.proofs.Common.{◌≡◌, ◌∙◌, ℕ, suc, ◌+◌, ◌<◌, ◌≤◌, ◌^◌, ◌&&◌, ◌==◌, if◌then◌else◌, nat_lt, Bool, true, false, List, [], ◌∷◌, ◌++◌, map, length, Option, Some, None, refl, sym, ap, subst, arith, slice_get}
+use Rattle.std.proofs.Common.{◌≡◌, ◌∙◌, ℕ, suc, ◌+◌, ◌<◌, ◌≤◌, ◌^◌, ◌&&◌, ◌==◌, if◌then◌else◌, nat_lt, Bool, true, false, List, [], ◌∷◌, ◌++◌, map, length, Option, Some, None, refl, sym, ap, subst, arith, slice_get, ◌⊎◌, inl, inr, eqb-true}
 use Rattle.std.proofs.lemmas.List.{get_or-set_other}
 use Rattle.std.specs.Prelude.{nat_le, ◌||◌}
 use Rattle.std.specs.List.{All}
@@ -27,7 +27,7 @@ use Rattle.code_follows.specs.Agreement.{AreBytes}
 use Rattle.code_follows.proofs.Executing.{ran_from}
 use Rattle.code_follows.proofs.Following.{HasRegisters, IsScalar, Keeps, Ran, Sim, held, input_of, keeps_all, variable_kept}
 use Rattle.code_follows.proofs.Settings.{At, Setting, Within, and_one, at_next, begins_here, earlier, layout, one, regs_more, stay}
-use Rattle.code_follows.proofs.Stores.{below_free, same_is, sim_begun}
+use Rattle.code_follows.proofs.Stores.{below_free, same_is, sim_begun, same_itself}
 use Rattle.code_follows.proofs.Words.{held_wide}
 
 -- what holds of all holds of those behind the first
@@ -91,11 +91,11 @@ module _ (g : Setting) where
   }
 
   -- what holds of more variables holds of fewer
-  pub sim_fewer : (more fewer : Variable → Type 0) (st : State) (s : CodeState) → ((x : Variable) → fewer x → more x) → Sim g more st s → Sim g fewer st s
+  pub sim_fewer : (more fewer : Variable → Type 0) (st : State) (s : CodeState) → ((x : Variable) (info : VarInfo) → variable_named g.typed g.instance x ≡ Some info → fewer x → more x) → Sim g more st s → Sim g fewer st s
   sim_fewer more fewer st s among h = record {
     registers = h.registers;
-    scalars = λ x info living scalar. h.scalars x info (among x living) scalar;
-    small = λ x info living scalar. h.small x info (among x living) scalar;
+    scalars = λ x info living scalar. h.scalars x info (among x info scalar.0 living) scalar;
+    small = λ x info living scalar. h.small x info (among x info scalar.0 living) scalar;
     constants = h.constants;
     turns = h.turns;
     output = h.output;
@@ -105,7 +105,7 @@ module _ (g : Setting) where
 
   ran_fewer : (more fewer : Variable → Type 0) (d : Draft) (s : CodeState) (u v : State) (e : Draft) → ((x : Variable) → fewer x → more x) → ((x : Variable) → v.scalar x ≡ u.scalar x) → v.turns ≡ u.turns → v.output ≡ u.output → input_of v ≡ input_of u
       → Ran g more d s u e → Ran g fewer d s v e
-  ran_fewer more fewer d s u v e among same turns output input r = record { grown = r.grown; t = r.t; go = r.go; at = r.at; keeps = r.keeps; sim = sim_fewer more fewer v r.t among (sim_same more u v r.t same turns output input r.sim) }
+  ran_fewer more fewer d s u v e among same turns output input r = record { grown = r.grown; t = r.t; go = r.go; at = r.at; keeps = r.keeps; sim = sim_fewer more fewer v r.t (λ x info named. among x) (sim_same more u v r.t same turns output input r.sim) }
 
   -- the first of variables that stand from a number on, and the others
   pub first_is_named : (n : ℕ) (info : VarInfo) (rest : List VarInfo) → StandFrom (variables_of g.instance.body) n (info ∷ rest) → variable_named g.typed g.instance (V.Local n) ≡ Some info
@@ -125,16 +125,39 @@ module _ (g : Setting) where
       none : (n k : ℕ) → (nat_le n k && nat_lt k (n + 0)) ≡ false
       none n k = grind (arith, nat_tests)
 
+-- what is alive where a block has cleared its variables
+abbrev pub Alive : (Variable → Type 0) → List LocalVar → ℕ → Variable → Type 0
+Alive before locals n x = (before x ⊎ (is_among n (length locals) x ≡ true)) × Started locals n x
+
+-- the first is among one more, or another one is
+first_or_later : (before : Variable → Type 0) (n len : ℕ) (x : Variable) → before x ⊎ (is_among n (suc len) x ≡ true) → (before x ⊎ (is_among (n + 1) len x ≡ true)) ⊎ (x ≡ V.Local n)
+unfolding is_among
+first_or_later before n len x (inl h) = inl (inl h)
+first_or_later before n len (V.File k) (inr h) = cc
+first_or_later before n len (V.Param k) (inr h) = cc
+first_or_later before n len (V.Local k) (inr h) = by (nat_le (n + 1) k && nat_lt k (n + 1 + len)) (n == k) refl refl (sym (among_more n len k) ∙ h)
+  where
+    by : (b c : Bool) → (nat_le (n + 1) k && nat_lt k (n + 1 + len)) ≡ b → (n == k) ≡ c → ((nat_le (n + 1) k && nat_lt k (n + 1 + len)) || (n == k)) ≡ true → (before (V.Local k) ⊎ ((nat_le (n + 1) k && nat_lt k (n + 1 + len)) ≡ true)) ⊎ (V.Local k ≡ V.Local n)
+    by true c is also h = inl (inr is)
+    by false true is also h = inr (ap V.Local (sym (eqb-true n k also)))
+    by false false is also h = cc
+
+none_among : (n : ℕ) (x : Variable) → is_among n 0 x ≡ true → ⊥
+unfolding is_among
+none_among n (V.File k) h = cc
+none_among n (V.Param k) h = cc
+none_among n (V.Local k) h = let none : (nat_le n k && nat_lt k (n + 0)) ≡ false = grind (arith, nat_tests) in cc
+
 module _ (g : Setting) (has : HasRegisters g) where
-  -- The variables of a block become 0, but for the registers of those that begin as constants. Those of
-  -- the source that are still to come are alive before, as their registers hold numbers of earlier rounds.
+  -- The variables of a block become 0, but for the registers of those that begin as constants. Those that are
+  -- cleared are alive from then on, beside those that were.
   pub record Clears (before : Variable → Type 0) (locals : List LocalVar) (n : ℕ) (d : Draft) : Type 0 where
     pub e : Draft
     pub is : all_cleared (layout g) false locals n d ≡ Makes tt e
     pub count : ℕ
     pub grown : Extended d count e
-    pub runs : (s : CodeState) (st : State) → ((k : ℕ) → n ≤ k → before (V.Local k)) → g.begins ≤ d.regs → At g s (length d.code) → Sim g before st s → Within g e
-        → Ran g (λ x. before x × Started locals n x) d s (zeroed n (length locals) st) e
+    pub runs : (s : CodeState) (st : State) → g.begins ≤ d.regs → At g s (length d.code) → Sim g before st s → Within g e
+        → Ran g (λ x. Alive before locals n x) d s (zeroed n (length locals) st) e
 
   cleared_so : (local : LocalVar) → local.info.shape ≡ None → (n : ℕ) (d : Draft) (b : Bool) → begins_constant local ≡ b → (next : Draft → Made (Unit {0}))
       → then_make (cleared (layout g) false local n d) (λ u after. next after) ≡ next (if b then d else with_instr (I.FrontConst (register_of (layout g) (V.Local n)) 0) d)
@@ -161,15 +184,20 @@ module _ (g : Setting) (has : HasRegisters g) where
     is = cleared_so local isin.0.0 n d true begins (λ after. all_cleared (layout g) false locals (n + 1) after) ∙ rest.is;
     count = rest.count;
     grown = rest.grown;
-    runs = λ s st later free at sim within.
+    runs = λ s st free at sim within.
         let others : Variable → Type 0 = λ x. before x × (x ≡ V.Local n → ⊥) in
         let st1 : State = with_scalar (V.Local n) 0 st in
         let sim1 : Sim g others st1 s = waiting before st s sim in
-        let ran = rest.runs s st1 (λ k less. (later k (omega (arith, less)), λ e. let same = local_same k n e in omega (arith, same, less))) free at sim1 within in
-        ran_fewer g (λ x. others x × Started locals (n + 1) x) (λ x. before x × Started (local ∷ locals) n x) d s (zeroed (n + 1) (length locals) st1) (zeroed n (suc (length locals)) st) rest.e
-        (λ x h. ((h.0, h.1.0 begins), h.1.1)) (zeroed_more n (length locals) st) refl refl refl ran;
+        let ran = rest.runs s st1 free at sim1 within in
+        ran_fewer g (λ x. Alive others locals (n + 1) x) (λ x. Alive before (local ∷ locals) n x) d s (zeroed (n + 1) (length locals) st1) (zeroed n (suc (length locals)) st) rest.e
+        (λ x h. (waiting_still x (h.1.0 begins) (first_or_later before n (length locals) x h.0), h.1.1)) (zeroed_more n (length locals) st) refl refl refl ran;
   }
     where
+      waiting_still : (x : Variable) → (x ≡ V.Local n → ⊥) → (before x ⊎ (is_among (n + 1) (length locals) x ≡ true)) ⊎ (x ≡ V.Local n) → (before x × (x ≡ V.Local n → ⊥)) ⊎ (is_among (n + 1) (length locals) x ≡ true)
+      waiting_still x other (inl (inl h)) = inl (h, other)
+      waiting_still x other (inl (inr h)) = inr h
+      waiting_still x other (inr e) = absurd (other e)
+
       waiting : (before : Variable → Type 0) (st : State) (s : CodeState) → Sim g before st s → Sim g (λ x. before x × (x ≡ V.Local n → ⊥)) (with_scalar (V.Local n) 0 st) s
       waiting before st s sim = record {
         registers = sim.registers;
@@ -190,7 +218,7 @@ module _ (g : Setting) (has : HasRegisters g) where
               by false is = ap (λ (b : Bool). if b then 0 else st.scalar x) is
 
   -- any other one becomes 0 at once
-  clears_one : (before : Variable → Type 0) (local : LocalVar) (locals : List LocalVar) (n : ℕ) (d : Draft) → (IsInLocal g.may) local → begins_constant local ≡ false → StandFrom (variables_of g.instance.body) n (info_of local ∷ map info_of locals) → Clears before locals (n + 1) (with_instr (I.FrontConst (register_of (layout g) (V.Local n)) 0) d) → Clears before (local ∷ locals) n d
+  clears_one : (before : Variable → Type 0) (local : LocalVar) (locals : List LocalVar) (n : ℕ) (d : Draft) → (IsInLocal g.may) local → begins_constant local ≡ false → StandFrom (variables_of g.instance.body) n (info_of local ∷ map info_of locals) → Clears (λ x. before x ⊎ (x ≡ V.Local n)) locals (n + 1) (with_instr (I.FrontConst (register_of (layout g) (V.Local n)) 0) d) → Clears before (local ∷ locals) n d
   unfolding all_cleared begun step_of zeroed with_scalar Started
   clears_one before local locals n d isin begins stand rest =
       let scalar : IsScalar g (V.Local n) local.info = (first_is_named g n local.info (map info_of locals) stand, isin.0.0) in
@@ -202,20 +230,30 @@ module _ (g : Setting) (has : HasRegisters g) where
         is = cleared_so local isin.0.0 n d false begins (λ after. all_cleared (layout g) false locals (n + 1) after) ∙ rest.is;
         count = 1 + rest.count;
         grown = extended d between rest.e 1 rest.count (and_one g (I.FrontConst r 0) d) rest.grown;
-        runs = λ s st later free at sim within.
+        runs = λ s st free at sim within.
+            let now : Variable → Type 0 = λ x. before x ⊎ (x ≡ V.Local n) in
             let s1 : CodeState = with_register r 0 s in
             let st1 : State = with_scalar (V.Local n) 0 st in
             let more = regs_more g (I.FrontConst r 0) d in
             let low = below_free g has (V.Local n) local.info scalar in
             let first_within : Within g between = earlier g between rest.e rest.count rest.grown within in
             let inside : r < length s.registers = omega (arith, low, free, first_within.regs, more, sim.registers) in
-            let sim1 : Sim g before st1 s1 = subst (λ (w : ℕ). Sim g before st1 (with_register r w s)) zero_held (sim_begun g has (V.Local n) local.info scalar before before (λ y living other. living) st s 0 (small_zero local.info.elem.bits isin.0.1) inside sim) in
+            let sim1 : Sim g now st1 s1 = subst (λ (w : ℕ). Sim g now st1 (with_register r w s)) zero_held (sim_begun g has (V.Local n) local.info scalar before now (λ y living other. was_alive y living other) st s 0 (small_zero local.info.elem.bits isin.0.1) inside sim) in
             let kept : Keeps g d s s1 = variable_kept g d s (V.Local n) local.info 0 has scalar.0 in
-            let ran = rest.runs s1 st1 (λ k less. later k (omega (arith, less))) (omega (arith, free, more)) (at_next g (I.FrontConst r 0) d s (s.at + 1) at refl) sim1 within in
-            let all = ran_from g (λ x. before x × Started locals (n + 1) x) d between 1 s s1 (zeroed (n + 1) (length locals) st1) rest.e (and_one g (I.FrontConst r 0) d) (one g s s1 (begins_here g (I.FrontConst r 0) d s first_within refl at)) kept ran in
-            ran_fewer g (λ x. before x × Started locals (n + 1) x) (λ x. before x × Started (local ∷ locals) n x) d s (zeroed (n + 1) (length locals) st1) (zeroed n (suc (length locals)) st) rest.e
-            (λ x h. (h.0, h.1.1)) (zeroed_more n (length locals) st) refl refl refl all;
+            let ran = rest.runs s1 st1 (omega (arith, free, more)) (at_next g (I.FrontConst r 0) d s (s.at + 1) at refl) sim1 within in
+            let all = ran_from g (λ x. Alive now locals (n + 1) x) d between 1 s s1 (zeroed (n + 1) (length locals) st1) rest.e (and_one g (I.FrontConst r 0) d) (one g s s1 (begins_here g (I.FrontConst r 0) d s first_within refl at)) kept ran in
+            ran_fewer g (λ x. Alive now locals (n + 1) x) (λ x. Alive before (local ∷ locals) n x) d s (zeroed (n + 1) (length locals) st1) (zeroed n (suc (length locals)) st) rest.e
+            (λ x h. (is_now x (first_or_later before n (length locals) x h.0), h.1.1)) (zeroed_more n (length locals) st) refl refl refl all;
       }
+    where
+      is_now : (x : Variable) → (before x ⊎ (is_among (n + 1) (length locals) x ≡ true)) ⊎ (x ≡ V.Local n) → (before x ⊎ (x ≡ V.Local n)) ⊎ (is_among (n + 1) (length locals) x ≡ true)
+      is_now x (inl (inl h)) = inl (inl h)
+      is_now x (inl (inr h)) = inr h
+      is_now x (inr e) = inl (inr e)
+
+      was_alive : (y : Variable) → before y ⊎ (y ≡ V.Local n) → is_same (V.Local n) y ≡ false → before y
+      was_alive y (inl h) other = h
+      was_alive y (inr e) other = let same : is_same (V.Local n) y ≡ true = ap (λ (z : Variable). is_same (V.Local n) z) e ∙ same_itself (V.Local n) in cc
 
   pub clears : (before : Variable → Type 0) (locals : List LocalVar) (n : ℕ) (d : Draft) → All (IsInLocal g.may) locals → StandFrom (variables_of g.instance.body) n (map info_of locals) → Clears before locals n d
   unfolding all_cleared zeroed Started
@@ -224,19 +262,23 @@ module _ (g : Setting) (has : HasRegisters g) where
     is = refl;
     count = 0;
     grown = as_it_was d;
-    runs = λ s st later free at sim within. record {
+    runs = λ s st free at sim within. record {
       grown = (0, as_it_was d);
       t = s;
       go = stay g s;
       at = at;
       keeps = keeps_all g d s;
-      sim = sim_fewer g before (λ x. before x × Started [] n x) (zeroed n 0 st) s (λ x h. h.0) (sim_same g before st (zeroed n 0 st) s (nothing_zeroed g n st) refl refl refl sim);
+      sim = sim_fewer g before (λ x. Alive before [] n x) (zeroed n 0 st) s (λ x info named h. nothing_more x h.0) (sim_same g before st (zeroed n 0 st) s (nothing_zeroed g n st) refl refl refl sim);
     };
   }
+    where
+      nothing_more : (x : Variable) → before x ⊎ (is_among n 0 x ≡ true) → before x
+      nothing_more x (inl h) = h
+      nothing_more x (inr h) = absurd (none_among n x h)
   clears before (local ∷ locals) n d isin stand =
       by (begins_constant local) refl (clears (λ x. before x × (x ≡ V.Local n → ⊥)) locals (n + 1) d (all_rest (IsInLocal g.may) local locals isin) (others_stand g n local.info (map info_of locals) stand))
-      (clears before locals (n + 1) (with_instr (I.FrontConst (register_of (layout g) (V.Local n)) 0) d) (all_rest (IsInLocal g.may) local locals isin) (others_stand g n local.info (map info_of locals) stand))
+      (clears (λ x. before x ⊎ (x ≡ V.Local n)) locals (n + 1) (with_instr (I.FrontConst (register_of (layout g) (V.Local n)) 0) d) (all_rest (IsInLocal g.may) local locals isin) (others_stand g n local.info (map info_of locals) stand))
     where
-      by : (b : Bool) → begins_constant local ≡ b → Clears (λ x. before x × (x ≡ V.Local n → ⊥)) locals (n + 1) d → Clears before locals (n + 1) (with_instr (I.FrontConst (register_of (layout g) (V.Local n)) 0) d) → Clears before (local ∷ locals) n d
+      by : (b : Bool) → begins_constant local ≡ b → Clears (λ x. before x × (x ≡ V.Local n → ⊥)) locals (n + 1) d → Clears (λ x. before x ⊎ (x ≡ V.Local n)) locals (n + 1) (with_instr (I.FrontConst (register_of (layout g) (V.Local n)) 0) d) → Clears before (local ∷ locals) n d
       by true is waiting done = waits before local locals n d (all_first (IsInLocal g.may) local locals isin) is waiting
       by false is waiting done = clears_one before local locals n d (all_first (IsInLocal g.may) local locals isin) is stand done

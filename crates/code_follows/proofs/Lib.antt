@@ -1,3 +1,4 @@
+pub mod Activations
 pub mod Assigning
 pub mod Beginnings
 pub mod Bodies

@@ -313,7 +313,7 @@ module _ (t : Typed) (image : Image) (p : IsScalarProgram t) (codable : IsCodabl
           let sim : Sim g alive begun_body c.there = sim_same g alive in_main begun_body c.there same_scalars refl refl refl c.sim in
           comes begun_there b.e b.n c.there body_run ends (go_closed _ _ (begins_closed g.may scope active 0 locals begun_body) (λ u. closed_row g.may scope active row inside closed (0 + length locals) u)) c.go
           (go_after g has alive every ready scope active begun_there c.there (Left g alive frame begun_there c.there) (initialised scope active 0 locals begun_body) (all_executed scope row (0 + length locals) active) tt b.begin (Makes b.n b.e)
-          (subst (λ (m : Made (Unit {0})). Follows g (RanOn g alive begun_there c.there) c.there (initialised scope active 0 locals begun_body) m) b.started (initials_follow g has alive every ready scope active locals 0 begun_there c.there begun_body isin stand initial free c.at (sim_fewer g alive (Started locals 0) begun_body c.there (λ x h. every x) sim)))
+          (subst (λ (m : Made (Unit {0})). Follows g (RanOn g alive begun_there c.there) c.there (initialised scope active 0 locals begun_body) m) b.started (initials_follow g has alive every ready scope active locals 0 begun_there c.there begun_body isin stand initial free c.at (sim_fewer g alive (Started locals 0) begun_body c.there (λ x info named h. every x) sim)))
           grown
           (λ u ran. follows_from g alive frame begun_there b.begin begins.0 c.there ran.t (all_executed scope row (0 + length locals) active u) (Makes b.n b.e) begins.1 ran.go ran.keeps
           (subst (λ (m : Made ℕ). Follows g (Left g alive frame b.begin ran.t) ran.t (all_executed scope row (0 + length locals) active u) m) b.is

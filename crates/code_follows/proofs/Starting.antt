@@ -231,13 +231,13 @@ module _ (g : Setting) (has : HasRegisters g) (alive : Variable → Type 0) (eve
       follows_on : (o : Outcome Value) (made : Made Out) → Follows g (Put g has (Started (local ∷ locals) n) (n + 1) (λ y h. lives y h) (ready (n + 1)) scope active (V.Local n) local.info (lives (V.Local n) itself) scalar wide d s) s o made → Follows g (λ v u (out : Out) f. Begun local locals n d s v u f) s o made
       follows_on o made h = follows_other g _ _ s o made h (λ v u out f p. (
         p.word,
-        (p.value, record { grown = p.grown; t = p.t; go = p.go; at = p.at; keeps = p.keeps; sim = sim_fewer g (Started (local ∷ locals) n) (Started locals (n + 1)) (with_scalar (V.Local n) p.word u) p.t (λ y later. ((λ b e. never b), later)) p.sim }),
+        (p.value, record { grown = p.grown; t = p.t; go = p.go; at = p.at; keeps = p.keeps; sim = sim_fewer g (Started (local ∷ locals) n) (Started locals (n + 1)) (with_scalar (V.Local n) p.word u) p.t (λ y info named later. ((λ b e. never b), later)) p.sim }),
       ))
 
   pub initials_follow : (locals : List LocalVar) (n : ℕ) (d : Draft) (s : CodeState) (st : State) → All (IsInLocal g.may) locals → StandFrom (variables_of g.instance.body) n (map info_of locals) → AreCoded n locals → g.begins ≤ d.regs → At g s (length d.code) → Sim g (Started locals n) st s
       → Follows g (RanOn g alive d s) s (initialised scope active n locals st) (all_initialised g.typed (layout g) locals n d)
   unfolding all_initialised initialised_in initialised initialised_one AreCoded Follows then_make then_go variable_target stored number Started begins_constant
-  initials_follow [] n d s st isin stand c free at sim = λ within. (refl, record { grown = (0, as_it_was d); t = s; go = stay g s; at = at; sim = sim_fewer g (Started [] n) alive st s (λ x h. tt) sim; keeps = keeps_all g d s })
+  initials_follow [] n d s st isin stand c free at sim = λ within. (refl, record { grown = (0, as_it_was d); t = s; go = stay g s; at = at; sim = sim_fewer g (Started [] n) alive st s (λ x info named h. tt) sim; keeps = keeps_all g d s })
   initials_follow (local ∷ locals) n d s st isin stand c free at sim =
       let first = all_first (IsInLocal g.may) local locals isin in
       by local.initial refl first.1 c.0 (λ e t u free_e at_e sim_e. initials_follow locals (n + 1) e t u (all_rest (IsInLocal g.may) local locals isin) (others_stand g n local.info (map info_of locals) stand) c.1 free_e at_e sim_e)
@@ -254,7 +254,7 @@ module _ (g : Setting) (has : HasRegisters g) (alive : Variable → Type 0) (eve
       by : (o : Option TExpr) → local.initial ≡ o → IfSome o (IsIn g.may) → IfSome o (HasCode g.typed g.instance (n + 1))
           → ((e : Draft) (t : CodeState) (u : State) → g.begins ≤ e.regs → At g t (length e.code) → Sim g (Started locals (n + 1)) u t → Follows g (RanOn g alive e t) t (initialised scope active (n + 1) locals u) (all_initialised g.typed (layout g) locals (n + 1) e))
           → Follows g (RanOn g alive d s) s (then_go (initialised_one scope active there o st) (initialised scope active (n + 1) locals)) (then_make (initial_put local.info n o d) (λ u after. all_initialised g.typed (layout g) locals (n + 1) after))
-      by None is h k rest = rest d s st free at (sim_fewer g (Started (local ∷ locals) n) (Started locals (n + 1)) st s (λ y later. ((λ b e. let none = starts_none local is in cc), later)) sim)
+      by None is h k rest = rest d s st free at (sim_fewer g (Started (local ∷ locals) n) (Started locals (n + 1)) st s (λ y info named later. ((λ b e. let none = starts_none local is in cc), later)) sim)
       by (Some e) is h k rest =
           let x : Variable = V.Local n in
           let next : Draft → Made (Unit {0}) = λ after. all_initialised g.typed (layout g) locals (n + 1) after in

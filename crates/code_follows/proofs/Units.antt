@@ -16,7 +16,7 @@ use Rattle.code_lengths.proofs.UnitLengths.{units}
 use Rattle.cstar_compile.specs.Compiled.{IsCompiled}
 use Rattle.lower_base.specs.Constants.{first_free}
 use Rattle.lower_base.specs.Drafts.{Draft, Fails, Made, Makes, an_entry, draft, then_make, with_instr, with_step}
-use Rattle.lower_base.specs.Layouts.{Layout, entries_of, layout_of, register_of}
+use Rattle.lower_base.specs.Layouts.{Layout, entries_of, layout_of, register_of, result_register}
 use Rattle.lower_stmt.specs.Programs.{begun, blank, body_frame, constants_put, elements_begun, joined, own_field_of, own_fields_of, own_result_of, scalar_begun, slots_behind, start_value_of, start_values_of, unit_of, units_of}
 use Rattle.lower_stmt.specs.Statements.{body_of, ended}
 use Rattle.paris_code.specs.declared.instr.Instr.TheVariants as I
@@ -24,11 +24,11 @@ use Rattle.paris_code.specs.declared.program.Image.{Image}
 use Rattle.paris_code.specs.declared.program.Owner.TheVariants as W
 use Rattle.paris_code.specs.declared.program.Unit.{Unit as CodeUnit}
 use Rattle.paris_code.specs.Proper.{IsUnit}
-use Rattle.code_follows.specs.Fragment.{IsWordVariable}
+use Rattle.code_follows.specs.Fragment.{IsWordVariable, May}
 use Rattle.code_follows.proofs.Beginnings.{start_put, starts_put}
 use Rattle.code_follows.proofs.Declaring.{all_first, all_rest}
 use Rattle.code_follows.proofs.Following.{HasRegisters}
-use Rattle.code_follows.proofs.Regions.{HasScalarInstances, IsScalarInstance, apart, below, in_order, result_apart, result_below, same_constants, same_end}
+use Rattle.code_follows.proofs.Regions.{HasScalarInstances, IsScalarInstance, apart, below, in_order, result_apart, result_below, same_constants, same_end, base_behind}
 use Rattle.code_follows.proofs.Settings.{Setting, Within}
 use Rattle.code_follows.proofs.Standing.{some_same}
 
@@ -379,8 +379,8 @@ module _ (t : Typed) (image : Image) (p : HasScalarInstances t) (codable : IsCod
   abbrev pub unit_at : (number : ℕ) (i : Instance) → slice_get t.instances.items number ≡ Some i → Draft
   unit_at number i is = (own_unit number i is).unit
 
-  abbrev pub setting : (number : ℕ) (i : Instance) → slice_get t.instances.items number ≡ Some i → (ℕ → Type 0) → List ℕ → Setting
-  setting number i is spared returns = record {
+  abbrev pub setting : (number : ℕ) (i : Instance) → slice_get t.instances.items number ≡ Some i → (ℕ → Type 0) → List ℕ → ℕ → May → Setting
+  setting number i is spared returns most may = record {
     typed = t;
     words = the_words;
     image = image;
@@ -398,11 +398,13 @@ module _ (t : Typed) (image : Image) (p : HasScalarInstances t) (codable : IsCod
     ends = ends number;
     spared = spared;
     returns = returns;
+    most = most;
+    may = may;
   }
 
-  pub within_all : (number : ℕ) (i : Instance) (is : slice_get t.instances.items number ≡ Some i) (spared : ℕ → Type 0) (returns : List ℕ) → Within (setting number i is spared returns) (unit_at number i is)
+  pub within_all : (number : ℕ) (i : Instance) (is : slice_get t.instances.items number ≡ Some i) (spared : ℕ → Type 0) (returns : List ℕ) (most : ℕ) (may : May) → Within (setting number i is spared returns most may) (unit_at number i is)
   unfolding draft
-  within_all number i is spared returns = record {
+  within_all number i is spared returns most may = record {
     more = [];
     code = ap (λ (d : Draft). d.code) (own_unit number i is).drafted ∙ sym (append-nil (unit_at number i is).code);
     regs = let last = (own_unit number i is).last in let h = ends_within number in omega (arith, last, h);
@@ -410,10 +412,14 @@ module _ (t : Typed) (image : Image) (p : HasScalarInstances t) (codable : IsCod
   }
 
   -- the registers of an instance, where those that are spared are none of its own
-  pub has_registers : (number : ℕ) (i : Instance) (is : slice_get t.instances.items number ≡ Some i) (spared : ℕ → Type 0) (returns : List ℕ)
+  pub has_registers : (number : ℕ) (i : Instance) (is : slice_get t.instances.items number ≡ Some i) (spared : ℕ → Type 0) (returns : List ℕ) (most : ℕ) (may : May)
       → ((r : ℕ) → spared r → (x : Variable) (info : VarInfo) → variable_named t i x ≡ Some info → r ≡ register_of (layout_of t the_words number) x → ⊥)
-      → ((r : ℕ) → spared r → begins number ≤ r → r < ends number → ⊥) → HasRegisters (setting number i is spared returns)
-  has_registers number i is spared returns variables values = record {
+      → ((r : ℕ) → spared r → begins number ≤ r → r < ends number → ⊥) → (spared (result_register (layout_of t the_words number)) → ⊥) → HasRegisters (setting number i is spared returns most may)
+  unfolding first_free
+  has_registers number i is spared returns most may variables values result = record {
+    behind_files = base_behind t p the_words number i is;
+    room = let free = begins_free number number in let least = begins_least number in let inside = ends_within number in omega (arith, free, least, inside);
+    spared_result = result;
     below = below t p the_words number i is;
     free = begins_free number number;
     result = result_below t p the_words number i is;

@@ -1,5 +1,5 @@
 -- The programs of which it is said so far that their code means them: scalar ones of 32 bits.
-use Rattle.std.specs.Prelude.{ℕ, Bool, ◌≡◌, ◌<◌, ◌^◌, [], ◌∷◌, IfSome, Option, Some, None}
+use Rattle.std.specs.Prelude.{ℕ, Bool, true, ◌+◌, List, map, slice_get, IsSome, ◌≡◌, ◌<◌, ◌^◌, [], ◌∷◌, IfSome, Option, Some, None}
 use Rattle.std.specs.List.{All}
 use Rattle.cstar_tree.specs.declared.typed.TExpr.{TExpr, Row_of-TExpr, end_of-TExpr, more_of-TExpr}
 use Rattle.cstar_tree.specs.declared.typed.TExpr as T
@@ -29,10 +29,6 @@ IsVariable _ = ⊥
 -- which functions may be called, by their instances' numbers: those with a result where its value is used
 abbrev pub May : Type 1
 May = Bool → ℕ → Type 0
-
--- none
-abbrev pub none_may : May
-none_may with_result number = ⊥
 
 unfoldable pub IsIn : May → TExpr → Type 0
 IsIn may (T.Number ty value) = IsWord ty × (value < 2 ^ 32)
@@ -116,20 +112,39 @@ unfoldable mutual
   IsClosedElse (Some' p s) = IsClosed s
 
 -- a block of such statements
-unfoldable pub IsMainBody : May → TStmt → Type 0
-IsMainBody may (S.Block' locals p statements) = All (IsInLocal may) locals.items × AreInStatements may statements × AreClosed statements
-IsMainBody may _ = ⊥
+unfoldable pub IsBody : May → TStmt → Type 0
+IsBody may (S.Block' locals p statements) = All (IsInLocal may) locals.items × AreInStatements may statements × AreClosed statements
+IsBody may _ = ⊥
+
+-- whose inner blocks declare nothing
+unfoldable pub IsFlat : TStmt → Type 0
+IsFlat (S.Block' locals p statements) = variables_of (S.Block' locals p statements) ≡ map (λ (local : LocalVar). local.info) locals.items
+IsFlat _ = ⊥
 
 -- a variable of the file, which begins with a number of 32 bits
 abbrev pub IsPlainVariable : VarInfo → Type 0
 IsPlainVariable info = IsWordVariable info × (info.start < 2 ^ 32)
 
--- a program of one function
+-- a function of scalars of 32 bits
+pub record IsScalarFunction (may : May) (i : Instance) : Type 0 where
+  pub params : All IsWordVariable i.params.items
+  pub result : (info : VarInfo) → i.result ≡ Some info → IsWordVariable info
+  pub body : IsBody may i.body
+  pub locals : All IsWordVariable (variables_of i.body)
+
+-- functions of a lesser rank, but `main`, may be called, those with a result where its value is used
+abbrev pub may_of : Typed → (ℕ → ℕ) → ℕ → May
+may_of t rank caller with_result number =
+    (callee : Instance) × ((slice_get t.instances.items number ≡ Some callee) × (0 < number) × (rank number < rank caller) × (with_result ≡ true → IsSome callee.result))
+
+-- A program of functions without recursion: they can be ranked so that each calls lesser ones alone. The
+-- functions beside `main` declare variables in their outermost blocks.
 pub record IsScalarProgram (t : Typed) : Type 0 where
   pub main : Instance
-  pub instances : t.instances.items ≡ main ∷ []
+  pub is_main : slice_get t.instances.items 0 ≡ Some main
   pub params : main.params.items ≡ []
-  pub result : (info : VarInfo) → main.result ≡ Some info → info.shape ≡ None
-  pub body : IsMainBody none_may main.body
-  pub locals : All IsWordVariable (variables_of main.body)
+  pub rank : ℕ → ℕ
+  pub each : (number : ℕ) (i : Instance) → slice_get t.instances.items number ≡ Some i → IsScalarFunction (may_of t rank number) i
+  pub flat : (number : ℕ) (i : Instance) → slice_get t.instances.items (number + 1) ≡ Some i → IsFlat i.body
+  pub names : (j k : ℕ) (a b : Instance) → slice_get t.instances.items j ≡ Some a → slice_get t.instances.items k ≡ Some b → a.name ≡ b.name → j ≡ k
   pub variables : All IsPlainVariable t.vars.items
