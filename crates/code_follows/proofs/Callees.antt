@@ -8,11 +8,12 @@ use Rattle.cstar_tree.specs.declared.typed.Variable.TheVariants as V
 use Rattle.code_lengths.specs.Naming.{variable_named}
 use Rattle.lower_base.specs.Constants.{constant_register}
 use Rattle.lower_base.specs.Layouts.{register_of, result_register}
-use Rattle.paris_code.specs.Code.{CodeState, start_at}
+use Rattle.paris_code.specs.Code.{CodeState}
+use Rattle.paris_code.specs.Units.{start_at}
 use Rattle.source_meaning.specs.Programs.{calls, run_body}
 use Rattle.source_meaning.specs.State as Source
 use Rattle.source_meaning.specs.State.{Outcome, State}
-use Rattle.source_meaning.specs.Values.{Active, Call, Nothing, Scalar, Value, number}
+use Rattle.source_meaning.specs.Values.{Active, Nothing, Scalar, Value, number}
 use Rattle.code_follows.specs.Agreement.{AreBytes}
 use Rattle.code_follows.specs.Fragment.{IsWordVariable}
 use Rattle.code_follows.proofs.Following.{Finishes, held, input_of}
