@@ -43,6 +43,7 @@ use Rattle.code_follows.specs.Fragment.{AreIn, IsEffect, IsIn, IsVariable, IsWor
 use Rattle.code_follows.proofs.Changing.{no_place, only_set, operated_set_is, plain_type, scalar_type, set_is, stepped_is, stepping}
 use Rattle.code_follows.proofs.Expressions.{assign_names, brackets_code, operand, step_names, target_named, value_follows}
 use Rattle.code_follows.proofs.Printing.{printf_code, printf_follows}
+use Rattle.code_follows.proofs.Callees.{CallsFollow}
 use Rattle.code_follows.proofs.Following.{Arrives, Extends, Follows, HasRegisters, IsScalar, Ran, Sim, keeps_all, then_follows, then_gives, then_silent}
 use Rattle.code_follows.proofs.Putting.{Put, put_follows}
 use Rattle.code_follows.proofs.Settings.{At, Setting, layout, stay}
@@ -50,7 +51,7 @@ use Rattle.code_follows.proofs.Stores.{variable_dest}
 use Rattle.code_follows.proofs.Values.{Value_of, HasWord, extends_in_register, extends_operated, operates, word_follows}
 use Rattle.code_follows.proofs.Words.{below_word, held_wide, kept, word_type}
 
-module _ (g : Setting) (has : HasRegisters g) (alive : Variable → Type 0) (n : ℕ) (lives : (x : Variable) → IsDeclared n x → alive x) (ready : (d : Draft) → IsReady g.typed g.instance (layout g) n d) (scope : Scope) (active : Active)
+module _ (g : Setting) (has : HasRegisters g) (alive : Variable → Type 0) (n : ℕ) (lives : (x : Variable) → IsDeclared n x → alive x) (ready : (d : Draft) → IsReady g.typed g.instance (layout g) n d) (scope : Scope) (active : Active) (calls_follow : CallsFollow g scope active)
     (x : Variable) (info : VarInfo) (living : alive x) (scalar : IsScalar g x info) (also : info.elem.bits ≡ 32) where
   abbrev own : ℕ
   own = register_of (layout g) x
@@ -64,8 +65,8 @@ module _ (g : Setting) (has : HasRegisters g) (alive : Variable → Type 0) (n :
       → Does_so (λ st. then_do (evaluated scope value active st) (λ v after. assigned scope active place A.Set ty (type_of value) (OfScalar x) v after)) (λ d. put_to g.typed (layout g) (O.Scalar own) value d)
   unfolding Follows
   set_follows place ty value plain isin c d s st free here sim =
-      then_silent g (Put g has alive n lives ready scope active x info living scalar also d s) (λ v u out e. Ran g alive d s u e) s (evaluated scope value active st) _ (put_to g.typed (layout g) (O.Scalar own) value d)
-      (put_follows g has alive n lives ready scope active x info living scalar also value isin c d s st free here sim) (λ v u out e p.
+      then_silent g (Put g has alive n lives ready scope active calls_follow x info living scalar also d s) (λ v u out e. Ran g alive d s u e) s (evaluated scope value active st) _ (put_to g.typed (layout g) (O.Scalar own) value d)
+      (put_follows g has alive n lives ready scope active calls_follow x info living scalar also value isin c d s st free here sim) (λ v u out e p.
       subst (λ (r : Outcome Value). Follows g (λ v u out e. Ran g alive d s u e) s r (Makes out e))
       (sym (ap (λ (w : Value). assigned scope active place A.Set ty (type_of value) (OfScalar x) w u) p.value ∙ set_is scope active place x ty (type_of value) p.word u plain (word_type g.may value isin).0))
       (λ within. record { grown = p.grown; t = p.t; go = p.go; at = p.at; sim = p.sim; keeps = p.keeps }))
@@ -99,8 +100,8 @@ module _ (g : Setting) (has : HasRegisters g) (alive : Variable → Type 0) (n :
         (subst (λ (made : Made Out). Follows g (λ v u out e. Ran g alive d s u e) s (assigned scope active place op ty (type_of value) (OfScalar x) v u) made) (sym (written_is arr.holds.register e))
         (subst (λ (r : Outcome Value). Follows g (λ v u out e. Ran g alive d s u e) s r (Makes (O.Scalar own) (operated_in o signed place own own arr.holds.register e)))
         (sym (ap (λ (w : Value). assigned scope active place op ty (type_of value) (OfScalar x) w u) arr.holds.value ∙ operated_set_is g has alive scope active place x op o ty (type_of value) arr.holds.word u word (word_type g.may value isin) few small is))
-        (then_silent g (Put g has alive n lives ready scope active x info living scalar also d s) (λ v u out e. Ran g alive d s u e) s _ _ (Makes (O.Scalar own) (operated_in o signed place own own arr.holds.register e))
-        (operates g has alive ty o place signed d e arr.extended.0 s arr.t u (Put g has alive n lives ready scope active x info living scalar also d s) scope active own own arr.holds.register old arr.holds.word word
+        (then_silent g (Put g has alive n lives ready scope active calls_follow x info living scalar also d s) (λ v u out e. Ran g alive d s u e) s _ _ (Makes (O.Scalar own) (operated_in o signed place own own arr.holds.register e))
+        (operates g has alive ty o place signed d e arr.extended.0 s arr.t u (Put g has alive n lives ready scope active calls_follow x info living scalar also d s) scope active own own arr.holds.register old arr.holds.word word
         (variable_dest g has alive x info living scalar ty.elem d s word.1 also free) arr.go arr.at arr.sim arr.extended.1 arr.keeps is_a is_b few small)
         (λ w u2 out2 e2 p. λ within. record { grown = p.grown; t = p.t; go = p.go; at = p.at; sim = subst (λ (q : Value). Sim g alive (with_scalar x (number q) u2) p.t) (sym p.value) p.sim; keeps = p.keeps }))))
 
@@ -108,7 +109,7 @@ module _ (g : Setting) (has : HasRegisters g) (alive : Variable → Type 0) (n :
     unfolding register_operated
     operated_set_follows d s st free here sim =
         then_follows g (Value_of g has alive (type_of value).elem true d s) (λ v u out e. Ran g alive d s u e) s s (evaluated scope value active st) _ (next_of g.typed (layout g) 32 true value d) (λ v between. in_register v (λ b. behind_value b between)) (stay g s)
-        (operand g has alive n lives ready scope active true 32 value isin c d s st free here sim) (λ v e. extends_in_register g has alive e v _ (λ b. extends_behind b e)) (λ v u out e arr. with_value d s v u out e free arr)
+        (operand g has alive n lives ready scope active calls_follow true 32 value isin c d s st free here sim) (λ v e. extends_in_register g has alive e v _ (λ b. extends_behind b e)) (λ v u out e arr. with_value d s v u out e free arr)
 
   -- ---- steps
 
@@ -138,8 +139,8 @@ module _ (g : Setting) (has : HasRegisters g) (alive : Variable → Type 0) (n :
         let is_a : slice_index h.t.registers own ≡ old = h.sim.scalars x info living scalar ∙ held_wide info.elem old also few in
         subst (λ (made : Made Out). Follows g (λ v u out e. Ran g alive d s u e) s (stepped scope active op order ty (OfScalar x) st) made) (sym (stepped_so q e))
         (subst (λ (r : Outcome Value). Follows g (λ v u out e. Ran g alive d s u e) s r (Makes (O.Scalar own) (operated_in (stepping op) sign place own own q e))) (sym (stepped_is g has alive scope active x place op order ty st word few))
-        (then_silent g (Put g has alive n lives ready scope active x info living scalar also d s) (λ v u out e. Ran g alive d s u e) s _ _ (Makes (O.Scalar own) (operated_in (stepping op) sign place own own q e))
-        (operates g has alive ty (stepping op) place sign d e h.grown.0 s h.t st (Put g has alive n lives ready scope active x info living scalar also d s) scope active own own q old 1 word
+        (then_silent g (Put g has alive n lives ready scope active calls_follow x info living scalar also d s) (λ v u out e. Ran g alive d s u e) s _ _ (Makes (O.Scalar own) (operated_in (stepping op) sign place own own q e))
+        (operates g has alive ty (stepping op) place sign d e h.grown.0 s h.t st (Put g has alive n lives ready scope active calls_follow x info living scalar also d s) scope active own own q old 1 word
         (variable_dest g has alive x info living scalar ty.elem d s word.1 also free) h.go h.at h.sim h.grown.1 h.keeps is_a h.is few (omega arith))
         (λ w u2 out2 e2 p. λ within. record { grown = p.grown; t = p.t; go = p.go; at = p.at; sim = subst (λ (v : Value). Sim g alive (with_scalar x (number v) u2) p.t) (sym p.value) p.sim; keeps = p.keeps })))
 
@@ -154,7 +155,7 @@ module _ (g : Setting) (has : HasRegisters g) (alive : Variable → Type 0) (n :
 
 -- ---- effects as they stand in the tree
 
-module _ (g : Setting) (has : HasRegisters g) (alive : Variable → Type 0) (n : ℕ) (lives : (x : Variable) → IsDeclared n x → alive x) (ready : (d : Draft) → IsReady g.typed g.instance (layout g) n d) (scope : Scope) (active : Active) where
+module _ (g : Setting) (has : HasRegisters g) (alive : Variable → Type 0) (n : ℕ) (lives : (x : Variable) → IsDeclared n x → alive x) (ready : (d : Draft) → IsReady g.typed g.instance (layout g) n d) (scope : Scope) (active : Active) (calls_follow : CallsFollow g scope active) where
   abbrev pub Runs : (State → Outcome Value) → (Draft → Made Out) → Type 0
   Runs part code = (d : Draft) (s : CodeState) (st : State) → g.begins ≤ d.regs → At g s (length d.code) → Sim g alive st s → Follows g (λ v u out e. Ran g alive d s u e) s (part st) (code d)
 
@@ -195,9 +196,9 @@ module _ (g : Setting) (has : HasRegisters g) (alive : Variable → Type 0) (n :
 
       by : (op : AssignOp) (m : Option Op) → assign_op_of op ≡ m → Follows g (λ v u out e. Ran g alive d s u e) s (then_do (evaluated scope value active st) (λ v after. assigned scope active place op (scalar_type elem) (type_of value) (OfScalar x) v after))
           (elim m as (λ _. Made Out) [ None ↦ put_to g.typed (layout g) (O.Scalar (register_of (layout g) x)) value d | Some o ↦ variable_operated g.typed (layout g) o place (T.Variable (scalar_type elem) x) value (O.Scalar (register_of (layout g) x)) d ])
-      by op (Some o) is = operated_set_follows g has alive n lives ready scope active x info (lives x v.declared) (v.named, refl) wide place op o (scalar_type elem) value (refl, wide) isin c is d s st free here sim
+      by op (Some o) is = operated_set_follows g has alive n lives ready scope active calls_follow x info (lives x v.declared) (v.named, refl) wide place op o (scalar_type elem) value (refl, wide) isin c is d s st free here sim
       by op None is = subst (λ (q : AssignOp). Follows g (λ v u out e. Ran g alive d s u e) s (then_do (evaluated scope value active st) (λ v after. assigned scope active place q (scalar_type elem) (type_of value) (OfScalar x) v after)) (put_to g.typed (layout g) (O.Scalar (register_of (layout g) x)) value d))
-          (sym (only_set op is)) (set_follows g has alive n lives ready scope active x info (lives x v.declared) (v.named, refl) wide place (scalar_type elem) value refl isin c d s st free here sim)
+          (sym (only_set op is)) (set_follows g has alive n lives ready scope active calls_follow x info (lives x v.declared) (v.named, refl) wide place (scalar_type elem) value refl isin c d s st free here sim)
 
   -- an expression without effects
   pure_follows : (e : TExpr) → (IsIn g.may) e → HasCode g.typed g.instance n e → Runs (λ st. evaluated scope e active st) (λ d. value_of g.typed (layout g) (type_of e).elem.bits e d)
@@ -205,7 +206,7 @@ module _ (g : Setting) (has : HasRegisters g) (alive : Variable → Type 0) (n :
   pure_follows e isin c d s st free here sim =
       subst (λ (o : Outcome Value). Follows g (λ v u out e. Ran g alive d s u e) s o (value_of g.typed (layout g) (type_of e).elem.bits e d)) (nothing_done (evaluated scope e active st))
       (then_gives g (Value_of g has alive (type_of e).elem true d s) (λ v u out e. Ran g alive d s u e) s (evaluated scope e active st) (λ v. v) (value_of g.typed (layout g) (type_of e).elem.bits e d)
-      (value_follows g has alive n lives ready scope active true (type_of e).elem.bits e isin c d s st free here sim) (λ v u out f arr. record { grown = arr.extended; t = arr.t; go = arr.go; at = arr.at; sim = arr.sim; keeps = arr.keeps }))
+      (value_follows g has alive n lives ready scope active calls_follow true (type_of e).elem.bits e isin c d s st free here sim) (λ v u out f arr. record { grown = arr.extended; t = arr.t; go = arr.go; at = arr.at; sim = arr.sim; keeps = arr.keeps }))
     where
       nothing_done : (o : Outcome Value) → then_do o (λ v after. Source.Gives v after) ≡ o
       nothing_done (Source.Gives v u) = refl
@@ -226,12 +227,12 @@ module _ (g : Setting) (has : HasRegisters g) (alive : Variable → Type 0) (n :
       subst (λ (t : ValueType). HasVariable g.typed g.instance n x (plain t) → Runs (λ st. then_do (Source.Gives (variable_target t.shape x 0) st) (λ there after. stepped scope active op order t there after)) (λ d. step_effect g.typed (layout g) op (T.Variable t x) whole d))
       (sym (plain_type tty word.0)) (λ w d s st free here sim.
       subst (λ (made : Made Out). Follows g (λ v u out e. Ran g alive d s u e) s (stepped scope active op order (scalar_type tty.elem) (OfScalar x) st) made) (sym (steps_it tty.elem x op whole d))
-      (stepped_follows g has alive n lives ready scope active x (variable_info w.word (plain (scalar_type tty.elem)) w.start) (lives x w.declared) (w.named, refl) word.1 no_place op (scalar_type tty.elem) (refl, word.1) order d s st free here sim)) v
+      (stepped_follows g has alive n lives ready scope active calls_follow x (variable_info w.word (plain (scalar_type tty.elem)) w.start) (lives x w.declared) (w.named, refl) word.1 no_place op (scalar_type tty.elem) (refl, word.1) order d s st free here sim)) v
 
   printf_runs : (ty : ValueType) (pieces : Vec Piece Global) (p : Vec (Unit {0}) Global) (arguments : _) → (AreIn g.may) arguments → HaveCode g.typed g.instance n arguments
       → Runs (λ st. evaluated scope (T.Printf' ty pieces p arguments) active st) (λ d. effect_of g.typed (layout g) (T.Printf' ty pieces p arguments) d)
   unfolding evaluated effect_of value_of
-  printf_runs ty pieces p arguments h c = printf_follows g has alive n lives ready scope active pieces.items arguments h c
+  printf_runs ty pieces p arguments h c = printf_follows g has alive n lives ready scope active calls_follow pieces.items arguments h c
 
   in_effect : (e : TExpr) → (IsIn g.may) e → (IsEffect g.may) e
   unfolding IsIn IsEffect
@@ -256,17 +257,17 @@ module _ (g : Setting) (has : HasRegisters g) (alive : Variable → Type 0) (n :
   pub effect_follows : (e : TExpr) → (IsEffect g.may) e → HasCode g.typed g.instance n e → Runs (λ st. evaluated scope e active st) (λ d. effect_of g.typed (layout g) e d)
   unfolding IsEffect effect_of evaluated IsVariable IsIn
   effect_follows (T.Assign' ty place op p (T.Variable tty x) q value) h c =
-      let names = assign_names g has alive n lives ready scope active ty place op p q (T.Variable tty x) value c in
+      let names = assign_names g has alive n lives ready scope active calls_follow ty place op p q (T.Variable tty x) value c in
       subst (λ (t : ValueType). Runs (λ st. then_do (Source.Gives (variable_target tty.shape x 0) st) (λ there between. then_do (evaluated scope value active between) (λ v after. assigned scope active place op t (type_of value) there v after)))
       (λ d. assignment_effect g.typed (layout g) op place (T.Variable tty x) value (λ e. value_of g.typed (layout g) ty.elem.bits (T.Assign' ty place op p (T.Variable tty x) q value) e) d)) (sym h.1)
-      (assign_runs tty place op x value (λ e. value_of g.typed (layout g) ty.elem.bits (T.Assign' ty place op p (T.Variable tty x) q value) e) h.2 (target_named g has alive n lives ready scope active tty x names.0) h.3 names.1)
+      (assign_runs tty place op x value (λ e. value_of g.typed (layout g) ty.elem.bits (T.Assign' ty place op p (T.Variable tty x) q value) e) h.2 (target_named g has alive n lives ready scope active calls_follow tty x names.0) h.3 names.1)
   effect_follows (T.Assign' ty place op p _ q value) h c = absurd h.2
   effect_follows (T.Step' ty op order p (T.Variable tty x)) h c =
       subst (λ (t : ValueType). Runs (λ st. then_do (Source.Gives (variable_target tty.shape x 0) st) (λ there after. stepped scope active op order t there after)) (λ d. step_effect g.typed (layout g) op (T.Variable tty x) (λ e. value_of g.typed (layout g) ty.elem.bits (T.Step' ty op order p (T.Variable tty x)) e) d)) (sym h.1)
-      (step_runs tty op order x (λ e. value_of g.typed (layout g) ty.elem.bits (T.Step' ty op order p (T.Variable tty x)) e) h.2 (target_named g has alive n lives ready scope active tty x (step_names g has alive n lives ready scope active ty op order p (T.Variable tty x) c)))
+      (step_runs tty op order x (λ e. value_of g.typed (layout g) ty.elem.bits (T.Step' ty op order p (T.Variable tty x)) e) h.2 (target_named g has alive n lives ready scope active calls_follow tty x (step_names g has alive n lives ready scope active calls_follow ty op order p (T.Variable tty x) c)))
   effect_follows (T.Step' ty op order p _) h c = absurd h.2
-  effect_follows (T.Brackets' ty p inner) h c = effect_follows inner (in_effect inner h.1) (brackets_code g has alive n lives ready scope active ty p inner c)
-  effect_follows (T.Printf' ty pieces p arguments) h c = printf_runs ty pieces p arguments h (printf_code g has alive n lives ready scope active ty pieces p arguments c)
+  effect_follows (T.Brackets' ty p inner) h c = effect_follows inner (in_effect inner h.1) (brackets_code g has alive n lives ready scope active calls_follow ty p inner c)
+  effect_follows (T.Printf' ty pieces p arguments) h c = printf_runs ty pieces p arguments h (printf_code g has alive n lives ready scope active calls_follow ty pieces p arguments c)
   effect_follows (T.Number ty value) h c = pure_follows (T.Number ty value) h c
   effect_follows (T.PositionsOf ty shape value) h c = pure_follows (T.PositionsOf ty shape value) h c
   effect_follows (T.RankOf ty shape value) h c = pure_follows (T.RankOf ty shape value) h c

@@ -39,6 +39,7 @@ use Rattle.code_follows.proofs.Assigning.{effect_follows}
 use Rattle.code_follows.proofs.Choices.{Agrees, if_alone, if_else}
 use Rattle.code_follows.proofs.Executing.{Jumped, Left, RanOn, follows_from, go_on}
 use Rattle.code_follows.proofs.ForLoops.{do_agrees, for_agrees, while_agrees}
+use Rattle.code_follows.proofs.Callees.{CallsFollow}
 use Rattle.code_follows.proofs.Following.{Extends, Follows, HasRegisters, Ran, Sim, delayed, extends_made, keeps_all, nothing_said}
 use Rattle.code_follows.proofs.Jumping.{nothing_restored, jumps, moved_to, sim_moved}
 use Rattle.code_follows.proofs.Returning.{return_follows}
@@ -47,10 +48,10 @@ use Rattle.code_follows.proofs.Starting.{AreCoded, coded, go_after, initials_fol
 use Rattle.code_follows.proofs.Statements.{StandsIn, expression_code, returned_code, statement_made}
 
 module _ (g : Setting) (has : HasRegisters g) (alive : Variable → Type 0) (every : (x : Variable) → alive x) (numbers : NumbersVariables g.instance (layout g)) (ready : (n : ℕ) (d : Draft) → IsReady g.typed g.instance (layout g) n d)
-    (declares : (n : ℕ) (d : Draft) → d.homes ≡ [] → HasDeclared g.typed g.instance (layout g) n d) (scope : Scope) (active : Active)
+    (declares : (n : ℕ) (d : Draft) → d.homes ≡ [] → HasDeclared g.typed g.instance (layout g) n d) (scope : Scope) (active : Active) (calls_follow : CallsFollow g scope active)
     (falls : (s : TStmt) (n : ℕ) (st : State) → (state_after (executed scope s n active st)).turns ≤ st.turns) where
   abbrev pub Follows_it : TStmt → Type 0
-  Follows_it s = Agrees g has alive every numbers ready declares scope active s
+  Follows_it s = Agrees g has alive every numbers ready declares scope active calls_follow s
 
   -- an expression as a statement
   effect_statement : (f : Frame) (n : ℕ) (d : Draft) (s0 : CodeState) (o : Outcome Value) (made : Made Out) → Follows g (λ v u out e. Ran g alive d s0 u e) s0 o made
@@ -107,7 +108,7 @@ module _ (g : Setting) (has : HasRegisters g) (alive : Variable → Type 0) (eve
       → Follows g (Left g alive f d s0) s0 (done scope active (Some e) st) (then_make (part_of g.typed (layout g) (Some e) d) (λ u after. Makes n after))
   unfolding done part_of
   expression_follows e h f n d s0 st free at sim c =
-      effect_statement f n d s0 _ _ (effect_follows g has alive n (λ x within. every x) (ready n) scope active e h (expression_code g numbers declares n e c) d s0 st free at sim)
+      effect_statement f n d s0 _ _ (effect_follows g has alive n (λ x within. every x) (ready n) scope active calls_follow e h (expression_code g numbers declares n e c) d s0 st free at sim)
 
   breaks : (f : Frame) (k n : ℕ) (d : Draft) (s0 : CodeState) (st : State) → At g s0 (length d.code) → Sim g alive st s0 → Follows g (Left g alive f d s0) s0 (Source.Gives Broke st) (Makes n (with_instr (I.FrontJump f.after) (restored [] k d)))
   unfolding Follows Left
@@ -132,7 +133,7 @@ module _ (g : Setting) (has : HasRegisters g) (alive : Variable → Type 0) (eve
   }
 
   -- a block: its variables, and then its statements
-  pub block_follows : {k : Count} (before : Variable → Type 0) (locals : List LocalVar) (row : Row_of-TStmt k) (f : Frame) (n : ℕ) (d : Draft) (s0 : CodeState) (st : State) → All (IsInLocal g.may) locals → StandFrom (variables_of g.instance.body) n (map info_of locals) → AreCoded g has alive every ready scope active n locals → RowCode (n + length locals) row
+  pub block_follows : {k : Count} (before : Variable → Type 0) (locals : List LocalVar) (row : Row_of-TStmt k) (f : Frame) (n : ℕ) (d : Draft) (s0 : CodeState) (st : State) → All (IsInLocal g.may) locals → StandFrom (variables_of g.instance.body) n (map info_of locals) → AreCoded g has alive every ready scope active calls_follow n locals → RowCode (n + length locals) row
       → StandsIn g f → StandsAmong f [] → d.homes ≡ [] → g.begins ≤ d.regs → At g s0 (length d.code) → Sim g before st s0 → ((x : Variable) (info : VarInfo) → variable_named g.typed g.instance x ≡ Some info → before x ⊎ (is_among n (length locals) x ≡ true))
       → ((e : Draft) (t : CodeState) (u : State) → e.homes ≡ [] → g.begins ≤ e.regs → At g t (length e.code) → Sim g alive u t → Follows g (Left g alive f e t) t (all_executed scope row (n + length locals) active u) (statements_of g.typed (layout g) row f [] (n + length locals) e))
       → Follows g (Left g alive f d s0) s0 (then_go (initialised scope active n locals (zeroed n (length locals) st)) (all_executed scope row (n + length locals) active)) (then_make (declared_in g.typed (layout g) false locals n d) (λ m after. statements_of g.typed (layout g) row f [] m after))
@@ -153,7 +154,7 @@ module _ (g : Setting) (has : HasRegisters g) (alive : Variable → Type 0) (eve
       by : (m : Made (Unit {0})) → all_initialised g.typed (layout g) locals n c.e ≡ m → Follows g (Left g alive f d s0) s0 whole (then_make (then_make m (λ v after. Makes (n + length locals) after)) (λ m' after. statements_of g.typed (layout g) row f [] m' after))
       by Fails is = nothing_said g (Left g alive f d s0) s0 whole
       by (Makes u e) is =
-          let grows : (j : ℕ) × Extended c.e j e = subst (λ (m : Made (Unit {0})). Extends g c.e m) is (initials_grow g has alive every ready scope active locals n c.e isin initial) in
+          let grows : (j : ℕ) × Extended c.e j e = subst (λ (m : Made (Unit {0})). Extends g c.e m) is (initials_grow g has alive every ready scope active calls_follow locals n c.e isin initial) in
           let homes : e.homes ≡ [] = grows.1.homes ∙ c.grown.homes ∙ none in
           let made : Made ℕ = statements_of g.typed (layout g) row f [] (n + length locals) e in
           let grows_on : Extends g e made = row_grows row f (n + length locals) e framed among homes code in
@@ -163,14 +164,14 @@ module _ (g : Setting) (has : HasRegisters g) (alive : Variable → Type 0) (eve
           let longer = c.grown.regs in
           let more = grows.1.regs in
           follows_from g alive f d c.e c.count s0 ran.t whole made c.grown ran.go ran.keeps
-          (go_after g has alive every ready scope active c.e ran.t (Left g alive f c.e ran.t) (initialised scope active n locals after_zero) (all_executed scope row (n + length locals) active) u e made
-          (subst (λ (m : Made (Unit {0})). Follows g (RanOn g alive c.e ran.t) ran.t (initialised scope active n locals after_zero) m) is (initials_follow g has alive every ready scope active locals n c.e ran.t after_zero isin stand initial (omega (arith, free, longer)) ran.at started)) grows_on
+          (go_after g has alive every ready scope active calls_follow c.e ran.t (Left g alive f c.e ran.t) (initialised scope active n locals after_zero) (all_executed scope row (n + length locals) active) u e made
+          (subst (λ (m : Made (Unit {0})). Follows g (RanOn g alive c.e ran.t) ran.t (initialised scope active n locals after_zero) m) is (initials_follow g has alive every ready scope active calls_follow locals n c.e ran.t after_zero isin stand initial (omega (arith, free, longer)) ran.at started)) grows_on
           (λ v one. follows_from g alive f c.e e grows.0 ran.t one.t (all_executed scope row (n + length locals) active v) made grows.1 one.go one.keeps (next e one.t v homes (omega (arith, free, longer, more)) one.at one.sim))))
 
   -- what has code of a block's initialisers
-  pub block_initials : (n : ℕ) (locals : Vec LocalVar Global) (p : Vec (Unit {0}) Global) (row : _) → HasStatementCode g.typed g.instance n (S.Block' locals p row) → AreCoded g has alive every ready scope active n locals.items
+  pub block_initials : (n : ℕ) (locals : Vec LocalVar Global) (p : Vec (Unit {0}) Global) (row : _) → HasStatementCode g.typed g.instance n (S.Block' locals p row) → AreCoded g has alive every ready scope active calls_follow n locals.items
   unfolding IsShapedStatement IsLowerableStatement StatementNamesVariables
-  block_initials n locals p row c = coded g has alive every ready scope active n locals.items c.shaped.0 c.lowerable.0 c.names.0
+  block_initials n locals p row c = coded g has alive every ready scope active calls_follow n locals.items c.shaped.0 c.lowerable.0 c.names.0
 
   row_onward : {k : Count} (s : TStmt) (rest : Row_of-TStmt k) (f : Frame) (n : ℕ) (d : Draft) (s0 : CodeState) (st : State) → StandsIn g f → StandsAmong f [] → d.homes ≡ [] → g.begins ≤ d.regs → RowCode n (more_of-TStmt s rest)
       → Follows g (Left g alive f d s0) s0 (executed scope s n active st) (statement_of g.typed (layout g) s f [] n d)
@@ -194,16 +195,16 @@ module _ (g : Setting) (has : HasRegisters g) (alive : Variable → Type 0) (eve
         (λ e t u none_e free_e at_e sim_e. row_follows statements h.1 f (n + length locals.items) e t u framed among none_e free_e at_e sim_e (block_code n locals p statements c))
     statement_follows (S.Expression e) h f n d s0 st framed among none free at sim c = expression_follows e h f n d s0 st free at sim c
     statement_follows S.Empty h f n d s0 st framed among none free at sim c = stays_here f n d s0 st at sim
-    statement_follows (S.If' test p first None') h f n d s0 st framed among none free at sim c = if_alone g has alive every numbers ready declares scope active test p first h.0 (statement_follows first h.1) f n d s0 st framed among none free at sim c
+    statement_follows (S.If' test p first None') h f n d s0 st framed among none free at sim c = if_alone g has alive every numbers ready declares scope active calls_follow test p first h.0 (statement_follows first h.1) f n d s0 st framed among none free at sim c
     statement_follows (S.If' test p first (Some' q second)) h f n d s0 st framed among none free at sim c =
-        if_else g has alive every numbers ready declares scope active test p first q second h.0 (statement_follows first h.1) (statement_follows second h.2) f n d s0 st framed among none free at sim c
-    statement_follows (S.While' test p body) h f n d s0 st framed among none free at sim c = while_agrees g has alive every numbers ready declares scope active falls test p body h.0 (statement_follows body h.1) f n d s0 st framed among none free at sim c
+        if_else g has alive every numbers ready declares scope active calls_follow test p first q second h.0 (statement_follows first h.1) (statement_follows second h.2) f n d s0 st framed among none free at sim c
+    statement_follows (S.While' test p body) h f n d s0 st framed among none free at sim c = while_agrees g has alive every numbers ready declares scope active calls_follow falls test p body h.0 (statement_follows body h.1) f n d s0 st framed among none free at sim c
     statement_follows (S.For' first None step p body) h f n d s0 st framed among none free at sim c = absurd h.1
-    statement_follows (S.For' first (Some test) step p body) h f n d s0 st framed among none free at sim c = for_agrees g has alive every numbers ready declares scope active falls first step test p body h.0 h.1 h.2 (statement_follows body h.3) f n d s0 st framed among none free at sim c
-    statement_follows (S.Do' p body test) h f n d s0 st framed among none free at sim c = do_agrees g has alive every numbers ready declares scope active falls test p body h.1 (statement_follows body h.0) f n d s0 st framed among none free at sim c
+    statement_follows (S.For' first (Some test) step p body) h f n d s0 st framed among none free at sim c = for_agrees g has alive every numbers ready declares scope active calls_follow falls first step test p body h.0 h.1 h.2 (statement_follows body h.3) f n d s0 st framed among none free at sim c
+    statement_follows (S.Do' p body test) h f n d s0 st framed among none free at sim c = do_agrees g has alive every numbers ready declares scope active calls_follow falls test p body h.1 (statement_follows body h.0) f n d s0 st framed among none free at sim c
     statement_follows S.Break h f n d s0 st framed among none free at sim c = breaks f f.saved.in_loop n d s0 st at sim
     statement_follows S.Continue h f n d s0 st framed among none free at sim c = continues f f.saved.in_loop n d s0 st at sim
-    statement_follows (S.Return e) h f n d s0 st framed among none free at sim c = return_follows g has alive every ready scope active e h f n d s0 st framed free at sim (returned_code g numbers declares e n c)
+    statement_follows (S.Return e) h f n d s0 st framed among none free at sim c = return_follows g has alive every ready scope active calls_follow e h f n d s0 st framed free at sim (returned_code g numbers declares e n c)
     statement_follows _ h f n d s0 st framed among none free at sim c = absurd h
 
     pub row_follows : {k : Count} (row : Row_of-TStmt k) → (AreInStatements g.may) row → (f : Frame) (n : ℕ) (d : Draft) (s0 : CodeState) (st : State) → StandsIn g f → StandsAmong f [] → d.homes ≡ [] → g.begins ≤ d.regs → At g s0 (length d.code) → Sim g alive st s0

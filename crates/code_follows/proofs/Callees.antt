@@ -1,10 +1,11 @@
 -- What is known of a function that may be called, and of a run of its code.
-use Rattle.std.proofs.Common.{◌≡◌, ℕ, suc, ◌+◌, ◌<◌, ◌≤◌, ◌^◌, List, [], ◌∷◌, ◌++◌, length, slice_get, slice_index, Option, Some, None}
+use Rattle.std.proofs.Common.{◌≡◌, ℕ, true, false, suc, ◌+◌, ◌<◌, ◌≤◌, ◌^◌, List, [], ◌∷◌, ◌++◌, length, slice_get, slice_index, Option, Some, None}
 use Rattle.std.specs.List.{All, slice_index_or}
 use Rattle.cstar_tree.specs.declared.typed.Instance.{Instance}
 use Rattle.cstar_tree.specs.declared.typed.VarInfo.{VarInfo}
 use Rattle.cstar_tree.specs.declared.typed.Variable.{Variable}
 use Rattle.cstar_tree.specs.declared.typed.Variable.TheVariants as V
+use Rattle.code_lengths.specs.Lowerable.{HasResult}
 use Rattle.code_lengths.specs.Naming.{variable_named}
 use Rattle.lower_base.specs.Constants.{constant_register}
 use Rattle.lower_base.specs.Layouts.{register_of, result_register}
@@ -13,7 +14,7 @@ use Rattle.paris_code.specs.Units.{start_at}
 use Rattle.source_meaning.specs.Programs.{calls, run_body}
 use Rattle.source_meaning.specs.State as Source
 use Rattle.source_meaning.specs.State.{Outcome, State}
-use Rattle.source_meaning.specs.Values.{Active, Nothing, Scalar, Value, number}
+use Rattle.source_meaning.specs.Values.{Active, Nothing, Scalar, Scope, Value, number}
 use Rattle.code_follows.specs.Agreement.{AreBytes}
 use Rattle.code_follows.specs.Fragment.{IsWordVariable}
 use Rattle.code_follows.proofs.Following.{Finishes, held, input_of}
@@ -89,3 +90,11 @@ module _ (g : Setting) where
   pub record MayCall (active : Active) (index : ℕ) : Type 1 where
     pub callee : Callee index
     pub enters : (m : ℕ) → g.most ≡ suc m → Enters callee m active
+
+  -- Calls follow the source: a call means what the source says of so many turns, and what is called is known.
+  -- All variables of the file are scalar.
+  pub record CallsFollow (scope : Scope) (active : Active) : Type 1 where
+    pub meant : scope.call ≡ calls g.typed g.most
+    pub plain_files : (k : ℕ) (info : VarInfo) → slice_get g.typed.vars.items k ≡ Some info → info.shape ≡ None
+    pub value : (index : ℕ) → g.may true index → MayCall active index × HasResult g.typed index
+    pub effect : (index : ℕ) → g.may false index → MayCall active index

@@ -25,13 +25,14 @@ use Rattle.source_meaning.specs.Statements.{Broke, Continued, Leaving, Onward, R
 use Rattle.source_meaning.specs.Values.{Active, Scope}
 use Rattle.code_follows.specs.Fragment.{IsIn}
 use Rattle.code_follows.proofs.Executing.{Left, TestMade, Tested, follows_from, test_follows, test_made}
+use Rattle.code_follows.proofs.Callees.{CallsFollow}
 use Rattle.code_follows.proofs.Following.{Extends, Follows, HasRegisters, Ran, Sim, delayed, then_on}
 use Rattle.code_follows.proofs.Jumping.{jumps, moved_to, sim_moved, skips}
 use Rattle.code_follows.proofs.Settings.{At, Reaches, Setting, Within, and_one, code_more, earlier, layout, onto, start}
 use Rattle.code_follows.proofs.Statements.{MadeSo, StandsIn, if_first, if_second, if_test, statement_made}
 
 module _ (g : Setting) (has : HasRegisters g) (alive : Variable → Type 0) (every : (x : Variable) → alive x) (numbers : NumbersVariables g.instance (layout g)) (ready : (n : ℕ) (d : Draft) → IsReady g.typed g.instance (layout g) n d)
-    (declares : (n : ℕ) (d : Draft) → d.homes ≡ [] → HasDeclared g.typed g.instance (layout g) n d) (scope : Scope) (active : Active) where
+    (declares : (n : ℕ) (d : Draft) → d.homes ≡ [] → HasDeclared g.typed g.instance (layout g) n d) (scope : Scope) (active : Active) (calls_follow : CallsFollow g scope active) where
   -- the code of a statement follows it
   abbrev pub Agrees : TStmt → Type 0
   Agrees s =
@@ -72,8 +73,8 @@ module _ (g : Setting) (has : HasRegisters g) (alive : Variable → Type 0) (eve
       abbrev long : ℕ
       long = statement_length_of g.typed (layout g) (has_result f) f.saved first
 
-      tests : TestMade g alive has every n (ready n) scope active test d
-      tests = test_made g alive has every n (ready n) scope active test d isin (if_test g numbers declares n test p first second c)
+      tests : TestMade g alive has every n (ready n) scope active calls_follow test d
+      tests = test_made g alive has every n (ready n) scope active calls_follow test d isin (if_test g numbers declares n test p first second c)
 
       abbrev place : ℕ
       place = past second (here tests.e + long + 1)
@@ -95,7 +96,7 @@ module _ (g : Setting) (has : HasRegisters g) (alive : Variable → Type 0) (eve
           ∙ ap (λ (m : Made ℕ). then_make m (λ m' behind'. else_of g.typed (layout g) second f [] place m' behind')) made_first.is
 
       tested : Follows g (Tested g alive d s0) s0 (passes scope active test st) (Makes tests.r tests.e)
-      tested = subst (λ (m : Made ℕ). Follows g (Tested g alive d s0) s0 (passes scope active test st) m) tests.is (test_follows g alive has every n (ready n) scope active test isin (if_test g numbers declares n test p first second c) d s0 st free at sim)
+      tested = subst (λ (m : Made ℕ). Follows g (Tested g alive d s0) s0 (passes scope active test st) m) tests.is (test_follows g alive has every n (ready n) scope active calls_follow test isin (if_test g numbers declares n test p first second c) d s0 st free at sim)
 
       here_first : here made_first.e ≡ here tests.e + 1 + long
       unfolding here
@@ -154,7 +155,7 @@ module _ (g : Setting) (has : HasRegisters g) (alive : Variable → Type 0) (eve
   module _ (test : TExpr) (p : Boxed) (first : TStmt) (q : Boxed) (second : TStmt) (isin : (IsIn g.may) test) (first_agrees : Agrees first) (second_agrees : Agrees second) where
     module _ (f : Frame) (n : ℕ) (d : Draft) (s0 : CodeState) (st : State) (framed : StandsIn g f) (among : StandsAmong f []) (none : d.homes ≡ []) (free : g.begins ≤ d.regs) (at : At g s0 (length d.code)) (sim : Sim g alive st s0)
         (c : HasStatementCode g.typed g.instance n (S.If' test p first (Some' q second))) where
-      abbrev condition : TestMade g alive has every n (ready n) scope active test d
+      abbrev condition : TestMade g alive has every n (ready n) scope active calls_follow test d
       condition = tests test p first (Some' q second) isin first_agrees f n d s0 st framed among none free at sim c
 
       abbrev first_made : MadeSo g numbers declares (jump test p first (Some' q second) isin first_agrees f n d s0 st framed among none free at sim c) (long test p first (Some' q second) isin first_agrees f n d s0 st framed among none free at sim c) (behind n first) (statement_of g.typed (layout g) first f [] n (jump test p first (Some' q second) isin first_agrees f n d s0 st framed among none free at sim c))

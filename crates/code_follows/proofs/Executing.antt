@@ -28,6 +28,7 @@ use Rattle.source_meaning.specs.Statements.{Broke, Continued, Leaving, Onward, R
 use Rattle.source_meaning.specs.Values.{Active, Scope, Value, nonzero, number, Scalar}
 use Rattle.code_follows.specs.Fragment.{IsIn, IsVariable, May}
 use Rattle.code_follows.proofs.Expressions.{operand}
+use Rattle.code_follows.proofs.Callees.{CallsFollow}
 use Rattle.code_follows.proofs.Following.{Arrives, Extends, Follows, HasRegisters, Keeps, Ran, Sim, finishes_later, keeps_all, keeps_on, then_follows, spared_kept, result_kept}
 use Rattle.code_follows.proofs.Settings.{At, EndsIn, Reaches, Setting, ends_later, layout, onto, stay}
 use Rattle.code_follows.proofs.Values.{Value_of, extends_in_register}
@@ -160,13 +161,13 @@ module _ (g : Setting) (alive : Variable → Type 0) where
     pub keeps : Keeps g d s t
     pub is : nonzero (slice_index t.registers r) ≡ b
 
-  module _ (has : HasRegisters g) (every : (x : Variable) → alive x) (n : ℕ) (ready : (d : Draft) → IsReady g.typed g.instance (layout g) n d) (scope : Scope) (active : Active) where
+  module _ (has : HasRegisters g) (every : (x : Variable) → alive x) (n : ℕ) (ready : (d : Draft) → IsReady g.typed g.instance (layout g) n d) (scope : Scope) (active : Active) (calls_follow : CallsFollow g scope active) where
     pub test_follows : (test : TExpr) → (IsIn g.may) test → HasCode g.typed g.instance n test → (d : Draft) (s : CodeState) (st : State) → g.begins ≤ d.regs → At g s (length d.code) → Sim g alive st s
         → Follows g (Tested d s) s (passes scope active test st) (condition_of g.typed (layout g) test d)
     unfolding passes condition_of Extends Follows in_register number
     test_follows test isin c d s st free here sim =
         then_follows g (Value_of g has alive (type_of test).elem true d s) (Tested d s) s s (evaluated scope test active st) (λ v after. Source.Gives (nonzero (number v)) after) (next_of g.typed (layout g) 32 true test d) (λ v after. in_register v (λ r. Makes r after)) (stay g s)
-        (operand g has alive n (λ x h. every x) ready scope active true 32 test isin c d s st free here sim) (λ v e. extends_in_register g has alive e v _ (λ r. (0, as_it_was e))) (λ v u out e arr. tests v u out e arr)
+        (operand g has alive n (λ x h. every x) ready scope active calls_follow true 32 test isin c d s st free here sim) (λ v e. extends_in_register g has alive e v _ (λ r. (0, as_it_was e))) (λ v u out e arr. tests v u out e arr)
       where
         tests : (v : Value) (u : State) (out : Out) (e : Draft) → Arrives g alive (type_of test).elem true d s v u out e → Follows g (Tested d s) s (Source.Gives (nonzero (number v)) u) (in_register out (λ r. Makes r e))
         tests v u out e arr =

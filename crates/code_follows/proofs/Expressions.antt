@@ -53,6 +53,7 @@ use Rattle.source_meaning.proofs.ConstantLaws.{Boxed, value_means}
 use Rattle.code_follows.specs.Fragment.{IsIn, IsWord, IsVariable}
 use Rattle.code_follows.proofs.Branching.{IsMadeWord, made_word}
 use Rattle.code_follows.proofs.Choosing.{Arm_does, IsMadeTo, Lands, arm_follows, arm_made, choice_is, choose_is, constant_arm, fresh_lands, scalar_choice_follows}
+use Rattle.code_follows.proofs.Callees.{CallsFollow}
 use Rattle.code_follows.proofs.Following.{Arrives, Extends, Follows, HasRegisters, IsScalar, Sim, held, keeps_all, then_follows, then_gives}
 use Rattle.code_follows.proofs.Logical.{and_is, joined, logical_follows, or_is}
 use Rattle.code_follows.proofs.Settings.{At, Setting, layout, stay}
@@ -87,7 +88,7 @@ held_stands l e r h = by (is_constant e) (Const.value_of e) refl refl h
 no_register : {r : ℕ} → O.Scalar r ≡ O.Nothing → ⊥
 no_register e = cc
 
-module _ (g : Setting) (has : HasRegisters g) (alive : Variable → Type 0) (n : ℕ) (lives : (x : Variable) → IsDeclared n x → alive x) (ready : (d : Draft) → IsReady g.typed g.instance (layout g) n d) (scope : Scope) (active : Active) where
+module _ (g : Setting) (has : HasRegisters g) (alive : Variable → Type 0) (n : ℕ) (lives : (x : Variable) → IsDeclared n x → alive x) (ready : (d : Draft) → IsReady g.typed g.instance (layout g) n d) (scope : Scope) (active : Active) (calls_follow : CallsFollow g scope active) where
   -- an expression and its code
   abbrev pub Agrees : Bool → ℕ → TExpr → Type 0
   Agrees quiet bits e = Does g has alive (type_of e).elem quiet (λ st. evaluated scope e active st) (λ d. value_of g.typed (layout g) bits e d)

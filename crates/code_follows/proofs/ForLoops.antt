@@ -40,6 +40,7 @@ use Rattle.code_follows.specs.Fragment.{IsEffect, IsIn}
 use Rattle.code_follows.proofs.Assigning.{effect_follows}
 use Rattle.code_follows.proofs.Choices.{Agrees}
 use Rattle.code_follows.proofs.Executing.{Left, RanOn, TestMade, Tested, follows_from, test_follows, test_made}
+use Rattle.code_follows.proofs.Callees.{CallsFollow}
 use Rattle.code_follows.proofs.Following.{Extends, Follows, HasRegisters, Ran, Sim, delayed, keeps_all}
 use Rattle.code_follows.proofs.Jumping.{jumps, moved_to, sim_moved}
 use Rattle.code_follows.proofs.Loops.{do_runs, loop_runs}
@@ -48,7 +49,7 @@ use Rattle.code_follows.proofs.Starting.{go_after}
 use Rattle.code_follows.proofs.Statements.{MadeSo, StandsIn, do_body, do_test, statement_made}
 
 module _ (g : Setting) (has : HasRegisters g) (alive : Variable → Type 0) (every : (x : Variable) → alive x) (numbers : NumbersVariables g.instance (layout g)) (ready : (n : ℕ) (d : Draft) → IsReady g.typed g.instance (layout g) n d)
-    (declares : (n : ℕ) (d : Draft) → d.homes ≡ [] → HasDeclared g.typed g.instance (layout g) n d) (scope : Scope) (active : Active)
+    (declares : (n : ℕ) (d : Draft) → d.homes ≡ [] → HasDeclared g.typed g.instance (layout g) n d) (scope : Scope) (active : Active) (calls_follow : CallsFollow g scope active)
     (falls : (s : TStmt) (n : ℕ) (st : State) → (state_after (executed scope s n active st)).turns ≤ st.turns) where
   -- ---- an expression that may be left out
 
@@ -78,7 +79,7 @@ module _ (g : Setting) (has : HasRegisters g) (alive : Variable → Type 0) (eve
       → Follows g (RanOn g alive d s) s (done scope active o st) (part_of g.typed (layout g) o d)
   unfolding done part_of Follows
   part_follows n None h c d s st free here sim = λ within. (refl, record { grown = (0, as_it_was d); t = s; go = stay g s; at = here; sim = sim; keeps = keeps_all g d s })
-  part_follows n (Some e) h c d s st free here sim = effect_ran d s (evaluated scope e active st) (effect_of g.typed (layout g) e d) (effect_follows g has alive n (λ x within. every x) (ready n) scope active e h c d s st free here sim)
+  part_follows n (Some e) h c d s st free here sim = effect_ran d s (evaluated scope e active st) (effect_of g.typed (layout g) e d) (effect_follows g has alive n (λ x within. every x) (ready n) scope active calls_follow e h c d s st free here sim)
 
   part_falls : (n : ℕ) (o : Option TExpr) (st : State) → (state_after (done scope active o st)).turns ≤ st.turns
   unfolding done executed state_after
@@ -98,7 +99,7 @@ module _ (g : Setting) (has : HasRegisters g) (alive : Variable → Type 0) (eve
   part_code n None shaped lowerable names = tt
   part_code n (Some e) shaped lowerable names = record { shaped = shaped; lowerable = lowerable; names = names }
 
-  module _ (first step : Option TExpr) (test : TExpr) (p : Boxed) (body : TStmt) (begins : IfSome first (IsEffect g.may)) (isin : (IsIn g.may) test) (steps : IfSome step (IsEffect g.may)) (agrees : Agrees g has alive every numbers ready declares scope active body) where
+  module _ (first step : Option TExpr) (test : TExpr) (p : Boxed) (body : TStmt) (begins : IfSome first (IsEffect g.may)) (isin : (IsIn g.may) test) (steps : IfSome step (IsEffect g.may)) (agrees : Agrees g has alive every numbers ready declares scope active calls_follow body) where
     abbrev whole : TStmt
     whole = S.For' first (Some test) step p body
 
@@ -165,8 +166,8 @@ module _ (g : Setting) (has : HasRegisters g) (alive : Variable → Type 0) (eve
       made_step : PartMade step made_body.e
       made_step = part_made n step made_body.e c.step_code
 
-      made_test : TestMade g alive has every n (ready n) scope active test made_step.e
-      made_test = test_made g alive has every n (ready n) scope active test made_step.e isin c.test_code
+      made_test : TestMade g alive has every n (ready n) scope active calls_follow test made_step.e
+      made_test = test_made g alive has every n (ready n) scope active calls_follow test made_step.e isin c.test_code
 
       abbrev behind_loop : Draft
       behind_loop = with_instr (I.FrontJumpNonzero made_test.r turn) made_test.e
@@ -231,11 +232,11 @@ module _ (g : Setting) (has : HasRegisters g) (alive : Variable → Type 0) (eve
           (λ s v here_s sim_s. subst (λ (m : Made ℕ). Follows g (Left g alive inner before_body s) s (executed scope body n active v) m) made_body.is (agrees inner n before_body s v inner_frame inner_among begin_homes (omega (arith, free, regs1, regs2)) here_s sim_s c.body_code))
           (part_falls n step)
           (λ s v here_s sim_s. subst (λ (m : Made (Unit {0})). Follows g (RanOn g alive made_body.e s) s (done scope active step v) m) made_step.is (part_follows n step steps c.step_code made_body.e s v (omega (arith, free, regs1, regs2, longer)) here_s sim_s))
-          (λ s v here_s sim_s. subst (λ (m : Made ℕ). Follows g (Tested g alive made_step.e s) s (passes scope active test v) m) made_test.is (test_follows g alive has every n (ready n) scope active test isin c.test_code made_step.e s v (omega (arith, free, regs1, regs2, longer, more)) here_s sim_s))
+          (λ s v here_s sim_s. subst (λ (m : Made ℕ). Follows g (Tested g alive made_step.e s) s (passes scope active test v) m) made_test.is (test_follows g alive has every n (ready n) scope active calls_follow test isin c.test_code made_step.e s v (omega (arith, free, regs1, regs2, longer, more)) here_s sim_s))
           f (behind n body) steps_in_all t (moved_to g alive (place + start g) t) u all_grown (jumps g alive place made_first.e t (earlier g enters behind_loop (1 + (long + (part_length_of g.typed (layout g) step + (used_length_of g.typed (layout g) 32 true test + 1)))) enters_grown within) at)
           (keeps_all g made_first.e t) (omega (arith, at_test)) (sim_moved g alive u t (place + start g) sim))
 
-    pub for_agrees : Agrees g has alive every numbers ready declares scope active whole
+    pub for_agrees : Agrees g has alive every numbers ready declares scope active calls_follow whole
     unfolding executed statement_of passes_or_absent then_make Extends
     for_agrees f n d s0 st framed among none free at sim code =
         let c = for_code n code in
@@ -244,13 +245,13 @@ module _ (g : Setting) (has : HasRegisters g) (alive : Variable → Type 0) (eve
         let go_round : State → Outcome Leaving = λ u. rounds u.turns (passes scope active test) (λ v. executed scope body n active v) (λ v. done scope active step v) u in
         subst (λ (m : Made (Unit {0})). Follows g (Left g alive f d s0) s0 (then_go (done scope active first st) go_round) (then_make m (λ u begun. loop_code f n d framed among none c begun))) (sym b.is)
         (subst (λ (m : Made ℕ). Follows g (Left g alive f d s0) s0 (then_go (done scope active first st) go_round) m) (sym (loop_is f n d framed among none c))
-        (go_after g has alive every ready scope active d s0 (Left g alive f d s0) (done scope active first st) go_round tt b.e (Makes (behind n body) (behind_loop f n d framed among none c))
+        (go_after g has alive every ready scope active calls_follow d s0 (Left g alive f d s0) (done scope active first st) go_round tt b.e (Makes (behind n body) (behind_loop f n d framed among none c))
         (subst (λ (m : Made (Unit {0})). Follows g (RanOn g alive d s0) s0 (done scope active first st) m) b.is (part_follows n first begins c.first_code d s0 st free at sim))
         (steps_in_all f n d framed among none c, all_grown f n d framed among none c)
         (λ u ran. follows_from g alive f d b.e ran.grown.0 s0 ran.t (go_round u) (Makes (behind n body) (behind_loop f n d framed among none c)) ran.grown.1 ran.go ran.keeps (turns_follow f n d framed among none c ran.t u (omega (arith, free, longer)) ran.at ran.sim))))
 
   -- `while` is `for` with its condition alone
-  module _ (test : TExpr) (p : Boxed) (body : TStmt) (isin : (IsIn g.may) test) (agrees : Agrees g has alive every numbers ready declares scope active body) where
+  module _ (test : TExpr) (p : Boxed) (body : TStmt) (isin : (IsIn g.may) test) (agrees : Agrees g has alive every numbers ready declares scope active calls_follow body) where
     abbrev as_for : TStmt
     as_for = S.For' None (Some test) None p body
 
@@ -274,14 +275,14 @@ module _ (g : Setting) (has : HasRegisters g) (alive : Variable → Type 0) (eve
         nothing_more : (k : ℕ) → k + 0 ≡ k
         nothing_more k = omega arith
 
-    pub while_agrees : Agrees g has alive every numbers ready declares scope active (S.While' test p body)
+    pub while_agrees : Agrees g has alive every numbers ready declares scope active calls_follow (S.While' test p body)
     unfolding executed done passes_or_absent then_go
     while_agrees f n d s0 st framed among none free at sim c =
         subst (λ (m : Made ℕ). Follows g (Left g alive f d s0) s0 (rounds st.turns (passes scope active test) (λ u. executed scope body n active u) (λ u. Source.Gives Onward u) st) m) (same_code f n d)
         (for_agrees None None test p body tt isin tt agrees f n d s0 st framed among none free at sim (while_code n c))
 
   -- `do`
-  module _ (test : TExpr) (p : Boxed) (body : TStmt) (isin : (IsIn g.may) test) (agrees : Agrees g has alive every numbers ready declares scope active body) where
+  module _ (test : TExpr) (p : Boxed) (body : TStmt) (isin : (IsIn g.may) test) (agrees : Agrees g has alive every numbers ready declares scope active calls_follow body) where
     module _ (f : Frame) (n : ℕ) (d : Draft) (framed : StandsIn g f) (among : StandsAmong f []) (none : d.homes ≡ []) (c : HasStatementCode g.typed g.instance n (S.Do' p body test)) where
       abbrev do_long : ℕ
       do_long = statement_length_of g.typed (layout g) (has_result f) (at_loop f.saved) body
@@ -317,8 +318,8 @@ module _ (g : Setting) (has : HasRegisters g) (alive : Variable → Type 0) (eve
       unfolding in_loop has_result
       made_do = statement_made g numbers declares body do_inner n do_before do_frame do_among (do_body g numbers declares n p body test c) do_homes
 
-      made_while : TestMade g alive has every n (ready n) scope active test made_do.e
-      made_while = test_made g alive has every n (ready n) scope active test made_do.e isin (do_test g numbers declares n p body test c)
+      made_while : TestMade g alive has every n (ready n) scope active calls_follow test made_do.e
+      made_while = test_made g alive has every n (ready n) scope active calls_follow test made_do.e isin (do_test g numbers declares n p body test c)
 
       abbrev behind_do : Draft
       behind_do = with_instr (I.FrontJumpNonzero made_while.r do_turn) made_while.e
@@ -358,10 +359,10 @@ module _ (g : Setting) (has : HasRegisters g) (alive : Variable → Type 0) (eve
           (λ s v here_s sim_s. subst (λ (m : Made ℕ). Follows g (Left g alive do_inner do_before s) s (executed scope body n active v) m) made_do.is (agrees do_inner n do_before s v do_frame do_among do_homes (omega (arith, free, regs1)) here_s sim_s (do_body g numbers declares n p body test c)))
           (λ v. omega arith)
           (λ s v here_s sim_s within_s. (refl, record { grown = (0, as_it_was made_do.e); t = s; go = stay g s; at = here_s; sim = sim_s; keeps = keeps_all g made_do.e s }))
-          (λ s v here_s sim_s. subst (λ (m : Made ℕ). Follows g (Tested g alive made_do.e s) s (passes scope active test v) m) made_while.is (test_follows g alive has every n (ready n) scope active test isin (do_test g numbers declares n p body test c) made_do.e s v (omega (arith, free, regs1, longer)) here_s sim_s))
+          (λ s v here_s sim_s. subst (λ (m : Made ℕ). Follows g (Tested g alive made_do.e s) s (passes scope active test v) m) made_while.is (test_follows g alive has every n (ready n) scope active calls_follow test isin (do_test g numbers declares n p body test c) made_do.e s v (omega (arith, free, regs1, longer)) here_s sim_s))
           f (behind n body) _ t u refl do_grown at sim)
 
-    pub do_agrees : Agrees g has alive every numbers ready declares scope active (S.Do' p body test)
+    pub do_agrees : Agrees g has alive every numbers ready declares scope active calls_follow (S.Do' p body test)
     unfolding executed
     do_agrees f n d s0 st framed among none free at sim c =
         subst (λ (m : Made ℕ). Follows g (Left g alive f d s0) s0 (then_round (spend_turn st (λ v. executed scope body n active v)) (λ s. rounds s.turns (passes scope active test) (λ v. executed scope body n active v) (λ v. Source.Gives Onward v) s)) m) (sym (do_is f n d framed among none c))

@@ -38,12 +38,13 @@ use Rattle.source_meaning.specs.State.{Outcome, State, then_do, with_output}
 use Rattle.source_meaning.specs.Values.{Active, Nothing, Scope, Value, number}
 use Rattle.code_follows.specs.Fragment.{AreIn}
 use Rattle.code_follows.proofs.Expressions.{operand, operand_grows}
+use Rattle.code_follows.proofs.Callees.{CallsFollow}
 use Rattle.code_follows.proofs.Following.{Arrives, Extends, Follows, HasRegisters, Holds, Keeps, Ran, Sim, delayed, extends_made, extends_then, finishes_later, keeps_all, keeps_on, knowing, then_follows}
 use Rattle.code_follows.proofs.Settings.{At, Reaches, Setting, and_one, at_next, begins_here, layout, one, onto, placed_instr, stay}
 use Rattle.code_follows.proofs.Values.{Value_of, extends_in_register}
 use Rattle.code_follows.proofs.Words.{below_word, held_wide, word_type}
 
-module _ (g : Setting) (has : HasRegisters g) (alive : Variable → Type 0) (n : ℕ) (lives : (x : Variable) → IsDeclared n x → alive x) (ready : (d : Draft) → IsReady g.typed g.instance (layout g) n d) (scope : Scope) (active : Active) where
+module _ (g : Setting) (has : HasRegisters g) (alive : Variable → Type 0) (n : ℕ) (lives : (x : Variable) → IsDeclared n x → alive x) (ready : (d : Draft) → IsReady g.typed g.instance (layout g) n d) (scope : Scope) (active : Active) (calls_follow : CallsFollow g scope active) where
   -- seen from an earlier state of the code, with what is made of the value
   moved : {A B C : Type 0} (R : A → State → B → Draft → Type 0) (Q : C → State → B → Draft → Type 0) (s t : CodeState) (o : Outcome A) (f : A → C) (made : Made B) → Reaches g s t → Follows g R t o made
       → ((x : A) (st : State) (y : B) (e : Draft) → R x st y e → Q (f x) st y e) → Follows g Q s (then_do o (λ x after. Source.Gives (f x) after)) made
@@ -87,7 +88,7 @@ module _ (g : Setting) (has : HasRegisters g) (alive : Variable → Type 0) (n :
   unfolding values_of HaveCode Extends
   arguments_grow quiet_so end_of-TExpr c outs d = (0, as_it_was d)
   arguments_grow quiet_so (more_of-TExpr e rest) c outs d =
-      extends_then g d _ (λ v after. values_of g.typed (layout g) false quiet_so rest (outs ++ v ∷ []) after) (operand_grows g has alive n lives ready scope active quiet_so (list_bits false e) e c.0 d) (λ v after. arguments_grow quiet_so rest c.1 (outs ++ v ∷ []) after)
+      extends_then g d _ (λ v after. values_of g.typed (layout g) false quiet_so rest (outs ++ v ∷ []) after) (operand_grows g has alive n lives ready scope active calls_follow quiet_so (list_bits false e) e c.0 d) (λ v after. arguments_grow quiet_so rest c.1 (outs ++ v ∷ []) after)
 
   -- where all are quiet, so is each
   first_quiet : {k : Count} (quiet : Bool) (e : TExpr) (rest : Row_of-TExpr k) → (quiet ≡ true → are_quiet (more_of-TExpr e rest) ≡ true) → quiet ≡ true → (is_quiet e ≡ true) × (are_quiet rest ≡ true)
@@ -111,7 +112,7 @@ module _ (g : Setting) (has : HasRegisters g) (alive : Variable → Type 0) (n :
   }
   arguments_follow quiet (more_of-TExpr e rest) calm h c outs d s st free here sim =
       then_follows g (λ v u out after. (evaluated scope e active st ≡ Source.Gives v u) × Arrives g alive (type_of e).elem quiet d s v u out after) (Given quiet d s st outs) s s (evaluated scope e active st) _ _ _ (stay g s)
-      (knowing g (Value_of g has alive (type_of e).elem quiet d s) s (evaluated scope e active st) _ (operand g has alive n lives ready scope active quiet (list_bits false e) e h.0 c.0 d s st free here sim))
+      (knowing g (Value_of g has alive (type_of e).elem quiet d s) s (evaluated scope e active st) _ (operand g has alive n lives ready scope active calls_follow quiet (list_bits false e) e h.0 c.0 d s st free here sim))
       (λ v after. arguments_grow quiet rest c.1 (outs ++ v ∷ []) after)
       (λ v u out after both. first v u out after both (λ f regs. arguments_follow quiet rest (λ is. (first_quiet quiet e rest calm is).1) h.1 c.1 (outs ++ out ∷ []) after f u regs))
     where

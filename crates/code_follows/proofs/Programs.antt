@@ -56,6 +56,7 @@ use Rattle.code_follows.proofs.ConstantRegisters.{constant_at}
 use Rattle.code_follows.proofs.Closed.{NoJump, begins_closed, closed_row, go_closed}
 use Rattle.code_follows.proofs.Endings.{NeverOnward, body_never, never_second}
 use Rattle.code_follows.proofs.Executing.{Left, Returns, RanOn, follows_from}
+use Rattle.code_follows.proofs.Callees.{CallsFollow}
 use Rattle.code_follows.proofs.Following.{Extends, Follows, HasRegisters, Sim, held}
 use Rattle.code_follows.proofs.Openings.{base_is, unit_long, result_apart, result_below, all_declared, all_numbered, all_ready, apart, below, constants_grow, constants_run, empty_unit, ending, first_is, has_unit, main_is, named_word, no_homes, behind_files, end_is, starts_at_zero, with_starts, the_layout, the_setting, the_words, with_constants, within_all}
 use Rattle.code_follows.proofs.Returning.{left_at_end}
@@ -165,6 +166,15 @@ module _ (t : Typed) (image : Image) (p : IsScalarProgram t) (codable : IsCodabl
     abbrev scope : Scope
     scope = scope_of t p.main (calls t turns)
 
+    calls_follow : CallsFollow g scope active
+    unfolding scope_of
+    calls_follow = record {
+      meant = refl;
+      plain_files = λ k info there. (all_at IsPlainVariable t.vars.items k info p.variables there).0.0;
+      value = λ index h. absurd h;
+      effect = λ index h. absurd h;
+    }
+
     abbrev in_main : State
     in_main = entered p.main [] active first_state
 
@@ -247,7 +257,7 @@ module _ (t : Typed) (image : Image) (p : IsScalarProgram t) (codable : IsCodabl
 
     ended_so : (d e : Draft) (n : ℕ) (s : CodeState) (leaving : Leaving) (u : State) → (leaving ≡ Onward → Within g (with_instr I.FrontHalt e)) → NoJump (Source.Gives leaving u) → Left g alive frame d s leaving u n e → Halted s u
     unfolding Left NoJump with_end
-    ended_so d e n s Onward u within closed ran = halted s u None (left_at_end g has alive every (all_ready t p (the_words t image p codable compiled turns)) scope active frame d e s u n (within refl) ran)
+    ended_so d e n s Onward u within closed ran = halted s u None (left_at_end g has alive every (all_ready t p (the_words t image p codable compiled turns)) scope active calls_follow frame d e s u n (within refl) ran)
     ended_so d e n s Broke u within closed ran = absurd closed
     ended_so d e n s Continued u within closed ran = absurd closed
     ended_so d e n s (Returned v) u within closed ran = halted s u v ran
@@ -295,15 +305,15 @@ module _ (t : Typed) (image : Image) (p : IsScalarProgram t) (codable : IsCodabl
           zero_anyway true = refl
           zero_anyway false = refl
 
-      body_comes : All (IsInLocal g.may) locals → (AreInStatements g.may) row → AreClosed row → StandFrom (variables_of p.main.body) 0 (map info_of locals) → AreCoded g has alive every (all_ready t p (the_words t image p codable compiled turns)) scope active 0 locals
-          → RowCode g has alive every (all_numbered t p (the_words t image p codable compiled turns)) (all_ready t p (the_words t image p codable compiled turns)) (all_declared t p (the_words t image p codable compiled turns)) scope active falls (0 + length locals) row → (ends_in_return p.main.body ≡ true → (n : ℕ) (st : State) → NeverOnward (all_executed scope row n active st)) → Built locals row → ComesTo image opened (run_from body_run)
+      body_comes : All (IsInLocal g.may) locals → (AreInStatements g.may) row → AreClosed row → StandFrom (variables_of p.main.body) 0 (map info_of locals) → AreCoded g has alive every (all_ready t p (the_words t image p codable compiled turns)) scope active calls_follow 0 locals
+          → RowCode g has alive every (all_numbered t p (the_words t image p codable compiled turns)) (all_ready t p (the_words t image p codable compiled turns)) (all_declared t p (the_words t image p codable compiled turns)) scope active calls_follow falls (0 + length locals) row → (ends_in_return p.main.body ≡ true → (n : ℕ) (st : State) → NeverOnward (all_executed scope row n active st)) → Built locals row → ComesTo image opened (run_from body_run)
       unfolding Extends blank body_frame first_free zeroed ended with_end
       body_comes isin inside closed stand initial code never b =
           let ready = all_ready t p (the_words t image p codable compiled turns) in
           let ends : EndsSo body_run b.e = ends_by body_run b.e (ends_in_return p.main.body) b.unit (λ h. never_second (initialised scope active 0 locals begun_body) _ (λ u. never h (0 + length locals) u)) in
-          let begins : Extends g begun_there (Makes (tt {0}) b.begin) = subst (λ (m : Made (Unit {0})). Extends g begun_there m) b.started (initials_grow g has alive every ready scope active locals 0 begun_there isin initial) in
+          let begins : Extends g begun_there (Makes (tt {0}) b.begin) = subst (λ (m : Made (Unit {0})). Extends g begun_there m) b.started (initials_grow g has alive every ready scope active calls_follow locals 0 begun_there isin initial) in
           let homes : b.begin.homes ≡ [] = begins.1.homes ∙ starts_grown.1.homes ∙ no_homes t image p codable compiled turns in
-          let grown : Extends g b.begin (Makes b.n b.e) = subst (λ (m : Made ℕ). Extends g b.begin m) b.is (row_grows g has alive every (all_numbered t p (the_words t image p codable compiled turns)) ready (all_declared t p (the_words t image p codable compiled turns)) scope active falls row frame (0 + length locals) b.begin framed among homes code) in
+          let grown : Extends g b.begin (Makes b.n b.e) = subst (λ (m : Made ℕ). Extends g b.begin m) b.is (row_grows g has alive every (all_numbered t p (the_words t image p codable compiled turns)) ready (all_declared t p (the_words t image p codable compiled turns)) scope active calls_follow falls row frame (0 + length locals) b.begin framed among homes code) in
           let first : Within g begun_there = earlier g begun_there b.begin begins.0 begins.1 (earlier g b.begin b.e grown.0 grown.1 ends.inside) in
           let c = opened_so first in
           let free_before = (constants_grow t image p codable compiled turns).regs in
@@ -312,12 +322,12 @@ module _ (t : Typed) (image : Image) (p : IsScalarProgram t) (codable : IsCodabl
           let more = begins.1.regs in
           let sim : Sim g alive begun_body c.there = sim_same g alive in_main begun_body c.there same_scalars refl refl refl c.sim in
           comes begun_there b.e b.n c.there body_run ends (go_closed _ _ (begins_closed g.may scope active 0 locals begun_body) (λ u. closed_row g.may scope active row inside closed (0 + length locals) u)) c.go
-          (go_after g has alive every ready scope active begun_there c.there (Left g alive frame begun_there c.there) (initialised scope active 0 locals begun_body) (all_executed scope row (0 + length locals) active) tt b.begin (Makes b.n b.e)
-          (subst (λ (m : Made (Unit {0})). Follows g (RanOn g alive begun_there c.there) c.there (initialised scope active 0 locals begun_body) m) b.started (initials_follow g has alive every ready scope active locals 0 begun_there c.there begun_body isin stand initial free c.at (sim_fewer g alive (Started locals 0) begun_body c.there (λ x info named h. every x) sim)))
+          (go_after g has alive every ready scope active calls_follow begun_there c.there (Left g alive frame begun_there c.there) (initialised scope active 0 locals begun_body) (all_executed scope row (0 + length locals) active) tt b.begin (Makes b.n b.e)
+          (subst (λ (m : Made (Unit {0})). Follows g (RanOn g alive begun_there c.there) c.there (initialised scope active 0 locals begun_body) m) b.started (initials_follow g has alive every ready scope active calls_follow locals 0 begun_there c.there begun_body isin stand initial free c.at (sim_fewer g alive (Started locals 0) begun_body c.there (λ x info named h. every x) sim)))
           grown
           (λ u ran. follows_from g alive frame begun_there b.begin begins.0 c.there ran.t (all_executed scope row (0 + length locals) active u) (Makes b.n b.e) begins.1 ran.go ran.keeps
           (subst (λ (m : Made ℕ). Follows g (Left g alive frame b.begin ran.t) ran.t (all_executed scope row (0 + length locals) active u) m) b.is
-          (row_follows g has alive every (all_numbered t p (the_words t image p codable compiled turns)) ready (all_declared t p (the_words t image p codable compiled turns)) scope active falls row inside frame (0 + length locals) b.begin ran.t u framed among homes (omega (arith, free, more)) ran.at ran.sim code))))
+          (row_follows g has alive every (all_numbered t p (the_words t image p codable compiled turns)) ready (all_declared t p (the_words t image p codable compiled turns)) scope active calls_follow falls row inside frame (0 + length locals) b.begin ran.t u framed among homes (omega (arith, free, more)) ran.at ran.sim code))))
         where
           framed : StandsIn g frame
           framed = record { outcome = refl; main = refl; scalar = not_parallel p.main.result p.result }
@@ -330,11 +340,11 @@ module _ (t : Typed) (image : Image) (p : IsScalarProgram t) (codable : IsCodabl
     runs (S.Block' locals q row) is h =
         let ready = all_ready t p (the_words t image p codable compiled turns) in
         let c : HasStatementCode t p.main 0 (S.Block' locals q row) = subst (λ (s : TStmt). HasStatementCode t p.main 0 s) is (codable 0 p.main (first_is t p (the_words t image p codable compiled turns))).1 in
-        let code = block_code g has alive every (all_numbered t p (the_words t image p codable compiled turns)) ready (all_declared t p (the_words t image p codable compiled turns)) scope active falls 0 locals q row c in
-        let stand = first_part (map info_of locals.items) (row_variables row) (block_stands g has alive every (all_numbered t p (the_words t image p codable compiled turns)) ready (all_declared t p (the_words t image p codable compiled turns)) scope active falls 0 locals q row c) in
-        let initial = coded g has alive every ready scope active 0 locals.items c.shaped.0 c.lowerable.0 c.names.0 in
+        let code = block_code g has alive every (all_numbered t p (the_words t image p codable compiled turns)) ready (all_declared t p (the_words t image p codable compiled turns)) scope active calls_follow falls 0 locals q row c in
+        let stand = first_part (map info_of locals.items) (row_variables row) (block_stands g has alive every (all_numbered t p (the_words t image p codable compiled turns)) ready (all_declared t p (the_words t image p codable compiled turns)) scope active calls_follow falls 0 locals q row c) in
+        let initial = coded g has alive every ready scope active calls_follow 0 locals.items c.shaped.0 c.lowerable.0 c.names.0 in
         let whole : finish (statements_behind locals.items row (all_initialised t own locals.items 0 begun_there)) ≡ the_unit =
-        sym (ap (λ (m : Made (Unit {0})). finish (then_make (then_make m (λ u between. then_make (all_initialised t own locals.items 0 between) (λ v after. Makes (0 + length locals.items) after))) (λ number after. statements_of t own row frame [] number after))) (none_cleared g has alive every ready scope active locals.items 0 begun_there h.0))
+        sym (ap (λ (m : Made (Unit {0})). finish (then_make (then_make m (λ u between. then_make (all_initialised t own locals.items 0 between) (λ v after. Makes (0 + length locals.items) after))) (λ number after. statements_of t own row frame [] number after))) (none_cleared g has alive every ready scope active calls_follow locals.items 0 begun_there h.0))
         ∙ sym (ap (λ (b : TStmt). finish (body_of t own frame b begun_there)) is)
         ∙ main_is t image p codable compiled turns in
         subst (λ (r : Run). ComesTo image opened r) (sym (ap (λ (o : Option Instance). run_of (run_body t (calls t turns) o [] active first_state)) (first_is t p (the_words t image p codable compiled turns)) ∙ ap (λ (b : TStmt). run_from (executed scope b 0 active in_main)) is))

@@ -48,6 +48,7 @@ use Rattle.code_follows.specs.Fragment.{IsIn, IsWord}
 use Rattle.code_follows.proofs.Choosing.{put_lands}
 use Rattle.code_follows.proofs.Expressions.{AreChosen, brackets_code, choice_goes, choice_parts, convert_code, left_code, named, operand, operand_grows, right_code, unary_code, value_follows}
 use Rattle.code_follows.proofs.Bytes.{byte_put}
+use Rattle.code_follows.proofs.Callees.{CallsFollow}
 use Rattle.code_follows.proofs.Following.{Arrives, Extends, Follows, HasRegisters, IsScalar, Sim, held, keeps_all, then_follows, then_gives}
 use Rattle.code_follows.proofs.Operators.{wide_signed}
 use Rattle.code_follows.proofs.Settings.{At, Setting, and_one, layout, stay}
@@ -55,7 +56,7 @@ use Rattle.code_follows.proofs.Stores.{IsPut, variable_dest}
 use Rattle.code_follows.proofs.Values.{Dest, Does, Value_of, conversion_is, extends_in_register, mapped_is, negated_follows, read_is, registers_follow}
 use Rattle.code_follows.proofs.Words.{below_bits, below_word, constant_below, held_converted, held_wide, kept, word_type}
 
-module _ (g : Setting) (has : HasRegisters g) (alive : Variable → Type 0) (n : ℕ) (lives : (x : Variable) → IsDeclared n x → alive x) (ready : (d : Draft) → IsReady g.typed g.instance (layout g) n d) (scope : Scope) (active : Active)
+module _ (g : Setting) (has : HasRegisters g) (alive : Variable → Type 0) (n : ℕ) (lives : (x : Variable) → IsDeclared n x → alive x) (ready : (d : Draft) → IsReady g.typed g.instance (layout g) n d) (scope : Scope) (active : Active) (calls_follow : CallsFollow g scope active)
     (x : Variable) (info : VarInfo) (living : alive x) (scalar : IsScalar g x info) (also : info.elem.bits ≡ 32) where
   abbrev own : ℕ
   own = register_of (layout g) x
@@ -153,8 +154,8 @@ module _ (g : Setting) (has : HasRegisters g) (alive : Variable → Type 0) (n :
       subst (λ (b : Bool). Follows g (Put d s) s (then_do (evaluated scope left active st) (λ v between. then_do (evaluated scope right active between) (λ w after. operated scope active ty place op (not (type_of left).elem.signed) v w after))) (registers_by op b place own first second d))
       (sym (wide_signed (type_of left).elem (word_type g.may left one).1))
       (registers_follow g has alive ty (is_quiet right) op place (type_of left).elem (type_of right).elem second (λ st. evaluated scope right active st) scope active word (word_type g.may left one).1 (word_type g.may right two).1
-      (λ u calm. Quiet.expression scope right active u calm) (operand g has alive n lives ready scope active true bits right two e) (operand_grows g has alive n lives ready scope active true bits right e)
-      d s (Put d s) own free (dest ty.elem d s word.1 free) st first (λ u. evaluated scope left active u) (operand g has alive n lives ready scope active (is_quiet right) bits left one c) here sim)
+      (λ u calm. Quiet.expression scope right active u calm) (operand g has alive n lives ready scope active calls_follow true bits right two e) (operand_grows g has alive n lives ready scope active calls_follow true bits right e)
+      d s (Put d s) own free (dest ty.elem d s word.1 free) st first (λ u. evaluated scope left active u) (operand g has alive n lives ready scope active calls_follow (is_quiet right) bits left one c) here sim)
 
   -- a conversion to 32 bits leaves the value to what is converted
   unchanged : (ty : ValueType) (p : Boxed) (inner : TExpr) → IsWord ty → (d : Draft) (s : CodeState) (st : State)
@@ -170,41 +171,41 @@ module _ (g : Setting) (has : HasRegisters g) (alive : Variable → Type 0) (n :
   unfolding computed_to is_plus bits_for
   unary_put ty U.Plus p inner word isin c puts = put_mapped ty word _ _ puts
   unary_put ty U.Minus p inner word isin c puts = λ d s st free here sim.
-      negated_follows g has alive ty U.Minus (type_of inner).elem (word_type g.may inner isin).1 word refl d s (Put d s) own free (dest ty.elem d s word.1 free) st _ (λ u. evaluated scope inner active u) (operand g has alive n lives ready scope active true (unary_bits 32 U.Minus inner) inner isin c) here sim
+      negated_follows g has alive ty U.Minus (type_of inner).elem (word_type g.may inner isin).1 word refl d s (Put d s) own free (dest ty.elem d s word.1 free) st _ (λ u. evaluated scope inner active u) (operand g has alive n lives ready scope active calls_follow true (unary_bits 32 U.Minus inner) inner isin c) here sim
   unary_put ty U.Complement p inner word isin c puts = λ d s st free here sim.
-      negated_follows g has alive ty U.Complement (type_of inner).elem (word_type g.may inner isin).1 word refl d s (Put d s) own free (dest ty.elem d s word.1 free) st _ (λ u. evaluated scope inner active u) (operand g has alive n lives ready scope active true (unary_bits 32 U.Complement inner) inner isin c) here sim
+      negated_follows g has alive ty U.Complement (type_of inner).elem (word_type g.may inner isin).1 word refl d s (Put d s) own free (dest ty.elem d s word.1 free) st _ (λ u. evaluated scope inner active u) (operand g has alive n lives ready scope active calls_follow true (unary_bits 32 U.Complement inner) inner isin c) here sim
   unary_put ty U.Not p inner word isin c puts = λ d s st free here sim.
-      negated_follows g has alive ty U.Not (type_of inner).elem (word_type g.may inner isin).1 word refl d s (Put d s) own free (dest ty.elem d s word.1 free) st _ (λ u. evaluated scope inner active u) (operand g has alive n lives ready scope active true (unary_bits 32 U.Not inner) inner isin c) here sim
+      negated_follows g has alive ty U.Not (type_of inner).elem (word_type g.may inner isin).1 word refl d s (Put d s) own free (dest ty.elem d s word.1 free) st _ (λ u. evaluated scope inner active u) (operand g has alive n lives ready scope active calls_follow true (unary_bits 32 U.Not inner) inner isin c) here sim
 
   -- `?:` computes the chosen value straight into the register
-  choice_put : (ty : ValueType) (p q r : Boxed) (test first second : TExpr) → IsWord ty → (IsIn g.may) test → (IsIn g.may) first → (IsIn g.may) second → AreChosen g has alive n lives ready scope active test first second
+  choice_put : (ty : ValueType) (p q r : Boxed) (test first second : TExpr) → IsWord ty → (IsIn g.may) test → (IsIn g.may) first → (IsIn g.may) second → AreChosen g has alive n lives ready scope active calls_follow test first second
       → Puts (λ st. then_do (evaluated scope test active st) (λ v after. choose (type_of test).shape v (evaluated scope first) (evaluated scope second) active after)) (λ d. computed_to g.typed (layout g) (O.Scalar own) (T.Choice' ty p test q first r second) d)
   unfolding computed_to bits_for
   choice_put ty p q r test first second word h k m c d s st free here sim =
       subst (λ (made : Made Out). Follows g (Put d s) s (then_do (evaluated scope test active st) (λ v after. choose (type_of test).shape v (evaluated scope first) (evaluated scope second) active after)) made)
       (sym (ap (λ (b : Bool). if b then scalar_choice_of g.typed (layout g) ty 32 test first second (O.Scalar own) d else moved g.typed (layout g) (O.Scalar own) (T.Choice' ty p test q first r second) d) (kept g.may test h)))
-      (choice_goes g has alive n lives ready scope active ty 32 test first second word h k m c (value_follows g has alive n lives ready scope active true (bits_of (kind_of test)) test h c.condition) (value_follows g has alive n lives ready scope active true 32 first k c.one)
-      (value_follows g has alive n lives ready scope active true 32 second m c.other) d s st (Put d s) own free here sim (dest ty.elem d s word.1 free) (put_lands g has alive x info living scalar d s own))
+      (choice_goes g has alive n lives ready scope active calls_follow ty 32 test first second word h k m c (value_follows g has alive n lives ready scope active calls_follow true (bits_of (kind_of test)) test h c.condition) (value_follows g has alive n lives ready scope active calls_follow true 32 first k c.one)
+      (value_follows g has alive n lives ready scope active calls_follow true 32 second m c.other) d s st (Put d s) own free here sim (dest ty.elem d s word.1 free) (put_lands g has alive x info living scalar d s own))
 
   computed_follows : (e : TExpr) → (IsIn g.may) e → HasCode g.typed g.instance n e → Puts (λ st. evaluated scope e active st) (λ d. computed_to g.typed (layout g) (O.Scalar own) e d)
   unfolding computed_to evaluated IsIn moved bits_for binary_to in_register logical_to
-  computed_follows (T.Number ty value) h c = copied_to ty.elem h.0.1 _ _ (operand g has alive n lives ready scope active true 32 (T.Number ty value) h c)
-  computed_follows (T.PositionsOf ty shape value) h c = copied_to ty.elem h.0.1 _ _ (operand g has alive n lives ready scope active true 32 (T.PositionsOf ty shape value) h c)
-  computed_follows (T.RankOf ty shape value) h c = copied_to ty.elem h.0.1 _ _ (operand g has alive n lives ready scope active true 32 (T.RankOf ty shape value) h c)
-  computed_follows (T.DimOf ty shape axis value) h c = copied_to ty.elem h.0.1 _ _ (operand g has alive n lives ready scope active true 32 (T.DimOf ty shape axis value) h c)
-  computed_follows (T.Variable ty y) h c = variable_put ty y h (named g has alive n lives ready scope active ty y c)
+  computed_follows (T.Number ty value) h c = copied_to ty.elem h.0.1 _ _ (operand g has alive n lives ready scope active calls_follow true 32 (T.Number ty value) h c)
+  computed_follows (T.PositionsOf ty shape value) h c = copied_to ty.elem h.0.1 _ _ (operand g has alive n lives ready scope active calls_follow true 32 (T.PositionsOf ty shape value) h c)
+  computed_follows (T.RankOf ty shape value) h c = copied_to ty.elem h.0.1 _ _ (operand g has alive n lives ready scope active calls_follow true 32 (T.RankOf ty shape value) h c)
+  computed_follows (T.DimOf ty shape axis value) h c = copied_to ty.elem h.0.1 _ _ (operand g has alive n lives ready scope active calls_follow true 32 (T.DimOf ty shape axis value) h c)
+  computed_follows (T.Variable ty y) h c = variable_put ty y h (named g has alive n lives ready scope active calls_follow ty y c)
   computed_follows (T.GetChar ty) h c = λ d s st free here sim. byte_put g has alive x info living scalar also d s st free here sim
-  computed_follows (T.Brackets' ty p inner) h c = computed_follows inner h.1 (brackets_code g has alive n lives ready scope active ty p inner c)
+  computed_follows (T.Brackets' ty p inner) h c = computed_follows inner h.1 (brackets_code g has alive n lives ready scope active calls_follow ty p inner c)
   computed_follows (T.Convert' ty p operand) h c = λ d s st free here sim.
-      unchanged ty p operand h.0 d s st (put_converted ty (type_of operand).elem h.0 (word_type g.may operand h.1).1 _ _ (computed_follows operand h.1 (convert_code g has alive n lives ready scope active ty p operand c)) d s st free here sim)
-  computed_follows (T.Casts' ty elems p inner) h c = copied_to ty.elem h.0.1 _ _ (operand g has alive n lives ready scope active true 32 (T.Casts' ty elems p inner) h c)
-  computed_follows (T.Unary' ty op p inner) h c = unary_put ty op p inner h.0 h.1 (unary_code g has alive n lives ready scope active ty op p inner c) (computed_follows inner h.1 (unary_code g has alive n lives ready scope active ty op p inner c))
-  computed_follows (T.Binary' ty place op p left q right) h c = binary_put ty place op left right h.0 h.1 h.2 (left_code g has alive n lives ready scope active ty place op p q left right c) (right_code g has alive n lives ready scope active ty place op p q left right c)
-  computed_follows (T.LogicalOr' ty p left q right) h c = copied_to ty.elem h.0.1 _ _ (operand g has alive n lives ready scope active true 32 (T.LogicalOr' ty p left q right) h c)
-  computed_follows (T.LogicalAnd' ty p left q right) h c = copied_to ty.elem h.0.1 _ _ (operand g has alive n lives ready scope active true 32 (T.LogicalAnd' ty p left q right) h c)
-  computed_follows (T.Choice' ty p test q first r second) h c = choice_put ty p q r test first second h.0 h.1 h.2 h.3 (choice_parts g has alive n lives ready scope active ty p q r test first second c)
-  computed_follows (T.Assign' ty place op p target q value) h c = copied_to ty.elem h.0.1 _ _ (operand g has alive n lives ready scope active true 32 (T.Assign' ty place op p target q value) h c)
-  computed_follows (T.Step' ty op order p target) h c = copied_to ty.elem h.0.1 _ _ (operand g has alive n lives ready scope active true 32 (T.Step' ty op order p target) h c)
+      unchanged ty p operand h.0 d s st (put_converted ty (type_of operand).elem h.0 (word_type g.may operand h.1).1 _ _ (computed_follows operand h.1 (convert_code g has alive n lives ready scope active calls_follow ty p operand c)) d s st free here sim)
+  computed_follows (T.Casts' ty elems p inner) h c = copied_to ty.elem h.0.1 _ _ (operand g has alive n lives ready scope active calls_follow true 32 (T.Casts' ty elems p inner) h c)
+  computed_follows (T.Unary' ty op p inner) h c = unary_put ty op p inner h.0 h.1 (unary_code g has alive n lives ready scope active calls_follow ty op p inner c) (computed_follows inner h.1 (unary_code g has alive n lives ready scope active calls_follow ty op p inner c))
+  computed_follows (T.Binary' ty place op p left q right) h c = binary_put ty place op left right h.0 h.1 h.2 (left_code g has alive n lives ready scope active calls_follow ty place op p q left right c) (right_code g has alive n lives ready scope active calls_follow ty place op p q left right c)
+  computed_follows (T.LogicalOr' ty p left q right) h c = copied_to ty.elem h.0.1 _ _ (operand g has alive n lives ready scope active calls_follow true 32 (T.LogicalOr' ty p left q right) h c)
+  computed_follows (T.LogicalAnd' ty p left q right) h c = copied_to ty.elem h.0.1 _ _ (operand g has alive n lives ready scope active calls_follow true 32 (T.LogicalAnd' ty p left q right) h c)
+  computed_follows (T.Choice' ty p test q first r second) h c = choice_put ty p q r test first second h.0 h.1 h.2 h.3 (choice_parts g has alive n lives ready scope active calls_follow ty p q r test first second c)
+  computed_follows (T.Assign' ty place op p target q value) h c = copied_to ty.elem h.0.1 _ _ (operand g has alive n lives ready scope active calls_follow true 32 (T.Assign' ty place op p target q value) h c)
+  computed_follows (T.Step' ty op order p target) h c = copied_to ty.elem h.0.1 _ _ (operand g has alive n lives ready scope active calls_follow true 32 (T.Step' ty op order p target) h c)
   computed_follows _ h c = absurd h
 
   -- a constant goes to the register at once

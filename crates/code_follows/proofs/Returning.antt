@@ -36,6 +36,7 @@ use Rattle.code_follows.specs.Fragment.{IsIn}
 use Rattle.code_follows.proofs.ConstantRegisters.{behind_variables}
 use Rattle.code_follows.proofs.Executing.{IsGiven, Leaves, Left, Returns}
 use Rattle.code_follows.proofs.Expressions.{operand}
+use Rattle.code_follows.proofs.Callees.{CallsFollow}
 use Rattle.code_follows.proofs.Following.{Arrives, Extends, Follows, HasRegisters, Keeps, Ran, Sim, delayed, finished, keeps_all, result_kept, spared_kept}
 use Rattle.code_follows.proofs.Jumping.{nothing_restored}
 use Rattle.code_follows.proofs.Settings.{At, Reaches, Setting, Within, and_one, at_next, begins_here, earlier, layout, one, onto, stay}
@@ -52,7 +53,7 @@ leaves g alive e s within at = by g.is_main within
     by true within = begins_here g I.FrontHalt e s within refl at
     by false within = begins_here g I.FrontReturn e s within refl at
 
-module _ (g : Setting) (has : HasRegisters g) (alive : Variable → Type 0) (every : (x : Variable) → alive x) (ready : (n : ℕ) (d : Draft) → IsReady g.typed g.instance (layout g) n d) (scope : Scope) (active : Active) where
+module _ (g : Setting) (has : HasRegisters g) (alive : Variable → Type 0) (every : (x : Variable) → alive x) (ready : (n : ℕ) (d : Draft) → IsReady g.typed g.instance (layout g) n d) (scope : Scope) (active : Active) (calls_follow : CallsFollow g scope active) where
   -- what is behind the code of a `return`
   abbrev then_leaves : ℕ → Draft → Made ℕ
   then_leaves n after = Makes n (with_end g.is_main after)
@@ -161,7 +162,7 @@ module _ (g : Setting) (has : HasRegisters g) (alive : Variable → Type 0) (eve
       subst (λ (m : Made ℕ). Follows g (Left g alive f d s0) s0 (then_do (evaluated scope e active st) (λ v after. Source.Gives (Returned (Some (returned active (type_of e).shape v))) after)) m)
       (λ i. then_make (then_make (next_of g.typed (layout g) (type_of e).elem.bits true e d) (λ v after. stored_result (layout g) f.outcome v after)) (λ u after. Makes n (sym (ends_so f f.saved.in_all framed.main after) i)))
       (answers (type_of e).elem f d s0 f.outcome n (type_of e).shape (word_type g.may e h).0 (word_type g.may e h).1 framed.scalar (no_outcome f framed) (evaluated scope e active st) (next_of g.typed (layout g) (type_of e).elem.bits true e d)
-      (operand g has alive n (λ x within. every x) (ready n) scope active true (type_of e).elem.bits e h c d s0 st free at sim))
+      (operand g has alive n (λ x within. every x) (ready n) scope active calls_follow true (type_of e).elem.bits e h c d s0 st free at sim))
 
   -- the function is left at the end of its body
   pub left_at_end : (f : Frame) (d e : Draft) (s : CodeState) (u : State) (m : ℕ) → Within g (with_end g.is_main e) → Ran g alive d s u e → Returns g alive s u None

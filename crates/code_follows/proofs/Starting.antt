@@ -42,6 +42,7 @@ use Rattle.source_meaning.specs.Values.{Active, Scalar, Scope, Value, number}
 use Rattle.code_follows.specs.Fragment.{IsIn, IsInLocal}
 use Rattle.code_follows.proofs.Declaring.{Started, all_first, all_rest, first_is_named, others_stand, sim_fewer, started_before}
 use Rattle.code_follows.proofs.Executing.{RanOn, gives, no_break, no_continue, no_return, ran_from}
+use Rattle.code_follows.proofs.Callees.{CallsFollow}
 use Rattle.code_follows.proofs.Following.{Extends, Follows, HasRegisters, IsScalar, Keeps, Ran, Sim, delayed, extends_then, finished, finishes_later, follows_other, held, keeps_all, then_follows, variable_kept}
 use Rattle.code_follows.proofs.Putting.{Put, put_follows}
 use Rattle.code_follows.proofs.Settings.{At, Reaches, Setting, and_one, at_next, begins_here, layout, one, regs_more, stay}
@@ -96,7 +97,7 @@ declared_itself : (n : ℕ) → IsDeclared (n + 1) (V.Local n)
 unfolding IsDeclared
 declared_itself n = omega arith
 
-module _ (g : Setting) (has : HasRegisters g) (alive : Variable → Type 0) (every : (x : Variable) → alive x) (ready : (n : ℕ) (d : Draft) → IsReady g.typed g.instance (layout g) n d) (scope : Scope) (active : Active) where
+module _ (g : Setting) (has : HasRegisters g) (alive : Variable → Type 0) (every : (x : Variable) → alive x) (ready : (n : ℕ) (d : Draft) → IsReady g.typed g.instance (layout g) n d) (scope : Scope) (active : Active) (calls_follow : CallsFollow g scope active) where
   pub go_after : {B D : Type 0} (d : Draft) (s : CodeState) (Q : Leaving → State → D → Draft → Type 0) (o : Outcome Leaving) (k : State → Outcome Leaving) (y : B) (e : Draft) (made : Made D) → Follows g (RanOn g alive d s) s o (Makes y e) → Extends g e made
       → ((u : State) → Ran g alive d s u e → Follows g Q s (k u) made) → Follows g Q s (then_go o k) made
   unfolding Follows then_go
@@ -153,7 +154,7 @@ module _ (g : Setting) (has : HasRegisters g) (alive : Variable → Type 0) (eve
   -- its register holds what is put there
   local_grows : (n : ℕ) (e : TExpr) (d : Draft) → (IsIn g.may) e → HasCode g.typed g.instance (n + 1) e → Extends g d (put_to g.typed (layout g) (O.Scalar (register_of (layout g) (V.Local n))) e d)
   local_grows n e d h k =
-      extends_grown g has alive _ d _ _ ((expressions g.typed g.instance (layout g)).put_register (register_of (layout g) (V.Local n)) (n + 1) e d k (gives g alive has every (n + 1) (ready (n + 1)) scope active e h, kept g.may e h) (ready (n + 1) d))
+      extends_grown g has alive _ d _ _ ((expressions g.typed g.instance (layout g)).put_register (register_of (layout g) (V.Local n)) (n + 1) e d k (gives g alive has every (n + 1) (ready (n + 1)) scope active calls_follow e h, kept g.may e h) (ready (n + 1) d))
 
   pub initials_grow : (locals : List LocalVar) (n : ℕ) (d : Draft) → All (IsInLocal g.may) locals → AreCoded n locals → Extends g d (all_initialised g.typed (layout g) locals n d)
   unfolding all_initialised initialised_in AreCoded Extends then_make
@@ -217,7 +218,7 @@ module _ (g : Setting) (has : HasRegisters g) (alive : Variable → Type 0) (eve
   unfolding Started
   value_put local locals n e d s st begins scalar wide isin c free at sim =
       follows_on (evaluated scope e active st) (put_to g.typed (layout g) (O.Scalar (register_of (layout g) (V.Local n))) e d)
-      (put_follows g has (Started (local ∷ locals) n) (n + 1) (λ y h. lives y h) (ready (n + 1)) scope active (V.Local n) local.info (lives (V.Local n) itself) scalar wide e isin c d s st free at sim)
+      (put_follows g has (Started (local ∷ locals) n) (n + 1) (λ y h. lives y h) (ready (n + 1)) scope active calls_follow (V.Local n) local.info (lives (V.Local n) itself) scalar wide e isin c d s st free at sim)
     where
       never : begins_constant local ≡ true → ⊥
       never b = cc
@@ -228,7 +229,7 @@ module _ (g : Setting) (has : HasRegisters g) (alive : Variable → Type 0) (eve
       itself : IsDeclared (n + 1) (V.Local n)
       itself = declared_itself n
 
-      follows_on : (o : Outcome Value) (made : Made Out) → Follows g (Put g has (Started (local ∷ locals) n) (n + 1) (λ y h. lives y h) (ready (n + 1)) scope active (V.Local n) local.info (lives (V.Local n) itself) scalar wide d s) s o made → Follows g (λ v u (out : Out) f. Begun local locals n d s v u f) s o made
+      follows_on : (o : Outcome Value) (made : Made Out) → Follows g (Put g has (Started (local ∷ locals) n) (n + 1) (λ y h. lives y h) (ready (n + 1)) scope active calls_follow (V.Local n) local.info (lives (V.Local n) itself) scalar wide d s) s o made → Follows g (λ v u (out : Out) f. Begun local locals n d s v u f) s o made
       follows_on o made h = follows_other g _ _ s o made h (λ v u out f p. (
         p.word,
         (p.value, record { grown = p.grown; t = p.t; go = p.go; at = p.at; keeps = p.keeps; sim = sim_fewer g (Started (local ∷ locals) n) (Started locals (n + 1)) (with_scalar (V.Local n) p.word u) p.t (λ y info named later. ((λ b e. never b), later)) p.sim }),
