@@ -103,14 +103,14 @@ module _ (t : Typed) (image : Image) (p : IsScalarProgram t) (codable : IsCodabl
 
   module _ (me : ℕ) (a : Instance) (is_me : slice_get t.instances.items me ≡ Some a) (returns : List ℕ) (most : ℕ) (number : ℕ) (b : Instance) (is : slice_get t.instances.items number ≡ Some b) (lesser : p.rank number < p.rank me) where
     -- what it touches is not the caller's
-    not_mine : (r : ℕ) → Touches number r → IsOf me a r → ⊥
+    pub not_mine : (r : ℕ) → Touches number r → IsOf me a r → ⊥
     not_mine r h mine =
         let same : h.by ≡ me = of_one h.by me h.instance a r h.is is_me h.of mine in
         let rank : p.rank h.by ≡ p.rank me = ap p.rank same in
         let less = h.lesser in
         omega (arith, rank, less, lesser)
 
-    mine_too : (r : ℕ) → Touches number r → Touches me r
+    pub mine_too : (r : ℕ) → Touches number r → Touches me r
     mine_too r h = let less = h.lesser in record { by = h.by; instance = h.instance; is = h.is; lesser = omega (arith, less, lesser); of = h.of }
 
     -- it stands behind the variables of the file
@@ -122,14 +122,14 @@ module _ (t : Typed) (image : Image) (p : IsScalarProgram t) (codable : IsCodabl
         by (inl own) = own_behind t scalars words h.by h.instance r h.is own
         by (inr value) = let free = behind_all me h.by r value.0 in let base = base_behind t scalars words me a is_me in let inside = base_inside t scalars words me a is_me in omega (arith, free, base, inside)
 
-    no_variable : (r : ℕ) → Touches number r → (x : Variable) (info : VarInfo) → variable_named t a x ≡ Some info → r ≡ register_of (layout_of t words me) x → ⊥
+    pub no_variable : (r : ℕ) → Touches number r → (x : Variable) (info : VarInfo) → variable_named t a x ≡ Some info → r ≡ register_of (layout_of t words me) x → ⊥
     no_variable r h x info named e = by (variable_of me a is_me x info named)
       where
         by : (register_of (layout_of t words me) x < length t.vars.items) ⊎ IsOwn t scalars words me a (register_of (layout_of t words me) x) → ⊥
         by (inl file) = let behind = touched_behind r h in omega (arith, file, behind, e)
         by (inr own) = not_mine r h (inl (subst (λ (q : ℕ). IsOwn t scalars words me a q) (sym e) own))
 
-    no_constant : (word r : ℕ) → constant_register (layout_of t words me) word ≡ Some r → Touches number r → ⊥
+    pub no_constant : (word r : ℕ) → constant_register (layout_of t words me) word ≡ Some r → Touches number r → ⊥
     unfolding first_free
     no_constant word r there h = by h.of
       where
@@ -143,7 +143,7 @@ module _ (t : Typed) (image : Image) (p : IsScalarProgram t) (codable : IsCodabl
         by (inl own) = let inside = own_inside t scalars words h.by h.instance r h.is own in let same = same_end t scalars words me h.by in let low = low in omega (arith, inside, same, low)
         by (inr value) = let free = behind_all me h.by r value.0 in let high = high in omega (arith, free, high)
 
-    pub callee_known : Callee (activation me a is_me returns most) number
+    unfoldable pub callee_known : Callee (activation me a is_me returns most) number
     unfolding first_free size_of
     callee_known = record {
       callee = b;

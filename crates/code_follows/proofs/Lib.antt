@@ -13,6 +13,7 @@ pub mod Closed
 pub mod ConstantRegisters
 pub mod Declaring
 pub mod Effects
+pub mod Entering
 pub mod Examples
 pub mod Endings
 pub mod Executing
@@ -20,6 +21,7 @@ pub mod Expressions
 pub mod Following
 pub mod ForLoops
 pub mod Fresh
+pub mod Functions
 pub mod Jumping
 pub mod Logical
 pub mod Loops

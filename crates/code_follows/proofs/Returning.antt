@@ -53,14 +53,26 @@ leaves g alive e s within at = by g.is_main within
     by true within = begins_here g I.FrontHalt e s within refl at
     by false within = begins_here g I.FrontReturn e s within refl at
 
+pub end_more : (g : Setting) (e : Draft) → Extended e 1 (with_end g.is_main e)
+unfolding with_end
+end_more g e = and_one g (if g.is_main then I.FrontHalt else I.FrontReturn) e
+
+-- the function is left at the end of its body
+pub left_at_end : (g : Setting) (alive : Variable → Type 0) (d e : Draft) (s : CodeState) (u : State) → Within g (with_end g.is_main e) → Ran g alive d s u e → Returns g alive s u None
+unfolding IsGiven
+left_at_end g alive d e s u within ran = record {
+  t = ran.t;
+  go = ran.go;
+  sim = ran.sim;
+  leaves = leaves g alive e ran.t within ran.at;
+  spares = λ r spared. ran.keeps r (spared_kept g d r spared);
+  given = ran.keeps (result_register (layout g)) (result_kept g d);
+}
+
 module _ (g : Setting) (has : HasRegisters g) (alive : Variable → Type 0) (every : (x : Variable) → alive x) (ready : (n : ℕ) (d : Draft) → IsReady g.typed g.instance (layout g) n d) (scope : Scope) (active : Active) (calls_follow : CallsFollow g scope active) where
   -- what is behind the code of a `return`
   abbrev then_leaves : ℕ → Draft → Made ℕ
   then_leaves n after = Makes n (with_end g.is_main after)
-
-  end_more : (e : Draft) → Extended e 1 (with_end g.is_main e)
-  unfolding with_end
-  end_more e = and_one g (if g.is_main then I.FrontHalt else I.FrontReturn) e
 
   -- the value is put in the register of the result, and the function is left
   abbrev stored_then_leaves : Outcome → ℕ → Out → Draft → Made ℕ
@@ -68,10 +80,10 @@ module _ (g : Setting) (has : HasRegisters g) (alive : Variable → Type 0) (eve
 
   extends_stored : (given : Outcome) (n : ℕ) (out : Out) (e : Draft) → (given ≡ R.Parallel → ⊥) → Extends g e (stored_then_leaves given n out e)
   unfolding Extends stored_result put_value in_register then_make
-  extends_stored R.Nothing n out e none = (1, end_more e)
+  extends_stored R.Nothing n out e none = (1, end_more g e)
   extends_stored R.Scalar n (O.Scalar r) e none =
       let moves : Draft = with_instr (I.FrontMove (result_register (layout g)) r) e in
-      (2, extended e moves (with_end g.is_main moves) 1 1 (and_one g (I.FrontMove (result_register (layout g)) r) e) (end_more moves))
+      (2, extended e moves (with_end g.is_main moves) 1 1 (and_one g (I.FrontMove (result_register (layout g)) r) e) (end_more g moves))
   extends_stored R.Scalar n (O.Field f) e none = tt
   extends_stored R.Scalar n O.Nothing e none = tt
   extends_stored R.Parallel n out e none = absurd (none refl)
@@ -106,7 +118,7 @@ module _ (g : Setting) (has : HasRegisters g) (alive : Variable → Type 0) (eve
       let q : ℕ = result_register (layout g) in
       let i = I.FrontMove q r in
       let moves : Draft = with_instr i e in
-      let before : Within g moves = earlier g moves (with_end g.is_main moves) 1 (end_more moves) within in
+      let before : Within g moves = earlier g moves (with_end g.is_main moves) 1 (end_more g moves) within in
       let t1 : CodeState = with_register q (slice_index t.registers r) t in
       let inside : q < length t.registers = let below = has.result in let long = sim.registers in let room = has.room in omega (arith, below, room, long) in
       record {
@@ -163,15 +175,3 @@ module _ (g : Setting) (has : HasRegisters g) (alive : Variable → Type 0) (eve
       (λ i. then_make (then_make (next_of g.typed (layout g) (type_of e).elem.bits true e d) (λ v after. stored_result (layout g) f.outcome v after)) (λ u after. Makes n (sym (ends_so f f.saved.in_all framed.main after) i)))
       (answers (type_of e).elem f d s0 f.outcome n (type_of e).shape (word_type g.may e h).0 (word_type g.may e h).1 framed.scalar (no_outcome f framed) (evaluated scope e active st) (next_of g.typed (layout g) (type_of e).elem.bits true e d)
       (operand g has alive n (λ x within. every x) (ready n) scope active calls_follow true (type_of e).elem.bits e h c d s0 st free at sim))
-
-  -- the function is left at the end of its body
-  pub left_at_end : (f : Frame) (d e : Draft) (s : CodeState) (u : State) (m : ℕ) → Within g (with_end g.is_main e) → Ran g alive d s u e → Returns g alive s u None
-  unfolding IsGiven
-  left_at_end f d e s u m within ran = record {
-    t = ran.t;
-    go = ran.go;
-    sim = ran.sim;
-    leaves = leaves g alive e ran.t within ran.at;
-    spares = λ r spared. ran.keeps r (spared_kept g d r spared);
-    given = ran.keeps (result_register (layout g)) (result_kept g d);
-  }

@@ -50,7 +50,7 @@ zip_there p (x ∷ code) (o ∷ over) zero i z e = (o, (refl, subst (λ (y : Ins
 zip_there p (x ∷ code) (o ∷ over) (suc at) i z e = zip_there p code over at i z.1 e
 
 -- the same unit over bits
-unit_there : (places : List (List ℕ)) (first : ℕ) (units overs : List CodeUnit) (number : ℕ) (unit : CodeUnit) → ArePlacedUnits places first units overs → slice_get units number ≡ Some unit →
+pub unit_there : (places : List (List ℕ)) (first : ℕ) (units overs : List CodeUnit) (number : ℕ) (unit : CodeUnit) → ArePlacedUnits places first units overs → slice_get units number ≡ Some unit →
     (over : CodeUnit) × ((slice_get overs number ≡ Some over) × IsPlacedUnit (slice_index_or places (first + number) []) unit over)
 unfolding ArePlacedUnits
 unit_there places first [] overs number unit h e = cc

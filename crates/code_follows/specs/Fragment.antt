@@ -145,6 +145,6 @@ pub record IsScalarProgram (t : Typed) : Type 0 where
   pub params : main.params.items ≡ []
   pub rank : ℕ → ℕ
   pub each : (number : ℕ) (i : Instance) → slice_get t.instances.items number ≡ Some i → IsScalarFunction (may_of t rank number) i
-  pub flat : (number : ℕ) (i : Instance) → slice_get t.instances.items (number + 1) ≡ Some i → IsFlat i.body
+  pub flat : (number : ℕ) (i : Instance) → slice_get t.instances.items number ≡ Some i → 0 < number → IsFlat i.body
   pub names : (j k : ℕ) (a b : Instance) → slice_get t.instances.items j ≡ Some a → slice_get t.instances.items k ≡ Some b → a.name ≡ b.name → j ≡ k
   pub variables : All IsPlainVariable t.vars.items

@@ -1,0 +1,354 @@
+-- A called function runs, from its first instruction to where it goes back.
+use mathlib.Core.Former.{Count}
+use Rattle.std.proofs.Common.{◌≡◌, ◌∙◌, ℕ, zero, suc, take, ◌+◌, ◌-◌, ◌<◌, ◌≤◌, ◌^◌, ◌==◌, ◌&&◌, ◌⊎◌, inl, inr, Bool, true, false, [], ◌∷◌, ◌++◌, List, Vec, Global, length, map, slice_get, slice_index, Option, Some, None, refl, sym, ap, subst, if◌then◌else◌, nat_lt, arith, length-append}
+use Rattle.std.specs.Prelude.{nat_le}
+use Rattle.std.specs.List.{All, slice_index_or}
+use Rattle.std.proofs.lemmas.Bool.Decides.{nat_tests}
+use Rattle.std.proofs.lemmas.List.{length-map}
+use Rattle.std.proofs.lemmas.Option.{slice_get_within}
+use Rattle.cstar_compile.specs.Compiled.{IsCompiled}
+use Rattle.cstar_link.specs.Linked.{entries_from}
+use Rattle.cstar_tree.specs.declared.typed.Instance.{Instance}
+use Rattle.cstar_tree.specs.declared.typed.LocalVar.{LocalVar}
+use Rattle.cstar_tree.specs.declared.typed.TStmt.{TStmt, Row_of-TStmt}
+use Rattle.cstar_tree.specs.declared.typed.TStmt as S
+use Rattle.cstar_tree.specs.declared.typed.Typed.{Typed}
+use Rattle.cstar_tree.specs.declared.typed.VarInfo.{VarInfo}
+use Rattle.cstar_tree.specs.declared.typed.Variable.{Variable}
+use Rattle.cstar_tree.specs.declared.typed.Variable.TheVariants as V
+use Rattle.cstar_tree.specs.Variables.{variables_of}
+use Rattle.code_lengths.specs.Naming.{variable_named}
+use Rattle.code_lengths.specs.Ready.{HasStatementCode, IsCodable}
+use Rattle.code_lengths.proofs.Declaring.{all_at, first_part, info_of, row_variables}
+use Rattle.lower_base.specs.Constants.{constant_register, register_with}
+use Rattle.lower_base.specs.Drafts.{Draft, Made, Makes, then_make}
+use Rattle.lower_base.specs.Layouts.{layout_of, register_of, result_register}
+use Rattle.lower_stmt.specs.Programs.{blank, body_frame}
+use Rattle.lower_stmt.specs.Variables.{declared as declared_in}
+use Rattle.lower_stmt.specs.Statements.{body_of, ends_in_return, statement_of, ended, statements_of}
+use Rattle.meaning_laws.proofs.Parts.{behind as state_after}
+use Rattle.paris_code.specs.declared.program.Entry.{Entry}
+use Rattle.paris_code.specs.declared.program.Image.{Image}
+use Rattle.paris_code.specs.declared.program.Unit.{Unit as CodeUnit}
+use Rattle.paris_code.specs.Code.{CodeState, Goes, returned}
+use Rattle.paris_code.specs.Units.{start_at, start_of}
+use Rattle.source_meaning.specs.Programs.{by_owner, calls, entered, left, result_of, run_body, scalar_given, scope_of}
+use Rattle.source_meaning.specs.State as Source
+use Rattle.source_meaning.specs.State.{Outcome, State, is_among, then_do}
+use Rattle.source_meaning.specs.Statements.{Broke, Continued, Leaving, Onward, Returned, all_executed, executed, initialised, then_go}
+use Rattle.source_meaning.specs.Values.{Active, Nothing, Scalar, Value, each, number as as_number}
+use Rattle.code_follows.specs.Fragment.{IsPlainVariable, IsWordVariable, IsBody, IsFlat, IsScalarProgram, May, may_of}
+use Rattle.lower_stmt.specs.declared.statement.Frame.{Frame}
+use Rattle.code_follows.proofs.Activations.{Spares, Touches, activation, callee_known, scalars, words}
+use Rattle.code_follows.proofs.Bodies.{block_code, block_follows, block_initials, block_stands, row_follows}
+use Rattle.code_follows.proofs.Callees.{AreGiven, Callee, CallsFollow, ComesBack, Enters, MayCall, RunsBody, Shared}
+use Rattle.code_follows.proofs.Closed.{NoJump, begins_closed, closed_row, go_closed}
+use Rattle.code_follows.proofs.Endings.{NeverOnward, body_never, never_second}
+use Rattle.code_follows.proofs.Executing.{IsGiven, Left, Returns}
+use Rattle.code_follows.proofs.Following.{Finishes, Follows, Sim, held}
+use Rattle.code_follows.proofs.Functions.{BodyMade, EndsSo, RunsFunction, among, body_made, declares, ends_by, every, every_one, falls, frame, framed, g, given_back, has, numbered, own, ready, runs_function, scope}
+use Rattle.code_follows.proofs.Regions.{param_register, result_is, same_constants, same_end}
+use Rattle.code_follows.proofs.Settings.{At, EndsIn, Reaches, Setting, layout, one, onto, start}
+use Rattle.code_follows.proofs.Standing.{start_in, unit_there}
+use Rattle.code_follows.proofs.Units.{blank_code, blank_homes, blank_regs, not_main, other_is, unit_at}
+use Rattle.code_follows.proofs.Words.{held_wide}
+
+-- a unit of an image begins where its entry says
+starts_there : (us : List CodeUnit) (number start : ℕ) (u : CodeUnit) → slice_get us number ≡ Some u → slice_index (map start_of (entries_from start us)) number ≡ start_in us number start
+unfolding entries_from start_in
+starts_there [] number start u is = cc
+starts_there (v ∷ us) zero start u is = refl
+starts_there (v ∷ us) (suc number) start u is = starts_there us number (start + length v.code.items) u is
+
+-- the last of places on a stack, and those below it
+last_place : (places : List ℕ) (back : ℕ) → slice_index (places ++ back ∷ []) (length (places ++ back ∷ []) - 1) ≡ back
+last_place places back = ap (λ (n : ℕ). slice_index (places ++ back ∷ []) n) (one_less places back) ∙ seam places back
+  where
+    one_less : (places : List ℕ) (back : ℕ) → length (places ++ back ∷ []) - 1 ≡ length places
+    one_less places back = let long = length-append places (back ∷ []) in omega (arith, long)
+
+    seam : (places : List ℕ) (back : ℕ) → slice_index (places ++ back ∷ []) (length places) ≡ back
+    seam [] back = refl
+    seam (x ∷ places) back = seam places back
+
+below_place : (places : List ℕ) (back : ℕ) → take (length (places ++ back ∷ []) - 1) (places ++ back ∷ []) ≡ places
+below_place places back = ap (λ (n : ℕ). take n (places ++ back ∷ [])) (one_less places back) ∙ seam places back
+  where
+    one_less : (places : List ℕ) (back : ℕ) → length (places ++ back ∷ []) - 1 ≡ length places
+    one_less places back = let long = length-append places (back ∷ []) in omega (arith, long)
+
+    seam : (places : List ℕ) (back : ℕ) → take (length places) (places ++ back ∷ []) ≡ places
+    seam [] back = refl
+    seam (x ∷ places) back = ap (λ (xs : List ℕ). x ∷ xs) (seam places back)
+
+-- the variables that hold their values where a function is entered: not those of its blocks
+unfoldable OfFileOrParam : Variable → Type 0
+OfFileOrParam (V.File k) = Unit {0}
+OfFileOrParam (V.Param k) = Unit {0}
+OfFileOrParam (V.Local k) = ⊥
+
+-- what stands in the register of the result of a function that was left
+module _ (image : Image) (t : Typed) (p : IsScalarProgram t) (codable : IsCodable t) (compiled : IsCompiled t image) (number : ℕ) (b : Instance) (is : slice_get t.instances.items number ≡ Some b) (calls_open : List ℕ) (m : ℕ) (s r : CodeState) where
+  abbrev result_there : ℕ
+  result_there = (layout_of t (words t image p codable compiled) number).base + length b.params.items
+
+  abbrev function : Setting
+  function = activation t image p codable compiled number b is calls_open m
+
+  where_it_is : result_register (layout_of t (words t image p codable compiled) number) ≡ result_there
+  where_it_is = result_is t (scalars t image p codable compiled) (words t image p codable compiled) number b is
+
+  -- 0 where it was left without a value
+  zero_given : (leaving : Leaving) → (b.result ≡ None → ⊥) → ((info : VarInfo) → b.result ≡ Some info → result_of (Some info) leaving ≡ each info.shape (λ q. 0)) → slice_index r.registers (result_register (layout_of t (words t image p codable compiled) number)) ≡ slice_index s.registers (result_register (layout_of t (words t image p codable compiled) number))
+      → slice_index s.registers result_there ≡ 0 → (word : ℕ) × ((result_of b.result leaving ≡ Scalar word) × (word < 2 ^ 32) × (slice_index r.registers result_there ≡ word))
+  unfolding each
+  zero_given leaving has_result gives same zero_there = by b.result refl
+    where
+      by : (o : Option VarInfo) → b.result ≡ o → (word : ℕ) × ((result_of b.result leaving ≡ Scalar word) × (word < 2 ^ 32) × (slice_index r.registers result_there ≡ word))
+      by None none = absurd (has_result none)
+      by (Some info) found = (
+        0,
+        (
+          ap (λ (o : Option VarInfo). result_of o leaving) found ∙ gives info found ∙ ap (λ (o : Option ℕ). each o (λ q. 0)) ((p.each number b is).result info found).0,
+          omega arith,
+          ap (λ (q : ℕ). slice_index r.registers q) (sym where_it_is) ∙ same ∙ ap (λ (q : ℕ). slice_index s.registers q) where_it_is ∙ zero_there,
+        ),
+      )
+
+  result_given : (leaving : Leaving) (u : State) → (b.result ≡ None → ⊥) → IsGiven function (every_one t image p codable compiled number b is calls_open m) s r (given_back leaving) → NoJump (Source.Gives leaving u) → slice_index s.registers result_there ≡ 0
+      → (word : ℕ) × ((result_of b.result leaving ≡ Scalar word) × (word < 2 ^ 32) × (slice_index r.registers result_there ≡ word))
+  unfolding IsGiven given_back result_of NoJump
+  result_given (Returned (Some v)) u has_result h closed zero_there = let w = h has_result in (w.0, (w.1.0, w.1.1, ap (λ (q : ℕ). slice_index r.registers q) (sym where_it_is) ∙ w.1.2))
+  result_given (Returned None) u has_result h closed zero_there = zero_given (Returned None) has_result (λ info found. refl) h zero_there
+  result_given Onward u has_result h closed zero_there = zero_given Onward has_result (λ info found. refl) h zero_there
+  result_given Broke u has_result h closed zero_there = absurd closed
+  result_given Continued u has_result h closed zero_there = absurd closed
+
+module _ (t : Typed) (image : Image) (p : IsScalarProgram t) (codable : IsCodable t) (compiled : IsCompiled t image) (me : ℕ) (a : Instance) (is_me : slice_get t.instances.items me ≡ Some a) (back_to : List ℕ) (number : ℕ) (b : Instance) (is : slice_get t.instances.items number ≡ Some b)
+    (some : 0 < number) (lesser : p.rank number < p.rank me) (m : ℕ) where
+  -- the caller, and the function that is called as the caller knows it
+  abbrev caller : Setting
+  caller = activation t image p codable compiled me a is_me back_to (suc m)
+
+  abbrev called_one : Callee caller number
+  called_one = callee_known t image p codable compiled me a is_me back_to (suc m) number b is lesser
+
+  module _ (active : Active) (arguments : List Value) (st : State) (s : CodeState) (back : ℕ) (starts : s.at ≡ start_at image number) (stacked : s.returns ≡ back_to ++ back ∷ []) (shared : Shared caller st s) (few : st.turns ≤ m) (given : AreGiven caller called_one arguments s)
+      (zero_there : slice_index s.registers ((layout_of t (words t image p codable compiled) number).base + length b.params.items) ≡ 0) where
+    abbrev open_calls : List ℕ
+    open_calls = back_to ++ back ∷ []
+
+    -- the called function
+    abbrev inner : Setting
+    inner = activation t image p codable compiled number b is open_calls m
+
+    abbrev opening_state : State
+    opening_state = entered b arguments active st
+
+    is_other : (number == 0) ≡ false
+    is_other = not_main t image (scalars t image p codable compiled) codable compiled number (λ e. omega (arith, some, e))
+
+    abbrev begin : Draft
+    begin = blank b.name inner.begins
+
+    stands : At inner s (length begin.code)
+    unfolding blank
+    stands =
+        let u = unit_there compiled.placed.placed.places 0 compiled.before.units.items compiled.after.units.items number inner.unit compiled.placed.placed.units inner.is_unit in
+        let there = ap (λ (es : List Entry). slice_index (map start_of es) number) compiled.linked.units ∙ starts_there compiled.after.units.items number 0 u.0 u.1.0 in
+        omega (arith, starts, there)
+
+    constants_same : (word : ℕ) → constant_register (layout_of t (words t image p codable compiled) number) word ≡ constant_register (layout_of t (words t image p codable compiled) me) word
+    unfolding constant_register
+    constants_same word =
+        ap (λ (ws : List ℕ). register_with word ws (layout_of t (words t image p codable compiled) number).end) (same_constants t (scalars t image p codable compiled) (words t image p codable compiled) number me)
+        ∙ ap (λ (n : ℕ). register_with word (layout_of t (words t image p codable compiled) me).constants n) (same_end t (scalars t image p codable compiled) (words t image p codable compiled) number me)
+
+    sim : Sim inner OfFileOrParam opening_state s
+    unfolding entered by_owner scalar_given OfFileOrParam variable_named register_of callee_known
+    sim = record {
+      registers = shared.registers;
+      scalars = λ x info living scalar. value x info living scalar.0;
+      small = λ x info living scalar. small x info living scalar.0;
+      constants = λ word r there. shared.constants word r (sym (constants_same word) ∙ there);
+      turns = shared.turns;
+      output = shared.output;
+      input = shared.input;
+      returns = stacked;
+      few = few;
+      bytes = shared.bytes;
+    }
+      where
+        word_of : (x : Variable) (info : VarInfo) → variable_named t b x ≡ Some info → info.elem.bits ≡ 32
+        word_of (V.File k) info named = (all_at IsPlainVariable t.vars.items k info p.variables named).0.1
+        word_of (V.Param k) info named = (all_at IsWordVariable b.params.items k info (p.each number b is).params named).1
+        word_of (V.Local k) info named = (all_at IsWordVariable (variables_of b.body) k info (p.each number b is).locals named).1
+
+        value : (x : Variable) (info : VarInfo) → OfFileOrParam x → variable_named t b x ≡ Some info → slice_index s.registers (register_of (layout_of t (words t image p codable compiled) number) x) ≡ held info.elem (opening_state.scalar x)
+        value (V.File k) info living named = shared.files k info named
+        value (V.Param k) info living named =
+            let inside = slice_get_within b.params.items k info named in
+            given.words k inside ∙ sym (held_wide info.elem (as_number (slice_index_or arguments k Nothing)) (word_of (V.Param k) info named) (given.few k inside))
+        value (V.Local k) info living named = absurd living
+
+        small : (x : Variable) (info : VarInfo) → OfFileOrParam x → variable_named t b x ≡ Some info → opening_state.scalar x < 2 ^ info.elem.bits
+        small (V.File k) info living named = shared.small k info named
+        small (V.Param k) info living named = subst (λ (n : ℕ). as_number (slice_index_or arguments k Nothing) < 2 ^ n) (sym (word_of (V.Param k) info named)) (given.few k (slice_get_within b.params.items k info named))
+        small (V.Local k) info living named = absurd living
+
+    -- ---- what its body gives, and where it goes back
+
+    abbrev body_run : Outcome Leaving
+    body_run = executed (scope t image p codable compiled number b is open_calls m) b.body 0 active opening_state
+
+    -- what is said of the inner function's early end is said of the caller's
+    ends_early : (early : Source.Early) (u : State) → Finishes inner early u s → Finishes caller early u s
+    ends_early early u f = record { t = f.t; ends = record { steps = f.ends.steps; is = f.ends.is }; turns = f.turns; output = f.output; input = f.input }
+
+    goes_back : (leaving : Leaving) (u : State) → u.turns ≤ st.turns → Returns inner (every_one t image p codable compiled number b is open_calls m) s u (given_back leaving) → NoJump (Source.Gives leaving u) → ComesBack caller called_one back s st (result_of b.result leaving) (left st u)
+    unfolding left by_owner variable_named register_of callee_known
+    goes_back leaving u less r closed = record {
+      t = there;
+      go = record { by = (onto inner s r.t there r.go (one inner r.t there leaves)).by };
+      at = ap (λ (places : List ℕ). slice_index places (length places - 1)) r.sim.returns ∙ last_place back_to back;
+      returns = ap (λ (places : List ℕ). take (length places - 1) places) r.sim.returns ∙ below_place back_to back;
+      shared = record {
+        registers = r.sim.registers;
+        files = λ k info named. r.sim.scalars (V.File k) info tt (named, (plain k info named).0);
+        small = λ k info named. r.sim.small (V.File k) info tt (named, (plain k info named).0);
+        constants = λ word q is_there. r.sim.constants word q (constants_same word ∙ is_there);
+        turns = r.sim.turns;
+        output = r.sim.output;
+        input = r.sim.input;
+        bytes = r.sim.bytes;
+      };
+      turned = less;
+      params_kept = λ k. refl;
+      locals_kept = λ k. refl;
+      stays = λ q apart behind. r.spares q (behind, apart);
+      given = λ has_result. given_so leaving has_result r.given closed;
+    }
+      where
+        there : CodeState
+        there = returned r.t
+
+        leaves : Rattle.paris_code.specs.Code.step image r.t ≡ Goes there
+        leaves = r.leaves ∙ ap (λ (c : Bool). if c then Rattle.paris_code.specs.Code.Ends Rattle.paris_code.specs.Code.Done r.t else Goes there) is_other
+
+        plain : (k : ℕ) (info : VarInfo) → slice_get t.vars.items k ≡ Some info → (info.shape ≡ None) × (info.elem.bits ≡ 32)
+        plain k info named = (all_at IsPlainVariable t.vars.items k info p.variables named).0
+
+        given_so : (leaving : Leaving) → (b.result ≡ None → ⊥) → IsGiven inner (every_one t image p codable compiled number b is open_calls m) s r.t (given_back leaving) → NoJump (Source.Gives leaving u)
+            → (word : ℕ) × ((result_of b.result leaving ≡ Scalar word) × (word < 2 ^ 32) × (slice_index r.t.registers ((layout_of t (words t image p codable compiled) number).base + length b.params.items) ≡ word))
+        given_so leaving has_result h closed = result_given image t p codable compiled number b is open_calls m s r.t leaving u has_result h closed zero_there
+
+    covered : (locals : List LocalVar) → variables_of b.body ≡ map info_of locals → (x : Variable) (info : VarInfo) → variable_named t b x ≡ Some info → OfFileOrParam x ⊎ (is_among 0 (length locals) x ≡ true)
+    unfolding variable_named OfFileOrParam is_among
+    covered locals flat (V.File k) info named = inl tt
+    covered locals flat (V.Param k) info named = inl tt
+    covered locals flat (V.Local k) info named =
+        let inside = slice_get_within (variables_of b.body) k info named in
+        let long = ap (λ (xs : List VarInfo). length xs) flat ∙ length-map locals info_of in
+        inr (among_all k (length locals) (omega (arith, inside, long)))
+      where
+        among_all : (k n : ℕ) → k < n → (nat_le 0 k && nat_lt k (0 + n)) ≡ true
+        among_all k n less = grind (arith, nat_tests, less)
+
+    -- the code of the body, as that of a block whose variables are cleared
+    as_block : (locals : Vec LocalVar Global) (q : Vec (Unit {0}) Global) (row : _) → body_of t (layout_of t (words t image p codable compiled) number) (frame t image p codable compiled number b is open_calls m) (S.Block' locals q row) begin
+        ≡ then_make (declared_in t (layout_of t (words t image p codable compiled) number) false locals.items 0 begin) (λ n after. statements_of t (layout_of t (words t image p codable compiled) number) row (frame t image p codable compiled number b is open_calls m) [] n after)
+    unfolding body_of body_frame
+    as_block locals q row = ap (λ (c : Bool). then_make (declared_in t (layout_of t (words t image p codable compiled) number) c locals.items 0 begin) (λ n after. statements_of t (layout_of t (words t image p codable compiled) number) row (frame t image p codable compiled number b is open_calls m) [] n after)) is_other
+
+    made_here : (body : TStmt) → b.body ≡ body → then_make (body_of t (layout_of t (words t image p codable compiled) number) (frame t image p codable compiled number b is open_calls m) body begin) (λ n e. Makes (tt {0}) (ended (number == 0) b.body e)) ≡ Makes (tt {0}) (unit_at t image (scalars t image p codable compiled) codable compiled number b is)
+    unfolding body_frame
+    made_here body body_is =
+        ap (λ (x : TStmt). then_make (body_of t (layout_of t (words t image p codable compiled) number) (frame t image p codable compiled number b is open_calls m) x begin) (λ n e. Makes (tt {0}) (ended (number == 0) b.body e))) (sym body_is)
+        ∙ ap (λ (c : Bool). then_make (body_of t (layout_of t (words t image p codable compiled) number) (body_frame c b) b.body begin) (λ n e. Makes (tt {0}) (ended c b.body e))) is_other
+        ∙ other_is t image (scalars t image p codable compiled) codable compiled number b is is_other
+
+    -- the body of the function follows, where its own calls do
+    module _ (calls_follow : CallsFollow inner (scope t image p codable compiled number b is open_calls m) active) where
+      came : (o : Outcome Leaving) → (state_after o).turns ≤ st.turns → NoJump o → RunsFunction t image p codable compiled number b is open_calls m s o → RunsBody caller called_one back s st (then_do o (λ leaving after. Source.Gives (result_of b.result leaving) (left st after)))
+      unfolding RunsFunction RunsBody then_do state_after left
+      came (Source.Gives leaving u) less closed runs = goes_back leaving u less runs closed
+      came (Source.Ends early u) less closed runs = ends_early early u runs
+
+      pub body_follows : (body : TStmt) → b.body ≡ body → IsBody inner.may body → IsFlat body → RunsBody caller called_one back s st (run_body t (calls t m) (Some b) arguments active st)
+      unfolding IsBody IsFlat run_body scope_of executed entered
+      body_follows (S.Block' locals q row) body_is isin flat =
+          let f = frame t image p codable compiled number b is open_calls m in
+          let body : TStmt = S.Block' locals q row in
+          let c : HasStatementCode t b 0 body = subst (λ (x : TStmt). HasStatementCode t b 0 x) body_is (codable number b is).1 in
+          let h = has t image p codable compiled number b is open_calls m in
+          let one = every t image p codable compiled number b is open_calls m in
+          let numbers = numbered t image p codable compiled number b is open_calls m in
+          let is_ready = ready t image p codable compiled number b is open_calls m in
+          let declared = declares t image p codable compiled number b is open_calls m in
+          let where_it_is = scope t image p codable compiled number b is open_calls m in
+          let never_rises = falls t image p codable compiled number b is open_calls m active in
+          let own_row = block_code inner h (every_one t image p codable compiled number b is open_calls m) one numbers is_ready declared where_it_is active calls_follow never_rises 0 locals q row c in
+          let runs : Follows inner (Left inner (every_one t image p codable compiled number b is open_calls m) f begin s) s (executed where_it_is body 0 active opening_state) (body_of t (layout_of t (words t image p codable compiled) number) f body begin) =
+          subst (λ (made : Made ℕ). Follows inner (Left inner (every_one t image p codable compiled number b is open_calls m) f begin s) s (executed where_it_is body 0 active opening_state) made) (sym (as_block locals q row))
+          (block_follows inner h (every_one t image p codable compiled number b is open_calls m) one numbers is_ready declared where_it_is active calls_follow never_rises OfFileOrParam locals.items row f 0 begin s opening_state isin.0
+          (first_part (map info_of locals.items) (row_variables row) (block_stands inner h (every_one t image p codable compiled number b is open_calls m) one numbers is_ready declared where_it_is active calls_follow never_rises 0 locals q row c))
+          (block_initials inner h (every_one t image p codable compiled number b is open_calls m) one numbers is_ready declared where_it_is active calls_follow never_rises 0 locals q row c) own_row
+          (framed t image p codable compiled number b is open_calls m) (among t image p codable compiled number b is open_calls m) (blank_homes t image (scalars t image p codable compiled) codable compiled number b) (let regs = blank_regs t image (scalars t image p codable compiled) codable compiled number b in omega (arith, regs)) stands sim
+          (λ x info named. covers locals.items (subst (λ (y : TStmt). variables_of y ≡ map info_of locals.items) (sym body_is) flat) x info named)
+          (λ e there u none free at sim_there. row_follows inner h (every_one t image p codable compiled number b is open_calls m) one numbers is_ready declared where_it_is active calls_follow never_rises row isin.1 f (0 + length locals.items) e there u
+          (framed t image p codable compiled number b is open_calls m) (among t image p codable compiled number b is open_calls m) none free at sim_there own_row)) in
+          let made = body_made t image p codable compiled number b is open_calls m (body_of t (layout_of t (words t image p codable compiled) number) f body begin) (made_so body body_is) in
+          let never : ends_in_return b.body ≡ true → NeverOnward (executed where_it_is body 0 active opening_state) =
+          λ ends. never_second (initialised where_it_is active 0 locals.items _) _ (λ u. body_never where_it_is active locals q row (sym (ap (λ (x : TStmt). ends_in_return x) body_is) ∙ ends) (0 + length locals.items) u) in
+          let closed : NoJump (executed where_it_is body 0 active opening_state) = go_closed _ _ (begins_closed inner.may where_it_is active 0 locals.items _) (λ u. closed_row inner.may where_it_is active row isin.1 isin.2 (0 + length locals.items) u) in
+          subst (λ (x : TStmt). RunsBody caller called_one back s st (then_do (executed where_it_is x 0 active opening_state) (λ leaving after. Source.Gives (result_of b.result leaving) (left st after)))) (sym body_is)
+          (came (executed where_it_is body 0 active opening_state) (never_rises body 0 opening_state) closed
+          (runs_function t image p codable compiled number b is open_calls m begin made.e made.n s (executed where_it_is body 0 active opening_state) (ends_by t image p codable compiled number b is open_calls m (executed where_it_is body 0 active opening_state) made.e made.unit never) closed
+          (subst (λ (x : Made ℕ). Follows inner (Left inner (every_one t image p codable compiled number b is open_calls m) f begin s) s (executed where_it_is body 0 active opening_state) x) made.is_made runs)))
+        where
+          f : Frame
+          f = frame t image p codable compiled number b is open_calls m
+
+          made_so : (body : TStmt) → b.body ≡ body → then_make (body_of t (layout_of t (words t image p codable compiled) number) f body begin) (λ n e. Makes (tt {0}) (ended (number == 0) b.body e)) ≡ Makes (tt {0}) (unit_at t image (scalars t image p codable compiled) codable compiled number b is)
+          made_so body body_is = made_here body body_is
+
+          covers : (locals : List LocalVar) → variables_of b.body ≡ map info_of locals → (x : Variable) (info : VarInfo) → variable_named t b x ≡ Some info → OfFileOrParam x ⊎ (is_among 0 (length locals) x ≡ true)
+          covers locals flat x info named = covered locals flat x info named
+      body_follows _ body_is isin flat = absurd isin
+
+module _ (t : Typed) (image : Image) (p : IsScalarProgram t) (codable : IsCodable t) (compiled : IsCompiled t image) (active : Active) where
+  abbrev running : (number : ℕ) (i : Instance) → slice_get t.instances.items number ≡ Some i → List ℕ → ℕ → Setting
+  running number i is opens most = activation t image p codable compiled number i is opens most
+
+  abbrev known : (number : ℕ) (i : Instance) (is : slice_get t.instances.items number ≡ Some i) (opens : List ℕ) (most index : ℕ) (c : Instance) (is_c : slice_get t.instances.items index ≡ Some c) (lesser : p.rank index < p.rank number) → Callee (running number i is opens most) index
+  known number i is opens most index c is_c lesser = callee_known t image p codable compiled number i is opens most index c is_c lesser
+
+  -- the calls in a function follow, where those with one turn fewer do
+  pub calls_so : (most number : ℕ) (i : Instance) (is : slice_get t.instances.items number ≡ Some i) (opens : List ℕ)
+      → ((index : ℕ) (c : Instance) (is_c : slice_get t.instances.items index ≡ Some c) → 0 < index → (lesser : p.rank index < p.rank number) (m : ℕ) → most ≡ suc m → Enters (running number i is opens most) (known number i is opens most index c is_c lesser) m active)
+      → CallsFollow (running number i is opens most) (scope_of t i (calls t most)) active
+  unfolding scope_of
+  calls_so most number i is opens enters = record {
+    meant = refl;
+    plain_files = λ k info found. (all_at IsPlainVariable t.vars.items k info p.variables found).0.0;
+    value = λ index h. (may_call index h.0 h.1.0 h.1.1 h.1.2, (h.0, h.1.0, h.1.3 refl));
+    effect = λ index h. may_call index h.0 h.1.0 h.1.1 h.1.2;
+  }
+    where
+      may_call : (index : ℕ) (c : Instance) (is_c : slice_get t.instances.items index ≡ Some c) → 0 < index → p.rank index < p.rank number → MayCall (running number i is opens most) active index
+      may_call index c is_c some lesser = record { callee = known number i is opens most index c is_c lesser; enters = λ m e. enters index c is_c some lesser m e }
+
+  pub enters_so : (m me : ℕ) (a : Instance) (is_me : slice_get t.instances.items me ≡ Some a) (back_to : List ℕ) (number : ℕ) (b : Instance) (is : slice_get t.instances.items number ≡ Some b) → 0 < number → (lesser : p.rank number < p.rank me)
+      → Enters (running me a is_me back_to (suc m)) (known me a is_me back_to (suc m) number b is lesser) m active
+  unfolding callee_known Enters
+  enters_so zero me a is_me back_to number b is some lesser arguments st s back starts stacked shared few given zero_there =
+      body_follows t image p codable compiled me a is_me back_to number b is some lesser zero active arguments st s back starts stacked shared few given zero_there
+      (calls_so zero number b is (back_to ++ back ∷ []) (λ index c is_c some_c lesser_c m e. absurd (omega (arith, e)))) b.body refl (p.each number b is).body (p.flat number b is some)
+  enters_so (suc m) me a is_me back_to number b is some lesser arguments st s back starts stacked shared few given zero_there =
+      body_follows t image p codable compiled me a is_me back_to number b is some lesser (suc m) active arguments st s back starts stacked shared few given zero_there
+      (calls_so (suc m) number b is (back_to ++ back ∷ []) (λ index c is_c some_c lesser_c k e.
+      subst (λ (n : ℕ). Enters (running number b is (back_to ++ back ∷ []) (suc m)) (known number b is (back_to ++ back ∷ []) (suc m) index c is_c lesser_c) n active) (fewer m k e) (enters_so m number b is (back_to ++ back ∷ []) index c is_c some_c lesser_c)))
+      b.body refl (p.each number b is).body (p.flat number b is some)
+    where
+      fewer : (m k : ℕ) → suc m ≡ suc k → m ≡ k
+      fewer m k e = omega (arith, e)
