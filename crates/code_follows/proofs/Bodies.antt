@@ -132,41 +132,60 @@ module _ (g : Setting) (has : HasRegisters g) (alive : Variable → Type 0) (eve
     stands = subst (λ (k : ℕ). StandFrom (variables_of g.instance.body) (n + k) (row_variables row)) (length-map locals.items info_of) (second_part (map info_of locals.items) (row_variables row) (block_stands n locals p row c));
   }
 
+  -- the initialisers of a block and its statements behind them, where its variables are cleared
+  abbrev pub begun_code : {k : Count} → List LocalVar → Row_of-TStmt k → Frame → ℕ → Draft → Made ℕ
+  begun_code locals row f n d = then_make (then_make (all_initialised g.typed (layout g) locals n d) (λ v after. Makes (n + length locals) after)) (λ m after. statements_of g.typed (layout g) row f [] m after)
+
+  pub begun_grows : {k : Count} (locals : List LocalVar) (row : Row_of-TStmt k) (f : Frame) (n : ℕ) (d : Draft) → All (IsInLocal g.may) locals → AreCoded g has alive every ready scope active calls_follow n locals → RowCode (n + length locals) row → StandsIn g f → StandsAmong f [] → d.homes ≡ []
+      → Extends g d (begun_code locals row f n d)
+  unfolding then_make Extends
+  begun_grows locals row f n d isin initial code framed among none = by (all_initialised g.typed (layout g) locals n d) refl
+    where
+      by : (m : Made (Unit {0})) → all_initialised g.typed (layout g) locals n d ≡ m → Extends g d (then_make (then_make m (λ v after. Makes (n + length locals) after)) (λ m' after. statements_of g.typed (layout g) row f [] m' after))
+      by Fails is = tt
+      by (Makes u e) is =
+          let grows : (j : ℕ) × Extended d j e = subst (λ (m : Made (Unit {0})). Extends g d m) is (initials_grow g has alive every ready scope active calls_follow locals n d isin initial) in
+          extends_made g d e grows.0 (statements_of g.typed (layout g) row f [] (n + length locals) e) grows.1 (row_grows row f (n + length locals) e framed among (grows.1.homes ∙ none) code)
+
+  pub begun_follows : {k : Count} (locals : List LocalVar) (row : Row_of-TStmt k) (f : Frame) (n : ℕ) (d : Draft) (s0 : CodeState) (st : State) → All (IsInLocal g.may) locals → StandFrom (variables_of g.instance.body) n (map info_of locals) → AreCoded g has alive every ready scope active calls_follow n locals → RowCode (n + length locals) row
+      → StandsIn g f → StandsAmong f [] → d.homes ≡ [] → g.begins ≤ d.regs → At g s0 (length d.code) → Sim g (Started locals n) st s0
+      → ((e : Draft) (t : CodeState) (u : State) → e.homes ≡ [] → g.begins ≤ e.regs → At g t (length e.code) → Sim g alive u t → Follows g (Left g alive f e t) t (all_executed scope row (n + length locals) active u) (statements_of g.typed (layout g) row f [] (n + length locals) e))
+      → Follows g (Left g alive f d s0) s0 (then_go (initialised scope active n locals st) (all_executed scope row (n + length locals) active)) (begun_code locals row f n d)
+  unfolding then_make Extends
+  begun_follows locals row f n d s0 st isin stand initial code framed among none free at sim next = by (all_initialised g.typed (layout g) locals n d) refl
+    where
+      whole : Outcome Leaving
+      whole = then_go (initialised scope active n locals st) (all_executed scope row (n + length locals) active)
+
+      by : (m : Made (Unit {0})) → all_initialised g.typed (layout g) locals n d ≡ m → Follows g (Left g alive f d s0) s0 whole (then_make (then_make m (λ v after. Makes (n + length locals) after)) (λ m' after. statements_of g.typed (layout g) row f [] m' after))
+      by Fails is = nothing_said g (Left g alive f d s0) s0 whole
+      by (Makes u e) is =
+          let grows : (j : ℕ) × Extended d j e = subst (λ (m : Made (Unit {0})). Extends g d m) is (initials_grow g has alive every ready scope active calls_follow locals n d isin initial) in
+          let homes : e.homes ≡ [] = grows.1.homes ∙ none in
+          let made : Made ℕ = statements_of g.typed (layout g) row f [] (n + length locals) e in
+          let more = grows.1.regs in
+          go_after g has alive every ready scope active calls_follow d s0 (Left g alive f d s0) (initialised scope active n locals st) (all_executed scope row (n + length locals) active) u e made
+          (subst (λ (m : Made (Unit {0})). Follows g (RanOn g alive d s0) s0 (initialised scope active n locals st) m) is (initials_follow g has alive every ready scope active calls_follow locals n d s0 st isin stand initial free at sim)) (row_grows row f (n + length locals) e framed among homes code)
+          (λ v one. follows_from g alive f d e grows.0 s0 one.t (all_executed scope row (n + length locals) active v) made grows.1 one.go one.keeps (next e one.t v homes (omega (arith, free, more)) one.at one.sim))
+
   -- a block: its variables, and then its statements
   pub block_follows : {k : Count} (before : Variable → Type 0) (locals : List LocalVar) (row : Row_of-TStmt k) (f : Frame) (n : ℕ) (d : Draft) (s0 : CodeState) (st : State) → All (IsInLocal g.may) locals → StandFrom (variables_of g.instance.body) n (map info_of locals) → AreCoded g has alive every ready scope active calls_follow n locals → RowCode (n + length locals) row
       → StandsIn g f → StandsAmong f [] → d.homes ≡ [] → g.begins ≤ d.regs → At g s0 (length d.code) → Sim g before st s0 → ((x : Variable) (info : VarInfo) → variable_named g.typed g.instance x ≡ Some info → before x ⊎ (is_among n (length locals) x ≡ true))
       → ((e : Draft) (t : CodeState) (u : State) → e.homes ≡ [] → g.begins ≤ e.regs → At g t (length e.code) → Sim g alive u t → Follows g (Left g alive f e t) t (all_executed scope row (n + length locals) active u) (statements_of g.typed (layout g) row f [] (n + length locals) e))
       → Follows g (Left g alive f d s0) s0 (then_go (initialised scope active n locals (zeroed n (length locals) st)) (all_executed scope row (n + length locals) active)) (then_make (declared_in g.typed (layout g) false locals n d) (λ m after. statements_of g.typed (layout g) row f [] m after))
-  unfolding declared_in then_make Extends
+  unfolding declared_in then_make
   block_follows before locals row f n d s0 st isin stand initial code framed among none free at sim covers next =
+      let c = clears g has before locals n d isin stand in
+      let after_zero : State = zeroed n (length locals) st in
+      let whole : Outcome Leaving = then_go (initialised scope active n locals after_zero) (all_executed scope row (n + length locals) active) in
+      let homes : c.e.homes ≡ [] = c.grown.homes ∙ none in
+      let longer = c.grown.regs in
       subst (λ (m : Made (Unit {0})). Follows g (Left g alive f d s0) s0 whole (then_make (then_make m (λ u between. then_make (all_initialised g.typed (layout g) locals n between) (λ v after. Makes (n + length locals) after))) (λ m' after. statements_of g.typed (layout g) row f [] m' after))) (sym c.is)
-      (by (all_initialised g.typed (layout g) locals n c.e) refl)
-    where
-      c : Clears g has before locals n d
-      c = clears g has before locals n d isin stand
-
-      after_zero : State
-      after_zero = zeroed n (length locals) st
-
-      whole : Outcome Leaving
-      whole = then_go (initialised scope active n locals after_zero) (all_executed scope row (n + length locals) active)
-
-      by : (m : Made (Unit {0})) → all_initialised g.typed (layout g) locals n c.e ≡ m → Follows g (Left g alive f d s0) s0 whole (then_make (then_make m (λ v after. Makes (n + length locals) after)) (λ m' after. statements_of g.typed (layout g) row f [] m' after))
-      by Fails is = nothing_said g (Left g alive f d s0) s0 whole
-      by (Makes u e) is =
-          let grows : (j : ℕ) × Extended c.e j e = subst (λ (m : Made (Unit {0})). Extends g c.e m) is (initials_grow g has alive every ready scope active calls_follow locals n c.e isin initial) in
-          let homes : e.homes ≡ [] = grows.1.homes ∙ c.grown.homes ∙ none in
-          let made : Made ℕ = statements_of g.typed (layout g) row f [] (n + length locals) e in
-          let grows_on : Extends g e made = row_grows row f (n + length locals) e framed among homes code in
-          delayed g (Left g alive f d s0) c.e s0 whole made (extends_made g c.e e grows.0 made grows.1 grows_on) (λ within.
-          let ran = c.runs s0 st free at sim within in
-          let started : Sim g (Started locals n) after_zero ran.t = sim_fewer g (λ x. Alive before locals n x) (Started locals n) after_zero ran.t (λ x info named h. (covers x info named, h)) ran.sim in
-          let longer = c.grown.regs in
-          let more = grows.1.regs in
-          follows_from g alive f d c.e c.count s0 ran.t whole made c.grown ran.go ran.keeps
-          (go_after g has alive every ready scope active calls_follow c.e ran.t (Left g alive f c.e ran.t) (initialised scope active n locals after_zero) (all_executed scope row (n + length locals) active) u e made
-          (subst (λ (m : Made (Unit {0})). Follows g (RanOn g alive c.e ran.t) ran.t (initialised scope active n locals after_zero) m) is (initials_follow g has alive every ready scope active calls_follow locals n c.e ran.t after_zero isin stand initial (omega (arith, free, longer)) ran.at started)) grows_on
-          (λ v one. follows_from g alive f c.e e grows.0 ran.t one.t (all_executed scope row (n + length locals) active v) made grows.1 one.go one.keeps (next e one.t v homes (omega (arith, free, longer, more)) one.at one.sim))))
+      (delayed g (Left g alive f d s0) c.e s0 whole (begun_code locals row f n c.e) (begun_grows locals row f n c.e isin initial code framed among homes) (λ within.
+      let ran = c.runs s0 st free at sim within in
+      let started : Sim g (Started locals n) after_zero ran.t = sim_fewer g (λ x. Alive before locals n x) (Started locals n) after_zero ran.t (λ x info named h. (covers x info named, h)) ran.sim in
+      follows_from g alive f d c.e c.count s0 ran.t whole (begun_code locals row f n c.e) c.grown ran.go ran.keeps
+      (begun_follows locals row f n c.e ran.t after_zero isin stand initial code framed among homes (omega (arith, free, longer)) ran.at started next)))
 
   -- what has code of a block's initialisers
   pub block_initials : (n : ℕ) (locals : Vec LocalVar Global) (p : Vec (Unit {0}) Global) (row : _) → HasStatementCode g.typed g.instance n (S.Block' locals p row) → AreCoded g has alive every ready scope active calls_follow n locals.items
