@@ -1,3 +1,4 @@
+pub mod Arguments
 pub mod Assigning
 pub mod Beginnings
 pub mod Bodies
