@@ -81,7 +81,7 @@ module _ (g : Setting) where
       pub few : (k : ℕ) → k < length c.callee.params.items → number (slice_index_or arguments k Nothing) < 2 ^ 32
 
     -- the code of its body from its first instruction on, where so many turns are left at most
-    pub Enters : ℕ → Active → Type 0
+    unfoldable pub Enters : ℕ → Active → Type 0
     Enters m active =
         (arguments : List Value) (st : State) (s : CodeState) (back : ℕ) → s.at ≡ start_at g.image index → s.returns ≡ g.returns ++ back ∷ [] → Shared st s → st.turns ≤ m → AreGiven arguments s → ((c.callee.result ≡ None → ⊥) → slice_index s.registers given_in ≡ 0)
         → RunsBody back s st (run_body g.typed (calls g.typed m) (Some c.callee) arguments active st)

@@ -5,6 +5,7 @@ pub mod Bodies
 pub mod Branching
 pub mod Bytes
 pub mod Callees
+pub mod Calling
 pub mod Casts
 pub mod Changing
 pub mod Choices
