@@ -27,6 +27,7 @@ pub mod Loops
 pub mod Nested
 pub mod Openings
 pub mod Operators
+pub mod Passing
 pub mod Printing
 pub mod Programs
 pub mod Putting
