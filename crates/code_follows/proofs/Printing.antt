@@ -37,7 +37,7 @@ use Rattle.source_meaning.specs.State as Source
 use Rattle.source_meaning.specs.State.{Outcome, State, then_do, with_output}
 use Rattle.source_meaning.specs.Values.{Active, Nothing, Scope, Value, number}
 use Rattle.code_follows.specs.Fragment.{AreIn}
-use Rattle.code_follows.proofs.Expressions.{operand, operand_grows}
+use Rattle.code_follows.proofs.Expressions.{arguments_code, arguments_do}
 use Rattle.code_follows.proofs.Arguments.{AreDone, AreHeld, Given, arguments_follow, long_row}
 use Rattle.code_follows.proofs.Callees.{CallsFollow}
 use Rattle.code_follows.proofs.Following.{Arrives, Extends, Follows, HasRegisters, Holds, Keeps, Ran, Sim, delayed, extends_made, extends_then, finishes_later, keeps_all, keeps_on, knowing, then_follows}
@@ -46,16 +46,6 @@ use Rattle.code_follows.proofs.Values.{Value_of, extends_in_register}
 use Rattle.code_follows.proofs.Words.{below_word, held_wide, word_type}
 
 module _ (g : Setting) (has : HasRegisters g) (alive : Variable → Type 0) (n : ℕ) (lives : (x : Variable) → IsDeclared n x → alive x) (ready : (d : Draft) → IsReady g.typed g.instance (layout g) n d) (scope : Scope) (active : Active) (calls_follow : CallsFollow g scope active) where
-  -- each argument is done as one of a list
-  arguments_done : {k : Count} (quiet : Bool) (row : Row_of-TExpr k) → (AreIn g.may) row → HaveCode g.typed g.instance n row → AreDone g has alive scope active false quiet row
-  unfolding AreDone AreIn HaveCode
-  arguments_done quiet end_of-TExpr h c = tt
-  arguments_done quiet (more_of-TExpr e rest) h c = (record {
-    wide = (word_type g.may e h.0).1;
-    grows = operand_grows g has alive n lives ready scope active calls_follow quiet (list_bits false e) e c.0;
-    does = operand g has alive n lives ready scope active calls_follow quiet (list_bits false e) e h.0 c.0;
-  }, arguments_done quiet rest h.1 c.1)
-
   -- ---- the pieces
 
   -- the words stand in the registers, whatever is printed
@@ -136,18 +126,13 @@ module _ (g : Setting) (has : HasRegisters g) (alive : Variable → Type 0) (n :
 
   -- ---- the whole
 
-  pub arguments_code : {k : Count} (row : Row_of-TExpr k) → AreShaped row → AreLowerable g.typed row → AllNameVariables g.typed g.instance n row → HaveCode g.typed g.instance n row
-  unfolding HaveCode AreShaped AreLowerable AllNameVariables
-  arguments_code end_of-TExpr shaped lowerable names = tt
-  arguments_code (more_of-TExpr e rest) shaped lowerable names = (record { shaped = shaped.0; lowerable = lowerable.0; names = names.0 }, arguments_code rest shaped.1 lowerable.1 names.1)
-
   pub printf_follows : {k : Count} (pieces : List Piece) (row : Row_of-TExpr k) → (AreIn g.may) row → HaveCode g.typed g.instance n row → (d : Draft) (s : CodeState) (st : State) → g.begins ≤ d.regs → At g s (length d.code) → Sim g alive st s
       → Follows g (λ v u out e. Ran g alive d s u e) s (then_do (operands scope row active st) (λ given after. Source.Gives Nothing (with_output (printed pieces (map number (given_values given))) after))) (then_make (values_of g.typed (layout g) false (are_quiet row) row [] d) (λ given after. pieces_printed pieces given after))
   printf_follows pieces row isin c d s st free here sim =
-      then_follows g (Given g has alive scope active (are_quiet row) (long_row g has alive scope active row) d s st []) (λ v u out e. Ran g alive d s u e) s s (operands scope row active st) _ _ _ (stay g s) (arguments_follow g has alive scope active false (are_quiet row) row (λ is. is) (arguments_done (are_quiet row) row isin c) [] d s st free here sim) (λ given e. pieces_grow pieces given e)
+      then_follows g (Given g has alive scope active (are_quiet row) (long_row g has alive scope active row) d s st []) (λ v u out e. Ran g alive d s u e) s s (operands scope row active st) _ _ _ (stay g s) (arguments_follow g has alive scope active false (are_quiet row) row (λ is. is) (arguments_do g has alive n lives ready scope active calls_follow false (are_quiet row) row isin c) [] d s st free here sim) (λ given e. pieces_grow pieces given e)
       (λ given u all e r. subst (λ (outs : List Out). Follows g (λ v w out f. Ran g alive d s w f) s (Source.Gives Nothing (with_output (printed pieces (map number (given_values given))) u)) (pieces_printed pieces outs e)) (sym r.is)
       (from_before d e r.grown.0 s r.t _ _ r.grown.1 r.go r.keeps (pieces_follow pieces (map number (given_values given)) r.more e r.t u r.at r.sim (stand_now (are_quiet row) given r.more e u r.t r.sim r.held))))
 
   pub printf_code : (ty : ValueType) (pieces : Vec Piece Global) (p : Vec (Unit {0}) Global) (row : _) → HasCode g.typed g.instance n (T.Printf' ty pieces p row) → HaveCode g.typed g.instance n row
   unfolding IsShaped IsLowerable NamesVariables
-  printf_code ty pieces p row c = arguments_code row c.shaped c.lowerable.2 c.names
+  printf_code ty pieces p row c = arguments_code g has alive n lives ready scope active calls_follow row c.shaped c.lowerable.2 c.names
