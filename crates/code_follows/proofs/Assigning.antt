@@ -1,5 +1,7 @@
 -- The code of assignments to scalar variables of 32 bits, and of steps.
 use Rattle.std.proofs.Common.{◌≡◌, ◌∙◌, ℕ, ◌<◌, ◌≤◌, ◌^◌, ◌&&◌, Bool, true, not, Vec, Global, length, slice_index, Option, Some, None, refl, sym, ap, subst, if◌then◌else◌, arith}
+use Rattle.std.proofs.Common.{◌+◌, List, false, length-append}
+use Rattle.std.specs.Prelude.{IfSome}
 use Rattle.std.proofs.lemmas.Bool.{eq-eqb}
 use Rattle.cstar_base.specs.declared.elem.Elem.{Elem}
 use Rattle.cstar_base.specs.declared.operators.Op.{Op}
@@ -11,11 +13,16 @@ use Rattle.cstar_tree.specs.declared.syntax.StepOp.{StepOp}
 use Rattle.cstar_tree.specs.declared.syntax.StepOp.TheVariants as Sp
 use Rattle.cstar_tree.specs.declared.typed.StepOrder.{StepOrder}
 use Rattle.cstar_tree.specs.declared.typed.Piece.{Piece}
-use Rattle.cstar_tree.specs.declared.typed.TExpr.{TExpr}
+use Rattle.cstar_tree.specs.declared.typed.Instance.{Instance}
+use Rattle.cstar_tree.specs.declared.typed.TExpr.{TExpr, items-the_row-TExpr}
 use Rattle.cstar_tree.specs.declared.typed.TExpr as T
 use Rattle.cstar_tree.specs.declared.typed.ValueType.{ValueType}
 use Rattle.cstar_tree.specs.declared.typed.VarInfo.{VarInfo}
 use Rattle.cstar_tree.specs.declared.typed.Variable.{Variable}
+use Rattle.cstar_tree.specs.declared.typed.Variable.TheVariants as V
+use Rattle.code_lengths.specs.Growth.{Extended, Grows}
+use Rattle.code_lengths.specs.Lowerable.{Calls, IsLowerable}
+use Rattle.code_lengths.proofs.Drafting.{extended, fresh_grows}
 use Rattle.cstar_tree.specs.Typed.{type_of}
 use Rattle.code_lengths.specs.Naming.{HasVariable, IsDeclared, plain}
 use Rattle.cstar_tree.specs.StatementTypes.{variable_info}
@@ -23,32 +30,35 @@ use Rattle.code_lengths.specs.Ready.{HasCode, HaveCode, IsReady}
 use Rattle.lower_base.specs.declared.emit.Out.{Out}
 use Rattle.lower_base.specs.declared.emit.Out.TheVariants as O
 use Rattle.lower_base.specs.Constants.{first_free, word_in}
-use Rattle.lower_base.specs.Drafts.{Draft, Made, Makes, a_register, in_register, then_make, with_instr}
+use Rattle.lower_base.specs.Drafts.{Draft, Fails, Made, Makes, a_register, fresh_for, in_register, then_make, with_instr}
 use Rattle.lower_base.specs.Layouts.{register_of}
 use Rattle.lower_base.specs.Operators.{assign_op_of, is_signed, machine_of, operation_of}
 use Rattle.lower_expr.specs.declared.operands.Own.{Own}
 use Rattle.lower_expr.specs.Effects.{assignment_effect, effect_of, folds, put_to, register_operated, step_effect, variable_assigned, variable_operated, variable_stepped, with_settled, writes_itself, written_register}
-use Rattle.lower_expr.specs.Operands.{own_of, standing}
+use Rattle.lower_expr.specs.Operands.{are_quiet, own_of, standing}
 use Rattle.lower_expr.specs.Steps.{assigned_signed, is_kept, on_registers, operated as operated_in, with_register_check}
-use Rattle.lower_expr.specs.Values.{Code, next_of, step_operation, value_of}
+use Rattle.lower_expr.specs.Values.{Code, call_to, next_of, step_operation, value_of, values_of}
 use Rattle.paris_code.specs.declared.instr.Instr.TheVariants as I
 use Rattle.paris_code.specs.Code.{CodeState}
 use Rattle.source_meaning.specs.Expressions.{evaluated}
-use Rattle.source_meaning.specs.Reductions.{promoted}
+use Rattle.source_meaning.specs.Reductions.{int_type, promoted}
 use Rattle.source_meaning.specs.State as Source
 use Rattle.source_meaning.specs.State.{Outcome, State, then_do, with_scalar}
 use Rattle.source_meaning.specs.Targets.{OfScalar, assigned, stepped, variable_target}
 use Rattle.source_meaning.specs.Values.{Active, Scope, Value, number}
 use Rattle.code_follows.specs.Fragment.{AreIn, IsEffect, IsIn, IsVariable, IsWord}
 use Rattle.code_follows.proofs.Changing.{no_place, only_set, operated_set_is, plain_type, scalar_type, set_is, stepped_is, stepping}
-use Rattle.code_follows.proofs.Expressions.{assign_names, brackets_code, operand, step_names, target_named, value_follows}
+use Rattle.code_follows.proofs.Expressions.{arguments_do, assign_names, call_code, many_arguments, brackets_code, operand, step_names, target_named, value_follows}
 use Rattle.code_follows.proofs.Printing.{printf_code, printf_follows}
-use Rattle.code_follows.proofs.Callees.{CallsFollow}
-use Rattle.code_follows.proofs.Following.{Arrives, Extends, Follows, HasRegisters, IsScalar, Ran, Sim, keeps_all, then_follows, then_gives, then_silent}
+use Rattle.code_follows.proofs.Arguments.{AreDone, long_row}
+use Rattle.code_follows.proofs.Callees.{CallsFollow, MayCall}
+use Rattle.code_follows.proofs.Passing.{call_follows, call_runs}
+use Rattle.code_follows.proofs.Following.{Arrives, Extends, Follows, HasRegisters, IsScalar, Ran, Sim, follows_other, keeps_all, keeps_less, then_follows, then_gives, then_silent}
 use Rattle.code_follows.proofs.Putting.{Put, put_follows}
 use Rattle.code_follows.proofs.Settings.{At, Setting, layout, stay}
+use Rattle.code_follows.proofs.Standing.{some_same}
 use Rattle.code_follows.proofs.Stores.{variable_dest}
-use Rattle.code_follows.proofs.Values.{Value_of, HasWord, extends_in_register, extends_operated, operates, word_follows}
+use Rattle.code_follows.proofs.Values.{fresh_dest, with_reg, Value_of, HasWord, extends_in_register, extends_operated, operates, word_follows}
 use Rattle.code_follows.proofs.Words.{below_word, held_wide, kept, word_type}
 
 module _ (g : Setting) (has : HasRegisters g) (alive : Variable → Type 0) (n : ℕ) (lives : (x : Variable) → IsDeclared n x → alive x) (ready : (d : Draft) → IsReady g.typed g.instance (layout g) n d) (scope : Scope) (active : Active) (calls_follow : CallsFollow g scope active)
@@ -234,51 +244,97 @@ module _ (g : Setting) (has : HasRegisters g) (alive : Variable → Type 0) (n :
   unfolding evaluated effect_of value_of
   printf_runs ty pieces p arguments h c = printf_follows g has alive n lives ready scope active calls_follow pieces.items arguments h c
 
-  in_effect : (e : TExpr) → (IsIn g.may) e → (IsEffect g.may) e
-  unfolding IsIn IsEffect
-  in_effect (T.Number ty value) h = h
-  in_effect (T.PositionsOf ty shape value) h = h
-  in_effect (T.RankOf ty shape value) h = h
-  in_effect (T.DimOf ty shape axis value) h = h
-  in_effect (T.Variable ty x) h = h
-  in_effect (T.GetChar ty) h = h
-  in_effect (T.Brackets' ty p inner) h = h
-  in_effect (T.Convert' ty p operand) h = h
-  in_effect (T.Casts' ty elems p operand) h = h
-  in_effect (T.Unary' ty op p operand) h = h
-  in_effect (T.Binary' ty place op p left q right) h = h
-  in_effect (T.LogicalOr' ty p left q right) h = h
-  in_effect (T.LogicalAnd' ty p left q right) h = h
-  in_effect (T.Choice' ty p test q first r second) h = h
-  in_effect (T.Assign' ty place op p target q value) h = h
-  in_effect (T.Step' ty op order p target) h = h
-  in_effect _ h = absurd h
+  -- a call whose value is not used
+  call_effect : (ty : ValueType) (index : ℕ) (p : Vec (Unit {0}) Global) (row : _) → g.may false index → (AreIn g.may) row → HasCode g.typed g.instance n (T.Call' ty index p row) → Runs (λ st. evaluated scope (T.Call' ty index p row) active st) (λ d. effect_of g.typed (layout g) (T.Call' ty index p row) d)
+  unfolding evaluated effect_of value_of IsDeclared IsLowerable fresh_for a_register then_make Grows
+  call_effect ty index p row may isin c d s st free here sim = by m.callee.callee.result refl
+    where
+      m : MayCall g active index
+      m = calls_follow.effect index may
 
-  pub effect_follows : (e : TExpr) → (IsEffect g.may) e → HasCode g.typed g.instance n e → Runs (λ st. evaluated scope e active st) (λ d. effect_of g.typed (layout g) e d)
-  unfolding IsEffect effect_of evaluated IsVariable IsIn
-  effect_follows (T.Assign' ty place op p (T.Variable tty x) q value) h c =
+      done : AreDone g has alive scope active true (are_quiet row) row
+      done = arguments_do g has alive n lives ready scope active calls_follow true (are_quiet row) row isin (call_code g has alive n lives ready scope active calls_follow ty index p row c)
+
+      many : length m.callee.callee.params.items ≡ long_row g has alive scope active row
+      many = many_arguments g has alive n lives ready scope active calls_follow ty index p row m c
+
+      code : Out → Draft → Made Out
+      code dest begun = call_to g.typed (layout g) index (values_of g.typed (layout g) true (are_quiet row) row) dest begun
+
+      -- where the value goes
+      behind_fresh : (P : Out → Type 0) (made : Made Out) → m.callee.callee.result ≡ None → Grows d 0 P made → Follows g (λ v u out e. Ran g alive d s u e) s (evaluated scope (T.Call' ty index p row) active st) (then_make made (λ dest begun. code dest begun))
+      behind_fresh P Fails is grows = absurd grows
+      behind_fresh P (Makes dest begun) is grows =
+          let x : Extended d 0 begun = grows.1 in
+          let regs = x.regs in
+          let same : length begun.code ≡ length d.code = let more = length-append d.code x.more in let none = x.long in omega (arith, ap length x.code, more, none) in
+          follows_other g (λ v u out e. Ran g alive begun s u e) (λ v u out e. Ran g alive d s u e) s (evaluated scope (T.Call' ty index p row) active st) (code dest begun)
+          (call_runs g has alive (λ k. lives (V.File k) tt) scope active calls_follow m row done many is dest begun s st (omega (arith, free, regs)) (let there = here in omega (arith, there, same)) sim)
+          (λ v u out e r. record { grown = (0 + r.grown.0, extended d begun e 0 r.grown.0 x r.grown.1); t = r.t; go = r.go; at = r.at; sim = r.sim; keeps = keeps_less g d begun s r.t regs r.keeps })
+
+      no_shape : (info : VarInfo) → m.callee.callee.result ≡ Some info → ty.shape ≡ None
+      no_shape info is =
+          let found : Calls g.typed index ty (items-the_row-TExpr _ row) = c.lowerable.0 in
+          let shaped : IfSome m.callee.callee.result (λ (info : VarInfo). info.shape ≡ ty.shape) = subst (λ (i : Instance). IfSome i.result (λ (info : VarInfo). info.shape ≡ ty.shape)) (some_same found.callee m.callee.callee (sym found.found ∙ m.callee.is)) found.result in
+          let of_info : info.shape ≡ ty.shape = subst (λ (o : Option VarInfo). IfSome o (λ (info : VarInfo). info.shape ≡ ty.shape)) is shaped in
+          sym of_info ∙ (m.callee.result info is).0
+
+      by : (o : Option VarInfo) → m.callee.callee.result ≡ o → Follows g (λ v u out e. Ran g alive d s u e) s (evaluated scope (T.Call' ty index p row) active st) (then_make (fresh_for ty.shape ty.elem.bits d) (λ dest begun. code dest begun))
+      by None is = behind_fresh _ (fresh_for ty.shape ty.elem.bits d) is (fresh_grows ty.shape ty.elem.bits d)
+      by (Some info) is =
+          subst (λ (o : Option ℕ). Follows g (λ v u out e. Ran g alive d s u e) s (evaluated scope (T.Call' ty index p row) active st) (then_make (fresh_for o ty.elem.bits d) (λ dest begun. code dest begun))) (sym (no_shape info is))
+          (follows_other g (Value_of g has alive int_type true d s) (λ v u out e. Ran g alive d s u e) s (evaluated scope (T.Call' ty index p row) active st) (code (O.Scalar d.regs) (with_reg d))
+          (call_follows g has alive (λ k. lives (V.File k) tt) scope active calls_follow m row done many info is int_type refl (with_reg d) s st (Value_of g has alive int_type true d s) d.regs (omega (arith, free)) here sim (fresh_dest g has alive int_type true d s free))
+          (λ v u out f arr. record { grown = arr.extended; t = arr.t; go = arr.go; at = arr.at; sim = arr.sim; keeps = arr.keeps }))
+
+  -- what has a value of the fragment
+  value_effect : (e : TExpr) → (IsIn g.may) e → HasCode g.typed g.instance n e → Runs (λ st. evaluated scope e active st) (λ d. effect_of g.typed (layout g) e d)
+  unfolding effect_of evaluated IsVariable IsIn
+  value_effect (T.Assign' ty place op p (T.Variable tty x) q value) h c =
       let names = assign_names g has alive n lives ready scope active calls_follow ty place op p q (T.Variable tty x) value c in
       subst (λ (t : ValueType). Runs (λ st. then_do (Source.Gives (variable_target tty.shape x 0) st) (λ there between. then_do (evaluated scope value active between) (λ v after. assigned scope active place op t (type_of value) there v after)))
       (λ d. assignment_effect g.typed (layout g) op place (T.Variable tty x) value (λ e. value_of g.typed (layout g) ty.elem.bits (T.Assign' ty place op p (T.Variable tty x) q value) e) d)) (sym h.1)
       (assign_runs tty place op x value (λ e. value_of g.typed (layout g) ty.elem.bits (T.Assign' ty place op p (T.Variable tty x) q value) e) h.2 (target_named g has alive n lives ready scope active calls_follow tty x names.0) h.3 names.1)
-  effect_follows (T.Assign' ty place op p _ q value) h c = absurd h.2
-  effect_follows (T.Step' ty op order p (T.Variable tty x)) h c =
+  value_effect (T.Assign' ty place op p _ q value) h c = absurd h.2
+  value_effect (T.Step' ty op order p (T.Variable tty x)) h c =
       subst (λ (t : ValueType). Runs (λ st. then_do (Source.Gives (variable_target tty.shape x 0) st) (λ there after. stepped scope active op order t there after)) (λ d. step_effect g.typed (layout g) op (T.Variable tty x) (λ e. value_of g.typed (layout g) ty.elem.bits (T.Step' ty op order p (T.Variable tty x)) e) d)) (sym h.1)
       (step_runs tty op order x (λ e. value_of g.typed (layout g) ty.elem.bits (T.Step' ty op order p (T.Variable tty x)) e) h.2 (target_named g has alive n lives ready scope active calls_follow tty x (step_names g has alive n lives ready scope active calls_follow ty op order p (T.Variable tty x) c)))
-  effect_follows (T.Step' ty op order p _) h c = absurd h.2
-  effect_follows (T.Brackets' ty p inner) h c = effect_follows inner (in_effect inner h.1) (brackets_code g has alive n lives ready scope active calls_follow ty p inner c)
+  value_effect (T.Step' ty op order p _) h c = absurd h.2
+  value_effect (T.Brackets' ty p inner) h c = value_effect inner h.1 (brackets_code g has alive n lives ready scope active calls_follow ty p inner c)
+  value_effect (T.Number ty value) h c = pure_follows (T.Number ty value) h c
+  value_effect (T.PositionsOf ty shape value) h c = pure_follows (T.PositionsOf ty shape value) h c
+  value_effect (T.RankOf ty shape value) h c = pure_follows (T.RankOf ty shape value) h c
+  value_effect (T.DimOf ty shape axis value) h c = pure_follows (T.DimOf ty shape axis value) h c
+  value_effect (T.Variable ty x) h c = pure_follows (T.Variable ty x) h c
+  value_effect (T.GetChar ty) h c = pure_follows (T.GetChar ty) h c
+  value_effect (T.Casts' ty elems p operand) h c = pure_follows (T.Casts' ty elems p operand) h c
+  value_effect (T.Convert' ty p operand) h c = pure_follows (T.Convert' ty p operand) h c
+  value_effect (T.Unary' ty op p operand) h c = pure_follows (T.Unary' ty op p operand) h c
+  value_effect (T.Binary' ty place op p left q right) h c = pure_follows (T.Binary' ty place op p left q right) h c
+  value_effect (T.LogicalOr' ty p left q right) h c = pure_follows (T.LogicalOr' ty p left q right) h c
+  value_effect (T.LogicalAnd' ty p left q right) h c = pure_follows (T.LogicalAnd' ty p left q right) h c
+  value_effect (T.Choice' ty p test q first r second) h c = pure_follows (T.Choice' ty p test q first r second) h c
+  value_effect (T.Call' ty index p arguments) h c = pure_follows (T.Call' ty index p arguments) h c
+  value_effect _ h c = absurd h
+
+  pub effect_follows : (e : TExpr) → (IsEffect g.may) e → HasCode g.typed g.instance n e → Runs (λ st. evaluated scope e active st) (λ d. effect_of g.typed (layout g) e d)
+  unfolding IsEffect IsIn
   effect_follows (T.Printf' ty pieces p arguments) h c = printf_runs ty pieces p arguments h (printf_code g has alive n lives ready scope active calls_follow ty pieces p arguments c)
-  effect_follows (T.Number ty value) h c = pure_follows (T.Number ty value) h c
-  effect_follows (T.PositionsOf ty shape value) h c = pure_follows (T.PositionsOf ty shape value) h c
-  effect_follows (T.RankOf ty shape value) h c = pure_follows (T.RankOf ty shape value) h c
-  effect_follows (T.DimOf ty shape axis value) h c = pure_follows (T.DimOf ty shape axis value) h c
-  effect_follows (T.Variable ty x) h c = pure_follows (T.Variable ty x) h c
-  effect_follows (T.GetChar ty) h c = pure_follows (T.GetChar ty) h c
-  effect_follows (T.Casts' ty elems p operand) h c = pure_follows (T.Casts' ty elems p operand) h c
-  effect_follows (T.Convert' ty p operand) h c = pure_follows (T.Convert' ty p operand) h c
-  effect_follows (T.Unary' ty op p operand) h c = pure_follows (T.Unary' ty op p operand) h c
-  effect_follows (T.Binary' ty place op p left q right) h c = pure_follows (T.Binary' ty place op p left q right) h c
-  effect_follows (T.LogicalOr' ty p left q right) h c = pure_follows (T.LogicalOr' ty p left q right) h c
-  effect_follows (T.LogicalAnd' ty p left q right) h c = pure_follows (T.LogicalAnd' ty p left q right) h c
-  effect_follows (T.Choice' ty p test q first r second) h c = pure_follows (T.Choice' ty p test q first r second) h c
+  effect_follows (T.Call' ty index p arguments) h c = call_effect ty index p arguments h.0 h.1 c
+  effect_follows (T.Number ty value) h c = value_effect (T.Number ty value) h c
+  effect_follows (T.PositionsOf ty shape value) h c = value_effect (T.PositionsOf ty shape value) h c
+  effect_follows (T.RankOf ty shape value) h c = value_effect (T.RankOf ty shape value) h c
+  effect_follows (T.DimOf ty shape axis value) h c = value_effect (T.DimOf ty shape axis value) h c
+  effect_follows (T.Variable ty x) h c = value_effect (T.Variable ty x) h c
+  effect_follows (T.GetChar ty) h c = value_effect (T.GetChar ty) h c
+  effect_follows (T.Brackets' ty p inner) h c = value_effect (T.Brackets' ty p inner) h c
+  effect_follows (T.Convert' ty p operand) h c = value_effect (T.Convert' ty p operand) h c
+  effect_follows (T.Casts' ty elems p operand) h c = value_effect (T.Casts' ty elems p operand) h c
+  effect_follows (T.Unary' ty op p operand) h c = value_effect (T.Unary' ty op p operand) h c
+  effect_follows (T.Binary' ty place op p left q right) h c = value_effect (T.Binary' ty place op p left q right) h c
+  effect_follows (T.LogicalOr' ty p left q right) h c = value_effect (T.LogicalOr' ty p left q right) h c
+  effect_follows (T.LogicalAnd' ty p left q right) h c = value_effect (T.LogicalAnd' ty p left q right) h c
+  effect_follows (T.Choice' ty p test q first r second) h c = value_effect (T.Choice' ty p test q first r second) h c
+  effect_follows (T.Assign' ty place op p target q value) h c = value_effect (T.Assign' ty place op p target q value) h c
+  effect_follows (T.Step' ty op order p target) h c = value_effect (T.Step' ty op order p target) h c
   effect_follows _ h c = absurd h

@@ -83,7 +83,7 @@ module _ (g : Setting) where
     -- the code of its body from its first instruction on, where so many turns are left at most
     unfoldable pub Enters : ℕ → Active → Type 0
     Enters m active =
-        (arguments : List Value) (st : State) (s : CodeState) (back : ℕ) → s.at ≡ start_at g.image index → s.returns ≡ g.returns ++ back ∷ [] → Shared st s → st.turns ≤ m → AreGiven arguments s → slice_index s.registers given_in ≡ 0
+        (arguments : List Value) (st : State) (s : CodeState) (back : ℕ) → s.at ≡ start_at g.image index → s.returns ≡ g.returns ++ back ∷ [] → Shared st s → st.turns ≤ m → AreGiven arguments s → ((c.callee.result ≡ None → ⊥) → slice_index s.registers given_in ≡ 0)
         → RunsBody back s st (run_body g.typed (calls g.typed m) (Some c.callee) arguments active st)
 
   -- each function that may be called runs so, with one turn fewer left

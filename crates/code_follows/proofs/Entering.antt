@@ -134,7 +134,7 @@ module _ (t : Typed) (image : Image) (p : IsScalarProgram t) (codable : IsCodabl
   called_one = callee_known t image p codable compiled me a is_me back_to (suc m) number b is lesser
 
   module _ (active : Active) (arguments : List Value) (st : State) (s : CodeState) (back : ℕ) (starts : s.at ≡ start_at image number) (stacked : s.returns ≡ back_to ++ back ∷ []) (shared : Shared caller st s) (few : st.turns ≤ m) (given : AreGiven caller called_one arguments s)
-      (zero_there : slice_index s.registers ((layout_of t (words t image p codable compiled) number).base + length b.params.items) ≡ 0) where
+      (zero_there : (b.result ≡ None → ⊥) → slice_index s.registers ((layout_of t (words t image p codable compiled) number).base + length b.params.items) ≡ 0) where
     abbrev open_calls : List ℕ
     open_calls = back_to ++ back ∷ []
 
@@ -240,7 +240,7 @@ module _ (t : Typed) (image : Image) (p : IsScalarProgram t) (codable : IsCodabl
 
         given_so : (leaving : Leaving) → (b.result ≡ None → ⊥) → IsGiven inner (every_one t image p codable compiled number b is open_calls m) s r.t (given_back leaving) → NoJump (Source.Gives leaving u)
             → (word : ℕ) × ((result_of b.result leaving ≡ Scalar word) × (word < 2 ^ 32) × (slice_index r.t.registers ((layout_of t (words t image p codable compiled) number).base + length b.params.items) ≡ word))
-        given_so leaving has_result h closed = result_given image t p codable compiled number b is open_calls m s r.t leaving u has_result h closed zero_there
+        given_so leaving has_result h closed = result_given image t p codable compiled number b is open_calls m s r.t leaving u has_result h closed (zero_there has_result)
 
     covered : (locals : List LocalVar) → variables_of b.body ≡ map info_of locals → (x : Variable) (info : VarInfo) → variable_named t b x ≡ Some info → OfFileOrParam x ⊎ (is_among 0 (length locals) x ≡ true)
     unfolding variable_named OfFileOrParam is_among

@@ -197,6 +197,7 @@ module _ (g : Setting) (alive : Variable → Type 0) where
     gives (T.Assign' ty place op p (T.Variable tty x) q value) h = refl
     gives (T.Assign' ty place op p _ q value) h = absurd h.2
     gives (T.Step' ty op order p target) h = tt
+    gives (T.Call' ty index p arguments) h = (calls_follow.value index h.1).1
     gives _ h = absurd h
 
     -- the code of a condition is made

@@ -1,11 +1,12 @@
 -- The code of every expression of the fragment gives its value, as a value and as an operand.
-use Rattle.std.proofs.Common.{◌≡◌, ◌∙◌, ℕ, ◌<◌, ◌≤◌, ◌-◌, ◌^◌, ◌==◌, Bool, true, false, length, Option, Some, None, refl, sym, ap, subst, if◌then◌else◌, arith, Vec, Global, inl}
+use Rattle.std.proofs.Common.{◌≡◌, ◌∙◌, ℕ, ◌<◌, ◌≤◌, ◌-◌, ◌^◌, ◌==◌, Bool, true, false, [], length, Option, Some, None, refl, sym, ap, subst, if◌then◌else◌, arith, Vec, Global, inl}
 use Rattle.std.specs.Prelude.{IfSome, is_none, ◌||◌, nat_le, nat_lt}
 use Rattle.cstar_base.specs.declared.elem.Elem.{Elem}
 use Rattle.cstar_base.specs.declared.operators.Op.{Op}
 use Rattle.cstar_base.specs.declared.operators.Place.{Place}
 use Rattle.cstar_base.specs.Numbers.{converted}
-use Rattle.cstar_tree.specs.declared.typed.TExpr.{TExpr}
+use mathlib.Core.Former.{Count}
+use Rattle.cstar_tree.specs.declared.typed.TExpr.{TExpr, Row_of-TExpr, end_of-TExpr, items-the_row-TExpr, more_of-TExpr}
 use Rattle.cstar_tree.specs.declared.typed.TExpr as T
 use Rattle.cstar_tree.specs.declared.typed.UnaryOp.{UnaryOp}
 use Rattle.cstar_tree.specs.declared.typed.UnaryOp.TheVariants as U
@@ -14,13 +15,17 @@ use Rattle.cstar_tree.specs.declared.typed.VarInfo.{VarInfo}
 use Rattle.cstar_tree.specs.declared.typed.Variable.{Variable}
 use Rattle.cstar_tree.specs.StatementTypes.{variable_info}
 use Rattle.cstar_tree.specs.Typed.{type_of}
-use Rattle.code_lengths.specs.Lowerable.{GivesValue, IsLowerable}
+use Rattle.std.proofs.lemmas.Slice.Zip.{AllZip-long}
+use Rattle.std.specs.Option.{is_some}
+use Rattle.cstar_tree.specs.declared.typed.Instance.{Instance}
+use Rattle.cstar_tree.specs.declared.typed.Variable.TheVariants as V
+use Rattle.code_lengths.specs.Lowerable.{AreLowerable, Calls, GivesValue, HasResult, IsLowerable, IsValueFor}
 use Rattle.cstar_tree.specs.declared.syntax.AssignOp.{AssignOp}
 use Rattle.cstar_tree.specs.declared.syntax.StepOp.{StepOp}
 use Rattle.cstar_tree.specs.declared.typed.StepOrder.{StepOrder}
-use Rattle.code_lengths.specs.Naming.{HasVariable, IsDeclared, NamesVariables, plain}
-use Rattle.code_lengths.specs.Ready.{HasCode, IsReady}
-use Rattle.code_lengths.specs.Shaped.{IsShaped}
+use Rattle.code_lengths.specs.Naming.{AllNameVariables, HasVariable, IsDeclared, NamesVariables, plain}
+use Rattle.code_lengths.specs.Ready.{HasCode, HaveCode, IsReady}
+use Rattle.code_lengths.specs.Shaped.{AreShaped, IsShaped}
 use Rattle.code_lengths.proofs.Agreeing.{expressions}
 use Rattle.code_lengths.proofs.Drafting.{as_it_was}
 use Rattle.code_lengths.proofs.OperandPieces.{operand_grows as operand_grown}
@@ -29,18 +34,18 @@ use Rattle.lower_base.specs.declared.emit.Out.{Out}
 use Rattle.lower_base.specs.declared.emit.Out.TheVariants as O
 use Rattle.lower_base.specs.Constants.{constant_register, first_free}
 use Rattle.lower_base.specs.Kinds.{bits_of, kind_of}
-use Rattle.lower_base.specs.Drafts.{Draft, Made, Makes, first_bits, then_make, with_instr, Fails}
+use Rattle.lower_base.specs.Drafts.{Draft, Made, Makes, a_register, first_bits, fresh_for, then_make, with_instr, Fails}
 use Rattle.lower_base.specs.Layouts.{Layout, field_of, register_of}
 use Rattle.lower_expr.specs.declared.operands.Own.{Own}
-use Rattle.lower_expr.specs.Kinds.{is_unchanged, operand_bits, unary_bits}
+use Rattle.lower_expr.specs.Kinds.{is_unchanged, list_bits, operand_bits, unary_bits}
 use Rattle.lower_expr.specs.Lengths.{arm_length, arm_length_of, used_length_of}
-use Rattle.lower_expr.specs.Operands.{held as held_in, in_place, is_plus, is_quiet, operand_by, own_of, standing}
+use Rattle.lower_expr.specs.Operands.{are_quiet, held as held_in, in_place, is_plus, is_quiet, operand_by, own_of, standing}
 use Rattle.lower_expr.specs.Steps.{converted_in_place, field_converted, is_kept, put_test, register_word, shifted_back}
 use Rattle.paris_code.specs.Code.{CodeState}
 use Rattle.paris_code.specs.declared.instr.Instr.TheVariants as I
 use Rattle.paris_code.specs.declared.operands.Konst.TheVariants as K
 use Rattle.paris_code.specs.declared.operands.Operation.TheVariants as Act
-use Rattle.lower_expr.specs.Values.{Code, arm_by, arm_of, cast_from, choice_by, condition_by, condition_of, logical_by, next_of, register_cast_by, scalar_choice_of, truth_of, unary_by, value_of, taken_bits}
+use Rattle.lower_expr.specs.Values.{call_to, values_of, Code, arm_by, arm_of, cast_from, choice_by, condition_by, condition_of, logical_by, next_of, register_cast_by, scalar_choice_of, truth_of, unary_by, value_of, taken_bits}
 use Rattle.quiet_operands.proofs.Unchanged as Quiet
 use Rattle.source_meaning.specs.Constants.{constant_of, is_constant, then_value}
 use Rattle.source_meaning.specs.Constants as Const
@@ -50,10 +55,12 @@ use Rattle.source_meaning.specs.State as Source
 use Rattle.source_meaning.specs.State.{Outcome, State, then_do}
 use Rattle.source_meaning.specs.Values.{Active, Scalar, Scope, Value, at, convert_to, nonzero, number, unary_of}
 use Rattle.source_meaning.proofs.ConstantLaws.{Boxed, value_means}
-use Rattle.code_follows.specs.Fragment.{IsIn, IsWord, IsVariable}
+use Rattle.code_follows.specs.Fragment.{AreIn, IsIn, IsWord, IsVariable}
+use Rattle.code_follows.proofs.Arguments.{AreDone, long_row}
+use Rattle.code_follows.proofs.Passing.{call_follows, fresh_called}
 use Rattle.code_follows.proofs.Branching.{IsMadeWord, made_word}
 use Rattle.code_follows.proofs.Choosing.{Arm_does, IsMadeTo, Lands, arm_follows, arm_made, choice_is, choose_is, constant_arm, fresh_lands, scalar_choice_follows}
-use Rattle.code_follows.proofs.Callees.{CallsFollow}
+use Rattle.code_follows.proofs.Callees.{CallsFollow, MayCall}
 use Rattle.code_follows.proofs.Following.{Arrives, Extends, Follows, HasRegisters, IsScalar, Sim, held, keeps_all, then_follows, then_gives}
 use Rattle.code_follows.proofs.Logical.{and_is, joined, logical_follows, or_is}
 use Rattle.code_follows.proofs.Settings.{At, Setting, layout, stay}
@@ -154,6 +161,7 @@ module _ (g : Setting) (has : HasRegisters g) (alive : Variable → Type 0) (n :
   own_is bits (T.Choice' ty p test q first r second) own st h v small is = cc
   own_is bits (T.Assign' ty place op p target q value) own st h v small is = cc
   own_is bits (T.Step' ty op order p target) own st h v small is = cc
+  own_is bits (T.Call' ty index p arguments) own st h v small is = cc
   own_is bits _ own st h v small is = absurd h
 
   -- an operand where it stands, or by its code
@@ -413,6 +421,48 @@ module _ (g : Setting) (has : HasRegisters g) (alive : Variable → Type 0) (n :
       subst (λ (t : ValueType). HasVariable g.typed g.instance n x (plain t) → IsFresh d (value_of g.typed (layout g) bits (T.Step' ty op order p (T.Variable t x)) d)) (sym (plain_type tty word.0)) (λ w.
       fresh_stepped g has alive x (variable_info w.word (plain (scalar_type tty.elem)) w.start) (lives x w.declared) (w.named, refl) word.1 scope active op order tty.elem (T.Step' ty op order p (T.Variable (scalar_type tty.elem) x)) bits d word.1) v
 
+  -- a call's arguments have code, one for each parameter
+  pub arguments_code : {k : Count} (row : Row_of-TExpr k) → AreShaped row → AreLowerable g.typed row → AllNameVariables g.typed g.instance n row → HaveCode g.typed g.instance n row
+  unfolding HaveCode AreShaped AreLowerable AllNameVariables
+  arguments_code end_of-TExpr shaped lowerable names = tt
+  arguments_code (more_of-TExpr e rest) shaped lowerable names = (record { shaped = shaped.0; lowerable = lowerable.0; names = names.0 }, arguments_code rest shaped.1 lowerable.1 names.1)
+
+  pub call_code : (ty : ValueType) (index : ℕ) (p : Vec (Unit {0}) Global) (row : _) → HasCode g.typed g.instance n (T.Call' ty index p row) → HaveCode g.typed g.instance n row
+  unfolding IsShaped IsLowerable NamesVariables
+  call_code ty index p row c = arguments_code row c.shaped c.lowerable.1 c.names
+
+  pub many_arguments : (ty : ValueType) (index : ℕ) (p : Vec (Unit {0}) Global) (row : _) (m : MayCall g active index) → HasCode g.typed g.instance n (T.Call' ty index p row) → length m.callee.callee.params.items ≡ long_row g has alive scope active row
+  unfolding IsLowerable
+  many_arguments ty index p row m c =
+      let found : Calls g.typed index ty (items-the_row-TExpr _ row) = c.lowerable.0 in
+      subst (λ (i : Instance). length i.params.items ≡ long_row g has alive scope active row) (some_same found.callee m.callee.callee (sym found.found ∙ m.callee.is))
+      (sym (AllZip-long (λ (param : VarInfo) (e : TExpr). IsValueFor g.typed param.shape e) found.callee.params.items (items-the_row-TExpr _ row) found.given))
+
+  -- the result of what is called
+  pub has_result : (index : ℕ) (m : MayCall g active index) → HasResult g.typed index → (info : VarInfo) × (m.callee.callee.result ≡ Some info)
+  has_result index m (callee, found, there) = by m.callee.callee.result refl (subst (λ (i : Instance). is_some i.result ≡ true) (some_same callee m.callee.callee (sym found ∙ m.callee.is)) there)
+    where
+      by : (o : Option VarInfo) → m.callee.callee.result ≡ o → is_some m.callee.callee.result ≡ true → (info : VarInfo) × (m.callee.callee.result ≡ Some info)
+      by (Some info) is there = (info, is)
+      by None is there = let no : is_some m.callee.callee.result ≡ false = ap is_some is in cc
+
+  arguments_grown : (own quiet : Bool) {k : Count} (row : Row_of-TExpr k) → HaveCode g.typed g.instance n row → (d : Draft) → Extends g d (values_of g.typed (layout g) own quiet row [] d)
+  arguments_grown own quiet {k} row c d = extends_grown g has alive _ d _ _ ((expressions g.typed g.instance (layout g)).list own quiet n k row d c (ready d))
+
+  fresh_call : (bits : ℕ) (ty : ValueType) (index : ℕ) (p : Vec (Unit {0}) Global) (row : _) → IsWord ty → g.may true index → HasCode g.typed g.instance n (T.Call' ty index p row) → (d : Draft) → IsFresh d (value_of g.typed (layout g) bits (T.Call' ty index p row) d)
+  unfolding value_of fresh_for a_register then_make
+  fresh_call bits ty index p row word may c d =
+      subst (λ (o : Option ℕ). IsFresh d (then_make (fresh_for o bits d) (λ dest begun. call_to g.typed (layout g) index (values_of g.typed (layout g) true (are_quiet row) row) dest begun))) (sym word.0)
+      (fresh_called g has alive (calls_follow.value index may).0 (values_of g.typed (layout g) true (are_quiet row) row) d.regs d (with_reg d) (omega arith) (omega arith) (arguments_grown true (are_quiet row) row (call_code ty index p row c) (with_reg d)))
+
+  call_value : (quiet : Bool) (bits : ℕ) (ty : ValueType) (index : ℕ) (p : Vec (Unit {0}) Global) (row : _) → IsWord ty → g.may true index → AreDone g has alive scope active true (are_quiet row) row → HasCode g.typed g.instance n (T.Call' ty index p row) → Agrees quiet bits (T.Call' ty index p row)
+  unfolding value_of evaluated fresh_for a_register then_make IsDeclared
+  call_value quiet bits ty index p row word may done c d s st free here sim =
+      let known = calls_follow.value index may in
+      let result = has_result index known.0 known.1 in
+      subst (λ (o : Option ℕ). Follows g (Value_of g has alive ty.elem quiet d s) s (evaluated scope (T.Call' ty index p row) active st) (then_make (fresh_for o bits d) (λ dest begun. call_to g.typed (layout g) index (values_of g.typed (layout g) true (are_quiet row) row) dest begun))) (sym word.0)
+      (call_follows g has alive (λ k. lives (V.File k) tt) scope active calls_follow known.0 row done (many_arguments ty index p row known.0 c) result.0 result.1 ty.elem word.1 (with_reg d) s st (Value_of g has alive ty.elem quiet d s) d.regs (omega (arith, free)) here sim (fresh_dest g has alive ty.elem quiet d s free))
+
   fresh_value : (bits : ℕ) (e : TExpr) → (IsIn g.may) e → HasCode g.typed g.instance n e → (d : Draft) → IsFresh d (value_of g.typed (layout g) bits e d)
   unfolding value_of IsIn IsVariable
   fresh_value bits (T.Number ty value) h c d = fresh_constant g has alive value d
@@ -439,6 +489,7 @@ module _ (g : Setting) (has : HasRegisters g) (alive : Variable → Type 0) (n :
   fresh_value bits (T.Assign' ty place op p _ q value) h c d = absurd h.2
   fresh_value bits (T.Step' ty op order p (T.Variable tty x)) h c d = fresh_step bits ty tty op order p x h.2 (target_named tty x (step_names ty op order p (T.Variable tty x) c)) d
   fresh_value bits (T.Step' ty op order p _) h c d = absurd h.2
+  fresh_value bits (T.Call' ty index p arguments) h c d = fresh_call bits ty index p arguments h.0 h.1 c d
   fresh_value bits _ h c d = absurd h
 
   -- an operand in its place leaves its register alone
@@ -527,48 +578,60 @@ module _ (g : Setting) (has : HasRegisters g) (alive : Variable → Type 0) (n :
       (subst (λ (t : ValueType). HasVariable g.typed g.instance n x (plain t) → Agrees quiet bits (T.Step' t op order p (T.Variable t x))) (sym (plain_type tty word.0)) (λ w.
       stepped_value g has alive x (variable_info w.word (plain (scalar_type tty.elem)) w.start) (lives x w.declared) (w.named, refl) word.1 scope active op order tty.elem word.1 quiet bits (T.Step' (scalar_type tty.elem) op order p (T.Variable (scalar_type tty.elem) x))) v)
 
-  pub value_follows : (quiet : Bool) (bits : ℕ) (e : TExpr) → (IsIn g.may) e → HasCode g.typed g.instance n e → Agrees quiet bits e
-  unfolding evaluated value_of IsIn IsVariable
-  value_follows quiet bits (T.Number ty value) h c = λ d s st free here sim. constant_follows g has alive ty.elem quiet value d s st h.0.1 h.1 free here sim
-  value_follows quiet bits (T.PositionsOf ty shape value) h c = λ d s st free here sim. constant_follows g has alive ty.elem quiet value d s st h.0.1 h.1 free here sim
-  value_follows quiet bits (T.RankOf ty shape value) h c = λ d s st free here sim. constant_follows g has alive ty.elem quiet value d s st h.0.1 h.1 free here sim
-  value_follows quiet bits (T.DimOf ty shape axis value) h c = λ d s st free here sim. constant_follows g has alive ty.elem quiet value d s st h.0.1 h.1 free here sim
-  value_follows quiet bits (T.Variable ty x) h c = λ d s st free here sim.
-      let v = named ty x c in
-      variable_follows g has alive quiet bits n ty x d s st h v (lives x v.declared) free here sim
-  value_follows quiet bits (T.GetChar ty) h c = byte_follows g has alive ty.elem quiet h.1
-  value_follows quiet bits (T.Brackets' ty p inner) h c = bracketed ty inner quiet _ _ h.0 (value_follows quiet bits inner h.1 (brackets_code ty p inner c))
-  value_follows quiet bits (T.Convert' ty p operand) h c =
-      converts ty quiet bits p operand (kept g.may operand h.1) (conversion_follows ty quiet (type_of operand).elem _ _ h.0 (value_follows quiet bits operand h.1 (convert_code ty p operand c)))
-  value_follows quiet bits (T.Casts' ty elems p operand) h c =
-      let part = casts_code ty elems p operand c in
-      casts_follow g has alive ty quiet elems.items (type_of operand).elem h.0 h.1 (λ d. value_of g.typed (layout g) bits operand d) (λ st. evaluated scope operand active st) (λ d. fresh_value bits operand h.2 part d) (value_follows false bits operand h.2 part)
-  value_follows quiet bits (T.Unary' ty op p operand) h c =
-      unary_value ty quiet bits op operand h.0 (word_type g.may operand h.1).1 (value_follows quiet bits operand h.1 (unary_code ty op p operand c)) (operand_value true (unary_bits bits op operand) operand h.1 (unary_code ty op p operand c) (value_follows true (unary_bits bits op operand) operand h.1 (unary_code ty op p operand c)))
-  value_follows quiet bits (T.Binary' ty place op p left q right) h c =
-      let one_code = left_code ty place op p q left right c in
-      let other_code = right_code ty place op p q left right c in
-      binary_follows g has alive ty (is_quiet right) op place (type_of left).elem (type_of right).elem _ (λ st. evaluated scope right active st) scope active h.0 (word_type g.may left h.1).1 (word_type g.may right h.2).1
-      (λ st calm. Quiet.expression scope right active st calm) (operand_value true (operand_bits bits op left right) right h.2 other_code (value_follows true (operand_bits bits op left right) right h.2 other_code)) (operand_grows true (operand_bits bits op left right) right other_code) quiet bits left right _
-      (λ st. evaluated scope left active st) refl (operand_value (is_quiet right) (operand_bits bits op left right) left h.1 one_code (value_follows (is_quiet right) (operand_bits bits op left right) left h.1 one_code))
-  value_follows quiet bits (T.LogicalOr' ty p left q right) h c =
-      let o = or_operands ty p q left right c in
-      logical_value true ty quiet bits left right (λ v after. or_then ty.shape (type_of left).shape v (evaluated scope right) active after) h.0 h.1 h.2 o (λ v st. or_is ty.shape (type_of left).shape v (evaluated scope right) active st h.0.0 (word_type g.may left h.1).0)
-      (value_follows true (bits_of (kind_of left)) left h.1 o.one) (value_follows true (bits_of (kind_of right)) right h.2 o.other)
-  value_follows quiet bits (T.LogicalAnd' ty p left q right) h c =
-      let o = and_operands ty p q left right c in
-      logical_value false ty quiet bits left right (λ v after. and_then ty.shape (type_of left).shape v (evaluated scope right) active after) h.0 h.1 h.2 o (λ v st. and_is ty.shape (type_of left).shape v (evaluated scope right) active st h.0.0 (word_type g.may left h.1).0)
-      (value_follows true (bits_of (kind_of left)) left h.1 o.one) (value_follows true (bits_of (kind_of right)) right h.2 o.other)
-  value_follows quiet bits (T.Choice' ty p test q first r second) h c =
-      let o = choice_parts ty p q r test first second c in
-      choice_value ty quiet bits p q r test first second h.0 h.1 h.2 h.3 o (value_follows true (bits_of (kind_of test)) test h.1 o.condition) (value_follows true bits first h.2 o.one) (value_follows true bits second h.3 o.other)
-  value_follows quiet bits (T.Assign' ty place op p (T.Variable tty x) q value) h c =
-      let names = assign_names ty place op p q (T.Variable tty x) value c in
-      assign_value quiet bits ty tty place op p q x value h.2 h.1 (target_named tty x names.0) h.3 names.1 (λ m d. fresh_value m value h.3 names.1 d) (λ calm m. value_follows calm m value h.3 names.1)
-  value_follows quiet bits (T.Assign' ty place op p _ q value) h c = absurd h.2
-  value_follows quiet bits (T.Step' ty op order p (T.Variable tty x)) h c = step_value_follows quiet bits ty tty op order p x h.2 h.1 (target_named tty x (step_names ty op order p (T.Variable tty x) c))
-  value_follows quiet bits (T.Step' ty op order p _) h c = absurd h.2
-  value_follows quiet bits _ h c = absurd h
+  mutual
+    unfolding evaluated value_of IsIn AreIn IsVariable AreDone HaveCode
+
+    pub value_follows : (quiet : Bool) (bits : ℕ) (e : TExpr) → (IsIn g.may) e → HasCode g.typed g.instance n e → Agrees quiet bits e
+    value_follows quiet bits (T.Number ty value) h c = λ d s st free here sim. constant_follows g has alive ty.elem quiet value d s st h.0.1 h.1 free here sim
+    value_follows quiet bits (T.PositionsOf ty shape value) h c = λ d s st free here sim. constant_follows g has alive ty.elem quiet value d s st h.0.1 h.1 free here sim
+    value_follows quiet bits (T.RankOf ty shape value) h c = λ d s st free here sim. constant_follows g has alive ty.elem quiet value d s st h.0.1 h.1 free here sim
+    value_follows quiet bits (T.DimOf ty shape axis value) h c = λ d s st free here sim. constant_follows g has alive ty.elem quiet value d s st h.0.1 h.1 free here sim
+    value_follows quiet bits (T.Variable ty x) h c = λ d s st free here sim.
+        let v = named ty x c in
+        variable_follows g has alive quiet bits n ty x d s st h v (lives x v.declared) free here sim
+    value_follows quiet bits (T.GetChar ty) h c = byte_follows g has alive ty.elem quiet h.1
+    value_follows quiet bits (T.Brackets' ty p inner) h c = bracketed ty inner quiet _ _ h.0 (value_follows quiet bits inner h.1 (brackets_code ty p inner c))
+    value_follows quiet bits (T.Convert' ty p operand) h c =
+        converts ty quiet bits p operand (kept g.may operand h.1) (conversion_follows ty quiet (type_of operand).elem _ _ h.0 (value_follows quiet bits operand h.1 (convert_code ty p operand c)))
+    value_follows quiet bits (T.Casts' ty elems p operand) h c =
+        let part = casts_code ty elems p operand c in
+        casts_follow g has alive ty quiet elems.items (type_of operand).elem h.0 h.1 (λ d. value_of g.typed (layout g) bits operand d) (λ st. evaluated scope operand active st) (λ d. fresh_value bits operand h.2 part d) (value_follows false bits operand h.2 part)
+    value_follows quiet bits (T.Unary' ty op p operand) h c =
+        unary_value ty quiet bits op operand h.0 (word_type g.may operand h.1).1 (value_follows quiet bits operand h.1 (unary_code ty op p operand c)) (operand_value true (unary_bits bits op operand) operand h.1 (unary_code ty op p operand c) (value_follows true (unary_bits bits op operand) operand h.1 (unary_code ty op p operand c)))
+    value_follows quiet bits (T.Binary' ty place op p left q right) h c =
+        let one_code = left_code ty place op p q left right c in
+        let other_code = right_code ty place op p q left right c in
+        binary_follows g has alive ty (is_quiet right) op place (type_of left).elem (type_of right).elem _ (λ st. evaluated scope right active st) scope active h.0 (word_type g.may left h.1).1 (word_type g.may right h.2).1
+        (λ st calm. Quiet.expression scope right active st calm) (operand_value true (operand_bits bits op left right) right h.2 other_code (value_follows true (operand_bits bits op left right) right h.2 other_code)) (operand_grows true (operand_bits bits op left right) right other_code) quiet bits left right _
+        (λ st. evaluated scope left active st) refl (operand_value (is_quiet right) (operand_bits bits op left right) left h.1 one_code (value_follows (is_quiet right) (operand_bits bits op left right) left h.1 one_code))
+    value_follows quiet bits (T.LogicalOr' ty p left q right) h c =
+        let o = or_operands ty p q left right c in
+        logical_value true ty quiet bits left right (λ v after. or_then ty.shape (type_of left).shape v (evaluated scope right) active after) h.0 h.1 h.2 o (λ v st. or_is ty.shape (type_of left).shape v (evaluated scope right) active st h.0.0 (word_type g.may left h.1).0)
+        (value_follows true (bits_of (kind_of left)) left h.1 o.one) (value_follows true (bits_of (kind_of right)) right h.2 o.other)
+    value_follows quiet bits (T.LogicalAnd' ty p left q right) h c =
+        let o = and_operands ty p q left right c in
+        logical_value false ty quiet bits left right (λ v after. and_then ty.shape (type_of left).shape v (evaluated scope right) active after) h.0 h.1 h.2 o (λ v st. and_is ty.shape (type_of left).shape v (evaluated scope right) active st h.0.0 (word_type g.may left h.1).0)
+        (value_follows true (bits_of (kind_of left)) left h.1 o.one) (value_follows true (bits_of (kind_of right)) right h.2 o.other)
+    value_follows quiet bits (T.Choice' ty p test q first r second) h c =
+        let o = choice_parts ty p q r test first second c in
+        choice_value ty quiet bits p q r test first second h.0 h.1 h.2 h.3 o (value_follows true (bits_of (kind_of test)) test h.1 o.condition) (value_follows true bits first h.2 o.one) (value_follows true bits second h.3 o.other)
+    value_follows quiet bits (T.Assign' ty place op p (T.Variable tty x) q value) h c =
+        let names = assign_names ty place op p q (T.Variable tty x) value c in
+        assign_value quiet bits ty tty place op p q x value h.2 h.1 (target_named tty x names.0) h.3 names.1 (λ m d. fresh_value m value h.3 names.1 d) (λ calm m. value_follows calm m value h.3 names.1)
+    value_follows quiet bits (T.Assign' ty place op p _ q value) h c = absurd h.2
+    value_follows quiet bits (T.Step' ty op order p (T.Variable tty x)) h c = step_value_follows quiet bits ty tty op order p x h.2 h.1 (target_named tty x (step_names ty op order p (T.Variable tty x) c))
+    value_follows quiet bits (T.Step' ty op order p _) h c = absurd h.2
+    value_follows quiet bits (T.Call' ty index p arguments) h c = call_value quiet bits ty index p arguments h.0 h.1 (arguments_do true (are_quiet arguments) arguments h.2 (call_code ty index p arguments c)) c
+    value_follows quiet bits _ h c = absurd h
+
+    -- each argument is done as one of a list
+    pub arguments_do : {k : Count} (own quiet : Bool) (row : Row_of-TExpr k) → (AreIn g.may) row → HaveCode g.typed g.instance n row → AreDone g has alive scope active own quiet row
+    arguments_do own quiet end_of-TExpr h c = tt
+    arguments_do own quiet (more_of-TExpr e rest) h c = (record {
+      wide = (word_type g.may e h.0).1;
+      grows = operand_grows quiet (list_bits own e) e c.0;
+      does = operand_value quiet (list_bits own e) e h.0 c.0 (value_follows quiet (list_bits own e) e h.0 c.0);
+    }, arguments_do own quiet rest h.1 c.1)
 
   pub operand : (quiet : Bool) (bits : ℕ) (e : TExpr) → (IsIn g.may) e → HasCode g.typed g.instance n e → Does g has alive (type_of e).elem quiet (λ st. evaluated scope e active st) (λ d. operand_by g.typed (layout g) bits (value_of g.typed (layout g) bits e) quiet e d)
   operand quiet bits e h c = operand_value quiet bits e h c (value_follows quiet bits e h c)

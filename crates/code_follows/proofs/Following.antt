@@ -254,7 +254,7 @@ module _ (g : Setting) where
   nothing_said Q s (Source.Ends early st) = tt
 
   -- where the code is made and within the unit
-  at_once : {A B : Type 0} (Q : A → State → B → Draft → Type 0) (s : CodeState) (o : Outcome A) (y : B) (e : Draft) → (Within g e → Follows Q s o (Makes y e)) → Follows Q s o (Makes y e)
+  pub at_once : {A B : Type 0} (Q : A → State → B → Draft → Type 0) (s : CodeState) (o : Outcome A) (y : B) (e : Draft) → (Within g e → Follows Q s o (Makes y e)) → Follows Q s o (Makes y e)
   unfolding Follows
   at_once Q s (Source.Gives x st) y e h = λ w. h w w
   at_once Q s (Source.Ends early st) y e h = λ w. h w w
@@ -267,3 +267,18 @@ module _ (g : Setting) where
   then_silent R Q s (Source.Ends early st) k (Makes y e) follows next = follows
   then_silent R Q s (Source.Gives x st) k Fails follows next = nothing_said Q s (k x st)
   then_silent R Q s (Source.Ends early st) k Fails follows next = tt
+
+  -- what is said from a state that the code reaches
+  pub follows_back : {A B : Type 0} (R : A → State → B → Draft → Type 0) (s t : CodeState) (o : Outcome A) (made : Made B) → Reaches g s t → Follows R t o made → Follows R s o made
+  unfolding Follows
+  follows_back R s t (Source.Gives x st) (Makes y e) go h = h
+  follows_back R s t (Source.Ends early st) (Makes y e) go h = λ w. finishes_later early st s t go (h w)
+  follows_back R s t (Source.Gives x st) Fails go h = tt
+  follows_back R s t (Source.Ends early st) Fails go h = tt
+
+  -- with more code behind it
+  pub with_more : {A B C : Type 0} (R : A → State → B → Draft → Type 0) (Q : A → State → C → Draft → Type 0) (s : CodeState) (o : Outcome A) (y : B) (z : C) (e f : Draft) (n : ℕ) → Extended e n f → Follows R s o (Makes y e)
+      → ((x : A) (st : State) → R x st y e → Within g f → Q x st z f) → Follows Q s o (Makes z f)
+  unfolding Follows
+  with_more R Q s (Source.Gives x st) y z e f n longer h next = λ w. next x st (h (earlier g e f n longer w)) w
+  with_more R Q s (Source.Ends early st) y z e f n longer h next = λ w. h (earlier g e f n longer w)

@@ -1,10 +1,12 @@
 pub mod Activations
+pub mod Arguments
 pub mod Assigning
 pub mod Beginnings
 pub mod Bodies
 pub mod Branching
 pub mod Bytes
 pub mod Callees
+pub mod Calling
 pub mod Casts
 pub mod Changing
 pub mod Choices
@@ -28,6 +30,7 @@ pub mod Loops
 pub mod Nested
 pub mod Openings
 pub mod Operators
+pub mod Passing
 pub mod Printing
 pub mod Programs
 pub mod Putting

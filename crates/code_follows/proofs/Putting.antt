@@ -1,5 +1,5 @@
 -- A scalar expression of 32 bits whose value goes to a variable, as it is written there.
-use Rattle.std.proofs.Common.{◌≡◌, ◌∙◌, ℕ, ◌<◌, ◌≤◌, ◌^◌, Bool, true, false, not, length, slice_index, Option, Some, None, refl, sym, ap, subst, if◌then◌else◌}
+use Rattle.std.proofs.Common.{◌≡◌, ◌∙◌, ℕ, Vec, Global, ◌<◌, ◌≤◌, ◌^◌, Bool, true, false, not, length, slice_index, Option, Some, None, refl, sym, ap, subst, if◌then◌else◌}
 use Rattle.std.specs.Prelude.{IfSome}
 use Rattle.std.proofs.lemmas.Bool.{eq-eqb}
 use Rattle.cstar_base.specs.declared.elem.Elem.{Elem}
@@ -13,6 +13,7 @@ use Rattle.cstar_tree.specs.declared.typed.UnaryOp.TheVariants as U
 use Rattle.cstar_tree.specs.declared.typed.ValueType.{ValueType}
 use Rattle.cstar_tree.specs.declared.typed.VarInfo.{VarInfo}
 use Rattle.cstar_tree.specs.declared.typed.Variable.{Variable}
+use Rattle.cstar_tree.specs.declared.typed.Variable.TheVariants as V
 use Rattle.cstar_tree.specs.StatementTypes.{variable_info}
 use Rattle.cstar_tree.specs.Typed.{type_of}
 use Rattle.code_lengths.specs.Naming.{HasVariable, IsDeclared, plain}
@@ -21,14 +22,14 @@ use Rattle.code_lengths.proofs.Drafting.{as_it_was}
 use Rattle.lower_base.specs.declared.emit.Out.{Out}
 use Rattle.lower_base.specs.declared.emit.Out.TheVariants as O
 use Rattle.lower_base.specs.Constants.{first_free}
-use Rattle.lower_base.specs.Drafts.{Draft, Made, Makes, in_register, step as step_of, then_make, with_instr}
+use Rattle.lower_base.specs.Drafts.{Draft, Fails, Made, Makes, in_register, step as step_of, then_make, with_instr}
 use Rattle.lower_base.specs.Kinds.{bits_of, kind_of}
 use Rattle.lower_base.specs.Layouts.{register_of}
 use Rattle.lower_expr.specs.declared.spots.Spot.{Spot}
 use Rattle.lower_expr.specs.declared.spots.Spot.TheVariants as S
-use Rattle.lower_expr.specs.Effects.{binary_to, bits_for, computed_to, converted_to, goes_unchanged, logical_to, moved, put_to}
+use Rattle.lower_expr.specs.Effects.{binary_to, gone_to, bits_for, computed_to, converted_to, goes_unchanged, logical_to, moved, put_to}
 use Rattle.lower_expr.specs.Kinds.{operand_bits, unary_bits}
-use Rattle.lower_expr.specs.Operands.{is_plus, is_quiet}
+use Rattle.lower_expr.specs.Operands.{are_quiet, is_plus, is_quiet}
 use Rattle.lower_expr.specs.Spots.{loaded, variable_spot}
 use Rattle.lower_expr.specs.Steps.{put_value, register_word, word_for, word_put}
 use Rattle.lower_expr.specs.Values.{Code, next_of, read_to, register_binary_of, registers_by, scalar_choice_of, spot_of}
@@ -44,9 +45,10 @@ use Rattle.source_meaning.specs.State.{Outcome, State, then_do, with_scalar}
 use Rattle.source_meaning.specs.Targets.{read, variable_target}
 use Rattle.source_meaning.specs.Values.{Active, Scalar, Scope, Value, at, convert_to, unary_of}
 use Rattle.source_meaning.proofs.ConstantLaws.{Boxed, value_means}
-use Rattle.code_follows.specs.Fragment.{IsIn, IsWord}
+use Rattle.code_follows.specs.Fragment.{AreIn, IsIn, IsWord}
+use Rattle.code_follows.proofs.Passing.{call_follows}
 use Rattle.code_follows.proofs.Choosing.{put_lands}
-use Rattle.code_follows.proofs.Expressions.{AreChosen, brackets_code, choice_goes, choice_parts, convert_code, left_code, named, operand, operand_grows, right_code, unary_code, value_follows}
+use Rattle.code_follows.proofs.Expressions.{arguments_do, call_code, has_result, many_arguments, AreChosen, brackets_code, choice_goes, choice_parts, convert_code, left_code, named, operand, operand_grows, right_code, unary_code, value_follows}
 use Rattle.code_follows.proofs.Bytes.{byte_put}
 use Rattle.code_follows.proofs.Callees.{CallsFollow}
 use Rattle.code_follows.proofs.Following.{Arrives, Extends, Follows, HasRegisters, IsScalar, Sim, held, keeps_all, then_follows, then_gives}
@@ -187,6 +189,25 @@ module _ (g : Setting) (has : HasRegisters g) (alive : Variable → Type 0) (n :
       (choice_goes g has alive n lives ready scope active calls_follow ty 32 test first second word h k m c (value_follows g has alive n lives ready scope active calls_follow true (bits_of (kind_of test)) test h c.condition) (value_follows g has alive n lives ready scope active calls_follow true 32 first k c.one)
       (value_follows g has alive n lives ready scope active calls_follow true 32 second m c.other) d s st (Put d s) own free here sim (dest ty.elem d s word.1 free) (put_lands g has alive x info living scalar d s own))
 
+  -- what was put there is there
+  gone : (d : Draft) (s : CodeState) (o : Outcome Value) (made : Made Out) → Follows g (Put d s) s o made → Follows g (Put d s) s o (gone_to (O.Scalar own) made)
+  unfolding gone_to then_make Follows
+  gone d s (Source.Gives v u) (Makes out e) h = λ w. let p = h w in record { grown = p.grown; t = p.t; go = p.go; at = p.at; word = p.word; value = p.value; small = p.small; sim = p.sim; keeps = p.keeps }
+  gone d s (Source.Ends early u) (Makes out e) h = h
+  gone d s (Source.Gives v u) Fails h = tt
+  gone d s (Source.Ends early u) Fails h = tt
+
+  -- the result of a call
+  call_put : (ty : ValueType) (index : ℕ) (p : Vec (Unit {0}) Global) (row : _) → IsWord ty → g.may true index → (AreIn g.may) row → HasCode g.typed g.instance n (T.Call' ty index p row) → Puts (λ st. evaluated scope (T.Call' ty index p row) active st) (λ d. computed_to g.typed (layout g) (O.Scalar own) (T.Call' ty index p row) d)
+  unfolding computed_to evaluated IsDeclared
+  call_put ty index p row word may isin c d s st free here sim =
+      let known = calls_follow.value index may in
+      let result = has_result g has alive n lives ready scope active calls_follow index known.0 known.1 in
+      gone d s (evaluated scope (T.Call' ty index p row) active st) _
+      (call_follows g has alive (λ k. lives (V.File k) tt) scope active calls_follow known.0 row
+      (arguments_do g has alive n lives ready scope active calls_follow true (are_quiet row) row isin (call_code g has alive n lives ready scope active calls_follow ty index p row c)) (many_arguments g has alive n lives ready scope active calls_follow ty index p row known.0 c)
+      result.0 result.1 ty.elem word.1 d s st (Put d s) own free here sim (dest ty.elem d s word.1 free))
+
   computed_follows : (e : TExpr) → (IsIn g.may) e → HasCode g.typed g.instance n e → Puts (λ st. evaluated scope e active st) (λ d. computed_to g.typed (layout g) (O.Scalar own) e d)
   unfolding computed_to evaluated IsIn moved bits_for binary_to in_register logical_to
   computed_follows (T.Number ty value) h c = copied_to ty.elem h.0.1 _ _ (operand g has alive n lives ready scope active calls_follow true 32 (T.Number ty value) h c)
@@ -206,6 +227,7 @@ module _ (g : Setting) (has : HasRegisters g) (alive : Variable → Type 0) (n :
   computed_follows (T.Choice' ty p test q first r second) h c = choice_put ty p q r test first second h.0 h.1 h.2 h.3 (choice_parts g has alive n lives ready scope active calls_follow ty p q r test first second c)
   computed_follows (T.Assign' ty place op p target q value) h c = copied_to ty.elem h.0.1 _ _ (operand g has alive n lives ready scope active calls_follow true 32 (T.Assign' ty place op p target q value) h c)
   computed_follows (T.Step' ty op order p target) h c = copied_to ty.elem h.0.1 _ _ (operand g has alive n lives ready scope active calls_follow true 32 (T.Step' ty op order p target) h c)
+  computed_follows (T.Call' ty index p arguments) h c = call_put ty index p arguments h.0 h.1 h.2 c
   computed_follows _ h c = absurd h
 
   -- a constant goes to the register at once

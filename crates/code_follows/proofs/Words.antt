@@ -54,6 +54,7 @@ word_type may (T.LogicalAnd' ty p left q right) h = h.0
 word_type may (T.Choice' ty p test q first r second) h = h.0
 word_type may (T.Assign' ty place op p target q value) h = h.0
 word_type may (T.Step' ty op order p target) h = h.0
+word_type may (T.Call' ty index p arguments) h = h.0
 word_type may _ h = absurd h
 
 none_is : (o : Option ℕ) → o ≡ None → is_none o ≡ true
@@ -77,6 +78,7 @@ kept may (T.LogicalAnd' ty p left q right) h = none_is ty.shape h.0.0
 kept may (T.Choice' ty p test q first r second) h = none_is ty.shape h.0.0
 kept may (T.Assign' ty place op p target q value) h = none_is ty.shape h.0.0
 kept may (T.Step' ty op order p target) h = none_is ty.shape h.0.0
+kept may (T.Call' ty index p arguments) h = none_is ty.shape h.0.0
 kept may _ h = absurd h
 
 -- what a chain of casts gives is a number of its type
@@ -124,4 +126,5 @@ constant_below may (T.LogicalAnd' ty p left q right) h = then_below (value_of le
 constant_below may (T.Choice' ty p test q first r second) h = then_below (value_of test) _ (constant_below may test h.1) (λ v few. either_below (nonzero v) (value_of first) (value_of second) (constant_below may first h.2) (constant_below may second h.3))
 constant_below may (T.Assign' ty place op p target q value) h = tt
 constant_below may (T.Step' ty op order p target) h = tt
+constant_below may (T.Call' ty index p arguments) h = tt
 constant_below may _ h = absurd h

@@ -1,5 +1,5 @@
 -- The programs of which it is said so far that their code means them: scalar ones of 32 bits.
-use Rattle.std.specs.Prelude.{ℕ, Bool, true, ◌+◌, List, map, slice_get, IsSome, ◌≡◌, ◌<◌, ◌^◌, [], ◌∷◌, IfSome, Option, Some, None}
+use Rattle.std.specs.Prelude.{ℕ, Bool, true, false, List, map, slice_get, IsSome, ◌≡◌, ◌<◌, ◌^◌, [], ◌∷◌, IfSome, Option, Some, None}
 use Rattle.std.specs.List.{All}
 use Rattle.cstar_tree.specs.declared.typed.TExpr.{TExpr, Row_of-TExpr, end_of-TExpr, more_of-TExpr}
 use Rattle.cstar_tree.specs.declared.typed.TExpr as T
@@ -23,39 +23,41 @@ unfoldable pub IsVariable : TExpr → Type 0
 IsVariable (T.Variable ty x) = IsWord ty
 IsVariable _ = ⊥
 
--- An expression whose value is used: of numbers, variables, `getchar`, operators, conversions, and assignments
--- and steps of scalar variables. Casts lead to 32 bits, by whichever types.
-
 -- which functions may be called, by their instances' numbers: those with a result where its value is used
 abbrev pub May : Type 1
 May = Bool → ℕ → Type 0
 
-unfoldable pub IsIn : May → TExpr → Type 0
-IsIn may (T.Number ty value) = IsWord ty × (value < 2 ^ 32)
-IsIn may (T.PositionsOf ty shape value) = IsWord ty × (value < 2 ^ 32)
-IsIn may (T.RankOf ty shape value) = IsWord ty × (value < 2 ^ 32)
-IsIn may (T.DimOf ty shape axis value) = IsWord ty × (value < 2 ^ 32)
-IsIn may (T.Variable ty x) = IsWord ty
-IsIn may (T.GetChar ty) = IsWord ty
-IsIn may (T.Brackets' ty p inner) = (ty ≡ type_of inner) × IsIn may inner
-IsIn may (T.Convert' ty p operand) = IsWord ty × IsIn may operand
-IsIn may (T.Casts' ty elems p operand) = IsWord ty × (ty.elem ≡ cast_type elems.items (type_of operand).elem) × IsIn may operand
-IsIn may (T.Unary' ty op p operand) = IsWord ty × IsIn may operand
-IsIn may (T.Binary' ty place op p left q right) = IsWord ty × IsIn may left × IsIn may right
-IsIn may (T.LogicalOr' ty p left q right) = IsWord ty × IsIn may left × IsIn may right
-IsIn may (T.LogicalAnd' ty p left q right) = IsWord ty × IsIn may left × IsIn may right
-IsIn may (T.Choice' ty p test q first r second) = IsWord ty × IsIn may test × IsIn may first × IsIn may second
-IsIn may (T.Assign' ty place op p target q value) = IsWord ty × (ty ≡ type_of target) × IsVariable target × IsIn may value
-IsIn may (T.Step' ty op order p target) = IsWord ty × (ty ≡ type_of target) × IsVariable target
-IsIn may _ = ⊥
+-- An expression whose value is used: of numbers, variables, `getchar`, operators, conversions, assignments
+-- and steps of scalar variables, and calls. Casts lead to 32 bits, by whichever types.
+unfoldable mutual
+  pub IsIn : May → TExpr → Type 0
+  IsIn may (T.Number ty value) = IsWord ty × (value < 2 ^ 32)
+  IsIn may (T.PositionsOf ty shape value) = IsWord ty × (value < 2 ^ 32)
+  IsIn may (T.RankOf ty shape value) = IsWord ty × (value < 2 ^ 32)
+  IsIn may (T.DimOf ty shape axis value) = IsWord ty × (value < 2 ^ 32)
+  IsIn may (T.Variable ty x) = IsWord ty
+  IsIn may (T.GetChar ty) = IsWord ty
+  IsIn may (T.Brackets' ty p inner) = (ty ≡ type_of inner) × IsIn may inner
+  IsIn may (T.Convert' ty p operand) = IsWord ty × IsIn may operand
+  IsIn may (T.Casts' ty elems p operand) = IsWord ty × (ty.elem ≡ cast_type elems.items (type_of operand).elem) × IsIn may operand
+  IsIn may (T.Unary' ty op p operand) = IsWord ty × IsIn may operand
+  IsIn may (T.Binary' ty place op p left q right) = IsWord ty × IsIn may left × IsIn may right
+  IsIn may (T.LogicalOr' ty p left q right) = IsWord ty × IsIn may left × IsIn may right
+  IsIn may (T.LogicalAnd' ty p left q right) = IsWord ty × IsIn may left × IsIn may right
+  IsIn may (T.Choice' ty p test q first r second) = IsWord ty × IsIn may test × IsIn may first × IsIn may second
+  IsIn may (T.Assign' ty place op p target q value) = IsWord ty × (ty ≡ type_of target) × IsVariable target × IsIn may value
+  IsIn may (T.Step' ty op order p target) = IsWord ty × (ty ≡ type_of target) × IsVariable target
+  IsIn may (T.Call' ty index p arguments) = IsWord ty × may true index × AreIn may arguments
+  IsIn may _ = ⊥
 
-unfoldable pub AreIn : {n : _} → May → Row_of-TExpr n → Type 0
-AreIn may end_of-TExpr = Unit {0}
-AreIn may (more_of-TExpr e rest) = IsIn may e × AreIn may rest
+  pub AreIn : {n : _} → May → Row_of-TExpr n → Type 0
+  AreIn may end_of-TExpr = Unit {0}
+  AreIn may (more_of-TExpr e rest) = IsIn may e × AreIn may rest
 
--- what is evaluated without its value being used: `printf` too
+-- what is evaluated without its value being used: `printf` too, and a call of a function without a result
 unfoldable pub IsEffect : May → TExpr → Type 0
 IsEffect may (T.Printf' ty pieces p arguments) = AreIn may arguments
+IsEffect may (T.Call' ty index p arguments) = may false index × AreIn may arguments
 IsEffect may e = IsIn may e
 
 -- a scalar variable of 32 bits, as it is declared
@@ -72,6 +74,8 @@ IsTested may None = ⊥
 IsTested may (Some e) = IsIn may e
 
 -- statements of these
+-- An expression whose value is used: of numbers, variables, `getchar`, operators, conversions, assignments
+-- and steps of scalar variables, and calls. Casts lead to 32 bits, by whichever types.
 unfoldable mutual
   pub IsInStatement : May → TStmt → Type 0
   IsInStatement may (S.Block' locals p statements) = All (IsInLocal may) locals.items × AreInStatements may statements
