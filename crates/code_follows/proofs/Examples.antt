@@ -1,20 +1,25 @@
 -- The example is a scalar program.
-use Rattle.std.proofs.Common.{◌≡◌, ◌∙◌, ℕ, zero, suc, List, [], ◌∷◌, ◌++◌, Option, Some, None, Global, refl, sym, ap, subst, arith}
+use Rattle.std.proofs.Common.{◌≡◌, ◌∙◌, ℕ, zero, suc, ◌-◌, ◌<◌, List, [], ◌∷◌, ◌++◌, slice_get, length, Option, Some, None, Global, refl, sym, ap, subst, arith}
 use Rattle.std.proofs.Common.{lit<}
 use Rattle.std.specs.List.{All}
+use Rattle.cstar_tree.specs.declared.typed.Instance.{Instance}
 use Rattle.cstar_tree.specs.declared.typed.TStmt.{end_of-TStmt, more_of-TStmt}
 use Rattle.cstar_tree.specs.declared.typed.VarInfo.{VarInfo}
 use Rattle.cstar_tree.specs.Variables.{variables_of}
-use Rattle.code_lengths.proofs.Declaring.{of_block, of_expression, of_for, row_variables}
+use Rattle.code_lengths.proofs.Declaring.{of_block, of_expression, of_for, of_return, row_variables}
 use Rattle.source_meaning.specs.Examples.{number, variable, vec}
-use Rattle.code_follows.specs.Example.{ExampleIsScalar, body, main, prints, sums, turns}
-use Rattle.code_follows.specs.Fragment.{AreClosed, AreIn, AreInStatements, IsClosed, IsEffect, IsIn, IsInLocal, IsInStatement, IsMainBody, IsPlainVariable, IsTested, IsVariable, IsWordVariable, none_may}
+use Rattle.code_follows.specs.Example.{ExampleIsScalar, body, doubled, example, main, prints, sums, turns, twice}
+use Rattle.code_follows.specs.Fragment.{AreClosed, AreIn, AreInStatements, IsBody, IsClosed, IsEffect, IsFlat, IsIn, IsInLocal, IsInStatement, IsPlainVariable, IsScalarFunction, IsTested, IsVariable, IsWordVariable, may_of}
+use Rattle.code_follows.proofs.Standing.{some_same}
+
+all_none : {A : Type 0} (P : A → Type 0) → All P []
+all_none P k other within = absurd (omega (arith, within))
 
 all_one : {A : Type 0} (P : A → Type 0) (x : A) → P x → All P (x ∷ [])
 all_one P x h zero other within = h
 all_one P x h (suc k) other within = absurd (omega (arith, within))
 
--- its variables are `i` alone
+-- its variables are `i` alone, and the other function has none
 own : (heap : Global) → variables_of (body heap) ≡ variable number None 0 ∷ []
 unfolding row_variables
 own heap =
@@ -31,26 +36,82 @@ own heap =
     prints_declare : variables_of (prints heap) ≡ []
     prints_declare = of_expression _
 
-pub is_scalar : ExampleIsScalar
-unfolding IsMainBody IsInStatement IsEffect IsIn IsTested IsVariable AreIn AreInStatements AreClosed IsClosed
-is_scalar heap = record {
-  main = main heap;
-  instances = refl;
-  params = refl;
-  result = λ info is. ap (λ (o : Option VarInfo). elim o as (λ _. Option ℕ) [ None ↦ None | Some x ↦ x.shape ]) (sym is);
+none_own : (heap : Global) → variables_of (twice heap).body ≡ []
+unfolding row_variables
+none_own heap = of_block (vec heap [] (lit< tt)) (vec heap (tt ∷ []) (lit< tt)) (more_of-TStmt (doubled heap) end_of-TStmt) ∙ ap (λ (xs : List VarInfo). xs ++ []) (of_return _)
+
+-- `main` calls the other function
+rank : ℕ → ℕ
+rank number = 1 - number
+
+main_is : (heap : Global) → IsScalarFunction (may_of (example heap) rank 0) (main heap)
+unfolding IsBody IsInStatement IsEffect IsIn IsTested IsVariable AreIn AreInStatements AreClosed IsClosed rank
+main_is heap = record {
+  params = all_none IsWordVariable;
+  result = λ info is. subst IsWordVariable (some_same (variable number None 0) info is) (refl, refl);
   body = (
-    all_one (IsInLocal none_may) (record { info = variable number None 0; initial = None }) ((refl, refl), tt),
+    all_one (IsInLocal (may_of (example heap) rank 0)) (record { info = variable number None 0; initial = None }) ((refl, refl), tt),
     (
       (
         ((refl, refl), refl, (refl, refl), ((refl, refl), omega arith)),
         ((refl, refl), (refl, refl), ((refl, refl), omega arith)),
         ((refl, refl), refl, (refl, refl)),
-        ((refl, refl), refl, (refl, refl), ((refl, refl), ((refl, refl), (refl, refl), ((refl, refl), omega arith)), (refl, refl))),
+        ((refl, refl), refl, (refl, refl), ((refl, refl), ((refl, refl), (twice heap, (refl, omega arith, omega arith, λ with_result. refl)), ((refl, refl), tt)), (refl, refl))),
       ),
       (((refl, refl), tt), tt),
     ),
     (tt, (tt, tt)),
   );
   locals = subst (λ (xs : List VarInfo). All IsWordVariable xs) (sym (own heap)) (all_one IsWordVariable (variable number None 0) (refl, refl));
+}
+
+twice_is : (heap : Global) → IsScalarFunction (may_of (example heap) rank 1) (twice heap)
+unfolding IsBody IsInStatement IsIn AreInStatements AreClosed IsClosed
+twice_is heap = record {
+  params = all_one IsWordVariable (variable number None 0) (refl, refl);
+  result = λ info is. subst IsWordVariable (some_same (variable number None 0) info is) (refl, refl);
+  body = (all_none (IsInLocal (may_of (example heap) rank 1)), (((refl, refl), (refl, refl), (refl, refl)), tt), (tt, tt));
+  locals = subst (λ (xs : List VarInfo). All IsWordVariable xs) (sym (none_own heap)) (all_none IsWordVariable);
+}
+
+module _ (heap : Global) where
+  abbrev instances : List Instance
+  instances = main heap ∷ twice heap ∷ []
+
+  each : (number : ℕ) (i : Instance) → slice_get instances number ≡ Some i → IsScalarFunction (may_of (example heap) rank number) i
+  each zero i is = subst (λ (x : Instance). IsScalarFunction (may_of (example heap) rank 0) x) (some_same (main heap) i is) (main_is heap)
+  each (suc zero) i is = subst (λ (x : Instance). IsScalarFunction (may_of (example heap) rank 1) x) (some_same (twice heap) i is) (twice_is heap)
+  each (suc (suc k)) i is = cc
+
+  flat : (number : ℕ) (i : Instance) → slice_get instances number ≡ Some i → 0 < number → IsFlat i.body
+  unfolding IsFlat
+  flat zero i is some = absurd (omega (arith, some))
+  flat (suc zero) i is some = subst (λ (x : Instance). IsFlat x.body) (some_same (twice heap) i is) (none_own heap)
+  flat (suc (suc k)) i is some = cc
+
+  names : (j k : ℕ) (a b : Instance) → slice_get instances j ≡ Some a → slice_get instances k ≡ Some b → a.name ≡ b.name → j ≡ k
+  names zero zero a b is also same = refl
+  names (suc zero) (suc zero) a b is also same = refl
+  names zero (suc zero) a b is also same = absurd (differ (sym (ap (λ (x : Instance). length x.name) (some_same (main heap) a is)) ∙ ap (λ (n : List ℕ). length n) same ∙ sym (ap (λ (x : Instance). length x.name) (some_same (twice heap) b also))))
+    where
+      differ : zero ≡ suc zero → ⊥
+      differ e = omega (arith, e)
+  names (suc zero) zero a b is also same = absurd (differ (ap (λ (x : Instance). length x.name) (some_same (twice heap) a is) ∙ ap (λ (n : List ℕ). length n) same ∙ sym (ap (λ (x : Instance). length x.name) (some_same (main heap) b also))))
+    where
+      differ : suc zero ≡ zero → ⊥
+      differ e = omega (arith, e)
+  names zero (suc (suc k)) a b is also same = cc
+  names (suc zero) (suc (suc k)) a b is also same = cc
+  names (suc (suc j)) k a b is also same = cc
+
+pub is_scalar : ExampleIsScalar
+is_scalar heap = record {
+  main = main heap;
+  is_main = refl;
+  params = refl;
+  rank = rank;
+  each = each heap;
+  flat = flat heap;
+  names = names heap;
   variables = all_one IsPlainVariable (variable number None 1) ((refl, refl), omega arith);
 }

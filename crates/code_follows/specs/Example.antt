@@ -25,8 +25,25 @@ module _ (heap : Global) where
   abbrev pub i : TExpr
   i = T.Variable number (V.Local 0)
 
+  -- `int twice(int p) { return p + p; }`
+  abbrev pub given : TExpr
+  given = T.Variable number (V.Param 0)
+
+  abbrev pub doubled : TStmt
+  doubled = S.Return (Some (apply heap number O.Add given given))
+
+  abbrev pub twice : Instance
+  twice = record {
+    name = 1 ∷ [];
+    current = None;
+    params = vec heap (variable number None 0 ∷ []) (lit< tt);
+    result = Some (variable number None 0);
+    body = S.Block' (vec heap [] (lit< tt)) (vec heap (tt ∷ []) (lit< tt)) (more_of-TStmt doubled end_of-TStmt);
+  }
+
+  -- `s = twice(s) + i;`
   abbrev pub sums : TStmt
-  sums = S.Expression (set heap number A.Set s (apply heap number O.Add (apply heap number O.Mul s (num 5)) i))
+  sums = S.Expression (set heap number A.Set s (apply heap number O.Add (T.Call' number 1 (vec heap (tt ∷ []) (lit< tt)) (more_of-TExpr s end_of-TExpr)) i))
 
   abbrev pub turns : TStmt
   turns = S.For' (Some (set heap number A.Set i (num 0))) (Some (apply heap number O.Lt i (num 10))) (Some (T.Step' number Sp.Increment R.Postfix (box heap) i)) (box heap) sums
@@ -44,7 +61,7 @@ module _ (heap : Global) where
   example = record {
     shapes = vec heap [] (lit< tt);
     vars = vec heap (variable number None 1 ∷ []) (lit< tt);
-    instances = vec heap (main ∷ []) (lit< tt);
+    instances = vec heap (main ∷ twice ∷ []) (lit< tt);
     need = vec heap [] (lit< tt);
   }
 
