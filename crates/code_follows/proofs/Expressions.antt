@@ -32,7 +32,7 @@ use Rattle.code_lengths.proofs.OperandPieces.{operand_grows as operand_grown}
 use Rattle.constant_trees.proofs.Words.{converted_below}
 use Rattle.lower_base.specs.declared.emit.Out.{Out}
 use Rattle.lower_base.specs.declared.emit.Out.TheVariants as O
-use Rattle.lower_base.specs.Constants.{constant_register, first_free}
+use Rattle.lower_base.specs.Constants.{constant_register}
 use Rattle.lower_base.specs.Kinds.{bits_of, kind_of}
 use Rattle.lower_base.specs.Drafts.{Draft, Made, Makes, a_register, first_bits, fresh_for, then_make, with_instr, Fails}
 use Rattle.lower_base.specs.Layouts.{Layout, field_of, register_of}
