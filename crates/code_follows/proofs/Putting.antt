@@ -47,7 +47,8 @@ use Rattle.source_meaning.proofs.ConstantLaws.{Boxed, value_means}
 use Rattle.code_follows.specs.Fragment.{AreIn, IsIn, IsWord}
 use Rattle.code_follows.proofs.Passing.{call_follows}
 use Rattle.code_follows.proofs.Choosing.{put_lands}
-use Rattle.code_follows.proofs.Expressions.{arguments_do, call_code, has_result, many_arguments, AreChosen, brackets_code, choice_goes, choice_parts, convert_code, left_code, named, operand, operand_grows, right_code, unary_code, value_follows}
+use Rattle.code_follows.proofs.CallValues.{call_code, has_result, many_arguments}
+use Rattle.code_follows.proofs.Expressions.{arguments_do, AreChosen, brackets_code, choice_goes, choice_parts, convert_code, left_code, named, operand, operand_grows, right_code, unary_code, value_follows}
 use Rattle.code_follows.proofs.Bytes.{byte_put}
 use Rattle.code_follows.proofs.Callees.{CallsFollow}
 use Rattle.code_follows.proofs.Following.{Arrives, Extends, Follows, HasRegisters, IsScalar, Sim, held, keeps_all, then_follows, then_gives}
