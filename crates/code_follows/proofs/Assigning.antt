@@ -1,6 +1,5 @@
 -- The code of assignments to scalar variables of 32 bits, and of steps.
-use Rattle.std.proofs.Common.{◌≡◌, ◌∙◌, ℕ, ◌<◌, ◌≤◌, ◌^◌, ◌&&◌, Bool, true, not, Vec, Global, length, slice_index, Option, Some, None, refl, sym, ap, subst, if◌then◌else◌, arith}
-use Rattle.std.proofs.Common.{◌+◌, List, false, length-append}
+use Rattle.std.proofs.Common.{◌≡◌, ◌∙◌, ℕ, ◌+◌, ◌<◌, ◌≤◌, ◌^◌, ◌&&◌, Bool, true, false, not, length-append, Vec, Global, length, slice_index, Option, Some, None, refl, sym, ap, subst, if◌then◌else◌, arith}
 use Rattle.std.specs.Prelude.{IfSome}
 use Rattle.std.proofs.lemmas.Bool.{eq-eqb}
 use Rattle.cstar_base.specs.declared.elem.Elem.{Elem}
@@ -29,7 +28,7 @@ use Rattle.cstar_tree.specs.StatementTypes.{variable_info}
 use Rattle.code_lengths.specs.Ready.{HasCode, HaveCode, IsReady}
 use Rattle.lower_base.specs.declared.emit.Out.{Out}
 use Rattle.lower_base.specs.declared.emit.Out.TheVariants as O
-use Rattle.lower_base.specs.Constants.{first_free, word_in}
+use Rattle.lower_base.specs.Constants.{word_in}
 use Rattle.lower_base.specs.Drafts.{Draft, Fails, Made, Makes, a_register, fresh_for, in_register, then_make, with_instr}
 use Rattle.lower_base.specs.Layouts.{register_of}
 use Rattle.lower_base.specs.Operators.{assign_op_of, is_signed, machine_of, operation_of}
@@ -48,7 +47,8 @@ use Rattle.source_meaning.specs.Targets.{OfScalar, assigned, stepped, variable_t
 use Rattle.source_meaning.specs.Values.{Active, Scope, Value, number}
 use Rattle.code_follows.specs.Fragment.{AreIn, IsEffect, IsIn, IsVariable, IsWord}
 use Rattle.code_follows.proofs.Changing.{no_place, only_set, operated_set_is, plain_type, scalar_type, set_is, stepped_is, stepping}
-use Rattle.code_follows.proofs.Expressions.{arguments_do, assign_names, call_code, many_arguments, brackets_code, operand, step_names, target_named, value_follows}
+use Rattle.code_follows.proofs.CallValues.{call_code, many_arguments}
+use Rattle.code_follows.proofs.Expressions.{arguments_do, assign_names, brackets_code, operand, step_names, target_named, value_follows}
 use Rattle.code_follows.proofs.Printing.{printf_code, printf_follows}
 use Rattle.code_follows.proofs.Arguments.{AreDone, long_row}
 use Rattle.code_follows.proofs.Callees.{CallsFollow, MayCall}

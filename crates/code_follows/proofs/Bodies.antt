@@ -20,7 +20,6 @@ use Rattle.code_lengths.specs.NamingStatements.{StandFrom, StatementNamesVariabl
 use Rattle.code_lengths.specs.Ready.{HasDeclared, HasStatementCode, IsReady, NumbersVariables}
 use Rattle.code_lengths.proofs.Declaring.{first_part, info_of, of_block, row_variables, second_part}
 use Rattle.code_lengths.proofs.Drafting.{as_it_was, extended}
-use Rattle.lower_base.specs.Constants.{first_free}
 use Rattle.lower_base.specs.Drafts.{Draft, Fails, Made, Makes, then_make, with_instr}
 use Rattle.lower_stmt.specs.declared.statement.Frame.{Frame}
 use Rattle.lower_stmt.specs.Statements.{else_of, part_of, restored, statement_of, statements_of}

@@ -1,13 +1,11 @@
 -- The next byte of the input, in a register of a value and in that of a variable.
 use Rattle.std.proofs.Common.{◌≡◌, ◌∙◌, ℕ, suc, ◌+◌, ◌<◌, ◌≤◌, ◌^◌, ◌-◌, Bool, List, [], ◌∷◌, length, refl, sym, ap, subst, arith}
-use Rattle.std.proofs.lemmas.List.{get_or-set_other}
 use Rattle.cstar_base.specs.declared.elem.Elem.{Elem}
 use Rattle.cstar_tree.specs.declared.typed.VarInfo.{VarInfo}
 use Rattle.cstar_tree.specs.declared.typed.Variable.{Variable}
 use Rattle.code_lengths.proofs.Drafting.{extended}
 use Rattle.lower_base.specs.declared.emit.Out.{Out}
 use Rattle.lower_base.specs.declared.emit.Out.TheVariants as O
-use Rattle.lower_base.specs.Constants.{first_free}
 use Rattle.lower_base.specs.Drafts.{Draft, Makes, a_register, step as step_of, then_make, with_instr}
 use Rattle.lower_base.specs.Layouts.{register_of}
 use Rattle.lower_expr.specs.Values.{byte_in}

@@ -1,6 +1,6 @@
 -- The code of a call: its arguments go to the parameters, a turn is spent, and the body of what is called runs.
-use Rattle.std.proofs.Common.{◌≡◌, ◌∙◌, ℕ, zero, suc, ◌+◌, ◌<◌, ◌≤◌, ◌^◌, Bool, true, false, List, [], ◌∷◌, ◌++◌, length, slice_get, slice_index, Option, Some, None, refl, sym, ap, subst, arith, ◌⊎◌, inl, inr}
-use Rattle.std.specs.List.{All, slice_index_or}
+use Rattle.std.proofs.Common.{◌≡◌, ◌∙◌, ℕ, zero, suc, ◌+◌, ◌<◌, ◌≤◌, ◌^◌, List, [], ◌∷◌, ◌++◌, length, slice_get, slice_index, Option, Some, None, refl, sym, ap, subst, arith, ◌⊎◌, inl, inr}
+use Rattle.std.specs.List.{slice_index_or}
 use Rattle.std.proofs.lemmas.List.{get_or-set_other}
 use Rattle.std.proofs.lemmas.Option.{slice_get_cases}
 use Rattle.std.proofs.Math.ListN.{length-set}
@@ -10,21 +10,19 @@ use Rattle.cstar_tree.specs.declared.typed.Variable.{Variable}
 use Rattle.cstar_tree.specs.declared.typed.Variable.TheVariants as V
 use Rattle.code_lengths.specs.Growth.{Extended}
 use Rattle.code_lengths.specs.Naming.{variable_named}
-use Rattle.code_lengths.proofs.Drafting.{as_it_was, extended}
-use Rattle.lower_base.specs.declared.emit.Out.{Out}
-use Rattle.lower_base.specs.declared.emit.Out.TheVariants as O
+use Rattle.code_lengths.proofs.Drafting.{extended}
 use Rattle.lower_base.specs.Constants.{first_free}
-use Rattle.lower_base.specs.Drafts.{Draft, Made, Makes, in_register, step as step_of, then_make, with_instr}
+use Rattle.lower_base.specs.Drafts.{Draft, Makes, step as step_of, with_instr}
 use Rattle.lower_base.specs.Layouts.{register_of, result_register}
 use Rattle.lower_expr.specs.Frames.{turn_and_call}
 use Rattle.paris_code.specs.declared.instr.Instr.TheVariants as I
-use Rattle.paris_code.specs.Code.{CodeState, Goes, begun, called, with_register}
+use Rattle.paris_code.specs.Code.{CodeState, begun, called, with_register}
 use Rattle.source_meaning.specs.Programs.{calls, run_body}
 use Rattle.source_meaning.specs.State as Source
 use Rattle.source_meaning.specs.State.{Outcome, State, spend_turn}
-use Rattle.source_meaning.specs.Values.{Active, Nothing, Scalar, Scope, Value, number}
-use Rattle.code_follows.proofs.Callees.{AreGiven, Callee, CallsFollow, ComesBack, Enters, MayCall, RunsBody, Shared, given_in}
-use Rattle.code_follows.proofs.Following.{Finishes, Follows, HasRegisters, IsKept, IsScalar, Keeps, Sim, at_once, finishes_later, held, keeps_on, register_is}
+use Rattle.source_meaning.specs.Values.{Active, Scalar, Scope, Value}
+use Rattle.code_follows.proofs.Callees.{AreGiven, Callee, CallsFollow, ComesBack, Enters, MayCall, RunsBody, Shared}
+use Rattle.code_follows.proofs.Following.{Follows, HasRegisters, IsKept, IsScalar, Keeps, Sim, at_once, finishes_later, held}
 use Rattle.code_follows.proofs.Jumping.{behind_turn, sim_spent, spends, stops}
 use Rattle.code_follows.proofs.Settings.{At, Reaches, Setting, Within, and_one, at_next, begins_here, earlier, layout, one, onto, regs_more}
 

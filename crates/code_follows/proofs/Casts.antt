@@ -13,7 +13,6 @@ use Rattle.code_lengths.specs.Growth.{Extended}
 use Rattle.code_lengths.proofs.Drafting.{as_it_was, extended}
 use Rattle.lower_base.specs.declared.emit.Out.{Out}
 use Rattle.lower_base.specs.declared.emit.Out.TheVariants as O
-use Rattle.lower_base.specs.Constants.{first_free}
 use Rattle.lower_base.specs.Drafts.{Draft, Makes, Made, Fails, in_register, step as step_of, then_make, with_instr}
 use Rattle.lower_expr.specs.Values.{Code, casts_put}
 use Rattle.paris_code.specs.declared.instr.Instr.TheVariants as I
@@ -28,7 +27,7 @@ use Rattle.source_meaning.specs.Values.{Scalar, Value, at as value_at, cast_thro
 use Rattle.code_follows.specs.Fragment.{IsWord}
 use Rattle.code_follows.proofs.Fresh.{IsFresh, made_so}
 use Rattle.code_follows.proofs.Following.{Arrives, Extends, Follows, HasRegisters, fresh_lasts, held, keeps_all, then_follows}
-use Rattle.code_follows.proofs.Settings.{Setting, Within, and_one, earlier, layout, stay}
+use Rattle.code_follows.proofs.Settings.{Setting, Within, and_one, earlier, stay}
 use Rattle.code_follows.proofs.Values.{Does, HasWord, Value_of, extends_in_register, mapped_is, takes_word}
 use Rattle.code_follows.proofs.Words.{held_converted, through_below, wide_converted}
 

@@ -10,7 +10,6 @@ use Rattle.code_lengths.specs.NamingStatements.{behind}
 use Rattle.code_lengths.specs.Ready.{HasDeclared, HasStatementCode, IsReady, NumbersVariables}
 use Rattle.code_lengths.proofs.Agreeing.{places}
 use Rattle.code_lengths.proofs.Drafting.{extended}
-use Rattle.lower_base.specs.Constants.{first_free}
 use Rattle.lower_base.specs.Drafts.{Draft, Made, Makes, here, then_make, with_instr, with_step}
 use Rattle.lower_stmt.specs.declared.statement.Frame.{Frame}
 use Rattle.lower_stmt.specs.Frames.{has_result}

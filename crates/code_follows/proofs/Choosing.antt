@@ -12,7 +12,6 @@ use Rattle.code_lengths.proofs.Agreeing.{places}
 use Rattle.code_lengths.proofs.Drafting.{extended}
 use Rattle.lower_base.specs.declared.emit.Out.{Out}
 use Rattle.lower_base.specs.declared.emit.Out.TheVariants as O
-use Rattle.lower_base.specs.Constants.{first_free}
 use Rattle.lower_base.specs.Drafts.{Draft, Made, Makes, a_register, fresh_for, here, in_register, step as step_of, then_make, with_instr}
 use Rattle.lower_expr.specs.Lengths.{arm_length}
 use Rattle.lower_expr.specs.Steps.{has_word, put_value, register_word, word_for, word_put}
@@ -31,7 +30,7 @@ use Rattle.code_follows.specs.Fragment.{IsIn, May}
 use Rattle.code_follows.proofs.Branching.{IsMadeWord, decided_goes, goes_on, jump_long, jump_more, tested}
 use Rattle.code_follows.proofs.Following.{Arrives, Extends, Follows, HasRegisters, IsScalar, Keeps, Sim, delayed, held, keeps_all, keeps_on, then_on, kept_later}
 use Rattle.code_follows.proofs.Jumping.{jumps, moved_to, sim_moved}
-use Rattle.code_follows.proofs.Settings.{At, Reaches, Setting, Within, and_one, earlier, layout, onto, start, stay}
+use Rattle.code_follows.proofs.Settings.{At, Reaches, Setting, Within, and_one, earlier, onto, start, stay}
 use Rattle.code_follows.proofs.Stores.{IsPut}
 use Rattle.code_follows.proofs.Values.{Dest, Does, Value_of, with_reg}
 use Rattle.code_follows.proofs.Words.{below_bits, below_word, constant_below, held_wide, word_type}

@@ -14,7 +14,6 @@ use Rattle.code_lengths.specs.Naming.{IsDeclared, variable_named}
 use Rattle.code_lengths.specs.NamingStatements.{StandFrom}
 use Rattle.code_lengths.proofs.Declaring.{at_length, info_of, second_part}
 use Rattle.code_lengths.proofs.Drafting.{as_it_was, extended}
-use Rattle.lower_base.specs.Constants.{first_free}
 use Rattle.lower_base.specs.Drafts.{Draft, Made, Makes, step as step_of, then_make, with_instr}
 use Rattle.lower_base.specs.Layouts.{entries_of, register_of}
 use Rattle.lower_stmt.specs.Variables.{all_cleared, begins_constant, cleared, cleared_fields, with_home}

@@ -92,7 +92,7 @@ module _ (heap : Global) where
   names : (j k : ℕ) (a b : Instance) → slice_get instances j ≡ Some a → slice_get instances k ≡ Some b → a.name ≡ b.name → j ≡ k
   names zero zero a b is also same = refl
   names (suc zero) (suc zero) a b is also same = refl
-  names zero (suc zero) a b is also same = absurd (differ (sym (ap (λ (x : Instance). length x.name) (some_same (main heap) a is)) ∙ ap (λ (n : List ℕ). length n) same ∙ sym (ap (λ (x : Instance). length x.name) (some_same (twice heap) b also))))
+  names zero (suc zero) a b is also same = absurd (differ (ap (λ (x : Instance). length x.name) (some_same (main heap) a is) ∙ ap (λ (n : List ℕ). length n) same ∙ sym (ap (λ (x : Instance). length x.name) (some_same (twice heap) b also))))
     where
       differ : zero ≡ suc zero → ⊥
       differ e = omega (arith, e)

@@ -11,7 +11,6 @@ use Rattle.code_lengths.proofs.Agreeing.{expressions}
 use Rattle.code_lengths.proofs.Drafting.{as_it_was, extended}
 use Rattle.lower_base.specs.declared.emit.Out.{Out}
 use Rattle.lower_base.specs.declared.emit.Out.TheVariants as O
-use Rattle.lower_base.specs.Constants.{first_free}
 use Rattle.lower_base.specs.Drafts.{Draft, Fails, Made, Makes, here, in_register, then_make}
 use Rattle.lower_base.specs.Layouts.{result_register}
 use Rattle.lower_expr.specs.Lengths.{bare, is_send, is_sent, used_length_of}
@@ -30,7 +29,7 @@ use Rattle.code_follows.specs.Fragment.{IsIn, IsVariable, May}
 use Rattle.code_follows.proofs.Expressions.{operand}
 use Rattle.code_follows.proofs.Callees.{CallsFollow}
 use Rattle.code_follows.proofs.Following.{Arrives, Extends, Follows, HasRegisters, Keeps, Ran, Sim, finishes_later, keeps_all, keeps_on, then_follows, spared_kept, result_kept}
-use Rattle.code_follows.proofs.Settings.{At, EndsIn, Reaches, Setting, ends_later, layout, onto, stay}
+use Rattle.code_follows.proofs.Settings.{At, Reaches, Setting, layout, onto, stay}
 use Rattle.code_follows.proofs.Values.{Value_of, extends_in_register}
 use Rattle.code_follows.proofs.Words.{below_word, held_wide, kept, word_type}
 use Rattle.code_follows.proofs.Following.{delayed, finished}

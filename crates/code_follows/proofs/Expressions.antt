@@ -1,5 +1,5 @@
 -- The code of every expression of the fragment gives its value, as a value and as an operand.
-use Rattle.std.proofs.Common.{◌≡◌, ◌∙◌, ℕ, ◌<◌, ◌≤◌, ◌-◌, ◌^◌, ◌==◌, Bool, true, false, [], length, Option, Some, None, refl, sym, ap, subst, if◌then◌else◌, arith, Vec, Global, inl}
+use Rattle.std.proofs.Common.{◌≡◌, ◌∙◌, ℕ, ◌<◌, ◌≤◌, ◌-◌, ◌^◌, ◌==◌, Bool, true, false, length, Option, Some, None, refl, sym, ap, subst, if◌then◌else◌, arith, Vec, Global, inl}
 use Rattle.std.specs.Prelude.{IfSome, is_none, ◌||◌, nat_le, nat_lt}
 use Rattle.cstar_base.specs.declared.elem.Elem.{Elem}
 use Rattle.cstar_base.specs.declared.operators.Op.{Op}
@@ -15,26 +15,22 @@ use Rattle.cstar_tree.specs.declared.typed.VarInfo.{VarInfo}
 use Rattle.cstar_tree.specs.declared.typed.Variable.{Variable}
 use Rattle.cstar_tree.specs.StatementTypes.{variable_info}
 use Rattle.cstar_tree.specs.Typed.{type_of}
-use Rattle.std.proofs.lemmas.Slice.Zip.{AllZip-long}
-use Rattle.std.specs.Option.{is_some}
-use Rattle.cstar_tree.specs.declared.typed.Instance.{Instance}
-use Rattle.cstar_tree.specs.declared.typed.Variable.TheVariants as V
-use Rattle.code_lengths.specs.Lowerable.{AreLowerable, Calls, GivesValue, HasResult, IsLowerable, IsValueFor}
+use Rattle.code_lengths.specs.Lowerable.{GivesValue, IsLowerable}
 use Rattle.cstar_tree.specs.declared.syntax.AssignOp.{AssignOp}
 use Rattle.cstar_tree.specs.declared.syntax.StepOp.{StepOp}
 use Rattle.cstar_tree.specs.declared.typed.StepOrder.{StepOrder}
-use Rattle.code_lengths.specs.Naming.{AllNameVariables, HasVariable, IsDeclared, NamesVariables, plain}
+use Rattle.code_lengths.specs.Naming.{HasVariable, IsDeclared, NamesVariables, plain}
 use Rattle.code_lengths.specs.Ready.{HasCode, HaveCode, IsReady}
-use Rattle.code_lengths.specs.Shaped.{AreShaped, IsShaped}
+use Rattle.code_lengths.specs.Shaped.{IsShaped}
 use Rattle.code_lengths.proofs.Agreeing.{expressions}
 use Rattle.code_lengths.proofs.Drafting.{as_it_was}
 use Rattle.code_lengths.proofs.OperandPieces.{operand_grows as operand_grown}
 use Rattle.constant_trees.proofs.Words.{converted_below}
 use Rattle.lower_base.specs.declared.emit.Out.{Out}
 use Rattle.lower_base.specs.declared.emit.Out.TheVariants as O
-use Rattle.lower_base.specs.Constants.{constant_register, first_free}
+use Rattle.lower_base.specs.Constants.{constant_register}
 use Rattle.lower_base.specs.Kinds.{bits_of, kind_of}
-use Rattle.lower_base.specs.Drafts.{Draft, Made, Makes, a_register, first_bits, fresh_for, then_make, with_instr, Fails}
+use Rattle.lower_base.specs.Drafts.{Draft, Made, Makes, first_bits, then_make, with_instr, Fails}
 use Rattle.lower_base.specs.Layouts.{Layout, field_of, register_of}
 use Rattle.lower_expr.specs.declared.operands.Own.{Own}
 use Rattle.lower_expr.specs.Kinds.{is_unchanged, list_bits, operand_bits, unary_bits}
@@ -45,7 +41,7 @@ use Rattle.paris_code.specs.Code.{CodeState}
 use Rattle.paris_code.specs.declared.instr.Instr.TheVariants as I
 use Rattle.paris_code.specs.declared.operands.Konst.TheVariants as K
 use Rattle.paris_code.specs.declared.operands.Operation.TheVariants as Act
-use Rattle.lower_expr.specs.Values.{call_to, values_of, Code, arm_by, arm_of, cast_from, choice_by, condition_by, condition_of, logical_by, next_of, register_cast_by, scalar_choice_of, truth_of, unary_by, value_of, taken_bits}
+use Rattle.lower_expr.specs.Values.{Code, arm_by, arm_of, cast_from, choice_by, condition_by, condition_of, logical_by, next_of, register_cast_by, scalar_choice_of, truth_of, unary_by, value_of, taken_bits}
 use Rattle.quiet_operands.proofs.Unchanged as Quiet
 use Rattle.source_meaning.specs.Constants.{constant_of, is_constant, then_value}
 use Rattle.source_meaning.specs.Constants as Const
@@ -56,11 +52,11 @@ use Rattle.source_meaning.specs.State.{Outcome, State, then_do}
 use Rattle.source_meaning.specs.Values.{Active, Scalar, Scope, Value, at, convert_to, nonzero, number, unary_of}
 use Rattle.source_meaning.proofs.ConstantLaws.{Boxed, value_means}
 use Rattle.code_follows.specs.Fragment.{AreIn, IsIn, IsWord, IsVariable}
-use Rattle.code_follows.proofs.Arguments.{AreDone, long_row}
-use Rattle.code_follows.proofs.Passing.{call_follows, fresh_called}
+use Rattle.code_follows.proofs.Arguments.{AreDone}
 use Rattle.code_follows.proofs.Branching.{IsMadeWord, made_word}
 use Rattle.code_follows.proofs.Choosing.{Arm_does, IsMadeTo, Lands, arm_follows, arm_made, choice_is, choose_is, constant_arm, fresh_lands, scalar_choice_follows}
-use Rattle.code_follows.proofs.Callees.{CallsFollow, MayCall}
+use Rattle.code_follows.proofs.CallValues.{call_code, call_value, fresh_call}
+use Rattle.code_follows.proofs.Callees.{CallsFollow}
 use Rattle.code_follows.proofs.Following.{Arrives, Extends, Follows, HasRegisters, IsScalar, Sim, held, keeps_all, then_follows, then_gives}
 use Rattle.code_follows.proofs.Logical.{and_is, joined, logical_follows, or_is}
 use Rattle.code_follows.proofs.Settings.{At, Setting, layout, stay}
@@ -421,48 +417,6 @@ module _ (g : Setting) (has : HasRegisters g) (alive : Variable → Type 0) (n :
       subst (λ (t : ValueType). HasVariable g.typed g.instance n x (plain t) → IsFresh d (value_of g.typed (layout g) bits (T.Step' ty op order p (T.Variable t x)) d)) (sym (plain_type tty word.0)) (λ w.
       fresh_stepped g has alive x (variable_info w.word (plain (scalar_type tty.elem)) w.start) (lives x w.declared) (w.named, refl) word.1 scope active op order tty.elem (T.Step' ty op order p (T.Variable (scalar_type tty.elem) x)) bits d word.1) v
 
-  -- a call's arguments have code, one for each parameter
-  pub arguments_code : {k : Count} (row : Row_of-TExpr k) → AreShaped row → AreLowerable g.typed row → AllNameVariables g.typed g.instance n row → HaveCode g.typed g.instance n row
-  unfolding HaveCode AreShaped AreLowerable AllNameVariables
-  arguments_code end_of-TExpr shaped lowerable names = tt
-  arguments_code (more_of-TExpr e rest) shaped lowerable names = (record { shaped = shaped.0; lowerable = lowerable.0; names = names.0 }, arguments_code rest shaped.1 lowerable.1 names.1)
-
-  pub call_code : (ty : ValueType) (index : ℕ) (p : Vec (Unit {0}) Global) (row : _) → HasCode g.typed g.instance n (T.Call' ty index p row) → HaveCode g.typed g.instance n row
-  unfolding IsShaped IsLowerable NamesVariables
-  call_code ty index p row c = arguments_code row c.shaped c.lowerable.1 c.names
-
-  pub many_arguments : (ty : ValueType) (index : ℕ) (p : Vec (Unit {0}) Global) (row : _) (m : MayCall g active index) → HasCode g.typed g.instance n (T.Call' ty index p row) → length m.callee.callee.params.items ≡ long_row g has alive scope active row
-  unfolding IsLowerable
-  many_arguments ty index p row m c =
-      let found : Calls g.typed index ty (items-the_row-TExpr _ row) = c.lowerable.0 in
-      subst (λ (i : Instance). length i.params.items ≡ long_row g has alive scope active row) (some_same found.callee m.callee.callee (sym found.found ∙ m.callee.is))
-      (sym (AllZip-long (λ (param : VarInfo) (e : TExpr). IsValueFor g.typed param.shape e) found.callee.params.items (items-the_row-TExpr _ row) found.given))
-
-  -- the result of what is called
-  pub has_result : (index : ℕ) (m : MayCall g active index) → HasResult g.typed index → (info : VarInfo) × (m.callee.callee.result ≡ Some info)
-  has_result index m (callee, found, there) = by m.callee.callee.result refl (subst (λ (i : Instance). is_some i.result ≡ true) (some_same callee m.callee.callee (sym found ∙ m.callee.is)) there)
-    where
-      by : (o : Option VarInfo) → m.callee.callee.result ≡ o → is_some m.callee.callee.result ≡ true → (info : VarInfo) × (m.callee.callee.result ≡ Some info)
-      by (Some info) is there = (info, is)
-      by None is there = let no : is_some m.callee.callee.result ≡ false = ap is_some is in cc
-
-  arguments_grown : (own quiet : Bool) {k : Count} (row : Row_of-TExpr k) → HaveCode g.typed g.instance n row → (d : Draft) → Extends g d (values_of g.typed (layout g) own quiet row [] d)
-  arguments_grown own quiet {k} row c d = extends_grown g has alive _ d _ _ ((expressions g.typed g.instance (layout g)).list own quiet n k row d c (ready d))
-
-  fresh_call : (bits : ℕ) (ty : ValueType) (index : ℕ) (p : Vec (Unit {0}) Global) (row : _) → IsWord ty → g.may true index → HasCode g.typed g.instance n (T.Call' ty index p row) → (d : Draft) → IsFresh d (value_of g.typed (layout g) bits (T.Call' ty index p row) d)
-  unfolding value_of fresh_for a_register then_make
-  fresh_call bits ty index p row word may c d =
-      subst (λ (o : Option ℕ). IsFresh d (then_make (fresh_for o bits d) (λ dest begun. call_to g.typed (layout g) index (values_of g.typed (layout g) true (are_quiet row) row) dest begun))) (sym word.0)
-      (fresh_called g has alive (calls_follow.value index may).0 (values_of g.typed (layout g) true (are_quiet row) row) d.regs d (with_reg d) (omega arith) (omega arith) (arguments_grown true (are_quiet row) row (call_code ty index p row c) (with_reg d)))
-
-  call_value : (quiet : Bool) (bits : ℕ) (ty : ValueType) (index : ℕ) (p : Vec (Unit {0}) Global) (row : _) → IsWord ty → g.may true index → AreDone g has alive scope active true (are_quiet row) row → HasCode g.typed g.instance n (T.Call' ty index p row) → Agrees quiet bits (T.Call' ty index p row)
-  unfolding value_of evaluated fresh_for a_register then_make IsDeclared
-  call_value quiet bits ty index p row word may done c d s st free here sim =
-      let known = calls_follow.value index may in
-      let result = has_result index known.0 known.1 in
-      subst (λ (o : Option ℕ). Follows g (Value_of g has alive ty.elem quiet d s) s (evaluated scope (T.Call' ty index p row) active st) (then_make (fresh_for o bits d) (λ dest begun. call_to g.typed (layout g) index (values_of g.typed (layout g) true (are_quiet row) row) dest begun))) (sym word.0)
-      (call_follows g has alive (λ k. lives (V.File k) tt) scope active calls_follow known.0 row done (many_arguments ty index p row known.0 c) result.0 result.1 ty.elem word.1 (with_reg d) s st (Value_of g has alive ty.elem quiet d s) d.regs (omega (arith, free)) here sim (fresh_dest g has alive ty.elem quiet d s free))
-
   fresh_value : (bits : ℕ) (e : TExpr) → (IsIn g.may) e → HasCode g.typed g.instance n e → (d : Draft) → IsFresh d (value_of g.typed (layout g) bits e d)
   unfolding value_of IsIn IsVariable
   fresh_value bits (T.Number ty value) h c d = fresh_constant g has alive value d
@@ -489,7 +443,7 @@ module _ (g : Setting) (has : HasRegisters g) (alive : Variable → Type 0) (n :
   fresh_value bits (T.Assign' ty place op p _ q value) h c d = absurd h.2
   fresh_value bits (T.Step' ty op order p (T.Variable tty x)) h c d = fresh_step bits ty tty op order p x h.2 (target_named tty x (step_names ty op order p (T.Variable tty x) c)) d
   fresh_value bits (T.Step' ty op order p _) h c d = absurd h.2
-  fresh_value bits (T.Call' ty index p arguments) h c d = fresh_call bits ty index p arguments h.0 h.1 c d
+  fresh_value bits (T.Call' ty index p arguments) h c d = fresh_call g has alive n lives ready scope active calls_follow bits ty index p arguments h.0 h.1 c d
   fresh_value bits _ h c d = absurd h
 
   -- an operand in its place leaves its register alone
@@ -621,7 +575,7 @@ module _ (g : Setting) (has : HasRegisters g) (alive : Variable → Type 0) (n :
     value_follows quiet bits (T.Assign' ty place op p _ q value) h c = absurd h.2
     value_follows quiet bits (T.Step' ty op order p (T.Variable tty x)) h c = step_value_follows quiet bits ty tty op order p x h.2 h.1 (target_named tty x (step_names ty op order p (T.Variable tty x) c))
     value_follows quiet bits (T.Step' ty op order p _) h c = absurd h.2
-    value_follows quiet bits (T.Call' ty index p arguments) h c = call_value quiet bits ty index p arguments h.0 h.1 (arguments_do true (are_quiet arguments) arguments h.2 (call_code ty index p arguments c)) c
+    value_follows quiet bits (T.Call' ty index p arguments) h c = call_value g has alive n lives ready scope active calls_follow quiet bits ty index p arguments h.0 h.1 (arguments_do true (are_quiet arguments) arguments h.2 (call_code g has alive n lives ready scope active calls_follow ty index p arguments c)) c
     value_follows quiet bits _ h c = absurd h
 
     -- each argument is done as one of a list

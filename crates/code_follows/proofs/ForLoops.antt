@@ -19,7 +19,6 @@ use Rattle.code_lengths.proofs.Agreeing.{expressions, places}
 use Rattle.code_lengths.proofs.Declaring.{of_for, of_while}
 use Rattle.code_lengths.proofs.Drafting.{as_it_was, extended}
 use Rattle.lower_base.specs.declared.emit.Out.{Out}
-use Rattle.lower_base.specs.Constants.{first_free}
 use Rattle.lower_base.specs.Drafts.{Draft, Fails, Made, Makes, here, then_make, with_instr, with_step}
 use Rattle.lower_expr.specs.Effects.{effect_length_of, effect_of}
 use Rattle.lower_expr.specs.Lengths.{used_length_of}

@@ -5,6 +5,7 @@ pub mod Beginnings
 pub mod Bodies
 pub mod Branching
 pub mod Bytes
+pub mod CallValues
 pub mod Callees
 pub mod Calling
 pub mod Casts

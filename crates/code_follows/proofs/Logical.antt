@@ -10,7 +10,6 @@ use Rattle.code_lengths.proofs.Agreeing.{places}
 use Rattle.code_lengths.proofs.Drafting.{extended}
 use Rattle.lower_base.specs.declared.emit.Out.{Out}
 use Rattle.lower_base.specs.declared.emit.Out.TheVariants as O
-use Rattle.lower_base.specs.Constants.{first_free}
 use Rattle.lower_base.specs.Drafts.{Draft, Made, Makes, a_register, here, in_register, step as step_of, then_make, with_instr}
 use Rattle.lower_expr.specs.Steps.{constant_in}
 use Rattle.lower_expr.specs.Values.{Code, Condition, decided, jump_if_decided, logical_by, logical_ended, scalar_logical_by}
@@ -24,7 +23,7 @@ use Rattle.code_follows.specs.Fragment.{IsWord}
 use Rattle.code_follows.proofs.Branching.{IsMadeWord, decided_goes, decides, jump_long, jump_more, tested, then_from}
 use Rattle.code_follows.proofs.Following.{Arrives, Extends, Follows, HasRegisters, Keeps, Sim, delayed, fresh_lasts, held, keeps_all, keeps_on, value_kept}
 use Rattle.code_follows.proofs.Jumping.{moved_to, sim_moved}
-use Rattle.code_follows.proofs.Settings.{At, Reaches, Setting, Within, and_one, earlier, layout, onto, regs_more, start, stay}
+use Rattle.code_follows.proofs.Settings.{At, Reaches, Setting, Within, and_one, earlier, onto, regs_more, start, stay}
 use Rattle.code_follows.proofs.Values.{Does, HasWord, Value_of, and_register, takes_word, with_reg}
 use Rattle.code_follows.proofs.Words.{below_bits, held_wide}
 

@@ -8,7 +8,6 @@ use Rattle.lower_base.specs.Drafts.{Draft, Makes, with_instr}
 use Rattle.lower_stmt.specs.declared.statement.Frame.{Frame}
 use Rattle.meaning_laws.proofs.Parts.{behind as state_after}
 use Rattle.paris_code.specs.declared.instr.Instr.TheVariants as I
-use Rattle.paris_code.specs.Code as Machine
 use Rattle.paris_code.specs.Code.{CodeState}
 use Rattle.source_meaning.specs.State as Source
 use Rattle.source_meaning.specs.State.{Outcome, State, spend_turn, then_do}
@@ -17,7 +16,7 @@ use Rattle.source_meaning.specs.Values.{Active, Scope}
 use Rattle.code_follows.proofs.Executing.{Jumped, Returns, returns_from, Left, RanOn, Tested, no_break, no_continue, no_return}
 use Rattle.code_follows.proofs.Following.{Finishes, Follows, Keeps, Sim, finishes_later, keeps_all, keeps_less}
 use Rattle.code_follows.proofs.Jumping.{behind_turn, moved_to, returns_to, sim_moved, sim_spent, spends, stops}
-use Rattle.code_follows.proofs.Settings.{At, Reaches, Setting, Within, and_one, code_more, earlier, ends_later, onto, start}
+use Rattle.code_follows.proofs.Settings.{At, Reaches, Setting, Within, and_one, code_more, earlier, onto, start}
 
 -- a loop: the turn stands behind one draft, the body behind it, then the step, the test, and the jump back
 module _ (g : Setting) (alive : Variable → Type 0) (scope : Scope) (active : Active) (test : TExpr) (body : TStmt) (n number : ℕ) (test_falls : (st : State) → (state_after (passes scope active test st)).turns ≤ st.turns) (f : Frame) (d before_turn behind_body stepped tested : Draft) (r turn : ℕ) (step : State → Outcome Leaving) where

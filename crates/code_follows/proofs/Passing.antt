@@ -1,11 +1,11 @@
 -- The code of a call with its arguments and its result.
-use Rattle.std.proofs.Common.{◌≡◌, ◌∙◌, ℕ, zero, suc, ◌+◌, ◌-◌, ◌<◌, ◌≤◌, ◌^◌, Bool, true, false, List, [], ◌∷◌, length, slice_get, slice_index, Option, Some, None, refl, sym, ap, subst, arith}
+use Rattle.std.proofs.Common.{◌≡◌, ◌∙◌, ℕ, zero, suc, ◌+◌, ◌-◌, ◌<◌, ◌≤◌, ◌^◌, Bool, true, List, [], ◌∷◌, length, slice_get, slice_index, Option, Some, None, refl, sym, ap, subst, arith}
 use Rattle.std.specs.List.{All, slice_index_or}
 use Rattle.std.proofs.lemmas.List.{get_or-set_other}
 use mathlib.Core.Former.{Count}
 use Rattle.cstar_base.specs.declared.elem.Elem.{Elem}
 use Rattle.cstar_tree.specs.declared.typed.Instance.{Instance}
-use Rattle.cstar_tree.specs.declared.typed.TExpr.{TExpr, Row_of-TExpr}
+use Rattle.cstar_tree.specs.declared.typed.TExpr.{Row_of-TExpr}
 use Rattle.cstar_tree.specs.declared.typed.VarInfo.{VarInfo}
 use Rattle.cstar_tree.specs.declared.typed.Variable.{Variable}
 use Rattle.cstar_tree.specs.declared.typed.Variable.TheVariants as V
@@ -19,19 +19,17 @@ use Rattle.lower_expr.specs.Operands.{are_quiet}
 use Rattle.lower_expr.specs.Steps.{put_in_field, put_value}
 use Rattle.lower_expr.specs.Values.{call_to, values_of}
 use Rattle.paris_code.specs.declared.instr.Instr.TheVariants as I
-use Rattle.paris_code.specs.declared.operands.Field.{Field}
 use Rattle.paris_code.specs.Code.{CodeState, Goes, begun, with_register}
 use Rattle.source_meaning.specs.Expressions.{operands, values_of as given_values}
 use Rattle.source_meaning.specs.Gets.{Operand}
 use Rattle.source_meaning.specs.Programs.{calls}
-use Rattle.source_meaning.specs.State as Source
 use Rattle.source_meaning.specs.State.{Outcome, State, then_do}
-use Rattle.source_meaning.specs.Values.{Active, Nothing, Scalar, Scope, Value, number}
+use Rattle.source_meaning.specs.Values.{Active, Nothing, Scope, Value, number}
 use Rattle.code_follows.specs.Fragment.{IsWordVariable}
-use Rattle.code_follows.proofs.Arguments.{AreDone, AreHeld, Given, arguments_follow, arguments_grow, long_row}
+use Rattle.code_follows.proofs.Arguments.{AreDone, AreHeld, Given, arguments_follow, long_row}
 use Rattle.code_follows.proofs.Callees.{AreGiven, Callee, CallsFollow, MayCall}
 use Rattle.code_follows.proofs.Calling.{CameBack, keeps_passed, sim_passed, turn_follows}
-use Rattle.code_follows.proofs.Following.{Extends, Follows, HasRegisters, Keeps, Ran, Sim, at_once, delayed, extends_made, extends_then, follows_back, held, keeps_all, keeps_on, register_is, then_follows, with_more}
+use Rattle.code_follows.proofs.Following.{Extends, Follows, HasRegisters, Keeps, Ran, Sim, at_once, delayed, extends_made, follows_back, keeps_all, keeps_on, register_is, then_follows, with_more}
 use Rattle.code_follows.proofs.Fresh.{IsFresh, fresh_register, fresh_then}
 use Rattle.code_follows.proofs.Settings.{At, Reaches, Setting, Within, and_one, at_next, begins_here, earlier, layout, one, onto, regs_more, stay}
 use Rattle.code_follows.proofs.Values.{Dest, extends_in_register}

@@ -1,8 +1,7 @@
 -- `printf` on scalar arguments of 32 bits.
-use Rattle.std.proofs.Common.{◌≡◌, ◌∙◌, ℕ, ◌+◌, ◌≤◌, Bool, true, false, Vec, Global, List, [], ◌∷◌, ◌++◌, length, slice_index, map, refl, sym, ap, subst, arith, append_assoc}
+use Rattle.std.proofs.Common.{◌≡◌, ◌∙◌, ℕ, ◌+◌, ◌≤◌, Bool, false, Vec, Global, List, [], ◌∷◌, ◌++◌, length, slice_index, map, refl, sym, ap, subst, append_assoc}
 use Rattle.std.proofs.lemmas.List.{append-nil}
 use mathlib.Core.Former.{Count}
-use Rattle.cstar_base.specs.declared.elem.Elem.{Elem}
 use Rattle.cstar_base.specs.Numerals.{word_text}
 use Rattle.cstar_tree.specs.declared.typed.Piece.{Piece}
 use Rattle.cstar_tree.specs.declared.typed.Piece.TheVariants as Pc
@@ -10,40 +9,36 @@ use Rattle.cstar_tree.specs.declared.typed.TExpr.{TExpr, Row_of-TExpr, end_of-TE
 use Rattle.cstar_tree.specs.declared.typed.TExpr as T
 use Rattle.cstar_tree.specs.declared.typed.ValueType.{ValueType}
 use Rattle.cstar_tree.specs.declared.typed.Variable.{Variable}
-use Rattle.cstar_tree.specs.Typed.{type_of}
 use Rattle.code_lengths.specs.Growth.{Extended}
-use Rattle.code_lengths.specs.Lowerable.{AreLowerable, IsLowerable}
-use Rattle.code_lengths.specs.Naming.{AllNameVariables, IsDeclared, NamesVariables}
-use Rattle.code_lengths.specs.Shaped.{AreShaped, IsShaped}
+use Rattle.code_lengths.specs.Lowerable.{IsLowerable}
+use Rattle.code_lengths.specs.Naming.{IsDeclared, NamesVariables}
+use Rattle.code_lengths.specs.Shaped.{IsShaped}
 use Rattle.code_lengths.specs.Ready.{HasCode, HaveCode, IsReady}
 use Rattle.code_lengths.proofs.Drafting.{as_it_was, extended}
 use Rattle.lower_base.specs.declared.emit.Out.{Out}
 use Rattle.lower_base.specs.declared.emit.Out.TheVariants as O
-use Rattle.lower_base.specs.Constants.{first_free}
 use Rattle.lower_base.specs.Drafts.{Draft, Fails, Made, Makes, Plain, in_register, step as step_of, then_make, with_instr}
-use Rattle.lower_expr.specs.Kinds.{list_bits}
-use Rattle.lower_expr.specs.Operands.{are_quiet, is_quiet}
+use Rattle.lower_expr.specs.Operands.{are_quiet}
 use Rattle.lower_expr.specs.Steps.{pieces_printed}
 use Rattle.lower_expr.specs.Values.{values_of}
 use Rattle.paris_code.specs.declared.instr.Instr.TheVariants as I
 use Rattle.paris_code.specs.declared.instr.Instr.{Instr}
 use Rattle.paris_code.specs.Code.{CodeState, Goes, begun, with_printed}
-use Rattle.quiet_operands.specs.Quiet.{state_behind}
-use Rattle.quiet_operands.proofs.Unchanged as Quiet
-use Rattle.source_meaning.specs.Expressions.{evaluated, operands, values_of as given_values}
+use Rattle.source_meaning.specs.Expressions.{operands, values_of as given_values}
 use Rattle.source_meaning.specs.Gets.{Operand}
 use Rattle.source_meaning.specs.Printing.{printed}
 use Rattle.source_meaning.specs.State as Source
 use Rattle.source_meaning.specs.State.{Outcome, State, then_do, with_output}
 use Rattle.source_meaning.specs.Values.{Active, Nothing, Scope, Value, number}
 use Rattle.code_follows.specs.Fragment.{AreIn}
-use Rattle.code_follows.proofs.Expressions.{arguments_code, arguments_do}
-use Rattle.code_follows.proofs.Arguments.{AreDone, AreHeld, Given, arguments_follow, long_row}
+use Rattle.code_follows.proofs.CallValues.{arguments_code}
+use Rattle.code_follows.proofs.Expressions.{arguments_do}
+use Rattle.code_follows.proofs.Arguments.{AreHeld, Given, arguments_follow, long_row}
 use Rattle.code_follows.proofs.Callees.{CallsFollow}
-use Rattle.code_follows.proofs.Following.{Arrives, Extends, Follows, HasRegisters, Holds, Keeps, Ran, Sim, delayed, extends_made, extends_then, finishes_later, keeps_all, keeps_on, knowing, then_follows}
+use Rattle.code_follows.proofs.Following.{Extends, Follows, HasRegisters, Keeps, Ran, Sim, delayed, extends_made, finishes_later, keeps_all, keeps_on, then_follows}
 use Rattle.code_follows.proofs.Settings.{At, Reaches, Setting, and_one, at_next, begins_here, layout, one, onto, placed_instr, stay}
-use Rattle.code_follows.proofs.Values.{Value_of, extends_in_register}
-use Rattle.code_follows.proofs.Words.{below_word, held_wide, word_type}
+use Rattle.code_follows.proofs.Values.{extends_in_register}
+use Rattle.code_follows.proofs.Words.{below_word, held_wide}
 
 module _ (g : Setting) (has : HasRegisters g) (alive : Variable → Type 0) (n : ℕ) (lives : (x : Variable) → IsDeclared n x → alive x) (ready : (d : Draft) → IsReady g.typed g.instance (layout g) n d) (scope : Scope) (active : Active) (calls_follow : CallsFollow g scope active) where
   -- ---- the pieces

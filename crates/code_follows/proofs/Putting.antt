@@ -21,7 +21,6 @@ use Rattle.code_lengths.specs.Ready.{HasCode, IsReady}
 use Rattle.code_lengths.proofs.Drafting.{as_it_was}
 use Rattle.lower_base.specs.declared.emit.Out.{Out}
 use Rattle.lower_base.specs.declared.emit.Out.TheVariants as O
-use Rattle.lower_base.specs.Constants.{first_free}
 use Rattle.lower_base.specs.Drafts.{Draft, Fails, Made, Makes, in_register, step as step_of, then_make, with_instr}
 use Rattle.lower_base.specs.Kinds.{bits_of, kind_of}
 use Rattle.lower_base.specs.Layouts.{register_of}
@@ -48,7 +47,8 @@ use Rattle.source_meaning.proofs.ConstantLaws.{Boxed, value_means}
 use Rattle.code_follows.specs.Fragment.{AreIn, IsIn, IsWord}
 use Rattle.code_follows.proofs.Passing.{call_follows}
 use Rattle.code_follows.proofs.Choosing.{put_lands}
-use Rattle.code_follows.proofs.Expressions.{arguments_do, call_code, has_result, many_arguments, AreChosen, brackets_code, choice_goes, choice_parts, convert_code, left_code, named, operand, operand_grows, right_code, unary_code, value_follows}
+use Rattle.code_follows.proofs.CallValues.{call_code, has_result, many_arguments}
+use Rattle.code_follows.proofs.Expressions.{arguments_do, AreChosen, brackets_code, choice_goes, choice_parts, convert_code, left_code, named, operand, operand_grows, right_code, unary_code, value_follows}
 use Rattle.code_follows.proofs.Bytes.{byte_put}
 use Rattle.code_follows.proofs.Callees.{CallsFollow}
 use Rattle.code_follows.proofs.Following.{Arrives, Extends, Follows, HasRegisters, IsScalar, Sim, held, keeps_all, then_follows, then_gives}

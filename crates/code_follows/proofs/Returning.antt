@@ -30,14 +30,14 @@ use Rattle.paris_code.specs.Code.{CodeState, Ends, Goes, begun, returned as retu
 use Rattle.source_meaning.specs.Expressions.{evaluated}
 use Rattle.source_meaning.specs.State as Source
 use Rattle.source_meaning.specs.State.{State, then_do}
-use Rattle.source_meaning.specs.Statements.{Leaving, Returned, executed, returned}
+use Rattle.source_meaning.specs.Statements.{Returned, executed, returned}
 use Rattle.source_meaning.specs.Values.{Active, Scalar, Scope, Value}
 use Rattle.code_follows.specs.Fragment.{IsIn}
 use Rattle.code_follows.proofs.ConstantRegisters.{behind_variables}
 use Rattle.code_follows.proofs.Executing.{IsGiven, Leaves, Left, Returns}
 use Rattle.code_follows.proofs.Expressions.{operand}
 use Rattle.code_follows.proofs.Callees.{CallsFollow}
-use Rattle.code_follows.proofs.Following.{Arrives, Extends, Follows, HasRegisters, Keeps, Ran, Sim, delayed, finished, keeps_all, result_kept, spared_kept}
+use Rattle.code_follows.proofs.Following.{Extends, Follows, HasRegisters, Keeps, Ran, Sim, delayed, finished, keeps_all, result_kept, spared_kept}
 use Rattle.code_follows.proofs.Jumping.{nothing_restored}
 use Rattle.code_follows.proofs.Settings.{At, Reaches, Setting, Within, and_one, at_next, begins_here, earlier, layout, one, onto, stay}
 use Rattle.code_follows.proofs.Statements.{StandsIn}

@@ -1,6 +1,5 @@
 -- The initialisers of the variables of a block.
 use Rattle.std.proofs.Common.{◌≡◌, ◌∙◌, ℕ, ◌+◌, ◌<◌, ◌≤◌, ◌^◌, Bool, true, false, not, List, [], ◌∷◌, map, length, Option, Some, None, refl, sym, ap, subst, if◌then◌else◌, arith}
-use Rattle.std.proofs.lemmas.List.{get_or-set_other}
 use Rattle.std.specs.Prelude.{IfSome, is_none}
 use Rattle.std.specs.List.{All}
 use Rattle.cstar_tree.specs.declared.typed.LocalVar.{LocalVar}
@@ -21,7 +20,6 @@ use Rattle.code_lengths.proofs.Declaring.{info_of}
 use Rattle.code_lengths.proofs.Drafting.{as_it_was}
 use Rattle.lower_base.specs.declared.emit.Out.{Out}
 use Rattle.lower_base.specs.declared.emit.Out.TheVariants as O
-use Rattle.lower_base.specs.Constants.{first_free}
 use Rattle.lower_base.specs.Drafts.{Draft, Fails, Made, Makes, first_bits, step as step_of, then_make, with_instr}
 use Rattle.lower_base.specs.Layouts.{entries_of, field_of, register_of}
 use Rattle.lower_expr.specs.Effects.{computed_to, put_to}

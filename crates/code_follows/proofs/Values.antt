@@ -22,7 +22,7 @@ use Rattle.lower_base.specs.declared.emit.Out.{Out}
 use Rattle.lower_base.specs.declared.emit.Out.TheVariants as O
 use Rattle.lower_base.specs.declared.operators.Machine.{Machine}
 use Rattle.lower_base.specs.declared.operators.Machine.TheVariants as M
-use Rattle.lower_base.specs.Constants.{constant_register, first_free}
+use Rattle.lower_base.specs.Constants.{constant_register}
 use Rattle.lower_base.specs.Drafts.{Draft, Fails, Made, Makes, Plain, a_register, fresh_for, in_register, step as step_of, then_make, with_instr}
 use Rattle.lower_base.specs.Layouts.{register_of}
 use Rattle.lower_base.specs.Operators.{is_signed, machine_of}
