@@ -7,7 +7,7 @@ use Rattle.paris_code.specs.Code.{opening}
 use Rattle.paris_code.specs.Memory.{BitMemory}
 use Rattle.source_meaning.specs.Programs.{meaning}
 use Rattle.source_meaning.specs.State.{Rest}
-use Rattle.code_follows.specs.Agreement.{ComesTo, mark_of}
+use Rattle.code_follows.specs.Agreement.{AreBytes, ComesTo, mark_of}
 use Rattle.code_follows.specs.Fragment.{IsScalarProgram}
 use Rattle.code_lengths.specs.Agreement.{HasUnits}
 use Rattle.cstar_compile.specs.Compiled.{IsCompiled}
@@ -26,5 +26,5 @@ ImagesHaveEveryUnit = (text : List ℕ) (typed : Typed) (image : Image) → IsPr
 abbrev pub ScalarImagesMeanTheirText : Type 0
 ScalarImagesMeanTheirText =
     (text : List ℕ) (typed : Typed) (image : Image) → IsProgramOf text typed → IsCompiled typed image → IsScalarProgram typed →
-    (memory : BitMemory) (input : List ℕ) (rest : Rest) (turns : ℕ) (winner : Winner) →
+    (memory : BitMemory) (input : List ℕ) (rest : Rest) (turns : ℕ) (winner : Winner) → AreBytes input →
     ComesTo image (opening image memory turns (record { bytes = input; mark = mark_of rest })) (meaning typed input rest turns winner)

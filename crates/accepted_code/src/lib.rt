@@ -18,7 +18,7 @@ pub fn image_has_every_unit()
 
 /// An image that the compiler makes of an accepted text comes, on every input and with every number of
 /// turns, to the end of the text's meaning, with its turns and its output: so far where the text's program is
-/// one function on scalar variables of 32 bits.
+/// of functions on scalar variables of 32 bits.
 pub fn scalar_image_means_its_text()
     ensures { ScalarImagesMeanTheirText }
 {}

@@ -1,5 +1,5 @@
 -- A function that runs: its setting, the registers that it spares, and what it knows of those that it calls.
-use Rattle.std.proofs.Common.{◌≡◌, ◌∙◌, ℕ, ◌+◌, ◌<◌, ◌≤◌, ◌⊎◌, inl, inr, true, List, length, slice_get, Option, Some, None, refl, sym, ap, subst, arith}
+use Rattle.std.proofs.Common.{◌≡◌, ℕ, ◌+◌, ◌<◌, ◌≤◌, ◌⊎◌, inl, inr, List, length, slice_get, Some, sym, ap, subst, arith}
 use Rattle.std.specs.List.{All}
 use Rattle.std.proofs.lemmas.Option.{slice_get_within}
 use Rattle.cstar_compile.specs.Compiled.{IsCompiled}
@@ -8,22 +8,18 @@ use Rattle.cstar_tree.specs.declared.typed.Typed.{Typed}
 use Rattle.cstar_tree.specs.declared.typed.VarInfo.{VarInfo}
 use Rattle.cstar_tree.specs.declared.typed.Variable.{Variable}
 use Rattle.cstar_tree.specs.declared.typed.Variable.TheVariants as V
-use Rattle.cstar_tree.specs.Variables.{variables_of}
 use Rattle.code_lengths.specs.Naming.{variable_named}
 use Rattle.code_lengths.specs.Ready.{IsCodable}
-use Rattle.code_lengths.proofs.Declaring.{all_at}
 use Rattle.lower_base.specs.Constants.{constant_register, first_free}
-use Rattle.lower_base.specs.Layouts.{layout_of, register_of, result_register}
+use Rattle.lower_base.specs.Layouts.{layout_of, register_of}
 use Rattle.paris_code.specs.declared.program.Image.{Image}
 use Rattle.code_follows.specs.Fragment.{IsPlainVariable, IsScalarProgram, IsWordVariable, may_of}
 use Rattle.code_follows.proofs.Callees.{Callee}
 use Rattle.code_follows.proofs.ConstantRegisters.{behind_variables, below_values}
-use Rattle.code_follows.proofs.Declaring.{all_first, all_rest}
 use Rattle.code_follows.proofs.Following.{HasRegisters}
-use Rattle.code_follows.proofs.Regions.{HasScalarInstances, IsOwn, base_at, base_behind, base_inside, file_register, local_own, own_apart, own_behind, own_inside, param_own, result_own, result_is, same_end, size_of}
-use Rattle.code_follows.proofs.Settings.{Setting, layout}
-use Rattle.code_follows.proofs.Standing.{some_same}
-use Rattle.code_follows.proofs.Units.{begins, begins_free, begins_least, ends, ends_within, has_registers, setting, the_words, values_apart}
+use Rattle.code_follows.proofs.Regions.{HasScalarInstances, IsOwn, base_at, base_behind, base_inside, local_own, own_apart, own_behind, own_inside, param_own, result_own, same_end, size_of}
+use Rattle.code_follows.proofs.Settings.{Setting}
+use Rattle.code_follows.proofs.Units.{begins, begins_free, ends, has_registers, setting, the_words, values_apart}
 
 words_alone : (infos : List VarInfo) → All IsPlainVariable infos → All IsWordVariable infos
 words_alone infos all k other inside = (all k other inside).0

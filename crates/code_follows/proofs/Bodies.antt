@@ -9,7 +9,6 @@ use Rattle.cstar_tree.specs.declared.typed.TStmt.{TStmt, Row_of-TStmt, end_of-TS
 use Rattle.cstar_tree.specs.declared.typed.TStmt as S
 use Rattle.cstar_tree.specs.declared.typed.VarInfo.{VarInfo}
 use Rattle.cstar_tree.specs.declared.typed.Variable.{Variable}
-use Rattle.cstar_tree.specs.declared.typed.Variable.TheVariants as V
 use Rattle.cstar_tree.specs.Variables.{variables_of}
 use Rattle.code_lengths.specs.Agreement.{StandsAmong}
 use Rattle.code_lengths.specs.Growth.{Extended}
@@ -32,7 +31,7 @@ use Rattle.source_meaning.specs.State.{Outcome, State, is_among, spend_turn, the
 use Rattle.source_meaning.specs.Statements.{Broke, Continued, Onward, all_executed, declared, done, else_executed, executed, initialised, then_go, Leaving}
 use Rattle.source_meaning.specs.Values.{Active, Scope, Value}
 use Rattle.lower_base.specs.declared.emit.Out.{Out}
-use Rattle.code_follows.proofs.Declaring.{Clears, Started, clears, sim_fewer, Alive}
+use Rattle.code_follows.proofs.Declaring.{Started, clears, sim_fewer, Alive}
 use Rattle.code_follows.specs.Fragment.{AreInStatements, IsEffect, IsInLocal, IsInElse, IsInStatement, IsTested}
 use Rattle.code_follows.proofs.Assigning.{effect_follows}
 use Rattle.code_follows.proofs.Choices.{Agrees, if_alone, if_else}

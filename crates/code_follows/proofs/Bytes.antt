@@ -49,7 +49,8 @@ module _ (g : Setting) (has : HasRegisters g) (alive : Variable → Type 0) wher
     turns = h.turns;
     output = h.output;
     input = refl;
-    returns = h.returns; few = h.few;
+    returns = h.returns;
+    few = h.few;
     bytes = more_bytes byte more (subst (λ (xs : List ℕ). AreBytes xs) is h.bytes);
   }
 

@@ -1,6 +1,5 @@
 -- The variables of blocks.
 use Rattle.std.proofs.Common.{◌≡◌, ◌∙◌, ℕ, suc, ◌+◌, ◌<◌, ◌≤◌, ◌^◌, ◌&&◌, ◌==◌, if◌then◌else◌, nat_lt, Bool, true, false, List, [], ◌∷◌, ◌++◌, map, length, Option, Some, None, refl, sym, ap, subst, arith, slice_get, ◌⊎◌, inl, inr, eqb-true}
-use Rattle.std.proofs.lemmas.List.{get_or-set_other}
 use Rattle.std.specs.Prelude.{nat_le, ◌||◌}
 use Rattle.std.specs.List.{All}
 use Rattle.std.proofs.lemmas.Bool.Decides.{nat_tests}
@@ -99,7 +98,9 @@ module _ (g : Setting) where
     turns = h.turns;
     output = h.output;
     input = h.input;
-    bytes = h.bytes; returns = h.returns; few = h.few;
+    bytes = h.bytes;
+    returns = h.returns;
+    few = h.few;
   }
 
   ran_fewer : (more fewer : Variable → Type 0) (d : Draft) (s : CodeState) (u v : State) (e : Draft) → ((x : Variable) → fewer x → more x) → ((x : Variable) → v.scalar x ≡ u.scalar x) → v.turns ≡ u.turns → v.output ≡ u.output → input_of v ≡ input_of u
@@ -206,7 +207,9 @@ module _ (g : Setting) (has : HasRegisters g) where
         turns = sim.turns;
         output = sim.output;
         input = sim.input;
-        bytes = sim.bytes; returns = sim.returns; few = sim.few;
+        bytes = sim.bytes;
+        returns = sim.returns;
+        few = sim.few;
       }
         where
           not_it : (x : Variable) → (x ≡ V.Local n → ⊥) → (with_scalar (V.Local n) 0 st).scalar x ≡ st.scalar x

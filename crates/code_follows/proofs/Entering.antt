@@ -1,8 +1,7 @@
 -- A called function runs, from its first instruction to where it goes back.
-use mathlib.Core.Former.{Count}
 use Rattle.std.proofs.Common.{◌≡◌, ◌∙◌, ℕ, zero, suc, take, ◌+◌, ◌-◌, ◌<◌, ◌≤◌, ◌^◌, ◌==◌, ◌&&◌, ◌⊎◌, inl, inr, Bool, true, false, [], ◌∷◌, ◌++◌, List, Vec, Global, length, map, slice_get, slice_index, Option, Some, None, refl, sym, ap, subst, if◌then◌else◌, nat_lt, arith, length-append}
 use Rattle.std.specs.Prelude.{nat_le}
-use Rattle.std.specs.List.{All, slice_index_or}
+use Rattle.std.specs.List.{slice_index_or}
 use Rattle.std.proofs.lemmas.Bool.Decides.{nat_tests}
 use Rattle.std.proofs.lemmas.List.{length-map}
 use Rattle.std.proofs.lemmas.Option.{slice_get_within}
@@ -25,7 +24,7 @@ use Rattle.lower_base.specs.Drafts.{Draft, Made, Makes, then_make}
 use Rattle.lower_base.specs.Layouts.{layout_of, register_of, result_register}
 use Rattle.lower_stmt.specs.Programs.{blank, body_frame}
 use Rattle.lower_stmt.specs.Variables.{declared as declared_in}
-use Rattle.lower_stmt.specs.Statements.{body_of, ends_in_return, statement_of, ended, statements_of}
+use Rattle.lower_stmt.specs.Statements.{body_of, ends_in_return, ended, statements_of}
 use Rattle.meaning_laws.proofs.Parts.{behind as state_after}
 use Rattle.paris_code.specs.declared.program.Entry.{Entry}
 use Rattle.paris_code.specs.declared.program.Image.{Image}
@@ -35,22 +34,22 @@ use Rattle.paris_code.specs.Units.{start_at, start_of}
 use Rattle.source_meaning.specs.Programs.{by_owner, calls, entered, left, result_of, run_body, scalar_given, scope_of}
 use Rattle.source_meaning.specs.State as Source
 use Rattle.source_meaning.specs.State.{Outcome, State, is_among, then_do}
-use Rattle.source_meaning.specs.Statements.{Broke, Continued, Leaving, Onward, Returned, all_executed, executed, initialised, then_go}
+use Rattle.source_meaning.specs.Statements.{Broke, Continued, Leaving, Onward, Returned, executed, initialised}
 use Rattle.source_meaning.specs.Values.{Active, Nothing, Scalar, Value, each, number as as_number}
-use Rattle.code_follows.specs.Fragment.{IsPlainVariable, IsWordVariable, IsBody, IsFlat, IsScalarProgram, May, may_of}
+use Rattle.code_follows.specs.Fragment.{IsPlainVariable, IsWordVariable, IsBody, IsFlat, IsScalarProgram}
 use Rattle.lower_stmt.specs.declared.statement.Frame.{Frame}
-use Rattle.code_follows.proofs.Activations.{Spares, Touches, activation, callee_known, scalars, words}
+use Rattle.code_follows.proofs.Activations.{activation, callee_known, scalars, words}
 use Rattle.code_follows.proofs.Bodies.{block_code, block_follows, block_initials, block_stands, row_follows}
 use Rattle.code_follows.proofs.Callees.{AreGiven, Callee, CallsFollow, ComesBack, Enters, MayCall, RunsBody, Shared}
 use Rattle.code_follows.proofs.Closed.{NoJump, begins_closed, closed_row, go_closed}
 use Rattle.code_follows.proofs.Endings.{NeverOnward, body_never, never_second}
 use Rattle.code_follows.proofs.Executing.{IsGiven, Left, Returns}
 use Rattle.code_follows.proofs.Following.{Finishes, Follows, Sim, held}
-use Rattle.code_follows.proofs.Functions.{BodyMade, EndsSo, RunsFunction, among, body_made, declares, ends_by, every, every_one, falls, frame, framed, g, given_back, has, numbered, own, ready, runs_function, scope}
-use Rattle.code_follows.proofs.Regions.{param_register, result_is, same_constants, same_end}
-use Rattle.code_follows.proofs.Settings.{At, EndsIn, Reaches, Setting, layout, one, onto, start}
+use Rattle.code_follows.proofs.Functions.{RunsFunction, among, body_made, declares, ends_by, every, every_one, falls, frame, framed, given_back, has, numbered, ready, runs_function, scope}
+use Rattle.code_follows.proofs.Regions.{result_is, same_constants, same_end}
+use Rattle.code_follows.proofs.Settings.{At, Setting, one, onto, start}
 use Rattle.code_follows.proofs.Standing.{start_in, unit_there}
-use Rattle.code_follows.proofs.Units.{blank_code, blank_homes, blank_regs, not_main, other_is, unit_at}
+use Rattle.code_follows.proofs.Units.{blank_homes, blank_regs, not_main, other_is, unit_at}
 use Rattle.code_follows.proofs.Words.{held_wide}
 
 -- a unit of an image begins where its entry says

@@ -1,5 +1,5 @@
 -- The example is a scalar program.
-use Rattle.std.proofs.Common.{◌≡◌, ◌∙◌, ℕ, zero, suc, ◌-◌, ◌<◌, List, [], ◌∷◌, ◌++◌, slice_get, length, Option, Some, None, Global, refl, sym, ap, subst, arith}
+use Rattle.std.proofs.Common.{◌≡◌, ◌∙◌, ℕ, zero, suc, ◌-◌, ◌<◌, List, [], ◌∷◌, ◌++◌, slice_get, length, Some, None, Global, refl, sym, ap, subst, arith}
 use Rattle.std.proofs.Common.{lit<}
 use Rattle.std.specs.List.{All}
 use Rattle.cstar_tree.specs.declared.typed.Instance.{Instance}

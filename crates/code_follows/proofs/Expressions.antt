@@ -398,6 +398,7 @@ module _ (g : Setting) (has : HasRegisters g) (alive : Variable → Type 0) (n :
   condition_grows : (e : TExpr) → HasCode g.typed g.instance n e → (d : Draft) → Extends g d ((condition_of g.typed (layout g) e).code d)
   unfolding condition_by
   condition_grows e c d = operand_grows true (bits_of (kind_of e)) e c d
+
   -- an assignment and a step as values
   other_grows : (m k : ℕ) (e : TExpr) → HasCode g.typed g.instance n e → (d : Draft) → Extends g d (operand_by g.typed (layout g) m (value_of g.typed (layout g) k e) true e d)
   other_grows m k e c d = extends_grown g has alive _ d _ _ (operand_grown g.typed g.instance (layout g) n m true e (value_of g.typed (layout g) k e) _ d c (ready d) ((expressions g.typed g.instance (layout g)).value k n e d c (ready d)))
@@ -513,6 +514,7 @@ module _ (g : Setting) (has : HasRegisters g) (alive : Variable → Type 0) (n :
       ∙ choice_is ty bits (is_kept test) (next_of g.typed (layout g) (bits_of (kind_of test)) true test) (arm_of g.typed (layout g) bits first) (arm_of g.typed (layout g) bits second)
       (arm_length_of g.typed (layout g) ty bits first) (arm_length_of g.typed (layout g) ty bits second) d word.0 (kept g.may test h)))
       (choice_goes ty bits test first second word h k m c tests one other (with_reg d) s st (Value_of g has alive ty.elem quiet d s) d.regs (omega (arith, free)) here sim (fresh_dest g has alive ty.elem quiet d s free) (fresh_lands g has alive ty.elem quiet d s d.regs))
+
   assign_value : (quiet : Bool) (bits : ℕ) (ty tty : ValueType) (place : Place) (op : AssignOp) (p q : Boxed) (x : Variable) (value : TExpr) → IsWord tty → ty ≡ tty → HasVariable g.typed g.instance n x (plain tty) → (IsIn g.may) value → HasCode g.typed g.instance n value
       → ((m : ℕ) (d : Draft) → IsFresh d (value_of g.typed (layout g) m value d)) → ((calm : Bool) (m : ℕ) → Agrees calm m value) → Agrees quiet bits (T.Assign' ty place op p (T.Variable tty x) q value)
   unfolding value_of evaluated located then_do variable_target
@@ -581,11 +583,14 @@ module _ (g : Setting) (has : HasRegisters g) (alive : Variable → Type 0) (n :
     -- each argument is done as one of a list
     pub arguments_do : {k : Count} (own quiet : Bool) (row : Row_of-TExpr k) → (AreIn g.may) row → HaveCode g.typed g.instance n row → AreDone g has alive scope active own quiet row
     arguments_do own quiet end_of-TExpr h c = tt
-    arguments_do own quiet (more_of-TExpr e rest) h c = (record {
-      wide = (word_type g.may e h.0).1;
-      grows = operand_grows quiet (list_bits own e) e c.0;
-      does = operand_value quiet (list_bits own e) e h.0 c.0 (value_follows quiet (list_bits own e) e h.0 c.0);
-    }, arguments_do own quiet rest h.1 c.1)
+    arguments_do own quiet (more_of-TExpr e rest) h c = (
+      record {
+        wide = (word_type g.may e h.0).1;
+        grows = operand_grows quiet (list_bits own e) e c.0;
+        does = operand_value quiet (list_bits own e) e h.0 c.0 (value_follows quiet (list_bits own e) e h.0 c.0);
+      },
+      arguments_do own quiet rest h.1 c.1,
+    )
 
   pub operand : (quiet : Bool) (bits : ℕ) (e : TExpr) → (IsIn g.may) e → HasCode g.typed g.instance n e → Does g has alive (type_of e).elem quiet (λ st. evaluated scope e active st) (λ d. operand_by g.typed (layout g) bits (value_of g.typed (layout g) bits e) quiet e d)
   operand quiet bits e h c = operand_value quiet bits e h c (value_follows quiet bits e h c)

@@ -180,7 +180,9 @@ module _ (g : Setting) where
     turns = h.turns;
     output = h.output;
     input = h.input;
-    bytes = h.bytes; returns = h.returns; few = h.few;
+    bytes = h.bytes;
+    returns = h.returns;
+    few = h.few;
   }
 
   pub register_kept : (d : Draft) (s : CodeState) (r v : ℕ) → HasRegisters g → g.begins ≤ d.regs → d.regs ≤ r → r < g.ends → Keeps d s (with_register r v s)

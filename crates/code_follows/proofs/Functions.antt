@@ -1,17 +1,13 @@
 -- The code of a function's body, from its first statement to where the function is left.
-use mathlib.Core.Former.{Count}
-use Rattle.std.proofs.Common.{◌≡◌, ◌∙◌, ℕ, ◌+◌, ◌<◌, ◌≤◌, ◌==◌, ◌⊎◌, inl, inr, Bool, true, false, [], List, Vec, Global, length, map, slice_get, Option, Some, None, refl, sym, ap, subst, if◌then◌else◌, arith}
-use Rattle.std.specs.List.{All}
+use Rattle.std.proofs.Common.{◌≡◌, ℕ, ◌≤◌, ◌==◌, Bool, true, false, [], List, slice_get, Option, Some, None, refl, sym, ap, subst, if◌then◌else◌, arith}
 use Rattle.cstar_compile.specs.Compiled.{IsCompiled}
 use Rattle.cstar_tree.specs.declared.typed.Instance.{Instance}
-use Rattle.cstar_tree.specs.declared.typed.LocalVar.{LocalVar}
-use Rattle.cstar_tree.specs.declared.typed.TStmt.{TStmt, Row_of-TStmt}
-use Rattle.cstar_tree.specs.declared.typed.TStmt as S
+use Rattle.cstar_tree.specs.declared.typed.TStmt.{TStmt}
 use Rattle.cstar_tree.specs.declared.typed.Typed.{Typed}
 use Rattle.cstar_tree.specs.declared.typed.VarInfo.{VarInfo}
 use Rattle.cstar_tree.specs.declared.typed.Variable.{Variable}
 use Rattle.code_lengths.specs.Agreement.{StandsAmong}
-use Rattle.code_lengths.specs.Ready.{HasDeclared, HasStatementCode, IsCodable, IsReady, NumbersVariables}
+use Rattle.code_lengths.specs.Ready.{HasDeclared, IsCodable, IsReady, NumbersVariables}
 use Rattle.lower_base.specs.Drafts.{Draft, Fails, Made, Makes, then_make}
 use Rattle.lower_base.specs.Layouts.{Layout, layout_of}
 use Rattle.lower_stmt.specs.declared.statement.Frame.{Frame}
@@ -38,7 +34,7 @@ use Rattle.code_follows.proofs.Executing.{Left, Returns}
 use Rattle.code_follows.proofs.Following.{Finishes, Follows, HasRegisters}
 use Rattle.code_follows.proofs.Regions.{all_declared, all_numbered, all_ready}
 use Rattle.code_follows.proofs.Returning.{end_more, left_at_end}
-use Rattle.code_follows.proofs.Settings.{Setting, Within, earlier, layout}
+use Rattle.code_follows.proofs.Settings.{Setting, Within, earlier}
 use Rattle.code_follows.proofs.Statements.{StandsIn}
 use Rattle.code_follows.proofs.Units.{unit_at, within_all}
 

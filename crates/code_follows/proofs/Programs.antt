@@ -1,10 +1,8 @@
 -- The run of a whole program.
 use mathlib.Core.Former.{Count}
-use Rattle.std.proofs.Common.{◌≡◌, ◌∙◌, ℕ, zero, ◌+◌, ◌<◌, ◌≤◌, ◌^◌, ◌&&◌, if◌then◌else◌, nat_lt, Bool, true, false, List, Vec, Global, [], ◌∷◌, map, length, slice_get, slice_index, Option, Some, None, refl, sym, ap, subst, arith}
+use Rattle.std.proofs.Common.{◌≡◌, ◌∙◌, ℕ, zero, ◌+◌, ◌<◌, ◌≤◌, ◌^◌, ◌&&◌, if◌then◌else◌, nat_lt, Bool, true, false, List, [], ◌∷◌, map, length, slice_get, slice_index, Option, Some, None, refl, sym, ap, subst, arith}
 use Rattle.std.proofs.lemmas.List.{get_or-replicate, length-replicate}
-use Rattle.std.proofs.lemmas.Option.{slice_get_within}
 use Rattle.std.specs.Prelude.{nat_le}
-use Rattle.std.specs.List.{All}
 use Rattle.cstar_base.specs.declared.operators.Winner.{Winner}
 use Rattle.cstar_compile.specs.Compiled.{IsCompiled}
 use Rattle.cstar_tree.specs.declared.typed.Instance.{Instance}
@@ -15,7 +13,6 @@ use Rattle.cstar_tree.specs.declared.typed.Typed.{Typed}
 use Rattle.cstar_tree.specs.declared.typed.VarInfo.{VarInfo}
 use Rattle.cstar_tree.specs.declared.typed.Variable.{Variable}
 use Rattle.cstar_tree.specs.declared.typed.Variable.TheVariants as V
-use Rattle.cstar_tree.specs.Variables.{variables_of}
 use Rattle.code_lengths.specs.Growth.{Extended}
 use Rattle.code_lengths.specs.Naming.{variable_named}
 use Rattle.code_lengths.specs.Ready.{HasStatementCode, IsCodable}
@@ -33,10 +30,10 @@ use Rattle.paris_code.specs.Code.{CodeState, opening}
 use Rattle.source_meaning.specs.Programs.{Run, by_owner, calls, entered, left, meaning, result_of, run_body, run_of, scope_of, start_of, start_state, scalar_given}
 use Rattle.source_meaning.specs.State as Source
 use Rattle.source_meaning.specs.State.{Outcome, State, is_among, then_do, zeroed}
-use Rattle.source_meaning.specs.Statements.{Leaving, all_executed, executed, initialised, then_go}
+use Rattle.source_meaning.specs.Statements.{Leaving, executed, initialised}
 use Rattle.source_meaning.specs.Values.{Active}
 use Rattle.code_follows.specs.Agreement.{AreBytes, CodeMeansSource, ComesTo, end_of, mark_of}
-use Rattle.code_follows.specs.Fragment.{IsBody, IsPlainVariable, IsScalarProgram, IsWordVariable}
+use Rattle.code_follows.specs.Fragment.{IsBody, IsPlainVariable, IsScalarProgram}
 use Rattle.code_follows.proofs.Activations.{scalars, words}
 use Rattle.code_follows.proofs.Beginnings.{starts_grow, starts_run}
 use Rattle.code_follows.proofs.Bodies.{begun_code, begun_follows, begun_grows, block_code, block_initials, block_stands, row_follows}
@@ -46,15 +43,15 @@ use Rattle.code_follows.proofs.ConstantRegisters.{constant_at}
 use Rattle.code_follows.proofs.Declaring.{Started, sim_fewer, sim_same}
 use Rattle.code_follows.proofs.Endings.{NeverOnward, body_never, never_second}
 use Rattle.code_follows.proofs.Entering.{calls_so, enters_so}
-use Rattle.code_follows.proofs.Executing.{Left, Returns}
-use Rattle.code_follows.proofs.Following.{Extends, Follows, Sim, held}
-use Rattle.code_follows.proofs.Functions.{BodyMade, EndsSo, RunsFunction, among, body_made, declares, ends_by, every, every_one, falls, frame, framed, g, has, numbered, own, ready, runs_function, scope}
+use Rattle.code_follows.proofs.Executing.{Left}
+use Rattle.code_follows.proofs.Following.{Extends, Follows, Sim}
+use Rattle.code_follows.proofs.Functions.{BodyMade, EndsSo, RunsFunction, among, body_made, declares, ends_by, every, falls, frame, framed, g, has, numbered, own, ready, runs_function, scope}
 use Rattle.code_follows.proofs.Openings.{constants_run}
-use Rattle.code_follows.proofs.Regions.{base_behind, base_inside, behind_files, below, named_word, size_of}
+use Rattle.code_follows.proofs.Regions.{base_behind, base_inside, behind_files, below, named_word}
 use Rattle.code_follows.proofs.Settings.{At, EndsIn, Reaches, Setting, Within, earlier, ends_later, ends_now, onto, start}
 use Rattle.code_follows.proofs.Standing.{start_in}
 use Rattle.code_follows.proofs.Starting.{none_cleared}
-use Rattle.code_follows.proofs.Units.{blank_code, constants_grow, empty_unit, main_is, starts_homes, starts_regs, unit_at, with_constants, with_starts}
+use Rattle.code_follows.proofs.Units.{constants_grow, empty_unit, main_is, starts_homes, starts_regs, with_constants, with_starts}
 use Rattle.code_follows.proofs.Words.{held_wide}
 use Rattle.paris_code.specs.declared.program.Unit.{Unit as CodeUnit}
 

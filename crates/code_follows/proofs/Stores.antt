@@ -67,7 +67,9 @@ module _ (g : Setting) (has : HasRegisters g) (x : Variable) (info : VarInfo) (s
     turns = h.turns;
     output = h.output;
     input = h.input;
-    bytes = h.bytes; returns = h.returns; few = h.few;
+    bytes = h.bytes;
+    returns = h.returns;
+    few = h.few;
   }
     where
       infos : (y : Variable) (other : VarInfo) → variable_named g.typed g.instance y ≡ Some other → x ≡ y → info ≡ other

@@ -244,8 +244,8 @@ module _ (t : Typed) (words : List ℕ) (codable : IsCodable t) where
       let own : HasUnit t (layout_of t words number) (number == 0) regs x = own_of number regs x (first_there number x xs stand) in
       let first = own_first t words (units_of t words xs (number + 1) own.unit.regs) regs number x own in
       subst (λ (y : Instance). HasOwn t words (units_of t words (x ∷ xs) number regs) regs 0 (number + 0) y) (some_same x i is)
-          (subst (λ (n : ℕ). HasOwn t words (units_of t words (x ∷ xs) number regs) regs 0 n x) (nothing number)
-          (subst (λ (ds : List Draft). HasOwn t words ds regs 0 number x) (sym (units_from x xs number regs (first_there number x xs stand))) first))
+      (subst (λ (n : ℕ). HasOwn t words (units_of t words (x ∷ xs) number regs) regs 0 n x) (nothing number)
+      (subst (λ (ds : List Draft). HasOwn t words ds regs 0 number x) (sym (units_from x xs number regs (first_there number x xs stand))) first))
     where
       nothing : (n : ℕ) → n ≡ n + 0
       nothing n = omega arith
@@ -254,7 +254,7 @@ module _ (t : Typed) (words : List ℕ) (codable : IsCodable t) where
       let rest = own_there xs (number + 1) own.unit.regs k i (rest_there number x xs stand) is in
       let later = own_later t words own.unit (units_of t words xs (number + 1) own.unit.regs) regs k (number + 1 + k) i rest in
       subst (λ (n : ℕ). HasOwn t words (units_of t words (x ∷ xs) number regs) regs (suc k) n i) (next number k)
-          (subst (λ (ds : List Draft). HasOwn t words ds regs (suc k) (number + 1 + k) i) (sym (units_from x xs number regs (first_there number x xs stand))) later)
+      (subst (λ (ds : List Draft). HasOwn t words ds regs (suc k) (number + 1 + k) i) (sym (units_from x xs number regs (first_there number x xs stand))) later)
     where
       next : (n k : ℕ) → n + 1 + k ≡ n + suc k
       next n k = omega arith
@@ -266,7 +266,7 @@ module _ (t : Typed) (words : List ℕ) (codable : IsCodable t) where
       let is : slice_get t.instances.items number ≡ Some x = first_there number x xs stand in
       let own : HasUnit t (layout_of t words number) (number == 0) regs x = own_of number regs x is in
       subst (λ (ds : List Draft). starts_at ds k regs ≤ starts_at ds (suc k) regs) (sym (units_from x xs number regs is))
-          (one own.unit (units_of t words xs (number + 1) own.unit.regs) k (unit_grows t (layout_of t words number) (number == 0) regs x own p.variables (p.each number x is)) (all_climb xs (number + 1) own.unit.regs p (rest_there number x xs stand)))
+      (one own.unit (units_of t words xs (number + 1) own.unit.regs) k (unit_grows t (layout_of t words number) (number == 0) regs x own p.variables (p.each number x is)) (all_climb xs (number + 1) own.unit.regs p (rest_there number x xs stand)))
     where
       one : (d : Draft) (ds : List Draft) (k : ℕ) → regs ≤ d.regs → Climbs ds d.regs → starts_at (d ∷ ds) k regs ≤ starts_at (d ∷ ds) (suc k) regs
       one d ds zero more climbs = let first = starts_first ds d.regs in omega (arith, more, first)

@@ -1,4 +1,5 @@
--- A scalar program: `int s = 1; main() { int i; for (i = 0; i < 10; i++) s = s * 5 + i; printf("%d", s); }`
+-- A scalar program: `int s = 1; int twice(int p) { return p + p; }
+-- int main() { int i; for (i = 0; i < 10; i++) s = twice(s) + i; printf("%d", s); }`
 use Rattle.std.specs.Prelude.{[], ◌∷◌, Some, None}
 use Rattle.std.specs.declared.alloc.Global.{Global}
 use Rattle.std.proofs.Common.{lit<}

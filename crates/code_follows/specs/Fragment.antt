@@ -1,5 +1,5 @@
 -- The programs of which it is said so far that their code means them: scalar ones of 32 bits.
-use Rattle.std.specs.Prelude.{ℕ, Bool, true, false, List, map, slice_get, IsSome, ◌≡◌, ◌<◌, ◌^◌, [], ◌∷◌, IfSome, Option, Some, None}
+use Rattle.std.specs.Prelude.{ℕ, Bool, true, false, map, slice_get, IsSome, ◌≡◌, ◌<◌, ◌^◌, [], IfSome, Option, Some, None}
 use Rattle.std.specs.List.{All}
 use Rattle.cstar_tree.specs.declared.typed.TExpr.{TExpr, Row_of-TExpr, end_of-TExpr, more_of-TExpr}
 use Rattle.cstar_tree.specs.declared.typed.TExpr as T

@@ -12,7 +12,7 @@ use Rattle.point_runs.specs.Courses.{Course}
 use Rattle.point_runs.specs.Starts.{new_start}
 use Rattle.source_meaning.specs.Programs.{Done, End, EndsEarly, Run, meaning}
 use Rattle.source_meaning.specs.State as Source
-use Rattle.code_follows.specs.Agreement.{mark_of}
+use Rattle.code_follows.specs.Agreement.{AreBytes, mark_of}
 use Rattle.code_follows.specs.Fragment.{IsScalarProgram}
 use Rattle.turn_laws.specs.Turns.{RunsOn}
 
@@ -33,5 +33,5 @@ pub record IsRunOf (run : Run) (course : Course) : Type 0 where
 abbrev pub ScalarRunsMeanTheirText : Type 0
 ScalarRunsMeanTheirText =
     (text : List ℕ) (typed : Typed) (image : Image) → IsProgramOf text typed → IsCompiled typed image → IsScalarProgram typed →
-    (winner : Winner) (input : List ℕ) (rest : Source.Rest) (turns : ℕ) (course : Course) →
+    (winner : Winner) (input : List ℕ) (rest : Source.Rest) (turns : ℕ) (course : Course) → AreBytes input →
     RunsOn (new_start image winner) (record { bytes = input; mark = mark_of rest }) turns course → IsRunOf (meaning typed input rest turns winner) course
