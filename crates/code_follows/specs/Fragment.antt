@@ -68,9 +68,9 @@ IsWordVariable info = (info.shape ≡ None) × (info.elem.bits ≡ 32)
 abbrev pub IsInLocal : May → LocalVar → Type 0
 IsInLocal may local = IsWordVariable local.info × IfSome local.initial (IsIn may)
 
--- the condition of a loop, which is there
+-- the condition of a loop, or none
 unfoldable pub IsTested : May → Option TExpr → Type 0
-IsTested may None = ⊥
+IsTested may None = Unit {0}
 IsTested may (Some e) = IsIn may e
 
 -- statements of these
