@@ -58,6 +58,7 @@ unfoldable mutual
 unfoldable pub IsEffect : May → TExpr → Type 0
 IsEffect may (T.Printf' ty pieces p arguments) = AreIn may arguments
 IsEffect may (T.Call' ty index p arguments) = may false index × AreIn may arguments
+IsEffect may (T.Brackets' ty p inner) = IsEffect may inner
 IsEffect may e = IsIn may e
 
 -- a scalar variable of 32 bits, as it is declared
