@@ -318,7 +318,7 @@ module _ (g : Setting) (has : HasRegisters g) (alive : Variable → Type 0) (n :
   value_effect _ h c = absurd h
 
   pub effect_follows : (e : TExpr) → (IsEffect g.may) e → HasCode g.typed g.instance n e → Runs (λ st. evaluated scope e active st) (λ d. effect_of g.typed (layout g) e d)
-  unfolding IsEffect IsIn
+  unfolding IsEffect IsIn effect_of evaluated
   effect_follows (T.Printf' ty pieces p arguments) h c = printf_runs ty pieces p arguments h (printf_code g has alive n lives ready scope active calls_follow ty pieces p arguments c)
   effect_follows (T.Call' ty index p arguments) h c = call_effect ty index p arguments h.0 h.1 c
   effect_follows (T.Number ty value) h c = value_effect (T.Number ty value) h c
@@ -327,7 +327,7 @@ module _ (g : Setting) (has : HasRegisters g) (alive : Variable → Type 0) (n :
   effect_follows (T.DimOf ty shape axis value) h c = value_effect (T.DimOf ty shape axis value) h c
   effect_follows (T.Variable ty x) h c = value_effect (T.Variable ty x) h c
   effect_follows (T.GetChar ty) h c = value_effect (T.GetChar ty) h c
-  effect_follows (T.Brackets' ty p inner) h c = value_effect (T.Brackets' ty p inner) h c
+  effect_follows (T.Brackets' ty p inner) h c = effect_follows inner h (brackets_code g has alive n lives ready scope active calls_follow ty p inner c)
   effect_follows (T.Convert' ty p operand) h c = value_effect (T.Convert' ty p operand) h c
   effect_follows (T.Casts' ty elems p operand) h c = value_effect (T.Casts' ty elems p operand) h c
   effect_follows (T.Unary' ty op p operand) h c = value_effect (T.Unary' ty op p operand) h c

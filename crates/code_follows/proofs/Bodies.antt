@@ -1,5 +1,5 @@
 -- Every statement of the fragment.
-use Rattle.std.proofs.Common.{◌≡◌, ◌∙◌, ℕ, ◌+◌, ◌≤◌, false, List, [], ◌++◌, map, Vec, Global, length, Some, sym, subst, arith, None, refl, ◌⊎◌, inl, true}
+use Rattle.std.proofs.Common.{◌≡◌, ◌∙◌, ℕ, ◌+◌, ◌≤◌, false, List, [], ◌++◌, map, Vec, Global, length, Some, sym, subst, arith, refl, ◌⊎◌, inl, true}
 use mathlib.Core.Former.{Count}
 use Rattle.std.proofs.lemmas.List.{length-map}
 use Rattle.std.specs.List.{All}
@@ -216,8 +216,7 @@ module _ (g : Setting) (has : HasRegisters g) (alive : Variable → Type 0) (eve
     statement_follows (S.If' test p first (Some' q second)) h f n d s0 st framed among none free at sim c =
         if_else g has alive every numbers ready declares scope active calls_follow test p first q second h.0 (statement_follows first h.1) (statement_follows second h.2) f n d s0 st framed among none free at sim c
     statement_follows (S.While' test p body) h f n d s0 st framed among none free at sim c = while_agrees g has alive every numbers ready declares scope active calls_follow falls test p body h.0 (statement_follows body h.1) f n d s0 st framed among none free at sim c
-    statement_follows (S.For' first None step p body) h f n d s0 st framed among none free at sim c = absurd h.1
-    statement_follows (S.For' first (Some test) step p body) h f n d s0 st framed among none free at sim c = for_agrees g has alive every numbers ready declares scope active calls_follow falls first step test p body h.0 h.1 h.2 (statement_follows body h.3) f n d s0 st framed among none free at sim c
+    statement_follows (S.For' first test step p body) h f n d s0 st framed among none free at sim c = for_agrees g has alive every numbers ready declares scope active calls_follow falls first step test p body h.0 h.1 h.2 (statement_follows body h.3) f n d s0 st framed among none free at sim c
     statement_follows (S.Do' p body test) h f n d s0 st framed among none free at sim c = do_agrees g has alive every numbers ready declares scope active calls_follow falls test p body h.1 (statement_follows body h.0) f n d s0 st framed among none free at sim c
     statement_follows S.Break h f n d s0 st framed among none free at sim c = breaks f f.saved.in_loop n d s0 st at sim
     statement_follows S.Continue h f n d s0 st framed among none free at sim c = continues f f.saved.in_loop n d s0 st at sim

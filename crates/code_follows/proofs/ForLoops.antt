@@ -10,7 +10,7 @@ use Rattle.cstar_tree.specs.Variables.{variables_of}
 use Rattle.code_lengths.specs.Agreement.{StandsAmong}
 use Rattle.code_lengths.specs.Growth.{Extended, Grows}
 use Rattle.code_lengths.specs.Lowerable.{IsLowerable}
-use Rattle.code_lengths.specs.LowerableStatements.{IsLowerableStatement}
+use Rattle.code_lengths.specs.LowerableStatements.{IsLowerableStatement, IsTest}
 use Rattle.code_lengths.specs.Naming.{NamesVariables}
 use Rattle.code_lengths.specs.NamingStatements.{StandFrom, StatementNamesVariables, behind}
 use Rattle.code_lengths.specs.Ready.{HasCode, HasDeclared, HasStatementCode, IsReady, NumbersVariables}
@@ -35,14 +35,15 @@ use Rattle.source_meaning.specs.State as Source
 use Rattle.source_meaning.specs.State.{Outcome, State, spend_turn, then_do}
 use Rattle.source_meaning.specs.Statements.{Leaving, Onward, done, executed, passes, passes_or_absent, rounds, then_go, then_round}
 use Rattle.source_meaning.specs.Values.{Active, Scope, Value, nonzero, number}
-use Rattle.code_follows.specs.Fragment.{IsEffect, IsIn}
+use Rattle.code_follows.specs.Fragment.{IsEffect, IsIn, IsTested}
 use Rattle.code_follows.proofs.Assigning.{effect_follows}
 use Rattle.code_follows.proofs.Choices.{Agrees}
-use Rattle.code_follows.proofs.Executing.{Left, RanOn, TestMade, Tested, follows_from, test_follows, test_made}
+use Rattle.code_follows.proofs.Executing.{Left, RanOn, follows_from}
 use Rattle.code_follows.proofs.Callees.{CallsFollow}
 use Rattle.code_follows.proofs.Following.{Extends, Follows, HasRegisters, Ran, Sim, delayed, keeps_all}
 use Rattle.code_follows.proofs.Jumping.{jumps, moved_to, sim_moved}
 use Rattle.code_follows.proofs.Loops.{do_runs, loop_runs}
+use Rattle.code_follows.proofs.Rounds.{BackMade, back_made}
 use Rattle.code_follows.proofs.Settings.{At, Setting, and_one, code_more, earlier, layout, regs_more, start, stay}
 use Rattle.code_follows.proofs.Starting.{go_after}
 use Rattle.code_follows.proofs.Statements.{MadeSo, StandsIn, do_body, do_test, statement_made}
@@ -98,14 +99,24 @@ module _ (g : Setting) (has : HasRegisters g) (alive : Variable → Type 0) (eve
   part_code n None shaped lowerable names = tt
   part_code n (Some e) shaped lowerable names = record { shaped = shaped; lowerable = lowerable; names = names }
 
-  module _ (first step : Option TExpr) (test : TExpr) (p : Boxed) (body : TStmt) (begins : IfSome first (IsEffect g.may)) (isin : (IsIn g.may) test) (steps : IfSome step (IsEffect g.may)) (agrees : Agrees g has alive every numbers ready declares scope active calls_follow body) where
+  tests_fall : (n : ℕ) (test : Option TExpr) (st : State) → (state_after (passes_or_absent scope active test st)).turns ≤ st.turns
+  unfolding passes_or_absent state_after
+  tests_fall n None st = omega arith
+  tests_fall n (Some test) st = test_falls n test st
+
+  tested_code : (n : ℕ) (o : Option TExpr) → IsShapedPart o → IfSome o (IsTest g.typed) → IfSome o (NamesVariables g.typed g.instance n) → IfSome o (HasCode g.typed g.instance n)
+  unfolding IsShapedPart
+  tested_code n None shaped lowerable names = tt
+  tested_code n (Some e) shaped lowerable names = record { shaped = shaped; lowerable = lowerable.1; names = names }
+
+  module _ (first step test : Option TExpr) (p : Boxed) (body : TStmt) (begins : IfSome first (IsEffect g.may)) (isin : (IsTested g.may) test) (steps : IfSome step (IsEffect g.may)) (agrees : Agrees g has alive every numbers ready declares scope active calls_follow body) where
     abbrev whole : TStmt
-    whole = S.For' first (Some test) step p body
+    whole = S.For' first test step p body
 
     -- what has code of its parts
     record ForCode (n : ℕ) : Type 0 where
       pub first_code : IfSome first (HasCode g.typed g.instance n)
-      pub test_code : HasCode g.typed g.instance n test
+      pub test_code : IfSome test (HasCode g.typed g.instance n)
       pub step_code : IfSome step (HasCode g.typed g.instance n)
       pub body_code : HasStatementCode g.typed g.instance n body
 
@@ -113,9 +124,9 @@ module _ (g : Setting) (has : HasRegisters g) (alive : Variable → Type 0) (eve
     unfolding IsShapedStatement IsLowerableStatement StatementNamesVariables IsShapedPart
     for_code n c = record {
       first_code = part_code n first c.shaped.0 c.lowerable.0 c.names.0;
-      test_code = record { shaped = c.shaped.1; lowerable = c.lowerable.1.1; names = c.names.1 };
+      test_code = tested_code n test c.shaped.1 c.lowerable.1 c.names.1;
       step_code = part_code n step c.shaped.2 c.lowerable.2 c.names.2;
-      body_code = record { shaped = c.shaped.3; lowerable = c.lowerable.3; names = c.names.3; stands = subst (λ (own : List VarInfo). StandFrom (variables_of g.instance.body) n own) (of_for first (Some test) step p body) c.stands };
+      body_code = record { shaped = c.shaped.3; lowerable = c.lowerable.3; names = c.names.3; stands = subst (λ (own : List VarInfo). StandFrom (variables_of g.instance.body) n own) (of_for first test step p body) c.stands };
     }
 
     module _ (f : Frame) (n : ℕ) (d : Draft) (framed : StandsIn g f) (among : StandsAmong f []) (none : d.homes ≡ []) (c : ForCode n) where
@@ -135,7 +146,7 @@ module _ (g : Setting) (has : HasRegisters g) (alive : Variable → Type 0) (eve
       place = next + part_length_of g.typed (layout g) step
 
       abbrev after : ℕ
-      after = place + condition_length_of g.typed (layout g) (Some test) + 1
+      after = place + condition_length_of g.typed (layout g) test + 1
 
       abbrev inner : Frame
       inner = in_loop next after f
@@ -165,57 +176,55 @@ module _ (g : Setting) (has : HasRegisters g) (alive : Variable → Type 0) (eve
       made_step : PartMade step made_body.e
       made_step = part_made n step made_body.e c.step_code
 
-      made_test : TestMade g alive has every n (ready n) scope active calls_follow test made_step.e
-      made_test = test_made g alive has every n (ready n) scope active calls_follow test made_step.e isin c.test_code
+      made_back : BackMade g alive has every n (ready n) scope active calls_follow test turn made_step.e
+      made_back = back_made g alive has every n (ready n) scope active calls_follow test turn made_step.e isin c.test_code
 
       abbrev behind_loop : Draft
-      behind_loop = with_instr (I.FrontJumpNonzero made_test.r turn) made_test.e
+      behind_loop = made_back.e
 
       abbrev loop_code : Draft → Made ℕ
       loop_code begun =
           let turn = here begun + 1 in
           let next = turn + long + 1 in
           let place = next + part_length_of g.typed (layout g) step in
-          let after = place + condition_length_of g.typed (layout g) (Some test) + 1 in
+          let after = place + condition_length_of g.typed (layout g) test + 1 in
           then_make (statement_of g.typed (layout g) body (in_loop next after f) [] n (with_instr I.FrontTurn (with_instr (I.FrontJump place) begun)))
-          (λ m behind. then_make (part_of g.typed (layout g) step behind) (λ u stepped. then_make (jump_back_of g.typed (layout g) (Some test) turn stepped) (λ v end. Makes m end)))
+          (λ m behind. then_make (part_of g.typed (layout g) step behind) (λ u stepped. then_make (jump_back_of g.typed (layout g) test turn stepped) (λ v end. Makes m end)))
 
       loop_is : loop_code made_first.e ≡ Makes (behind n body) behind_loop
-      unfolding jump_back_of then_make
+      unfolding then_make
       loop_is =
-          ap (λ (m : Made ℕ). then_make m (λ m' behind'. then_make (part_of g.typed (layout g) step behind') (λ u stepped. then_make (jump_back_of g.typed (layout g) (Some test) turn stepped) (λ v end. Makes m' end)))) made_body.is
-          ∙ ap (λ (m : Made (Unit {0})). then_make m (λ u stepped. then_make (jump_back_of g.typed (layout g) (Some test) turn stepped) (λ v end. Makes (behind n body) end))) made_step.is
-          ∙ ap (λ (m : Made ℕ). then_make (then_make m (λ r after'. Makes tt (with_instr (I.FrontJumpNonzero r turn) after'))) (λ v end. Makes (behind n body) end)) made_test.is
+          ap (λ (m : Made ℕ). then_make m (λ m' behind'. then_make (part_of g.typed (layout g) step behind') (λ u stepped. then_make (jump_back_of g.typed (layout g) test turn stepped) (λ v end. Makes m' end)))) made_body.is
+          ∙ ap (λ (m : Made (Unit {0})). then_make m (λ u stepped. then_make (jump_back_of g.typed (layout g) test turn stepped) (λ v end. Makes (behind n body) end))) made_step.is
+          ∙ ap (λ (m : Made (Unit {0})). then_make m (λ v end. Makes (behind n body) end)) made_back.is
 
       numbers_are : (next ≡ length made_body.e.code) × (place ≡ length made_step.e.code) × (after ≡ length behind_loop.code) × (turn ≡ length enters.code)
-      unfolding here condition_length_of
+      unfolding here
       numbers_are =
           let a = code_more g (I.FrontJump place) made_first.e in
           let b = code_more g I.FrontTurn enters in
           let e = places before_body made_body.e long made_body.extended in
           let h = places made_body.e made_step.e (part_length_of g.typed (layout g) step) made_step.extended in
-          let i = places made_step.e made_test.e (used_length_of g.typed (layout g) 32 true test) made_test.extended in
-          let j = code_more g (I.FrontJumpNonzero made_test.r turn) made_test.e in
-          (omega (arith, a, b, e), omega (arith, a, b, e, h), omega (arith, a, b, e, h, i, j), omega (arith, a))
+          let i = places made_step.e behind_loop (condition_length_of g.typed (layout g) test + 1) made_back.extended in
+          (omega (arith, a, b, e), omega (arith, a, b, e, h), omega (arith, a, b, e, h, i), omega (arith, a))
 
       abbrev steps_in_all : ℕ
-      steps_in_all = 1 + (1 + (long + (part_length_of g.typed (layout g) step + (used_length_of g.typed (layout g) 32 true test + 1))))
+      steps_in_all = 1 + (1 + (long + (part_length_of g.typed (layout g) step + (condition_length_of g.typed (layout g) test + 1))))
 
-      behind_turn_grown : Extended before_body (long + (part_length_of g.typed (layout g) step + (used_length_of g.typed (layout g) 32 true test + 1))) behind_loop
+      behind_turn_grown : Extended before_body (long + (part_length_of g.typed (layout g) step + (condition_length_of g.typed (layout g) test + 1))) behind_loop
       behind_turn_grown =
-          extended before_body made_body.e behind_loop long (part_length_of g.typed (layout g) step + (used_length_of g.typed (layout g) 32 true test + 1)) made_body.extended
-          (extended made_body.e made_step.e behind_loop (part_length_of g.typed (layout g) step) (used_length_of g.typed (layout g) 32 true test + 1) made_step.extended
-          (extended made_step.e made_test.e behind_loop (used_length_of g.typed (layout g) 32 true test) 1 made_test.extended (and_one g (I.FrontJumpNonzero made_test.r turn) made_test.e)))
+          extended before_body made_body.e behind_loop long (part_length_of g.typed (layout g) step + (condition_length_of g.typed (layout g) test + 1)) made_body.extended
+          (extended made_body.e made_step.e behind_loop (part_length_of g.typed (layout g) step) (condition_length_of g.typed (layout g) test + 1) made_step.extended made_back.extended)
 
-      enters_grown : Extended enters (1 + (long + (part_length_of g.typed (layout g) step + (used_length_of g.typed (layout g) 32 true test + 1)))) behind_loop
-      enters_grown = extended enters before_body behind_loop 1 (long + (part_length_of g.typed (layout g) step + (used_length_of g.typed (layout g) 32 true test + 1))) (and_one g I.FrontTurn enters) behind_turn_grown
+      enters_grown : Extended enters (1 + (long + (part_length_of g.typed (layout g) step + (condition_length_of g.typed (layout g) test + 1)))) behind_loop
+      enters_grown = extended enters before_body behind_loop 1 (long + (part_length_of g.typed (layout g) step + (condition_length_of g.typed (layout g) test + 1))) (and_one g I.FrontTurn enters) behind_turn_grown
 
       all_grown : Extended made_first.e steps_in_all behind_loop
-      all_grown = extended made_first.e enters behind_loop 1 (1 + (long + (part_length_of g.typed (layout g) step + (used_length_of g.typed (layout g) 32 true test + 1)))) (and_one g (I.FrontJump place) made_first.e) enters_grown
+      all_grown = extended made_first.e enters behind_loop 1 (1 + (long + (part_length_of g.typed (layout g) step + (condition_length_of g.typed (layout g) test + 1)))) (and_one g (I.FrontJump place) made_first.e) enters_grown
 
       -- the turns, behind the first part
       turns_follow : (t : CodeState) (u : State) → g.begins ≤ made_first.e.regs → At g t (length made_first.e.code) → Sim g alive u t
-          → Follows g (Left g alive f made_first.e t) t (rounds u.turns (passes scope active test) (λ v. executed scope body n active v) (λ v. done scope active step v) u) (Makes (behind n body) behind_loop)
+          → Follows g (Left g alive f made_first.e t) t (rounds u.turns (passes_or_absent scope active test) (λ v. executed scope body n active v) (λ v. done scope active step v) u) (Makes (behind n body) behind_loop)
       unfolding Extends in_loop
       turns_follow t u free at sim =
           let so = numbers_are in
@@ -224,24 +233,24 @@ module _ (g : Setting) (has : HasRegisters g) (alive : Variable → Type 0) (eve
           let longer = made_body.extended.regs in
           let more = made_step.extended.regs in
           let at_test = so.1 in
-          let go_round : Outcome Leaving = rounds u.turns (passes scope active test) (λ v. executed scope body n active v) (λ v. done scope active step v) u in
+          let go_round : Outcome Leaving = rounds u.turns (passes_or_absent scope active test) (λ v. executed scope body n active v) (λ v. done scope active step v) u in
           delayed g (Left g alive f made_first.e t) behind_loop t go_round (Makes (behind n body) behind_loop) (0, as_it_was behind_loop) (λ within.
-          loop_runs g alive scope active test body n (behind n body) (test_falls n test) inner made_first.e enters made_body.e made_step.e made_test.e made_test.r turn (λ v. done scope active step v) within so.3 so.0 so.2 long (part_length_of g.typed (layout g) step) (used_length_of g.typed (layout g) 32 true test) made_body.extended made_step.extended made_test.extended (omega (arith, regs1, regs2))
+          loop_runs g alive scope active (passes_or_absent scope active test) body n (behind n body) (tests_fall n test) inner made_first.e enters made_body.e made_step.e behind_loop turn (λ v. done scope active step v) within so.3 so.0 so.2 long (part_length_of g.typed (layout g) step) (condition_length_of g.typed (layout g) test + 1) made_body.extended made_step.extended made_back.extended (omega (arith, regs1, regs2))
           (falls body n)
           (λ s v here_s sim_s. subst (λ (m : Made ℕ). Follows g (Left g alive inner before_body s) s (executed scope body n active v) m) made_body.is (agrees inner n before_body s v inner_frame inner_among begin_homes (omega (arith, free, regs1, regs2)) here_s sim_s c.body_code))
           (part_falls n step)
           (λ s v here_s sim_s. subst (λ (m : Made (Unit {0})). Follows g (RanOn g alive made_body.e s) s (done scope active step v) m) made_step.is (part_follows n step steps c.step_code made_body.e s v (omega (arith, free, regs1, regs2, longer)) here_s sim_s))
-          (λ s v here_s sim_s. subst (λ (m : Made ℕ). Follows g (Tested g alive made_step.e s) s (passes scope active test v) m) made_test.is (test_follows g alive has every n (ready n) scope active calls_follow test isin c.test_code made_step.e s v (omega (arith, free, regs1, regs2, longer, more)) here_s sim_s))
-          f (behind n body) steps_in_all t (moved_to g alive (place + start g) t) u all_grown (jumps g alive place made_first.e t (earlier g enters behind_loop (1 + (long + (part_length_of g.typed (layout g) step + (used_length_of g.typed (layout g) 32 true test + 1)))) enters_grown within) at)
+          (λ s v here_s sim_s. made_back.leads (omega (arith, free, regs1, regs2, longer, more)) within s v here_s sim_s)
+          f (behind n body) steps_in_all t (moved_to g alive (place + start g) t) u all_grown (jumps g alive place made_first.e t (earlier g enters behind_loop (1 + (long + (part_length_of g.typed (layout g) step + (condition_length_of g.typed (layout g) test + 1)))) enters_grown within) at)
           (keeps_all g made_first.e t) (omega (arith, at_test)) (sim_moved g alive u t (place + start g) sim))
 
     pub for_agrees : Agrees g has alive every numbers ready declares scope active calls_follow whole
-    unfolding executed statement_of passes_or_absent then_make Extends
+    unfolding executed statement_of then_make Extends
     for_agrees f n d s0 st framed among none free at sim code =
         let c = for_code n code in
         let b = made_first f n d framed among none c in
         let longer = b.extended.regs in
-        let go_round : State → Outcome Leaving = λ u. rounds u.turns (passes scope active test) (λ v. executed scope body n active v) (λ v. done scope active step v) u in
+        let go_round : State → Outcome Leaving = λ u. rounds u.turns (passes_or_absent scope active test) (λ v. executed scope body n active v) (λ v. done scope active step v) u in
         subst (λ (m : Made (Unit {0})). Follows g (Left g alive f d s0) s0 (then_go (done scope active first st) go_round) (then_make m (λ u begun. loop_code f n d framed among none c begun))) (sym b.is)
         (subst (λ (m : Made ℕ). Follows g (Left g alive f d s0) s0 (then_go (done scope active first st) go_round) m) (sym (loop_is f n d framed among none c))
         (go_after g has alive every ready scope active calls_follow d s0 (Left g alive f d s0) (done scope active first st) go_round tt b.e (Makes (behind n body) (behind_loop f n d framed among none c))
@@ -275,10 +284,10 @@ module _ (g : Setting) (has : HasRegisters g) (alive : Variable → Type 0) (eve
         nothing_more k = omega arith
 
     pub while_agrees : Agrees g has alive every numbers ready declares scope active calls_follow (S.While' test p body)
-    unfolding executed done passes_or_absent then_go
+    unfolding executed done passes_or_absent then_go IsTested
     while_agrees f n d s0 st framed among none free at sim c =
         subst (λ (m : Made ℕ). Follows g (Left g alive f d s0) s0 (rounds st.turns (passes scope active test) (λ u. executed scope body n active u) (λ u. Source.Gives Onward u) st) m) (same_code f n d)
-        (for_agrees None None test p body tt isin tt agrees f n d s0 st framed among none free at sim (while_code n c))
+        (for_agrees None None (Some test) p body tt isin tt agrees f n d s0 st framed among none free at sim (while_code n c))
 
   -- `do`
   module _ (test : TExpr) (p : Boxed) (body : TStmt) (isin : (IsIn g.may) test) (agrees : Agrees g has alive every numbers ready declares scope active calls_follow body) where
@@ -317,48 +326,48 @@ module _ (g : Setting) (has : HasRegisters g) (alive : Variable → Type 0) (eve
       unfolding in_loop has_result
       made_do = statement_made g numbers declares body do_inner n do_before do_frame do_among (do_body g numbers declares n p body test c) do_homes
 
-      made_while : TestMade g alive has every n (ready n) scope active calls_follow test made_do.e
-      made_while = test_made g alive has every n (ready n) scope active calls_follow test made_do.e isin (do_test g numbers declares n p body test c)
+      made_while : BackMade g alive has every n (ready n) scope active calls_follow (Some test) do_turn made_do.e
+      unfolding IsTested
+      made_while = back_made g alive has every n (ready n) scope active calls_follow (Some test) do_turn made_do.e isin (do_test g numbers declares n p body test c)
 
       abbrev behind_do : Draft
-      behind_do = with_instr (I.FrontJumpNonzero made_while.r do_turn) made_while.e
+      behind_do = made_while.e
 
       do_is : statement_of g.typed (layout g) (S.Do' p body test) f [] n d ≡ Makes (behind n body) behind_do
-      unfolding statement_of jump_back_of then_make
+      unfolding statement_of then_make
       do_is =
           ap (λ (m : Made ℕ). then_make m (λ m' behind'. then_make (jump_back_of g.typed (layout g) (Some test) do_turn behind') (λ v end. Makes m' end))) made_do.is
-          ∙ ap (λ (m : Made ℕ). then_make (then_make m (λ r after'. Makes tt (with_instr (I.FrontJumpNonzero r do_turn) after'))) (λ v end. Makes (behind n body) end)) made_while.is
+          ∙ ap (λ (m : Made (Unit {0})). then_make m (λ v end. Makes (behind n body) end)) made_while.is
 
       do_numbers : (do_next ≡ length made_do.e.code) × (do_after ≡ length behind_do.code) × (do_turn ≡ length d.code)
-      unfolding here
+      unfolding here condition_length_of
       do_numbers =
           let b = code_more g I.FrontTurn d in
           let e = places do_before made_do.e do_long made_do.extended in
-          let i = places made_do.e made_while.e (used_length_of g.typed (layout g) 32 true test) made_while.extended in
-          let j = code_more g (I.FrontJumpNonzero made_while.r do_turn) made_while.e in
-          (omega (arith, b, e), omega (arith, b, e, i, j), refl)
+          let i = places made_do.e behind_do (used_length_of g.typed (layout g) 32 true test + 1) made_while.extended in
+          (omega (arith, b, e), omega (arith, b, e, i), refl)
 
       do_grown : Extended d (1 + (do_long + (used_length_of g.typed (layout g) 32 true test + 1))) behind_do
+      unfolding condition_length_of
       do_grown =
           extended d do_before behind_do 1 (do_long + (used_length_of g.typed (layout g) 32 true test + 1)) (and_one g I.FrontTurn d)
-          (extended do_before made_do.e behind_do do_long (used_length_of g.typed (layout g) 32 true test + 1) made_do.extended
-          (extended made_do.e made_while.e behind_do (used_length_of g.typed (layout g) 32 true test) 1 made_while.extended (and_one g (I.FrontJumpNonzero made_while.r do_turn) made_while.e)))
+          (extended do_before made_do.e behind_do do_long (used_length_of g.typed (layout g) 32 true test + 1) made_do.extended made_while.extended)
 
       do_follows : (t : CodeState) (u : State) → g.begins ≤ d.regs → At g t (length d.code) → Sim g alive u t
           → Follows g (Left g alive f d t) t (then_round (spend_turn u (λ v. executed scope body n active v)) (λ s. rounds s.turns (passes scope active test) (λ v. executed scope body n active v) (λ v. Source.Gives Onward v) s)) (Makes (behind n body) behind_do)
-      unfolding Extends in_loop state_after Follows
+      unfolding Extends in_loop state_after Follows passes_or_absent condition_length_of
       do_follows t u free at sim =
           let so = do_numbers in
           let regs1 = regs_more g I.FrontTurn d in
           let longer = made_do.extended.regs in
           let go_round : Outcome Leaving = then_round (spend_turn u (λ v. executed scope body n active v)) (λ s. rounds s.turns (passes scope active test) (λ v. executed scope body n active v) (λ v. Source.Gives Onward v) s) in
           delayed g (Left g alive f d t) behind_do t go_round (Makes (behind n body) behind_do) (0, as_it_was behind_do) (λ within.
-          do_runs g alive scope active test body n (behind n body) (test_falls n test) do_inner d d made_do.e made_do.e made_while.e made_while.r do_turn (λ v. Source.Gives Onward v) within so.2 so.0 so.1 do_long 0 (used_length_of g.typed (layout g) 32 true test) made_do.extended (as_it_was made_do.e) made_while.extended (omega (arith, regs1))
+          do_runs g alive scope active (passes scope active test) body n (behind n body) (test_falls n test) do_inner d d made_do.e made_do.e behind_do do_turn (λ v. Source.Gives Onward v) within so.2 so.0 so.1 do_long 0 (used_length_of g.typed (layout g) 32 true test + 1) made_do.extended (as_it_was made_do.e) made_while.extended (omega (arith, regs1))
           (falls body n)
           (λ s v here_s sim_s. subst (λ (m : Made ℕ). Follows g (Left g alive do_inner do_before s) s (executed scope body n active v) m) made_do.is (agrees do_inner n do_before s v do_frame do_among do_homes (omega (arith, free, regs1)) here_s sim_s (do_body g numbers declares n p body test c)))
           (λ v. omega arith)
           (λ s v here_s sim_s within_s. (refl, record { grown = (0, as_it_was made_do.e); t = s; go = stay g s; at = here_s; sim = sim_s; keeps = keeps_all g made_do.e s }))
-          (λ s v here_s sim_s. subst (λ (m : Made ℕ). Follows g (Tested g alive made_do.e s) s (passes scope active test v) m) made_while.is (test_follows g alive has every n (ready n) scope active calls_follow test isin (do_test g numbers declares n p body test c) made_do.e s v (omega (arith, free, regs1, longer)) here_s sim_s))
+          (λ s v here_s sim_s. made_while.leads (omega (arith, free, regs1, longer)) within s v here_s sim_s)
           f (behind n body) _ t u refl do_grown at sim)
 
     pub do_agrees : Agrees g has alive every numbers ready declares scope active calls_follow (S.Do' p body test)

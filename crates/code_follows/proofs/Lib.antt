@@ -37,6 +37,7 @@ pub mod Programs
 pub mod Putting
 pub mod Regions
 pub mod Returning
+pub mod Rounds
 pub mod Settings
 pub mod Standing
 pub mod Starting

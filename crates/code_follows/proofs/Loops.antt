@@ -1,6 +1,5 @@
 -- The turns of a loop.
 use Rattle.std.proofs.Common.{◌≡◌, ◌∙◌, ℕ, zero, suc, ◌+◌, ◌≤◌, Bool, true, false, length, refl, sym, ap, subst, arith}
-use Rattle.cstar_tree.specs.declared.typed.TExpr.{TExpr}
 use Rattle.cstar_tree.specs.declared.typed.TStmt.{TStmt}
 use Rattle.cstar_tree.specs.declared.typed.Variable.{Variable}
 use Rattle.code_lengths.specs.Growth.{Extended}
@@ -11,20 +10,18 @@ use Rattle.paris_code.specs.declared.instr.Instr.TheVariants as I
 use Rattle.paris_code.specs.Code.{CodeState}
 use Rattle.source_meaning.specs.State as Source
 use Rattle.source_meaning.specs.State.{Outcome, State, spend_turn, then_do}
-use Rattle.source_meaning.specs.Statements.{Broke, Continued, Leaving, Onward, Returned, executed, passes, rounds, then_go, then_round}
+use Rattle.source_meaning.specs.Statements.{Broke, Continued, Leaving, Onward, Returned, executed, rounds, then_go, then_round}
 use Rattle.source_meaning.specs.Values.{Active, Scope}
-use Rattle.code_follows.proofs.Executing.{Jumped, Returns, returns_from, Left, RanOn, Tested, no_break, no_continue, no_return}
+use Rattle.code_follows.proofs.Executing.{Jumped, Returns, returns_from, Left, RanOn, no_break, no_continue, no_return}
 use Rattle.code_follows.proofs.Following.{Finishes, Follows, Keeps, Sim, finishes_later, keeps_all, keeps_less}
-use Rattle.code_follows.proofs.Jumping.{behind_turn, moved_to, returns_to, sim_moved, sim_spent, spends, stops}
-use Rattle.code_follows.proofs.Settings.{At, Reaches, Setting, Within, and_one, code_more, earlier, onto, start}
+use Rattle.code_follows.proofs.Jumping.{behind_turn, sim_spent, spends, stops}
+use Rattle.code_follows.proofs.Rounds.{Leads}
+use Rattle.code_follows.proofs.Settings.{At, Reaches, Setting, Within, code_more, earlier, onto, start}
 
 -- a loop: the turn stands behind one draft, the body behind it, then the step, the test, and the jump back
-module _ (g : Setting) (alive : Variable → Type 0) (scope : Scope) (active : Active) (test : TExpr) (body : TStmt) (n number : ℕ) (test_falls : (st : State) → (state_after (passes scope active test st)).turns ≤ st.turns) (f : Frame) (d before_turn behind_body stepped tested : Draft) (r turn : ℕ) (step : State → Outcome Leaving) where
+module _ (g : Setting) (alive : Variable → Type 0) (scope : Scope) (active : Active) (tests : State → Outcome Bool) (body : TStmt) (n number : ℕ) (test_falls : (st : State) → (state_after (tests st)).turns ≤ st.turns) (f : Frame) (d before_turn behind_body stepped behind_loop : Draft) (turn : ℕ) (step : State → Outcome Leaving) where
   abbrev before_body : Draft
   before_body = with_instr I.FrontTurn before_turn
-
-  abbrev behind_loop : Draft
-  behind_loop = with_instr (I.FrontJumpNonzero r turn) tested
 
   -- the loop is left behind it, or the run is over
   unfoldable pub LoopEnds : CodeState → Outcome Leaving → Type 0
@@ -42,16 +39,13 @@ module _ (g : Setting) (alive : Variable → Type 0) (scope : Scope) (active : A
   ends_from s t (Source.Gives Continued st) go keeps h = absurd h
   ends_from s t (Source.Ends early st) go keeps h = finishes_later g early st s t go h
 
-  module _ (within : Within g behind_loop) (turn_is : turn ≡ length before_turn.code) (next_is : f.next ≡ length behind_body.code) (after_is : f.after ≡ length behind_loop.code) (k j l : ℕ) (body_grows : Extended before_body k behind_body) (step_grows : Extended behind_body j stepped) (test_grows : Extended stepped l tested)
+  module _ (within : Within g behind_loop) (turn_is : turn ≡ length before_turn.code) (next_is : f.next ≡ length behind_body.code) (after_is : f.after ≡ length behind_loop.code) (k j l : ℕ) (body_grows : Extended before_body k behind_body) (step_grows : Extended behind_body j stepped) (test_grows : Extended stepped l behind_loop)
       (regs : d.regs ≤ before_body.regs) (falls : (st : State) → (state_after (executed scope body n active st)).turns ≤ st.turns)
       (body_follows : (t : CodeState) (st : State) → At g t (length before_body.code) → Sim g alive st t → Follows g (Left g alive f before_body t) t (executed scope body n active st) (Makes number behind_body))
       (step_falls : (st : State) → (state_after (step st)).turns ≤ st.turns) (step_follows : (t : CodeState) (st : State) → At g t (length behind_body.code) → Sim g alive st t → Follows g (RanOn g alive behind_body t) t (step st) (Makes (tt {0}) stepped))
-      (test_follows : (t : CodeState) (st : State) → At g t (length stepped.code) → Sim g alive st t → Follows g (Tested g alive stepped t) t (passes scope active test st) (Makes r tested)) where
-    within_tested : Within g tested
-    within_tested = earlier g tested behind_loop 1 (and_one g (I.FrontJumpNonzero r turn) tested) within
-
+      (test_leads : (t : CodeState) (st : State) → At g t (length stepped.code) → Sim g alive st t → Leads g alive stepped turn (length behind_loop.code) t (tests st)) where
     within_stepped : Within g stepped
-    within_stepped = earlier g stepped tested l test_grows within_tested
+    within_stepped = earlier g stepped behind_loop l test_grows within
 
     within_body : Within g behind_body
     within_body = earlier g behind_body stepped j step_grows within_stepped
@@ -96,55 +90,36 @@ module _ (g : Setting) (alive : Variable → Type 0) (scope : Scope) (active : A
             ends_from t s1 (then_round (executed scope body n active (record u { turns = m })) next) (spends g alive before_turn t u m within_turn here sim is) (keeps_all g d t)
             (by_body m is (executed scope body n active (record u { turns = m })) (falls (record u { turns = m })) (body_follows s1 (record u { turns = m }) (omega (arith, here, more)) (sim_spent g alive u t m is sim)))
 
-    -- where the test passes the code is at the turn again, and else behind the loop
-    again_at : (s : CodeState) (u : State) → (t : Tested g alive stepped s true u r tested) → Reaches g s (moved_to g alive (turn + start g) t.t) × At g (moved_to g alive (turn + start g) t.t) (length before_turn.code)
-    again_at s u t = (onto g s t.t (moved_to g alive (turn + start g) t.t) t.go (returns_to g alive true r turn tested t.t t.is within t.at), omega (arith, turn_is))
-
-    left_at : (s : CodeState) (u : State) → Tested g alive stepped s false u r tested → Jumped g alive d s u (length behind_loop.code)
-    left_at s u t =
-        let place = t.at in
-        let more = code_more g (I.FrontJumpNonzero r turn) tested in
-        record {
-          t = moved_to g alive (t.t.at + 1) t.t;
-          go = onto g s t.t (moved_to g alive (t.t.at + 1) t.t) t.go (returns_to g alive false r turn tested t.t t.is within t.at);
-          at = omega (arith, place, more);
-          sim = sim_moved g alive u t.t (t.t.at + 1) t.sim;
-          keeps = kept_by_test s t.t t.keeps;
-        }
-
     -- behind the test there are no more turns
-    falls_by : (st u : State) (b : Bool) → passes scope active test st ≡ Source.Gives b u → u.turns ≤ st.turns
+    falls_by : (st u : State) (b : Bool) → tests st ≡ Source.Gives b u → u.turns ≤ st.turns
     unfolding state_after
     falls_by st u b is = subst (λ (o : Outcome Bool). (state_after o).turns ≤ st.turns) is (test_falls st)
 
     abbrev a_round : State → Outcome Leaving
     a_round u = executed scope body n active u
 
-    last_round : (s : CodeState) (st : State) → st.turns ≡ 0 → (o : Outcome Bool) → passes scope active test st ≡ o → Follows g (Tested g alive stepped s) s o (Makes r tested)
+    last_round : (s : CodeState) (st : State) → st.turns ≡ 0 → (o : Outcome Bool) → tests st ≡ o → Leads g alive stepped turn (length behind_loop.code) s o
         → LoopEnds s (then_do o (λ b after. elim b as (λ _. Outcome Leaving) [ true ↦ Source.Ends Source.Stopped after | false ↦ Source.Gives Onward after ]))
-    unfolding then_do LoopEnds Follows
-    last_round s st none (Source.Gives true u) is h =
-        let t = h within_tested in
+    unfolding then_do LoopEnds Leads
+    last_round s st none (Source.Gives true u) is j =
         let fewer : u.turns ≤ st.turns = falls_by st u true is in
         let over : u.turns ≡ 0 = omega (arith, fewer, none) in
-        let back = again_at s u t in
-        finishes_later g Source.Stopped u s (moved_to g alive (turn + start g) t.t) back.0 (stops g alive before_turn (moved_to g alive (turn + start g) t.t) u within_turn back.1 (sim_moved g alive u t.t (turn + start g) t.sim) over)
-    last_round s st none (Source.Gives false u) is h = left_at s u (h within_tested)
-    last_round s st none (Source.Ends early u) is h = h within_tested
+        let place = j.at in
+        finishes_later g Source.Stopped u s j.t j.go (stops g alive before_turn j.t u within_turn (omega (arith, place, turn_is)) j.sim over)
+    last_round s st none (Source.Gives false u) is j = record { t = j.t; go = j.go; at = j.at; sim = j.sim; keeps = kept_by_test s j.t j.keeps }
+    last_round s st none (Source.Ends early u) is h = h
 
     next_round : (fuel : ℕ) (s : CodeState) (st : State) → st.turns ≤ suc fuel → (next : State → Outcome Leaving) → ((v : State) (w : CodeState) → v.turns ≤ fuel → At g w (length behind_body.code) → Sim g alive v w → LoopEnds w (next v))
-        → (o : Outcome Bool) → passes scope active test st ≡ o → Follows g (Tested g alive stepped s) s o (Makes r tested)
+        → (o : Outcome Bool) → tests st ≡ o → Leads g alive stepped turn (length behind_loop.code) s o
         → LoopEnds s (then_do o (λ b after. elim b as (λ _. Outcome Leaving) [ true ↦ then_round (spend_turn after a_round) next | false ↦ Source.Gives Onward after ]))
-    unfolding then_do LoopEnds Follows
-    next_round fuel s st few next again (Source.Gives true u) is h =
-        let t = h within_tested in
+    unfolding then_do LoopEnds Leads
+    next_round fuel s st few next again (Source.Gives true u) is j =
         let fewer : u.turns ≤ st.turns = falls_by st u true is in
-        let back = again_at s u t in
-        let t1 : CodeState = moved_to g alive (turn + start g) t.t in
-        ends_from s t1 (then_round (spend_turn u a_round) next) back.0 (kept_by_test s t.t t.keeps)
-        (take_turn u t1 next back.1 (sim_moved g alive u t.t (turn + start g) t.sim) (λ m v w is_m fewer_v here_w sim_w. again v w (omega (arith, few, fewer, is_m, fewer_v)) here_w sim_w))
-    next_round fuel s st few next again (Source.Gives false u) is h = left_at s u (h within_tested)
-    next_round fuel s st few next again (Source.Ends early u) is h = h within_tested
+        let place = j.at in
+        ends_from s j.t (then_round (spend_turn u a_round) next) j.go (kept_by_test s j.t j.keeps)
+        (take_turn u j.t next (omega (arith, place, turn_is)) j.sim (λ m v w is_m fewer_v here_w sim_w. again v w (omega (arith, few, fewer, is_m, fewer_v)) here_w sim_w))
+    next_round fuel s st few next again (Source.Gives false u) is j = record { t = j.t; go = j.go; at = j.at; sim = j.sim; keeps = kept_by_test s j.t j.keeps }
+    next_round fuel s st few next again (Source.Ends early u) is h = h
 
     -- behind the body comes the step
     step_on : (v : State) (w : CodeState) (next : State → Outcome Leaving) → At g w (length behind_body.code) → Sim g alive v w → ((u : State) (x : CodeState) → u.turns ≤ v.turns → At g x (length stepped.code) → Sim g alive u x → LoopEnds x (next u)) → LoopEnds w (then_go (step v) next)
@@ -159,12 +134,12 @@ module _ (g : Setting) (alive : Variable → Type 0) (scope : Scope) (active : A
         by (Source.Ends early u) few h = h within_stepped
 
     -- behind the step the test decides
-    pub rounds_follow : (fuel : ℕ) (st : State) (s : CodeState) → st.turns ≤ fuel → At g s (length stepped.code) → Sim g alive st s → LoopEnds s (rounds fuel (passes scope active test) a_round step st)
+    pub rounds_follow : (fuel : ℕ) (st : State) (s : CodeState) → st.turns ≤ fuel → At g s (length stepped.code) → Sim g alive st s → LoopEnds s (rounds fuel tests a_round step st)
     unfolding rounds
-    rounds_follow zero st s few here sim = last_round s st (omega (arith, few)) (passes scope active test st) refl (test_follows s st here sim)
+    rounds_follow zero st s few here sim = last_round s st (omega (arith, few)) (tests st) refl (test_leads s st here sim)
     rounds_follow (suc fuel) st s few here sim =
-        next_round fuel s st few (λ v. then_go (step v) (rounds fuel (passes scope active test) a_round step))
-        (λ v w fewer here_w sim_w. step_on v w (rounds fuel (passes scope active test) a_round step) here_w sim_w (λ u x less here_x sim_x. rounds_follow fuel u x (omega (arith, fewer, less)) here_x sim_x)) (passes scope active test st) refl (test_follows s st here sim)
+        next_round fuel s st few (λ v. then_go (step v) (rounds fuel tests a_round step))
+        (λ v w fewer here_w sim_w. step_on v w (rounds fuel tests a_round step) here_w sim_w (λ u x less here_x sim_x. rounds_follow fuel u x (omega (arith, fewer, less)) here_x sim_x)) (tests st) refl (test_leads s st here sim)
 
     -- how the loop is left, as a statement
     loop_left : (h : Frame) (m : ℕ) (j : ℕ) (s : CodeState) (o : Outcome Leaving) → Extended d j behind_loop → LoopEnds s o → Follows g (Left g alive h d s) s o (Makes m behind_loop)
@@ -177,12 +152,12 @@ module _ (g : Setting) (alive : Variable → Type 0) (scope : Scope) (active : A
 
     -- the loop, from where it is entered
     pub loop_runs : (h : Frame) (m i : ℕ) (s0 s1 : CodeState) (st : State) → Extended d i behind_loop → Reaches g s0 s1 → Keeps g d s0 s1 → At g s1 (length stepped.code) → Sim g alive st s1
-        → Follows g (Left g alive h d s0) s0 (rounds st.turns (passes scope active test) a_round step st) (Makes m behind_loop)
-    loop_runs h m i s0 s1 st x go keeps here sim = loop_left h m i s0 (rounds st.turns (passes scope active test) a_round step st) x (ends_from s0 s1 (rounds st.turns (passes scope active test) a_round step st) go keeps (rounds_follow st.turns st s1 (omega arith) here sim))
+        → Follows g (Left g alive h d s0) s0 (rounds st.turns tests a_round step st) (Makes m behind_loop)
+    loop_runs h m i s0 s1 st x go keeps here sim = loop_left h m i s0 (rounds st.turns tests a_round step st) x (ends_from s0 s1 (rounds st.turns tests a_round step st) go keeps (rounds_follow st.turns st s1 (omega arith) here sim))
 
     -- the same where the body comes first, and there is no step
     pub do_runs : (h : Frame) (m i : ℕ) (s0 : CodeState) (st : State) → length stepped.code ≡ length behind_body.code → Extended d i behind_loop → At g s0 (length before_turn.code) → Sim g alive st s0
-        → Follows g (Left g alive h d s0) s0 (then_round (spend_turn st a_round) (λ s. rounds s.turns (passes scope active test) a_round step s)) (Makes m behind_loop)
+        → Follows g (Left g alive h d s0) s0 (then_round (spend_turn st a_round) (λ s. rounds s.turns tests a_round step s)) (Makes m behind_loop)
     do_runs h m i s0 st same x here sim =
-        loop_left h m i s0 (then_round (spend_turn st a_round) (λ s. rounds s.turns (passes scope active test) a_round step s)) x
-        (take_turn st s0 (λ s. rounds s.turns (passes scope active test) a_round step s) here sim (λ k v w is few here_w sim_w. rounds_follow v.turns v w (omega arith) (here_w ∙ ap (λ (q : ℕ). start g + q) (sym same)) sim_w))
+        loop_left h m i s0 (then_round (spend_turn st a_round) (λ s. rounds s.turns tests a_round step s)) x
+        (take_turn st s0 (λ s. rounds s.turns tests a_round step s) here sim (λ k v w is few here_w sim_w. rounds_follow v.turns v w (omega arith) (here_w ∙ ap (λ (q : ℕ). start g + q) (sym same)) sim_w))

@@ -58,6 +58,7 @@ unfoldable mutual
 unfoldable pub IsEffect : May → TExpr → Type 0
 IsEffect may (T.Printf' ty pieces p arguments) = AreIn may arguments
 IsEffect may (T.Call' ty index p arguments) = may false index × AreIn may arguments
+IsEffect may (T.Brackets' ty p inner) = IsEffect may inner
 IsEffect may e = IsIn may e
 
 -- a scalar variable of 32 bits, as it is declared
@@ -68,9 +69,9 @@ IsWordVariable info = (info.shape ≡ None) × (info.elem.bits ≡ 32)
 abbrev pub IsInLocal : May → LocalVar → Type 0
 IsInLocal may local = IsWordVariable local.info × IfSome local.initial (IsIn may)
 
--- the condition of a loop, which is there
+-- the condition of a loop, or none
 unfoldable pub IsTested : May → Option TExpr → Type 0
-IsTested may None = ⊥
+IsTested may None = Unit {0}
 IsTested may (Some e) = IsIn may e
 
 -- statements of these
