@@ -75,8 +75,6 @@ IsTested may None = Unit {0}
 IsTested may (Some e) = IsIn may e
 
 -- statements of these
--- An expression whose value is used: of numbers, variables, `getchar`, operators, conversions, assignments
--- and steps of scalar variables, and calls. Casts lead to 32 bits, by whichever types.
 unfoldable mutual
   pub IsInStatement : May → TStmt → Type 0
   IsInStatement may (S.Block' locals p statements) = All (IsInLocal may) locals.items × AreInStatements may statements
