@@ -1,19 +1,18 @@
 -- The values that the variables of the file begin with.
-use Rattle.std.proofs.Common.{◌≡◌, ◌∙◌, ℕ, zero, suc, ◌+◌, ◌<◌, ◌≤◌, ◌^◌, ◌==◌, Bool, true, false, List, [], ◌∷◌, length, slice_get, slice_index, Option, Some, None, refl, sym, ap, if◌then◌else◌, arith}
+use Rattle.std.proofs.Common.{◌≡◌, ◌∙◌, ℕ, zero, suc, ◌+◌, ◌<◌, ◌≤◌, ◌^◌, ◌==◌, Bool, true, false, List, [], ◌∷◌, length, slice_get, slice_index, Some, refl, sym, ap, if◌then◌else◌, arith}
 use Rattle.std.specs.List.{All}
 use Rattle.std.proofs.lemmas.Bool.{eqb-true}
 use Rattle.std.proofs.lemmas.List.{get_or-set_other, get_or-set_same}
 use Rattle.std.proofs.Math.ListN.{length-set}
 use Rattle.cstar_base.specs.declared.elem.Elem.{Elem}
 use Rattle.cstar_base.specs.Numbers.{converted}
-use Rattle.cstar_tree.specs.declared.typed.Typed.{Typed}
 use Rattle.cstar_tree.specs.declared.typed.VarInfo.{VarInfo}
 use Rattle.cstar_tree.specs.declared.typed.Variable.TheVariants as V
 use Rattle.code_lengths.specs.Growth.{Extended}
 use Rattle.code_lengths.proofs.Drafting.{as_it_was, extended}
-use Rattle.lower_base.specs.Drafts.{Draft, Made, Makes, step as step_of, then_make, with_instr}
-use Rattle.lower_base.specs.Layouts.{Layout, entries_of, register_of}
-use Rattle.lower_stmt.specs.Programs.{elements_begun, scalar_begun, start_value_of, start_values_of}
+use Rattle.lower_base.specs.Drafts.{Draft, step as step_of, with_instr}
+use Rattle.lower_base.specs.Layouts.{Layout, register_of}
+use Rattle.lower_stmt.specs.Programs.{scalar_begun}
 use Rattle.paris_code.specs.declared.instr.Instr.TheVariants as I
 use Rattle.paris_code.specs.Code.{CodeState, Goes, begun, with_register}
 use Rattle.paris_code.specs.Scalar.{rounded}
@@ -37,20 +36,6 @@ module _ (l : Layout) where
   unfoldable pub starts_put : List VarInfo → ℕ → Draft → Draft
   starts_put [] n d = d
   starts_put (info ∷ infos) n d = starts_put infos (n + 1) (start_put info n d)
-
-  pub starts_are : (t : Typed) (infos : List VarInfo) (n : ℕ) (d : Draft) → All IsPlainVariable infos → start_values_of t l infos n d ≡ Makes tt (starts_put infos n d)
-  unfolding start_values_of start_value_of then_make start_put starts_put
-  starts_are t [] n d all = refl
-  starts_are t (info ∷ infos) n d all =
-      ap (λ (o : Option ℕ). then_make (if info.start == 0 then Makes tt d else elim o as (λ _. Made (Unit {0})) [
-        | None ↦ Makes tt (scalar_begun l info n d)
-        | Some s ↦ elements_begun t l n info.start (entries_of info) 0 d
-      ]) (λ u after. start_values_of t l infos (n + 1) after)) (all_first IsPlainVariable info infos all).0.0
-      ∙ by (info.start == 0) ∙ starts_are t infos (n + 1) (start_put info n d) (all_rest IsPlainVariable info infos all)
-    where
-      by : (b : Bool) → then_make (if b then Makes (tt {0}) d else Makes (tt {0}) (scalar_begun l info n d)) (λ u after. start_values_of t l infos (n + 1) after) ≡ start_values_of t l infos (n + 1) (if b then d else scalar_begun l info n d)
-      by true = refl
-      by false = refl
 
   one_grows : (info : VarInfo) (n : ℕ) (g : Setting) (d : Draft) → (k : ℕ) × Extended d k (start_put info n d)
   unfolding start_put scalar_begun

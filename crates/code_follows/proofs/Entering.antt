@@ -197,9 +197,6 @@ module _ (t : Typed) (image : Image) (p : IsScalarProgram t) (codable : IsCodabl
 
     -- ---- what its body gives, and where it goes back
 
-    abbrev body_run : Outcome Leaving
-    body_run = executed (scope t image p codable compiled number b is open_calls m) b.body 0 active opening_state
-
     -- what is said of the inner function's early end is said of the caller's
     ends_early : (early : Source.Early) (u : State) → Finishes inner early u s → Finishes caller early u s
     ends_early early u f = record { t = f.t; ends = record { steps = f.ends.steps; is = f.ends.is }; turns = f.turns; output = f.output; input = f.input }

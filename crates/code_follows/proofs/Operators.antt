@@ -23,9 +23,6 @@ unfoldable pub by_machine : Machine → ℕ → ℕ → ℕ
 by_machine (M.Operate act) a b = operated act a b
 by_machine (M.Compare relation) a b = compared relation a b
 
-not_zero : (b : ℕ) → 0 < b → (b == 0) ≡ false
-not_zero b some = grind (arith, nat_tests, some)
-
 -- a division by what is not 0
 divided : (o : Op) (unsigned : Bool) (a b : ℕ) → (b == 0) ≡ false → unwrap_or (if divides o && (b == 0) then None else Some (outcome o 32 unsigned a b)) 0 ≡ outcome o 32 unsigned a b
 divided o unsigned a b some = by (divides o) (b == 0) some

@@ -223,14 +223,6 @@ module _ (t : Typed) (p : HasScalarInstances t) (words : List ℕ) where
   unfolding layout_of entered
   same_constants j k = refl
 
-  pub same_files : (j k : ℕ) → (layout_of t words j).files ≡ (layout_of t words k).files
-  unfolding layout_of entered
-  same_files j k = refl
-
-  pub constants_are : (number : ℕ) → (layout_of t words number).constants ≡ words
-  unfolding layout_of entered
-  constants_are number = refl
-
   -- each instance has its registers
   pub as_many_bases : (number : ℕ) → length (layout_of t words number).bases ≡ length t.instances.items
   as_many_bases number = ap length (bases_are number) ∙ as_many (length t.vars.items) t.instances.items
@@ -397,14 +389,6 @@ module _ (t : Typed) (p : HasScalarInstances t) (words : List ℕ) where
       let inside = slice_get_within i.params.items k info named in let first = param_register number k in let second = local_register number i j is in absurd (omega (arith, inside, first, second, same))
   apart number i is (V.Local k) (V.Param j) info other named also same =
       let inside = slice_get_within i.params.items j other also in let first = local_register number i k is in let second = param_register number j in absurd (omega (arith, inside, first, second, same))
-
-  -- a variable that an instance knows has none of the registers of another
-  pub other_apart : (j k : ℕ) (a b : Instance) → slice_get t.instances.items j ≡ Some a → slice_get t.instances.items k ≡ Some b → (j ≡ k → ⊥) → (x : Variable) (info : VarInfo) → variable_named t a x ≡ Some info → IsOwn k b (register_of (layout_of t words j) x) → ⊥
-  unfolding variable_named
-  other_apart j k a b one other differ (V.File n) info named own =
-      let inside = slice_get_within t.vars.items n info named in let at = file_register j n in let low = own_behind k b _ other own in omega (arith, inside, at, low)
-  other_apart j k a b one other differ (V.Param n) info named own = differ (own_apart j k a b _ one other (param_own j a n info one named) own)
-  other_apart j k a b one other differ (V.Local n) info named own = differ (own_apart j k a b _ one other (local_own j a n info one named) own)
 
   -- ---- what the code of an instance relies on
 

@@ -301,17 +301,6 @@ module _ (t : Typed) (image : Image) (p : HasScalarInstances t) (codable : IsCod
   unfoldable pub ends : ℕ → ℕ
   ends number = starts_at drafts (suc number) first_value
 
-  pub begins_first : begins 0 ≡ first_value
-  unfolding begins
-  begins_first = starts_first drafts first_value
-
-  pub begins_next : (k : ℕ) → begins (k + 1) ≡ ends k
-  unfolding begins ends
-  begins_next k = ap (λ (n : ℕ). starts_at drafts n first_value) (next k)
-    where
-      next : (k : ℕ) → k + 1 ≡ suc k
-      next k = omega arith
-
   all_stand : StandBehind t the_words codable 0 t.instances.items
   all_stand j i is = ap (λ (n : ℕ). slice_get t.instances.items n) (nothing j) ∙ is
     where
@@ -455,10 +444,6 @@ module _ (t : Typed) (image : Image) (p : HasScalarInstances t) (codable : IsCod
   pub blank_homes : (number : ℕ) (i : Instance) → (blank i.name (begins number)).homes ≡ []
   unfolding blank
   blank_homes number i = refl
-
-  pub blank_code : (number : ℕ) (i : Instance) → (blank i.name (begins number)).code ≡ []
-  unfolding blank
-  blank_code number i = refl
 
   -- `main` has the constants and the values of the file's variables there
   abbrev pub empty_unit : Instance → Draft
