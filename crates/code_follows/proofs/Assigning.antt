@@ -45,7 +45,7 @@ use Rattle.source_meaning.specs.State as Source
 use Rattle.source_meaning.specs.State.{Outcome, State, then_do, with_scalar}
 use Rattle.source_meaning.specs.Targets.{OfScalar, assigned, stepped, variable_target}
 use Rattle.source_meaning.specs.Values.{Active, Scope, Value, number}
-use Rattle.code_follows.specs.Fragment.{AreIn, IsEffect, IsIn, IsVariable, IsWord}
+use Rattle.code_follows.specs.Fragment.{AreIn, IsEffect, IsIn, IsVariable, IsWord, Takes}
 use Rattle.code_follows.proofs.Changing.{no_place, only_set, operated_set_is, plain_type, scalar_type, set_is, stepped_is, stepping}
 use Rattle.code_follows.proofs.CallValues.{call_code, many_arguments}
 use Rattle.code_follows.proofs.Expressions.{arguments_do, assign_names, brackets_code, operand, step_names, target_named, value_follows}
@@ -59,7 +59,9 @@ use Rattle.code_follows.proofs.Settings.{At, Setting, layout, stay}
 use Rattle.code_follows.proofs.Standing.{some_same}
 use Rattle.code_follows.proofs.Stores.{variable_dest}
 use Rattle.code_follows.proofs.Values.{fresh_dest, with_reg, Value_of, HasWord, extends_in_register, extends_operated, operates, word_follows}
-use Rattle.code_follows.proofs.Words.{below_word, held_wide, kept, word_type}
+use Rattle.code_follows.proofs.Words.{below_word, held_wide, kept, scalar_of}
+use Rattle.std.proofs.Common.{inr}
+use Rattle.code_follows.proofs.Numbers.{takes_fits, takes_same}
 
 module _ (g : Setting) (has : HasRegisters g) (alive : Variable → Type 0) (n : ℕ) (lives : (x : Variable) → IsDeclared n x → alive x) (ready : (d : Draft) → IsReady g.typed g.instance (layout g) n d) (scope : Scope) (active : Active) (calls_follow : CallsFollow g scope active)
     (x : Variable) (info : VarInfo) (living : alive x) (scalar : IsScalar g x info) (also : info.elem.bits ≡ 32) where
@@ -71,18 +73,18 @@ module _ (g : Setting) (has : HasRegisters g) (alive : Variable → Type 0) (n :
   Does_so part code = (d : Draft) (s : CodeState) (st : State) → g.begins ≤ d.regs → At g s (length d.code) → Sim g alive st s → Follows g (λ v u out e. Ran g alive d s u e) s (part st) (code d)
 
   -- without an operator the value is put in the variable
-  set_follows : (place : Place) (ty : ValueType) (value : TExpr) → ty.shape ≡ None → (IsIn g.may) value → HasCode g.typed g.instance n value
+  set_follows : (place : Place) (ty : ValueType) (value : TExpr) → ty.shape ≡ None → Takes info.elem (type_of value).elem → (IsIn g.may) value → HasCode g.typed g.instance n value
       → Does_so (λ st. then_do (evaluated scope value active st) (λ v after. assigned scope active place A.Set ty (type_of value) (OfScalar x) v after)) (λ d. put_to g.typed (layout g) (O.Scalar own) value d)
   unfolding Follows
-  set_follows place ty value plain isin c d s st free here sim =
-      then_silent g (Put g has alive n lives ready scope active calls_follow x info living scalar also d s) (λ v u out e. Ran g alive d s u e) s (evaluated scope value active st) _ (put_to g.typed (layout g) (O.Scalar own) value d)
-      (put_follows g has alive n lives ready scope active calls_follow x info living scalar also value isin c d s st free here sim) (λ v u out e p.
+  set_follows place ty value plain takes isin c d s st free here sim =
+      then_silent g (Put g has alive n lives ready scope active calls_follow x info living scalar (type_of value).elem d s) (λ v u out e. Ran g alive d s u e) s (evaluated scope value active st) _ (put_to g.typed (layout g) (O.Scalar own) value d)
+      (put_follows g has alive n lives ready scope active calls_follow x info living scalar value isin c (takes_fits info.elem (type_of value).elem takes) d s st free here sim) (λ v u out e p.
       subst (λ (r : Outcome Value). Follows g (λ v u out e. Ran g alive d s u e) s r (Makes out e))
-      (sym (ap (λ (w : Value). assigned scope active place A.Set ty (type_of value) (OfScalar x) w u) p.value ∙ set_is scope active place x ty (type_of value) p.word u plain (word_type g.may value isin).0))
-      (λ within. record { grown = p.grown; t = p.t; go = p.go; at = p.at; sim = p.sim; keeps = p.keeps }))
+      (sym (ap (λ (w : Value). assigned scope active place A.Set ty (type_of value) (OfScalar x) w u) p.value ∙ set_is scope active place x ty (type_of value) p.word u plain (scalar_of g.may value isin)))
+      (λ within. record { grown = p.grown; t = p.t; go = p.go; at = p.at; sim = subst (λ (w : ℕ). Sim g alive (with_scalar x w u) p.t) (takes_same info.elem (type_of value).elem p.word takes p.small) p.sim; keeps = p.keeps }))
 
   -- with one, the operation writes the variable
-  module _ (place : Place) (op : AssignOp) (o : Op) (ty : ValueType) (value : TExpr) (word : IsWord ty) (isin : (IsIn g.may) value) (c : HasCode g.typed g.instance n value) (is : assign_op_of op ≡ Some o) where
+  module _ (place : Place) (op : AssignOp) (o : Op) (ty : ValueType) (value : TExpr) (word : IsWord ty) (long : IsWord (type_of value)) (isin : (IsIn g.may) value) (c : HasCode g.typed g.instance n value) (is : assign_op_of op ≡ Some o) where
     abbrev signed : Bool
     signed = assigned_signed o ty.elem (type_of value).elem
 
@@ -103,17 +105,17 @@ module _ (g : Setting) (has : HasRegisters g) (alive : Variable → Type 0) (n :
     with_value d s v u out e free arr =
         let old : ℕ = u.scalar x in
         let few : old < 2 ^ 32 = below_word info.elem.bits old also (arr.sim.small x info living scalar) in
-        let small : arr.holds.word < 2 ^ 32 = below_word (type_of value).elem.bits arr.holds.word (word_type g.may value isin).1 arr.holds.small in
+        let small : arr.holds.word < 2 ^ 32 = below_word (type_of value).elem.bits arr.holds.word long.1 arr.holds.small in
         let is_a : slice_index arr.t.registers own ≡ old = arr.sim.scalars x info living scalar ∙ held_wide info.elem old also few in
-        let is_b : slice_index arr.t.registers arr.holds.register ≡ arr.holds.word = arr.holds.lasts u arr.t arr.sim (keeps_all g e arr.t) (λ h. refl) ∙ held_wide (type_of value).elem arr.holds.word (word_type g.may value isin).1 small in
+        let is_b : slice_index arr.t.registers arr.holds.register ≡ arr.holds.word = arr.holds.lasts u arr.t arr.sim (keeps_all g e arr.t) (λ h. refl) ∙ held_wide (type_of value).elem arr.holds.word long.1 small in
         subst (λ (o' : Out). Follows g (λ v u out e. Ran g alive d s u e) s (assigned scope active place op ty (type_of value) (OfScalar x) v u) (in_register o' (λ b. behind_value b e))) (sym arr.holds.is)
         (subst (λ (made : Made Out). Follows g (λ v u out e. Ran g alive d s u e) s (assigned scope active place op ty (type_of value) (OfScalar x) v u) made) (sym (written_is arr.holds.register e))
         (subst (λ (r : Outcome Value). Follows g (λ v u out e. Ran g alive d s u e) s r (Makes (O.Scalar own) (operated_in o signed place own own arr.holds.register e)))
-        (sym (ap (λ (w : Value). assigned scope active place op ty (type_of value) (OfScalar x) w u) arr.holds.value ∙ operated_set_is g has alive scope active place x op o ty (type_of value) arr.holds.word u word (word_type g.may value isin) few small is))
-        (then_silent g (Put g has alive n lives ready scope active calls_follow x info living scalar also d s) (λ v u out e. Ran g alive d s u e) s _ _ (Makes (O.Scalar own) (operated_in o signed place own own arr.holds.register e))
-        (operates g has alive ty o place signed d e arr.extended.0 s arr.t u (Put g has alive n lives ready scope active calls_follow x info living scalar also d s) scope active own own arr.holds.register old arr.holds.word word
-        (variable_dest g has alive x info living scalar ty.elem d s word.1 also free) arr.go arr.at arr.sim arr.extended.1 arr.keeps is_a is_b few small)
-        (λ w u2 out2 e2 p. λ within. record { grown = p.grown; t = p.t; go = p.go; at = p.at; sim = subst (λ (q : Value). Sim g alive (with_scalar x (number q) u2) p.t) (sym p.value) p.sim; keeps = p.keeps }))))
+        (sym (ap (λ (w : Value). assigned scope active place op ty (type_of value) (OfScalar x) w u) arr.holds.value ∙ operated_set_is g has alive scope active place x op o ty (type_of value) arr.holds.word u word long few small is))
+        (then_silent g (Put g has alive n lives ready scope active calls_follow x info living scalar ty.elem d s) (λ v u out e. Ran g alive d s u e) s _ _ (Makes (O.Scalar own) (operated_in o signed place own own arr.holds.register e))
+        (operates g has alive ty o place signed d e arr.extended.0 s arr.t u (Put g has alive n lives ready scope active calls_follow x info living scalar ty.elem d s) scope active own own arr.holds.register old arr.holds.word word
+        (variable_dest g has alive x info living scalar ty.elem d s (inr also) free) arr.go arr.at arr.sim arr.extended.1 arr.keeps is_a is_b few small)
+        (λ w u2 out2 e2 p. λ within. record { grown = p.grown; t = p.t; go = p.go; at = p.at; sim = subst (λ (q : Value). Sim g alive (with_scalar x (number q) u2) p.t) (sym p.value) (subst (λ (k : ℕ). Sim g alive (with_scalar x k u2) p.t) (takes_same info.elem ty.elem p.word (inr (word.1, also)) p.small) p.sim); keeps = p.keeps }))))
 
     pub operated_set_follows : Does_so (λ st. then_do (evaluated scope value active st) (λ v after. assigned scope active place op ty (type_of value) (OfScalar x) v after)) (λ d. register_operated g.typed (layout g) o signed place ty.elem own value d)
     unfolding register_operated
@@ -149,10 +151,10 @@ module _ (g : Setting) (has : HasRegisters g) (alive : Variable → Type 0) (n :
         let is_a : slice_index h.t.registers own ≡ old = h.sim.scalars x info living scalar ∙ held_wide info.elem old also few in
         subst (λ (made : Made Out). Follows g (λ v u out e. Ran g alive d s u e) s (stepped scope active op order ty (OfScalar x) st) made) (sym (stepped_so q e))
         (subst (λ (r : Outcome Value). Follows g (λ v u out e. Ran g alive d s u e) s r (Makes (O.Scalar own) (operated_in (stepping op) sign place own own q e))) (sym (stepped_is g has alive scope active x place op order ty st word few))
-        (then_silent g (Put g has alive n lives ready scope active calls_follow x info living scalar also d s) (λ v u out e. Ran g alive d s u e) s _ _ (Makes (O.Scalar own) (operated_in (stepping op) sign place own own q e))
-        (operates g has alive ty (stepping op) place sign d e h.grown.0 s h.t st (Put g has alive n lives ready scope active calls_follow x info living scalar also d s) scope active own own q old 1 word
-        (variable_dest g has alive x info living scalar ty.elem d s word.1 also free) h.go h.at h.sim h.grown.1 h.keeps is_a h.is few (omega arith))
-        (λ w u2 out2 e2 p. λ within. record { grown = p.grown; t = p.t; go = p.go; at = p.at; sim = subst (λ (v : Value). Sim g alive (with_scalar x (number v) u2) p.t) (sym p.value) p.sim; keeps = p.keeps })))
+        (then_silent g (Put g has alive n lives ready scope active calls_follow x info living scalar ty.elem d s) (λ v u out e. Ran g alive d s u e) s _ _ (Makes (O.Scalar own) (operated_in (stepping op) sign place own own q e))
+        (operates g has alive ty (stepping op) place sign d e h.grown.0 s h.t st (Put g has alive n lives ready scope active calls_follow x info living scalar ty.elem d s) scope active own own q old 1 word
+        (variable_dest g has alive x info living scalar ty.elem d s (inr also) free) h.go h.at h.sim h.grown.1 h.keeps is_a h.is few (omega arith))
+        (λ w u2 out2 e2 p. λ within. record { grown = p.grown; t = p.t; go = p.go; at = p.at; sim = subst (λ (v : Value). Sim g alive (with_scalar x (number v) u2) p.t) (sym p.value) (subst (λ (k : ℕ). Sim g alive (with_scalar x k u2) p.t) (takes_same info.elem ty.elem p.word (inr (word.1, also)) p.small) p.sim); keeps = p.keeps })))
 
     extends_one : (q : ℕ) (e : Draft) → Extends g e (behind_one q e)
     extends_one q e = subst (λ (made : Made Out). Extends g e made) (sym (stepped_so q e)) (extends_operated g has alive (stepping op) sign place own own q e)
@@ -194,10 +196,10 @@ module _ (g : Setting) (has : HasRegisters g) (alive : Variable → Type 0) (n :
   unfolding step_effect own_of standing then_make
   steps_it elem x op whole d = refl
 
-  assigns : (elem : Elem) (place : Place) (op : AssignOp) (x : Variable) (value : TExpr) (whole : Code) → elem.bits ≡ 32 → HasVariable g.typed g.instance n x (plain (scalar_type elem)) → (IsIn g.may) value → HasCode g.typed g.instance n value
+  assigns : (elem : Elem) (place : Place) (op : AssignOp) (x : Variable) (value : TExpr) (whole : Code) → elem.bits ≡ 32 → HasVariable g.typed g.instance n x (plain (scalar_type elem)) → IsWord (type_of value) → (IsIn g.may) value → HasCode g.typed g.instance n value
       → Runs (λ st. then_do (evaluated scope value active st) (λ v after. assigned scope active place op (scalar_type elem) (type_of value) (OfScalar x) v after)) (λ d. assignment_effect g.typed (layout g) op place (T.Variable (scalar_type elem) x) value whole d)
   unfolding variable_operated
-  assigns elem place op x value whole wide v isin c d s st free here sim =
+  assigns elem place op x value whole wide v long isin c d s st free here sim =
       subst (λ (made : Made Out). Follows g (λ v u out e. Ran g alive d s u e) s (then_do (evaluated scope value active st) (λ v after. assigned scope active place op (scalar_type elem) (type_of value) (OfScalar x) v after)) made)
       (sym (writes_it elem x op place value whole d (kept g.may value isin))) (by op (assign_op_of op) refl)
     where
@@ -206,9 +208,9 @@ module _ (g : Setting) (has : HasRegisters g) (alive : Variable → Type 0) (n :
 
       by : (op : AssignOp) (m : Option Op) → assign_op_of op ≡ m → Follows g (λ v u out e. Ran g alive d s u e) s (then_do (evaluated scope value active st) (λ v after. assigned scope active place op (scalar_type elem) (type_of value) (OfScalar x) v after))
           (elim m as (λ _. Made Out) [ None ↦ put_to g.typed (layout g) (O.Scalar (register_of (layout g) x)) value d | Some o ↦ variable_operated g.typed (layout g) o place (T.Variable (scalar_type elem) x) value (O.Scalar (register_of (layout g) x)) d ])
-      by op (Some o) is = operated_set_follows g has alive n lives ready scope active calls_follow x info (lives x v.declared) (v.named, refl) wide place op o (scalar_type elem) value (refl, wide) isin c is d s st free here sim
+      by op (Some o) is = operated_set_follows g has alive n lives ready scope active calls_follow x info (lives x v.declared) (v.named, refl) wide place op o (scalar_type elem) value (refl, wide) long isin c is d s st free here sim
       by op None is = subst (λ (q : AssignOp). Follows g (λ v u out e. Ran g alive d s u e) s (then_do (evaluated scope value active st) (λ v after. assigned scope active place q (scalar_type elem) (type_of value) (OfScalar x) v after)) (put_to g.typed (layout g) (O.Scalar (register_of (layout g) x)) value d))
-          (sym (only_set op is)) (set_follows g has alive n lives ready scope active calls_follow x info (lives x v.declared) (v.named, refl) wide place (scalar_type elem) value refl isin c d s st free here sim)
+          (sym (only_set op is)) (set_follows g has alive n lives ready scope active calls_follow x info (lives x v.declared) (v.named, refl) wide place (scalar_type elem) value refl (inr (long.1, wide)) isin c d s st free here sim)
 
   -- an expression without effects
   pure_follows : (e : TExpr) → (IsIn g.may) e → HasCode g.typed g.instance n e → Runs (λ st. evaluated scope e active st) (λ d. value_of g.typed (layout g) (type_of e).elem.bits e d)
@@ -222,13 +224,13 @@ module _ (g : Setting) (has : HasRegisters g) (alive : Variable → Type 0) (n :
       nothing_done (Source.Gives v u) = refl
       nothing_done (Source.Ends early u) = refl
 
-  assign_runs : (tty : ValueType) (place : Place) (op : AssignOp) (x : Variable) (value : TExpr) (whole : Code) → IsWord tty → HasVariable g.typed g.instance n x (plain tty) → (IsIn g.may) value → HasCode g.typed g.instance n value
+  assign_runs : (tty : ValueType) (place : Place) (op : AssignOp) (x : Variable) (value : TExpr) (whole : Code) → IsWord tty → HasVariable g.typed g.instance n x (plain tty) → IsWord (type_of value) → (IsIn g.may) value → HasCode g.typed g.instance n value
       → Runs (λ st. then_do (Source.Gives (variable_target tty.shape x 0) st) (λ there between. then_do (evaluated scope value active between) (λ v after. assigned scope active place op tty (type_of value) there v after)))
       (λ d. assignment_effect g.typed (layout g) op place (T.Variable tty x) value whole d)
   unfolding then_do variable_target
-  assign_runs tty place op x value whole word v isin c =
+  assign_runs tty place op x value whole word v long isin c =
       subst (λ (t : ValueType). HasVariable g.typed g.instance n x (plain t) → Runs (λ st. then_do (Source.Gives (variable_target t.shape x 0) st) (λ there between. then_do (evaluated scope value active between) (λ v after. assigned scope active place op t (type_of value) there v after)))
-      (λ d. assignment_effect g.typed (layout g) op place (T.Variable t x) value whole d)) (sym (plain_type tty word.0)) (λ w. assigns tty.elem place op x value whole word.1 w isin c) v
+      (λ d. assignment_effect g.typed (layout g) op place (T.Variable t x) value whole d)) (sym (plain_type tty word.0)) (λ w. assigns tty.elem place op x value whole word.1 w long isin c) v
 
   step_runs : (tty : ValueType) (op : StepOp) (order : StepOrder) (x : Variable) (whole : Code) → IsWord tty → HasVariable g.typed g.instance n x (plain tty)
       → Runs (λ st. then_do (Source.Gives (variable_target tty.shape x 0) st) (λ there after. stepped scope active op order tty there after)) (λ d. step_effect g.typed (layout g) op (T.Variable tty x) whole d)
@@ -294,7 +296,7 @@ module _ (g : Setting) (has : HasRegisters g) (alive : Variable → Type 0) (n :
       let names = assign_names g has alive n lives ready scope active calls_follow ty place op p q (T.Variable tty x) value c in
       subst (λ (t : ValueType). Runs (λ st. then_do (Source.Gives (variable_target tty.shape x 0) st) (λ there between. then_do (evaluated scope value active between) (λ v after. assigned scope active place op t (type_of value) there v after)))
       (λ d. assignment_effect g.typed (layout g) op place (T.Variable tty x) value (λ e. value_of g.typed (layout g) ty.elem.bits (T.Assign' ty place op p (T.Variable tty x) q value) e) d)) (sym h.1)
-      (assign_runs tty place op x value (λ e. value_of g.typed (layout g) ty.elem.bits (T.Assign' ty place op p (T.Variable tty x) q value) e) h.2 (target_named g has alive n lives ready scope active calls_follow tty x names.0) h.3 names.1)
+      (assign_runs tty place op x value (λ e. value_of g.typed (layout g) ty.elem.bits (T.Assign' ty place op p (T.Variable tty x) q value) e) h.2 (target_named g has alive n lives ready scope active calls_follow tty x names.0) h.4 h.3 names.1)
   value_effect (T.Assign' ty place op p _ q value) h c = absurd h.2
   value_effect (T.Step' ty op order p (T.Variable tty x)) h c =
       subst (λ (t : ValueType). Runs (λ st. then_do (Source.Gives (variable_target tty.shape x 0) st) (λ there after. stepped scope active op order t there after)) (λ d. step_effect g.typed (layout g) op (T.Variable tty x) (λ e. value_of g.typed (layout g) ty.elem.bits (T.Step' ty op order p (T.Variable tty x)) e) d)) (sym h.1)

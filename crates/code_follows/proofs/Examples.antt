@@ -9,7 +9,7 @@ use Rattle.cstar_tree.specs.Variables.{variables_of}
 use Rattle.code_lengths.proofs.Declaring.{of_block, of_expression, of_for, of_return, row_variables}
 use Rattle.source_meaning.specs.Examples.{number, variable, vec}
 use Rattle.code_follows.specs.Example.{ExampleIsScalar, body, doubled, example, main, prints, sums, turns, twice}
-use Rattle.code_follows.specs.Fragment.{AreClosed, AreIn, AreInStatements, IsBody, IsClosed, IsEffect, IsFlat, IsIn, IsInLocal, IsInStatement, IsPlainVariable, IsScalarFunction, IsTested, IsVariable, IsWordVariable, may_of}
+use Rattle.code_follows.specs.Fragment.{AreClosed, AreIn, AreInStatements, IsBody, IsClosed, IsEffect, IsFlat, IsIn, IsInLocal, IsInStatement, IsPlainVariable, IsScalarFunction, IsTested, IsVariable, IsScalarVariable, IsWordVariable, may_of}
 use Rattle.code_follows.proofs.Standing.{some_same}
 
 all_none : {A : Type 0} (P : A → Type 0) → All P []
@@ -50,19 +50,19 @@ main_is heap = record {
   params = all_none IsWordVariable;
   result = λ info is. subst IsWordVariable (some_same (variable number None 0) info is) (refl, refl);
   body = (
-    all_one (IsInLocal (may_of (example heap) rank 0)) (record { info = variable number None 0; initial = None }) ((refl, refl), tt),
+    all_one (IsInLocal (may_of (example heap) rank 0)) (record { info = variable number None 0; initial = None }) (refl, tt),
     (
       (
-        ((refl, refl), refl, (refl, refl), ((refl, refl), omega arith)),
-        ((refl, refl), (refl, refl), ((refl, refl), omega arith)),
+        ((refl, refl), refl, (refl, refl), ((refl, refl), omega arith), (refl, refl)),
+        ((refl, refl), refl, ((refl, refl), omega arith), (refl, refl), (refl, refl)),
         ((refl, refl), refl, (refl, refl)),
-        ((refl, refl), refl, (refl, refl), ((refl, refl), ((refl, refl), (twice heap, (refl, omega arith, omega arith, λ with_result. refl)), ((refl, refl), tt)), (refl, refl))),
+        ((refl, refl), refl, (refl, refl), ((refl, refl), ((refl, refl), (twice heap, (refl, omega arith, omega arith, λ with_result. refl)), (refl, tt, (refl, refl))), refl, (refl, refl), (refl, refl)), (refl, refl)),
       ),
-      (((refl, refl), tt), tt),
+      ((refl, tt, (refl, refl)), tt),
     ),
     (tt, (tt, tt)),
   );
-  locals = subst (λ (xs : List VarInfo). All IsWordVariable xs) (sym (own heap)) (all_one IsWordVariable (variable number None 0) (refl, refl));
+  locals = subst (λ (xs : List VarInfo). All IsScalarVariable xs) (sym (own heap)) (all_one IsScalarVariable (variable number None 0) refl);
 }
 
 twice_is : (heap : Global) → IsScalarFunction (may_of (example heap) rank 1) (twice heap)
@@ -70,8 +70,8 @@ unfolding IsBody IsInStatement IsIn AreInStatements AreClosed IsClosed
 twice_is heap = record {
   params = all_one IsWordVariable (variable number None 0) (refl, refl);
   result = λ info is. subst IsWordVariable (some_same (variable number None 0) info is) (refl, refl);
-  body = (all_none (IsInLocal (may_of (example heap) rank 1)), (((refl, refl), (refl, refl), (refl, refl)), tt), (tt, tt));
-  locals = subst (λ (xs : List VarInfo). All IsWordVariable xs) (sym (none_own heap)) (all_none IsWordVariable);
+  body = (all_none (IsInLocal (may_of (example heap) rank 1)), ((((refl, refl), refl, refl, (refl, refl), (refl, refl)), (refl, refl)), tt), (tt, tt));
+  locals = subst (λ (xs : List VarInfo). All IsScalarVariable xs) (sym (none_own heap)) (all_none IsScalarVariable);
 }
 
 module _ (heap : Global) where
@@ -113,5 +113,5 @@ is_scalar heap = record {
   each = each heap;
   flat = flat heap;
   names = names heap;
-  variables = all_one IsPlainVariable (variable number None 1) ((refl, refl), omega arith);
+  variables = all_one IsPlainVariable (variable number None 1) (refl, omega arith);
 }

@@ -12,6 +12,7 @@ pub mod Casts
 pub mod Changing
 pub mod Choices
 pub mod Choosing
+pub mod Conversions
 pub mod Closed
 pub mod ConstantRegisters
 pub mod Declaring
@@ -29,6 +30,7 @@ pub mod Jumping
 pub mod Logical
 pub mod Loops
 pub mod Nested
+pub mod Numbers
 pub mod Openings
 pub mod Operators
 pub mod Passing

@@ -49,6 +49,7 @@ use Rattle.code_follows.proofs.Fresh.{IsClear, IsFresh, fresh_register, fresh_th
 use Rattle.code_follows.proofs.Settings.{At, Reaches, Setting, Within, and_one, at_next, begins_here, layout, one, onto, regs_more, stay}
 use Rattle.code_follows.proofs.Stores.{IsPut, variable_dest}
 use Rattle.code_follows.proofs.Values.{Dest, Does, Grows_on, HasWord, Value_of, and_register, extends_in_register, extends_operated, extends_word, operates, register_same, rewrapped, some_word, with_reg, word_follows}
+use Rattle.code_follows.proofs.Numbers.{number_same}
 use Rattle.code_follows.proofs.Words.{below_bits, below_word, held_wide}
 
 -- a register that the draft has not is no clear one
@@ -75,15 +76,15 @@ module _ (g : Setting) (has : HasRegisters g) (alive : Variable → Type 0) (x :
   stored_behind elem quiet d s v u out e arr q w is few free within =
       let regs = arr.extended.1.regs in
       let last : Draft = with_instr (I.FrontMove own q) e in
-      let p : IsPut g has alive x info living scalar e arr.t (Scalar w) u (O.Scalar own) last =
-      (variable_dest g has alive x info living scalar info.elem e arr.t also also (omega (arith, free, regs))).puts e 0 (I.FrontMove own q) arr.t u w (stay g arr.t) arr.at arr.sim (as_it_was e) (keeps_all g e arr.t) within refl
+      let p : IsPut g has alive x info living scalar info.elem e arr.t (Scalar w) u (O.Scalar own) last =
+      (variable_dest g has alive x info living scalar info.elem e arr.t (inl refl) (omega (arith, free, regs))).puts e 0 (I.FrontMove own q) arr.t u w (stay g arr.t) arr.at arr.sim (as_it_was e) (keeps_all g e arr.t) within refl
       (ap (λ (y : ℕ). Goes (with_register own y arr.t)) (is ∙ sym (held_wide info.elem w also few))) (below_bits info.elem.bits w also few) in
       record {
         extended = (arr.extended.0 + p.grown.0, extended d e last arr.extended.0 p.grown.0 arr.extended.1 p.grown.1);
         t = p.t;
         go = onto g s arr.t p.t arr.go p.go;
         at = p.at;
-        sim = subst (λ (k : ℕ). Sim g alive (with_scalar x k u) p.t) (sym (some_word w p.word p.value)) p.sim;
+        sim = subst (λ (k : ℕ). Sim g alive (with_scalar x k u) p.t) (number_same info.elem p.word p.small ∙ sym (some_word w p.word p.value)) p.sim;
         keeps = keeps_on g d e arr.extended.0 s arr.t p.t arr.extended.1 arr.keeps p.keeps;
         holds = record {
           register = arr.holds.register;

@@ -159,18 +159,18 @@ module _ (g : Setting) (has : HasRegisters g) (alive : Variable → Type 0) wher
   named_scalar : (n : ℕ) (ty : ValueType) (x : Variable) → (v : HasVariable g.typed g.instance n x (plain ty)) → ty.shape ≡ None → IsScalar g x (variable_info v.word (plain ty) v.start)
   named_scalar n ty x v scalar = (v.named, scalar)
 
-  pub variable_follows : (quiet : Bool) (bits n : ℕ) (ty : ValueType) (x : Variable) (d : Draft) (s : CodeState) (st : State) → IsWord ty → HasVariable g.typed g.instance n x (plain ty) → alive x → g.begins ≤ d.regs → At g s (length d.code) → Sim g alive st s
+  pub variable_follows : (quiet : Bool) (bits n : ℕ) (ty : ValueType) (x : Variable) (d : Draft) (s : CodeState) (st : State) → ty.shape ≡ None → HasVariable g.typed g.instance n x (plain ty) → alive x → g.begins ≤ d.regs → At g s (length d.code) → Sim g alive st s
       → Follows g (λ v u out e. Arrives g alive ty.elem quiet d s v u out e) s (Source.Gives (read st (variable_target ty.shape x 0)) st) (read_by g.typed (layout g) (T.Variable ty x) ty bits (λ between. Makes (variable_spot (layout g) ty x) between) d)
   unfolding Follows begun step_of
-  variable_follows quiet bits n ty x d s st word v lives free at sim =
+  variable_follows quiet bits n ty x d s st plain_shape v lives free at sim =
       let info : VarInfo = variable_info v.word (plain ty) v.start in
-      let scalar : IsScalar g x info = named_scalar n ty x v word.0 in
+      let scalar : IsScalar g x info = named_scalar n ty x v plain_shape in
       let moves : (within : Within g (with_instr (I.FrontMove d.regs (register_of (layout g) x)) (with_reg d))) → Arrives g alive ty.elem quiet d s (Scalar (st.scalar x)) st (O.Scalar d.regs) (with_instr (I.FrontMove d.regs (register_of (layout g) x)) (with_reg d)) =
       λ within.
       sets_register ty.elem quiet d (with_reg d) 0 (I.FrontMove d.regs (register_of (layout g) x)) s s st d.regs (st.scalar x) free (stay g s) at sim (and_register d) (keeps_all g d s) within refl
       (ap (λ (w : ℕ). Goes (with_register d.regs w s)) (sim.scalars x info lives scalar)) (omega arith) (omega arith) (sim.small x info lives scalar) in
-      subst (λ (made : Made Out). Follows g (λ v u out e. Arrives g alive ty.elem quiet d s v u out e) s (Source.Gives (read st (variable_target ty.shape x 0)) st) made) (sym (copied ty x bits d word.0))
-      (subst (λ (v : Value). Follows g (λ v u out e. Arrives g alive ty.elem quiet d s v u out e) s (Source.Gives v st) (Makes (O.Scalar d.regs) (with_instr (I.FrontMove d.regs (register_of (layout g) x)) (with_reg d)))) (sym (read_is st ty x word.0)) moves)
+      subst (λ (made : Made Out). Follows g (λ v u out e. Arrives g alive ty.elem quiet d s v u out e) s (Source.Gives (read st (variable_target ty.shape x 0)) st) made) (sym (copied ty x bits d plain_shape))
+      (subst (λ (v : Value). Follows g (λ v u out e. Arrives g alive ty.elem quiet d s v u out e) s (Source.Gives v st) (Makes (O.Scalar d.regs) (with_instr (I.FrontMove d.regs (register_of (layout g) x)) (with_reg d)))) (sym (read_is st ty x plain_shape)) moves)
 
   -- the relation of a value's code
   abbrev pub Value_of : Elem → Bool → Draft → CodeState → Value → State → Out → Draft → Type 0
