@@ -9,7 +9,8 @@ use Rattle.cstar_tree.specs.Variables.{variables_of}
 use Rattle.code_lengths.proofs.Declaring.{of_block, of_expression, of_for, of_return, row_variables}
 use Rattle.source_meaning.specs.Examples.{number, variable, vec}
 use Rattle.code_follows.specs.Example.{ExampleIsScalar, body, doubled, example, main, prints, sums, turns, twice}
-use Rattle.code_follows.specs.Fragment.{AreClosed, AreIn, AreInStatements, IsBody, IsClosed, IsEffect, IsFlat, IsIn, IsInLocal, IsInStatement, IsPlainVariable, IsScalarFunction, IsTested, IsVariable, IsScalarVariable, IsWordVariable, may_of}
+use Rattle.std.proofs.Common.{inl}
+use Rattle.code_follows.specs.Fragment.{AreClosed, AreIn, AreInStatements, IsBody, IsClosed, IsEffect, IsFlat, IsGiven, IsIn, IsInLocal, IsInStatement, IsPlainVariable, IsScalarFunction, IsTested, IsVariable, IsScalarVariable, IsWordVariable, may_of}
 use Rattle.code_follows.proofs.Standing.{some_same}
 
 all_none : {A : Type 0} (P : A → Type 0) → All P []
@@ -45,7 +46,7 @@ rank : ℕ → ℕ
 rank number = 1 - number
 
 main_is : (heap : Global) → IsScalarFunction (may_of (example heap) rank 0) (main heap)
-unfolding IsBody IsInStatement IsEffect IsIn IsTested IsVariable AreIn AreInStatements AreClosed IsClosed rank
+unfolding IsBody IsInStatement IsEffect IsGiven IsIn IsTested IsVariable AreIn AreInStatements AreClosed IsClosed rank
 main_is heap = record {
   params = all_none IsWordVariable;
   result = λ info is. subst IsWordVariable (some_same (variable number None 0) info is) (refl, refl);
@@ -53,10 +54,10 @@ main_is heap = record {
     all_one (IsInLocal (may_of (example heap) rank 0)) (record { info = variable number None 0; initial = None }) (refl, tt),
     (
       (
-        ((refl, refl), refl, (refl, refl), ((refl, refl), omega arith), (refl, refl)),
+        (refl, refl, refl, ((refl, refl), omega arith), inl refl),
         ((refl, refl), refl, ((refl, refl), omega arith), (refl, refl), (refl, refl)),
-        ((refl, refl), refl, (refl, refl)),
-        ((refl, refl), refl, (refl, refl), ((refl, refl), ((refl, refl), (twice heap, (refl, omega arith, omega arith, λ with_result. refl)), (refl, tt, (refl, refl))), refl, (refl, refl), (refl, refl)), (refl, refl)),
+        (refl, refl, refl),
+        (refl, refl, refl, ((refl, refl), ((refl, refl), (twice heap, (refl, omega arith, omega arith, λ with_result. refl)), (refl, tt, (refl, refl))), refl, (refl, refl), (refl, refl)), inl refl),
       ),
       ((refl, tt, (refl, refl)), tt),
     ),

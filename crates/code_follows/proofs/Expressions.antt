@@ -48,7 +48,7 @@ use Rattle.source_meaning.specs.State as Source
 use Rattle.source_meaning.specs.State.{Outcome, State, then_do}
 use Rattle.source_meaning.specs.Values.{Active, Scalar, Scope, Value, at, convert_to, nonzero, number, unary_of}
 use Rattle.source_meaning.proofs.ConstantLaws.{Boxed, value_means}
-use Rattle.code_follows.specs.Fragment.{AreIn, IsIn, IsWord, IsVariable}
+use Rattle.code_follows.specs.Fragment.{AreIn, IsGiven, IsIn, IsWord, IsVariable}
 use Rattle.code_follows.proofs.Arguments.{AreDone}
 use Rattle.code_follows.proofs.Branching.{IsMadeWord, made_word}
 use Rattle.code_follows.proofs.Choosing.{Arm_does, IsMadeTo, Lands, arm_follows, arm_made, choice_is, choose_is, constant_arm, fresh_lands, scalar_choice_follows}
@@ -358,20 +358,20 @@ module _ (g : Setting) (has : HasRegisters g) (alive : Variable → Type 0) (n :
   other_grows : (m k : ℕ) (e : TExpr) → HasCode g.typed g.instance n e → (d : Draft) → Extends g d (operand_by g.typed (layout g) m (value_of g.typed (layout g) k e) true e d)
   other_grows m k e c d = extends_grown g has alive _ d _ _ (operand_grown g.typed g.instance (layout g) n m true e (value_of g.typed (layout g) k e) _ d c (ready d) ((expressions g.typed g.instance (layout g)).value k n e d c (ready d)))
 
-  fresh_assign : (bits : ℕ) (ty tty : ValueType) (place : Place) (op : AssignOp) (p q : Boxed) (x : Variable) (value : TExpr) → IsWord tty → HasVariable g.typed g.instance n x (plain tty) → (IsIn g.may) value → HasCode g.typed g.instance n value
+  fresh_assign : (bits : ℕ) (ty tty : ValueType) (place : Place) (op : AssignOp) (p q : Boxed) (x : Variable) (value : TExpr) → tty.shape ≡ None → HasVariable g.typed g.instance n x (plain tty) → (IsIn g.may) value → HasCode g.typed g.instance n value
       → ((m : ℕ) (d : Draft) → IsFresh d (value_of g.typed (layout g) m value d)) → (d : Draft) → IsFresh d (value_of g.typed (layout g) bits (T.Assign' ty place op p (T.Variable tty x) q value) d)
   unfolding value_of
-  fresh_assign bits ty tty place op p q x value word v isin c fresh d =
-      subst (λ (t : ValueType). HasVariable g.typed g.instance n x (plain t) → IsFresh d (value_of g.typed (layout g) bits (T.Assign' ty place op p (T.Variable t x) q value) d)) (sym (plain_type tty word.0)) (λ w.
+  fresh_assign bits ty tty place op p q x value plain_shape v isin c fresh d =
+      subst (λ (t : ValueType). HasVariable g.typed g.instance n x (plain t) → IsFresh d (value_of g.typed (layout g) bits (T.Assign' ty place op p (T.Variable t x) q value) d)) (sym (plain_type tty plain_shape)) (λ w.
       let target : TExpr = T.Variable (scalar_type tty.elem) x in
-      fresh_assigned g has alive x (variable_info w.word (plain (scalar_type tty.elem)) w.start) (lives x w.declared) (w.named, refl) word.1 place op tty.elem (T.Assign' ty place op p target q value) value bits (λ e. value_of g.typed (layout g) (taken_bits bits op target value) value e) d word.1 (kept g.may value isin)
+      fresh_assigned g has alive x (variable_info w.word (plain (scalar_type tty.elem)) w.start) (lives x w.declared) (w.named, refl) place op (T.Assign' ty place op p target q value) value bits (λ e. value_of g.typed (layout g) (taken_bits bits op target value) value e) d (kept g.may value isin)
       (fresh (taken_bits bits op target value) d) (λ m b. other_grows m (taken_bits bits op target value) value c b)) v
 
-  fresh_step : (bits : ℕ) (ty tty : ValueType) (op : StepOp) (order : StepOrder) (p : Boxed) (x : Variable) → IsWord tty → HasVariable g.typed g.instance n x (plain tty) → (d : Draft) → IsFresh d (value_of g.typed (layout g) bits (T.Step' ty op order p (T.Variable tty x)) d)
+  fresh_step : (bits : ℕ) (ty tty : ValueType) (op : StepOp) (order : StepOrder) (p : Boxed) (x : Variable) → tty.shape ≡ None → HasVariable g.typed g.instance n x (plain tty) → (d : Draft) → IsFresh d (value_of g.typed (layout g) bits (T.Step' ty op order p (T.Variable tty x)) d)
   unfolding value_of
-  fresh_step bits ty tty op order p x word v d =
-      subst (λ (t : ValueType). HasVariable g.typed g.instance n x (plain t) → IsFresh d (value_of g.typed (layout g) bits (T.Step' ty op order p (T.Variable t x)) d)) (sym (plain_type tty word.0)) (λ w.
-      fresh_stepped g has alive x (variable_info w.word (plain (scalar_type tty.elem)) w.start) (lives x w.declared) (w.named, refl) word.1 scope active op order tty.elem (T.Step' ty op order p (T.Variable (scalar_type tty.elem) x)) bits d word.1) v
+  fresh_step bits ty tty op order p x plain_shape v d =
+      subst (λ (t : ValueType). HasVariable g.typed g.instance n x (plain t) → IsFresh d (value_of g.typed (layout g) bits (T.Step' ty op order p (T.Variable t x)) d)) (sym (plain_type tty plain_shape)) (λ w.
+      fresh_stepped g has alive x (variable_info w.word (plain (scalar_type tty.elem)) w.start) (lives x w.declared) (w.named, refl) scope active op order (T.Step' ty op order p (T.Variable (scalar_type tty.elem) x)) bits d) v
 
   fresh_value : (bits : ℕ) (e : TExpr) → (IsIn g.may) e → HasCode g.typed g.instance n e → (d : Draft) → IsFresh d (value_of g.typed (layout g) bits e d)
   unfolding value_of IsIn IsVariable
@@ -470,24 +470,24 @@ module _ (g : Setting) (has : HasRegisters g) (alive : Variable → Type 0) (n :
       (arm_length_of g.typed (layout g) ty bits first) (arm_length_of g.typed (layout g) ty bits second) d word.0 (kept g.may test h)))
       (choice_goes ty bits test first second word h k m a b c tests one other (with_reg d) s st (Value_of g has alive ty.elem quiet d s) d.regs (omega (arith, free)) here sim (fresh_dest g has alive ty.elem quiet d s free) (fresh_lands g has alive ty.elem quiet d s d.regs))
 
-  assign_value : (quiet : Bool) (bits : ℕ) (ty tty : ValueType) (place : Place) (op : AssignOp) (p q : Boxed) (x : Variable) (value : TExpr) → IsWord tty → ty ≡ tty → HasVariable g.typed g.instance n x (plain tty) → (IsIn g.may) value → IsWord (type_of value) → HasCode g.typed g.instance n value
+  assign_value : (quiet : Bool) (bits : ℕ) (ty tty : ValueType) (place : Place) (op : AssignOp) (p q : Boxed) (x : Variable) (value : TExpr) → tty.shape ≡ None → ty ≡ tty → HasVariable g.typed g.instance n x (plain tty) → (IsIn g.may) value → IsGiven op tty (type_of value) → HasCode g.typed g.instance n value
       → ((m : ℕ) (d : Draft) → IsFresh d (value_of g.typed (layout g) m value d)) → ((calm : Bool) (m : ℕ) → Agrees calm m value) → Agrees quiet bits (T.Assign' ty place op p (T.Variable tty x) q value)
   unfolding value_of evaluated located then_do variable_target
-  assign_value quiet bits ty tty place op p q x value word same v isin long c fresh agrees =
+  assign_value quiet bits ty tty place op p q x value plain_shape same v isin given c fresh agrees =
       subst (λ (t : ValueType). Agrees quiet bits (T.Assign' t place op p (T.Variable tty x) q value)) (sym same)
-      (subst (λ (t : ValueType). HasVariable g.typed g.instance n x (plain t) → Agrees quiet bits (T.Assign' t place op p (T.Variable t x) q value)) (sym (plain_type tty word.0)) (λ w.
+      (subst (λ (t : ValueType). HasVariable g.typed g.instance n x (plain t) → IsGiven op t (type_of value) → Agrees quiet bits (T.Assign' t place op p (T.Variable t x) q value)) (sym (plain_type tty plain_shape)) (λ w its.
       let target : TExpr = T.Variable (scalar_type tty.elem) x in
       let m : ℕ = taken_bits bits op target value in
       let code : Code = λ e. value_of g.typed (layout g) m value e in
-      assigned_value g has alive x (variable_info w.word (plain (scalar_type tty.elem)) w.start) (lives x w.declared) (w.named, refl) word.1 scope active place op tty.elem (T.Assign' (scalar_type tty.elem) place op p target q value) value bits quiet code (λ st. evaluated scope value active st) word.1
-      long (kept g.may value isin) (agrees false m) (λ k. operand_follows true k value code isin c.names (agrees true m)) (λ k st s sim d. clear_operand k value code isin c.names (fresh m) st sim.small d)) v)
+      assigned_value g has alive x (variable_info w.word (plain (scalar_type tty.elem)) w.start) (lives x w.declared) (w.named, refl) scope active place op (T.Assign' (scalar_type tty.elem) place op p target q value) value bits quiet code (λ st. evaluated scope value active st) its
+      (scalar_of g.may value isin) (kept g.may value isin) (agrees false m) (λ k. operand_follows true k value code isin c.names (agrees true m)) (λ k st s sim d. clear_operand k value code isin c.names (fresh m) st sim.small d)) v given)
 
-  step_value_follows : (quiet : Bool) (bits : ℕ) (ty tty : ValueType) (op : StepOp) (order : StepOrder) (p : Boxed) (x : Variable) → IsWord tty → ty ≡ tty → HasVariable g.typed g.instance n x (plain tty) → Agrees quiet bits (T.Step' ty op order p (T.Variable tty x))
+  step_value_follows : (quiet : Bool) (bits : ℕ) (ty tty : ValueType) (op : StepOp) (order : StepOrder) (p : Boxed) (x : Variable) → tty.shape ≡ None → ty ≡ tty → HasVariable g.typed g.instance n x (plain tty) → Agrees quiet bits (T.Step' ty op order p (T.Variable tty x))
   unfolding value_of evaluated located then_do variable_target
-  step_value_follows quiet bits ty tty op order p x word same v =
+  step_value_follows quiet bits ty tty op order p x plain_shape same v =
       subst (λ (t : ValueType). Agrees quiet bits (T.Step' t op order p (T.Variable tty x))) (sym same)
-      (subst (λ (t : ValueType). HasVariable g.typed g.instance n x (plain t) → Agrees quiet bits (T.Step' t op order p (T.Variable t x))) (sym (plain_type tty word.0)) (λ w.
-      stepped_value g has alive x (variable_info w.word (plain (scalar_type tty.elem)) w.start) (lives x w.declared) (w.named, refl) word.1 scope active op order tty.elem word.1 quiet bits (T.Step' (scalar_type tty.elem) op order p (T.Variable (scalar_type tty.elem) x))) v)
+      (subst (λ (t : ValueType). HasVariable g.typed g.instance n x (plain t) → Agrees quiet bits (T.Step' t op order p (T.Variable t x))) (sym (plain_type tty plain_shape)) (λ w.
+      stepped_value g has alive x (variable_info w.word (plain (scalar_type tty.elem)) w.start) (lives x w.declared) (w.named, refl) scope active op order quiet bits (T.Step' (scalar_type tty.elem) op order p (T.Variable (scalar_type tty.elem) x))) v)
 
   mutual
     unfolding evaluated value_of IsIn AreIn IsVariable AreDone HaveCode

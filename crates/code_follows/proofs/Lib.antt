@@ -26,6 +26,7 @@ pub mod Following
 pub mod ForLoops
 pub mod Fresh
 pub mod Functions
+pub mod Given
 pub mod Jumping
 pub mod Logical
 pub mod Loops
@@ -40,6 +41,7 @@ pub mod Putting
 pub mod Regions
 pub mod Returning
 pub mod Settings
+pub mod Settling
 pub mod Standing
 pub mod Starting
 pub mod Statements

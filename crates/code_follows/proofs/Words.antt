@@ -52,8 +52,8 @@ scalar_of may (T.Binary' ty place op p left q right) h = h.0.0
 scalar_of may (T.LogicalOr' ty p left q right) h = h.0.0
 scalar_of may (T.LogicalAnd' ty p left q right) h = h.0.0
 scalar_of may (T.Choice' ty p test q first r second) h = h.0.0
-scalar_of may (T.Assign' ty place op p target q value) h = h.0.0
-scalar_of may (T.Step' ty op order p target) h = h.0.0
+scalar_of may (T.Assign' ty place op p target q value) h = h.0
+scalar_of may (T.Step' ty op order p target) h = h.0
 scalar_of may (T.Call' ty index p arguments) h = h.0.0
 scalar_of may _ h = absurd h
 
@@ -76,8 +76,8 @@ kept may (T.Binary' ty place op p left q right) h = none_is ty.shape h.0.0
 kept may (T.LogicalOr' ty p left q right) h = none_is ty.shape h.0.0
 kept may (T.LogicalAnd' ty p left q right) h = none_is ty.shape h.0.0
 kept may (T.Choice' ty p test q first r second) h = none_is ty.shape h.0.0
-kept may (T.Assign' ty place op p target q value) h = none_is ty.shape h.0.0
-kept may (T.Step' ty op order p target) h = none_is ty.shape h.0.0
+kept may (T.Assign' ty place op p target q value) h = none_is ty.shape h.0
+kept may (T.Step' ty op order p target) h = none_is ty.shape h.0
 kept may (T.Call' ty index p arguments) h = none_is ty.shape h.0.0
 kept may _ h = absurd h
 

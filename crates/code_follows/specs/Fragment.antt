@@ -3,6 +3,8 @@ use Rattle.std.specs.Prelude.{ℕ, Bool, true, false, map, slice_get, IsSome, �
 use Rattle.std.specs.List.{All}
 use Rattle.std.specs.Prelude.{◌⊎◌}
 use Rattle.cstar_base.specs.declared.elem.Elem.{Elem}
+use Rattle.cstar_tree.specs.declared.syntax.AssignOp.{AssignOp}
+use Rattle.cstar_tree.specs.declared.syntax.AssignOp.TheVariants as A
 use Rattle.cstar_tree.specs.declared.typed.TExpr.{TExpr, Row_of-TExpr, end_of-TExpr, more_of-TExpr}
 use Rattle.cstar_tree.specs.declared.typed.TExpr as T
 use Rattle.cstar_tree.specs.declared.typed.TStmt.{TStmt, Row_of-TStmt, end_of-TStmt, more_of-TStmt, Held-TStmt-If-2, None', Some'}
@@ -24,10 +26,19 @@ IsScalarType ty = ty.shape ≡ None
 abbrev pub IsWord : ValueType → Type 0
 IsWord ty = (ty.shape ≡ None) × (ty.elem.bits ≡ 32)
 
--- a scalar variable of 32 bits, as it is used
+-- a scalar variable, as it is used
 unfoldable pub IsVariable : TExpr → Type 0
-IsVariable (T.Variable ty x) = IsWord ty
+IsVariable (T.Variable ty x) = IsScalarType ty
 IsVariable _ = ⊥
+
+-- a number of a type is one of another without a conversion: they are the same, or both of 32 bits
+abbrev pub Takes : Elem → Elem → Type 0
+Takes to from = (from ≡ to) ⊎ ((from.bits ≡ 32) × (to.bits ≡ 32))
+
+-- what is assigned to a variable: without an operator a number that it takes, else one of 32 bits
+unfoldable pub IsGiven : AssignOp → ValueType → ValueType → Type 0
+IsGiven A.Set to from = Takes to.elem from.elem
+IsGiven _ to from = IsWord from
 
 -- which functions may be called, by their instances' numbers: those with a result where its value is used
 abbrev pub May : Type 1
@@ -51,8 +62,8 @@ unfoldable mutual
   IsIn may (T.LogicalOr' ty p left q right) = IsWord ty × IsIn may left × IsIn may right
   IsIn may (T.LogicalAnd' ty p left q right) = IsWord ty × IsIn may left × IsIn may right
   IsIn may (T.Choice' ty p test q first r second) = IsWord ty × IsIn may test × IsIn may first × IsIn may second × IsWord (type_of first) × IsWord (type_of second)
-  IsIn may (T.Assign' ty place op p target q value) = IsWord ty × (ty ≡ type_of target) × IsVariable target × IsIn may value × IsWord (type_of value)
-  IsIn may (T.Step' ty op order p target) = IsWord ty × (ty ≡ type_of target) × IsVariable target
+  IsIn may (T.Assign' ty place op p target q value) = IsScalarType ty × (ty ≡ type_of target) × IsVariable target × IsIn may value × IsGiven op (type_of target) (type_of value)
+  IsIn may (T.Step' ty op order p target) = IsScalarType ty × (ty ≡ type_of target) × IsVariable target
   IsIn may (T.Call' ty index p arguments) = IsWord ty × may true index × AreIn may arguments
   IsIn may _ = ⊥
 
@@ -73,10 +84,6 @@ IsWordVariable info = (info.shape ≡ None) × (info.elem.bits ≡ 32)
 -- a scalar variable, as it is declared
 abbrev pub IsScalarVariable : VarInfo → Type 0
 IsScalarVariable info = info.shape ≡ None
-
--- a number of a type is one of another without a conversion: they are the same, or both of 32 bits
-abbrev pub Takes : Elem → Elem → Type 0
-Takes to from = (from ≡ to) ⊎ ((from.bits ≡ 32) × (to.bits ≡ 32))
 
 -- a variable of a block, with an initialiser or without
 abbrev pub IsInLocal : May → LocalVar → Type 0
