@@ -48,7 +48,7 @@ use Rattle.source_meaning.specs.State as Source
 use Rattle.source_meaning.specs.State.{Outcome, State, then_do}
 use Rattle.source_meaning.specs.Values.{Active, Scalar, Scope, Value, at, convert_to, nonzero, number, unary_of}
 use Rattle.source_meaning.proofs.ConstantLaws.{Boxed, value_means}
-use Rattle.code_follows.specs.Fragment.{AreIn, IsGiven, IsIn, IsWord, IsVariable}
+use Rattle.code_follows.specs.Fragment.{AreIn, IsGiven, IsIn, IsOperand, IsWord, IsVariable}
 use Rattle.code_follows.proofs.Arguments.{AreDone}
 use Rattle.code_follows.proofs.Branching.{IsMadeWord, made_word}
 use Rattle.code_follows.proofs.Choosing.{Arm_does, IsMadeTo, Lands, arm_follows, arm_made, choice_is, choose_is, constant_arm, fresh_lands, scalar_choice_follows}
@@ -60,6 +60,9 @@ use Rattle.code_follows.proofs.Settings.{At, Setting, layout, stay}
 use Rattle.code_follows.proofs.Values.{Dest, Does, Value_of, binary_follows, constant_follows, conversion_is, extends_grown, fresh_dest, mapped_is, read_is, rewrapped, unary_follows, variable_follows, with_reg}
 use Rattle.code_follows.proofs.Bytes.{byte_follows}
 use Rattle.code_follows.proofs.Casts.{casts_follow, fresh_casts}
+use Rattle.std.specs.Int.{from_bool}
+use Rattle.cstar_base.specs.Operators.{operate, outcome}
+use Rattle.code_follows.proofs.Numbers.{held_zero}
 use Rattle.code_follows.proofs.Conversions.{conversion_follows, fresh_conversion}
 use Rattle.std.proofs.lemmas.Bool.{eqb-true}
 use Rattle.code_follows.proofs.Fresh.{IsFresh, fresh_binary, fresh_byte, fresh_choice, fresh_constant, fresh_logical, fresh_unary, fresh_variable, IsClear, clear_fresh}
@@ -86,6 +89,14 @@ held_stands l e r h = by (is_constant e) (Const.value_of e) refl refl h
     by true (Some w) is_c is_v h = record { word = w; constant = is_c; value = is_v; register = h }
     by true None is_c is_v h = cc
     by false v is_c is_v h = cc
+
+-- a unary operator works on the word as on the number
+pub unary_same : (op : UnaryOp) (ty : ValueType) → IsOperand op ty → (w : ℕ) → w < 2 ^ ty.elem.bits → unary_of op (held ty.elem w) ≡ unary_of op w
+unfolding IsOperand unary_of operate outcome
+unary_same U.Not ty its w few = ap from_bool (held_zero ty.elem w few)
+unary_same U.Plus ty its w few = ap (unary_of U.Plus) (held_wide ty.elem w its.1 (below_word ty.elem.bits w its.1 few))
+unary_same U.Minus ty its w few = ap (unary_of U.Minus) (held_wide ty.elem w its.1 (below_word ty.elem.bits w its.1 few))
+unary_same U.Complement ty its w few = ap (unary_of U.Complement) (held_wide ty.elem w its.1 (below_word ty.elem.bits w its.1 few))
 
 -- a conversion without code is one to 32 bits
 unchanged_wide : (bits : ℕ) (elem : Elem) (is_kept : Bool) → is_kept ≡ true → is_unchanged bits elem is_kept ≡ true → elem.bits ≡ 32
@@ -287,15 +298,15 @@ module _ (g : Setting) (has : HasRegisters g) (alive : Variable → Type 0) (n :
       (sym (ap (λ (b : Bool). if b then register_cast_by ty.elem (λ e. value_of g.typed (layout g) bits operand e) d else cast_from g.typed (layout g) bits ty operand (λ e. truth_of g.typed (layout g) operand e) (λ m e. value_of g.typed (layout g) m operand e) d) is))
       (does d s st free here sim)
 
-  unary_value : (ty : ValueType) (quiet : Bool) (bits : ℕ) (op : UnaryOp) (operand : TExpr) → IsWord ty → (type_of operand).elem.bits ≡ 32 → Agrees quiet bits operand
+  unary_value : (ty : ValueType) (quiet : Bool) (bits : ℕ) (op : UnaryOp) (operand : TExpr) → IsWord ty → IsOperand op (type_of operand) → Agrees quiet bits operand
       → Does g has alive (type_of operand).elem true (λ st. evaluated scope operand active st) (λ d. operand_by g.typed (layout g) (unary_bits bits op operand) (value_of g.typed (layout g) (unary_bits bits op operand) operand) true operand d)
       → Does g has alive ty.elem quiet (λ st. then_do (evaluated scope operand active st) (λ v after. Source.Gives (mapped ty (unary_of op) v) after))
       (λ d. unary_by (layout g) ty bits op (λ e. value_of g.typed (layout g) bits operand e) (λ e. operand_by g.typed (layout g) (unary_bits bits op operand) (value_of g.typed (layout g) (unary_bits bits op operand) operand) true operand e) d)
-  unfolding unary_by is_plus
-  unary_value ty quiet bits U.Plus operand word wide value does = plus_gives ty quiet (type_of operand).elem _ (λ st. evaluated scope operand active st) word wide value
-  unary_value ty quiet bits U.Minus operand word wide value does = unary_follows g has alive ty U.Minus (type_of operand).elem wide word refl quiet (λ e. value_of g.typed (layout g) bits operand e) (λ e. operand_by g.typed (layout g) (unary_bits bits U.Minus operand) (value_of g.typed (layout g) (unary_bits bits U.Minus operand) operand) true operand e) (λ st. evaluated scope operand active st) bits does
-  unary_value ty quiet bits U.Complement operand word wide value does = unary_follows g has alive ty U.Complement (type_of operand).elem wide word refl quiet (λ e. value_of g.typed (layout g) bits operand e) (λ e. operand_by g.typed (layout g) (unary_bits bits U.Complement operand) (value_of g.typed (layout g) (unary_bits bits U.Complement operand) operand) true operand e) (λ st. evaluated scope operand active st) bits does
-  unary_value ty quiet bits U.Not operand word wide value does = unary_follows g has alive ty U.Not (type_of operand).elem wide word refl quiet (λ e. value_of g.typed (layout g) bits operand e) (λ e. operand_by g.typed (layout g) (unary_bits bits U.Not operand) (value_of g.typed (layout g) (unary_bits bits U.Not operand) operand) true operand e) (λ st. evaluated scope operand active st) bits does
+  unfolding unary_by is_plus IsOperand
+  unary_value ty quiet bits U.Plus operand word its value does = plus_gives ty quiet (type_of operand).elem _ (λ st. evaluated scope operand active st) word its.1 value
+  unary_value ty quiet bits U.Minus operand word its value does = unary_follows g has alive ty U.Minus (type_of operand).elem (unary_same U.Minus (type_of operand) its) word refl quiet (λ e. value_of g.typed (layout g) bits operand e) (λ e. operand_by g.typed (layout g) (unary_bits bits U.Minus operand) (value_of g.typed (layout g) (unary_bits bits U.Minus operand) operand) true operand e) (λ st. evaluated scope operand active st) bits does
+  unary_value ty quiet bits U.Complement operand word its value does = unary_follows g has alive ty U.Complement (type_of operand).elem (unary_same U.Complement (type_of operand) its) word refl quiet (λ e. value_of g.typed (layout g) bits operand e) (λ e. operand_by g.typed (layout g) (unary_bits bits U.Complement operand) (value_of g.typed (layout g) (unary_bits bits U.Complement operand) operand) true operand e) (λ st. evaluated scope operand active st) bits does
+  unary_value ty quiet bits U.Not operand word its value does = unary_follows g has alive ty U.Not (type_of operand).elem (unary_same U.Not (type_of operand) its) word refl quiet (λ e. value_of g.typed (layout g) bits operand e) (λ e. operand_by g.typed (layout g) (unary_bits bits U.Not operand) (value_of g.typed (layout g) (unary_bits bits U.Not operand) operand) true operand e) (λ st. evaluated scope operand active st) bits does
 
   -- the register of a value is a fresh one
   fresh_converted : (ty : ValueType) (bits : ℕ) (p : Boxed) (operand : TExpr) → is_kept operand ≡ true → (d : Draft) → IsFresh d (value_of g.typed (layout g) bits operand d) → IsFresh d (value_of g.typed (layout g) bits (T.Convert' ty p operand) d)
@@ -509,7 +520,7 @@ module _ (g : Setting) (has : HasRegisters g) (alive : Variable → Type 0) (n :
         let part = casts_code ty elems p operand c in
         casts_follow g has alive ty quiet elems.items (type_of operand).elem h.0 h.1 (λ d. value_of g.typed (layout g) bits operand d) (λ st. evaluated scope operand active st) (λ d. fresh_value bits operand h.2 part d) (value_follows false bits operand h.2 part)
     value_follows quiet bits (T.Unary' ty op p operand) h c =
-        unary_value ty quiet bits op operand h.0 h.2.1 (value_follows quiet bits operand h.1 (unary_code ty op p operand c)) (operand_value true (unary_bits bits op operand) operand h.1 (unary_code ty op p operand c) (value_follows true (unary_bits bits op operand) operand h.1 (unary_code ty op p operand c)))
+        unary_value ty quiet bits op operand h.0 h.2 (value_follows quiet bits operand h.1 (unary_code ty op p operand c)) (operand_value true (unary_bits bits op operand) operand h.1 (unary_code ty op p operand c) (value_follows true (unary_bits bits op operand) operand h.1 (unary_code ty op p operand c)))
     value_follows quiet bits (T.Binary' ty place op p left q right) h c =
         let one_code = left_code ty place op p q left right c in
         let other_code = right_code ty place op p q left right c in

@@ -1,4 +1,4 @@
--- `&&` and `||` of scalars of 32 bits.
+-- `&&` and `||` of scalars.
 use Rattle.std.proofs.Common.{◌≡◌, ◌∙◌, ℕ, ◌+◌, ◌<◌, ◌≤◌, ◌^◌, Bool, true, false, not, length, slice_index, Option, None, refl, sym, ap, subst, if◌then◌else◌, arith}
 use Rattle.std.specs.Int.{from_bool}
 use Rattle.cstar_base.specs.declared.elem.Elem.{Elem}

@@ -136,8 +136,8 @@ zero_converted to from = ap (cut to.bits) (zero_number_is from.bits from.signed 
     by false = residue_of_pos to.bits 0 ∙ mod-eq_of_lt (pow_pos to.bits)
 
 -- a word is 0 exactly where its number is
-pub held_nonzero : (elem : Elem) (w : ℕ) → w < 2 ^ elem.bits → nonzero (held elem w) ≡ nonzero w
-held_nonzero elem w few = ap not (by (held elem w == 0) (w == 0) refl refl)
+pub held_zero : (elem : Elem) (w : ℕ) → w < 2 ^ elem.bits → (held elem w == 0) ≡ (w == 0)
+held_zero elem w few = by (held elem w == 0) (w == 0) refl refl
   where
     by : (a b : Bool) → (held elem w == 0) ≡ a → (w == 0) ≡ b → (held elem w == 0) ≡ (w == 0)
     by true b is other =
@@ -148,6 +148,9 @@ held_nonzero elem w few = ap not (by (held elem w == 0) (w == 0) refl refl)
         let there : (held elem w == 0) ≡ true = eq-eqb (held elem w) 0 none in
         cc
     by false false is other = is ∙ sym other
+
+pub held_nonzero : (elem : Elem) (w : ℕ) → w < 2 ^ elem.bits → nonzero (held elem w) ≡ nonzero w
+held_nonzero elem w few = ap not (held_zero elem w few)
 
 -- a number of a type is what its bits are converted to
 pub bits_rounded : (elem : Elem) (w : ℕ) → w < 2 ^ elem.bits → rounded elem w ≡ held elem w

@@ -1,4 +1,4 @@
--- A scalar expression of 32 bits whose value goes to a variable, as it is written there.
+-- A scalar expression whose value goes to a variable, as it is written there.
 use Rattle.std.proofs.Common.{◌≡◌, ◌∙◌, ℕ, Vec, Global, ◌<◌, ◌≤◌, ◌^◌, Bool, true, false, not, length, slice_index, Option, Some, None, refl, sym, ap, subst, if◌then◌else◌, ◌==◌, inr}
 use Rattle.std.specs.Prelude.{IfSome}
 use Rattle.std.proofs.lemmas.Bool.{eq-eqb}
@@ -44,11 +44,11 @@ use Rattle.source_meaning.specs.State.{Outcome, State, then_do, with_scalar}
 use Rattle.source_meaning.specs.Targets.{read, variable_target}
 use Rattle.source_meaning.specs.Values.{Active, Scalar, Scope, Value, at, convert_to, unary_of}
 use Rattle.source_meaning.proofs.ConstantLaws.{Boxed, value_means}
-use Rattle.code_follows.specs.Fragment.{AreIn, IsIn, IsWord}
+use Rattle.code_follows.specs.Fragment.{AreIn, IsIn, IsOperand, IsWord}
 use Rattle.code_follows.proofs.Passing.{call_follows}
 use Rattle.code_follows.proofs.Choosing.{put_lands}
 use Rattle.code_follows.proofs.CallValues.{call_code, has_result, many_arguments}
-use Rattle.code_follows.proofs.Expressions.{arguments_do, AreChosen, brackets_code, choice_goes, choice_parts, convert_code, left_code, named, operand, operand_grows, right_code, unary_code, value_follows}
+use Rattle.code_follows.proofs.Expressions.{arguments_do, AreChosen, brackets_code, choice_goes, choice_parts, convert_code, left_code, named, operand, operand_grows, right_code, unary_code, unary_same, value_follows}
 use Rattle.code_follows.proofs.Bytes.{byte_put}
 use Rattle.code_follows.proofs.Callees.{CallsFollow}
 use Rattle.code_follows.proofs.Following.{Arrives, Extends, Follows, HasRegisters, IsScalar, Sim, held, keeps_all, then_follows, then_gives}
@@ -196,16 +196,16 @@ module _ (g : Setting) (has : HasRegisters g) (alive : Variable → Type 0) (n :
   unfolding computed_to goes_unchanged converted_to
   changed ty p inner narrow d = ap (λ (b : Bool). if b then computed_to g.typed (layout g) (O.Scalar own) inner d else converted_to g.typed (layout g) (O.Scalar own) (T.Convert' ty p inner) ty.elem inner d) narrow
 
-  unary_put : (ty : ValueType) (op : UnaryOp) (p : Boxed) (inner : TExpr) → IsWord ty → Kept ty.elem → IsWord (type_of inner) → (IsIn g.may) inner → HasCode g.typed g.instance n inner → Puts (type_of inner).elem (λ st. evaluated scope inner active st) (λ d. computed_to g.typed (layout g) (O.Scalar own) inner d)
+  unary_put : (ty : ValueType) (op : UnaryOp) (p : Boxed) (inner : TExpr) → IsWord ty → Kept ty.elem → IsOperand op (type_of inner) → (IsIn g.may) inner → HasCode g.typed g.instance n inner → Puts (type_of inner).elem (λ st. evaluated scope inner active st) (λ d. computed_to g.typed (layout g) (O.Scalar own) inner d)
       → Puts ty.elem (λ st. then_do (evaluated scope inner active st) (λ v after. Source.Gives (mapped ty (unary_of op) v) after)) (λ d. computed_to g.typed (layout g) (O.Scalar own) (T.Unary' ty op p inner) d)
-  unfolding computed_to is_plus bits_for
+  unfolding computed_to is_plus bits_for IsOperand
   unary_put ty U.Plus p inner word fits a isin c puts = put_mapped ty (type_of inner).elem word a.1 (fits_wide info.elem ty.elem fits word.1) _ _ puts
   unary_put ty U.Minus p inner word fits a isin c puts = λ d s st free here sim.
-      negated_follows g has alive ty U.Minus (type_of inner).elem a.1 word refl d s (Put ty.elem d s) own free (dest ty.elem d s fits free) st _ (λ u. evaluated scope inner active u) (operand g has alive n lives ready scope active calls_follow true (unary_bits 32 U.Minus inner) inner isin c) here sim
+      negated_follows g has alive ty U.Minus (type_of inner).elem (unary_same U.Minus (type_of inner) a) word refl d s (Put ty.elem d s) own free (dest ty.elem d s fits free) st _ (λ u. evaluated scope inner active u) (operand g has alive n lives ready scope active calls_follow true (unary_bits 32 U.Minus inner) inner isin c) here sim
   unary_put ty U.Complement p inner word fits a isin c puts = λ d s st free here sim.
-      negated_follows g has alive ty U.Complement (type_of inner).elem a.1 word refl d s (Put ty.elem d s) own free (dest ty.elem d s fits free) st _ (λ u. evaluated scope inner active u) (operand g has alive n lives ready scope active calls_follow true (unary_bits 32 U.Complement inner) inner isin c) here sim
+      negated_follows g has alive ty U.Complement (type_of inner).elem (unary_same U.Complement (type_of inner) a) word refl d s (Put ty.elem d s) own free (dest ty.elem d s fits free) st _ (λ u. evaluated scope inner active u) (operand g has alive n lives ready scope active calls_follow true (unary_bits 32 U.Complement inner) inner isin c) here sim
   unary_put ty U.Not p inner word fits a isin c puts = λ d s st free here sim.
-      negated_follows g has alive ty U.Not (type_of inner).elem a.1 word refl d s (Put ty.elem d s) own free (dest ty.elem d s fits free) st _ (λ u. evaluated scope inner active u) (operand g has alive n lives ready scope active calls_follow true (unary_bits 32 U.Not inner) inner isin c) here sim
+      negated_follows g has alive ty U.Not (type_of inner).elem (unary_same U.Not (type_of inner) a) word refl d s (Put ty.elem d s) own free (dest ty.elem d s fits free) st _ (λ u. evaluated scope inner active u) (operand g has alive n lives ready scope active calls_follow true (unary_bits 32 U.Not inner) inner isin c) here sim
 
   -- `?:` computes the chosen value straight into the register
   choice_put : (ty : ValueType) (p q r : Boxed) (test first second : TExpr) → IsWord ty → Kept ty.elem → (IsIn g.may) test → (IsIn g.may) first → (IsIn g.may) second → IsWord (type_of first) → IsWord (type_of second) → AreChosen g has alive n lives ready scope active calls_follow test first second

@@ -20,11 +20,11 @@ use Rattle.code_follows.specs.Fragment.{IsScalarVariable}
 use Rattle.code_follows.proofs.Declaring.{all_first, all_rest}
 use Rattle.code_follows.proofs.Standing.{some_same}
 
--- an instance whose parameters, result and block variables are scalars, those of 32 bits that are variables
+-- an instance whose parameters, result and block variables are scalars
 abbrev pub IsScalarInstance : Instance → Type 0
 IsScalarInstance i = All IsScalarVariable i.params.items × ((info : VarInfo) → i.result ≡ Some info → info.shape ≡ None) × All IsScalarVariable (variables_of i.body)
 
--- A program whose variables are all scalars of 32 bits, and whose instances have names of their own.
+-- A program whose variables are all scalars, and whose instances have names of their own.
 pub record HasScalarInstances (t : Typed) : Type 0 where
   pub each : (k : ℕ) (i : Instance) → slice_get t.instances.items k ≡ Some i → IsScalarInstance i
   pub names : (j k : ℕ) (a b : Instance) → slice_get t.instances.items j ≡ Some a → slice_get t.instances.items k ≡ Some b → a.name ≡ b.name → j ≡ k

@@ -1,4 +1,4 @@
--- The code of a scalar expression of 32 bits gives its value.
+-- The code of a scalar expression gives its value.
 use Rattle.std.proofs.Common.{◌≡◌, ◌∙◌, ℕ, ◌+◌, ◌-◌, ◌<◌, ◌≤◌, ◌^◌, ◌==◌, ◌&&◌, Bool, true, false, not, [], length, slice_index, Option, Some, None, refl, sym, ap, subst, if◌then◌else◌, arith}
 use Rattle.cstar_base.specs.declared.elem.Elem.{Elem}
 use Rattle.cstar_base.specs.declared.faults.RunFault.TheVariants.{DivZero}
@@ -30,7 +30,8 @@ use Rattle.std.specs.Int.{from_bool}
 use Rattle.std.specs.Prelude.{pos, neg_ℤ}
 use Rattle.cstar_base.specs.Operators.{operate}
 use Rattle.cstar_base.specs.Numbers.{residue}
-use Rattle.constant_trees.proofs.Words.{unary_below}
+use Rattle.constant_trees.proofs.Words.{converted_below, unary_below}
+use Rattle.source_meaning.specs.Reductions.{int_type}
 use Rattle.lower_base.specs.Constants.{word_in}
 use Rattle.paris_code.specs.declared.operands.Compare.TheVariants as C
 use Rattle.lower_expr.specs.declared.spots.Spot.{Spot}
@@ -447,7 +448,7 @@ module _ (g : Setting) (has : HasRegisters g) (alive : Variable → Type 0) wher
   mapped_is ty f v scalar = ap (λ (o : Option ℕ). each o (λ p. f (at v p))) scalar
 
   -- the code of a unary operator but `+`
-  module _ (ty : ValueType) (op : UnaryOp) (from : Elem) (wide : from.bits ≡ 32) (word : IsWord ty) (other : is_plus op ≡ false) where
+  module _ (ty : ValueType) (op : UnaryOp) (from : Elem) (same : (w : ℕ) → w < 2 ^ from.bits → unary_of op (held from w) ≡ unary_of op w) (word : IsWord ty) (other : is_plus op ≡ false) where
     abbrev behind_operand : ℕ → Out → Draft → Made Out
     behind_operand r v after = negated (layout g) op (O.Scalar r) v after
 
@@ -459,12 +460,13 @@ module _ (g : Setting) (has : HasRegisters g) (alive : Variable → Type 0) wher
       with_operand : (v : Value) (st : State) (out : Out) (e : Draft) → Arrives g alive from true d s v st out e → Follows g R s (Source.Gives (mapped ty (unary_of op) v) st) (behind_operand r out e)
       unfolding negated in_register at
       with_operand v st out e arr =
-          let few : arr.holds.word < 2 ^ 32 = below_word from.bits arr.holds.word wide arr.holds.small in
-          let gives : mapped ty (unary_of op) v ≡ Scalar (unary_of op arr.holds.word) = mapped_is ty (unary_of op) v word.0 ∙ ap (λ (u : Value). Scalar (unary_of op (at u 0))) arr.holds.value in
+          let x : ℕ = held from arr.holds.word in
+          let gives : mapped ty (unary_of op) v ≡ Scalar (unary_of op x) =
+          mapped_is ty (unary_of op) v word.0 ∙ ap (λ (u : Value). Scalar (unary_of op (at u 0))) arr.holds.value ∙ ap Scalar (sym (same arr.holds.word arr.holds.small)) in
           subst (λ (u : Value). Follows g R s (Source.Gives u st) (behind_operand r out e)) (sym gives)
-          (subst (λ (o : Out). Follows g R s (Source.Gives (Scalar (unary_of op arr.holds.word)) st) (behind_operand r o e)) (sym arr.holds.is)
-          (negates op ty other word.1 d e arr.extended.0 s arr.t st R r arr.holds.register arr.holds.word free dest arr.go arr.at arr.sim arr.extended.1 arr.keeps
-          (λ t sim stays. arr.holds.lasts st t sim stays (λ h. refl) ∙ held_wide from arr.holds.word wide few) few))
+          (subst (λ (o : Out). Follows g R s (Source.Gives (Scalar (unary_of op x)) st) (behind_operand r o e)) (sym arr.holds.is)
+          (negates op ty other word.1 d e arr.extended.0 s arr.t st R r arr.holds.register x free dest arr.go arr.at arr.sim arr.extended.1 arr.keeps
+          (λ t sim stays. arr.holds.lasts st t sim stays (λ h. refl)) (converted_below int_type from arr.holds.word)))
 
       pub negated_follows : (st : State) (second : Code) (part : State → Outcome Value) → Does from true part second → At g s (length d.code) → Sim g alive st s
           → Follows g R s (then_do (part st) (λ v after. Source.Gives (mapped ty (unary_of op) v) after)) (then_make (second d) (λ v after. behind_operand r v after))
@@ -482,7 +484,7 @@ module _ (g : Setting) (has : HasRegisters g) (alive : Variable → Type 0) wher
             ap (λ (b : Bool). if b then code d else then_make (fresh_for ty.shape bits d) (λ dest between. then_make (second between) (λ v after. negated (layout g) op dest v after))) other
             ∙ ap (λ (o : Option ℕ). then_make (fresh_for o bits d) (λ dest between. then_make (second between) (λ v after. negated (layout g) op dest v after))) word.0
 
-  -- a conversion to 32 bits has no code
+  -- what a conversion gives
   pub conversion_is : (ty : ValueType) (from : Elem) (v : Value) → ty.shape ≡ None → convert_to ty from v ≡ Scalar (converted ty.elem from (at v 0))
   unfolding convert_to each
   conversion_is ty from v scalar = ap (λ (o : Option ℕ). each o (λ p. converted ty.elem from (at v p))) scalar

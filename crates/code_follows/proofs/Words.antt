@@ -4,7 +4,7 @@ use Rattle.std.specs.Prelude.{IfSome, is_none}
 use Rattle.std.specs.Int.{from_bool}
 use Rattle.cstar_base.specs.declared.elem.Elem.{Elem}
 use Rattle.cstar_base.specs.Numbers.{converted, number_of, residue, truth_of}
-use Rattle.cstar_base.proofs.NumberLaws.{residue_of_number}
+use Rattle.cstar_base.proofs.NumberLaws.{modulus_in_word, residue_of_number}
 use Rattle.cstar_tree.specs.declared.typed.TExpr.{TExpr}
 use Rattle.cstar_tree.specs.declared.typed.TExpr as T
 use Rattle.cstar_tree.specs.declared.typed.ValueType.{ValueType}
@@ -31,6 +31,10 @@ held_converted to from w wide = wide_converted to from w wide ∙ sym (wide_conv
 
 pub below_bits : (bits w : ℕ) → bits ≡ 32 → w < 2 ^ 32 → w < 2 ^ bits
 below_bits bits w wide few = subst (λ (n : ℕ). w < 2 ^ n) (sym wide) few
+
+-- a number of any type is a word
+pub within_word : (elem : Elem) (w : ℕ) → w < 2 ^ elem.bits → w < 2 ^ 32
+within_word elem w few = omega (arith, few, modulus_in_word elem.bits elem.signed elem.kind)
 
 pub below_word : (bits w : ℕ) → bits ≡ 32 → w < 2 ^ bits → w < 2 ^ 32
 below_word bits w wide few = subst (λ (n : ℕ). w < 2 ^ n) wide few
@@ -128,7 +132,7 @@ constant_below may (T.Casts' ty elems p operand) h =
     let from : Elem = (type_of operand).elem in
     then_below from.bits ty.elem.bits (value_of operand) _ (constant_below may operand h.2) (λ v few. subst (λ (e : Elem). cast_through elems.items from v < 2 ^ e.bits) (sym h.1) (through_below elems.items from v few))
 constant_below may (T.Unary' ty op p operand) h =
-    then_below (type_of operand).elem.bits ty.elem.bits (value_of operand) _ (constant_below may operand h.1) (λ v few. below_bits ty.elem.bits _ h.0.1 (unary_below op v (below_word (type_of operand).elem.bits v h.2.1 few)))
+    then_below (type_of operand).elem.bits ty.elem.bits (value_of operand) _ (constant_below may operand h.1) (λ v few. below_bits ty.elem.bits _ h.0.1 (unary_below op v (within_word (type_of operand).elem v few)))
 constant_below may (T.Binary' ty place op p left q right) h =
     then_below (type_of left).elem.bits ty.elem.bits (value_of left) _ (constant_below may left h.1) (λ v few. then_below (type_of right).elem.bits ty.elem.bits (value_of right) _ (constant_below may right h.2) (λ w small.
     of_same_bits 32 ty.elem.bits _ refl h.0.1 (operate_below op (not (type_of left).elem.signed) v w (below_word (type_of left).elem.bits v h.3.1 few) (below_word (type_of right).elem.bits w h.4.1 small))))

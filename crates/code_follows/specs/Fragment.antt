@@ -1,4 +1,6 @@
--- The programs of which it is said so far that their code means them: scalar ones of 32 bits.
+-- The programs of which it is said so far that their code means them: scalar ones. Variables of the file and of
+-- blocks are of any scalar type, `bool`, `char`, `short` or `int`, signed or not. Parameters, results and
+-- arguments have 32 bits, and so have the operands of operators, which typing promotes.
 use Rattle.std.specs.Prelude.{ℕ, Bool, true, false, map, slice_get, IsSome, ◌≡◌, ◌<◌, ◌^◌, [], IfSome, Option, Some, None}
 use Rattle.std.specs.List.{All}
 use Rattle.std.specs.Prelude.{◌⊎◌}
@@ -12,13 +14,15 @@ use Rattle.cstar_tree.specs.declared.typed.TStmt as S
 use Rattle.cstar_tree.specs.declared.typed.Instance.{Instance}
 use Rattle.cstar_tree.specs.declared.typed.Typed.{Typed}
 use Rattle.cstar_tree.specs.declared.typed.LocalVar.{LocalVar}
+use Rattle.cstar_tree.specs.declared.typed.UnaryOp.{UnaryOp}
+use Rattle.cstar_tree.specs.declared.typed.UnaryOp.TheVariants as U
 use Rattle.cstar_tree.specs.declared.typed.ValueType.{ValueType}
 use Rattle.cstar_tree.specs.declared.typed.VarInfo.{VarInfo}
 use Rattle.cstar_tree.specs.Typed.{type_of}
 use Rattle.cstar_tree.specs.Variables.{variables_of}
 use Rattle.source_meaning.specs.Values.{cast_type}
 
--- a scalar type, of 32 bits or fewer
+-- a scalar type: of 32 bits or fewer, as every type of elements
 abbrev pub IsScalarType : ValueType → Type 0
 IsScalarType ty = ty.shape ≡ None
 
@@ -40,12 +44,17 @@ unfoldable pub IsGiven : AssignOp → ValueType → ValueType → Type 0
 IsGiven A.Set to from = Takes to.elem from.elem
 IsGiven _ to from = IsWord from
 
+-- the operand of a unary operator: `!` asks only whether it is 0, the others take one of 32 bits
+unfoldable pub IsOperand : UnaryOp → ValueType → Type 0
+IsOperand U.Not ty = IsScalarType ty
+IsOperand _ ty = IsWord ty
+
 -- which functions may be called, by their instances' numbers: those with a result where its value is used
 abbrev pub May : Type 1
 May = Bool → ℕ → Type 0
 
--- An expression whose value is used: of numbers, variables, `getchar`, operators, conversions, assignments
--- and steps of scalar variables, and calls. Casts lead to 32 bits, by whichever types.
+-- An expression whose value is used: of numbers, variables, `getchar`, operators, conversions and casts to any
+-- scalar types, assignments and steps of scalar variables, and calls.
 unfoldable mutual
   pub IsIn : May → TExpr → Type 0
   IsIn may (T.Number ty value) = IsWord ty × (value < 2 ^ 32)
@@ -57,7 +66,7 @@ unfoldable mutual
   IsIn may (T.Brackets' ty p inner) = (ty ≡ type_of inner) × IsIn may inner
   IsIn may (T.Convert' ty p operand) = IsScalarType ty × IsIn may operand
   IsIn may (T.Casts' ty elems p operand) = IsScalarType ty × (ty.elem ≡ cast_type elems.items (type_of operand).elem) × IsIn may operand
-  IsIn may (T.Unary' ty op p operand) = IsWord ty × IsIn may operand × IsWord (type_of operand)
+  IsIn may (T.Unary' ty op p operand) = IsWord ty × IsIn may operand × IsOperand op (type_of operand)
   IsIn may (T.Binary' ty place op p left q right) = IsWord ty × IsIn may left × IsIn may right × IsWord (type_of left) × IsWord (type_of right)
   IsIn may (T.LogicalOr' ty p left q right) = IsWord ty × IsIn may left × IsIn may right
   IsIn may (T.LogicalAnd' ty p left q right) = IsWord ty × IsIn may left × IsIn may right
@@ -148,7 +157,7 @@ IsFlat _ = ⊥
 abbrev pub IsPlainVariable : VarInfo → Type 0
 IsPlainVariable info = IsScalarVariable info × (info.start < 2 ^ info.elem.bits)
 
--- a function of scalars of 32 bits
+-- a function of scalars, with parameters and a result of 32 bits
 pub record IsScalarFunction (may : May) (i : Instance) : Type 0 where
   pub params : All IsWordVariable i.params.items
   pub result : (info : VarInfo) → i.result ≡ Some info → IsWordVariable info
