@@ -39,10 +39,10 @@ use Rattle.lower_expr.specs.Values.{Code, call_to, next_of, step_operation, valu
 use Rattle.paris_code.specs.declared.instr.Instr.TheVariants as I
 use Rattle.paris_code.specs.Code.{CodeState}
 use Rattle.source_meaning.specs.Expressions.{evaluated}
-use Rattle.source_meaning.specs.Reductions.{int_type, promoted}
+use Rattle.source_meaning.specs.Reductions.{int_type, promoted, working_type}
 use Rattle.source_meaning.specs.State as Source
 use Rattle.source_meaning.specs.State.{Outcome, State, then_do, with_scalar}
-use Rattle.source_meaning.specs.Targets.{OfScalar, assigned, stepped, variable_target}
+use Rattle.source_meaning.specs.Targets.{OfScalar, assigned, stepped, variable_target, step_value}
 use Rattle.source_meaning.specs.Values.{Active, Scalar, Scope, Value, number}
 use Rattle.code_follows.specs.Fragment.{AreIn, IsEffect, IsIn, IsVariable, IsGiven, IsWord, Takes}
 use Rattle.code_follows.proofs.Changing.{no_place, only_set, operated_set_is, plain_type, scalar_type, set_is, stepped_is, stepping}
@@ -62,9 +62,6 @@ use Rattle.code_follows.proofs.Numbers.{takes_fits, takes_same}
 use Rattle.code_follows.proofs.Settling.{extends_settled, settled, settles}
 use Rattle.code_follows.proofs.Effects.{promoted_wide, working_wide}
 use Rattle.code_follows.proofs.Given.{given_set, given_word}
-use Rattle.source_meaning.specs.Reductions.{promoted, working_type}
-use Rattle.source_meaning.specs.Targets.{step_value}
-use Rattle.cstar_base.specs.declared.elem.Elem.{Elem}
 use Rattle.cstar_base.specs.Numbers.{converted}
 
 module _ (g : Setting) (has : HasRegisters g) (alive : Variable → Type 0) (n : ℕ) (lives : (x : Variable) → IsDeclared n x → alive x) (ready : (d : Draft) → IsReady g.typed g.instance (layout g) n d) (scope : Scope) (active : Active) (calls_follow : CallsFollow g scope active)

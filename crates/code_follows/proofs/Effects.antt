@@ -1,6 +1,6 @@
 -- What operators leave in scalar variables, in the source.
-use Rattle.std.proofs.Common.{◌≡◌, ◌∙◌, ℕ, ◌==◌, ◌&&◌, Bool, true, false, not, Option, Some, None, refl, sym, ap, if◌then◌else◌, arith}
-use Rattle.std.specs.Prelude.{nat_lt}
+use Rattle.std.proofs.Common.{◌≡◌, ◌∙◌, ℕ, ◌==◌, ◌&&◌, Bool, true, false, not, Option, Some, None, refl, sym, ap, if◌then◌else◌, arith, ◌≤◌}
+use Rattle.std.specs.Prelude.{nat_lt, ◌||◌}
 use Rattle.std.proofs.lemmas.Bool.Decides.{nat_tests}
 use Rattle.cstar_base.specs.declared.elem.Elem.{Elem}
 use Rattle.cstar_base.specs.declared.operators.Op.{Op}
@@ -8,8 +8,6 @@ use Rattle.cstar_base.specs.Numbers.{converted}
 use Rattle.cstar_base.specs.Operators.{divides, outcome}
 use Rattle.cstar_tree.specs.declared.syntax.AssignOp.{AssignOp}
 use Rattle.cstar_tree.specs.declared.syntax.AssignOp.TheVariants as A
-use Rattle.std.specs.Prelude.{◌||◌}
-use Rattle.std.proofs.Common.{◌≤◌}
 use Rattle.cstar_base.proofs.NumberLaws.{kind_bits}
 use Rattle.code_follows.proofs.Following.{held}
 use Rattle.lower_base.specs.Operators.{assign_op_of, is_signed}

@@ -28,12 +28,11 @@ use Rattle.source_meaning.specs.Values.{Active, Scope, Value, nonzero, number, S
 use Rattle.code_follows.specs.Fragment.{IsIn, IsVariable, May}
 use Rattle.code_follows.proofs.Expressions.{operand}
 use Rattle.code_follows.proofs.Callees.{CallsFollow}
-use Rattle.code_follows.proofs.Following.{Arrives, Extends, Follows, HasRegisters, Keeps, Ran, Sim, finishes_later, keeps_all, keeps_on, then_follows, spared_kept, result_kept}
+use Rattle.code_follows.proofs.Following.{Arrives, Extends, Follows, HasRegisters, Keeps, Ran, Sim, finishes_later, keeps_all, keeps_on, then_follows, spared_kept, result_kept, delayed, finished}
 use Rattle.code_follows.proofs.Settings.{At, Reaches, Setting, layout, onto, stay}
 use Rattle.code_follows.proofs.Values.{Value_of, extends_in_register}
 use Rattle.code_follows.proofs.Numbers.{held_nonzero}
 use Rattle.code_follows.proofs.Words.{kept}
-use Rattle.code_follows.proofs.Following.{delayed, finished}
 
 pub no_break : Broke ≡ Onward → ⊥
 no_break e = cc

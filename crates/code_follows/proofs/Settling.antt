@@ -1,15 +1,15 @@
 -- An operator on a scalar variable, by which its register is written: of 32 bits at once, else from a fresh one.
-use Rattle.std.proofs.Common.{◌≡◌, ◌∙◌, ◌==◌, inl, ℕ, ◌+◌, ◌<◌, ◌≤◌, ◌^◌, Bool, true, false, not, length, slice_index, refl, sym, ap, subst, if◌then◌else◌, arith}
+use Rattle.std.proofs.Common.{◌≡◌, ◌∙◌, ◌==◌, inl, ℕ, ◌+◌, ◌<◌, ◌≤◌, ◌^◌, Bool, true, false, not, length, slice_index, refl, sym, ap, subst, if◌then◌else◌, arith, inr}
 use Rattle.cstar_base.specs.declared.elem.Elem.{Elem}
 use Rattle.cstar_base.specs.declared.operators.Op.{Op}
 use Rattle.cstar_base.specs.declared.operators.Place.{Place}
 use Rattle.cstar_tree.specs.declared.typed.VarInfo.{VarInfo}
 use Rattle.cstar_tree.specs.declared.typed.Variable.{Variable}
 use Rattle.code_lengths.specs.Growth.{Extended}
-use Rattle.code_lengths.proofs.Drafting.{extended}
+use Rattle.code_lengths.proofs.Drafting.{extended, as_it_was}
 use Rattle.lower_base.specs.declared.emit.Out.{Out}
 use Rattle.lower_base.specs.declared.emit.Out.TheVariants as O
-use Rattle.lower_base.specs.Drafts.{Draft, Made, Makes, a_register, then_make, with_instr}
+use Rattle.lower_base.specs.Drafts.{Draft, Made, Makes, a_register, then_make, with_instr, step as step_of}
 use Rattle.lower_base.specs.Layouts.{register_of}
 use Rattle.lower_expr.specs.Effects.{with_settled, written_register}
 use Rattle.lower_expr.specs.Steps.{operated as operated_in}
@@ -17,15 +17,10 @@ use Rattle.paris_code.specs.declared.instr.Instr.TheVariants as I
 use Rattle.paris_code.specs.Code.{CodeState, Goes, begun, with_register}
 use Rattle.paris_code.specs.Scalar.{rounded}
 use Rattle.std.proofs.lemmas.Bool.{eqb-true}
-use Rattle.code_lengths.specs.Growth.{Extended}
-use Rattle.code_lengths.proofs.Drafting.{as_it_was, extended}
 use Rattle.constant_trees.proofs.Words.{converted_below}
-use Rattle.cstar_base.specs.declared.elem.Elem.{Elem}
 use Rattle.cstar_base.specs.Numbers.{converted}
 use Rattle.source_meaning.specs.Reductions.{int_type}
-use Rattle.lower_base.specs.Drafts.{step as step_of}
 use Rattle.source_meaning.specs.Expressions.{operated}
-use Rattle.source_meaning.specs.Reductions.{int_type}
 use Rattle.source_meaning.specs.State as Source
 use Rattle.source_meaning.specs.State.{Outcome, State, then_do, with_scalar}
 use Rattle.source_meaning.specs.Values.{Active, Scalar, Scope, Value, number}
@@ -35,7 +30,6 @@ use Rattle.code_follows.proofs.Following.{Extends, Follows, HasRegisters, IsScal
 use Rattle.code_follows.proofs.Settings.{At, Reaches, Setting, and_one, layout, onto, stay}
 use Rattle.code_follows.proofs.Stores.{IsPut, variable_dest}
 use Rattle.code_follows.proofs.Values.{and_register, fresh_dest, register_same, some_word, with_reg, Value_of, extends_operated, operates}
-use Rattle.std.proofs.Common.{inr}
 use Rattle.code_follows.proofs.Numbers.{number_same, rounded_is}
 
 module _ (g : Setting) (has : HasRegisters g) (alive : Variable → Type 0) (scope : Scope) (active : Active) (x : Variable) (info : VarInfo) (living : alive x) (scalar : IsScalar g x info) where

@@ -4,8 +4,8 @@ use Rattle.cstar_base.specs.declared.elem.Elem.{Elem}
 use Rattle.cstar_base.specs.declared.faults.RunFault.TheVariants.{DivZero}
 use Rattle.cstar_base.specs.declared.operators.Op.{Op}
 use Rattle.cstar_base.specs.declared.operators.Place.{Place}
-use Rattle.cstar_base.specs.Numbers.{converted}
-use Rattle.cstar_base.specs.Operators.{divides, outcome}
+use Rattle.cstar_base.specs.Numbers.{converted, residue}
+use Rattle.cstar_base.specs.Operators.{divides, outcome, operate}
 use Rattle.cstar_tree.specs.declared.typed.TExpr.{TExpr}
 use Rattle.cstar_tree.specs.declared.typed.TExpr as T
 use Rattle.cstar_tree.specs.declared.typed.UnaryOp.{UnaryOp}
@@ -22,17 +22,14 @@ use Rattle.lower_base.specs.declared.emit.Out.{Out}
 use Rattle.lower_base.specs.declared.emit.Out.TheVariants as O
 use Rattle.lower_base.specs.declared.operators.Machine.{Machine}
 use Rattle.lower_base.specs.declared.operators.Machine.TheVariants as M
-use Rattle.lower_base.specs.Constants.{constant_register}
+use Rattle.lower_base.specs.Constants.{constant_register, word_in}
 use Rattle.lower_base.specs.Drafts.{Draft, Fails, Made, Makes, Plain, a_register, fresh_for, in_register, step as step_of, then_make, with_instr}
 use Rattle.lower_base.specs.Layouts.{register_of}
 use Rattle.lower_base.specs.Operators.{is_signed, machine_of}
 use Rattle.std.specs.Int.{from_bool}
 use Rattle.std.specs.Prelude.{pos, neg_ℤ}
-use Rattle.cstar_base.specs.Operators.{operate}
-use Rattle.cstar_base.specs.Numbers.{residue}
 use Rattle.constant_trees.proofs.Words.{converted_below, unary_below}
 use Rattle.source_meaning.specs.Reductions.{int_type}
-use Rattle.lower_base.specs.Constants.{word_in}
 use Rattle.paris_code.specs.declared.operands.Compare.TheVariants as C
 use Rattle.lower_expr.specs.declared.spots.Spot.{Spot}
 use Rattle.lower_expr.specs.declared.spots.Spot.TheVariants as S

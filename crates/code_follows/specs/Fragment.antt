@@ -1,9 +1,8 @@
 -- The programs of which it is said so far that their code means them: scalar ones. Variables of the file and of
 -- blocks are of any scalar type, `bool`, `char`, `short` or `int`, signed or not. Parameters, results and
 -- arguments have 32 bits, and so have the operands of operators, which typing promotes.
-use Rattle.std.specs.Prelude.{ℕ, Bool, true, false, map, slice_get, IsSome, ◌≡◌, ◌<◌, ◌^◌, [], IfSome, Option, Some, None}
+use Rattle.std.specs.Prelude.{ℕ, Bool, true, false, map, slice_get, IsSome, ◌≡◌, ◌<◌, ◌^◌, [], IfSome, Option, Some, None, ◌⊎◌}
 use Rattle.std.specs.List.{All}
-use Rattle.std.specs.Prelude.{◌⊎◌}
 use Rattle.cstar_base.specs.declared.elem.Elem.{Elem}
 use Rattle.cstar_tree.specs.declared.syntax.AssignOp.{AssignOp}
 use Rattle.cstar_tree.specs.declared.syntax.AssignOp.TheVariants as A
