@@ -1,7 +1,6 @@
--- The code of assignments to scalar variables of 32 bits, and of steps.
+-- The code of assignments to scalar variables, and of steps.
 use Rattle.std.proofs.Common.{◌≡◌, ◌∙◌, ℕ, ◌+◌, ◌<◌, ◌≤◌, ◌^◌, ◌&&◌, Bool, true, false, not, length-append, Vec, Global, length, slice_index, Option, Some, None, refl, sym, ap, subst, if◌then◌else◌, arith}
 use Rattle.std.specs.Prelude.{IfSome}
-use Rattle.std.proofs.lemmas.Bool.{eq-eqb}
 use Rattle.cstar_base.specs.declared.elem.Elem.{Elem}
 use Rattle.cstar_base.specs.declared.operators.Op.{Op}
 use Rattle.cstar_base.specs.declared.operators.Place.{Place}
@@ -40,12 +39,12 @@ use Rattle.lower_expr.specs.Values.{Code, call_to, next_of, step_operation, valu
 use Rattle.paris_code.specs.declared.instr.Instr.TheVariants as I
 use Rattle.paris_code.specs.Code.{CodeState}
 use Rattle.source_meaning.specs.Expressions.{evaluated}
-use Rattle.source_meaning.specs.Reductions.{int_type, promoted}
+use Rattle.source_meaning.specs.Reductions.{int_type, promoted, working_type}
 use Rattle.source_meaning.specs.State as Source
 use Rattle.source_meaning.specs.State.{Outcome, State, then_do, with_scalar}
-use Rattle.source_meaning.specs.Targets.{OfScalar, assigned, stepped, variable_target}
-use Rattle.source_meaning.specs.Values.{Active, Scope, Value, number}
-use Rattle.code_follows.specs.Fragment.{AreIn, IsEffect, IsIn, IsVariable, IsWord}
+use Rattle.source_meaning.specs.Targets.{OfScalar, assigned, stepped, variable_target, step_value}
+use Rattle.source_meaning.specs.Values.{Active, Scalar, Scope, Value, number}
+use Rattle.code_follows.specs.Fragment.{AreIn, IsEffect, IsIn, IsVariable, IsGiven, IsWord, Takes}
 use Rattle.code_follows.proofs.Changing.{no_place, only_set, operated_set_is, plain_type, scalar_type, set_is, stepped_is, stepping}
 use Rattle.code_follows.proofs.CallValues.{call_code, many_arguments}
 use Rattle.code_follows.proofs.Expressions.{arguments_do, assign_names, brackets_code, operand, step_names, target_named, value_follows}
@@ -57,12 +56,16 @@ use Rattle.code_follows.proofs.Following.{Arrives, Extends, Follows, HasRegister
 use Rattle.code_follows.proofs.Putting.{Put, put_follows}
 use Rattle.code_follows.proofs.Settings.{At, Setting, layout, stay}
 use Rattle.code_follows.proofs.Standing.{some_same}
-use Rattle.code_follows.proofs.Stores.{variable_dest}
-use Rattle.code_follows.proofs.Values.{fresh_dest, with_reg, Value_of, HasWord, extends_in_register, extends_operated, operates, word_follows}
-use Rattle.code_follows.proofs.Words.{below_word, held_wide, kept, word_type}
+use Rattle.code_follows.proofs.Values.{fresh_dest, with_reg, Value_of, HasWord, extends_in_register, word_follows}
+use Rattle.code_follows.proofs.Words.{below_word, held_wide, kept, scalar_of}
+use Rattle.code_follows.proofs.Numbers.{takes_fits, takes_same}
+use Rattle.code_follows.proofs.Settling.{extends_settled, settled, settles}
+use Rattle.code_follows.proofs.Effects.{promoted_wide, working_wide}
+use Rattle.code_follows.proofs.Given.{given_set, given_word}
+use Rattle.cstar_base.specs.Numbers.{converted}
 
 module _ (g : Setting) (has : HasRegisters g) (alive : Variable → Type 0) (n : ℕ) (lives : (x : Variable) → IsDeclared n x → alive x) (ready : (d : Draft) → IsReady g.typed g.instance (layout g) n d) (scope : Scope) (active : Active) (calls_follow : CallsFollow g scope active)
-    (x : Variable) (info : VarInfo) (living : alive x) (scalar : IsScalar g x info) (also : info.elem.bits ≡ 32) where
+    (x : Variable) (info : VarInfo) (living : alive x) (scalar : IsScalar g x info) where
   abbrev own : ℕ
   own = register_of (layout g) x
 
@@ -71,96 +74,83 @@ module _ (g : Setting) (has : HasRegisters g) (alive : Variable → Type 0) (n :
   Does_so part code = (d : Draft) (s : CodeState) (st : State) → g.begins ≤ d.regs → At g s (length d.code) → Sim g alive st s → Follows g (λ v u out e. Ran g alive d s u e) s (part st) (code d)
 
   -- without an operator the value is put in the variable
-  set_follows : (place : Place) (ty : ValueType) (value : TExpr) → ty.shape ≡ None → (IsIn g.may) value → HasCode g.typed g.instance n value
+  set_follows : (place : Place) (ty : ValueType) (value : TExpr) → ty.shape ≡ None → Takes info.elem (type_of value).elem → (IsIn g.may) value → HasCode g.typed g.instance n value
       → Does_so (λ st. then_do (evaluated scope value active st) (λ v after. assigned scope active place A.Set ty (type_of value) (OfScalar x) v after)) (λ d. put_to g.typed (layout g) (O.Scalar own) value d)
   unfolding Follows
-  set_follows place ty value plain isin c d s st free here sim =
-      then_silent g (Put g has alive n lives ready scope active calls_follow x info living scalar also d s) (λ v u out e. Ran g alive d s u e) s (evaluated scope value active st) _ (put_to g.typed (layout g) (O.Scalar own) value d)
-      (put_follows g has alive n lives ready scope active calls_follow x info living scalar also value isin c d s st free here sim) (λ v u out e p.
+  set_follows place ty value plain takes isin c d s st free here sim =
+      then_silent g (Put g has alive n lives ready scope active calls_follow x info living scalar (type_of value).elem d s) (λ v u out e. Ran g alive d s u e) s (evaluated scope value active st) _ (put_to g.typed (layout g) (O.Scalar own) value d)
+      (put_follows g has alive n lives ready scope active calls_follow x info living scalar value isin c (takes_fits info.elem (type_of value).elem takes) d s st free here sim) (λ v u out e p.
       subst (λ (r : Outcome Value). Follows g (λ v u out e. Ran g alive d s u e) s r (Makes out e))
-      (sym (ap (λ (w : Value). assigned scope active place A.Set ty (type_of value) (OfScalar x) w u) p.value ∙ set_is scope active place x ty (type_of value) p.word u plain (word_type g.may value isin).0))
-      (λ within. record { grown = p.grown; t = p.t; go = p.go; at = p.at; sim = p.sim; keeps = p.keeps }))
+      (sym (ap (λ (w : Value). assigned scope active place A.Set ty (type_of value) (OfScalar x) w u) p.value ∙ set_is scope active place x ty (type_of value) p.word u plain (scalar_of g.may value isin)))
+      (λ within. record { grown = p.grown; t = p.t; go = p.go; at = p.at; sim = subst (λ (w : ℕ). Sim g alive (with_scalar x w u) p.t) (takes_same info.elem (type_of value).elem p.word takes p.small) p.sim; keeps = p.keeps }))
 
   -- with one, the operation writes the variable
-  module _ (place : Place) (op : AssignOp) (o : Op) (ty : ValueType) (value : TExpr) (word : IsWord ty) (isin : (IsIn g.may) value) (c : HasCode g.typed g.instance n value) (is : assign_op_of op ≡ Some o) where
+  module _ (place : Place) (op : AssignOp) (o : Op) (value : TExpr) (long : IsWord (type_of value)) (isin : (IsIn g.may) value) (c : HasCode g.typed g.instance n value) (is : assign_op_of op ≡ Some o) where
     abbrev signed : Bool
-    signed = assigned_signed o ty.elem (type_of value).elem
+    signed = assigned_signed o info.elem (type_of value).elem
+
+    abbrev at_type : Elem
+    at_type = working_type op info.elem (type_of value).elem
+
+    at_wide : at_type.bits ≡ 32
+    at_wide = working_wide op info.elem (type_of value).elem long.1
 
     abbrev behind_value : ℕ → Draft → Made Out
-    behind_value b between = then_make (written_register ty.elem own between) (λ written after. Makes (O.Scalar own) (with_settled ty.elem written own (operated_in o signed place written own b after)))
-
-    written_is : (b : ℕ) (between : Draft) → behind_value b between ≡ Makes (O.Scalar own) (operated_in o signed place own own b between)
-    unfolding written_register with_settled then_make
-    written_is b between =
-        ap (λ (c : Bool). then_make (if c then Makes own between else a_register between) (λ written after. Makes (O.Scalar own) (if c then operated_in o signed place written own b after else with_instr (I.FrontConvert own written ty.elem) (operated_in o signed place written own b after)))) (eq-eqb ty.elem.bits 32 word.1)
-
-    extends_behind : (b : ℕ) (between : Draft) → Extends g between (behind_value b between)
-    extends_behind b between = subst (λ (made : Made Out). Extends g between made) (sym (written_is b between)) (extends_operated g has alive o signed place own own b between)
+    behind_value b between = settled g has alive scope active x info living scalar at_type at_wide place o signed b between
 
     with_value : (d : Draft) (s : CodeState) (v : Value) (u : State) (out : Out) (e : Draft) → g.begins ≤ d.regs → Arrives g alive (type_of value).elem true d s v u out e
-        → Follows g (λ v u out e. Ran g alive d s u e) s (assigned scope active place op ty (type_of value) (OfScalar x) v u) (in_register out (λ b. behind_value b e))
-    unfolding in_register Follows number
+        → Follows g (λ v u out e. Ran g alive d s u e) s (assigned scope active place op (scalar_type info.elem) (type_of value) (OfScalar x) v u) (in_register out (λ b. behind_value b e))
+    unfolding in_register
     with_value d s v u out e free arr =
-        let old : ℕ = u.scalar x in
-        let few : old < 2 ^ 32 = below_word info.elem.bits old also (arr.sim.small x info living scalar) in
-        let small : arr.holds.word < 2 ^ 32 = below_word (type_of value).elem.bits arr.holds.word (word_type g.may value isin).1 arr.holds.small in
-        let is_a : slice_index arr.t.registers own ≡ old = arr.sim.scalars x info living scalar ∙ held_wide info.elem old also few in
-        let is_b : slice_index arr.t.registers arr.holds.register ≡ arr.holds.word = arr.holds.lasts u arr.t arr.sim (keeps_all g e arr.t) (λ h. refl) ∙ held_wide (type_of value).elem arr.holds.word (word_type g.may value isin).1 small in
-        subst (λ (o' : Out). Follows g (λ v u out e. Ran g alive d s u e) s (assigned scope active place op ty (type_of value) (OfScalar x) v u) (in_register o' (λ b. behind_value b e))) (sym arr.holds.is)
-        (subst (λ (made : Made Out). Follows g (λ v u out e. Ran g alive d s u e) s (assigned scope active place op ty (type_of value) (OfScalar x) v u) made) (sym (written_is arr.holds.register e))
-        (subst (λ (r : Outcome Value). Follows g (λ v u out e. Ran g alive d s u e) s r (Makes (O.Scalar own) (operated_in o signed place own own arr.holds.register e)))
-        (sym (ap (λ (w : Value). assigned scope active place op ty (type_of value) (OfScalar x) w u) arr.holds.value ∙ operated_set_is g has alive scope active place x op o ty (type_of value) arr.holds.word u word (word_type g.may value isin) few small is))
-        (then_silent g (Put g has alive n lives ready scope active calls_follow x info living scalar also d s) (λ v u out e. Ran g alive d s u e) s _ _ (Makes (O.Scalar own) (operated_in o signed place own own arr.holds.register e))
-        (operates g has alive ty o place signed d e arr.extended.0 s arr.t u (Put g has alive n lives ready scope active calls_follow x info living scalar also d s) scope active own own arr.holds.register old arr.holds.word word
-        (variable_dest g has alive x info living scalar ty.elem d s word.1 also free) arr.go arr.at arr.sim arr.extended.1 arr.keeps is_a is_b few small)
-        (λ w u2 out2 e2 p. λ within. record { grown = p.grown; t = p.t; go = p.go; at = p.at; sim = subst (λ (q : Value). Sim g alive (with_scalar x (number q) u2) p.t) (sym p.value) p.sim; keeps = p.keeps }))))
+        let small : arr.holds.word < 2 ^ 32 = below_word (type_of value).elem.bits arr.holds.word long.1 arr.holds.small in
+        let is_b : slice_index arr.t.registers arr.holds.register ≡ arr.holds.word = arr.holds.lasts u arr.t arr.sim (keeps_all g e arr.t) (λ h. refl) ∙ held_wide (type_of value).elem arr.holds.word long.1 small in
+        subst (λ (o' : Out). Follows g (λ v u out e. Ran g alive d s u e) s (assigned scope active place op (scalar_type info.elem) (type_of value) (OfScalar x) v u) (in_register o' (λ b. behind_value b e))) (sym arr.holds.is)
+        (subst (λ (r : Outcome Value). Follows g (λ v u out e. Ran g alive d s u e) s r (behind_value arr.holds.register e))
+        (sym (ap (λ (w : Value). assigned scope active place op (scalar_type info.elem) (type_of value) (OfScalar x) w u) arr.holds.value ∙ operated_set_is g has alive scope active place x op o info.elem (type_of value) arr.holds.word u long is))
+        (settles g has alive scope active x info living scalar at_type at_wide place o signed (λ v. Scalar (converted info.elem at_type (number v))) d e arr.extended.0 s arr.t u arr.holds.register arr.holds.word free arr.extended.1 arr.go arr.keeps arr.at arr.sim is_b small))
 
-    pub operated_set_follows : Does_so (λ st. then_do (evaluated scope value active st) (λ v after. assigned scope active place op ty (type_of value) (OfScalar x) v after)) (λ d. register_operated g.typed (layout g) o signed place ty.elem own value d)
+    pub operated_set_follows : Does_so (λ st. then_do (evaluated scope value active st) (λ v after. assigned scope active place op (scalar_type info.elem) (type_of value) (OfScalar x) v after)) (λ d. register_operated g.typed (layout g) o signed place info.elem own value d)
     unfolding register_operated
     operated_set_follows d s st free here sim =
         then_follows g (Value_of g has alive (type_of value).elem true d s) (λ v u out e. Ran g alive d s u e) s s (evaluated scope value active st) _ (next_of g.typed (layout g) 32 true value d) (λ v between. in_register v (λ b. behind_value b between)) (stay g s)
-        (operand g has alive n lives ready scope active calls_follow true 32 value isin c d s st free here sim) (λ v e. extends_in_register g has alive e v _ (λ b. extends_behind b e)) (λ v u out e arr. with_value d s v u out e free arr)
+        (operand g has alive n lives ready scope active calls_follow true 32 value isin c d s st free here sim) (λ v e. extends_in_register g has alive e v _ (λ b. extends_settled g has alive scope active x info living scalar at_type at_wide place o signed b e)) (λ v u out e arr. with_value d s v u out e free arr)
 
   -- ---- steps
 
-  module _ (place : Place) (op : StepOp) (ty : ValueType) (word : IsWord ty) where
+  module _ (place : Place) (op : StepOp) where
     abbrev sign : Bool
-    sign = assigned_signed (stepping op) ty.elem (promoted ty.elem)
+    sign = assigned_signed (stepping op) info.elem (promoted info.elem)
 
     abbrev behind_one : ℕ → Draft → Made Out
-    behind_one b between = then_make (written_register ty.elem own between) (λ written after. Makes (O.Scalar own) (with_settled ty.elem written own (with_instr (I.FrontOperate (step_operation op) written own b) after)))
+    behind_one b between = then_make (written_register info.elem own between) (λ written after. Makes (O.Scalar own) (with_settled info.elem written own (with_instr (I.FrontOperate (step_operation op) written own b) after)))
 
-    stepped_so : (b : ℕ) (between : Draft) → behind_one b between ≡ Makes (O.Scalar own) (operated_in (stepping op) sign place own own b between)
-    unfolding written_register with_settled then_make step_operation operated_in on_registers machine_of operation_of with_register_check divides
-    stepped_so b between =
-        ap (λ (c : Bool). then_make (if c then Makes own between else a_register between) (λ written after. Makes (O.Scalar own) (if c then with_instr (I.FrontOperate (step_operation op) written own b) after else with_instr (I.FrontConvert own written ty.elem) (with_instr (I.FrontOperate (step_operation op) written own b) after)))) (eq-eqb ty.elem.bits 32 word.1)
-        ∙ ap (λ (d : Draft). Makes (O.Scalar own) d) (by op sign)
+    abbrev behind_one_so : ℕ → Draft → Made Out
+    behind_one_so b between = settled g has alive scope active x info living scalar (promoted info.elem) (promoted_wide info.elem) place (stepping op) sign b between
+
+    stepped_so : (b : ℕ) (between : Draft) → behind_one b between ≡ behind_one_so b between
+    unfolding step_operation operated_in on_registers machine_of operation_of with_register_check divides
+    stepped_so b between = by op sign
       where
-        by : (op : StepOp) (is_signed : Bool) → with_instr (I.FrontOperate (step_operation op) own own b) between ≡ operated_in (stepping op) is_signed place own own b between
+        by : (op : StepOp) (is_signed : Bool) → then_make (written_register info.elem own between) (λ written after. Makes (O.Scalar own) (with_settled info.elem written own (with_instr (I.FrontOperate (step_operation op) written own b) after)))
+            ≡ then_make (written_register info.elem own between) (λ written after. Makes (O.Scalar own) (with_settled info.elem written own (operated_in (stepping op) is_signed place written own b after)))
         by Sp.Increment is_signed = refl
         by Sp.Decrement is_signed = refl
 
     with_one : (order : StepOrder) (d : Draft) (s : CodeState) (st : State) (q : ℕ) (e : Draft) → g.begins ≤ d.regs → HasWord g has alive 1 d e s st q
-        → Follows g (λ v u out e. Ran g alive d s u e) s (stepped scope active op order ty (OfScalar x) st) (behind_one q e)
-    unfolding Follows number
+        → Follows g (λ v u out e. Ran g alive d s u e) s (stepped scope active op order (scalar_type info.elem) (OfScalar x) st) (behind_one q e)
     with_one order d s st q e free h =
-        let old : ℕ = st.scalar x in
-        let few : old < 2 ^ 32 = below_word info.elem.bits old also (h.sim.small x info living scalar) in
-        let is_a : slice_index h.t.registers own ≡ old = h.sim.scalars x info living scalar ∙ held_wide info.elem old also few in
-        subst (λ (made : Made Out). Follows g (λ v u out e. Ran g alive d s u e) s (stepped scope active op order ty (OfScalar x) st) made) (sym (stepped_so q e))
-        (subst (λ (r : Outcome Value). Follows g (λ v u out e. Ran g alive d s u e) s r (Makes (O.Scalar own) (operated_in (stepping op) sign place own own q e))) (sym (stepped_is g has alive scope active x place op order ty st word few))
-        (then_silent g (Put g has alive n lives ready scope active calls_follow x info living scalar also d s) (λ v u out e. Ran g alive d s u e) s _ _ (Makes (O.Scalar own) (operated_in (stepping op) sign place own own q e))
-        (operates g has alive ty (stepping op) place sign d e h.grown.0 s h.t st (Put g has alive n lives ready scope active calls_follow x info living scalar also d s) scope active own own q old 1 word
-        (variable_dest g has alive x info living scalar ty.elem d s word.1 also free) h.go h.at h.sim h.grown.1 h.keeps is_a h.is few (omega arith))
-        (λ w u2 out2 e2 p. λ within. record { grown = p.grown; t = p.t; go = p.go; at = p.at; sim = subst (λ (v : Value). Sim g alive (with_scalar x (number v) u2) p.t) (sym p.value) p.sim; keeps = p.keeps })))
+        subst (λ (made : Made Out). Follows g (λ v u out e. Ran g alive d s u e) s (stepped scope active op order (scalar_type info.elem) (OfScalar x) st) made) (sym (stepped_so q e))
+        (subst (λ (r : Outcome Value). Follows g (λ v u out e. Ran g alive d s u e) s r (behind_one_so q e)) (sym (stepped_is g has alive scope active x place op order info.elem st))
+        (settles g has alive scope active x info living scalar (promoted info.elem) (promoted_wide info.elem) place (stepping op) sign (λ v. step_value order (Scalar (st.scalar x)) (Scalar (converted info.elem (promoted info.elem) (number v))))
+        d e h.grown.0 s h.t st q 1 free h.grown.1 h.go h.keeps h.at h.sim h.is (omega arith)))
 
     extends_one : (q : ℕ) (e : Draft) → Extends g e (behind_one q e)
-    extends_one q e = subst (λ (made : Made Out). Extends g e made) (sym (stepped_so q e)) (extends_operated g has alive (stepping op) sign place own own q e)
+    extends_one q e = subst (λ (made : Made Out). Extends g e made) (sym (stepped_so q e)) (extends_settled g has alive scope active x info living scalar (promoted info.elem) (promoted_wide info.elem) place (stepping op) sign q e)
 
-    pub stepped_follows : (order : StepOrder) → Does_so (λ st. stepped scope active op order ty (OfScalar x) st) (λ d. variable_stepped (layout g) ty.elem op (O.Scalar own) d)
+    pub stepped_follows : (order : StepOrder) → Does_so (λ st. stepped scope active op order (scalar_type info.elem) (OfScalar x) st) (λ d. variable_stepped (layout g) info.elem op (O.Scalar own) d)
     unfolding variable_stepped then_do
     stepped_follows order d s st free here sim =
-        then_follows g (λ (u : Unit {0}) after q e. (after ≡ st) × HasWord g has alive 1 d e s st q) (λ v u out e. Ran g alive d s u e) s s (Source.Gives tt st) (λ u after. stepped scope active op order ty (OfScalar x) st) (word_in (layout g) 1 d) (λ q e. behind_one q e) (stay g s)
+        then_follows g (λ (u : Unit {0}) after q e. (after ≡ st) × HasWord g has alive 1 d e s st q) (λ v u out e. Ran g alive d s u e) s s (Source.Gives tt st) (λ u after. stepped scope active op order (scalar_type info.elem) (OfScalar x) st) (word_in (layout g) 1 d) (λ q e. behind_one q e) (stay g s)
         (word_follows g has alive 1 d s st free here sim) (λ q e. extends_one q e) (λ u after q e h. with_one order d s st q e free h.1)
 
 -- ---- effects as they stand in the tree
@@ -194,21 +184,21 @@ module _ (g : Setting) (has : HasRegisters g) (alive : Variable → Type 0) (n :
   unfolding step_effect own_of standing then_make
   steps_it elem x op whole d = refl
 
-  assigns : (elem : Elem) (place : Place) (op : AssignOp) (x : Variable) (value : TExpr) (whole : Code) → elem.bits ≡ 32 → HasVariable g.typed g.instance n x (plain (scalar_type elem)) → (IsIn g.may) value → HasCode g.typed g.instance n value
+  assigns : (elem : Elem) (place : Place) (op : AssignOp) (x : Variable) (value : TExpr) (whole : Code) → HasVariable g.typed g.instance n x (plain (scalar_type elem)) → IsGiven op (scalar_type elem) (type_of value) → (IsIn g.may) value → HasCode g.typed g.instance n value
       → Runs (λ st. then_do (evaluated scope value active st) (λ v after. assigned scope active place op (scalar_type elem) (type_of value) (OfScalar x) v after)) (λ d. assignment_effect g.typed (layout g) op place (T.Variable (scalar_type elem) x) value whole d)
   unfolding variable_operated
-  assigns elem place op x value whole wide v isin c d s st free here sim =
+  assigns elem place op x value whole v given isin c d s st free here sim =
       subst (λ (made : Made Out). Follows g (λ v u out e. Ran g alive d s u e) s (then_do (evaluated scope value active st) (λ v after. assigned scope active place op (scalar_type elem) (type_of value) (OfScalar x) v after)) made)
-      (sym (writes_it elem x op place value whole d (kept g.may value isin))) (by op (assign_op_of op) refl)
+      (sym (writes_it elem x op place value whole d (kept g.may value isin))) (by op given (assign_op_of op) refl)
     where
       info : VarInfo
       info = variable_info v.word (plain (scalar_type elem)) v.start
 
-      by : (op : AssignOp) (m : Option Op) → assign_op_of op ≡ m → Follows g (λ v u out e. Ran g alive d s u e) s (then_do (evaluated scope value active st) (λ v after. assigned scope active place op (scalar_type elem) (type_of value) (OfScalar x) v after))
+      by : (op : AssignOp) → IsGiven op (scalar_type elem) (type_of value) → (m : Option Op) → assign_op_of op ≡ m → Follows g (λ v u out e. Ran g alive d s u e) s (then_do (evaluated scope value active st) (λ v after. assigned scope active place op (scalar_type elem) (type_of value) (OfScalar x) v after))
           (elim m as (λ _. Made Out) [ None ↦ put_to g.typed (layout g) (O.Scalar (register_of (layout g) x)) value d | Some o ↦ variable_operated g.typed (layout g) o place (T.Variable (scalar_type elem) x) value (O.Scalar (register_of (layout g) x)) d ])
-      by op (Some o) is = operated_set_follows g has alive n lives ready scope active calls_follow x info (lives x v.declared) (v.named, refl) wide place op o (scalar_type elem) value (refl, wide) isin c is d s st free here sim
-      by op None is = subst (λ (q : AssignOp). Follows g (λ v u out e. Ran g alive d s u e) s (then_do (evaluated scope value active st) (λ v after. assigned scope active place q (scalar_type elem) (type_of value) (OfScalar x) v after)) (put_to g.typed (layout g) (O.Scalar (register_of (layout g) x)) value d))
-          (sym (only_set op is)) (set_follows g has alive n lives ready scope active calls_follow x info (lives x v.declared) (v.named, refl) wide place (scalar_type elem) value refl isin c d s st free here sim)
+      by op its (Some o) is = operated_set_follows g has alive n lives ready scope active calls_follow x info (lives x v.declared) (v.named, refl) place op o value (given_word op o (scalar_type elem) (type_of value) is its) isin c is d s st free here sim
+      by op its None is = subst (λ (q : AssignOp). Follows g (λ v u out e. Ran g alive d s u e) s (then_do (evaluated scope value active st) (λ v after. assigned scope active place q (scalar_type elem) (type_of value) (OfScalar x) v after)) (put_to g.typed (layout g) (O.Scalar (register_of (layout g) x)) value d))
+          (sym (only_set op is)) (set_follows g has alive n lives ready scope active calls_follow x info (lives x v.declared) (v.named, refl) place (scalar_type elem) value refl (given_set op (scalar_type elem) (type_of value) is its) isin c d s st free here sim)
 
   -- an expression without effects
   pure_follows : (e : TExpr) → (IsIn g.may) e → HasCode g.typed g.instance n e → Runs (λ st. evaluated scope e active st) (λ d. value_of g.typed (layout g) (type_of e).elem.bits e d)
@@ -222,22 +212,22 @@ module _ (g : Setting) (has : HasRegisters g) (alive : Variable → Type 0) (n :
       nothing_done (Source.Gives v u) = refl
       nothing_done (Source.Ends early u) = refl
 
-  assign_runs : (tty : ValueType) (place : Place) (op : AssignOp) (x : Variable) (value : TExpr) (whole : Code) → IsWord tty → HasVariable g.typed g.instance n x (plain tty) → (IsIn g.may) value → HasCode g.typed g.instance n value
+  assign_runs : (tty : ValueType) (place : Place) (op : AssignOp) (x : Variable) (value : TExpr) (whole : Code) → tty.shape ≡ None → HasVariable g.typed g.instance n x (plain tty) → IsGiven op tty (type_of value) → (IsIn g.may) value → HasCode g.typed g.instance n value
       → Runs (λ st. then_do (Source.Gives (variable_target tty.shape x 0) st) (λ there between. then_do (evaluated scope value active between) (λ v after. assigned scope active place op tty (type_of value) there v after)))
       (λ d. assignment_effect g.typed (layout g) op place (T.Variable tty x) value whole d)
   unfolding then_do variable_target
-  assign_runs tty place op x value whole word v isin c =
-      subst (λ (t : ValueType). HasVariable g.typed g.instance n x (plain t) → Runs (λ st. then_do (Source.Gives (variable_target t.shape x 0) st) (λ there between. then_do (evaluated scope value active between) (λ v after. assigned scope active place op t (type_of value) there v after)))
-      (λ d. assignment_effect g.typed (layout g) op place (T.Variable t x) value whole d)) (sym (plain_type tty word.0)) (λ w. assigns tty.elem place op x value whole word.1 w isin c) v
+  assign_runs tty place op x value whole plain_shape v given isin c =
+      subst (λ (t : ValueType). HasVariable g.typed g.instance n x (plain t) → IsGiven op t (type_of value) → Runs (λ st. then_do (Source.Gives (variable_target t.shape x 0) st) (λ there between. then_do (evaluated scope value active between) (λ v after. assigned scope active place op t (type_of value) there v after)))
+      (λ d. assignment_effect g.typed (layout g) op place (T.Variable t x) value whole d)) (sym (plain_type tty plain_shape)) (λ w its. assigns tty.elem place op x value whole w its isin c) v given
 
-  step_runs : (tty : ValueType) (op : StepOp) (order : StepOrder) (x : Variable) (whole : Code) → IsWord tty → HasVariable g.typed g.instance n x (plain tty)
+  step_runs : (tty : ValueType) (op : StepOp) (order : StepOrder) (x : Variable) (whole : Code) → tty.shape ≡ None → HasVariable g.typed g.instance n x (plain tty)
       → Runs (λ st. then_do (Source.Gives (variable_target tty.shape x 0) st) (λ there after. stepped scope active op order tty there after)) (λ d. step_effect g.typed (layout g) op (T.Variable tty x) whole d)
   unfolding then_do variable_target
-  step_runs tty op order x whole word v =
+  step_runs tty op order x whole plain_shape v =
       subst (λ (t : ValueType). HasVariable g.typed g.instance n x (plain t) → Runs (λ st. then_do (Source.Gives (variable_target t.shape x 0) st) (λ there after. stepped scope active op order t there after)) (λ d. step_effect g.typed (layout g) op (T.Variable t x) whole d))
-      (sym (plain_type tty word.0)) (λ w d s st free here sim.
+      (sym (plain_type tty plain_shape)) (λ w d s st free here sim.
       subst (λ (made : Made Out). Follows g (λ v u out e. Ran g alive d s u e) s (stepped scope active op order (scalar_type tty.elem) (OfScalar x) st) made) (sym (steps_it tty.elem x op whole d))
-      (stepped_follows g has alive n lives ready scope active calls_follow x (variable_info w.word (plain (scalar_type tty.elem)) w.start) (lives x w.declared) (w.named, refl) word.1 no_place op (scalar_type tty.elem) (refl, word.1) order d s st free here sim)) v
+      (stepped_follows g has alive n lives ready scope active calls_follow x (variable_info w.word (plain (scalar_type tty.elem)) w.start) (lives x w.declared) (w.named, refl) no_place op order d s st free here sim)) v
 
   printf_runs : (ty : ValueType) (pieces : Vec Piece Global) (p : Vec (Unit {0}) Global) (arguments : _) → (AreIn g.may) arguments → HaveCode g.typed g.instance n arguments
       → Runs (λ st. evaluated scope (T.Printf' ty pieces p arguments) active st) (λ d. effect_of g.typed (layout g) (T.Printf' ty pieces p arguments) d)
@@ -294,7 +284,7 @@ module _ (g : Setting) (has : HasRegisters g) (alive : Variable → Type 0) (n :
       let names = assign_names g has alive n lives ready scope active calls_follow ty place op p q (T.Variable tty x) value c in
       subst (λ (t : ValueType). Runs (λ st. then_do (Source.Gives (variable_target tty.shape x 0) st) (λ there between. then_do (evaluated scope value active between) (λ v after. assigned scope active place op t (type_of value) there v after)))
       (λ d. assignment_effect g.typed (layout g) op place (T.Variable tty x) value (λ e. value_of g.typed (layout g) ty.elem.bits (T.Assign' ty place op p (T.Variable tty x) q value) e) d)) (sym h.1)
-      (assign_runs tty place op x value (λ e. value_of g.typed (layout g) ty.elem.bits (T.Assign' ty place op p (T.Variable tty x) q value) e) h.2 (target_named g has alive n lives ready scope active calls_follow tty x names.0) h.3 names.1)
+      (assign_runs tty place op x value (λ e. value_of g.typed (layout g) ty.elem.bits (T.Assign' ty place op p (T.Variable tty x) q value) e) h.2 (target_named g has alive n lives ready scope active calls_follow tty x names.0) h.4 h.3 names.1)
   value_effect (T.Assign' ty place op p _ q value) h c = absurd h.2
   value_effect (T.Step' ty op order p (T.Variable tty x)) h c =
       subst (λ (t : ValueType). Runs (λ st. then_do (Source.Gives (variable_target tty.shape x 0) st) (λ there after. stepped scope active op order t there after)) (λ d. step_effect g.typed (layout g) op (T.Variable tty x) (λ e. value_of g.typed (layout g) ty.elem.bits (T.Step' ty op order p (T.Variable tty x)) e) d)) (sym h.1)

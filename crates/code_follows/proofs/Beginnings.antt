@@ -1,11 +1,9 @@
 -- The values that the variables of the file begin with.
-use Rattle.std.proofs.Common.{◌≡◌, ◌∙◌, ℕ, zero, suc, ◌+◌, ◌<◌, ◌≤◌, ◌^◌, ◌==◌, Bool, true, false, List, [], ◌∷◌, length, slice_get, slice_index, Some, refl, sym, ap, if◌then◌else◌, arith}
+use Rattle.std.proofs.Common.{◌≡◌, ◌∙◌, ℕ, zero, suc, ◌+◌, ◌<◌, ◌≤◌, ◌==◌, Bool, true, false, List, [], ◌∷◌, length, slice_get, slice_index, Some, refl, sym, ap, if◌then◌else◌, arith}
 use Rattle.std.specs.List.{All}
 use Rattle.std.proofs.lemmas.Bool.{eqb-true}
 use Rattle.std.proofs.lemmas.List.{get_or-set_other, get_or-set_same}
 use Rattle.std.proofs.Math.ListN.{length-set}
-use Rattle.cstar_base.specs.declared.elem.Elem.{Elem}
-use Rattle.cstar_base.specs.Numbers.{converted}
 use Rattle.cstar_tree.specs.declared.typed.VarInfo.{VarInfo}
 use Rattle.cstar_tree.specs.declared.typed.Variable.TheVariants as V
 use Rattle.code_lengths.specs.Growth.{Extended}
@@ -16,17 +14,13 @@ use Rattle.lower_stmt.specs.Programs.{scalar_begun}
 use Rattle.paris_code.specs.declared.instr.Instr.TheVariants as I
 use Rattle.paris_code.specs.Code.{CodeState, Goes, begun, with_register}
 use Rattle.paris_code.specs.Scalar.{rounded}
-use Rattle.paris_code.specs.Sending.{word_kind}
 use Rattle.code_follows.specs.Fragment.{IsPlainVariable}
 use Rattle.code_follows.proofs.Declaring.{all_first, all_rest}
 use Rattle.code_follows.proofs.Settings.{At, Reaches, Setting, Within, and_one, at_next, begins_here, earlier, one, onto, stay}
 use Rattle.code_follows.proofs.Standing.{some_same}
-use Rattle.code_follows.proofs.Words.{held_converted, held_wide}
-
-rounded_wide : (kind : Elem) (x : ℕ) → kind.bits ≡ 32 → x < 2 ^ 32 → rounded kind x ≡ x
-unfolding rounded
-rounded_wide kind x wide few =
-    ap (λ (y : ℕ). converted word_kind kind y) (held_converted kind word_kind x wide ∙ held_wide word_kind x refl few) ∙ held_converted word_kind kind x refl ∙ held_wide kind x wide few
+use Rattle.source_meaning.specs.Reductions.{int_type}
+use Rattle.code_follows.proofs.Following.{held}
+use Rattle.code_follows.proofs.Numbers.{bits_rounded, zero_converted}
 
 module _ (l : Layout) where
   -- a variable takes its number, unless it begins with 0
@@ -73,7 +67,7 @@ module _ (l : Layout) where
       pub input : t.input ≡ s.input
       pub returns : t.returns ≡ s.returns
 
-    one_run : (info : VarInfo) (n : ℕ) (d : Draft) (s : CodeState) → IsPlainVariable info → At g s (length d.code) → Within g (start_put info n d) → n < length s.registers → slice_index s.registers n ≡ 0 → Written n info.start s (start_put info n d)
+    one_run : (info : VarInfo) (n : ℕ) (d : Draft) (s : CodeState) → IsPlainVariable info → At g s (length d.code) → Within g (start_put info n d) → n < length s.registers → slice_index s.registers n ≡ 0 → Written n (held info.elem info.start) s (start_put info n d)
     unfolding start_put scalar_begun begun step_of register_of
     one_run info n d s plain here within room zero_there = by (info.start == 0) refl within
       where
@@ -83,14 +77,14 @@ module _ (l : Layout) where
         last : Draft
         last = with_instr (I.FrontConvert n n info.elem) between
 
-        by : (b : Bool) → (info.start == 0) ≡ b → Within g (if b then d else last) → Written n info.start s (if b then d else last)
-        by true none within = record { t = s; go = stay g s; at = here; registers = refl; is = zero_there ∙ sym (eqb-true info.start 0 none); others = λ q apart. refl; turns = refl; output = refl; input = refl; returns = refl }
+        by : (b : Bool) → (info.start == 0) ≡ b → Within g (if b then d else last) → Written n (held info.elem info.start) s (if b then d else last)
+        by true none within = record { t = s; go = stay g s; at = here; registers = refl; is = zero_there ∙ sym (ap (held info.elem) (eqb-true info.start 0 none) ∙ zero_converted int_type info.elem); others = λ q apart. refl; turns = refl; output = refl; input = refl; returns = refl }
         by false some within =
             let s1 : CodeState = with_register n info.start s in
-            let s2 : CodeState = with_register n info.start s1 in
+            let s2 : CodeState = with_register n (held info.elem info.start) s1 in
             let long : length s1.registers ≡ length s.registers = length-set s.registers n info.start in
             let there : slice_index s1.registers n ≡ info.start = get_or-set_same s.registers n info.start 0 room in
-            let word : rounded info.elem (slice_index s1.registers n) ≡ info.start = ap (λ (x : ℕ). rounded info.elem x) there ∙ rounded_wide info.elem info.start plain.0.1 plain.1 in
+            let word : rounded info.elem (slice_index s1.registers n) ≡ held info.elem info.start = ap (λ (x : ℕ). rounded info.elem x) there ∙ bits_rounded info.elem info.start plain.1 in
             let first : Within g between = earlier g between last 1 (and_one g (I.FrontConvert n n info.elem) between) within in
             let at1 : At g s1 (length between.code) = at_next g (I.FrontConst n info.start) d s (s.at + 1) here refl in
             record {
@@ -98,9 +92,9 @@ module _ (l : Layout) where
               go = onto g s s1 s2 (one g s s1 (begins_here g (I.FrontConst n info.start) d s first refl here))
                   (one g s1 s2 (begins_here g (I.FrontConvert n n info.elem) between s1 within refl at1 ∙ ap (λ (x : ℕ). Goes (with_register n x s1)) word));
               at = at_next g (I.FrontConvert n n info.elem) between s1 (s1.at + 1) at1 refl;
-              registers = length-set s1.registers n info.start ∙ long;
-              is = get_or-set_same s1.registers n info.start 0 (omega (arith, room, long));
-              others = λ q apart. get_or-set_other s1.registers n q info.start 0 (λ e. apart e) ∙ get_or-set_other s.registers n q info.start 0 (λ e. apart e);
+              registers = length-set s1.registers n (held info.elem info.start) ∙ long;
+              is = get_or-set_same s1.registers n (held info.elem info.start) 0 (omega (arith, room, long));
+              others = λ q apart. get_or-set_other s1.registers n q (held info.elem info.start) 0 (λ e. apart e) ∙ get_or-set_other s.registers n q info.start 0 (λ e. apart e);
               turns = refl;
               output = refl;
               input = refl;
@@ -113,7 +107,7 @@ module _ (l : Layout) where
       pub go : Reaches g s t
       pub at : At g t (length e.code)
       pub registers : length t.registers ≡ length s.registers
-      pub are : (k : ℕ) (info : VarInfo) → slice_get infos k ≡ Some info → slice_index t.registers (n + k) ≡ info.start
+      pub are : (k : ℕ) (info : VarInfo) → slice_get infos k ≡ Some info → slice_index t.registers (n + k) ≡ held info.elem info.start
       pub below : (q : ℕ) → q < n → slice_index t.registers q ≡ slice_index s.registers q
       pub above : (q : ℕ) → n + length infos ≤ q → slice_index t.registers q ≡ slice_index s.registers q
       pub turns : t.turns ≡ s.turns
@@ -128,7 +122,7 @@ module _ (l : Layout) where
         nothing : List VarInfo
         nothing = []
 
-        none : (k : ℕ) (info : VarInfo) → slice_get nothing k ≡ Some info → slice_index s.registers (n + k) ≡ info.start
+        none : (k : ℕ) (info : VarInfo) → slice_get nothing k ≡ Some info → slice_index s.registers (n + k) ≡ held info.elem info.start
         none k info is = cc
     starts_run (info ∷ infos) n d s all here within room zeros =
         let middle : Draft = start_put info n d in
@@ -169,8 +163,8 @@ module _ (l : Layout) where
         over : (k q : ℕ) → n + suc k ≤ q → q ≡ n → ⊥
         over k q h e = omega (arith, h, e)
 
-        each : (k : ℕ) (other : VarInfo) → slice_get (info ∷ infos) k ≡ Some other → (registers : List ℕ) → ((k : ℕ) (other : VarInfo) → slice_get infos k ≡ Some other → slice_index registers (n + 1 + k) ≡ other.start) → slice_index registers n ≡ info.start → slice_index registers (n + k) ≡ other.start
-        each zero other is registers are here = ap (λ (q : ℕ). slice_index registers q) (nothing_more n) ∙ here ∙ ap (λ (i : VarInfo). i.start) (some_same info other is)
+        each : (k : ℕ) (other : VarInfo) → slice_get (info ∷ infos) k ≡ Some other → (registers : List ℕ) → ((k : ℕ) (other : VarInfo) → slice_get infos k ≡ Some other → slice_index registers (n + 1 + k) ≡ held other.elem other.start) → slice_index registers n ≡ held info.elem info.start → slice_index registers (n + k) ≡ held other.elem other.start
+        each zero other is registers are here = ap (λ (q : ℕ). slice_index registers q) (nothing_more n) ∙ here ∙ ap (λ (i : VarInfo). held i.elem i.start) (some_same info other is)
           where
             nothing_more : (n : ℕ) → n + 0 ≡ n
             nothing_more n = omega arith

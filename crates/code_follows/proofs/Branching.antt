@@ -1,5 +1,5 @@
 -- Code that is made as described, jumps over it, and the words on which they depend.
-use Rattle.std.proofs.Common.{◌≡◌, ◌∙◌, ℕ, ◌+◌, ◌<◌, ◌^◌, Bool, true, false, not, length, slice_index, refl, sym, ap, if◌then◌else◌}
+use Rattle.std.proofs.Common.{◌≡◌, ◌∙◌, ℕ, ◌+◌, Bool, true, false, not, length, slice_index, refl, sym, ap, if◌then◌else◌}
 use Rattle.cstar_base.specs.declared.elem.Elem.{Elem}
 use Rattle.cstar_tree.specs.declared.typed.TExpr.{TExpr}
 use Rattle.cstar_tree.specs.declared.typed.Typed.{Typed}
@@ -20,7 +20,7 @@ use Rattle.source_meaning.specs.Values.{Value, nonzero, number}
 use Rattle.code_follows.proofs.Following.{Arrives, Extends, Follows, delayed, finished, finishes_later, keeps_all}
 use Rattle.code_follows.proofs.Jumping.{moved_to, returns_to, skips}
 use Rattle.code_follows.proofs.Settings.{At, Reaches, Setting, Within, and_one, code_more, earlier, start}
-use Rattle.code_follows.proofs.Words.{below_word, held_wide}
+use Rattle.code_follows.proofs.Numbers.{held_nonzero}
 
 -- code of so many instructions, whose value stands in a register
 pub record IsMadeWord (long : ℕ) (d : Draft) (made : Made Out) : Type 0 where
@@ -49,12 +49,11 @@ module _ (g : Setting) (alive : Variable → Type 0) where
   then_from R Q s s0 (Source.Ends early st) k y e made go follows grows next = finished g Q e s early st made grows (λ w. finishes_later g early st s s0 go (follows w))
 
   -- the word of a value is 0 exactly where the value is
-  pub tested : (elem : Elem) (d e : Draft) (s : CodeState) (v : Value) (st : State) (r : ℕ) → elem.bits ≡ 32 → (arr : Arrives g alive elem true d s v st (O.Scalar r) e) → nonzero (slice_index arr.t.registers r) ≡ nonzero (number v)
+  pub tested : (elem : Elem) (d e : Draft) (s : CodeState) (v : Value) (st : State) (r : ℕ) → (arr : Arrives g alive elem true d s v st (O.Scalar r) e) → nonzero (slice_index arr.t.registers r) ≡ nonzero (number v)
   unfolding number
-  tested elem d e s v st r wide arr =
-      let few : arr.holds.word < 2 ^ 32 = below_word elem.bits arr.holds.word wide arr.holds.small in
+  tested elem d e s v st r arr =
       ap (λ (q : Out). nonzero (slice_index arr.t.registers (elim q as (λ _. ℕ) [ O.Scalar x ↦ x | O.Field f ↦ 0 | O.Nothing ↦ 0 ]))) arr.holds.is
-      ∙ ap nonzero (arr.holds.lasts st arr.t arr.sim (keeps_all g e arr.t) (λ h. refl) ∙ held_wide elem arr.holds.word wide few) ∙ sym (ap (λ (w : Value). nonzero (number w)) arr.holds.value)
+      ∙ ap nonzero (arr.holds.lasts st arr.t arr.sim (keeps_all g e arr.t) (λ h. refl)) ∙ held_nonzero elem arr.holds.word arr.holds.small ∙ sym (ap (λ (w : Value). nonzero (number w)) arr.holds.value)
 
   -- a jump where an operand decides
   pub decided_goes : (is_or b : Bool) (x target : ℕ) (e : Draft) (s : CodeState) → nonzero (slice_index s.registers x) ≡ b → Within g (jump_if_decided is_or x target e) → At g s (length e.code) → Reaches g s (moved_to g alive (if decides is_or b then target + start g else s.at + 1) s)

@@ -22,6 +22,9 @@ use Rattle.code_follows.proofs.Following.{Follows, HasRegisters, IsScalar, Sim, 
 use Rattle.code_follows.proofs.Settings.{At, Reaches, Setting, Within, and_one, at_next, begins_here, ends_now, layout, one, placed_instr, regs_more}
 use Rattle.code_follows.proofs.Stores.{IsPut, below_free, sim_begun}
 use Rattle.code_follows.proofs.Values.{Does, Value_of, and_register, with_reg}
+use Rattle.constant_trees.proofs.Words.{converted_below}
+use Rattle.cstar_base.specs.Numbers.{converted}
+use Rattle.code_follows.proofs.Numbers.{Fits, fits_held}
 use Rattle.code_follows.proofs.Words.{below_bits, held_wide}
 
 -- the bytes behind the first one
@@ -112,27 +115,29 @@ module _ (g : Setting) (has : HasRegisters g) (alive : Variable → Type 0) wher
       })
 
   -- the byte in a variable
-  module _ (x : Variable) (info : VarInfo) (living : alive x) (scalar : IsScalar g x info) (also : info.elem.bits ≡ 32) where
+  module _ (x : Variable) (info : VarInfo) (living : alive x) (scalar : IsScalar g x info) where
     abbrev own : ℕ
     own = register_of (layout g) x
 
-    pub byte_put : (d : Draft) (s : CodeState) (st : State) → g.begins ≤ d.regs → At g s (length d.code) → Sim g alive st s
-        → Follows g (λ v u out e. IsPut g has alive x info living scalar d s v u out e) s (next_byte st) (Makes (O.Scalar own) (with_instr (I.FrontGetByte own) d))
-    byte_put d s st free here sim =
-        reads own d s st (λ v u out e. IsPut g has alive x info living scalar d s v u out e) here sim (λ w rest v few later within go.
+    pub byte_put : (elem : Elem) → elem.bits ≡ 32 → Fits info.elem elem → (d : Draft) (s : CodeState) (st : State) → g.begins ≤ d.regs → At g s (length d.code) → Sim g alive st s
+        → Follows g (λ v u out e. IsPut g has alive x info living scalar elem d s v u out e) s (next_byte st) (Makes (O.Scalar own) (with_instr (I.FrontGetByte own) d))
+    byte_put elem wide fits d s st free here sim =
+        reads own d s st (λ v u out e. IsPut g has alive x info living scalar elem d s v u out e) here sim (λ w rest v few later within go.
         let instr : Instr = I.FrontGetByte own in
         let regs = regs_more g instr d in
         let low = below_free g has x info scalar in
         let inside : own < length s.registers = omega (arith, low, free, regs, within.regs, sim.registers) in
-        let words : held info.elem w ≡ w = held_wide info.elem w also few in
+        let small : w < 2 ^ elem.bits = below_bits elem.bits w wide few in
+        let number : ℕ = converted info.elem elem w in
+        let words : held info.elem number ≡ w = sym (fits_held info.elem elem w fits small) ∙ held_wide elem w wide few in
         record {
           grown = (1, and_one g instr d);
-          t = with_register own (held info.elem w) (reading rest s);
+          t = with_register own (held info.elem number) (reading rest s);
           go = subst (λ (k : ℕ). Reaches g s (with_register own k (reading rest s))) (sym words) go;
           at = at_next g instr d s (s.at + 1) here refl;
           word = w;
           value = refl;
-          small = few;
-          sim = sim_begun g has x info scalar alive alive (λ y later other. later) v (reading rest s) w (below_bits info.elem.bits w also few) inside later;
-          keeps = variable_kept g d s x info (held info.elem w) has scalar.0;
+          small = small;
+          sim = sim_begun g has x info scalar alive alive (λ y later other. later) v (reading rest s) number (converted_below info.elem elem w) inside later;
+          keeps = variable_kept g d s x info (held info.elem number) has scalar.0;
         })

@@ -1,4 +1,4 @@
--- `?:` of scalars of 32 bits, whose value goes to a register.
+-- `?:` of scalars, whose value goes to a register.
 use Rattle.std.proofs.Common.{◌≡◌, ◌∙◌, ℕ, ◌+◌, ◌<◌, ◌≤◌, ◌^◌, Bool, true, false, not, length, slice_index, Option, Some, None, refl, sym, ap, subst, if◌then◌else◌, arith}
 use Rattle.std.specs.Prelude.{IfSome, is_none}
 use Rattle.cstar_base.specs.declared.elem.Elem.{Elem}
@@ -33,7 +33,7 @@ use Rattle.code_follows.proofs.Jumping.{jumps, moved_to, sim_moved}
 use Rattle.code_follows.proofs.Settings.{At, Reaches, Setting, Within, and_one, earlier, onto, start, stay}
 use Rattle.code_follows.proofs.Stores.{IsPut}
 use Rattle.code_follows.proofs.Values.{Dest, Does, Value_of, with_reg}
-use Rattle.code_follows.proofs.Words.{below_bits, below_word, constant_below, held_wide, word_type}
+use Rattle.code_follows.proofs.Words.{below_bits, below_word, constant_below, held_wide}
 
 pub choose_is : (of : Option ℕ) (v : Value) (first second : Operand) (active : Active) (st : State) → of ≡ None → choose of v first second active st ≡ (if nonzero (number v) then first active st else second active st)
 unfolding choose
@@ -54,14 +54,14 @@ pub record IsNumber (part : State → Outcome Value) (w : ℕ) : Type 0 where
   pub small : w < 2 ^ 32
   pub gives : (st : State) → part st ≡ Source.Gives (Scalar w) st
 
-pub constant_arm : (may : May) (scope : Scope) (active : Active) (e : TExpr) (w : ℕ) → IsIn may e → register_word e ≡ Some w → IsNumber (λ st. evaluated scope e active st) w
+pub constant_arm : (may : May) (scope : Scope) (active : Active) (e : TExpr) (w : ℕ) → IsIn may e → (type_of e).elem.bits ≡ 32 → register_word e ≡ Some w → IsNumber (λ st. evaluated scope e active st) w
 unfolding register_word constant_of
-constant_arm may scope active e w isin is = by (is_constant e) (Const.value_of e) refl refl is
+constant_arm may scope active e w isin wide is = by (is_constant e) (Const.value_of e) refl refl is
   where
     by : (c : Bool) (o : Option ℕ) → is_constant e ≡ c → Const.value_of e ≡ o → then_value (if c then o else None) (λ v. Some (held (type_of e).elem v)) ≡ Some w → IsNumber (λ st. evaluated scope e active st) w
     by true (Some v) is_c is_v h =
-        let few : v < 2 ^ 32 = subst (λ (o : Option ℕ). IfSome o (λ u. u < 2 ^ 32)) is_v (constant_below may e isin) in
-        let same : v ≡ w = sym (held_wide (type_of e).elem v (word_type may e isin).1 few) ∙ ap (λ (o : Option ℕ). elim o as (λ _. ℕ) [ Some x ↦ x | None ↦ 0 ]) h in
+        let few : v < 2 ^ 32 = below_word (type_of e).elem.bits v wide (subst (λ (o : Option ℕ). IfSome o (λ u. u < 2 ^ (type_of e).elem.bits)) is_v (constant_below may e isin)) in
+        let same : v ≡ w = sym (held_wide (type_of e).elem v wide few) ∙ ap (λ (o : Option ℕ). elim o as (λ _. ℕ) [ Some x ↦ x | None ↦ 0 ]) h in
         subst (λ (x : ℕ). IsNumber (λ st. evaluated scope e active st) x) same (record { small = few; gives = λ st. subst (λ (o : Option ℕ). Const.IsValueOf e o) is_v (value_means e is_c) scope active st })
     by true None is_c is_v h = cc
     by false o is_c is_v h = cc
@@ -114,8 +114,8 @@ module _ (g : Setting) (has : HasRegisters g) (alive : Variable → Type 0) wher
         };
   }
 
-  pub put_lands : (x : Variable) (info : VarInfo) (living : alive x) (scalar : IsScalar g x info) (d : Draft) (s : CodeState) (r : ℕ) → Lands r (λ v st out e. IsPut g has alive x info living scalar d s v st out e)
-  put_lands x info living scalar d s r = record {
+  pub put_lands : (x : Variable) (info : VarInfo) (living : alive x) (scalar : IsScalar g x info) (elem : Elem) (d : Draft) (s : CodeState) (r : ℕ) → Lands r (λ v st out e. IsPut g has alive x info living scalar elem d s v st out e)
+  put_lands x info living scalar elem d s r = record {
     over = λ e f k target v st grows is within p. record {
       grown = (_, past_jump d e f p.grown.0 k target p.grown.1 grows);
       t = moved_to g alive (target + start g) p.t;
@@ -163,7 +163,7 @@ module _ (g : Setting) (has : HasRegisters g) (alive : Variable → Type 0) wher
           (goes_on g alive (Value_of g has alive from true before s) R s0 s (part st) (O.Scalar computed.register) computed.behind (O.Scalar r) (with_instr (I.FrontMove r computed.register) computed.behind) 1 go
           (subst (λ (mk : Made Out). Follows g (Value_of g has alive from true before s) s (part st) mk) computed.is (does before s st (omega (arith, free, grows.regs)) place sim)) (and_one g (I.FrontMove r computed.register) computed.behind) moves)
 
-  module _ (elem from : Elem) (long_test long more : ℕ) (test : Code) (first second : Arm) (condition one other : State → Outcome Value) (next : Value → State → Outcome Value) (wide : from.bits ≡ 32) (test_does : Does g has alive from true condition test)
+  module _ (elem from : Elem) (long_test long more : ℕ) (test : Code) (first second : Arm) (condition one other : State → Outcome Value) (next : Value → State → Outcome Value) (test_does : Does g has alive from true condition test)
       (first_does : Arm_does elem one first) (second_does : Arm_does elem other second) (test_made : (d : Draft) → IsMadeWord long_test d (test d)) (first_made : (r : ℕ) (d : Draft) → IsMadeTo r long d (first (O.Scalar r) d)) (second_made : (r : ℕ) (d : Draft) → IsMadeTo r more d (second (O.Scalar r) d))
       (next_is : (v : Value) (st : State) → next v st ≡ (if nonzero (number v) then one st else other st)) where
     module _ (d : Draft) (s : CodeState) (st : State) (R : Value → State → Out → Draft → Type 0) (r : ℕ) (free : g.begins ≤ d.regs) (there : At g s (length d.code)) (sim : Sim g alive st s) (dest : Dest g has alive elem d s R r) (lands : Lands r R) where
@@ -227,7 +227,7 @@ module _ (g : Setting) (has : HasRegisters g) (alive : Variable → Type 0) wher
           let t : CodeState = moved_to g alive (arr.t.at + 1) arr.t in
           let place = arr.at in
           let long_so = jump_long g alive false tests.register target tests.behind in
-          let go : Reaches g s t = onto g s arr.t t arr.go (decided_goes g alive false true tests.register target tests.behind arr.t (tested g alive from d tests.behind s v u tests.register wide arr ∙ so) within arr.at) in
+          let go : Reaches g s t = onto g s arr.t t arr.go (decided_goes g alive false true tests.register target tests.behind arr.t (tested g alive from d tests.behind s v u tests.register arr ∙ so) within arr.at) in
           goes_on g alive R R s s (one u) (O.Scalar r) half.behind (O.Scalar r) last.behind (1 + more) (stay g s)
           (subst (λ (m : Made Out). Follows g R s (one u) m) half.is (first_does d leap (long_test + 1) s t u R r free dest go (omega (arith, place, long_so)) (sim_moved g alive u arr.t (arr.t.at + 1) arr.sim) to_leap arr.keeps)) half_last
           (λ w later is inner. lands.over half.behind last.behind more (target + more) w later last.extended ends_there inner is)
@@ -236,7 +236,7 @@ module _ (g : Setting) (has : HasRegisters g) (alive : Variable → Type 0) wher
       goes_second : (v : Value) (u : State) (arr : Arrives g alive from true d s v u (O.Scalar tests.register) tests.behind) → nonzero (number v) ≡ false → Within g leap → Follows g R s (other u) (Makes (O.Scalar r) last.behind)
       goes_second v u arr so within =
           let t : CodeState = moved_to g alive (target + start g) arr.t in
-          let go : Reaches g s t = onto g s arr.t t arr.go (decided_goes g alive false false tests.register target tests.behind arr.t (tested g alive from d tests.behind s v u tests.register wide arr ∙ so) within arr.at) in
+          let go : Reaches g s t = onto g s arr.t t arr.go (decided_goes g alive false false tests.register target tests.behind arr.t (tested g alive from d tests.behind s v u tests.register arr ∙ so) within arr.at) in
           subst (λ (m : Made Out). Follows g R s (other u) m) last.is (second_does d skip (long_test + (1 + (long + 1))) s t u R r free dest go (omega (arith, second_there)) (sim_moved g alive u arr.t (target + start g) arr.sim) to_skip arr.keeps)
 
       pub scalar_choice_follows : Follows g R s (then_do (condition st) next) (scalar_choice_by (O.Scalar r) test first second long more d)

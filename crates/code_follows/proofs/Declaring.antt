@@ -26,7 +26,9 @@ use Rattle.code_follows.proofs.Executing.{ran_from}
 use Rattle.code_follows.proofs.Following.{HasRegisters, IsScalar, Keeps, Ran, Sim, held, input_of, keeps_all, variable_kept}
 use Rattle.code_follows.proofs.Settings.{At, Setting, Within, and_one, at_next, begins_here, earlier, layout, one, regs_more, stay}
 use Rattle.code_follows.proofs.Stores.{below_free, same_is, sim_begun, same_itself}
-use Rattle.code_follows.proofs.Words.{held_wide}
+use Rattle.std.proofs.lemmas.Nat.{pow_pos}
+use Rattle.source_meaning.specs.Reductions.{int_type}
+use Rattle.code_follows.proofs.Numbers.{zero_converted}
 
 -- what holds of all holds of those behind the first
 pub all_rest : {A : Type 0} (P : A → Type 0) (x : A) (xs : List A) → All P (x ∷ xs) → All P xs
@@ -173,15 +175,12 @@ module _ (g : Setting) (has : HasRegisters g) where
       by true = refl
       by false = refl
 
-  small_zero : (bits : ℕ) → bits ≡ 32 → 0 < 2 ^ bits
-  small_zero bits wide = subst (λ (b : ℕ). 0 < 2 ^ b) (sym wide) (omega arith)
-
   -- one that begins as a constant waits
   waits : (before : Variable → Type 0) (local : LocalVar) (locals : List LocalVar) (n : ℕ) (d : Draft) → (IsInLocal g.may) local → begins_constant local ≡ true → Clears (λ x. before x × (x ≡ V.Local n → ⊥)) locals (n + 1) d → Clears before (local ∷ locals) n d
   unfolding all_cleared zeroed with_scalar Started
   waits before local locals n d isin begins rest = record {
     e = rest.e;
-    is = cleared_so local isin.0.0 n d true begins (λ after. all_cleared (layout g) false locals (n + 1) after) ∙ rest.is;
+    is = cleared_so local isin.0 n d true begins (λ after. all_cleared (layout g) false locals (n + 1) after) ∙ rest.is;
     count = rest.count;
     grown = rest.grown;
     runs = λ s st free at sim within.
@@ -223,13 +222,13 @@ module _ (g : Setting) (has : HasRegisters g) where
   clears_one : (before : Variable → Type 0) (local : LocalVar) (locals : List LocalVar) (n : ℕ) (d : Draft) → (IsInLocal g.may) local → begins_constant local ≡ false → StandFrom (variables_of g.instance.body) n (info_of local ∷ map info_of locals) → Clears (λ x. before x ⊎ (x ≡ V.Local n)) locals (n + 1) (with_instr (I.FrontConst (register_of (layout g) (V.Local n)) 0) d) → Clears before (local ∷ locals) n d
   unfolding all_cleared begun step_of zeroed with_scalar Started
   clears_one before local locals n d isin begins stand rest =
-      let scalar : IsScalar g (V.Local n) local.info = (first_is_named g n local.info (map info_of locals) stand, isin.0.0) in
+      let scalar : IsScalar g (V.Local n) local.info = (first_is_named g n local.info (map info_of locals) stand, isin.0) in
       let r : ℕ = register_of (layout g) (V.Local n) in
       let between : Draft = with_instr (I.FrontConst r 0) d in
-      let zero_held : held local.info.elem 0 ≡ 0 = held_wide local.info.elem 0 isin.0.1 (omega arith) in
+      let zero_held : held local.info.elem 0 ≡ 0 = zero_converted int_type local.info.elem in
       record {
         e = rest.e;
-        is = cleared_so local isin.0.0 n d false begins (λ after. all_cleared (layout g) false locals (n + 1) after) ∙ rest.is;
+        is = cleared_so local isin.0 n d false begins (λ after. all_cleared (layout g) false locals (n + 1) after) ∙ rest.is;
         count = 1 + rest.count;
         grown = extended d between rest.e 1 rest.count (and_one g (I.FrontConst r 0) d) rest.grown;
         runs = λ s st free at sim within.
@@ -240,7 +239,7 @@ module _ (g : Setting) (has : HasRegisters g) where
             let low = below_free g has (V.Local n) local.info scalar in
             let first_within : Within g between = earlier g between rest.e rest.count rest.grown within in
             let inside : r < length s.registers = omega (arith, low, free, first_within.regs, more, sim.registers) in
-            let sim1 : Sim g now st1 s1 = subst (λ (w : ℕ). Sim g now st1 (with_register r w s)) zero_held (sim_begun g has (V.Local n) local.info scalar before now (λ y living other. was_alive y living other) st s 0 (small_zero local.info.elem.bits isin.0.1) inside sim) in
+            let sim1 : Sim g now st1 s1 = subst (λ (w : ℕ). Sim g now st1 (with_register r w s)) zero_held (sim_begun g has (V.Local n) local.info scalar before now (λ y living other. was_alive y living other) st s 0 (pow_pos local.info.elem.bits) inside sim) in
             let kept : Keeps g d s s1 = variable_kept g d s (V.Local n) local.info 0 has scalar.0 in
             let ran = rest.runs s1 st1 (omega (arith, free, more)) (at_next g (I.FrontConst r 0) d s (s.at + 1) at refl) sim1 within in
             let all = ran_from g (λ x. Alive now locals (n + 1) x) d between 1 s s1 (zeroed (n + 1) (length locals) st1) rest.e (and_one g (I.FrontConst r 0) d) (one g s s1 (begins_here g (I.FrontConst r 0) d s first_within refl at)) kept ran in

@@ -1,6 +1,6 @@
--- Assignments to scalar variables of 32 bits, and steps, as statements.
-use Rattle.std.proofs.Common.{◌≡◌, ◌∙◌, ℕ, ◌<◌, ◌^◌, ◌==◌, ◌&&◌, Bool, true, false, not, Option, Some, None, refl, sym, ap, subst, if◌then◌else◌, arith}
-use Rattle.std.specs.Prelude.{nat_lt}
+-- What operators leave in scalar variables, in the source.
+use Rattle.std.proofs.Common.{◌≡◌, ◌∙◌, ℕ, ◌==◌, ◌&&◌, Bool, true, false, not, Option, Some, None, refl, sym, ap, if◌then◌else◌, arith, ◌≤◌}
+use Rattle.std.specs.Prelude.{nat_lt, ◌||◌}
 use Rattle.std.proofs.lemmas.Bool.Decides.{nat_tests}
 use Rattle.cstar_base.specs.declared.elem.Elem.{Elem}
 use Rattle.cstar_base.specs.declared.operators.Op.{Op}
@@ -8,17 +8,15 @@ use Rattle.cstar_base.specs.Numbers.{converted}
 use Rattle.cstar_base.specs.Operators.{divides, outcome}
 use Rattle.cstar_tree.specs.declared.syntax.AssignOp.{AssignOp}
 use Rattle.cstar_tree.specs.declared.syntax.AssignOp.TheVariants as A
-use Rattle.lower_base.specs.Operators.{assign_op_of, machine_of}
+use Rattle.cstar_base.proofs.NumberLaws.{kind_bits}
+use Rattle.code_follows.proofs.Following.{held}
+use Rattle.lower_base.specs.Operators.{assign_op_of, is_signed}
 use Rattle.lower_expr.specs.Steps.{assigned_signed}
 use Rattle.source_meaning.specs.Reductions.{divides_by_zero, int_type, promoted, step_of, updated, working_type}
-use Rattle.code_follows.proofs.Operators.{machine_below, machine_same, wide_signed}
-use Rattle.code_follows.proofs.Words.{held_converted, held_wide}
+use Rattle.code_follows.proofs.Operators.{wide_signed}
+use Rattle.code_follows.proofs.Words.{held_converted}
 
 -- ---- what the source does
-
-pub wide_type : (elem : Elem) → elem.bits ≡ 32 → promoted elem ≡ elem
-unfolding promoted
-wide_type elem wide = ap (λ (b : Bool). if b then int_type else elem) (let h : nat_lt elem.bits 32 ≡ false = grind (arith, nat_tests, wide) in h)
 
 some_op : {a b : Op} → Some a ≡ Some b → a ≡ b
 some_op {a} {b} e = ap (λ (o : Option Op). elim o as (λ _. Op) [ None ↦ a | Some x ↦ x ]) e
@@ -58,55 +56,70 @@ divides_is A.Shr o w is = ap (λ (q : Op). divides q && (w == 0)) (some_op is)
 divides_is A.Min o w is = ap (λ (q : Op). divides q && (w == 0)) (some_op is)
 divides_is A.Max o w is = ap (λ (q : Op). divides q && (w == 0)) (some_op is)
 
+-- a promoted type has 32 bits, and reads its numbers as the code does
+pub promoted_wide : (elem : Elem) → (promoted elem).bits ≡ 32
+unfolding promoted
+promoted_wide elem = by (nat_lt elem.bits 32) refl
+  where
+    by : (b : Bool) → nat_lt elem.bits 32 ≡ b → (if b then int_type else elem).bits ≡ 32
+    by true is = refl
+    by false is = let few : elem.bits ≤ 32 = (kind_bits elem.bits elem.signed elem.kind).1 in grind (arith, nat_tests, is, few)
+
+promoted_signed : (elem : Elem) → (promoted elem).signed ≡ is_signed elem
+unfolding promoted is_signed
+promoted_signed elem = by (nat_lt elem.bits 32) elem.signed refl
+  where
+    by : (b c : Bool) → elem.signed ≡ c → (if b then int_type else elem).signed ≡ (c || b)
+    by true true is = refl
+    by true false is = refl
+    by false true is = is
+    by false false is = is
+
 -- the type at which it works reads its operands as the code does
-signs_are : (op : AssignOp) (o : Op) (to from : Elem) → to.bits ≡ 32 → from.bits ≡ 32 → assign_op_of op ≡ Some o → (working_type op to from).signed ≡ assigned_signed o to from
+signs_are : (op : AssignOp) (o : Op) (to from : Elem) → from.bits ≡ 32 → assign_op_of op ≡ Some o → (working_type op to from).signed ≡ assigned_signed o to from
 unfolding assign_op_of working_type assigned_signed
-signs_are A.Set o to from wide also is = cc
-signs_are A.Add o to from wide also is = sym (wide_signed from also) ∙ ap (λ (q : Op). assigned_signed q to from) (some_op is)
-signs_are A.Sub o to from wide also is = sym (wide_signed from also) ∙ ap (λ (q : Op). assigned_signed q to from) (some_op is)
-signs_are A.Mul o to from wide also is = sym (wide_signed from also) ∙ ap (λ (q : Op). assigned_signed q to from) (some_op is)
-signs_are A.Div o to from wide also is = sym (wide_signed from also) ∙ ap (λ (q : Op). assigned_signed q to from) (some_op is)
-signs_are A.Rem o to from wide also is = sym (wide_signed from also) ∙ ap (λ (q : Op). assigned_signed q to from) (some_op is)
-signs_are A.Mod o to from wide also is = sym (wide_signed from also) ∙ ap (λ (q : Op). assigned_signed q to from) (some_op is)
-signs_are A.And o to from wide also is = sym (wide_signed from also) ∙ ap (λ (q : Op). assigned_signed q to from) (some_op is)
-signs_are A.Or o to from wide also is = sym (wide_signed from also) ∙ ap (λ (q : Op). assigned_signed q to from) (some_op is)
-signs_are A.Xor o to from wide also is = sym (wide_signed from also) ∙ ap (λ (q : Op). assigned_signed q to from) (some_op is)
-signs_are A.Shl o to from wide also is = ap (λ (e : Elem). e.signed) (wide_type to wide) ∙ sym (wide_signed to wide) ∙ ap (λ (q : Op). assigned_signed q to from) (some_op is)
-signs_are A.Shr o to from wide also is = ap (λ (e : Elem). e.signed) (wide_type to wide) ∙ sym (wide_signed to wide) ∙ ap (λ (q : Op). assigned_signed q to from) (some_op is)
-signs_are A.Min o to from wide also is = sym (wide_signed from also) ∙ ap (λ (q : Op). assigned_signed q to from) (some_op is)
-signs_are A.Max o to from wide also is = sym (wide_signed from also) ∙ ap (λ (q : Op). assigned_signed q to from) (some_op is)
+signs_are A.Set o to from also is = cc
+signs_are A.Shl o to from also is = promoted_signed to ∙ ap (λ (q : Op). assigned_signed q to from) (some_op is)
+signs_are A.Shr o to from also is = promoted_signed to ∙ ap (λ (q : Op). assigned_signed q to from) (some_op is)
+signs_are A.Add o to from also is = sym (wide_signed from also) ∙ ap (λ (q : Op). assigned_signed q to from) (some_op is)
+signs_are A.Sub o to from also is = sym (wide_signed from also) ∙ ap (λ (q : Op). assigned_signed q to from) (some_op is)
+signs_are A.Mul o to from also is = sym (wide_signed from also) ∙ ap (λ (q : Op). assigned_signed q to from) (some_op is)
+signs_are A.Div o to from also is = sym (wide_signed from also) ∙ ap (λ (q : Op). assigned_signed q to from) (some_op is)
+signs_are A.Rem o to from also is = sym (wide_signed from also) ∙ ap (λ (q : Op). assigned_signed q to from) (some_op is)
+signs_are A.Mod o to from also is = sym (wide_signed from also) ∙ ap (λ (q : Op). assigned_signed q to from) (some_op is)
+signs_are A.And o to from also is = sym (wide_signed from also) ∙ ap (λ (q : Op). assigned_signed q to from) (some_op is)
+signs_are A.Or o to from also is = sym (wide_signed from also) ∙ ap (λ (q : Op). assigned_signed q to from) (some_op is)
+signs_are A.Xor o to from also is = sym (wide_signed from also) ∙ ap (λ (q : Op). assigned_signed q to from) (some_op is)
+signs_are A.Min o to from also is = sym (wide_signed from also) ∙ ap (λ (q : Op). assigned_signed q to from) (some_op is)
+signs_are A.Max o to from also is = sym (wide_signed from also) ∙ ap (λ (q : Op). assigned_signed q to from) (some_op is)
 
-working_wide : (op : AssignOp) (to from : Elem) → to.bits ≡ 32 → from.bits ≡ 32 → (working_type op to from).bits ≡ 32
+pub working_wide : (op : AssignOp) (to from : Elem) → from.bits ≡ 32 → (working_type op to from).bits ≡ 32
 unfolding working_type
-working_wide A.Shl to from wide also = ap (λ (e : Elem). e.bits) (wide_type to wide) ∙ wide
-working_wide A.Shr to from wide also = ap (λ (e : Elem). e.bits) (wide_type to wide) ∙ wide
-working_wide A.Set to from wide also = also
-working_wide A.Add to from wide also = also
-working_wide A.Sub to from wide also = also
-working_wide A.Mul to from wide also = also
-working_wide A.Div to from wide also = also
-working_wide A.Rem to from wide also = also
-working_wide A.Mod to from wide also = also
-working_wide A.And to from wide also = also
-working_wide A.Or to from wide also = also
-working_wide A.Xor to from wide also = also
-working_wide A.Min to from wide also = also
-working_wide A.Max to from wide also = also
+working_wide A.Shl to from also = promoted_wide to
+working_wide A.Shr to from also = promoted_wide to
+working_wide A.Set to from also = also
+working_wide A.Add to from also = also
+working_wide A.Sub to from also = also
+working_wide A.Mul to from also = also
+working_wide A.Div to from also = also
+working_wide A.Rem to from also = also
+working_wide A.Mod to from also = also
+working_wide A.And to from also = also
+working_wide A.Or to from also = also
+working_wide A.Xor to from also = also
+working_wide A.Min to from also = also
+working_wide A.Max to from also = also
 
-outcome_below : (o : Op) (signed : Bool) (a b : ℕ) → a < 2 ^ 32 → b < 2 ^ 32 → (divides o ≡ true → (b == 0) ≡ false) → outcome o 32 (not signed) a b < 2 ^ 32
-outcome_below o signed a b few small some = subst (λ (w : ℕ). w < 2 ^ 32) (machine_same a b few small o signed some) (machine_below a b few small (machine_of o signed))
-
--- what an operator leaves in a variable of 32 bits
-pub updated_is : (op : AssignOp) (o : Op) (to from : Elem) (old w : ℕ) → to.bits ≡ 32 → from.bits ≡ 32 → old < 2 ^ 32 → w < 2 ^ 32 → assign_op_of op ≡ Some o → (divides o ≡ true → (w == 0) ≡ false)
-    → updated op to from old w ≡ outcome o 32 (not (assigned_signed o to from)) old w
+-- what an operator leaves in a variable
+pub updated_is : (op : AssignOp) (o : Op) (to from : Elem) (old w : ℕ) → from.bits ≡ 32 → assign_op_of op ≡ Some o
+    → updated op to from old w ≡ converted to (working_type op to from) (outcome o 32 (not (assigned_signed o to from)) (held to old) w)
 unfolding updated assign_op_of
-updated_is op o to from old w wide also few small is some =
+updated_is op o to from old w also is =
     let at_type : Elem = working_type op to from in
-    let old_is : converted at_type to old ≡ old = held_converted at_type to old (working_wide op to from wide also) ∙ held_wide to old wide few in
-    let step : step_of op (not at_type.signed) (converted at_type to old) w ≡ outcome o 32 (not (assigned_signed o to from)) old w =
-    ap (λ (q : ℕ). step_of op (not at_type.signed) q w) old_is ∙ step_is op o (not at_type.signed) old w is ∙ ap (λ (b : Bool). outcome o 32 (not b) old w) (signs_are op o to from wide also is) in
-    let below : outcome o 32 (not (assigned_signed o to from)) old w < 2 ^ 32 = outcome_below o (assigned_signed o to from) old w few small some in
-    updated_by op o to from old w is ∙ ap (λ (q : ℕ). converted to at_type q) step ∙ held_converted to at_type (outcome o 32 (not (assigned_signed o to from)) old w) wide ∙ held_wide at_type (outcome o 32 (not (assigned_signed o to from)) old w) (working_wide op to from wide also) below
+    let old_is : converted at_type to old ≡ held to old = held_converted at_type to old (working_wide op to from also) in
+    let step : step_of op (not at_type.signed) (converted at_type to old) w ≡ outcome o 32 (not (assigned_signed o to from)) (held to old) w =
+    ap (λ (q : ℕ). step_of op (not at_type.signed) q w) old_is ∙ step_is op o (not at_type.signed) (held to old) w is ∙ ap (λ (b : Bool). outcome o 32 (not b) (held to old) w) (signs_are op o to from also is) in
+    updated_by op o to from old w is ∙ ap (λ (q : ℕ). converted to at_type q) step
   where
     updated_by : (op : AssignOp) (o : Op) (to from : Elem) (old w : ℕ) → assign_op_of op ≡ Some o → updated op to from old w ≡ converted to (working_type op to from) (step_of op (not (working_type op to from).signed) (converted (working_type op to from) to old) w)
     updated_by A.Set o to from old w is = cc

@@ -178,21 +178,19 @@ module _ (t : Typed) (image : Image) (p : IsScalarProgram t) (codable : IsCodabl
       bytes = shared.bytes;
     }
       where
-        word_of : (x : Variable) (info : VarInfo) → variable_named t b x ≡ Some info → info.elem.bits ≡ 32
-        word_of (V.File k) info named = (all_at IsPlainVariable t.vars.items k info p.variables named).0.1
-        word_of (V.Param k) info named = (all_at IsWordVariable b.params.items k info (p.each number b is).params named).1
-        word_of (V.Local k) info named = (all_at IsWordVariable (variables_of b.body) k info (p.each number b is).locals named).1
+        word_of : (k : ℕ) (info : VarInfo) → slice_get b.params.items k ≡ Some info → info.elem.bits ≡ 32
+        word_of k info named = (all_at IsWordVariable b.params.items k info (p.each number b is).params named).1
 
         value : (x : Variable) (info : VarInfo) → OfFileOrParam x → variable_named t b x ≡ Some info → slice_index s.registers (register_of (layout_of t (words t image p codable compiled) number) x) ≡ held info.elem (opening_state.scalar x)
         value (V.File k) info living named = shared.files k info named
         value (V.Param k) info living named =
             let inside = slice_get_within b.params.items k info named in
-            given.words k inside ∙ sym (held_wide info.elem (as_number (slice_index_or arguments k Nothing)) (word_of (V.Param k) info named) (given.few k inside))
+            given.words k inside ∙ sym (held_wide info.elem (as_number (slice_index_or arguments k Nothing)) (word_of k info named) (given.few k inside))
         value (V.Local k) info living named = absurd living
 
         small : (x : Variable) (info : VarInfo) → OfFileOrParam x → variable_named t b x ≡ Some info → opening_state.scalar x < 2 ^ info.elem.bits
         small (V.File k) info living named = shared.small k info named
-        small (V.Param k) info living named = subst (λ (n : ℕ). as_number (slice_index_or arguments k Nothing) < 2 ^ n) (sym (word_of (V.Param k) info named)) (given.few k (slice_get_within b.params.items k info named))
+        small (V.Param k) info living named = subst (λ (n : ℕ). as_number (slice_index_or arguments k Nothing) < 2 ^ n) (sym (word_of k info named)) (given.few k (slice_get_within b.params.items k info named))
         small (V.Local k) info living named = absurd living
 
     -- ---- what its body gives, and where it goes back
@@ -210,8 +208,8 @@ module _ (t : Typed) (image : Image) (p : IsScalarProgram t) (codable : IsCodabl
       returns = ap (λ (places : List ℕ). take (length places - 1) places) r.sim.returns ∙ below_place back_to back;
       shared = record {
         registers = r.sim.registers;
-        files = λ k info named. r.sim.scalars (V.File k) info tt (named, (plain k info named).0);
-        small = λ k info named. r.sim.small (V.File k) info tt (named, (plain k info named).0);
+        files = λ k info named. r.sim.scalars (V.File k) info tt (named, plain k info named);
+        small = λ k info named. r.sim.small (V.File k) info tt (named, plain k info named);
         constants = λ word q is_there. r.sim.constants word q (constants_same word ∙ is_there);
         turns = r.sim.turns;
         output = r.sim.output;
@@ -231,7 +229,7 @@ module _ (t : Typed) (image : Image) (p : IsScalarProgram t) (codable : IsCodabl
         leaves : Rattle.paris_code.specs.Code.step image r.t ≡ Goes there
         leaves = r.leaves ∙ ap (λ (c : Bool). if c then Rattle.paris_code.specs.Code.Ends Rattle.paris_code.specs.Code.Done r.t else Goes there) is_other
 
-        plain : (k : ℕ) (info : VarInfo) → slice_get t.vars.items k ≡ Some info → (info.shape ≡ None) × (info.elem.bits ≡ 32)
+        plain : (k : ℕ) (info : VarInfo) → slice_get t.vars.items k ≡ Some info → info.shape ≡ None
         plain k info named = (all_at IsPlainVariable t.vars.items k info p.variables named).0
 
         given_so : (leaving : Leaving) → (b.result ≡ None → ⊥) → IsGiven inner (every_one t image p codable compiled number b is open_calls m) s r.t (given_back leaving) → NoJump (Source.Gives leaving u)
@@ -326,7 +324,7 @@ module _ (t : Typed) (image : Image) (p : IsScalarProgram t) (codable : IsCodabl
   unfolding scope_of
   calls_so most number i is opens enters = record {
     meant = refl;
-    plain_files = λ k info found. (all_at IsPlainVariable t.vars.items k info p.variables found).0.0;
+    plain_files = λ k info found. (all_at IsPlainVariable t.vars.items k info p.variables found).0;
     value = λ index h. (may_call index h.0 h.1.0 h.1.1 h.1.2, (h.0, h.1.0, h.1.3 refl));
     effect = λ index h. may_call index h.0 h.1.0 h.1.1 h.1.2;
   }

@@ -1,6 +1,5 @@
 -- The example is a scalar program.
-use Rattle.std.proofs.Common.{◌≡◌, ◌∙◌, ℕ, zero, suc, ◌-◌, ◌<◌, List, [], ◌∷◌, ◌++◌, slice_get, length, Some, None, Global, refl, sym, ap, subst, arith}
-use Rattle.std.proofs.Common.{lit<}
+use Rattle.std.proofs.Common.{◌≡◌, ◌∙◌, ℕ, zero, suc, ◌-◌, ◌<◌, List, [], ◌∷◌, ◌++◌, slice_get, length, Some, None, Global, refl, sym, ap, subst, arith, lit<, inl}
 use Rattle.std.specs.List.{All}
 use Rattle.cstar_tree.specs.declared.typed.Instance.{Instance}
 use Rattle.cstar_tree.specs.declared.typed.TStmt.{end_of-TStmt, more_of-TStmt}
@@ -8,8 +7,8 @@ use Rattle.cstar_tree.specs.declared.typed.VarInfo.{VarInfo}
 use Rattle.cstar_tree.specs.Variables.{variables_of}
 use Rattle.code_lengths.proofs.Declaring.{of_block, of_expression, of_for, of_return, row_variables}
 use Rattle.source_meaning.specs.Examples.{number, variable, vec}
-use Rattle.code_follows.specs.Example.{ExampleIsScalar, body, doubled, example, main, prints, sums, turns, twice}
-use Rattle.code_follows.specs.Fragment.{AreClosed, AreIn, AreInStatements, IsBody, IsClosed, IsEffect, IsFlat, IsIn, IsInLocal, IsInStatement, IsPlainVariable, IsScalarFunction, IsTested, IsVariable, IsWordVariable, may_of}
+use Rattle.code_follows.specs.Example.{ExampleIsScalar, body, char, doubled, example, main, prints, sums, turns, twice}
+use Rattle.code_follows.specs.Fragment.{AreClosed, AreIn, AreInStatements, IsBody, IsClosed, IsEffect, IsFlat, IsGiven, IsIn, IsInLocal, IsInStatement, IsPlainVariable, IsScalarFunction, IsTested, IsVariable, IsScalarVariable, IsWordVariable, may_of}
 use Rattle.code_follows.proofs.Standing.{some_same}
 
 all_none : {A : Type 0} (P : A → Type 0) → All P []
@@ -20,12 +19,12 @@ all_one P x h zero other within = h
 all_one P x h (suc k) other within = absurd (omega (arith, within))
 
 -- its variables are `i` alone, and the other function has none
-own : (heap : Global) → variables_of (body heap) ≡ variable number None 0 ∷ []
+own : (heap : Global) → variables_of (body heap) ≡ variable char None 0 ∷ []
 unfolding row_variables
 own heap =
-    of_block (vec heap (record { info = variable number None 0; initial = None } ∷ []) (lit< tt)) (vec heap (tt ∷ tt ∷ []) (lit< tt)) (more_of-TStmt (turns heap) (more_of-TStmt (prints heap) end_of-TStmt))
-    ∙ ap (λ (xs : List VarInfo). variable number None 0 ∷ (xs ++ (variables_of (prints heap) ++ []))) (turns_declare ∙ sums_declare)
-    ∙ ap (λ (xs : List VarInfo). variable number None 0 ∷ (xs ++ [])) prints_declare
+    of_block (vec heap (record { info = variable char None 0; initial = None } ∷ []) (lit< tt)) (vec heap (tt ∷ tt ∷ []) (lit< tt)) (more_of-TStmt (turns heap) (more_of-TStmt (prints heap) end_of-TStmt))
+    ∙ ap (λ (xs : List VarInfo). variable char None 0 ∷ (xs ++ (variables_of (prints heap) ++ []))) (turns_declare ∙ sums_declare)
+    ∙ ap (λ (xs : List VarInfo). variable char None 0 ∷ (xs ++ [])) prints_declare
   where
     turns_declare : variables_of (turns heap) ≡ variables_of (sums heap)
     turns_declare = of_for _ _ _ _ _
@@ -45,24 +44,24 @@ rank : ℕ → ℕ
 rank number = 1 - number
 
 main_is : (heap : Global) → IsScalarFunction (may_of (example heap) rank 0) (main heap)
-unfolding IsBody IsInStatement IsEffect IsIn IsTested IsVariable AreIn AreInStatements AreClosed IsClosed rank
+unfolding IsBody IsInStatement IsEffect IsGiven IsIn IsTested IsVariable AreIn AreInStatements AreClosed IsClosed rank
 main_is heap = record {
   params = all_none IsWordVariable;
   result = λ info is. subst IsWordVariable (some_same (variable number None 0) info is) (refl, refl);
   body = (
-    all_one (IsInLocal (may_of (example heap) rank 0)) (record { info = variable number None 0; initial = None }) ((refl, refl), tt),
+    all_one (IsInLocal (may_of (example heap) rank 0)) (record { info = variable char None 0; initial = None }) (refl, tt),
     (
       (
-        ((refl, refl), refl, (refl, refl), ((refl, refl), omega arith)),
-        ((refl, refl), (refl, refl), ((refl, refl), omega arith)),
-        ((refl, refl), refl, (refl, refl)),
-        ((refl, refl), refl, (refl, refl), ((refl, refl), ((refl, refl), (twice heap, (refl, omega arith, omega arith, λ with_result. refl)), ((refl, refl), tt)), (refl, refl))),
+        (refl, refl, refl, (refl, ((refl, refl), omega arith)), inl refl),
+        ((refl, refl), (refl, refl), ((refl, refl), omega arith), (refl, refl), (refl, refl)),
+        (refl, refl, refl),
+        (refl, refl, refl, ((refl, refl), ((refl, refl), (twice heap, (refl, omega arith, omega arith, λ with_result. refl)), (refl, tt, (refl, refl))), (refl, refl), (refl, refl), (refl, refl)), inl refl),
       ),
-      (((refl, refl), tt), tt),
+      ((refl, tt, (refl, refl)), tt),
     ),
     (tt, (tt, tt)),
   );
-  locals = subst (λ (xs : List VarInfo). All IsWordVariable xs) (sym (own heap)) (all_one IsWordVariable (variable number None 0) (refl, refl));
+  locals = subst (λ (xs : List VarInfo). All IsScalarVariable xs) (sym (own heap)) (all_one IsScalarVariable (variable char None 0) refl);
 }
 
 twice_is : (heap : Global) → IsScalarFunction (may_of (example heap) rank 1) (twice heap)
@@ -70,8 +69,8 @@ unfolding IsBody IsInStatement IsIn AreInStatements AreClosed IsClosed
 twice_is heap = record {
   params = all_one IsWordVariable (variable number None 0) (refl, refl);
   result = λ info is. subst IsWordVariable (some_same (variable number None 0) info is) (refl, refl);
-  body = (all_none (IsInLocal (may_of (example heap) rank 1)), (((refl, refl), (refl, refl), (refl, refl)), tt), (tt, tt));
-  locals = subst (λ (xs : List VarInfo). All IsWordVariable xs) (sym (none_own heap)) (all_none IsWordVariable);
+  body = (all_none (IsInLocal (may_of (example heap) rank 1)), ((((refl, refl), refl, refl, (refl, refl), (refl, refl)), (refl, refl)), tt), (tt, tt));
+  locals = subst (λ (xs : List VarInfo). All IsScalarVariable xs) (sym (none_own heap)) (all_none IsScalarVariable);
 }
 
 module _ (heap : Global) where
@@ -113,5 +112,5 @@ is_scalar heap = record {
   each = each heap;
   flat = flat heap;
   names = names heap;
-  variables = all_one IsPlainVariable (variable number None 1) ((refl, refl), omega arith);
+  variables = all_one IsPlainVariable (variable number None 1) (refl, omega arith);
 }

@@ -28,11 +28,11 @@ use Rattle.source_meaning.specs.Values.{Active, Scope, Value, nonzero, number, S
 use Rattle.code_follows.specs.Fragment.{IsIn, IsVariable, May}
 use Rattle.code_follows.proofs.Expressions.{operand}
 use Rattle.code_follows.proofs.Callees.{CallsFollow}
-use Rattle.code_follows.proofs.Following.{Arrives, Extends, Follows, HasRegisters, Keeps, Ran, Sim, finishes_later, keeps_all, keeps_on, then_follows, spared_kept, result_kept}
+use Rattle.code_follows.proofs.Following.{Arrives, Extends, Follows, HasRegisters, Keeps, Ran, Sim, finishes_later, keeps_all, keeps_on, then_follows, spared_kept, result_kept, delayed, finished}
 use Rattle.code_follows.proofs.Settings.{At, Reaches, Setting, layout, onto, stay}
 use Rattle.code_follows.proofs.Values.{Value_of, extends_in_register}
-use Rattle.code_follows.proofs.Words.{below_word, held_wide, kept, word_type}
-use Rattle.code_follows.proofs.Following.{delayed, finished}
+use Rattle.code_follows.proofs.Numbers.{held_nonzero}
+use Rattle.code_follows.proofs.Words.{kept}
 
 pub no_break : Broke ≡ Onward → ⊥
 no_break e = cc
@@ -170,12 +170,10 @@ module _ (g : Setting) (alive : Variable → Type 0) where
       where
         tests : (v : Value) (u : State) (out : Out) (e : Draft) → Arrives g alive (type_of test).elem true d s v u out e → Follows g (Tested d s) s (Source.Gives (nonzero (number v)) u) (in_register out (λ r. Makes r e))
         tests v u out e arr =
-            let wide = (word_type g.may test isin).1 in
-            let few : arr.holds.word < 2 ^ 32 = below_word (type_of test).elem.bits arr.holds.word wide arr.holds.small in
-            let there : slice_index arr.t.registers arr.holds.register ≡ arr.holds.word = arr.holds.lasts u arr.t arr.sim (keeps_all g e arr.t) (λ h. refl) ∙ held_wide (type_of test).elem arr.holds.word wide few in
+            let there : nonzero (slice_index arr.t.registers arr.holds.register) ≡ nonzero arr.holds.word = ap nonzero (arr.holds.lasts u arr.t arr.sim (keeps_all g e arr.t) (λ h. refl)) ∙ held_nonzero (type_of test).elem arr.holds.word arr.holds.small in
             subst (λ (w : Value). Follows g (Tested d s) s (Source.Gives (nonzero (number w)) u) (in_register out (λ r. Makes r e))) (sym arr.holds.value)
             (subst (λ (o : Out). Follows g (Tested d s) s (Source.Gives (nonzero arr.holds.word) u) (in_register o (λ r. Makes r e))) (sym arr.holds.is)
-            (λ within. record { grown = arr.extended; t = arr.t; go = arr.go; at = arr.at; sim = arr.sim; keeps = arr.keeps; is = ap nonzero there }))
+            (λ within. record { grown = arr.extended; t = arr.t; go = arr.go; at = arr.at; sim = arr.sim; keeps = arr.keeps; is = there }))
 
     pub gives : (e : TExpr) → (IsIn g.may) e → GivesValue g.typed e
     unfolding GivesValue IsIn IsVariable is_send bare is_sent

@@ -1,6 +1,6 @@
 -- The code of every expression of the fragment gives its value, as a value and as an operand.
-use Rattle.std.proofs.Common.{◌≡◌, ◌∙◌, ℕ, ◌<◌, ◌≤◌, ◌-◌, ◌^◌, ◌==◌, Bool, true, false, length, Option, Some, None, refl, sym, ap, subst, if◌then◌else◌, arith, Vec, Global, inl}
-use Rattle.std.specs.Prelude.{IfSome, is_none, ◌||◌, nat_le, nat_lt}
+use Rattle.std.proofs.Common.{◌≡◌, ◌∙◌, ℕ, ◌<◌, ◌≤◌, ◌^◌, Bool, true, false, length, Option, Some, None, refl, sym, ap, subst, if◌then◌else◌, arith, Vec, Global, inl}
+use Rattle.std.specs.Prelude.{IfSome, is_none, ◌||◌, nat_le}
 use Rattle.cstar_base.specs.declared.elem.Elem.{Elem}
 use Rattle.cstar_base.specs.declared.operators.Op.{Op}
 use Rattle.cstar_base.specs.declared.operators.Place.{Place}
@@ -30,17 +30,14 @@ use Rattle.lower_base.specs.declared.emit.Out.{Out}
 use Rattle.lower_base.specs.declared.emit.Out.TheVariants as O
 use Rattle.lower_base.specs.Constants.{constant_register}
 use Rattle.lower_base.specs.Kinds.{bits_of, kind_of}
-use Rattle.lower_base.specs.Drafts.{Draft, Made, Makes, first_bits, then_make, with_instr, Fails}
+use Rattle.lower_base.specs.Drafts.{Draft, Made, Makes, first_bits, then_make}
 use Rattle.lower_base.specs.Layouts.{Layout, field_of, register_of}
 use Rattle.lower_expr.specs.declared.operands.Own.{Own}
 use Rattle.lower_expr.specs.Kinds.{is_unchanged, list_bits, operand_bits, unary_bits}
 use Rattle.lower_expr.specs.Lengths.{arm_length, arm_length_of, used_length_of}
 use Rattle.lower_expr.specs.Operands.{are_quiet, held as held_in, in_place, is_plus, is_quiet, operand_by, own_of, standing}
-use Rattle.lower_expr.specs.Steps.{converted_in_place, field_converted, is_kept, put_test, register_word, shifted_back}
+use Rattle.lower_expr.specs.Steps.{is_kept, register_word}
 use Rattle.paris_code.specs.Code.{CodeState}
-use Rattle.paris_code.specs.declared.instr.Instr.TheVariants as I
-use Rattle.paris_code.specs.declared.operands.Konst.TheVariants as K
-use Rattle.paris_code.specs.declared.operands.Operation.TheVariants as Act
 use Rattle.lower_expr.specs.Values.{Code, arm_by, arm_of, cast_from, choice_by, condition_by, condition_of, logical_by, next_of, register_cast_by, scalar_choice_of, truth_of, unary_by, value_of, taken_bits}
 use Rattle.quiet_operands.proofs.Unchanged as Quiet
 use Rattle.source_meaning.specs.Constants.{constant_of, is_constant, then_value}
@@ -51,18 +48,23 @@ use Rattle.source_meaning.specs.State as Source
 use Rattle.source_meaning.specs.State.{Outcome, State, then_do}
 use Rattle.source_meaning.specs.Values.{Active, Scalar, Scope, Value, at, convert_to, nonzero, number, unary_of}
 use Rattle.source_meaning.proofs.ConstantLaws.{Boxed, value_means}
-use Rattle.code_follows.specs.Fragment.{AreIn, IsIn, IsWord, IsVariable}
+use Rattle.code_follows.specs.Fragment.{AreIn, IsGiven, IsIn, IsOperand, IsWord, IsVariable}
 use Rattle.code_follows.proofs.Arguments.{AreDone}
 use Rattle.code_follows.proofs.Branching.{IsMadeWord, made_word}
 use Rattle.code_follows.proofs.Choosing.{Arm_does, IsMadeTo, Lands, arm_follows, arm_made, choice_is, choose_is, constant_arm, fresh_lands, scalar_choice_follows}
 use Rattle.code_follows.proofs.CallValues.{call_code, call_value, fresh_call}
 use Rattle.code_follows.proofs.Callees.{CallsFollow}
-use Rattle.code_follows.proofs.Following.{Arrives, Extends, Follows, HasRegisters, IsScalar, Sim, held, keeps_all, then_follows, then_gives}
+use Rattle.code_follows.proofs.Following.{Arrives, Extends, Follows, HasRegisters, IsScalar, Sim, held, keeps_all, then_gives}
 use Rattle.code_follows.proofs.Logical.{and_is, joined, logical_follows, or_is}
 use Rattle.code_follows.proofs.Settings.{At, Setting, layout, stay}
 use Rattle.code_follows.proofs.Values.{Dest, Does, Value_of, binary_follows, constant_follows, conversion_is, extends_grown, fresh_dest, mapped_is, read_is, rewrapped, unary_follows, variable_follows, with_reg}
 use Rattle.code_follows.proofs.Bytes.{byte_follows}
 use Rattle.code_follows.proofs.Casts.{casts_follow, fresh_casts}
+use Rattle.std.specs.Int.{from_bool}
+use Rattle.cstar_base.specs.Operators.{operate, outcome}
+use Rattle.code_follows.proofs.Numbers.{held_zero}
+use Rattle.code_follows.proofs.Conversions.{conversion_follows, fresh_conversion}
+use Rattle.std.proofs.lemmas.Bool.{eqb-true}
 use Rattle.code_follows.proofs.Fresh.{IsFresh, fresh_binary, fresh_byte, fresh_choice, fresh_constant, fresh_logical, fresh_unary, fresh_variable, IsClear, clear_fresh}
 use Rattle.source_meaning.specs.Targets.{variable_target}
 use Rattle.code_follows.proofs.ConstantRegisters.{below_values}
@@ -70,7 +72,7 @@ use Rattle.code_follows.proofs.Changing.{plain_type, scalar_type}
 use Rattle.code_follows.proofs.Nested.{assigned_value, fresh_assigned, fresh_stepped, stepped_value}
 use Rattle.code_follows.proofs.Stores.{before_values}
 use Rattle.code_follows.proofs.Standing.{some_same}
-use Rattle.code_follows.proofs.Words.{below_bits, below_word, constant_below, held_converted, held_wide, kept, word_type}
+use Rattle.code_follows.proofs.Words.{below_bits, below_word, constant_below, held_converted, held_wide, kept, scalar_of}
 
 -- a constant that stands in a register
 pub record StandsAs (l : Layout) (e : TExpr) (r : ℕ) : Type 0 where
@@ -88,8 +90,19 @@ held_stands l e r h = by (is_constant e) (Const.value_of e) refl refl h
     by true None is_c is_v h = cc
     by false v is_c is_v h = cc
 
-no_register : {r : ℕ} → O.Scalar r ≡ O.Nothing → ⊥
-no_register e = cc
+-- a unary operator works on the word as on the number
+pub unary_same : (op : UnaryOp) (ty : ValueType) → IsOperand op ty → (w : ℕ) → w < 2 ^ ty.elem.bits → unary_of op (held ty.elem w) ≡ unary_of op w
+unfolding IsOperand unary_of operate outcome
+unary_same U.Not ty its w few = ap from_bool (held_zero ty.elem w few)
+unary_same U.Plus ty its w few = ap (unary_of U.Plus) (held_wide ty.elem w its.1 (below_word ty.elem.bits w its.1 few))
+unary_same U.Minus ty its w few = ap (unary_of U.Minus) (held_wide ty.elem w its.1 (below_word ty.elem.bits w its.1 few))
+unary_same U.Complement ty its w few = ap (unary_of U.Complement) (held_wide ty.elem w its.1 (below_word ty.elem.bits w its.1 few))
+
+-- a conversion without code is one to 32 bits
+unchanged_wide : (bits : ℕ) (elem : Elem) (is_kept : Bool) → is_kept ≡ true → is_unchanged bits elem is_kept ≡ true → elem.bits ≡ 32
+unfolding is_unchanged
+unchanged_wide bits elem true is so = eqb-true elem.bits 32 so
+unchanged_wide bits elem false is so = cc
 
 module _ (g : Setting) (has : HasRegisters g) (alive : Variable → Type 0) (n : ℕ) (lives : (x : Variable) → IsDeclared n x → alive x) (ready : (d : Draft) → IsReady g.typed g.instance (layout g) n d) (scope : Scope) (active : Active) (calls_follow : CallsFollow g scope active) where
   -- an expression and its code
@@ -104,45 +117,46 @@ module _ (g : Setting) (has : HasRegisters g) (alive : Variable → Type 0) (n :
     pub living : alive own.variable
     pub word : ℕ
     pub gives : evaluated scope e active st ≡ Source.Gives (Scalar word) st
-    pub small : word < 2 ^ 32
+    pub small : word < 2 ^ (type_of e).elem.bits
     pub same : held (type_of e).elem word ≡ held info.elem (st.scalar own.variable)
 
   own_is : (bits : ℕ) (e : TExpr) (own : Own) (st : State) → (IsIn g.may) e → NamesVariables g.typed g.instance n e → ((x : Variable) (info : VarInfo) → alive x → IsScalar g x info → st.scalar x < 2 ^ info.elem.bits) → own_of bits e ≡ Some own → OwnIs e own st
   unfolding own_of IsIn NamesVariables evaluated is_unchanged then_do at
-  own_is bits (T.Variable ty x) own st word v small is = by (is_none ty.shape || nat_le bits ty.elem.bits) is
+  own_is bits (T.Variable ty x) own st flat v small is = by (is_none ty.shape || nat_le bits ty.elem.bits) is
     where
       by : (b : Bool) → (if b then Some (record { shape = ty.shape; variable = x }) else None) ≡ Some own → OwnIs (T.Variable ty x) own st
       by false e = cc
       by true e = subst (λ (o : Own). OwnIs (T.Variable ty x) o st) (some_same (record { shape = ty.shape; variable = x }) own e) (record {
         info = variable_info v.word (plain ty) v.start;
-        scalar = (v.named, word.0);
-        shape = word.0;
+        scalar = (v.named, flat);
+        shape = flat;
         living = lives x v.declared;
         word = st.scalar x;
-        gives = ap (λ (w : Value). Source.Gives w st) (read_is g has alive st ty x word.0);
-        small = below_word ty.elem.bits (st.scalar x) word.1 (small x (variable_info v.word (plain ty) v.start) (lives x v.declared) (v.named, word.0));
+        gives = ap (λ (w : Value). Source.Gives w st) (read_is g has alive st ty x flat);
+        small = small x (variable_info v.word (plain ty) v.start) (lives x v.declared) (v.named, flat);
         same = refl;
       })
   own_is bits (T.Brackets' ty p inner) own st h v small is =
       let o = own_is bits inner own st h.1 v small is in
-      record { info = o.info; scalar = o.scalar; shape = o.shape; living = o.living; word = o.word; gives = o.gives; small = o.small; same = ap (λ (y : ValueType). held y.elem o.word) h.0 ∙ o.same }
-  own_is bits (T.Convert' ty p operand) own st h v small is = by (is_unchanged bits ty.elem (is_kept operand)) is (λ e. own_is bits operand own st h.1 v small e)
+      record { info = o.info; scalar = o.scalar; shape = o.shape; living = o.living; word = o.word; gives = o.gives; small = subst (λ (y : ValueType). o.word < 2 ^ y.elem.bits) (sym h.0) o.small; same = ap (λ (y : ValueType). held y.elem o.word) h.0 ∙ o.same }
+  own_is bits (T.Convert' ty p operand) own st h v small is = by (is_unchanged bits ty.elem (is_kept operand)) refl is (λ e. own_is bits operand own st h.1 v small e)
     where
-      by : (b : Bool) → (if b then own_of bits operand else None) ≡ Some own → (own_of bits operand ≡ Some own → OwnIs operand own st) → OwnIs (T.Convert' ty p operand) own st
-      by false e rest = cc
-      by true e rest =
+      by : (b : Bool) → is_unchanged bits ty.elem (is_kept operand) ≡ b → (if b then own_of bits operand else None) ≡ Some own → (own_of bits operand ≡ Some own → OwnIs operand own st) → OwnIs (T.Convert' ty p operand) own st
+      by false so e rest = cc
+      by true so e rest =
           let o = rest e in
+          let wide : ty.elem.bits ≡ 32 = unchanged_wide bits ty.elem (is_kept operand) (kept g.may operand h.1) so in
           let below : converted ty.elem (type_of operand).elem o.word < 2 ^ ty.elem.bits = converted_below ty.elem (type_of operand).elem o.word in
-          let few : converted ty.elem (type_of operand).elem o.word < 2 ^ 32 = below_word ty.elem.bits (converted ty.elem (type_of operand).elem o.word) h.0.1 below in
+          let few : converted ty.elem (type_of operand).elem o.word < 2 ^ 32 = below_word ty.elem.bits (converted ty.elem (type_of operand).elem o.word) wide below in
           record {
             info = o.info;
             scalar = o.scalar;
             shape = o.shape;
             living = o.living;
             word = converted ty.elem (type_of operand).elem o.word;
-            gives = ap (λ (r : Outcome Value). then_do r (λ v after. Source.Gives (convert_to ty (type_of operand).elem v) after)) o.gives ∙ ap (λ (w : Value). Source.Gives w st) (conversion_is g has alive ty (type_of operand).elem (Scalar o.word) h.0.0);
-            small = few;
-            same = held_wide ty.elem (converted ty.elem (type_of operand).elem o.word) h.0.1 few ∙ held_converted ty.elem (type_of operand).elem o.word h.0.1 ∙ o.same;
+            gives = ap (λ (r : Outcome Value). then_do r (λ v after. Source.Gives (convert_to ty (type_of operand).elem v) after)) o.gives ∙ ap (λ (w : Value). Source.Gives w st) (conversion_is g has alive ty (type_of operand).elem (Scalar o.word) h.0);
+            small = below;
+            same = held_wide ty.elem (converted ty.elem (type_of operand).elem o.word) wide few ∙ held_converted ty.elem (type_of operand).elem o.word wide ∙ o.same;
           }
   own_is bits (T.GetChar ty) own st h v small is = cc
   own_is bits (T.Casts' ty elems p operand) own st h v small is = cc
@@ -171,7 +185,6 @@ module _ (g : Setting) (has : HasRegisters g) (alive : Variable → Type 0) (n :
       by_place false is_quiet (Some own) is = cc
       by_place true is_quiet (Some own) is =
           let o = own_is bits e own st isin names sim.small is in
-          let wide = (word_type g.may e isin).1 in
           subst (λ (made : Made Out). Follows g (Value_of g has alive (type_of e).elem quiet d s) s (evaluated scope e active st) made)
           (sym (ap (λ (shape : Option ℕ). elim shape as (λ _. Made Out) [ None ↦ Makes (O.Scalar (register_of (layout g) own.variable)) d | Some _ ↦ then_make (field_of g.typed (layout g) own.variable 0 d) (λ f after. Makes (O.Field (first_bits bits f)) after) ]) o.shape))
           (subst (λ (r : Outcome Value). Follows g (Value_of g has alive (type_of e).elem quiet d s) s r (Makes (O.Scalar (register_of (layout g) own.variable)) d)) (sym o.gives) (λ within. record {
@@ -186,7 +199,7 @@ module _ (g : Setting) (has : HasRegisters g) (alive : Variable → Type 0) (n :
               word = o.word;
               is = refl;
               value = refl;
-              small = below_bits (type_of e).elem.bits o.word wide o.small;
+              small = o.small;
               lasts = λ u t later stays same. later.scalars own.variable o.info o.living o.scalar ∙ ap (λ (v : State). held o.info.elem (v.scalar own.variable)) (same is_quiet) ∙ sym o.same;
             };
           }))
@@ -196,7 +209,7 @@ module _ (g : Setting) (has : HasRegisters g) (alive : Variable → Type 0) (n :
       by_held None is = by_place quiet refl (if quiet then own_of bits e else None) refl
       by_held (Some r) is =
           let h = held_stands (layout g) e r is in
-          let few : h.word < 2 ^ 32 = subst (λ (o : Option ℕ). IfSome o (λ v. v < 2 ^ 32)) h.value (constant_below g.may e isin) in
+          let few : h.word < 2 ^ (type_of e).elem.bits = subst (λ (o : Option ℕ). IfSome o (λ v. v < 2 ^ (type_of e).elem.bits)) h.value (constant_below g.may e isin) in
           let gives : evaluated scope e active st ≡ Source.Gives (Scalar h.word) st = subst (λ (o : Option ℕ). Const.IsValueOf e o) h.value (value_means e h.constant) scope active st in
           subst (λ (o : Outcome Value). Follows g (Value_of g has alive (type_of e).elem quiet d s) s o (Makes (O.Scalar r) d)) (sym gives) (λ within. record {
             extended = (0, as_it_was d);
@@ -210,51 +223,10 @@ module _ (g : Setting) (has : HasRegisters g) (alive : Variable → Type 0) (n :
               word = h.word;
               is = refl;
               value = refl;
-              small = below_bits (type_of e).elem.bits h.word (word_type g.may e isin).1 few;
+              small = few;
               lasts = λ u t later stays same. later.constants (held (type_of e).elem h.word) r h.register;
             };
           })
-
-  -- a value is of 32 bits as it stands
-  unconverted : (elem : Elem) (v : Out) (d : Draft) → elem.bits ≡ 32 → (v ≡ O.Nothing → ⊥) → converted_in_place v elem d ≡ Makes v d
-  unfolding converted_in_place field_converted
-  unconverted elem (O.Scalar r) d wide some = ap (λ (n : ℕ). Makes (O.Scalar r) (if nat_lt n 32 then with_instr (I.FrontConvert r r elem) d else d)) wide
-  unconverted elem (O.Field f) d wide some =
-      ap (λ (n : ℕ).
-      if n == 1 then put_test f (with_instr (I.NeZero f) d)
-      else (if nat_lt n 32 then Makes (O.Field f)
-      (with_instr (I.OperateConstant (shifted_back elem.signed) f f (K.Imm (32 - n)))
-      (with_instr (I.OperateConstant Act.UShiftLeft f f (K.Imm (32 - n))) d))
-      else Makes (O.Field f) d)) wide
-  unconverted elem O.Nothing d wide some = absurd (some refl)
-
-  extends_nothing : (elem : Elem) (d : Draft) → Extends g d (converted_in_place O.Nothing elem d)
-  unfolding Extends converted_in_place
-  extends_nothing elem d = tt
-
-  extends_unconverted : (elem : Elem) (v : Out) (d : Draft) → elem.bits ≡ 32 → Extends g d (converted_in_place v elem d)
-  unfolding Extends
-  extends_unconverted elem (O.Scalar r) d wide = subst (λ (made : Made Out). Extends g d made) (sym (unconverted elem (O.Scalar r) d wide (λ e. cc))) (0, as_it_was d)
-  extends_unconverted elem (O.Field f) d wide = subst (λ (made : Made Out). Extends g d made) (sym (unconverted elem (O.Field f) d wide (λ e. cc))) (0, as_it_was d)
-  extends_unconverted elem O.Nothing d wide = extends_nothing elem d
-
-  -- a conversion to 32 bits
-  conversion_follows : (ty : ValueType) (quiet : Bool) (from : Elem) (code : Code) (part : State → Outcome Value) → IsWord ty → Does g has alive from quiet part code → Does g has alive ty.elem quiet (λ st. then_do (part st) (λ v after. Source.Gives (convert_to ty from v) after)) (λ d. register_cast_by ty.elem code d)
-  unfolding register_cast_by Follows
-  conversion_follows ty quiet from code part word does d s st free here sim =
-      then_follows g (Value_of g has alive from quiet d s) (Value_of g has alive ty.elem quiet d s) s s (part st) _ (code d) (λ v after. converted_in_place v ty.elem after) (stay g s) (does d s st free here sim) grows
-      (λ v u out e arr. converts v u out e arr)
-    where
-      grows : (v : Out) (e : Draft) → Extends g e (converted_in_place v ty.elem e)
-      grows v e = extends_unconverted ty.elem v e word.1
-
-      converts : (v : Value) (u : State) (out : Out) (e : Draft) → Arrives g alive from quiet d s v u out e → Follows g (Value_of g has alive ty.elem quiet d s) s (Source.Gives (convert_to ty from v) u) (converted_in_place out ty.elem e)
-      converts v u out e arr =
-          let from_word : converted ty.elem from (at v 0) < 2 ^ ty.elem.bits = converted_below ty.elem from (at v 0) in
-          subst (λ (r : Value). Follows g (Value_of g has alive ty.elem quiet d s) s (Source.Gives r u) (converted_in_place out ty.elem e)) (sym (conversion_is g has alive ty from v word.0))
-          (subst (λ (made : Made Out). Follows g (Value_of g has alive ty.elem quiet d s) s (Source.Gives (Scalar (converted ty.elem from (at v 0))) u) made) (sym (unconverted ty.elem out e word.1 (λ nothing. no_register (sym arr.holds.is ∙ nothing))))
-          (λ within. rewrapped g has alive ty.elem from quiet d e s v (converted ty.elem from (at v 0)) u out arr
-          (held_wide ty.elem (converted ty.elem from (at v 0)) word.1 (below_word ty.elem.bits (converted ty.elem from (at v 0)) word.1 from_word) ∙ held_converted ty.elem from (at v 0) word.1) from_word))
 
   -- brackets keep the value
   bracketed : (ty : ValueType) (inner : TExpr) (quiet : Bool) (part : State → Outcome Value) (code : Code) → ty ≡ type_of inner → Does g has alive (type_of inner).elem quiet part code → Does g has alive ty.elem quiet part code
@@ -326,29 +298,23 @@ module _ (g : Setting) (has : HasRegisters g) (alive : Variable → Type 0) (n :
       (sym (ap (λ (b : Bool). if b then register_cast_by ty.elem (λ e. value_of g.typed (layout g) bits operand e) d else cast_from g.typed (layout g) bits ty operand (λ e. truth_of g.typed (layout g) operand e) (λ m e. value_of g.typed (layout g) m operand e) d) is))
       (does d s st free here sim)
 
-  unary_value : (ty : ValueType) (quiet : Bool) (bits : ℕ) (op : UnaryOp) (operand : TExpr) → IsWord ty → (type_of operand).elem.bits ≡ 32 → Agrees quiet bits operand
+  unary_value : (ty : ValueType) (quiet : Bool) (bits : ℕ) (op : UnaryOp) (operand : TExpr) → IsWord ty → IsOperand op (type_of operand) → Agrees quiet bits operand
       → Does g has alive (type_of operand).elem true (λ st. evaluated scope operand active st) (λ d. operand_by g.typed (layout g) (unary_bits bits op operand) (value_of g.typed (layout g) (unary_bits bits op operand) operand) true operand d)
       → Does g has alive ty.elem quiet (λ st. then_do (evaluated scope operand active st) (λ v after. Source.Gives (mapped ty (unary_of op) v) after))
       (λ d. unary_by (layout g) ty bits op (λ e. value_of g.typed (layout g) bits operand e) (λ e. operand_by g.typed (layout g) (unary_bits bits op operand) (value_of g.typed (layout g) (unary_bits bits op operand) operand) true operand e) d)
-  unfolding unary_by is_plus
-  unary_value ty quiet bits U.Plus operand word wide value does = plus_gives ty quiet (type_of operand).elem _ (λ st. evaluated scope operand active st) word wide value
-  unary_value ty quiet bits U.Minus operand word wide value does = unary_follows g has alive ty U.Minus (type_of operand).elem wide word refl quiet (λ e. value_of g.typed (layout g) bits operand e) (λ e. operand_by g.typed (layout g) (unary_bits bits U.Minus operand) (value_of g.typed (layout g) (unary_bits bits U.Minus operand) operand) true operand e) (λ st. evaluated scope operand active st) bits does
-  unary_value ty quiet bits U.Complement operand word wide value does = unary_follows g has alive ty U.Complement (type_of operand).elem wide word refl quiet (λ e. value_of g.typed (layout g) bits operand e) (λ e. operand_by g.typed (layout g) (unary_bits bits U.Complement operand) (value_of g.typed (layout g) (unary_bits bits U.Complement operand) operand) true operand e) (λ st. evaluated scope operand active st) bits does
-  unary_value ty quiet bits U.Not operand word wide value does = unary_follows g has alive ty U.Not (type_of operand).elem wide word refl quiet (λ e. value_of g.typed (layout g) bits operand e) (λ e. operand_by g.typed (layout g) (unary_bits bits U.Not operand) (value_of g.typed (layout g) (unary_bits bits U.Not operand) operand) true operand e) (λ st. evaluated scope operand active st) bits does
+  unfolding unary_by is_plus IsOperand
+  unary_value ty quiet bits U.Plus operand word its value does = plus_gives ty quiet (type_of operand).elem _ (λ st. evaluated scope operand active st) word its.1 value
+  unary_value ty quiet bits U.Minus operand word its value does = unary_follows g has alive ty U.Minus (type_of operand).elem (unary_same U.Minus (type_of operand) its) word refl quiet (λ e. value_of g.typed (layout g) bits operand e) (λ e. operand_by g.typed (layout g) (unary_bits bits U.Minus operand) (value_of g.typed (layout g) (unary_bits bits U.Minus operand) operand) true operand e) (λ st. evaluated scope operand active st) bits does
+  unary_value ty quiet bits U.Complement operand word its value does = unary_follows g has alive ty U.Complement (type_of operand).elem (unary_same U.Complement (type_of operand) its) word refl quiet (λ e. value_of g.typed (layout g) bits operand e) (λ e. operand_by g.typed (layout g) (unary_bits bits U.Complement operand) (value_of g.typed (layout g) (unary_bits bits U.Complement operand) operand) true operand e) (λ st. evaluated scope operand active st) bits does
+  unary_value ty quiet bits U.Not operand word its value does = unary_follows g has alive ty U.Not (type_of operand).elem (unary_same U.Not (type_of operand) its) word refl quiet (λ e. value_of g.typed (layout g) bits operand e) (λ e. operand_by g.typed (layout g) (unary_bits bits U.Not operand) (value_of g.typed (layout g) (unary_bits bits U.Not operand) operand) true operand e) (λ st. evaluated scope operand active st) bits does
 
   -- the register of a value is a fresh one
-  fresh_converted : (ty : ValueType) (bits : ℕ) (p : Boxed) (operand : TExpr) → ty.elem.bits ≡ 32 → is_kept operand ≡ true → (d : Draft) → IsFresh d (value_of g.typed (layout g) bits operand d) → IsFresh d (value_of g.typed (layout g) bits (T.Convert' ty p operand) d)
-  unfolding value_of register_cast_by then_make IsFresh converted_in_place
-  fresh_converted ty bits p operand wide is d fresh =
+  fresh_converted : (ty : ValueType) (bits : ℕ) (p : Boxed) (operand : TExpr) → is_kept operand ≡ true → (d : Draft) → IsFresh d (value_of g.typed (layout g) bits operand d) → IsFresh d (value_of g.typed (layout g) bits (T.Convert' ty p operand) d)
+  unfolding value_of
+  fresh_converted ty bits p operand is d fresh =
       subst (λ (made : Made Out). IsFresh d made)
       (sym (ap (λ (b : Bool). if b then register_cast_by ty.elem (λ e. value_of g.typed (layout g) bits operand e) d else cast_from g.typed (layout g) bits ty operand (λ e. truth_of g.typed (layout g) operand e) (λ m e. value_of g.typed (layout g) m operand e) d) is))
-      (by (value_of g.typed (layout g) bits operand d) fresh)
-    where
-      by : (made : Made Out) → IsFresh d made → IsFresh d (then_make made (λ v after. converted_in_place v ty.elem after))
-      by (Makes (O.Scalar r) e) h = subst (λ (made : Made Out). IsFresh d made) (sym (unconverted ty.elem (O.Scalar r) e wide (λ x. cc))) h
-      by (Makes (O.Field f) e) h = subst (λ (made : Made Out). IsFresh d made) (sym (unconverted ty.elem (O.Field f) e wide (λ x. cc))) tt
-      by (Makes O.Nothing e) h = tt
-      by Fails h = tt
+      (fresh_conversion g has alive ty.elem (λ e. value_of g.typed (layout g) bits operand e) d fresh)
 
   -- the operands of `&&` and of `||` have code that gives values
   record AreOperands (left right : TExpr) : Type 0 where
@@ -403,20 +369,20 @@ module _ (g : Setting) (has : HasRegisters g) (alive : Variable → Type 0) (n :
   other_grows : (m k : ℕ) (e : TExpr) → HasCode g.typed g.instance n e → (d : Draft) → Extends g d (operand_by g.typed (layout g) m (value_of g.typed (layout g) k e) true e d)
   other_grows m k e c d = extends_grown g has alive _ d _ _ (operand_grown g.typed g.instance (layout g) n m true e (value_of g.typed (layout g) k e) _ d c (ready d) ((expressions g.typed g.instance (layout g)).value k n e d c (ready d)))
 
-  fresh_assign : (bits : ℕ) (ty tty : ValueType) (place : Place) (op : AssignOp) (p q : Boxed) (x : Variable) (value : TExpr) → IsWord tty → HasVariable g.typed g.instance n x (plain tty) → (IsIn g.may) value → HasCode g.typed g.instance n value
+  fresh_assign : (bits : ℕ) (ty tty : ValueType) (place : Place) (op : AssignOp) (p q : Boxed) (x : Variable) (value : TExpr) → tty.shape ≡ None → HasVariable g.typed g.instance n x (plain tty) → (IsIn g.may) value → HasCode g.typed g.instance n value
       → ((m : ℕ) (d : Draft) → IsFresh d (value_of g.typed (layout g) m value d)) → (d : Draft) → IsFresh d (value_of g.typed (layout g) bits (T.Assign' ty place op p (T.Variable tty x) q value) d)
   unfolding value_of
-  fresh_assign bits ty tty place op p q x value word v isin c fresh d =
-      subst (λ (t : ValueType). HasVariable g.typed g.instance n x (plain t) → IsFresh d (value_of g.typed (layout g) bits (T.Assign' ty place op p (T.Variable t x) q value) d)) (sym (plain_type tty word.0)) (λ w.
+  fresh_assign bits ty tty place op p q x value plain_shape v isin c fresh d =
+      subst (λ (t : ValueType). HasVariable g.typed g.instance n x (plain t) → IsFresh d (value_of g.typed (layout g) bits (T.Assign' ty place op p (T.Variable t x) q value) d)) (sym (plain_type tty plain_shape)) (λ w.
       let target : TExpr = T.Variable (scalar_type tty.elem) x in
-      fresh_assigned g has alive x (variable_info w.word (plain (scalar_type tty.elem)) w.start) (lives x w.declared) (w.named, refl) word.1 place op tty.elem (T.Assign' ty place op p target q value) value bits (λ e. value_of g.typed (layout g) (taken_bits bits op target value) value e) d word.1 (kept g.may value isin)
+      fresh_assigned g has alive x (variable_info w.word (plain (scalar_type tty.elem)) w.start) (lives x w.declared) (w.named, refl) place op (T.Assign' ty place op p target q value) value bits (λ e. value_of g.typed (layout g) (taken_bits bits op target value) value e) d (kept g.may value isin)
       (fresh (taken_bits bits op target value) d) (λ m b. other_grows m (taken_bits bits op target value) value c b)) v
 
-  fresh_step : (bits : ℕ) (ty tty : ValueType) (op : StepOp) (order : StepOrder) (p : Boxed) (x : Variable) → IsWord tty → HasVariable g.typed g.instance n x (plain tty) → (d : Draft) → IsFresh d (value_of g.typed (layout g) bits (T.Step' ty op order p (T.Variable tty x)) d)
+  fresh_step : (bits : ℕ) (ty tty : ValueType) (op : StepOp) (order : StepOrder) (p : Boxed) (x : Variable) → tty.shape ≡ None → HasVariable g.typed g.instance n x (plain tty) → (d : Draft) → IsFresh d (value_of g.typed (layout g) bits (T.Step' ty op order p (T.Variable tty x)) d)
   unfolding value_of
-  fresh_step bits ty tty op order p x word v d =
-      subst (λ (t : ValueType). HasVariable g.typed g.instance n x (plain t) → IsFresh d (value_of g.typed (layout g) bits (T.Step' ty op order p (T.Variable t x)) d)) (sym (plain_type tty word.0)) (λ w.
-      fresh_stepped g has alive x (variable_info w.word (plain (scalar_type tty.elem)) w.start) (lives x w.declared) (w.named, refl) word.1 scope active op order tty.elem (T.Step' ty op order p (T.Variable (scalar_type tty.elem) x)) bits d word.1) v
+  fresh_step bits ty tty op order p x plain_shape v d =
+      subst (λ (t : ValueType). HasVariable g.typed g.instance n x (plain t) → IsFresh d (value_of g.typed (layout g) bits (T.Step' ty op order p (T.Variable t x)) d)) (sym (plain_type tty plain_shape)) (λ w.
+      fresh_stepped g has alive x (variable_info w.word (plain (scalar_type tty.elem)) w.start) (lives x w.declared) (w.named, refl) scope active op order (T.Step' ty op order p (T.Variable (scalar_type tty.elem) x)) bits d) v
 
   fresh_value : (bits : ℕ) (e : TExpr) → (IsIn g.may) e → HasCode g.typed g.instance n e → (d : Draft) → IsFresh d (value_of g.typed (layout g) bits e d)
   unfolding value_of IsIn IsVariable
@@ -424,10 +390,10 @@ module _ (g : Setting) (has : HasRegisters g) (alive : Variable → Type 0) (n :
   fresh_value bits (T.PositionsOf ty shape value) h c d = fresh_constant g has alive value d
   fresh_value bits (T.RankOf ty shape value) h c d = fresh_constant g has alive value d
   fresh_value bits (T.DimOf ty shape axis value) h c d = fresh_constant g has alive value d
-  fresh_value bits (T.Variable ty x) h c d = fresh_variable g has alive ty x bits d h.0
+  fresh_value bits (T.Variable ty x) h c d = fresh_variable g has alive ty x bits d h
   fresh_value bits (T.GetChar ty) h c d = fresh_byte g has alive d
   fresh_value bits (T.Brackets' ty p inner) h c d = fresh_value bits inner h.1 (brackets_code ty p inner c) d
-  fresh_value bits (T.Convert' ty p operand) h c d = fresh_converted ty bits p operand h.0.1 (kept g.may operand h.1) d (fresh_value bits operand h.1 (convert_code ty p operand c) d)
+  fresh_value bits (T.Convert' ty p operand) h c d = fresh_converted ty bits p operand (kept g.may operand h.1) d (fresh_value bits operand h.1 (convert_code ty p operand c) d)
   fresh_value bits (T.Casts' ty elems p operand) h c d = fresh_casts g has alive ty false elems.items (type_of operand).elem h.0 h.1 (λ e. value_of g.typed (layout g) bits operand e) d (fresh_value bits operand h.2 (casts_code ty elems p operand c) d)
   fresh_value bits (T.Unary' ty op p operand) h c d =
       fresh_unary g has alive ty bits op (λ e. value_of g.typed (layout g) bits operand e) _ d h.0.0 (fresh_value bits operand h.1 (unary_code ty op p operand c) d) (operand_grows true (unary_bits bits op operand) operand (unary_code ty op p operand c))
@@ -476,7 +442,7 @@ module _ (g : Setting) (has : HasRegisters g) (alive : Variable → Type 0) (n :
       → Does g has alive ty.elem quiet (λ st. then_do (evaluated scope left active st) next) (λ d. logical_by is_or ty.shape bits (condition_of g.typed (layout g) left) (condition_of g.typed (layout g) right) d)
   unfolding condition_by
   logical_value is_or ty quiet bits left right next word h k c next_is one other =
-      logical_follows g has alive is_or ty quiet (type_of left).elem (type_of right).elem _ _ _ _ (λ st. evaluated scope left active st) (λ st. evaluated scope right active st) next word (word_type g.may left h).1 (word_type g.may right k).1
+      logical_follows g has alive is_or ty quiet (type_of left).elem (type_of right).elem _ _ _ _ (λ st. evaluated scope left active st) (λ st. evaluated scope right active st) next word
       (operand_value true (bits_of (kind_of left)) left h c.one one) (operand_value true (bits_of (kind_of right)) right k c.other other)
       (word_is_made (bits_of (kind_of left)) left h c.one c.one_gives) (word_is_made (bits_of (kind_of right)) right k c.other c.other_gives) next_is
       bits (condition_of g.typed (layout g) left) (condition_of g.typed (layout g) right) refl refl refl
@@ -487,52 +453,52 @@ module _ (g : Setting) (has : HasRegisters g) (alive : Variable → Type 0) (n :
       subst (λ (o : Option ℕ). IsMadeTo r (arm_length (is_none o) (used_length_of g.typed (layout g) bits true e) e) d (arm_by (next_of g.typed (layout g) bits true e) e (O.Scalar r) d)) (sym scalar)
       (arm_made g r (used_length_of g.typed (layout g) bits true e) (next_of g.typed (layout g) bits true e) e d (word_is_made bits e h c gives d))
 
-  arm_does : (elem : Elem) (bits : ℕ) (e : TExpr) → elem.bits ≡ 32 → (IsIn g.may) e → HasCode g.typed g.instance n e → GivesValue g.typed e → Agrees true bits e → Arm_does g has alive elem (λ st. evaluated scope e active st) (arm_of g.typed (layout g) bits e)
+  arm_does : (elem : Elem) (bits : ℕ) (e : TExpr) → elem.bits ≡ 32 → (type_of e).elem.bits ≡ 32 → (IsIn g.may) e → HasCode g.typed g.instance n e → GivesValue g.typed e → Agrees true bits e → Arm_does g has alive elem (λ st. evaluated scope e active st) (arm_of g.typed (layout g) bits e)
   unfolding arm_of
-  arm_does elem bits e wide h c gives agrees =
-      arm_follows g has alive elem (type_of e).elem _ e (next_of g.typed (layout g) bits true e) (λ st. evaluated scope e active st) wide (word_type g.may e h).1 (operand_value true bits e h c agrees) (word_is_made bits e h c gives) (λ w is. constant_arm g.may scope active e w h is)
+  arm_does elem bits e wide also h c gives agrees =
+      arm_follows g has alive elem (type_of e).elem _ e (next_of g.typed (layout g) bits true e) (λ st. evaluated scope e active st) wide also (operand_value true bits e h c agrees) (word_is_made bits e h c gives) (λ w is. constant_arm g.may scope active e w h also is)
 
   -- `?:` into the register of which something is said
-  pub choice_goes : (ty : ValueType) (bits : ℕ) (test first second : TExpr) → IsWord ty → (IsIn g.may) test → (IsIn g.may) first → (IsIn g.may) second → AreChosen test first second → Agrees true (bits_of (kind_of test)) test → Agrees true bits first → Agrees true bits second
+  pub choice_goes : (ty : ValueType) (bits : ℕ) (test first second : TExpr) → IsWord ty → (IsIn g.may) test → (IsIn g.may) first → (IsIn g.may) second → IsWord (type_of first) → IsWord (type_of second) → AreChosen test first second → Agrees true (bits_of (kind_of test)) test → Agrees true bits first → Agrees true bits second
       → (d : Draft) (s : CodeState) (st : State) (R : Value → State → Out → Draft → Type 0) (r : ℕ) → g.begins ≤ d.regs → At g s (length d.code) → Sim g alive st s → Dest g has alive ty.elem d s R r → Lands g has alive r R
       → Follows g R s (then_do (evaluated scope test active st) (λ v after. choose (type_of test).shape v (evaluated scope first) (evaluated scope second) active after)) (scalar_choice_of g.typed (layout g) ty bits test first second (O.Scalar r) d)
   unfolding scalar_choice_of
-  choice_goes ty bits test first second word h k m c tests one other d s st R r free here sim dest lands =
+  choice_goes ty bits test first second word h k m a b c tests one other d s st R r free here sim dest lands =
       scalar_choice_follows g has alive ty.elem (type_of test).elem _ _ _ (next_of g.typed (layout g) (bits_of (kind_of test)) true test) (arm_of g.typed (layout g) bits first) (arm_of g.typed (layout g) bits second)
-      (λ u. evaluated scope test active u) (λ u. evaluated scope first active u) (λ u. evaluated scope second active u) (λ v after. choose (type_of test).shape v (evaluated scope first) (evaluated scope second) active after) (word_type g.may test h).1
-      (operand_value true (bits_of (kind_of test)) test h c.condition tests) (arm_does ty.elem bits first word.1 k c.one c.one_gives one) (arm_does ty.elem bits second word.1 m c.other c.other_gives other)
+      (λ u. evaluated scope test active u) (λ u. evaluated scope first active u) (λ u. evaluated scope second active u) (λ v after. choose (type_of test).shape v (evaluated scope first) (evaluated scope second) active after)
+      (operand_value true (bits_of (kind_of test)) test h c.condition tests) (arm_does ty.elem bits first word.1 a.1 k c.one c.one_gives one) (arm_does ty.elem bits second word.1 b.1 m c.other c.other_gives other)
       (word_is_made (bits_of (kind_of test)) test h c.condition c.condition_gives) (arm_is_made ty bits first word.0 k c.one c.one_gives) (arm_is_made ty bits second word.0 m c.other c.other_gives)
-      (λ v u. choose_is (type_of test).shape v (evaluated scope first) (evaluated scope second) active u (word_type g.may test h).0) d s st R r free here sim dest lands
+      (λ v u. choose_is (type_of test).shape v (evaluated scope first) (evaluated scope second) active u (scalar_of g.may test h)) d s st R r free here sim dest lands
 
-  choice_value : (ty : ValueType) (quiet : Bool) (bits : ℕ) (p q r : Boxed) (test first second : TExpr) → IsWord ty → (IsIn g.may) test → (IsIn g.may) first → (IsIn g.may) second → AreChosen test first second → Agrees true (bits_of (kind_of test)) test → Agrees true bits first → Agrees true bits second
+  choice_value : (ty : ValueType) (quiet : Bool) (bits : ℕ) (p q r : Boxed) (test first second : TExpr) → IsWord ty → (IsIn g.may) test → (IsIn g.may) first → (IsIn g.may) second → IsWord (type_of first) → IsWord (type_of second) → AreChosen test first second → Agrees true (bits_of (kind_of test)) test → Agrees true bits first → Agrees true bits second
       → Does g has alive ty.elem quiet (λ st. then_do (evaluated scope test active st) (λ v after. choose (type_of test).shape v (evaluated scope first) (evaluated scope second) active after)) (λ d. value_of g.typed (layout g) bits (T.Choice' ty p test q first r second) d)
   unfolding value_of scalar_choice_of arm_of
-  choice_value ty quiet bits p q r test first second word h k m c tests one other d s st free here sim =
+  choice_value ty quiet bits p q r test first second word h k m a b c tests one other d s st free here sim =
       subst (λ (made : Made Out). Follows g (Value_of g has alive ty.elem quiet d s) s (then_do (evaluated scope test active st) (λ v after. choose (type_of test).shape v (evaluated scope first) (evaluated scope second) active after)) made)
       (sym (ap (λ (b : Bool). choice_by ty bits (is_kept test) (operand_by g.typed (layout g) (bits_of (kind_of test)) (λ e. value_of g.typed (layout g) (bits_of (kind_of test)) test e) (b || is_quiet first) test) (arm_of g.typed (layout g) bits first) (arm_of g.typed (layout g) bits second)
       (arm_length_of g.typed (layout g) ty bits first) (arm_length_of g.typed (layout g) ty bits second) d) (kept g.may test h)
       ∙ choice_is ty bits (is_kept test) (next_of g.typed (layout g) (bits_of (kind_of test)) true test) (arm_of g.typed (layout g) bits first) (arm_of g.typed (layout g) bits second)
       (arm_length_of g.typed (layout g) ty bits first) (arm_length_of g.typed (layout g) ty bits second) d word.0 (kept g.may test h)))
-      (choice_goes ty bits test first second word h k m c tests one other (with_reg d) s st (Value_of g has alive ty.elem quiet d s) d.regs (omega (arith, free)) here sim (fresh_dest g has alive ty.elem quiet d s free) (fresh_lands g has alive ty.elem quiet d s d.regs))
+      (choice_goes ty bits test first second word h k m a b c tests one other (with_reg d) s st (Value_of g has alive ty.elem quiet d s) d.regs (omega (arith, free)) here sim (fresh_dest g has alive ty.elem quiet d s free) (fresh_lands g has alive ty.elem quiet d s d.regs))
 
-  assign_value : (quiet : Bool) (bits : ℕ) (ty tty : ValueType) (place : Place) (op : AssignOp) (p q : Boxed) (x : Variable) (value : TExpr) → IsWord tty → ty ≡ tty → HasVariable g.typed g.instance n x (plain tty) → (IsIn g.may) value → HasCode g.typed g.instance n value
+  assign_value : (quiet : Bool) (bits : ℕ) (ty tty : ValueType) (place : Place) (op : AssignOp) (p q : Boxed) (x : Variable) (value : TExpr) → tty.shape ≡ None → ty ≡ tty → HasVariable g.typed g.instance n x (plain tty) → (IsIn g.may) value → IsGiven op tty (type_of value) → HasCode g.typed g.instance n value
       → ((m : ℕ) (d : Draft) → IsFresh d (value_of g.typed (layout g) m value d)) → ((calm : Bool) (m : ℕ) → Agrees calm m value) → Agrees quiet bits (T.Assign' ty place op p (T.Variable tty x) q value)
   unfolding value_of evaluated located then_do variable_target
-  assign_value quiet bits ty tty place op p q x value word same v isin c fresh agrees =
+  assign_value quiet bits ty tty place op p q x value plain_shape same v isin given c fresh agrees =
       subst (λ (t : ValueType). Agrees quiet bits (T.Assign' t place op p (T.Variable tty x) q value)) (sym same)
-      (subst (λ (t : ValueType). HasVariable g.typed g.instance n x (plain t) → Agrees quiet bits (T.Assign' t place op p (T.Variable t x) q value)) (sym (plain_type tty word.0)) (λ w.
+      (subst (λ (t : ValueType). HasVariable g.typed g.instance n x (plain t) → IsGiven op t (type_of value) → Agrees quiet bits (T.Assign' t place op p (T.Variable t x) q value)) (sym (plain_type tty plain_shape)) (λ w its.
       let target : TExpr = T.Variable (scalar_type tty.elem) x in
       let m : ℕ = taken_bits bits op target value in
       let code : Code = λ e. value_of g.typed (layout g) m value e in
-      assigned_value g has alive x (variable_info w.word (plain (scalar_type tty.elem)) w.start) (lives x w.declared) (w.named, refl) word.1 scope active place op tty.elem (T.Assign' (scalar_type tty.elem) place op p target q value) value bits quiet code (λ st. evaluated scope value active st) word.1
-      (word_type g.may value isin) (kept g.may value isin) (agrees false m) (λ k. operand_follows true k value code isin c.names (agrees true m)) (λ k st s sim d. clear_operand k value code isin c.names (fresh m) st sim.small d)) v)
+      assigned_value g has alive x (variable_info w.word (plain (scalar_type tty.elem)) w.start) (lives x w.declared) (w.named, refl) scope active place op (T.Assign' (scalar_type tty.elem) place op p target q value) value bits quiet code (λ st. evaluated scope value active st) its
+      (scalar_of g.may value isin) (kept g.may value isin) (agrees false m) (λ k. operand_follows true k value code isin c.names (agrees true m)) (λ k st s sim d. clear_operand k value code isin c.names (fresh m) st sim.small d)) v given)
 
-  step_value_follows : (quiet : Bool) (bits : ℕ) (ty tty : ValueType) (op : StepOp) (order : StepOrder) (p : Boxed) (x : Variable) → IsWord tty → ty ≡ tty → HasVariable g.typed g.instance n x (plain tty) → Agrees quiet bits (T.Step' ty op order p (T.Variable tty x))
+  step_value_follows : (quiet : Bool) (bits : ℕ) (ty tty : ValueType) (op : StepOp) (order : StepOrder) (p : Boxed) (x : Variable) → tty.shape ≡ None → ty ≡ tty → HasVariable g.typed g.instance n x (plain tty) → Agrees quiet bits (T.Step' ty op order p (T.Variable tty x))
   unfolding value_of evaluated located then_do variable_target
-  step_value_follows quiet bits ty tty op order p x word same v =
+  step_value_follows quiet bits ty tty op order p x plain_shape same v =
       subst (λ (t : ValueType). Agrees quiet bits (T.Step' t op order p (T.Variable tty x))) (sym same)
-      (subst (λ (t : ValueType). HasVariable g.typed g.instance n x (plain t) → Agrees quiet bits (T.Step' t op order p (T.Variable t x))) (sym (plain_type tty word.0)) (λ w.
-      stepped_value g has alive x (variable_info w.word (plain (scalar_type tty.elem)) w.start) (lives x w.declared) (w.named, refl) word.1 scope active op order tty.elem word.1 quiet bits (T.Step' (scalar_type tty.elem) op order p (T.Variable (scalar_type tty.elem) x))) v)
+      (subst (λ (t : ValueType). HasVariable g.typed g.instance n x (plain t) → Agrees quiet bits (T.Step' t op order p (T.Variable t x))) (sym (plain_type tty plain_shape)) (λ w.
+      stepped_value g has alive x (variable_info w.word (plain (scalar_type tty.elem)) w.start) (lives x w.declared) (w.named, refl) scope active op order quiet bits (T.Step' (scalar_type tty.elem) op order p (T.Variable (scalar_type tty.elem) x))) v)
 
   mutual
     unfolding evaluated value_of IsIn AreIn IsVariable AreDone HaveCode
@@ -548,32 +514,33 @@ module _ (g : Setting) (has : HasRegisters g) (alive : Variable → Type 0) (n :
     value_follows quiet bits (T.GetChar ty) h c = byte_follows g has alive ty.elem quiet h.1
     value_follows quiet bits (T.Brackets' ty p inner) h c = bracketed ty inner quiet _ _ h.0 (value_follows quiet bits inner h.1 (brackets_code ty p inner c))
     value_follows quiet bits (T.Convert' ty p operand) h c =
-        converts ty quiet bits p operand (kept g.may operand h.1) (conversion_follows ty quiet (type_of operand).elem _ _ h.0 (value_follows quiet bits operand h.1 (convert_code ty p operand c)))
+        converts ty quiet bits p operand (kept g.may operand h.1) (conversion_follows g has alive ty quiet (type_of operand).elem h.0 (λ d. value_of g.typed (layout g) bits operand d) (λ st. evaluated scope operand active st)
+        (λ d. fresh_value bits operand h.1 (convert_code ty p operand c) d) (value_follows false bits operand h.1 (convert_code ty p operand c)))
     value_follows quiet bits (T.Casts' ty elems p operand) h c =
         let part = casts_code ty elems p operand c in
         casts_follow g has alive ty quiet elems.items (type_of operand).elem h.0 h.1 (λ d. value_of g.typed (layout g) bits operand d) (λ st. evaluated scope operand active st) (λ d. fresh_value bits operand h.2 part d) (value_follows false bits operand h.2 part)
     value_follows quiet bits (T.Unary' ty op p operand) h c =
-        unary_value ty quiet bits op operand h.0 (word_type g.may operand h.1).1 (value_follows quiet bits operand h.1 (unary_code ty op p operand c)) (operand_value true (unary_bits bits op operand) operand h.1 (unary_code ty op p operand c) (value_follows true (unary_bits bits op operand) operand h.1 (unary_code ty op p operand c)))
+        unary_value ty quiet bits op operand h.0 h.2 (value_follows quiet bits operand h.1 (unary_code ty op p operand c)) (operand_value true (unary_bits bits op operand) operand h.1 (unary_code ty op p operand c) (value_follows true (unary_bits bits op operand) operand h.1 (unary_code ty op p operand c)))
     value_follows quiet bits (T.Binary' ty place op p left q right) h c =
         let one_code = left_code ty place op p q left right c in
         let other_code = right_code ty place op p q left right c in
-        binary_follows g has alive ty (is_quiet right) op place (type_of left).elem (type_of right).elem _ (λ st. evaluated scope right active st) scope active h.0 (word_type g.may left h.1).1 (word_type g.may right h.2).1
+        binary_follows g has alive ty (is_quiet right) op place (type_of left).elem (type_of right).elem _ (λ st. evaluated scope right active st) scope active h.0 h.3.1 h.4.1
         (λ st calm. Quiet.expression scope right active st calm) (operand_value true (operand_bits bits op left right) right h.2 other_code (value_follows true (operand_bits bits op left right) right h.2 other_code)) (operand_grows true (operand_bits bits op left right) right other_code) quiet bits left right _
         (λ st. evaluated scope left active st) refl (operand_value (is_quiet right) (operand_bits bits op left right) left h.1 one_code (value_follows (is_quiet right) (operand_bits bits op left right) left h.1 one_code))
     value_follows quiet bits (T.LogicalOr' ty p left q right) h c =
         let o = or_operands ty p q left right c in
-        logical_value true ty quiet bits left right (λ v after. or_then ty.shape (type_of left).shape v (evaluated scope right) active after) h.0 h.1 h.2 o (λ v st. or_is ty.shape (type_of left).shape v (evaluated scope right) active st h.0.0 (word_type g.may left h.1).0)
+        logical_value true ty quiet bits left right (λ v after. or_then ty.shape (type_of left).shape v (evaluated scope right) active after) h.0 h.1 h.2 o (λ v st. or_is ty.shape (type_of left).shape v (evaluated scope right) active st h.0.0 (scalar_of g.may left h.1))
         (value_follows true (bits_of (kind_of left)) left h.1 o.one) (value_follows true (bits_of (kind_of right)) right h.2 o.other)
     value_follows quiet bits (T.LogicalAnd' ty p left q right) h c =
         let o = and_operands ty p q left right c in
-        logical_value false ty quiet bits left right (λ v after. and_then ty.shape (type_of left).shape v (evaluated scope right) active after) h.0 h.1 h.2 o (λ v st. and_is ty.shape (type_of left).shape v (evaluated scope right) active st h.0.0 (word_type g.may left h.1).0)
+        logical_value false ty quiet bits left right (λ v after. and_then ty.shape (type_of left).shape v (evaluated scope right) active after) h.0 h.1 h.2 o (λ v st. and_is ty.shape (type_of left).shape v (evaluated scope right) active st h.0.0 (scalar_of g.may left h.1))
         (value_follows true (bits_of (kind_of left)) left h.1 o.one) (value_follows true (bits_of (kind_of right)) right h.2 o.other)
     value_follows quiet bits (T.Choice' ty p test q first r second) h c =
         let o = choice_parts ty p q r test first second c in
-        choice_value ty quiet bits p q r test first second h.0 h.1 h.2 h.3 o (value_follows true (bits_of (kind_of test)) test h.1 o.condition) (value_follows true bits first h.2 o.one) (value_follows true bits second h.3 o.other)
+        choice_value ty quiet bits p q r test first second h.0 h.1 h.2 h.3 h.4 h.5 o (value_follows true (bits_of (kind_of test)) test h.1 o.condition) (value_follows true bits first h.2 o.one) (value_follows true bits second h.3 o.other)
     value_follows quiet bits (T.Assign' ty place op p (T.Variable tty x) q value) h c =
         let names = assign_names ty place op p q (T.Variable tty x) value c in
-        assign_value quiet bits ty tty place op p q x value h.2 h.1 (target_named tty x names.0) h.3 names.1 (λ m d. fresh_value m value h.3 names.1 d) (λ calm m. value_follows calm m value h.3 names.1)
+        assign_value quiet bits ty tty place op p q x value h.2 h.1 (target_named tty x names.0) h.3 h.4 names.1 (λ m d. fresh_value m value h.3 names.1 d) (λ calm m. value_follows calm m value h.3 names.1)
     value_follows quiet bits (T.Assign' ty place op p _ q value) h c = absurd h.2
     value_follows quiet bits (T.Step' ty op order p (T.Variable tty x)) h c = step_value_follows quiet bits ty tty op order p x h.2 h.1 (target_named tty x (step_names ty op order p (T.Variable tty x) c))
     value_follows quiet bits (T.Step' ty op order p _) h c = absurd h.2
@@ -585,7 +552,7 @@ module _ (g : Setting) (has : HasRegisters g) (alive : Variable → Type 0) (n :
     arguments_do own quiet end_of-TExpr h c = tt
     arguments_do own quiet (more_of-TExpr e rest) h c = (
       record {
-        wide = (word_type g.may e h.0).1;
+        wide = h.2.1;
         grows = operand_grows quiet (list_bits own e) e c.0;
         does = operand_value quiet (list_bits own e) e h.0 c.0 (value_follows quiet (list_bits own e) e h.0 c.0);
       },

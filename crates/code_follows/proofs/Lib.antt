@@ -12,6 +12,7 @@ pub mod Casts
 pub mod Changing
 pub mod Choices
 pub mod Choosing
+pub mod Conversions
 pub mod Closed
 pub mod ConstantRegisters
 pub mod Declaring
@@ -25,10 +26,12 @@ pub mod Following
 pub mod ForLoops
 pub mod Fresh
 pub mod Functions
+pub mod Given
 pub mod Jumping
 pub mod Logical
 pub mod Loops
 pub mod Nested
+pub mod Numbers
 pub mod Openings
 pub mod Operators
 pub mod Passing
@@ -39,6 +42,7 @@ pub mod Regions
 pub mod Returning
 pub mod Rounds
 pub mod Settings
+pub mod Settling
 pub mod Standing
 pub mod Starting
 pub mod Statements

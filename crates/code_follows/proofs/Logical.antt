@@ -1,4 +1,4 @@
--- `&&` and `||` of scalars of 32 bits.
+-- `&&` and `||` of scalars.
 use Rattle.std.proofs.Common.{◌≡◌, ◌∙◌, ℕ, ◌+◌, ◌<◌, ◌≤◌, ◌^◌, Bool, true, false, not, length, slice_index, Option, None, refl, sym, ap, subst, if◌then◌else◌, arith}
 use Rattle.std.specs.Int.{from_bool}
 use Rattle.cstar_base.specs.declared.elem.Elem.{Elem}
@@ -64,7 +64,7 @@ undecided false true e = refl
 undecided false false e = cc
 
 module _ (g : Setting) (has : HasRegisters g) (alive : Variable → Type 0) (is_or : Bool) (ty : ValueType) (quiet : Bool) (from to : Elem) (long more : ℕ) (first second : Code) (one other : State → Outcome Value) (next : Value → State → Outcome Value)
-    (word : IsWord ty) (wide : from.bits ≡ 32) (also : to.bits ≡ 32) (one_does : Does g has alive from true one first) (other_does : Does g has alive to true other second)
+    (word : IsWord ty) (one_does : Does g has alive from true one first) (other_does : Does g has alive to true other second)
     (first_made : (d : Draft) → IsMadeWord long d (first d)) (second_made : (d : Draft) → IsMadeWord more d (second d)) (next_is : (v : Value) (st : State) → next v st ≡ joined is_or other (nonzero (number v)) st) where
   module _ (d : Draft) (s : CodeState) (st : State) (free : g.begins ≤ d.regs) (there : At g s (length d.code)) (sim : Sim g alive st s) where
     -- the drafts, one behind another
@@ -192,7 +192,7 @@ module _ (g : Setting) (has : HasRegisters g) (alive : Variable → Type 0) (is_
         let long_so = jump_long g alive is_or left.register target left.behind in
         let place = arr.at in
         let regs = to_leap.regs in
-        let go : Reaches g s t1 = onto g s arr.t t1 (onto g s h.t arr.t h.go arr.go) (goes_past left.register left.behind (nonzero (number v)) arr.t so within arr.at (tested g alive from opened left.behind h.t v u left.register wide arr)) in
+        let go : Reaches g s t1 = onto g s arr.t t1 (onto g s h.t arr.t h.go arr.go) (goes_past left.register left.behind (nonzero (number v)) arr.t so within arr.at (tested g alive from opened left.behind h.t v u left.register arr)) in
         let keeps : Keeps g d s t1 = keeps_on g d opened h.grown.0 s h.t arr.t h.grown.1 h.keeps arr.keeps in
         let begins : slice_index arr.t.registers d.regs ≡ from_bool is_or = arr.keeps d.regs (value_kept g opened d.regs free inside) ∙ h.is in
         then_from g alive (Value_of g has alive to true leap t1) (Value_of g has alive ty.elem quiet d s) s t1 (other u) (λ w after. Source.Gives (Scalar (from_bool (nonzero (at w 0)))) after) (O.Scalar right.register) right.behind (Makes (O.Scalar d.regs) done) go
@@ -200,7 +200,7 @@ module _ (g : Setting) (has : HasRegisters g) (alive : Variable → Type 0) (is_
         (1 + 1, right_done)
         (λ w last b. λ inner. behind_right (nonzero (at w 0)) (decides is_or (nonzero (at w 0))) b.t last refl inner b.at b.sim (onto g s t1 b.t go b.go)
         (keeps_on g d leap ((0 + 1) + (long + 1)) s t1 b.t (extended d opened leap (0 + 1) (long + 1) to_opened to_leap) keeps b.keeps) (b.keeps d.regs (value_kept g leap d.regs free (omega (arith, inside, regs))) ∙ begins)
-        (tested g alive to leap right.behind t1 w last right.register also b ∙ ap nonzero (number_at w b.holds.word b.holds.value)))
+        (tested g alive to leap right.behind t1 w last right.register b ∙ ap nonzero (number_at w b.holds.word b.holds.value)))
       where
         number_at : (w : Value) (x : ℕ) → w ≡ Scalar x → number w ≡ at w 0
         number_at w x e = ap number e ∙ sym (ap (λ (y : Value). at y 0) e)
@@ -215,7 +215,7 @@ module _ (g : Setting) (has : HasRegisters g) (alive : Variable → Type 0) (is_
             → Follows g (Value_of g has alive ty.elem quiet d s) s (if c then Source.Gives (Scalar (from_bool is_or)) u else then_do (other u) (λ w after. Source.Gives (Scalar (from_bool (nonzero (at w 0)))) after)) (Makes (O.Scalar d.regs) done)
         by h v u arr true so = λ within.
             leaps left.register left.behind (nonzero (number v)) arr.t u so (earlier g leap done (more + (1 + 1)) leap_done within) arr.at arr.sim (onto g s h.t arr.t h.go arr.go)
-            (keeps_on g d opened h.grown.0 s h.t arr.t h.grown.1 h.keeps arr.keeps) (arr.keeps d.regs (value_kept g opened d.regs free inside) ∙ h.is) (tested g alive from opened left.behind h.t v u left.register wide arr)
+            (keeps_on g d opened h.grown.0 s h.t arr.t h.grown.1 h.keeps arr.keeps) (arr.keeps d.regs (value_kept g opened d.regs free inside) ∙ h.is) (tested g alive from opened left.behind h.t v u left.register arr)
         by h v u arr false so =
             delayed g (Value_of g has alive ty.elem quiet d s) leap s (then_do (other u) (λ w after. Source.Gives (Scalar (from_bool (nonzero (at w 0)))) after)) (Makes (O.Scalar d.regs) done) (_, leap_done) (λ within. goes_right v u so h arr within)
 

@@ -44,15 +44,17 @@ use Rattle.code_follows.proofs.Declaring.{Started, sim_fewer, sim_same}
 use Rattle.code_follows.proofs.Endings.{NeverOnward, body_never, never_second}
 use Rattle.code_follows.proofs.Entering.{calls_so, enters_so}
 use Rattle.code_follows.proofs.Executing.{Left}
-use Rattle.code_follows.proofs.Following.{Extends, Follows, Sim}
+use Rattle.code_follows.proofs.Following.{held, Extends, Follows, Sim}
 use Rattle.code_follows.proofs.Functions.{BodyMade, EndsSo, RunsFunction, among, body_made, declares, ends_by, every, falls, frame, framed, g, has, numbered, own, ready, runs_function, scope}
 use Rattle.code_follows.proofs.Openings.{constants_run}
-use Rattle.code_follows.proofs.Regions.{base_behind, base_inside, behind_files, below, named_word}
+use Rattle.std.proofs.lemmas.Nat.{pow_pos}
+use Rattle.source_meaning.specs.Reductions.{int_type}
+use Rattle.code_follows.proofs.Numbers.{zero_converted}
+use Rattle.code_follows.proofs.Regions.{base_behind, base_inside, behind_files, below}
 use Rattle.code_follows.proofs.Settings.{At, EndsIn, Reaches, Setting, Within, earlier, ends_later, ends_now, onto, start}
 use Rattle.code_follows.proofs.Standing.{start_in}
 use Rattle.code_follows.proofs.Starting.{none_cleared}
 use Rattle.code_follows.proofs.Units.{constants_grow, empty_unit, main_is, starts_homes, starts_regs, with_constants, with_starts}
-use Rattle.code_follows.proofs.Words.{held_wide}
 use Rattle.paris_code.specs.declared.program.Unit.{Unit as CodeUnit}
 
 pub starts_at_zero : (us : List CodeUnit) → start_in us 0 0 ≡ 0
@@ -97,26 +99,23 @@ module _ (t : Typed) (image : Image) (p : IsScalarProgram t) (codable : IsCodabl
       let h = constant_at (own t image p codable compiled 0 p.main p.is_main [] turns) word r is in
       ap (λ (q : ℕ). slice_index u.registers q) h.register ∙ are h.index h.inside ∙ h.value
 
-  register_value : (x : Variable) (info : VarInfo) → variable_named t p.main x ≡ Some info → (u : CodeState) → ((k : ℕ) (info : VarInfo) → slice_get t.vars.items k ≡ Some info → slice_index u.registers (0 + k) ≡ info.start)
-      → ((q : ℕ) → 0 + length t.vars.items ≤ q → q < (own t image p codable compiled 0 p.main p.is_main [] turns).end → slice_index u.registers q ≡ 0) → slice_index u.registers (register_of (own t image p codable compiled 0 p.main p.is_main [] turns) x) ≡ in_main.scalar x
+  register_value : (x : Variable) (info : VarInfo) → variable_named t p.main x ≡ Some info → (u : CodeState) → ((k : ℕ) (info : VarInfo) → slice_get t.vars.items k ≡ Some info → slice_index u.registers (0 + k) ≡ held info.elem info.start)
+      → ((q : ℕ) → 0 + length t.vars.items ≤ q → q < (own t image p codable compiled 0 p.main p.is_main [] turns).end → slice_index u.registers q ≡ 0) → slice_index u.registers (register_of (own t image p codable compiled 0 p.main p.is_main [] turns) x) ≡ held info.elem (in_main.scalar x)
   unfolding entered start_state by_owner start_of scalar_given variable_named register_of
-  register_value (V.File k) info is u files zeros = ap (λ (q : ℕ). slice_index u.registers q) (front k) ∙ files k info is ∙ sym (ap (λ (o : Option VarInfo). elim o as (λ _. ℕ) [ None ↦ 0 | Some info ↦ info.start ]) is)
+  register_value (V.File k) info is u files zeros = ap (λ (q : ℕ). slice_index u.registers q) (front k) ∙ files k info is ∙ sym (ap (λ (o : Option VarInfo). held info.elem (elim o as (λ _. ℕ) [ None ↦ 0 | Some info ↦ info.start ])) is)
     where
       front : (k : ℕ) → k ≡ 0 + k
       front k = omega arith
   register_value (V.Param k) info is u files zeros = let none : slice_get p.main.params.items k ≡ None = ap (λ (xs : List VarInfo). slice_get xs k) p.params in cc
   register_value (V.Local k) info is u files zeros =
       zeros (register_of (own t image p codable compiled 0 p.main p.is_main [] turns) (V.Local k)) (behind_files t (scalars t image p codable compiled) (words t image p codable compiled) 0 p.main p.is_main k)
-      (below t (scalars t image p codable compiled) (words t image p codable compiled) 0 p.main p.is_main (V.Local k) info is)
+      (below t (scalars t image p codable compiled) (words t image p codable compiled) 0 p.main p.is_main (V.Local k) info is) ∙ sym (zero_converted int_type info.elem)
 
-  zero_or_started : (x : Variable) (info : VarInfo) → variable_named t p.main x ≡ Some info → in_main.scalar x < 2 ^ 32
+  zero_or_started : (x : Variable) (info : VarInfo) → variable_named t p.main x ≡ Some info → in_main.scalar x < 2 ^ info.elem.bits
   unfolding entered start_state by_owner start_of scalar_given variable_named
-  zero_or_started (V.File k) info is = subst (λ (o : Option VarInfo). (elim o as (λ _. ℕ) [ None ↦ 0 | Some info ↦ info.start ]) < 2 ^ 32) (sym is) (all_at IsPlainVariable t.vars.items k info p.variables is).1
+  zero_or_started (V.File k) info is = subst (λ (o : Option VarInfo). (elim o as (λ _. ℕ) [ None ↦ 0 | Some info ↦ info.start ]) < 2 ^ info.elem.bits) (sym is) (all_at IsPlainVariable t.vars.items k info p.variables is).1
   zero_or_started (V.Param k) info is = let none : slice_get p.main.params.items k ≡ None = ap (λ (xs : List VarInfo). slice_get xs k) p.params in cc
-  zero_or_started (V.Local k) info is = omega arith
-
-  wide : (x : Variable) (info : VarInfo) → variable_named t p.main x ≡ Some info → info.elem.bits ≡ 32
-  wide x info is = (named_word t (scalars t image p codable compiled) (words t image p codable compiled) 0 p.main p.is_main x info is).1
+  zero_or_started (V.Local k) info is = pow_pos info.elem.bits
 
   -- the code is at the body, with the constants and the values of the file's variables in their registers
   record Opened : Type 0 where
@@ -150,14 +149,14 @@ module _ (t : Typed) (image : Image) (p : IsScalarProgram t) (codable : IsCodabl
         sim = sim_so b.t (b.registers ∙ long ∙ many) b.are (λ q hi low. b.above q hi ∙ zeros q low) (λ i k. b.above (l.end + i) (omega (arith, base, end)) ∙ c.are i k) (b.turns ∙ c.turns) (b.output ∙ c.output) (b.input ∙ c.input) (b.returns ∙ c.returns);
       }
     where
-      sim_so : (u : CodeState) → length u.registers ≡ image.slots → ((k : ℕ) (info : VarInfo) → slice_get t.vars.items k ≡ Some info → slice_index u.registers (0 + k) ≡ info.start)
+      sim_so : (u : CodeState) → length u.registers ≡ image.slots → ((k : ℕ) (info : VarInfo) → slice_get t.vars.items k ≡ Some info → slice_index u.registers (0 + k) ≡ held info.elem info.start)
           → ((q : ℕ) → 0 + length t.vars.items ≤ q → q < (own t image p codable compiled 0 p.main p.is_main [] turns).end → slice_index u.registers q ≡ 0)
           → ((i : ℕ) → i < length (own t image p codable compiled 0 p.main p.is_main [] turns).constants → slice_index u.registers ((own t image p codable compiled 0 p.main p.is_main [] turns).end + i) ≡ slice_index (own t image p codable compiled 0 p.main p.is_main [] turns).constants i)
           → u.turns ≡ opened.turns → u.output ≡ opened.output → u.input ≡ opened.input → u.returns ≡ opened.returns → Sim main_setting alive in_main u
       sim_so u long files zeros constants same_turns same_output same_input same_returns = record {
         registers = long;
-        scalars = λ x info living scalar. register_value x info scalar.0 u files zeros ∙ sym (held_wide info.elem (in_main.scalar x) (wide x info scalar.0) (zero_or_started x info scalar.0));
-        small = λ x info living scalar. subst (λ (b : ℕ). in_main.scalar x < 2 ^ b) (sym (wide x info scalar.0)) (zero_or_started x info scalar.0);
+        scalars = λ x info living scalar. register_value x info scalar.0 u files zeros;
+        small = λ x info living scalar. zero_or_started x info scalar.0;
         constants = λ word r is. constant_there u constants word r is;
         turns = same_turns;
         output = same_output;

@@ -16,19 +16,19 @@ use Rattle.code_lengths.specs.Ready.{HasDeclared, IsReady, NumbersVariables}
 use Rattle.code_lengths.proofs.Declaring.{all_at}
 use Rattle.lower_base.specs.Drafts.{Draft}
 use Rattle.lower_base.specs.Layouts.{Numbering, Registers, behind, earlier_base, entered, entries_of, first_named, layout_of, nothing_numbered, numbered, param_entries, register_of, registers_of, result_register, with_instance, with_local}
-use Rattle.code_follows.specs.Fragment.{IsWordVariable}
+use Rattle.code_follows.specs.Fragment.{IsScalarVariable}
 use Rattle.code_follows.proofs.Declaring.{all_first, all_rest}
 use Rattle.code_follows.proofs.Standing.{some_same}
 
--- an instance whose parameters, result and block variables are scalars, those of 32 bits that are variables
+-- an instance whose parameters, result and block variables are scalars
 abbrev pub IsScalarInstance : Instance → Type 0
-IsScalarInstance i = All IsWordVariable i.params.items × ((info : VarInfo) → i.result ≡ Some info → info.shape ≡ None) × All IsWordVariable (variables_of i.body)
+IsScalarInstance i = All IsScalarVariable i.params.items × ((info : VarInfo) → i.result ≡ Some info → info.shape ≡ None) × All IsScalarVariable (variables_of i.body)
 
--- A program whose variables are all scalars of 32 bits, and whose instances have names of their own.
+-- A program whose variables are all scalars, and whose instances have names of their own.
 pub record HasScalarInstances (t : Typed) : Type 0 where
   pub each : (k : ℕ) (i : Instance) → slice_get t.instances.items k ≡ Some i → IsScalarInstance i
   pub names : (j k : ℕ) (a b : Instance) → slice_get t.instances.items j ≡ Some a → slice_get t.instances.items k ≡ Some b → a.name ≡ b.name → j ≡ k
-  pub variables : All IsWordVariable t.vars.items
+  pub variables : All IsScalarVariable t.vars.items
 
 -- how many registers an instance has: for its parameters, its result and the variables of its blocks
 unfoldable pub size_of : Instance → ℕ
@@ -57,12 +57,12 @@ numbered_length (info ∷ infos) n =
         → length (numbered infos (with_local n info)).locals ≡ length n.locals + suc k
     sums k rest one = omega (arith, rest, one)
 
-scalar_homes : (infos : List VarInfo) (k : ℕ) (n : Numbering) → All IsWordVariable infos → (numbered (take k infos) n).homes ≡ n.homes
+scalar_homes : (infos : List VarInfo) (k : ℕ) (n : Numbering) → All IsScalarVariable infos → (numbered (take k infos) n).homes ≡ n.homes
 unfolding numbered with_local behind
 scalar_homes infos zero n all = refl
 scalar_homes [] (suc k) n all = refl
 scalar_homes (info ∷ infos) (suc k) n all =
-    scalar_homes infos k (with_local n info) (all_rest IsWordVariable info infos all) ∙ ap (λ (o : Option ℕ). elim o as (λ _. ℕ) [ None ↦ n.homes | Some s ↦ n.homes + 1 ]) (all_first IsWordVariable info infos all).0
+    scalar_homes infos k (with_local n info) (all_rest IsScalarVariable info infos all) ∙ ap (λ (o : Option ℕ). elim o as (λ _. ℕ) [ None ↦ n.homes | Some s ↦ n.homes + 1 ]) (all_first IsScalarVariable info infos all)
 
 entries_length : (next : ℕ) (infos : List VarInfo) → length (param_entries next infos) ≡ length infos
 unfolding param_entries
@@ -325,11 +325,11 @@ module _ (t : Typed) (p : HasScalarInstances t) (words : List ℕ) where
       record { low = omega (arith, at); high = omega (arith, at, inside) }
 
   -- no variable is parallel
-  pub named_word : (number : ℕ) (i : Instance) → slice_get t.instances.items number ≡ Some i → (x : Variable) (info : VarInfo) → variable_named t i x ≡ Some info → IsWordVariable info
+  pub named_shape : (number : ℕ) (i : Instance) → slice_get t.instances.items number ≡ Some i → (x : Variable) (info : VarInfo) → variable_named t i x ≡ Some info → IsScalarVariable info
   unfolding variable_named
-  named_word number i is (V.File k) info named = all_at IsWordVariable t.vars.items k info p.variables named
-  named_word number i is (V.Param k) info named = all_at IsWordVariable i.params.items k info (p.each number i is).0 named
-  named_word number i is (V.Local k) info named = all_at IsWordVariable (variables_of i.body) k info (p.each number i is).2 named
+  named_shape number i is (V.File k) info named = all_at IsScalarVariable t.vars.items k info p.variables named
+  named_shape number i is (V.Param k) info named = all_at IsScalarVariable i.params.items k info (p.each number i is).0 named
+  named_shape number i is (V.Local k) info named = all_at IsScalarVariable (variables_of i.body) k info (p.each number i is).2 named
 
   -- each variable has its register
   pub below : (number : ℕ) (i : Instance) → slice_get t.instances.items number ≡ Some i → (x : Variable) (info : VarInfo) → variable_named t i x ≡ Some info → register_of (layout_of t words number) x < (layout_of t words number).end
@@ -393,7 +393,7 @@ module _ (t : Typed) (p : HasScalarInstances t) (words : List ℕ) where
   -- ---- what the code of an instance relies on
 
   scalar_only : (number : ℕ) (i : Instance) → slice_get t.instances.items number ≡ Some i → (x : Variable) (info : VarInfo) → variable_named t i x ≡ Some info → is_none info.shape ≡ false → ⊥
-  scalar_only number i is x info named parallel = let none : is_none info.shape ≡ true = ap is_none (named_word number i is x info named).0 in cc
+  scalar_only number i is x info named parallel = let none : is_none info.shape ≡ true = ap is_none (named_shape number i is x info named) in cc
 
   pub all_ready : (number : ℕ) (i : Instance) → slice_get t.instances.items number ≡ Some i → (n : ℕ) (d : Draft) → IsReady t i (layout_of t words number) n d
   all_ready number i is n d = record {

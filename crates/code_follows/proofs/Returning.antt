@@ -32,7 +32,7 @@ use Rattle.source_meaning.specs.State as Source
 use Rattle.source_meaning.specs.State.{State, then_do}
 use Rattle.source_meaning.specs.Statements.{Returned, executed, returned}
 use Rattle.source_meaning.specs.Values.{Active, Scalar, Scope, Value}
-use Rattle.code_follows.specs.Fragment.{IsIn}
+use Rattle.code_follows.specs.Fragment.{IsIn, IsWord}
 use Rattle.code_follows.proofs.ConstantRegisters.{behind_variables}
 use Rattle.code_follows.proofs.Executing.{IsGiven, Leaves, Left, Returns}
 use Rattle.code_follows.proofs.Expressions.{operand}
@@ -42,7 +42,7 @@ use Rattle.code_follows.proofs.Jumping.{nothing_restored}
 use Rattle.code_follows.proofs.Settings.{At, Reaches, Setting, Within, and_one, at_next, begins_here, earlier, layout, one, onto, stay}
 use Rattle.code_follows.proofs.Statements.{StandsIn}
 use Rattle.code_follows.proofs.Values.{Value_of}
-use Rattle.code_follows.proofs.Words.{below_word, held_wide, word_type}
+use Rattle.code_follows.proofs.Words.{below_word, held_wide}
 
 -- the function is left where its code ends
 pub leaves : (g : Setting) (alive : Variable → Type 0) (e : Draft) (s : CodeState) → Within g (with_end g.is_main e) → At g s (length e.code) → Leaves g alive s
@@ -164,7 +164,7 @@ module _ (g : Setting) (has : HasRegisters g) (alive : Variable → Type 0) (eve
           shaped None e = cc
           shaped (Some s) e = cc
 
-  pub return_follows : (e : Option TExpr) → IfSome e (IsIn g.may) → (f : Frame) (n : ℕ) (d : Draft) (s0 : CodeState) (st : State) → StandsIn g f → g.begins ≤ d.regs → At g s0 (length d.code) → Sim g alive st s0 → IfSome e (λ x. HasCode g.typed g.instance n x)
+  pub return_follows : (e : Option TExpr) → IfSome e (λ x. IsIn g.may x × IsWord (type_of x)) → (f : Frame) (n : ℕ) (d : Draft) (s0 : CodeState) (st : State) → StandsIn g f → g.begins ≤ d.regs → At g s0 (length d.code) → Sim g alive st s0 → IfSome e (λ x. HasCode g.typed g.instance n x)
       → Follows g (Left g alive f d s0) s0 (executed scope (S.Return e) n active st) (statement_of g.typed (layout g) (S.Return e) f [] n d)
   unfolding executed statement_of returned_by given_back then_make Follows Left IsGiven
   return_follows None h f n d s0 st framed free at sim c =
@@ -173,5 +173,5 @@ module _ (g : Setting) (has : HasRegisters g) (alive : Variable → Type 0) (eve
   return_follows (Some e) h f n d s0 st framed free at sim c =
       subst (λ (m : Made ℕ). Follows g (Left g alive f d s0) s0 (then_do (evaluated scope e active st) (λ v after. Source.Gives (Returned (Some (returned active (type_of e).shape v))) after)) m)
       (λ i. then_make (then_make (next_of g.typed (layout g) (type_of e).elem.bits true e d) (λ v after. stored_result (layout g) f.outcome v after)) (λ u after. Makes n (sym (ends_so f f.saved.in_all framed.main after) i)))
-      (answers (type_of e).elem f d s0 f.outcome n (type_of e).shape (word_type g.may e h).0 (word_type g.may e h).1 framed.scalar (no_outcome f framed) (evaluated scope e active st) (next_of g.typed (layout g) (type_of e).elem.bits true e d)
-      (operand g has alive n (λ x within. every x) (ready n) scope active calls_follow true (type_of e).elem.bits e h c d s0 st free at sim))
+      (answers (type_of e).elem f d s0 f.outcome n (type_of e).shape h.1.0 h.1.1 framed.scalar (no_outcome f framed) (evaluated scope e active st) (next_of g.typed (layout g) (type_of e).elem.bits true e d)
+      (operand g has alive n (λ x within. every x) (ready n) scope active calls_follow true (type_of e).elem.bits e h.0 c d s0 st free at sim))

@@ -37,7 +37,7 @@ use Rattle.source_meaning.specs.State.{Outcome, State, is_same, then_do, with_sc
 use Rattle.source_meaning.specs.Statements.{Broke, Continued, Leaving, Onward, Returned, initialised, initialised_one, then_go}
 use Rattle.source_meaning.specs.Targets.{OfScalar, Target, stored, variable_target}
 use Rattle.source_meaning.specs.Values.{Active, Scalar, Scope, Value, number}
-use Rattle.code_follows.specs.Fragment.{IsIn, IsInLocal}
+use Rattle.code_follows.specs.Fragment.{IsIn, IsInLocal, Takes}
 use Rattle.code_follows.proofs.Declaring.{Started, all_first, all_rest, first_is_named, others_stand, sim_fewer, started_before}
 use Rattle.code_follows.proofs.Executing.{RanOn, gives, no_break, no_continue, no_return, ran_from}
 use Rattle.code_follows.proofs.Callees.{CallsFollow}
@@ -47,7 +47,11 @@ use Rattle.code_follows.proofs.Settings.{At, Reaches, Setting, and_one, at_next,
 use Rattle.code_follows.proofs.Standing.{some_same}
 use Rattle.code_follows.proofs.Stores.{below_free, same_itself, sim_begun}
 use Rattle.code_follows.proofs.Values.{extends_grown}
-use Rattle.code_follows.proofs.Words.{constant_below, held_wide, kept, word_type}
+use Rattle.code_follows.proofs.Words.{constant_below, kept}
+use Rattle.code_follows.proofs.Numbers.{fits_held, takes_fits, takes_same}
+use Rattle.constant_trees.proofs.Words.{converted_below}
+use Rattle.cstar_base.specs.declared.elem.Elem.{Elem}
+use Rattle.cstar_base.specs.Numbers.{converted}
 
 -- statements that follow an assignment
 go_do : {A : Type 0} (o : Outcome A) (h : A → State → State) (k : State → Outcome Leaving) → then_go (then_do o (λ v after. Source.Gives Onward (h v after))) k ≡ then_do o (λ v after. k (h v after))
@@ -136,6 +140,10 @@ module _ (g : Setting) (has : HasRegisters g) (alive : Variable → Type 0) (eve
         | Some s ↦ then_make (field_of g.typed (layout g) (V.Local n) 0 d) (λ f after. Makes (O.Field (first_bits info.elem.bits f)) after)
       ]) plain
 
+  -- an initialiser, whose number the variable takes
+  abbrev IsInitial : LocalVar → TExpr → Type 0
+  IsInitial local e = IsIn g.may e × Takes local.info.elem (type_of e).elem
+
   abbrev initial_put : VarInfo → ℕ → Option TExpr → Draft → Made (Unit {0})
   initial_put info n o d = elim o [
     | None ↦ Makes tt d
@@ -161,11 +169,11 @@ module _ (g : Setting) (has : HasRegisters g) (alive : Variable → Type 0) (eve
       let first = all_first (IsInLocal g.may) local locals isin in
       by local.initial first.1 c.0 (λ e. initials_grow locals (n + 1) e (all_rest (IsInLocal g.may) local locals isin) c.1)
     where
-      by : (o : Option TExpr) → IfSome o (IsIn g.may) → IfSome o (HasCode g.typed g.instance (n + 1)) → ((e : Draft) → Extends g e (all_initialised g.typed (layout g) locals (n + 1) e)) → Extends g d (then_make (initial_put local.info n o d) (λ u after. all_initialised g.typed (layout g) locals (n + 1) after))
+      by : (o : Option TExpr) → IfSome o (IsInitial local) → IfSome o (HasCode g.typed g.instance (n + 1)) → ((e : Draft) → Extends g e (all_initialised g.typed (layout g) locals (n + 1) e)) → Extends g d (then_make (initial_put local.info n o d) (λ u after. all_initialised g.typed (layout g) locals (n + 1) after))
       by None h k rest = rest d
       by (Some e) h k rest =
-          subst (λ (m : Made (Unit {0})). Extends g d m) (sym (put_is local.info n e d (λ u after. all_initialised g.typed (layout g) locals (n + 1) after) (all_first (IsInLocal g.may) local locals isin).0.0))
-          (extends_then g d (put_to g.typed (layout g) (O.Scalar (register_of (layout g) (V.Local n))) e d) (λ out after. all_initialised g.typed (layout g) locals (n + 1) after) (local_grows n e d h k) (λ out after. rest after))
+          subst (λ (m : Made (Unit {0})). Extends g d m) (sym (put_is local.info n e d (λ u after. all_initialised g.typed (layout g) locals (n + 1) after) (all_first (IsInLocal g.may) local locals isin).0))
+          (extends_then g d (put_to g.typed (layout g) (O.Scalar (register_of (layout g) (V.Local n))) e d) (λ out after. all_initialised g.typed (layout g) locals (n + 1) after) (local_grows n e d h.0 k) (λ out after. rest after))
 
   -- a value is put in the register of the next variable, which is alive behind it
   abbrev Begun : LocalVar → List LocalVar → ℕ → Draft → CodeState → Value → State → Draft → Type 0
@@ -175,15 +183,18 @@ module _ (g : Setting) (has : HasRegisters g) (alive : Variable → Type 0) (eve
   Puts_one local locals n e d s st = Follows g (λ v u (out : Out) f. Begun local locals n d s v u f) s (evaluated scope e active st) (put_to g.typed (layout g) (O.Scalar (register_of (layout g) (V.Local n))) e d)
 
   -- a constant
-  constant_put : (local : LocalVar) (locals : List LocalVar) (n : ℕ) (e : TExpr) (word : ℕ) (d : Draft) (s : CodeState) (st : State) → IsScalar g (V.Local n) local.info → local.info.elem.bits ≡ 32 → (IsIn g.may) e → StandsAsWord e word → g.begins ≤ d.regs → At g s (length d.code) → Sim g (Started (local ∷ locals) n) st s
+  constant_put : (local : LocalVar) (locals : List LocalVar) (n : ℕ) (e : TExpr) (word : ℕ) (d : Draft) (s : CodeState) (st : State) → IsScalar g (V.Local n) local.info → Takes local.info.elem (type_of e).elem → (IsIn g.may) e → StandsAsWord e word → g.begins ≤ d.regs → At g s (length d.code) → Sim g (Started (local ∷ locals) n) st s
       → Puts_one local locals n e d s st
   unfolding put_to word_for word_put Follows begun step_of Started
-  constant_put local locals n e word d s st scalar wide isin c free at sim =
+  constant_put local locals n e word d s st scalar takes isin c free at sim =
       let r : ℕ = register_of (layout g) (V.Local n) in
       let i = I.FrontConst r word in
-      let few : c.value < 2 ^ 32 = subst (λ (o : Option ℕ). IfSome o (λ v. v < 2 ^ 32)) c.is (constant_below g.may e isin) in
+      let from : Elem = (type_of e).elem in
+      let few : c.value < 2 ^ from.bits = subst (λ (o : Option ℕ). IfSome o (λ v. v < 2 ^ from.bits)) c.is (constant_below g.may e isin) in
+      let same : converted local.info.elem from c.value ≡ c.value = takes_same local.info.elem from c.value takes few in
+      let own_few : c.value < 2 ^ local.info.elem.bits = subst (λ (w : ℕ). w < 2 ^ local.info.elem.bits) same (converted_below local.info.elem from c.value) in
       let gives_it : evaluated scope e active st ≡ Source.Gives (Scalar c.value) st = subst (λ (o : Option ℕ). Const.IsValueOf e o) c.is (value_means e c.constant) scope active st in
-      let is_held : held local.info.elem c.value ≡ word = held_wide local.info.elem c.value wide few ∙ sym (held_wide (type_of e).elem c.value (word_type g.may e isin).1 few) ∙ c.same in
+      let is_held : held local.info.elem c.value ≡ word = ap (held local.info.elem) (sym same) ∙ sym (fits_held local.info.elem from c.value (takes_fits local.info.elem from takes) few) ∙ c.same in
       subst (λ (o : Outcome Value). Follows g (λ v u (out : Out) f. Begun local locals n d s v u f) s o (put_to g.typed (layout g) (O.Scalar r) e d)) (sym gives_it)
       (subst (λ (m : Made Out). Follows g (λ v u (out : Out) f. Begun local locals n d s v u f) s (Source.Gives (Scalar c.value) st) m)
       (sym (ap (λ (o : Option ℕ). elim o as (λ _. Made Out) [ Some w ↦ Makes (O.Scalar r) (with_instr (I.FrontConst r w) d) | None ↦ computed_to g.typed (layout g) (O.Scalar r) e d ]) c.stands))
@@ -202,7 +213,7 @@ module _ (g : Setting) (has : HasRegisters g) (alive : Variable → Type 0) (eve
             at = at_next g i d s (s.at + 1) at refl;
             keeps = variable_kept g d s (V.Local n) local.info word has scalar.0;
             sim = subst (λ (w : ℕ). Sim g (Started locals (n + 1)) (with_scalar (V.Local n) c.value st) (with_register r w s)) is_held
-                (sim_begun g has (V.Local n) local.info scalar (Started (local ∷ locals) n) (Started locals (n + 1)) (λ y later other. ((λ b e. no_other y other e), later)) st s c.value (subst (λ (k : ℕ). c.value < 2 ^ k) (sym wide) few) inside sim);
+                (sim_begun g has (V.Local n) local.info scalar (Started (local ∷ locals) n) (Started locals (n + 1)) (λ y later other. ((λ b e. no_other y other e), later)) st s c.value own_few inside sim);
           },
         ),
       )))
@@ -211,12 +222,12 @@ module _ (g : Setting) (has : HasRegisters g) (alive : Variable → Type 0) (eve
       no_other y other e = let same : is_same (V.Local n) y ≡ true = ap (λ (z : Variable). is_same (V.Local n) z) e ∙ same_itself (V.Local n) in cc
 
   -- any other value
-  value_put : (local : LocalVar) (locals : List LocalVar) (n : ℕ) (e : TExpr) (d : Draft) (s : CodeState) (st : State) → begins_constant local ≡ false → IsScalar g (V.Local n) local.info → local.info.elem.bits ≡ 32 → (IsIn g.may) e → HasCode g.typed g.instance (n + 1) e
+  value_put : (local : LocalVar) (locals : List LocalVar) (n : ℕ) (e : TExpr) (d : Draft) (s : CodeState) (st : State) → begins_constant local ≡ false → IsScalar g (V.Local n) local.info → Takes local.info.elem (type_of e).elem → (IsIn g.may) e → HasCode g.typed g.instance (n + 1) e
       → g.begins ≤ d.regs → At g s (length d.code) → Sim g (Started (local ∷ locals) n) st s → Puts_one local locals n e d s st
   unfolding Started
-  value_put local locals n e d s st begins scalar wide isin c free at sim =
+  value_put local locals n e d s st begins scalar takes isin c free at sim =
       follows_on (evaluated scope e active st) (put_to g.typed (layout g) (O.Scalar (register_of (layout g) (V.Local n))) e d)
-      (put_follows g has (Started (local ∷ locals) n) (n + 1) (λ y h. lives y h) (ready (n + 1)) scope active calls_follow (V.Local n) local.info (lives (V.Local n) itself) scalar wide e isin c d s st free at sim)
+      (put_follows g has (Started (local ∷ locals) n) (n + 1) (λ y h. lives y h) (ready (n + 1)) scope active calls_follow (V.Local n) local.info (lives (V.Local n) itself) scalar e isin c (takes_fits local.info.elem (type_of e).elem takes) d s st free at sim)
     where
       never : begins_constant local ≡ true → ⊥
       never b = cc
@@ -227,10 +238,10 @@ module _ (g : Setting) (has : HasRegisters g) (alive : Variable → Type 0) (eve
       itself : IsDeclared (n + 1) (V.Local n)
       itself = declared_itself n
 
-      follows_on : (o : Outcome Value) (made : Made Out) → Follows g (Put g has (Started (local ∷ locals) n) (n + 1) (λ y h. lives y h) (ready (n + 1)) scope active calls_follow (V.Local n) local.info (lives (V.Local n) itself) scalar wide d s) s o made → Follows g (λ v u (out : Out) f. Begun local locals n d s v u f) s o made
+      follows_on : (o : Outcome Value) (made : Made Out) → Follows g (Put g has (Started (local ∷ locals) n) (n + 1) (λ y h. lives y h) (ready (n + 1)) scope active calls_follow (V.Local n) local.info (lives (V.Local n) itself) scalar (type_of e).elem d s) s o made → Follows g (λ v u (out : Out) f. Begun local locals n d s v u f) s o made
       follows_on o made h = follows_other g _ _ s o made h (λ v u out f p. (
         p.word,
-        (p.value, record { grown = p.grown; t = p.t; go = p.go; at = p.at; keeps = p.keeps; sim = sim_fewer g (Started (local ∷ locals) n) (Started locals (n + 1)) (with_scalar (V.Local n) p.word u) p.t (λ y info named later. ((λ b e. never b), later)) p.sim }),
+        (p.value, record { grown = p.grown; t = p.t; go = p.go; at = p.at; keeps = p.keeps; sim = sim_fewer g (Started (local ∷ locals) n) (Started locals (n + 1)) (with_scalar (V.Local n) p.word u) p.t (λ y info named later. ((λ b e. never b), later)) (subst (λ (w : ℕ). Sim g (Started (local ∷ locals) n) (with_scalar (V.Local n) w u) p.t) (takes_same local.info.elem (type_of e).elem p.word takes p.small) p.sim) }),
       ))
 
   pub initials_follow : (locals : List LocalVar) (n : ℕ) (d : Draft) (s : CodeState) (st : State) → All (IsInLocal g.may) locals → StandFrom (variables_of g.instance.body) n (map info_of locals) → AreCoded n locals → g.begins ≤ d.regs → At g s (length d.code) → Sim g (Started locals n) st s
@@ -245,12 +256,9 @@ module _ (g : Setting) (has : HasRegisters g) (alive : Variable → Type 0) (eve
       there = variable_target local.info.shape (V.Local n) 0
 
       scalar : IsScalar g (V.Local n) local.info
-      scalar = (first_is_named g n local.info (map info_of locals) stand, (all_first (IsInLocal g.may) local locals isin).0.0)
+      scalar = (first_is_named g n local.info (map info_of locals) stand, (all_first (IsInLocal g.may) local locals isin).0)
 
-      wide : local.info.elem.bits ≡ 32
-      wide = (all_first (IsInLocal g.may) local locals isin).0.1
-
-      by : (o : Option TExpr) → local.initial ≡ o → IfSome o (IsIn g.may) → IfSome o (HasCode g.typed g.instance (n + 1))
+      by : (o : Option TExpr) → local.initial ≡ o → IfSome o (IsInitial local) → IfSome o (HasCode g.typed g.instance (n + 1))
           → ((e : Draft) (t : CodeState) (u : State) → g.begins ≤ e.regs → At g t (length e.code) → Sim g (Started locals (n + 1)) u t → Follows g (RanOn g alive e t) t (initialised scope active (n + 1) locals u) (all_initialised g.typed (layout g) locals (n + 1) e))
           → Follows g (RanOn g alive d s) s (then_go (initialised_one scope active there o st) (initialised scope active (n + 1) locals)) (then_make (initial_put local.info n o d) (λ u after. all_initialised g.typed (layout g) locals (n + 1) after))
       by None is h k rest = rest d s st free at (sim_fewer g (Started (local ∷ locals) n) (Started locals (n + 1)) st s (λ y info named later. ((λ b e. let none = starts_none local is in cc), later)) sim)
@@ -259,7 +267,7 @@ module _ (g : Setting) (has : HasRegisters g) (alive : Variable → Type 0) (eve
           let next : Draft → Made (Unit {0}) = λ after. all_initialised g.typed (layout g) locals (n + 1) after in
           let go_on : State → Outcome Leaving = λ u. initialised scope active (n + 1) locals u in
           let there_is : there ≡ OfScalar x = ap (λ (o : Option ℕ). variable_target o x 0) scalar.1 in
-          let puts : Puts_one local locals n e d s st = begins_either local e is (begins_constant local) refl (λ word w. constant_put local locals n e word d s st scalar wide h w free at sim) (λ begins. value_put local locals n e d s st begins scalar wide h k free at sim) in
+          let puts : Puts_one local locals n e d s st = begins_either local e is (begins_constant local) refl (λ word w. constant_put local locals n e word d s st scalar h.1 h.0 w free at sim) (λ begins. value_put local locals n e d s st begins scalar h.1 h.0 k free at sim) in
           subst (λ (m : Made (Unit {0})). Follows g (RanOn g alive d s) s (then_go (initialised_one scope active there (Some e) st) go_on) m) (sym (put_is local.info n e d (λ u after. next after) scalar.1))
           (subst (λ (o : Outcome Leaving). Follows g (RanOn g alive d s) s o (then_make (put_to g.typed (layout g) (O.Scalar (register_of (layout g) x)) e d) (λ out after. next after))) (sym (go_do (evaluated scope e active st) (λ v after. stored active there v after) go_on))
           (subst (λ (target : Target). Follows g (RanOn g alive d s) s (then_do (evaluated scope e active st) (λ v after. go_on (stored active target v after))) (then_make (put_to g.typed (layout g) (O.Scalar (register_of (layout g) x)) e d) (λ out after. next after))) (sym there_is)
@@ -279,5 +287,5 @@ module _ (g : Setting) (has : HasRegisters g) (alive : Variable → Type 0) (eve
       ap (λ (o : Option ℕ). then_make (elim o as (λ _. Made (Unit {0})) [
         | None ↦ Makes tt d
         | Some s ↦ cleared_fields (entries_of local.info) s local.info.elem.bits (with_home d)
-      ]) (λ u after. all_cleared (layout g) true locals (n + 1) after)) (all_first (IsInLocal g.may) local locals isin).0.0
+      ]) (λ u after. all_cleared (layout g) true locals (n + 1) after)) (all_first (IsInLocal g.may) local locals isin).0
       ∙ none_cleared locals (n + 1) d (all_rest (IsInLocal g.may) local locals isin)

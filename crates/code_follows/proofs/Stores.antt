@@ -23,7 +23,9 @@ use Rattle.code_follows.proofs.Settings.{At, Reaches, Setting, Within, and_one, 
 use Rattle.code_follows.proofs.Values.{Dest}
 use Rattle.code_follows.proofs.ConstantRegisters.{behind_variables}
 use Rattle.code_follows.proofs.Standing.{some_same}
-use Rattle.code_follows.proofs.Words.{held_wide}
+use Rattle.constant_trees.proofs.Words.{converted_below}
+use Rattle.cstar_base.specs.Numbers.{converted}
+use Rattle.code_follows.proofs.Numbers.{Fits, fits_held}
 
 -- names are the same exactly where they are equal
 pub same_is : (x y : Variable) → is_same x y ≡ true → x ≡ y
@@ -99,36 +101,36 @@ module _ (g : Setting) (has : HasRegisters g) (alive : Variable → Type 0) (x :
   abbrev register : ℕ
   register = register_of (layout g) x
 
-  -- the code arrives behind a draft, where the variable has the value
-  pub record IsPut (d : Draft) (s : CodeState) (v : Value) (st : State) (out : Out) (e : Draft) : Type 0 where
+  -- the code arrives behind a draft, where the variable has the value, a number of a type, converted to its own
+  pub record IsPut (elem : Elem) (d : Draft) (s : CodeState) (v : Value) (st : State) (out : Out) (e : Draft) : Type 0 where
     pub grown : (n : ℕ) × Extended d n e
     pub t : CodeState
     pub go : Reaches g s t
     pub at : At g t (length e.code)
     pub word : ℕ
     pub value : v ≡ Scalar word
-    pub small : word < 2 ^ 32
-    pub sim : Sim g alive (with_scalar x word st) t
+    pub small : word < 2 ^ elem.bits
+    pub sim : Sim g alive (with_scalar x (converted info.elem elem word) st) t
     pub keeps : Keeps g d s t
 
-  pub variable_dest : (elem : Elem) (d : Draft) (s0 : CodeState) → elem.bits ≡ 32 → info.elem.bits ≡ 32 → g.begins ≤ d.regs → Dest g has alive elem d s0 (λ v st out e. IsPut d s0 v st out e) register
-  variable_dest elem d s0 wide also free = record {
+  pub variable_dest : (elem : Elem) (d : Draft) (s0 : CodeState) → Fits info.elem elem → g.begins ≤ d.regs → Dest g has alive elem d s0 (λ v st out e. IsPut elem d s0 v st out e) register
+  variable_dest elem d s0 fits free = record {
     puts = λ e n i s st w go here sim grows keeps within plain does few.
         let low = below_free g has x info scalar in
-        let small : w < 2 ^ 32 = subst (λ (k : ℕ). w < 2 ^ k) wide few in
+        let own : ℕ = converted info.elem elem w in
         let inside : register < length s.registers = omega (arith, low, free, grows.regs, within_regs e i within, sim.registers) in
-        let words : held elem w ≡ held info.elem w = held_wide elem w wide small ∙ sym (held_wide info.elem w also small) in
-        let t : CodeState = with_register register (held info.elem w) s in
+        let words : held elem w ≡ held info.elem own = fits_held info.elem elem w fits few in
+        let t : CodeState = with_register register (held info.elem own) s in
         record {
           grown = (n + 1, extended d e (with_instr i e) n 1 grows (and_one g i e));
           t = t;
           go = onto g s0 s t go (one g s t (begins_here g i e s within plain here ∙ does ∙ ap (λ (v : ℕ). Goes (with_register register v s)) words));
           at = at_next g i e s (s.at + 1) here refl;
-          sim = sim_begun g has x info scalar alive alive (λ y living other. living) st s w (subst (λ (k : ℕ). w < 2 ^ k) (sym also) small) inside sim;
-          keeps = keeps_on g d d 0 s0 s t (as_it_was d) keeps (variable_kept g d s x info (held info.elem w) has scalar.0);
+          sim = sim_begun g has x info scalar alive alive (λ y living other. living) st s own (converted_below info.elem elem w) inside sim;
+          keeps = keeps_on g d d 0 s0 s t (as_it_was d) keeps (variable_kept g d s x info (held info.elem own) has scalar.0);
           word = w;
           value = refl;
-          small = small;
+          small = few;
         };
   }
     where

@@ -24,7 +24,7 @@ use Rattle.paris_code.specs.declared.program.Image.{Image}
 use Rattle.paris_code.specs.declared.program.Owner.TheVariants as W
 use Rattle.paris_code.specs.declared.program.Unit.{Unit as CodeUnit}
 use Rattle.paris_code.specs.Proper.{IsUnit}
-use Rattle.code_follows.specs.Fragment.{IsWordVariable, May}
+use Rattle.code_follows.specs.Fragment.{IsScalarVariable, May}
 use Rattle.code_follows.proofs.Beginnings.{start_put, starts_put}
 use Rattle.code_follows.proofs.Declaring.{all_first, all_rest}
 use Rattle.code_follows.proofs.Following.{HasRegisters}
@@ -35,15 +35,15 @@ use Rattle.code_follows.proofs.Standing.{some_same}
 -- ---- what a unit begins with
 
 -- the values with which scalar variables of the file begin
-starts_are : (t : Typed) (l : Layout) (infos : List VarInfo) (n : ℕ) (d : Draft) → All IsWordVariable infos → start_values_of t l infos n d ≡ Makes tt (starts_put l infos n d)
+starts_are : (t : Typed) (l : Layout) (infos : List VarInfo) (n : ℕ) (d : Draft) → All IsScalarVariable infos → start_values_of t l infos n d ≡ Makes tt (starts_put l infos n d)
 unfolding start_values_of start_value_of then_make start_put starts_put
 starts_are t l [] n d all = refl
 starts_are t l (info ∷ infos) n d all =
     ap (λ (o : Option ℕ). then_make (if info.start == 0 then Makes tt d else elim o as (λ _. Made (Unit {0})) [
       | None ↦ Makes tt (scalar_begun l info n d)
       | Some s ↦ elements_begun t l n info.start (entries_of info) 0 d
-    ]) (λ u after. start_values_of t l infos (n + 1) after)) (all_first IsWordVariable info infos all).0
-    ∙ by (info.start == 0) ∙ starts_are t l infos (n + 1) (start_put l info n d) (all_rest IsWordVariable info infos all)
+    ]) (λ u after. start_values_of t l infos (n + 1) after)) (all_first IsScalarVariable info infos all)
+    ∙ by (info.start == 0) ∙ starts_are t l infos (n + 1) (start_put l info n d) (all_rest IsScalarVariable info infos all)
   where
     by : (b : Bool) → then_make (if b then Makes (tt {0}) d else Makes (tt {0}) (scalar_begun l info n d)) (λ u after. start_values_of t l infos (n + 1) after) ≡ start_values_of t l infos (n + 1) (if b then d else scalar_begun l info n d)
     by true = refl
@@ -91,12 +91,12 @@ unfolding own_result_of
 no_own_result None d plain = refl
 no_own_result (Some info) d plain = no_own_field info d (plain info refl)
 
-no_own_fields : (infos : List VarInfo) (d : Draft) → All IsWordVariable infos → own_fields_of infos d ≡ Makes tt d
+no_own_fields : (infos : List VarInfo) (d : Draft) → All IsScalarVariable infos → own_fields_of infos d ≡ Makes tt d
 unfolding own_fields_of then_make
 no_own_fields [] d all = refl
 no_own_fields (info ∷ infos) d all =
-    ap (λ (m : Made (Unit {0})). then_make m (λ u after. own_fields_of infos after)) (no_own_field info d (all_first IsWordVariable info infos all).0)
-    ∙ no_own_fields infos d (all_rest IsWordVariable info infos all)
+    ap (λ (m : Made (Unit {0})). then_make m (λ u after. own_fields_of infos after)) (no_own_field info d (all_first IsScalarVariable info infos all))
+    ∙ no_own_fields infos d (all_rest IsScalarVariable info infos all)
 
 -- `main` begins with the constants and the values of the file's variables, other instances with nothing
 unfoldable pub opened : Typed → Layout → Bool → ℕ → Instance → Draft
@@ -113,12 +113,12 @@ unfolding opened blank
 opened_homes t l true regs i = (starts_take l t.vars.items 0 (constants_put l.constants l.end (blank i.name regs))).1 ∙ (constants_take l.constants l.end (blank i.name regs)).1
 opened_homes t l false regs i = refl
 
-begun_is : (t : Typed) (l : Layout) (is_main : Bool) (regs : ℕ) (i : Instance) → All IsWordVariable t.vars.items → begun t l is_main (blank i.name regs) ≡ Makes tt (opened t l is_main regs i)
+begun_is : (t : Typed) (l : Layout) (is_main : Bool) (regs : ℕ) (i : Instance) → All IsScalarVariable t.vars.items → begun t l is_main (blank i.name regs) ≡ Makes tt (opened t l is_main regs i)
 unfolding begun opened
 begun_is t l true regs i all = starts_are t l t.vars.items 0 (constants_put l.constants l.end (blank i.name regs)) all
 begun_is t l false regs i all = refl
 
-opening_is : (t : Typed) (l : Layout) (is_main : Bool) (regs : ℕ) (i : Instance) → All IsWordVariable t.vars.items → IsScalarInstance i → opening_of t l is_main regs i ≡ Makes tt (opened t l is_main regs i)
+opening_is : (t : Typed) (l : Layout) (is_main : Bool) (regs : ℕ) (i : Instance) → All IsScalarVariable t.vars.items → IsScalarInstance i → opening_of t l is_main regs i ≡ Makes tt (opened t l is_main regs i)
 unfolding opening_of then_make
 opening_is t l is_main regs i files plain =
     ap (λ (m : Made (Unit {0})). then_make m (λ u d. then_make (own_result_of i.result d) (λ v ready. begun t l is_main ready))) (no_own_fields i.params.items (blank i.name regs) plain.0)
@@ -129,7 +129,7 @@ opening_is t l is_main regs i files plain =
 abbrev pub body_from : Typed → Layout → Bool → Instance → Draft → Made (Unit {0})
 body_from t l is_main i start = then_make (body_of t l (body_frame is_main i) i.body start) (λ n end. Makes tt (ended is_main i.body end))
 
-unit_is : (t : Typed) (l : Layout) (is_main : Bool) (regs : ℕ) (i : Instance) → All IsWordVariable t.vars.items → IsScalarInstance i → unit_of t l is_main regs i ≡ body_from t l is_main i (opened t l is_main regs i)
+unit_is : (t : Typed) (l : Layout) (is_main : Bool) (regs : ℕ) (i : Instance) → All IsScalarVariable t.vars.items → IsScalarInstance i → unit_of t l is_main regs i ≡ body_from t l is_main i (opened t l is_main regs i)
 unfolding unit_of then_make
 unit_is t l is_main regs i files plain =
     ap (λ (m : Made (Unit {0})). then_make m (λ u d. then_make (own_result_of i.result d) (λ v ready. then_make (begun t l is_main ready) (λ w start. body_from t l is_main i start)))) (no_own_fields i.params.items (blank i.name regs) plain.0)
@@ -140,7 +140,7 @@ made_same : (d e : Draft) → Makes (tt {0}) d ≡ Makes (tt {0}) e → d ≡ e
 made_same d e same = ap (λ (m : Made (Unit {0})). elim m as (λ _. Draft) [ Makes x after ↦ after | Fails ↦ d ]) same
 
 -- a unit gives no register back
-unit_grows : (t : Typed) (l : Layout) (is_main : Bool) (regs : ℕ) (i : Instance) (h : HasUnit t l is_main regs i) → All IsWordVariable t.vars.items → IsScalarInstance i → regs ≤ h.unit.regs
+unit_grows : (t : Typed) (l : Layout) (is_main : Bool) (regs : ℕ) (i : Instance) (h : HasUnit t l is_main regs i) → All IsScalarVariable t.vars.items → IsScalarInstance i → regs ≤ h.unit.regs
 unit_grows t l is_main regs i h files plain =
     let start = made_same h.start (opened t l is_main regs i) (sym h.begins ∙ opening_is t l is_main regs i files plain) in
     let first : h.start.regs ≡ regs = ap (λ (d : Draft). d.regs) start ∙ opened_regs t l is_main regs i in

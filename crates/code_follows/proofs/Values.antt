@@ -1,11 +1,11 @@
--- The code of a scalar expression of 32 bits gives its value.
+-- The code of a scalar expression gives its value.
 use Rattle.std.proofs.Common.{◌≡◌, ◌∙◌, ℕ, ◌+◌, ◌-◌, ◌<◌, ◌≤◌, ◌^◌, ◌==◌, ◌&&◌, Bool, true, false, not, [], length, slice_index, Option, Some, None, refl, sym, ap, subst, if◌then◌else◌, arith}
 use Rattle.cstar_base.specs.declared.elem.Elem.{Elem}
 use Rattle.cstar_base.specs.declared.faults.RunFault.TheVariants.{DivZero}
 use Rattle.cstar_base.specs.declared.operators.Op.{Op}
 use Rattle.cstar_base.specs.declared.operators.Place.{Place}
-use Rattle.cstar_base.specs.Numbers.{converted}
-use Rattle.cstar_base.specs.Operators.{divides, outcome}
+use Rattle.cstar_base.specs.Numbers.{converted, residue}
+use Rattle.cstar_base.specs.Operators.{divides, outcome, operate}
 use Rattle.cstar_tree.specs.declared.typed.TExpr.{TExpr}
 use Rattle.cstar_tree.specs.declared.typed.TExpr as T
 use Rattle.cstar_tree.specs.declared.typed.UnaryOp.{UnaryOp}
@@ -22,16 +22,14 @@ use Rattle.lower_base.specs.declared.emit.Out.{Out}
 use Rattle.lower_base.specs.declared.emit.Out.TheVariants as O
 use Rattle.lower_base.specs.declared.operators.Machine.{Machine}
 use Rattle.lower_base.specs.declared.operators.Machine.TheVariants as M
-use Rattle.lower_base.specs.Constants.{constant_register}
+use Rattle.lower_base.specs.Constants.{constant_register, word_in}
 use Rattle.lower_base.specs.Drafts.{Draft, Fails, Made, Makes, Plain, a_register, fresh_for, in_register, step as step_of, then_make, with_instr}
 use Rattle.lower_base.specs.Layouts.{register_of}
 use Rattle.lower_base.specs.Operators.{is_signed, machine_of}
 use Rattle.std.specs.Int.{from_bool}
 use Rattle.std.specs.Prelude.{pos, neg_ℤ}
-use Rattle.cstar_base.specs.Operators.{operate}
-use Rattle.cstar_base.specs.Numbers.{residue}
-use Rattle.constant_trees.proofs.Words.{unary_below}
-use Rattle.lower_base.specs.Constants.{word_in}
+use Rattle.constant_trees.proofs.Words.{converted_below, unary_below}
+use Rattle.source_meaning.specs.Reductions.{int_type}
 use Rattle.paris_code.specs.declared.operands.Compare.TheVariants as C
 use Rattle.lower_expr.specs.declared.spots.Spot.{Spot}
 use Rattle.lower_expr.specs.declared.spots.Spot.TheVariants as S
@@ -159,18 +157,18 @@ module _ (g : Setting) (has : HasRegisters g) (alive : Variable → Type 0) wher
   named_scalar : (n : ℕ) (ty : ValueType) (x : Variable) → (v : HasVariable g.typed g.instance n x (plain ty)) → ty.shape ≡ None → IsScalar g x (variable_info v.word (plain ty) v.start)
   named_scalar n ty x v scalar = (v.named, scalar)
 
-  pub variable_follows : (quiet : Bool) (bits n : ℕ) (ty : ValueType) (x : Variable) (d : Draft) (s : CodeState) (st : State) → IsWord ty → HasVariable g.typed g.instance n x (plain ty) → alive x → g.begins ≤ d.regs → At g s (length d.code) → Sim g alive st s
+  pub variable_follows : (quiet : Bool) (bits n : ℕ) (ty : ValueType) (x : Variable) (d : Draft) (s : CodeState) (st : State) → ty.shape ≡ None → HasVariable g.typed g.instance n x (plain ty) → alive x → g.begins ≤ d.regs → At g s (length d.code) → Sim g alive st s
       → Follows g (λ v u out e. Arrives g alive ty.elem quiet d s v u out e) s (Source.Gives (read st (variable_target ty.shape x 0)) st) (read_by g.typed (layout g) (T.Variable ty x) ty bits (λ between. Makes (variable_spot (layout g) ty x) between) d)
   unfolding Follows begun step_of
-  variable_follows quiet bits n ty x d s st word v lives free at sim =
+  variable_follows quiet bits n ty x d s st plain_shape v lives free at sim =
       let info : VarInfo = variable_info v.word (plain ty) v.start in
-      let scalar : IsScalar g x info = named_scalar n ty x v word.0 in
+      let scalar : IsScalar g x info = named_scalar n ty x v plain_shape in
       let moves : (within : Within g (with_instr (I.FrontMove d.regs (register_of (layout g) x)) (with_reg d))) → Arrives g alive ty.elem quiet d s (Scalar (st.scalar x)) st (O.Scalar d.regs) (with_instr (I.FrontMove d.regs (register_of (layout g) x)) (with_reg d)) =
       λ within.
       sets_register ty.elem quiet d (with_reg d) 0 (I.FrontMove d.regs (register_of (layout g) x)) s s st d.regs (st.scalar x) free (stay g s) at sim (and_register d) (keeps_all g d s) within refl
       (ap (λ (w : ℕ). Goes (with_register d.regs w s)) (sim.scalars x info lives scalar)) (omega arith) (omega arith) (sim.small x info lives scalar) in
-      subst (λ (made : Made Out). Follows g (λ v u out e. Arrives g alive ty.elem quiet d s v u out e) s (Source.Gives (read st (variable_target ty.shape x 0)) st) made) (sym (copied ty x bits d word.0))
-      (subst (λ (v : Value). Follows g (λ v u out e. Arrives g alive ty.elem quiet d s v u out e) s (Source.Gives v st) (Makes (O.Scalar d.regs) (with_instr (I.FrontMove d.regs (register_of (layout g) x)) (with_reg d)))) (sym (read_is st ty x word.0)) moves)
+      subst (λ (made : Made Out). Follows g (λ v u out e. Arrives g alive ty.elem quiet d s v u out e) s (Source.Gives (read st (variable_target ty.shape x 0)) st) made) (sym (copied ty x bits d plain_shape))
+      (subst (λ (v : Value). Follows g (λ v u out e. Arrives g alive ty.elem quiet d s v u out e) s (Source.Gives v st) (Makes (O.Scalar d.regs) (with_instr (I.FrontMove d.regs (register_of (layout g) x)) (with_reg d)))) (sym (read_is st ty x plain_shape)) moves)
 
   -- the relation of a value's code
   abbrev pub Value_of : Elem → Bool → Draft → CodeState → Value → State → Out → Draft → Type 0
@@ -447,7 +445,7 @@ module _ (g : Setting) (has : HasRegisters g) (alive : Variable → Type 0) wher
   mapped_is ty f v scalar = ap (λ (o : Option ℕ). each o (λ p. f (at v p))) scalar
 
   -- the code of a unary operator but `+`
-  module _ (ty : ValueType) (op : UnaryOp) (from : Elem) (wide : from.bits ≡ 32) (word : IsWord ty) (other : is_plus op ≡ false) where
+  module _ (ty : ValueType) (op : UnaryOp) (from : Elem) (same : (w : ℕ) → w < 2 ^ from.bits → unary_of op (held from w) ≡ unary_of op w) (word : IsWord ty) (other : is_plus op ≡ false) where
     abbrev behind_operand : ℕ → Out → Draft → Made Out
     behind_operand r v after = negated (layout g) op (O.Scalar r) v after
 
@@ -459,12 +457,13 @@ module _ (g : Setting) (has : HasRegisters g) (alive : Variable → Type 0) wher
       with_operand : (v : Value) (st : State) (out : Out) (e : Draft) → Arrives g alive from true d s v st out e → Follows g R s (Source.Gives (mapped ty (unary_of op) v) st) (behind_operand r out e)
       unfolding negated in_register at
       with_operand v st out e arr =
-          let few : arr.holds.word < 2 ^ 32 = below_word from.bits arr.holds.word wide arr.holds.small in
-          let gives : mapped ty (unary_of op) v ≡ Scalar (unary_of op arr.holds.word) = mapped_is ty (unary_of op) v word.0 ∙ ap (λ (u : Value). Scalar (unary_of op (at u 0))) arr.holds.value in
+          let x : ℕ = held from arr.holds.word in
+          let gives : mapped ty (unary_of op) v ≡ Scalar (unary_of op x) =
+          mapped_is ty (unary_of op) v word.0 ∙ ap (λ (u : Value). Scalar (unary_of op (at u 0))) arr.holds.value ∙ ap Scalar (sym (same arr.holds.word arr.holds.small)) in
           subst (λ (u : Value). Follows g R s (Source.Gives u st) (behind_operand r out e)) (sym gives)
-          (subst (λ (o : Out). Follows g R s (Source.Gives (Scalar (unary_of op arr.holds.word)) st) (behind_operand r o e)) (sym arr.holds.is)
-          (negates op ty other word.1 d e arr.extended.0 s arr.t st R r arr.holds.register arr.holds.word free dest arr.go arr.at arr.sim arr.extended.1 arr.keeps
-          (λ t sim stays. arr.holds.lasts st t sim stays (λ h. refl) ∙ held_wide from arr.holds.word wide few) few))
+          (subst (λ (o : Out). Follows g R s (Source.Gives (Scalar (unary_of op x)) st) (behind_operand r o e)) (sym arr.holds.is)
+          (negates op ty other word.1 d e arr.extended.0 s arr.t st R r arr.holds.register x free dest arr.go arr.at arr.sim arr.extended.1 arr.keeps
+          (λ t sim stays. arr.holds.lasts st t sim stays (λ h. refl)) (converted_below int_type from arr.holds.word)))
 
       pub negated_follows : (st : State) (second : Code) (part : State → Outcome Value) → Does from true part second → At g s (length d.code) → Sim g alive st s
           → Follows g R s (then_do (part st) (λ v after. Source.Gives (mapped ty (unary_of op) v) after)) (then_make (second d) (λ v after. behind_operand r v after))
@@ -482,7 +481,7 @@ module _ (g : Setting) (has : HasRegisters g) (alive : Variable → Type 0) wher
             ap (λ (b : Bool). if b then code d else then_make (fresh_for ty.shape bits d) (λ dest between. then_make (second between) (λ v after. negated (layout g) op dest v after))) other
             ∙ ap (λ (o : Option ℕ). then_make (fresh_for o bits d) (λ dest between. then_make (second between) (λ v after. negated (layout g) op dest v after))) word.0
 
-  -- a conversion to 32 bits has no code
+  -- what a conversion gives
   pub conversion_is : (ty : ValueType) (from : Elem) (v : Value) → ty.shape ≡ None → convert_to ty from v ≡ Scalar (converted ty.elem from (at v 0))
   unfolding convert_to each
   conversion_is ty from v scalar = ap (λ (o : Option ℕ). each o (λ p. converted ty.elem from (at v p))) scalar

@@ -1,10 +1,10 @@
--- Numbers of 32 bits and the words that hold them, and constants.
+-- Numbers and the words of 32 bits that hold them, and constants.
 use Rattle.std.proofs.Common.{◌≡◌, ◌∙◌, ℕ, ◌<◌, ◌^◌, ◌==◌, true, not, Bool, false, Option, Some, None, refl, sym, ap, subst, if◌then◌else◌, arith, List, [], ◌∷◌}
 use Rattle.std.specs.Prelude.{IfSome, is_none}
 use Rattle.std.specs.Int.{from_bool}
 use Rattle.cstar_base.specs.declared.elem.Elem.{Elem}
 use Rattle.cstar_base.specs.Numbers.{converted, number_of, residue, truth_of}
-use Rattle.cstar_base.proofs.NumberLaws.{residue_of_number}
+use Rattle.cstar_base.proofs.NumberLaws.{modulus_in_word, residue_of_number}
 use Rattle.cstar_tree.specs.declared.typed.TExpr.{TExpr}
 use Rattle.cstar_tree.specs.declared.typed.TExpr as T
 use Rattle.cstar_tree.specs.declared.typed.ValueType.{ValueType}
@@ -14,7 +14,7 @@ use Rattle.lower_expr.specs.Steps.{is_kept}
 use Rattle.source_meaning.specs.Constants.{then_value, value_of}
 use Rattle.source_meaning.specs.Reductions.{int_type}
 use Rattle.source_meaning.specs.Values.{nonzero, cast_through, cast_type}
-use Rattle.code_follows.specs.Fragment.{IsIn, IsWord, May}
+use Rattle.code_follows.specs.Fragment.{IsIn, IsScalarType, May}
 use Rattle.code_follows.proofs.Following.{held}
 
 -- a conversion to 32 bits takes the residue of the number
@@ -32,30 +32,34 @@ held_converted to from w wide = wide_converted to from w wide ∙ sym (wide_conv
 pub below_bits : (bits w : ℕ) → bits ≡ 32 → w < 2 ^ 32 → w < 2 ^ bits
 below_bits bits w wide few = subst (λ (n : ℕ). w < 2 ^ n) (sym wide) few
 
+-- a number of any type is a word
+pub within_word : (elem : Elem) (w : ℕ) → w < 2 ^ elem.bits → w < 2 ^ 32
+within_word elem w few = omega (arith, few, modulus_in_word elem.bits elem.signed elem.kind)
+
 pub below_word : (bits w : ℕ) → bits ≡ 32 → w < 2 ^ bits → w < 2 ^ 32
 below_word bits w wide few = subst (λ (n : ℕ). w < 2 ^ n) wide few
 
--- the expressions are of scalar types of 32 bits
-pub word_type : (may : May) (e : TExpr) → IsIn may e → IsWord (type_of e)
+-- the expressions are of scalar types
+pub scalar_of : (may : May) (e : TExpr) → IsIn may e → IsScalarType (type_of e)
 unfolding IsIn
-word_type may (T.Number ty value) h = h.0
-word_type may (T.PositionsOf ty shape value) h = h.0
-word_type may (T.RankOf ty shape value) h = h.0
-word_type may (T.DimOf ty shape axis value) h = h.0
-word_type may (T.Variable ty x) h = h
-word_type may (T.GetChar ty) h = h
-word_type may (T.Brackets' ty p inner) h = subst (λ (y : ValueType). IsWord y) (sym h.0) (word_type may inner h.1)
-word_type may (T.Convert' ty p operand) h = h.0
-word_type may (T.Casts' ty elems p operand) h = h.0
-word_type may (T.Unary' ty op p operand) h = h.0
-word_type may (T.Binary' ty place op p left q right) h = h.0
-word_type may (T.LogicalOr' ty p left q right) h = h.0
-word_type may (T.LogicalAnd' ty p left q right) h = h.0
-word_type may (T.Choice' ty p test q first r second) h = h.0
-word_type may (T.Assign' ty place op p target q value) h = h.0
-word_type may (T.Step' ty op order p target) h = h.0
-word_type may (T.Call' ty index p arguments) h = h.0
-word_type may _ h = absurd h
+scalar_of may (T.Number ty value) h = h.0.0
+scalar_of may (T.PositionsOf ty shape value) h = h.0.0
+scalar_of may (T.RankOf ty shape value) h = h.0.0
+scalar_of may (T.DimOf ty shape axis value) h = h.0.0
+scalar_of may (T.Variable ty x) h = h
+scalar_of may (T.GetChar ty) h = h.0
+scalar_of may (T.Brackets' ty p inner) h = subst (λ (y : ValueType). IsScalarType y) (sym h.0) (scalar_of may inner h.1)
+scalar_of may (T.Convert' ty p operand) h = h.0
+scalar_of may (T.Casts' ty elems p operand) h = h.0
+scalar_of may (T.Unary' ty op p operand) h = h.0.0
+scalar_of may (T.Binary' ty place op p left q right) h = h.0.0
+scalar_of may (T.LogicalOr' ty p left q right) h = h.0.0
+scalar_of may (T.LogicalAnd' ty p left q right) h = h.0.0
+scalar_of may (T.Choice' ty p test q first r second) h = h.0.0
+scalar_of may (T.Assign' ty place op p target q value) h = h.0
+scalar_of may (T.Step' ty op order p target) h = h.0
+scalar_of may (T.Call' ty index p arguments) h = h.0.0
+scalar_of may _ h = absurd h
 
 none_is : (o : Option ℕ) → o ≡ None → is_none o ≡ true
 none_is o e = ap is_none e
@@ -66,18 +70,18 @@ kept may (T.Number ty value) h = none_is ty.shape h.0.0
 kept may (T.PositionsOf ty shape value) h = none_is ty.shape h.0.0
 kept may (T.RankOf ty shape value) h = none_is ty.shape h.0.0
 kept may (T.DimOf ty shape axis value) h = none_is ty.shape h.0.0
-kept may (T.Variable ty x) h = none_is ty.shape h.0
+kept may (T.Variable ty x) h = none_is ty.shape h
 kept may (T.GetChar ty) h = none_is ty.shape h.0
 kept may (T.Brackets' ty p inner) h = kept may inner h.1
 kept may (T.Convert' ty p operand) h = kept may operand h.1
-kept may (T.Casts' ty elems p operand) h = none_is ty.shape h.0.0
+kept may (T.Casts' ty elems p operand) h = none_is ty.shape h.0
 kept may (T.Unary' ty op p operand) h = none_is ty.shape h.0.0
 kept may (T.Binary' ty place op p left q right) h = none_is ty.shape h.0.0
 kept may (T.LogicalOr' ty p left q right) h = none_is ty.shape h.0.0
 kept may (T.LogicalAnd' ty p left q right) h = none_is ty.shape h.0.0
 kept may (T.Choice' ty p test q first r second) h = none_is ty.shape h.0.0
-kept may (T.Assign' ty place op p target q value) h = none_is ty.shape h.0.0
-kept may (T.Step' ty op order p target) h = none_is ty.shape h.0.0
+kept may (T.Assign' ty place op p target q value) h = none_is ty.shape h.0
+kept may (T.Step' ty op order p target) h = none_is ty.shape h.0
 kept may (T.Call' ty index p arguments) h = none_is ty.shape h.0.0
 kept may _ h = absurd h
 
@@ -87,43 +91,58 @@ unfolding cast_through cast_type
 through_below [] from w few = few
 through_below (kind ∷ inner) from w few = converted_below kind (cast_type inner from) (cast_through inner from w)
 
--- the value of a constant is a word
-then_below : (o : Option ℕ) (next : ℕ → Option ℕ) → IfSome o (λ v. v < 2 ^ 32) → ((v : ℕ) → v < 2 ^ 32 → IfSome (next v) (λ w. w < 2 ^ 32)) → IfSome (then_value o next) (λ w. w < 2 ^ 32)
-then_below None next h f = tt
-then_below (Some v) next h f = f v h
+-- the value of a constant is a number of its type
+abbrev Below : ℕ → Option ℕ → Type 0
+Below bits o = IfSome o (λ v. v < 2 ^ bits)
 
-or_below : (b : Bool) (o : Option ℕ) → IfSome o (λ v. v < 2 ^ 32) → IfSome (if b then Some 1 else then_value o (λ w. Some (from_bool (nonzero w)))) (λ w. w < 2 ^ 32)
-or_below true o h = omega arith
-or_below false o h = then_below o _ h (λ w few. from_bool_below (nonzero w))
+then_below : (m k : ℕ) (o : Option ℕ) (next : ℕ → Option ℕ) → Below m o → ((v : ℕ) → v < 2 ^ m → Below k (next v)) → Below k (then_value o next)
+then_below m k None next h f = tt
+then_below m k (Some v) next h f = f v h
 
-and_below : (b : Bool) (o : Option ℕ) → IfSome o (λ v. v < 2 ^ 32) → IfSome (if b then then_value o (λ w. Some (from_bool (nonzero w))) else Some 0) (λ w. w < 2 ^ 32)
-and_below true o h = then_below o _ h (λ w few. from_bool_below (nonzero w))
-and_below false o h = omega arith
+bool_below : (k : ℕ) (b : Bool) → k ≡ 32 → from_bool b < 2 ^ k
+bool_below k b wide = below_bits k (from_bool b) wide (from_bool_below b)
 
-either_below : (b : Bool) (o p : Option ℕ) → IfSome o (λ v. v < 2 ^ 32) → IfSome p (λ v. v < 2 ^ 32) → IfSome (if b then o else p) (λ w. w < 2 ^ 32)
-either_below true o p h k = h
-either_below false o p h k = k
+or_below : (m k : ℕ) (b : Bool) (o : Option ℕ) → k ≡ 32 → Below m o → Below k (if b then Some 1 else then_value o (λ w. Some (from_bool (nonzero w))))
+or_below m k true o wide h = below_bits k 1 wide (omega arith)
+or_below m k false o wide h = then_below m k o _ h (λ w few. bool_below k (nonzero w) wide)
 
-pub constant_below : (may : May) (e : TExpr) → IsIn may e → IfSome (value_of e) (λ v. v < 2 ^ 32)
+and_below : (m k : ℕ) (b : Bool) (o : Option ℕ) → k ≡ 32 → Below m o → Below k (if b then then_value o (λ w. Some (from_bool (nonzero w))) else Some 0)
+and_below m k true o wide h = then_below m k o _ h (λ w few. bool_below k (nonzero w) wide)
+and_below m k false o wide h = below_bits k 0 wide (omega arith)
+
+either_below : (k : ℕ) (b : Bool) (o p : Option ℕ) → Below k o → Below k p → Below k (if b then o else p)
+either_below k true o p h also = h
+either_below k false o p h also = also
+
+of_same_bits : (m k : ℕ) (o : Option ℕ) → m ≡ 32 → k ≡ 32 → Below m o → Below k o
+of_same_bits m k o one two h = subst (λ (n : ℕ). Below n o) (one ∙ sym two) h
+
+pub constant_below : (may : May) (e : TExpr) → IsIn may e → IfSome (value_of e) (λ v. v < 2 ^ (type_of e).elem.bits)
 unfolding IsIn value_of
-constant_below may (T.Number ty value) h = h.1
-constant_below may (T.PositionsOf ty shape value) h = h.1
-constant_below may (T.RankOf ty shape value) h = h.1
-constant_below may (T.DimOf ty shape axis value) h = h.1
+constant_below may (T.Number ty value) h = below_bits ty.elem.bits value h.0.1 h.1
+constant_below may (T.PositionsOf ty shape value) h = below_bits ty.elem.bits value h.0.1 h.1
+constant_below may (T.RankOf ty shape value) h = below_bits ty.elem.bits value h.0.1 h.1
+constant_below may (T.DimOf ty shape axis value) h = below_bits ty.elem.bits value h.0.1 h.1
 constant_below may (T.Variable ty x) h = tt
 constant_below may (T.GetChar ty) h = tt
-constant_below may (T.Brackets' ty p inner) h = constant_below may inner h.1
+constant_below may (T.Brackets' ty p inner) h = subst (λ (y : ValueType). Below y.elem.bits (value_of inner)) (sym h.0) (constant_below may inner h.1)
 constant_below may (T.Convert' ty p operand) h =
-    then_below (value_of operand) _ (constant_below may operand h.1) (λ v few. below_word ty.elem.bits (converted ty.elem (type_of operand).elem v) h.0.1 (converted_below ty.elem (type_of operand).elem v))
+    then_below (type_of operand).elem.bits ty.elem.bits (value_of operand) _ (constant_below may operand h.1) (λ v few. converted_below ty.elem (type_of operand).elem v)
 constant_below may (T.Casts' ty elems p operand) h =
     let from : Elem = (type_of operand).elem in
-    then_below (value_of operand) _ (constant_below may operand h.2) (λ v few. below_word (cast_type elems.items from).bits (cast_through elems.items from v) (ap (λ (e : Elem). e.bits) (sym h.1) ∙ h.0.1) (through_below elems.items from v (below_bits from.bits v (word_type may operand h.2).1 few)))
-constant_below may (T.Unary' ty op p operand) h = then_below (value_of operand) _ (constant_below may operand h.1) (λ v few. unary_below op v few)
+    then_below from.bits ty.elem.bits (value_of operand) _ (constant_below may operand h.2) (λ v few. subst (λ (e : Elem). cast_through elems.items from v < 2 ^ e.bits) (sym h.1) (through_below elems.items from v few))
+constant_below may (T.Unary' ty op p operand) h =
+    then_below (type_of operand).elem.bits ty.elem.bits (value_of operand) _ (constant_below may operand h.1) (λ v few. below_bits ty.elem.bits _ h.0.1 (unary_below op v (within_word (type_of operand).elem v few)))
 constant_below may (T.Binary' ty place op p left q right) h =
-    then_below (value_of left) _ (constant_below may left h.1) (λ v few. then_below (value_of right) _ (constant_below may right h.2) (λ w small. operate_below op (not (type_of left).elem.signed) v w few small))
-constant_below may (T.LogicalOr' ty p left q right) h = then_below (value_of left) _ (constant_below may left h.1) (λ v few. or_below (nonzero v) (value_of right) (constant_below may right h.2))
-constant_below may (T.LogicalAnd' ty p left q right) h = then_below (value_of left) _ (constant_below may left h.1) (λ v few. and_below (nonzero v) (value_of right) (constant_below may right h.2))
-constant_below may (T.Choice' ty p test q first r second) h = then_below (value_of test) _ (constant_below may test h.1) (λ v few. either_below (nonzero v) (value_of first) (value_of second) (constant_below may first h.2) (constant_below may second h.3))
+    then_below (type_of left).elem.bits ty.elem.bits (value_of left) _ (constant_below may left h.1) (λ v few. then_below (type_of right).elem.bits ty.elem.bits (value_of right) _ (constant_below may right h.2) (λ w small.
+    of_same_bits 32 ty.elem.bits _ refl h.0.1 (operate_below op (not (type_of left).elem.signed) v w (below_word (type_of left).elem.bits v h.3.1 few) (below_word (type_of right).elem.bits w h.4.1 small))))
+constant_below may (T.LogicalOr' ty p left q right) h =
+    then_below (type_of left).elem.bits ty.elem.bits (value_of left) _ (constant_below may left h.1) (λ v few. or_below (type_of right).elem.bits ty.elem.bits (nonzero v) (value_of right) h.0.1 (constant_below may right h.2))
+constant_below may (T.LogicalAnd' ty p left q right) h =
+    then_below (type_of left).elem.bits ty.elem.bits (value_of left) _ (constant_below may left h.1) (λ v few. and_below (type_of right).elem.bits ty.elem.bits (nonzero v) (value_of right) h.0.1 (constant_below may right h.2))
+constant_below may (T.Choice' ty p test q first r second) h =
+    then_below (type_of test).elem.bits ty.elem.bits (value_of test) _ (constant_below may test h.1) (λ v few. either_below ty.elem.bits (nonzero v) (value_of first) (value_of second)
+    (of_same_bits (type_of first).elem.bits ty.elem.bits (value_of first) h.4.1 h.0.1 (constant_below may first h.2)) (of_same_bits (type_of second).elem.bits ty.elem.bits (value_of second) h.5.1 h.0.1 (constant_below may second h.3)))
 constant_below may (T.Assign' ty place op p target q value) h = tt
 constant_below may (T.Step' ty op order p target) h = tt
 constant_below may (T.Call' ty index p arguments) h = tt

@@ -1,8 +1,9 @@
 -- A scalar program: `int s = 1; int twice(int p) { return p + p; }
--- int main() { int i; for (i = 0; i < 10; i++) s = twice(s) + i; printf("%d", s); }`
-use Rattle.std.specs.Prelude.{[], ◌∷◌, Some, None}
+-- int main() { char i; for (i = 0; i < 10; i++) s = twice(s) + i; printf("%d", s); }`, where `char` is signed.
+use Rattle.std.specs.Prelude.{[], ◌∷◌, Some, None, true}
 use Rattle.std.specs.declared.alloc.Global.{Global}
-use Rattle.std.proofs.Common.{lit<}
+use Rattle.std.proofs.Common.{lit<, refl}
+use Rattle.cstar_tree.specs.declared.typed.ValueType.{ValueType}
 use Rattle.cstar_base.specs.declared.formats.NumberFormat.TheVariants.{Signed}
 use Rattle.cstar_base.specs.declared.operators.Op.TheVariants as O
 use Rattle.cstar_tree.specs.declared.syntax.AssignOp.TheVariants as A
@@ -19,12 +20,19 @@ use Rattle.cstar_tree.specs.declared.typed.Variable.TheVariants as V
 use Rattle.source_meaning.specs.Examples.{apply, box, num, number, set, variable, vec}
 use Rattle.code_follows.specs.Fragment.{IsScalarProgram}
 
+abbrev pub char : ValueType
+char = record { elem = record { bits = 8; signed = true; kind = refl }; shape = None }
+
 module _ (heap : Global) where
   abbrev pub s : TExpr
   s = T.Variable number (V.File 0)
 
   abbrev pub i : TExpr
-  i = T.Variable number (V.Local 0)
+  i = T.Variable char (V.Local 0)
+
+  -- `i`, promoted
+  abbrev pub promoted : TExpr
+  promoted = T.Convert' number (box heap) i
 
   -- `int twice(int p) { return p + p; }`
   abbrev pub given : TExpr
@@ -44,16 +52,16 @@ module _ (heap : Global) where
 
   -- `s = twice(s) + i;`
   abbrev pub sums : TStmt
-  sums = S.Expression (set heap number A.Set s (apply heap number O.Add (T.Call' number 1 (vec heap (tt ∷ []) (lit< tt)) (more_of-TExpr s end_of-TExpr)) i))
+  sums = S.Expression (set heap number A.Set s (apply heap number O.Add (T.Call' number 1 (vec heap (tt ∷ []) (lit< tt)) (more_of-TExpr s end_of-TExpr)) promoted))
 
   abbrev pub turns : TStmt
-  turns = S.For' (Some (set heap number A.Set i (num 0))) (Some (apply heap number O.Lt i (num 10))) (Some (T.Step' number Sp.Increment R.Postfix (box heap) i)) (box heap) sums
+  turns = S.For' (Some (set heap char A.Set i (T.Convert' char (box heap) (num 0)))) (Some (apply heap number O.Lt promoted (num 10))) (Some (T.Step' char Sp.Increment R.Postfix (box heap) i)) (box heap) sums
 
   abbrev pub prints : TStmt
   prints = S.Expression (T.Printf' number (vec heap (P.Argument Signed ∷ []) (lit< tt)) (vec heap (tt ∷ []) (lit< tt)) (more_of-TExpr s end_of-TExpr))
 
   abbrev pub body : TStmt
-  body = S.Block' (vec heap (record { info = variable number None 0; initial = None } ∷ []) (lit< tt)) (vec heap (tt ∷ tt ∷ []) (lit< tt)) (more_of-TStmt turns (more_of-TStmt prints end_of-TStmt))
+  body = S.Block' (vec heap (record { info = variable char None 0; initial = None } ∷ []) (lit< tt)) (vec heap (tt ∷ tt ∷ []) (lit< tt)) (more_of-TStmt turns (more_of-TStmt prints end_of-TStmt))
 
   abbrev pub main : Instance
   main = record { name = []; current = None; params = vec heap [] (lit< tt); result = Some (variable number None 0); body = body }

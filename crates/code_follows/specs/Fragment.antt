@@ -1,6 +1,11 @@
--- The programs of which it is said so far that their code means them: scalar ones of 32 bits.
-use Rattle.std.specs.Prelude.{ℕ, Bool, true, false, map, slice_get, IsSome, ◌≡◌, ◌<◌, ◌^◌, [], IfSome, Option, Some, None}
+-- The programs of which it is said so far that their code means them: scalar ones. Variables of the file and of
+-- blocks are of any scalar type, `bool`, `char`, `short` or `int`, signed or not. Parameters, results and
+-- arguments have 32 bits, and so have the operands of operators, which typing promotes.
+use Rattle.std.specs.Prelude.{ℕ, Bool, true, false, map, slice_get, IsSome, ◌≡◌, ◌<◌, ◌^◌, [], IfSome, Option, Some, None, ◌⊎◌}
 use Rattle.std.specs.List.{All}
+use Rattle.cstar_base.specs.declared.elem.Elem.{Elem}
+use Rattle.cstar_tree.specs.declared.syntax.AssignOp.{AssignOp}
+use Rattle.cstar_tree.specs.declared.syntax.AssignOp.TheVariants as A
 use Rattle.cstar_tree.specs.declared.typed.TExpr.{TExpr, Row_of-TExpr, end_of-TExpr, more_of-TExpr}
 use Rattle.cstar_tree.specs.declared.typed.TExpr as T
 use Rattle.cstar_tree.specs.declared.typed.TStmt.{TStmt, Row_of-TStmt, end_of-TStmt, more_of-TStmt, Held-TStmt-If-2, None', Some'}
@@ -8,51 +13,71 @@ use Rattle.cstar_tree.specs.declared.typed.TStmt as S
 use Rattle.cstar_tree.specs.declared.typed.Instance.{Instance}
 use Rattle.cstar_tree.specs.declared.typed.Typed.{Typed}
 use Rattle.cstar_tree.specs.declared.typed.LocalVar.{LocalVar}
+use Rattle.cstar_tree.specs.declared.typed.UnaryOp.{UnaryOp}
+use Rattle.cstar_tree.specs.declared.typed.UnaryOp.TheVariants as U
 use Rattle.cstar_tree.specs.declared.typed.ValueType.{ValueType}
 use Rattle.cstar_tree.specs.declared.typed.VarInfo.{VarInfo}
 use Rattle.cstar_tree.specs.Typed.{type_of}
 use Rattle.cstar_tree.specs.Variables.{variables_of}
 use Rattle.source_meaning.specs.Values.{cast_type}
 
+-- a scalar type: of 32 bits or fewer, as every type of elements
+abbrev pub IsScalarType : ValueType → Type 0
+IsScalarType ty = ty.shape ≡ None
+
 -- a scalar type of 32 bits
 abbrev pub IsWord : ValueType → Type 0
 IsWord ty = (ty.shape ≡ None) × (ty.elem.bits ≡ 32)
 
--- a scalar variable of 32 bits, as it is used
+-- a scalar variable, as it is used
 unfoldable pub IsVariable : TExpr → Type 0
-IsVariable (T.Variable ty x) = IsWord ty
+IsVariable (T.Variable ty x) = IsScalarType ty
 IsVariable _ = ⊥
+
+-- a number of a type is one of another without a conversion: they are the same, or both of 32 bits
+abbrev pub Takes : Elem → Elem → Type 0
+Takes to from = (from ≡ to) ⊎ ((from.bits ≡ 32) × (to.bits ≡ 32))
+
+-- what is assigned to a variable: without an operator a number that it takes, else one of 32 bits
+unfoldable pub IsGiven : AssignOp → ValueType → ValueType → Type 0
+IsGiven A.Set to from = Takes to.elem from.elem
+IsGiven _ to from = IsWord from
+
+-- the operand of a unary operator: `!` asks only whether it is 0, the others take one of 32 bits
+unfoldable pub IsOperand : UnaryOp → ValueType → Type 0
+IsOperand U.Not ty = IsScalarType ty
+IsOperand _ ty = IsWord ty
 
 -- which functions may be called, by their instances' numbers: those with a result where its value is used
 abbrev pub May : Type 1
 May = Bool → ℕ → Type 0
 
--- An expression whose value is used: of numbers, variables, `getchar`, operators, conversions, assignments
--- and steps of scalar variables, and calls. Casts lead to 32 bits, by whichever types.
+-- An expression whose value is used: of numbers, variables, `getchar`, operators, conversions and casts to any
+-- scalar types, assignments and steps of scalar variables, and calls.
 unfoldable mutual
   pub IsIn : May → TExpr → Type 0
   IsIn may (T.Number ty value) = IsWord ty × (value < 2 ^ 32)
   IsIn may (T.PositionsOf ty shape value) = IsWord ty × (value < 2 ^ 32)
   IsIn may (T.RankOf ty shape value) = IsWord ty × (value < 2 ^ 32)
   IsIn may (T.DimOf ty shape axis value) = IsWord ty × (value < 2 ^ 32)
-  IsIn may (T.Variable ty x) = IsWord ty
+  IsIn may (T.Variable ty x) = IsScalarType ty
   IsIn may (T.GetChar ty) = IsWord ty
   IsIn may (T.Brackets' ty p inner) = (ty ≡ type_of inner) × IsIn may inner
-  IsIn may (T.Convert' ty p operand) = IsWord ty × IsIn may operand
-  IsIn may (T.Casts' ty elems p operand) = IsWord ty × (ty.elem ≡ cast_type elems.items (type_of operand).elem) × IsIn may operand
-  IsIn may (T.Unary' ty op p operand) = IsWord ty × IsIn may operand
-  IsIn may (T.Binary' ty place op p left q right) = IsWord ty × IsIn may left × IsIn may right
+  IsIn may (T.Convert' ty p operand) = IsScalarType ty × IsIn may operand
+  IsIn may (T.Casts' ty elems p operand) = IsScalarType ty × (ty.elem ≡ cast_type elems.items (type_of operand).elem) × IsIn may operand
+  IsIn may (T.Unary' ty op p operand) = IsWord ty × IsIn may operand × IsOperand op (type_of operand)
+  IsIn may (T.Binary' ty place op p left q right) = IsWord ty × IsIn may left × IsIn may right × IsWord (type_of left) × IsWord (type_of right)
   IsIn may (T.LogicalOr' ty p left q right) = IsWord ty × IsIn may left × IsIn may right
   IsIn may (T.LogicalAnd' ty p left q right) = IsWord ty × IsIn may left × IsIn may right
-  IsIn may (T.Choice' ty p test q first r second) = IsWord ty × IsIn may test × IsIn may first × IsIn may second
-  IsIn may (T.Assign' ty place op p target q value) = IsWord ty × (ty ≡ type_of target) × IsVariable target × IsIn may value
-  IsIn may (T.Step' ty op order p target) = IsWord ty × (ty ≡ type_of target) × IsVariable target
+  IsIn may (T.Choice' ty p test q first r second) = IsWord ty × IsIn may test × IsIn may first × IsIn may second × IsWord (type_of first) × IsWord (type_of second)
+  IsIn may (T.Assign' ty place op p target q value) = IsScalarType ty × (ty ≡ type_of target) × IsVariable target × IsIn may value × IsGiven op (type_of target) (type_of value)
+  IsIn may (T.Step' ty op order p target) = IsScalarType ty × (ty ≡ type_of target) × IsVariable target
   IsIn may (T.Call' ty index p arguments) = IsWord ty × may true index × AreIn may arguments
   IsIn may _ = ⊥
 
   pub AreIn : {n : _} → May → Row_of-TExpr n → Type 0
   AreIn may end_of-TExpr = Unit {0}
-  AreIn may (more_of-TExpr e rest) = IsIn may e × AreIn may rest
+  AreIn may (more_of-TExpr e rest) = IsIn may e × AreIn may rest × IsWord (type_of e)
 
 -- what is evaluated without its value being used: `printf` too, and a call of a function without a result
 unfoldable pub IsEffect : May → TExpr → Type 0
@@ -65,9 +90,13 @@ IsEffect may e = IsIn may e
 abbrev pub IsWordVariable : VarInfo → Type 0
 IsWordVariable info = (info.shape ≡ None) × (info.elem.bits ≡ 32)
 
+-- a scalar variable, as it is declared
+abbrev pub IsScalarVariable : VarInfo → Type 0
+IsScalarVariable info = info.shape ≡ None
+
 -- a variable of a block, with an initialiser or without
 abbrev pub IsInLocal : May → LocalVar → Type 0
-IsInLocal may local = IsWordVariable local.info × IfSome local.initial (IsIn may)
+IsInLocal may local = IsScalarVariable local.info × IfSome local.initial (λ e. IsIn may e × Takes local.info.elem (type_of e).elem)
 
 -- the condition of a loop, or none
 unfoldable pub IsTested : May → Option TExpr → Type 0
@@ -86,7 +115,7 @@ unfoldable mutual
   IsInStatement may (S.For' first test step p body) = IfSome first (IsEffect may) × IsTested may test × IfSome step (IsEffect may) × IsInStatement may body
   IsInStatement may S.Break = Unit {0}
   IsInStatement may S.Continue = Unit {0}
-  IsInStatement may (S.Return e) = IfSome e (IsIn may)
+  IsInStatement may (S.Return e) = IfSome e (λ e. IsIn may e × IsWord (type_of e))
   IsInStatement may _ = ⊥
 
   pub AreInStatements : {n : _} → May → Row_of-TStmt n → Type 0
@@ -124,16 +153,16 @@ unfoldable pub IsFlat : TStmt → Type 0
 IsFlat (S.Block' locals p statements) = variables_of (S.Block' locals p statements) ≡ map (λ (local : LocalVar). local.info) locals.items
 IsFlat _ = ⊥
 
--- a variable of the file, which begins with a number of 32 bits
+-- a variable of the file, which begins with a number of its type
 abbrev pub IsPlainVariable : VarInfo → Type 0
-IsPlainVariable info = IsWordVariable info × (info.start < 2 ^ 32)
+IsPlainVariable info = IsScalarVariable info × (info.start < 2 ^ info.elem.bits)
 
--- a function of scalars of 32 bits
+-- a function of scalars, with parameters and a result of 32 bits
 pub record IsScalarFunction (may : May) (i : Instance) : Type 0 where
   pub params : All IsWordVariable i.params.items
   pub result : (info : VarInfo) → i.result ≡ Some info → IsWordVariable info
   pub body : IsBody may i.body
-  pub locals : All IsWordVariable (variables_of i.body)
+  pub locals : All IsScalarVariable (variables_of i.body)
 
 -- functions of a lesser rank, but `main`, may be called, those with a result where its value is used
 abbrev pub may_of : Typed → (ℕ → ℕ) → ℕ → May
