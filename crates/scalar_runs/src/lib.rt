@@ -6,7 +6,7 @@ ghost use Rattle.scalar_runs.specs.Laws.{ScalarRunsMeanTheirText};
 
 /// A run of the machine on the image of an accepted text, to an end of its code, ends as the text's meaning
 /// does on the same input, leaves the same turns and has printed the same bytes: so far where the text's program
-/// is of functions on scalar variables of 32 bits.
+/// is scalar.
 pub fn scalar_run_means_its_text()
     ensures { ScalarRunsMeanTheirText }
 {}
