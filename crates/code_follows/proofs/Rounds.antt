@@ -85,5 +85,5 @@ module _ (g : Setting) (alive : Variable → Type 0) where
           is = ap (λ (m : Made ℕ). then_make m (λ r after. Makes tt (with_instr (I.FrontJumpNonzero r turn) after))) made.is;
           extended = extended d made.e (with_instr (I.FrontJumpNonzero made.r turn) made.e) (used_length_of g.typed (layout g) 32 true test) 1 made.extended (and_one g (I.FrontJumpNonzero made.r turn) made.e);
           leads = λ free within s st here sim. tested_leads d made.e made.r turn s (passes scope active test st) within
-          (subst (λ (m : Made ℕ). Follows g (Tested g alive d s) s (passes scope active test st) m) made.is (test_follows g alive has every n ready scope active calls_follow test isin c d s st free here sim));
+              (subst (λ (m : Made ℕ). Follows g (Tested g alive d s) s (passes scope active test st) m) made.is (test_follows g alive has every n ready scope active calls_follow test isin c d s st free here sim));
         }
