@@ -13,7 +13,7 @@ use Rattle.code_lengths.specs.Ready.{IsCodable}
 use Rattle.lower_base.specs.Constants.{constant_register, first_free}
 use Rattle.lower_base.specs.Layouts.{layout_of, register_of}
 use Rattle.paris_code.specs.declared.program.Image.{Image}
-use Rattle.code_follows.specs.Fragment.{IsScalarVariable, IsPlainVariable, IsScalarProgram, IsWordVariable, may_of}
+use Rattle.code_follows.specs.Fragment.{IsScalarVariable, IsPlainVariable, IsScalarProgram, may_of}
 use Rattle.code_follows.proofs.Callees.{Callee}
 use Rattle.code_follows.proofs.ConstantRegisters.{behind_variables, below_values}
 use Rattle.code_follows.proofs.Following.{HasRegisters}
@@ -24,13 +24,10 @@ use Rattle.code_follows.proofs.Units.{begins, begins_free, ends, has_registers, 
 scalars_alone : (infos : List VarInfo) → All IsPlainVariable infos → All IsScalarVariable infos
 scalars_alone infos all k other inside = (all k other inside).0
 
-scalar_words : (infos : List VarInfo) → All IsWordVariable infos → All IsScalarVariable infos
-scalar_words infos all k other inside = (all k other inside).0
-
 module _ (t : Typed) (image : Image) (p : IsScalarProgram t) (codable : IsCodable t) (compiled : IsCompiled t image) where
   pub scalars : HasScalarInstances t
   scalars = record {
-    each = λ k i is. let f = p.each k i is in (scalar_words i.params.items f.params, (λ info result. (f.result info result).0), f.locals);
+    each = λ k i is. let f = p.each k i is in (f.params, (λ info result. (f.result info result).0), f.locals);
     names = p.names;
     variables = scalars_alone t.vars.items p.variables;
   }

@@ -1,7 +1,6 @@
 -- A called function runs, from its first instruction to where it goes back.
 use Rattle.std.proofs.Common.{◌≡◌, ◌∙◌, ℕ, zero, suc, take, ◌+◌, ◌-◌, ◌<◌, ◌≤◌, ◌^◌, ◌==◌, ◌&&◌, ◌⊎◌, inl, inr, Bool, true, false, [], ◌∷◌, ◌++◌, List, Vec, Global, length, map, slice_get, slice_index, Option, Some, None, refl, sym, ap, subst, if◌then◌else◌, nat_lt, arith, length-append}
 use Rattle.std.specs.Prelude.{nat_le}
-use Rattle.std.specs.List.{slice_index_or}
 use Rattle.std.proofs.lemmas.Bool.Decides.{nat_tests}
 use Rattle.std.proofs.lemmas.List.{length-map}
 use Rattle.std.proofs.lemmas.Option.{slice_get_within}
@@ -35,8 +34,8 @@ use Rattle.source_meaning.specs.Programs.{by_owner, calls, entered, left, result
 use Rattle.source_meaning.specs.State as Source
 use Rattle.source_meaning.specs.State.{Outcome, State, is_among, then_do}
 use Rattle.source_meaning.specs.Statements.{Broke, Continued, Leaving, Onward, Returned, executed, initialised}
-use Rattle.source_meaning.specs.Values.{Active, Nothing, Scalar, Value, each, number as as_number}
-use Rattle.code_follows.specs.Fragment.{IsPlainVariable, IsWordVariable, IsBody, IsFlat, IsScalarProgram}
+use Rattle.source_meaning.specs.Values.{Active, Scalar, Value, each}
+use Rattle.code_follows.specs.Fragment.{IsPlainVariable, IsBody, IsFlat, IsScalarProgram}
 use Rattle.lower_stmt.specs.declared.statement.Frame.{Frame}
 use Rattle.code_follows.proofs.Activations.{activation, callee_known, scalars, words}
 use Rattle.code_follows.proofs.Bodies.{block_code, block_follows, block_initials, block_stands, row_follows}
@@ -50,7 +49,6 @@ use Rattle.code_follows.proofs.Regions.{result_is, same_constants, same_end}
 use Rattle.code_follows.proofs.Settings.{At, Setting, one, onto, start}
 use Rattle.code_follows.proofs.Standing.{start_in, unit_there}
 use Rattle.code_follows.proofs.Units.{blank_homes, blank_regs, not_main, other_is, unit_at}
-use Rattle.code_follows.proofs.Words.{held_wide}
 
 -- a unit of an image begins where its entry says
 starts_there : (us : List CodeUnit) (number start : ℕ) (u : CodeUnit) → slice_get us number ≡ Some u → slice_index (map start_of (entries_from start us)) number ≡ start_in us number start
@@ -178,19 +176,14 @@ module _ (t : Typed) (image : Image) (p : IsScalarProgram t) (codable : IsCodabl
       bytes = shared.bytes;
     }
       where
-        word_of : (k : ℕ) (info : VarInfo) → slice_get b.params.items k ≡ Some info → info.elem.bits ≡ 32
-        word_of k info named = (all_at IsWordVariable b.params.items k info (p.each number b is).params named).1
-
         value : (x : Variable) (info : VarInfo) → OfFileOrParam x → variable_named t b x ≡ Some info → slice_index s.registers (register_of (layout_of t (words t image p codable compiled) number) x) ≡ held info.elem (opening_state.scalar x)
         value (V.File k) info living named = shared.files k info named
-        value (V.Param k) info living named =
-            let inside = slice_get_within b.params.items k info named in
-            given.words k inside ∙ sym (held_wide info.elem (as_number (slice_index_or arguments k Nothing)) (word_of k info named) (given.few k inside))
+        value (V.Param k) info living named = given.words k info named
         value (V.Local k) info living named = absurd living
 
         small : (x : Variable) (info : VarInfo) → OfFileOrParam x → variable_named t b x ≡ Some info → opening_state.scalar x < 2 ^ info.elem.bits
         small (V.File k) info living named = shared.small k info named
-        small (V.Param k) info living named = subst (λ (n : ℕ). as_number (slice_index_or arguments k Nothing) < 2 ^ n) (sym (word_of k info named)) (given.few k (slice_get_within b.params.items k info named))
+        small (V.Param k) info living named = given.few k info named
         small (V.Local k) info living named = absurd living
 
     -- ---- what its body gives, and where it goes back
@@ -321,12 +314,12 @@ module _ (t : Typed) (image : Image) (p : IsScalarProgram t) (codable : IsCodabl
   pub calls_so : (most number : ℕ) (i : Instance) (is : slice_get t.instances.items number ≡ Some i) (opens : List ℕ)
       → ((index : ℕ) (c : Instance) (is_c : slice_get t.instances.items index ≡ Some c) → 0 < index → (lesser : p.rank index < p.rank number) (m : ℕ) → most ≡ suc m → Enters (running number i is opens most) (known number i is opens most index c is_c lesser) m active)
       → CallsFollow (running number i is opens most) (scope_of t i (calls t most)) active
-  unfolding scope_of
+  unfolding scope_of callee_known
   calls_so most number i is opens enters = record {
     meant = refl;
     plain_files = λ k info found. (all_at IsPlainVariable t.vars.items k info p.variables found).0;
-    value = λ index h. (may_call index h.0 h.1.0 h.1.1 h.1.2, (h.0, h.1.0, h.1.3 refl));
-    effect = λ index h. may_call index h.0 h.1.0 h.1.1 h.1.2;
+    value = λ index given h. ((may_call index h.0 h.1.0 h.1.1 h.1.2, h.1.4), (h.0, h.1.0, h.1.3 refl));
+    effect = λ index given h. (may_call index h.0 h.1.0 h.1.1 h.1.2, h.1.4);
   }
     where
       may_call : (index : ℕ) (c : Instance) (is_c : slice_get t.instances.items index ≡ Some c) → 0 < index → p.rank index < p.rank number → MayCall (running number i is opens most) active index

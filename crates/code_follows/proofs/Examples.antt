@@ -1,6 +1,7 @@
 -- The example is a scalar program.
 use Rattle.std.proofs.Common.{◌≡◌, ◌∙◌, ℕ, zero, suc, ◌-◌, ◌<◌, List, [], ◌∷◌, ◌++◌, slice_get, length, Some, None, Global, refl, sym, ap, subst, arith, lit<, inl}
 use Rattle.std.specs.List.{All}
+use Rattle.cstar_base.specs.declared.elem.Elem.{Elem}
 use Rattle.cstar_tree.specs.declared.typed.Instance.{Instance}
 use Rattle.cstar_tree.specs.declared.typed.TStmt.{end_of-TStmt, more_of-TStmt}
 use Rattle.cstar_tree.specs.declared.typed.VarInfo.{VarInfo}
@@ -46,7 +47,7 @@ rank number = 1 - number
 main_is : (heap : Global) → IsScalarFunction (may_of (example heap) rank 0) (main heap)
 unfolding IsBody IsInStatement IsEffect IsGiven IsIn IsTested IsVariable AreIn AreInStatements AreClosed IsClosed rank
 main_is heap = record {
-  params = all_none IsWordVariable;
+  params = all_none IsScalarVariable;
   result = λ info is. subst IsWordVariable (some_same (variable number None 0) info is) (refl, refl);
   body = (
     all_one (IsInLocal (may_of (example heap) rank 0)) (record { info = variable char None 0; initial = None }) (refl, tt),
@@ -55,9 +56,9 @@ main_is heap = record {
         (refl, refl, refl, (refl, ((refl, refl), omega arith)), inl refl),
         ((refl, refl), (refl, refl), ((refl, refl), omega arith), (refl, refl), (refl, refl)),
         (refl, refl, refl),
-        (refl, refl, refl, ((refl, refl), ((refl, refl), (twice heap, (refl, omega arith, omega arith, λ with_result. refl)), (refl, tt, (refl, refl))), (refl, refl), (refl, refl), (refl, refl)), inl refl),
+        (refl, refl, refl, ((refl, refl), ((refl, refl), (twice heap, (refl, omega arith, omega arith, (λ with_result. refl), (inl refl, tt))), (refl, tt)), (refl, refl), (refl, refl), (refl, refl)), inl refl),
       ),
-      ((refl, tt, (refl, refl)), tt),
+      (((refl, tt), all_one (λ (elem : Elem). elem.bits ≡ 32) number.elem refl), tt),
     ),
     (tt, (tt, tt)),
   );
@@ -67,7 +68,7 @@ main_is heap = record {
 twice_is : (heap : Global) → IsScalarFunction (may_of (example heap) rank 1) (twice heap)
 unfolding IsBody IsInStatement IsIn AreInStatements AreClosed IsClosed
 twice_is heap = record {
-  params = all_one IsWordVariable (variable number None 0) (refl, refl);
+  params = all_one IsScalarVariable (variable number None 0) refl;
   result = λ info is. subst IsWordVariable (some_same (variable number None 0) info is) (refl, refl);
   body = (all_none (IsInLocal (may_of (example heap) rank 1)), ((((refl, refl), refl, refl, (refl, refl), (refl, refl)), (refl, refl)), tt), (tt, tt));
   locals = subst (λ (xs : List VarInfo). All IsScalarVariable xs) (sym (none_own heap)) (all_none IsScalarVariable);

@@ -25,7 +25,7 @@ use Rattle.source_meaning.specs.State as Source
 use Rattle.source_meaning.specs.State.{Early, Outcome, State, then_do}
 use Rattle.source_meaning.specs.Statements.{Broke, Continued, Leaving, Onward, Returned, passes, then_go}
 use Rattle.source_meaning.specs.Values.{Active, Scope, Value, nonzero, number, Scalar}
-use Rattle.code_follows.specs.Fragment.{IsIn, IsVariable, May}
+use Rattle.code_follows.specs.Fragment.{IsIn, IsVariable, May, elems_of}
 use Rattle.code_follows.proofs.Expressions.{operand}
 use Rattle.code_follows.proofs.Callees.{CallsFollow}
 use Rattle.code_follows.proofs.Following.{Arrives, Extends, Follows, HasRegisters, Keeps, Ran, Sim, finishes_later, keeps_all, keeps_on, then_follows, spared_kept, result_kept, delayed, finished}
@@ -194,7 +194,7 @@ module _ (g : Setting) (alive : Variable → Type 0) where
     gives (T.Assign' ty place op p (T.Variable tty x) q value) h = refl
     gives (T.Assign' ty place op p _ q value) h = absurd h.2
     gives (T.Step' ty op order p target) h = tt
-    gives (T.Call' ty index p arguments) h = (calls_follow.value index h.1).1
+    gives (T.Call' ty index p arguments) h = (calls_follow.value index (elems_of arguments) h.1).1
     gives _ h = absurd h
 
     -- the code of a condition is made
