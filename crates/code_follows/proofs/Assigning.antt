@@ -1,6 +1,6 @@
 -- The code of assignments to scalar variables, and of steps.
 use Rattle.std.specs.List.{All}
-use Rattle.std.proofs.Common.{◌≡◌, ◌∙◌, ℕ, ◌+◌, ◌<◌, ◌≤◌, ◌^◌, ◌&&◌, Bool, true, false, not, length-append, Vec, Global, length, slice_index, Option, Some, None, refl, sym, ap, subst, if◌then◌else◌, arith}
+use Rattle.std.proofs.Common.{◌≡◌, ◌∙◌, ℕ, ◌+◌, ◌<◌, ◌≤◌, ◌^◌, ◌&&◌, Bool, true, not, inl, length-append, Vec, Global, length, slice_index, Option, Some, None, refl, sym, ap, subst, if◌then◌else◌, arith}
 use Rattle.std.specs.Prelude.{IfSome}
 use Rattle.cstar_base.specs.declared.elem.Elem.{Elem}
 use Rattle.cstar_base.specs.declared.operators.Op.{Op}
@@ -40,7 +40,7 @@ use Rattle.lower_expr.specs.Values.{Code, call_to, next_of, step_operation, valu
 use Rattle.paris_code.specs.declared.instr.Instr.TheVariants as I
 use Rattle.paris_code.specs.Code.{CodeState}
 use Rattle.source_meaning.specs.Expressions.{evaluated}
-use Rattle.source_meaning.specs.Reductions.{int_type, promoted, working_type}
+use Rattle.source_meaning.specs.Reductions.{promoted, working_type}
 use Rattle.source_meaning.specs.State as Source
 use Rattle.source_meaning.specs.State.{Outcome, State, then_do, with_scalar}
 use Rattle.source_meaning.specs.Targets.{OfScalar, assigned, stepped, variable_target, step_value}
@@ -236,7 +236,7 @@ module _ (g : Setting) (has : HasRegisters g) (alive : Variable → Type 0) (n :
   printf_runs ty pieces p arguments h wide c = printf_follows g has alive n lives ready scope active calls_follow pieces.items arguments h wide c
 
   -- a call whose value is not used
-  call_effect : (ty : ValueType) (index : ℕ) (p : Vec (Unit {0}) Global) (row : _) → g.may false index (elems_of row) → (AreIn g.may) row → HasCode g.typed g.instance n (T.Call' ty index p row) → Runs (λ st. evaluated scope (T.Call' ty index p row) active st) (λ d. effect_of g.typed (layout g) (T.Call' ty index p row) d)
+  call_effect : (ty : ValueType) (index : ℕ) (p : Vec (Unit {0}) Global) (row : _) → g.may.calls None index (elems_of row) → (AreIn g.may) row → HasCode g.typed g.instance n (T.Call' ty index p row) → Runs (λ st. evaluated scope (T.Call' ty index p row) active st) (λ d. effect_of g.typed (layout g) (T.Call' ty index p row) d)
   unfolding evaluated effect_of value_of IsDeclared IsLowerable fresh_for a_register then_make Grows
   call_effect ty index p row may isin c d s st free here sim = by m.callee.callee.result refl
     where
@@ -268,14 +268,14 @@ module _ (g : Setting) (has : HasRegisters g) (alive : Variable → Type 0) (n :
           let found : Calls g.typed index ty (items-the_row-TExpr _ row) = c.lowerable.0 in
           let shaped : IfSome m.callee.callee.result (λ (info : VarInfo). info.shape ≡ ty.shape) = subst (λ (i : Instance). IfSome i.result (λ (info : VarInfo). info.shape ≡ ty.shape)) (some_same found.callee m.callee.callee (sym found.found ∙ m.callee.is)) found.result in
           let of_info : info.shape ≡ ty.shape = subst (λ (o : Option VarInfo). IfSome o (λ (info : VarInfo). info.shape ≡ ty.shape)) is shaped in
-          sym of_info ∙ (m.callee.result info is).0
+          sym of_info ∙ m.callee.result info is
 
       by : (o : Option VarInfo) → m.callee.callee.result ≡ o → Follows g (λ v u out e. Ran g alive d s u e) s (evaluated scope (T.Call' ty index p row) active st) (then_make (fresh_for ty.shape ty.elem.bits d) (λ dest begun. code dest begun))
       by None is = behind_fresh _ (fresh_for ty.shape ty.elem.bits d) is (fresh_grows ty.shape ty.elem.bits d)
       by (Some info) is =
           subst (λ (o : Option ℕ). Follows g (λ v u out e. Ran g alive d s u e) s (evaluated scope (T.Call' ty index p row) active st) (then_make (fresh_for o ty.elem.bits d) (λ dest begun. code dest begun))) (sym (no_shape info is))
-          (follows_other g (Value_of g has alive int_type true d s) (λ v u out e. Ran g alive d s u e) s (evaluated scope (T.Call' ty index p row) active st) (code (O.Scalar d.regs) (with_reg d))
-          (call_follows g has alive (λ k. lives (V.File k) tt) scope active calls_follow m row done known.1 info is int_type refl (with_reg d) s st (Value_of g has alive int_type true d s) d.regs (omega (arith, free)) here sim (fresh_dest g has alive int_type true d s free))
+          (follows_other g (Value_of g has alive info.elem true d s) (λ v u out e. Ran g alive d s u e) s (evaluated scope (T.Call' ty index p row) active st) (code (O.Scalar d.regs) (with_reg d))
+          (call_follows g has alive (λ k. lives (V.File k) tt) scope active calls_follow m row done known.1 info is info.elem (inl refl) (with_reg d) s st (Value_of g has alive info.elem true d s) d.regs (omega (arith, free)) here sim (fresh_dest g has alive info.elem true d s free))
           (λ v u out f arr. record { grown = arr.extended; t = arr.t; go = arr.go; at = arr.at; sim = arr.sim; keeps = arr.keeps }))
 
   -- what has a value of the fragment

@@ -25,7 +25,7 @@ use Rattle.source_meaning.specs.Gets.{Operand}
 use Rattle.source_meaning.specs.Programs.{calls}
 use Rattle.source_meaning.specs.State.{Outcome, State, then_do}
 use Rattle.source_meaning.specs.Values.{Active, Nothing, Scope, Value, number}
-use Rattle.code_follows.specs.Fragment.{AreTaken, IsScalarVariable, elems_of}
+use Rattle.code_follows.specs.Fragment.{AreTaken, IsScalarVariable, Takes, elems_of}
 use Rattle.code_follows.proofs.Arguments.{AreDone, AreHeld, Given, arguments_follow}
 use Rattle.code_follows.proofs.Callees.{AreGiven, Callee, CallsFollow, MayCall}
 use Rattle.code_follows.proofs.Calling.{CameBack, keeps_passed, sim_passed, turn_follows}
@@ -37,7 +37,6 @@ use Rattle.std.proofs.lemmas.Option.{slice_get_within}
 use Rattle.code_follows.proofs.Fresh.{IsFresh, fresh_register, fresh_then}
 use Rattle.code_follows.proofs.Settings.{At, Reaches, Setting, Within, and_one, at_next, begins_here, earlier, layout, one, onto, regs_more, stay}
 use Rattle.code_follows.proofs.Values.{Dest, extends_in_register}
-use Rattle.code_follows.proofs.Words.{below_bits, held_wide}
 
 module _ (g : Setting) (has : HasRegisters g) (alive : Variable → Type 0) where
   -- a register holds a value as a variable's
@@ -143,7 +142,7 @@ module _ (g : Setting) (has : HasRegisters g) (alive : Variable → Type 0) wher
       ∙ ap (λ (o : Option ℕ). from o (λ base. passed index m.callee.callee.result m.callee.callee.params.items outs base 0 dest e)) m.callee.based
 
   scalar_result : {active : Active} {index : ℕ} (m : MayCall g active index) → IsScalarResult m.callee.callee.result
-  scalar_result m info is = (m.callee.result info is).0
+  scalar_result m info is = m.callee.result info is
 
   pub extends_called : {active : Active} {index : ℕ} (m : MayCall g active index) (outs : List Out) (dest : Out) (e : Draft) → Extends g e (called g.typed (layout g) index outs dest e)
   extends_called {active} {index} m outs dest e =
@@ -230,10 +229,10 @@ module _ (g : Setting) (has : HasRegisters g) (alive : Variable → Type 0) wher
 
     -- ---- the result
 
-    result_follows : (elem : Elem) → elem.bits ≡ 32 → (d : Draft) (s0 : CodeState) (R : Value → State → Out → Draft → Type 0) (r : ℕ) → Dest g has alive elem d s0 R r → (c.callee.result ≡ None → ⊥) → (f : Draft) (n : ℕ) (t : CodeState) (u : State) (arguments : List Value) → Extended d n f → Reaches g s0 t
+    result_follows : (info : VarInfo) → c.callee.result ≡ Some info → (elem : Elem) → Takes elem info.elem → (d : Draft) (s0 : CodeState) (R : Value → State → Out → Draft → Type 0) (r : ℕ) → Dest g has alive elem d s0 R r → (f : Draft) (n : ℕ) (t : CodeState) (u : State) (arguments : List Value) → Extended d n f → Reaches g s0 t
         → At g t (length f.code) → Sim g alive u t → Keeps g d s0 t → AreGiven g c arguments t → Follows g R t (called_so arguments u) (Makes (O.Scalar r) (register_result index source r f))
     unfolding begun step_of
-    result_follows elem wide d s0 R r dest some f n t u arguments ext go here sim keeps given = at_once g R t (called_so arguments u) (O.Scalar r) (register_result index source r f) (λ within. all within)
+    result_follows info found elem takes d s0 R r dest f n t u arguments ext go here sim keeps given = at_once g R t (called_so arguments u) (O.Scalar r) (register_result index source r f) (λ within. all within)
       where
         zeroed : Draft
         zeroed = with_instr (I.FrontConst source 0) f
@@ -252,10 +251,10 @@ module _ (g : Setting) (has : HasRegisters g) (alive : Variable → Type 0) wher
 
         puts : (v : Value) (w : State) → CameBack g has alive files_live scope active calls_follow m d s0 v w tt (turn_and_call index zeroed) → Within g (register_result index source r f) → R v w (O.Scalar r) (register_result index source r f)
         puts v w back within =
-            let given = back.given some in
+            let given = back.given info found in
             subst (λ (x : Value). R x w (O.Scalar r) (register_result index source r f)) (sym given.1.0)
             (dest.puts (turn_and_call index zeroed) back.grown.0 (I.FrontMove r source) back.t w given.0 back.go back.at back.sim back.grown.1 back.keeps within refl
-            (ap (λ (x : ℕ). Goes (with_register r x back.t)) (given.1.2 ∙ sym (held_wide elem given.0 wide given.1.1))) (below_bits elem.bits given.0 wide given.1.1))
+            (ap (λ (x : ℕ). Goes (with_register r x back.t)) (given.1.2 ∙ takes_held elem info.elem given.0 takes given.1.1)) (takes_below elem info.elem given.0 takes given.1.1))
 
         all : Within g (register_result index source r f) → Follows g R t (called_so arguments u) (Makes (O.Scalar r) (register_result index source r f))
         all within =
@@ -266,7 +265,7 @@ module _ (g : Setting) (has : HasRegisters g) (alive : Variable → Type 0) wher
             follows_back g R t t1 (called_so arguments u) _ goes
             (with_more g (CameBack g has alive files_live scope active calls_follow m d s0) R t1 (called_so arguments u) tt (O.Scalar r) (turn_and_call index zeroed) (register_result index source r f) 1 (and_one g (I.FrontMove r source) (turn_and_call index zeroed))
             (turn_follows g has alive files_live scope active calls_follow m d s0 zeroed (n + 1) t1 u arguments (extended d f zeroed n 1 ext (and_one g (I.FrontConst source 0) f)) (onto g s0 t t1 go goes) (at_next g (I.FrontConst source 0) f t (t.at + 1) here refl)
-            (sim_passed g has alive files_live scope active calls_follow m u t source 0 touched sim) (λ q kept. keeps_passed g has alive files_live scope active calls_follow m d t source 0 touched high q kept ∙ keeps q kept) given_still (λ some. register_is g t source 0 inside))
+            (sim_passed g has alive files_live scope active calls_follow m u t source 0 touched sim) (λ q kept. keeps_passed g has alive files_live scope active calls_follow m d t source 0 touched high q kept ∙ keeps q kept) given_still (λ info is. register_is g t source 0 inside))
             (λ v w back within. puts v w back within))
 
     -- ---- the call
@@ -278,29 +277,26 @@ module _ (g : Setting) (has : HasRegisters g) (alive : Variable → Type 0) wher
     made_call row dest d = call_to g.typed (layout g) index (values_of g.typed (layout g) true (are_quiet row) row) dest d
 
     -- a call with a result, whose last instruction writes the register of which something is said
-    pub call_follows : {k : Count} (row : Row_of-TExpr k) → AreDone g has alive scope active true (are_quiet row) row → AreTaken c.callee.params.items (elems_of row) → (info : VarInfo) → c.callee.result ≡ Some info → (elem : Elem) → elem.bits ≡ 32
+    pub call_follows : {k : Count} (row : Row_of-TExpr k) → AreDone g has alive scope active true (are_quiet row) row → AreTaken c.callee.params.items (elems_of row) → (info : VarInfo) → c.callee.result ≡ Some info → (elem : Elem) → Takes elem info.elem
         → (d : Draft) (s : CodeState) (st : State) (R : Value → State → Out → Draft → Type 0) (r : ℕ) → g.begins ≤ d.regs → At g s (length d.code) → Sim g alive st s → Dest g has alive elem d s R r → Follows g R s (meant row st) (made_call row (O.Scalar r) d)
     unfolding call_to in_register
-    call_follows row done takes info is elem wide d s st R r free here sim dest =
+    call_follows row done taken info is elem takes d s st R r free here sim dest =
         then_follows g (Given g has alive scope active (are_quiet row) (elems_of row) d s st []) R s s (operands scope row active st) _ _ (λ given after. called g.typed (layout g) index given (O.Scalar r) after) (stay g s)
         (arguments_follow g has alive scope active true (are_quiet row) row (λ calm. calm) done [] d s st free here sim) (λ outs e. extends_called m outs (O.Scalar r) e)
-        (λ given u all e x. with_arguments (are_quiet row) (elems_of row) R (O.Scalar r) d s st given u all e x takes (λ f k t ext go at_t sim_t keeps given_t.
+        (λ given u all e x. with_arguments (are_quiet row) (elems_of row) R (O.Scalar r) d s st given u all e x taken (λ f k t ext go at_t sim_t keeps given_t.
         subst (λ (o : Option VarInfo). Follows g R t (called_so (given_values given) u) (finished index o source 0 (O.Scalar r) f)) (sym is)
         (subst (λ (made : Made Out). Follows g R t (called_so (given_values given) u) made) (sym (result_is index info source (O.Scalar r) f (scalar_result m info is)))
-        (result_follows elem wide d s R r dest some f k t u (given_values given) ext go at_t sim_t keeps given_t))))
-      where
-        some : c.callee.result ≡ None → ⊥
-        some e = let no : Some info ≡ None = sym is ∙ e in cc
+        (result_follows info is elem takes d s R r dest f k t u (given_values given) ext go at_t sim_t keeps given_t))))
 
     -- a call without one
     pub call_runs : {k : Count} (row : Row_of-TExpr k) → AreDone g has alive scope active true (are_quiet row) row → AreTaken c.callee.params.items (elems_of row) → c.callee.result ≡ None
         → (dest : Out) (d : Draft) (s : CodeState) (st : State) → g.begins ≤ d.regs → At g s (length d.code) → Sim g alive st s → Follows g (λ v u out e. Ran g alive d s u e) s (meant row st) (made_call row dest d)
     unfolding call_to finished
-    call_runs row done takes is dest d s st free here sim =
+    call_runs row done taken is dest d s st free here sim =
         then_follows g (Given g has alive scope active (are_quiet row) (elems_of row) d s st []) (λ v u out e. Ran g alive d s u e) s s (operands scope row active st) _ _ (λ given after. called g.typed (layout g) index given dest after) (stay g s)
         (arguments_follow g has alive scope active true (are_quiet row) row (λ calm. calm) done [] d s st free here sim) (λ outs e. extends_called m outs dest e)
-        (λ given u all e x. with_arguments (are_quiet row) (elems_of row) (λ v w out f. Ran g alive d s w f) dest d s st given u all e x takes (λ f k t ext go at_t sim_t keeps given_t.
+        (λ given u all e x. with_arguments (are_quiet row) (elems_of row) (λ v w out f. Ran g alive d s w f) dest d s st given u all e x taken (λ f k t ext go at_t sim_t keeps given_t.
         subst (λ (o : Option VarInfo). Follows g (λ v w out h. Ran g alive d s w h) t (called_so (given_values given) u) (finished index o source 0 dest f)) (sym is)
         (with_more g (CameBack g has alive files_live scope active calls_follow m d s) (λ v w out h. Ran g alive d s w h) t (called_so (given_values given) u) tt O.Nothing (turn_and_call index f) (turn_and_call index f) 0 (as_it_was (turn_and_call index f))
-        (turn_follows g has alive files_live scope active calls_follow m d s f k t u (given_values given) ext go at_t sim_t keeps given_t (λ some. absurd (some is)))
+        (turn_follows g has alive files_live scope active calls_follow m d s f k t u (given_values given) ext go at_t sim_t keeps given_t (λ info found. absurd (let no : Some info ≡ None = sym found ∙ is in cc)))
         (λ v w back within. record { grown = back.grown; t = back.t; go = back.go; at = back.at; sim = back.sim; keeps = back.keeps }))))
