@@ -56,7 +56,7 @@ main_is heap = record {
         (refl, refl, refl, (refl, ((refl, refl), omega arith)), inl refl),
         ((refl, refl), (refl, refl), ((refl, refl), omega arith), (refl, refl), (refl, refl)),
         (refl, refl, refl),
-        (refl, refl, refl, ((refl, refl), (refl, (twice heap, (refl, omega arith, omega arith, (variable number None 0, (refl, inl refl)), (inl refl, tt))), (refl, tt)), (refl, refl), (refl, refl), (refl, refl)), inl refl),
+        (refl, refl, refl, ((refl, refl), refl, (refl, (refl, (twice heap, (refl, omega arith, omega arith, (variable char None 0, (refl, inl refl)), (inl refl, tt))), (refl, tt))), (refl, refl), (refl, refl)), inl refl),
       ),
       (((refl, tt), all_one (λ (elem : Elem). elem.bits ≡ 32) number.elem refl), tt),
     ),
@@ -68,9 +68,9 @@ main_is heap = record {
 twice_is : (heap : Global) → IsScalarFunction (may_of (example heap) rank 1 (twice heap)) (twice heap)
 unfolding IsBody IsInStatement IsIn AreInStatements AreClosed IsClosed
 twice_is heap = record {
-  params = all_one IsScalarVariable (variable number None 0) refl;
-  result = λ info is. subst IsScalarVariable (some_same (variable number None 0) info is) refl;
-  body = (all_none (IsInLocal (may_of (example heap) rank 1 (twice heap))), ((((refl, refl), refl, refl, (refl, refl), (refl, refl)), (λ info is. subst (λ (x : VarInfo). Takes x.elem number.elem) (some_same (variable number None 0) info is) (inl refl))), tt), (tt, tt));
+  params = all_one IsScalarVariable (variable char None 0) refl;
+  result = λ info is. subst IsScalarVariable (some_same (variable char None 0) info is) refl;
+  body = (all_none (IsInLocal (may_of (example heap) rank 1 (twice heap))), (((refl, ((refl, refl), (refl, refl), (refl, refl), (refl, refl), (refl, refl))), (λ info is. subst (λ (x : VarInfo). Takes x.elem char.elem) (some_same (variable char None 0) info is) (inl refl))), tt), (tt, tt));
   locals = subst (λ (xs : List VarInfo). All IsScalarVariable xs) (sym (none_own heap)) (all_none IsScalarVariable);
 }
 

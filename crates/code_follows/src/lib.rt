@@ -14,8 +14,8 @@ pub fn code_means_source()
     ensures { CodeMeansSource }
 {}
 
-/// Such a program is this one, which counts in a `char`, calls a function in a loop and prints: so the law speaks
-/// of some.
+/// Such a program is this one, which counts in a `char`, calls a function of a `char` in a loop and prints: so the
+/// law speaks of some.
 pub fn example_is_scalar()
     ensures { ExampleIsScalar }
 {}
