@@ -13,7 +13,7 @@ use Rattle.code_lengths.specs.Ready.{IsCodable}
 use Rattle.lower_base.specs.Constants.{constant_register, first_free}
 use Rattle.lower_base.specs.Layouts.{layout_of, register_of}
 use Rattle.paris_code.specs.declared.program.Image.{Image}
-use Rattle.code_follows.specs.Fragment.{IsScalarVariable, IsPlainVariable, IsScalarProgram, IsWordVariable, may_of}
+use Rattle.code_follows.specs.Fragment.{IsScalarVariable, IsPlainVariable, IsScalarProgram, may_of}
 use Rattle.code_follows.proofs.Callees.{Callee}
 use Rattle.code_follows.proofs.ConstantRegisters.{behind_variables, below_values}
 use Rattle.code_follows.proofs.Following.{HasRegisters}
@@ -24,13 +24,10 @@ use Rattle.code_follows.proofs.Units.{begins, begins_free, ends, has_registers, 
 scalars_alone : (infos : List VarInfo) → All IsPlainVariable infos → All IsScalarVariable infos
 scalars_alone infos all k other inside = (all k other inside).0
 
-scalar_words : (infos : List VarInfo) → All IsWordVariable infos → All IsScalarVariable infos
-scalar_words infos all k other inside = (all k other inside).0
-
 module _ (t : Typed) (image : Image) (p : IsScalarProgram t) (codable : IsCodable t) (compiled : IsCompiled t image) where
   pub scalars : HasScalarInstances t
   scalars = record {
-    each = λ k i is. let f = p.each k i is in (scalar_words i.params.items f.params, (λ info result. (f.result info result).0), f.locals);
+    each = λ k i is. let f = p.each k i is in (f.params, f.result, f.locals);
     names = p.names;
     variables = scalars_alone t.vars.items p.variables;
   }
@@ -65,7 +62,7 @@ module _ (t : Typed) (image : Image) (p : IsScalarProgram t) (codable : IsCodabl
 
   -- an instance in a run, with the calls that are open and the turns that are left at most
   abbrev pub activation : (number : ℕ) (i : Instance) → slice_get t.instances.items number ≡ Some i → List ℕ → ℕ → Setting
-  activation number i is returns most = setting t image scalars codable compiled number i is (λ r. Spares number r) returns most (may_of t p.rank number)
+  activation number i is returns most = setting t image scalars codable compiled number i is (λ r. Spares number r) returns most (may_of t p.rank number i)
 
   -- a value stands behind all variables and constants
   behind_all : (number k r : ℕ) → first_of k ≤ r → first_free (layout_of t words number) ≤ r
@@ -88,7 +85,7 @@ module _ (t : Typed) (image : Image) (p : IsScalarProgram t) (codable : IsCodabl
 
   pub registers_there : (number : ℕ) (i : Instance) (is : slice_get t.instances.items number ≡ Some i) (returns : List ℕ) (most : ℕ) → HasRegisters (activation number i is returns most)
   registers_there number i is returns most =
-      has_registers t image scalars codable compiled number i is (λ r. Spares number r) returns most (may_of t p.rank number) variables (λ r spared low high. spared.1 (touched number i r is (inr (low, high))))
+      has_registers t image scalars codable compiled number i is (λ r. Spares number r) returns most (may_of t p.rank number i) variables (λ r spared low high. spared.1 (touched number i r is (inr (low, high))))
       (λ spared. spared.1 (touched number i _ is (inl (result_own t scalars words number i is))))
     where
       variables : (r : ℕ) → Spares number r → (x : Variable) (info : VarInfo) → variable_named t i x ≡ Some info → r ≡ register_of (layout_of t words number) x → ⊥

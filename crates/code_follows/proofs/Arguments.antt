@@ -1,9 +1,9 @@
 -- How a list of arguments is evaluated: each value stands in a register when the last one does.
-use Rattle.std.proofs.Common.{◌≡◌, ◌∙◌, ℕ, suc, ◌+◌, ◌≤◌, Bool, true, List, [], ◌∷◌, ◌++◌, length, refl, sym, ap, arith, append_assoc}
+use Rattle.std.proofs.Common.{◌≡◌, ◌∙◌, ℕ, ◌+◌, ◌≤◌, Bool, true, List, [], ◌∷◌, ◌++◌, length, map, refl, sym, ap, arith, append_assoc}
 use Rattle.std.proofs.lemmas.List.{append-nil}
 use mathlib.Core.Former.{Count}
 use Rattle.cstar_base.specs.declared.elem.Elem.{Elem}
-use Rattle.cstar_tree.specs.declared.typed.TExpr.{TExpr, Row_of-TExpr, end_of-TExpr, items-the_row-TExpr, more_of-TExpr}
+use Rattle.cstar_tree.specs.declared.typed.TExpr.{TExpr, Row_of-TExpr, end_of-TExpr, more_of-TExpr}
 use Rattle.cstar_tree.specs.declared.typed.Variable.{Variable}
 use Rattle.cstar_tree.specs.Typed.{type_of}
 use Rattle.code_lengths.specs.Growth.{Extended}
@@ -21,6 +21,7 @@ use Rattle.source_meaning.specs.Gets.{Operand}
 use Rattle.source_meaning.specs.State as Source
 use Rattle.source_meaning.specs.State.{Outcome, State, then_do, with_output}
 use Rattle.source_meaning.specs.Values.{Active, Scope, Value}
+use Rattle.code_follows.specs.Fragment.{elems_of}
 use Rattle.code_follows.proofs.Following.{Arrives, Extends, Follows, HasRegisters, Holds, Keeps, Sim, extends_then, finishes_later, keeps_all, keeps_on, knowing, then_follows}
 use Rattle.code_follows.proofs.Settings.{At, Reaches, Setting, layout, onto, stay}
 use Rattle.code_follows.proofs.Values.{Does, Value_of}
@@ -38,7 +39,7 @@ module _ (g : Setting) (has : HasRegisters g) (alive : Variable → Type 0) (sco
   -- each value stands in its register
   unfoldable pub AreHeld : Bool → List Operand → List Out → Draft → State → CodeState → Type 0
   AreHeld quiet [] [] e st s = Unit {0}
-  AreHeld quiet (o ∷ given) (out ∷ outs) e st s = (o.elem.bits ≡ 32) × Holds g alive o.elem quiet e st s out o.value × AreHeld quiet given outs e st s
+  AreHeld quiet (o ∷ given) (out ∷ outs) e st s = Holds g alive o.elem quiet e st s out o.value × AreHeld quiet given outs e st s
   AreHeld quiet _ _ e st s = ⊥
 
   holds_later : (elem : Elem) (quiet : Bool) (d e : Draft) (k : ℕ) (st u : State) (s t : CodeState) (out : Out) (v : Value) → Extended d k e → Keeps g d s t → (quiet ≡ true → u ≡ st) → Holds g alive elem quiet d st s out v → Holds g alive elem quiet e u t out v
@@ -51,7 +52,7 @@ module _ (g : Setting) (has : HasRegisters g) (alive : Variable → Type 0) (sco
     lasts = λ w later sim kept stays. h.lasts w later sim (keeps_on g d e k s t later x keeps kept) (λ calm. stays calm ∙ same calm);
   }
 
-  pub record Given (quiet_so : Bool) (many : ℕ) (d : Draft) (s : CodeState) (st : State) (outs : List Out) (given : List Operand) (u : State) (all : List Out) (e : Draft) : Type 0 where
+  pub record Given (quiet_so : Bool) (elems : List Elem) (d : Draft) (s : CodeState) (st : State) (outs : List Out) (given : List Operand) (u : State) (all : List Out) (e : Draft) : Type 0 where
     pub grown : (k : ℕ) × Extended d k e
     pub t : CodeState
     pub go : Reaches g s t
@@ -62,20 +63,16 @@ module _ (g : Setting) (has : HasRegisters g) (alive : Variable → Type 0) (sco
     pub more : List Out
     pub is : all ≡ outs ++ more
     pub held : AreHeld quiet_so given more e u t
-    pub long : length given ≡ many
+    pub are_of : map (λ (o : Operand). o.elem) given ≡ elems
 
   -- the code of an expression as one of a list gives its value
   pub record IsDone (own quiet : Bool) (e : TExpr) : Type 0 where
-    pub wide : (type_of e).elem.bits ≡ 32
     pub grows : (d : Draft) → Extends g d (operand_by g.typed (layout g) (list_bits own e) (value_of g.typed (layout g) (list_bits own e) e) quiet e d)
     pub does : Does g has alive (type_of e).elem quiet (λ st. evaluated scope e active st) (λ d. operand_by g.typed (layout g) (list_bits own e) (value_of g.typed (layout g) (list_bits own e) e) quiet e d)
 
   unfoldable pub AreDone : {k : Count} → Bool → Bool → Row_of-TExpr k → Type 0
   AreDone own quiet end_of-TExpr = Unit {0}
   AreDone own quiet (more_of-TExpr e rest) = IsDone own quiet e × AreDone own quiet rest
-
-  abbrev pub long_row : {k : Count} → Row_of-TExpr k → ℕ
-  long_row row = length (items-the_row-TExpr _ row)
 
   pub arguments_grow : {k : Count} (own quiet : Bool) (row : Row_of-TExpr k) → AreDone own quiet row → (outs : List Out) (d : Draft) → Extends g d (values_of g.typed (layout g) own quiet row outs d)
   unfolding values_of AreDone Extends
@@ -89,7 +86,7 @@ module _ (g : Setting) (has : HasRegisters g) (alive : Variable → Type 0) (sco
   first_quiet quiet e rest calm is = Quiet.both (is_quiet e) (are_quiet rest) (calm is)
 
   pub arguments_follow : {k : Count} (own quiet : Bool) (row : Row_of-TExpr k) → (quiet ≡ true → are_quiet row ≡ true) → AreDone own quiet row → (outs : List Out) (d : Draft) (s : CodeState) (st : State) → g.begins ≤ d.regs → At g s (length d.code) → Sim g alive st s
-      → Follows g (Given quiet (long_row row) d s st outs) s (operands scope row active st) (values_of g.typed (layout g) own quiet row outs d)
+      → Follows g (Given quiet (elems_of row) d s st outs) s (operands scope row active st) (values_of g.typed (layout g) own quiet row outs d)
   unfolding AreDone operands values_of Follows AreHeld state_behind
   arguments_follow own quiet end_of-TExpr calm c outs d s st free here sim = λ within. record {
     grown = (0, as_it_was d);
@@ -102,22 +99,22 @@ module _ (g : Setting) (has : HasRegisters g) (alive : Variable → Type 0) (sco
     more = [];
     is = sym (append-nil outs);
     held = tt;
-    long = refl;
+    are_of = refl;
   }
   arguments_follow own quiet (more_of-TExpr e rest) calm c outs d s st free here sim =
-      then_follows g (λ v u out after. (evaluated scope e active st ≡ Source.Gives v u) × Arrives g alive (type_of e).elem quiet d s v u out after) (Given quiet (long_row (more_of-TExpr e rest)) d s st outs) s s (evaluated scope e active st) _ _ _ (stay g s)
+      then_follows g (λ v u out after. (evaluated scope e active st ≡ Source.Gives v u) × Arrives g alive (type_of e).elem quiet d s v u out after) (Given quiet (elems_of (more_of-TExpr e rest)) d s st outs) s s (evaluated scope e active st) _ _ _ (stay g s)
       (knowing g (Value_of g has alive (type_of e).elem quiet d s) s (evaluated scope e active st) _ (c.0.does d s st free here sim))
       (λ v after. arguments_grow own quiet rest c.1 (outs ++ v ∷ []) after)
       (λ v u out after both. first v u out after both (λ f regs. arguments_follow own quiet rest (λ is. (first_quiet quiet e rest calm is).1) c.1 (outs ++ out ∷ []) after f u regs))
     where
       first : (v : Value) (u : State) (out : Out) (after : Draft) → (both : (evaluated scope e active st ≡ Source.Gives v u) × Arrives g alive (type_of e).elem quiet d s v u out after)
-          → ((t : CodeState) → g.begins ≤ after.regs → At g t (length after.code) → Sim g alive u t → Follows g (Given quiet (long_row rest) after t u (outs ++ out ∷ [])) t (operands scope rest active u) (values_of g.typed (layout g) own quiet rest (outs ++ out ∷ []) after))
-          → Follows g (Given quiet (long_row (more_of-TExpr e rest)) d s st outs) s (then_do (operands scope rest active u) (λ given later. Source.Gives (record { elem = (type_of e).elem; value = v } ∷ given) later)) (values_of g.typed (layout g) own quiet rest (outs ++ out ∷ []) after)
+          → ((t : CodeState) → g.begins ≤ after.regs → At g t (length after.code) → Sim g alive u t → Follows g (Given quiet (elems_of rest) after t u (outs ++ out ∷ [])) t (operands scope rest active u) (values_of g.typed (layout g) own quiet rest (outs ++ out ∷ []) after))
+          → Follows g (Given quiet (elems_of (more_of-TExpr e rest)) d s st outs) s (then_do (operands scope rest active u) (λ given later. Source.Gives (record { elem = (type_of e).elem; value = v } ∷ given) later)) (values_of g.typed (layout g) own quiet rest (outs ++ out ∷ []) after)
       first v u out after both others =
           let arr = both.1 in
           let longer = arr.extended.1.regs in
           let still : quiet ≡ true → u ≡ st = λ is. sym (ap (λ (o : Outcome Value). state_behind o) both.0) ∙ Quiet.expression scope e active st (first_quiet quiet e rest calm is).0 in
-          moved (Given quiet (long_row rest) after arr.t u (outs ++ out ∷ [])) (Given quiet (long_row (more_of-TExpr e rest)) d s st outs) s arr.t (operands scope rest active u) (λ given. record { elem = (type_of e).elem; value = v } ∷ given) _ arr.go (others arr.t (omega (arith, free, longer)) arr.at arr.sim)
+          moved (Given quiet (elems_of rest) after arr.t u (outs ++ out ∷ [])) (Given quiet (elems_of (more_of-TExpr e rest)) d s st outs) s arr.t (operands scope rest active u) (λ given. record { elem = (type_of e).elem; value = v } ∷ given) _ arr.go (others arr.t (omega (arith, free, longer)) arr.at arr.sim)
           (λ given w all later r. record {
             grown = (arr.extended.0 + r.grown.0, extended d after later arr.extended.0 r.grown.0 arr.extended.1 r.grown.1);
             t = r.t;
@@ -128,6 +125,6 @@ module _ (g : Setting) (has : HasRegisters g) (alive : Variable → Type 0) (sco
             same = λ is. r.same is ∙ still is;
             more = out ∷ r.more;
             is = r.is ∙ append_assoc outs (out ∷ []) r.more;
-            held = (c.0.wide, holds_later (type_of e).elem quiet after later r.grown.0 u w arr.t r.t out v r.grown.1 r.keeps r.same arr.holds, r.held);
-            long = ap suc r.long;
+            held = (holds_later (type_of e).elem quiet after later r.grown.0 u w arr.t r.t out v r.grown.1 r.keeps r.same arr.holds, r.held);
+            are_of = ap (λ (elems : List Elem). (type_of e).elem ∷ elems) r.are_of;
           })

@@ -1,5 +1,6 @@
 -- The code of assignments to scalar variables, and of steps.
-use Rattle.std.proofs.Common.{◌≡◌, ◌∙◌, ℕ, ◌+◌, ◌<◌, ◌≤◌, ◌^◌, ◌&&◌, Bool, true, false, not, length-append, Vec, Global, length, slice_index, Option, Some, None, refl, sym, ap, subst, if◌then◌else◌, arith}
+use Rattle.std.specs.List.{All}
+use Rattle.std.proofs.Common.{◌≡◌, ◌∙◌, ℕ, ◌+◌, ◌<◌, ◌≤◌, ◌^◌, ◌&&◌, Bool, true, not, inl, length-append, Vec, Global, length, slice_index, Option, Some, None, refl, sym, ap, subst, if◌then◌else◌, arith}
 use Rattle.std.specs.Prelude.{IfSome}
 use Rattle.cstar_base.specs.declared.elem.Elem.{Elem}
 use Rattle.cstar_base.specs.declared.operators.Op.{Op}
@@ -39,18 +40,18 @@ use Rattle.lower_expr.specs.Values.{Code, call_to, next_of, step_operation, valu
 use Rattle.paris_code.specs.declared.instr.Instr.TheVariants as I
 use Rattle.paris_code.specs.Code.{CodeState}
 use Rattle.source_meaning.specs.Expressions.{evaluated}
-use Rattle.source_meaning.specs.Reductions.{int_type, promoted, working_type}
+use Rattle.source_meaning.specs.Reductions.{promoted, working_type}
 use Rattle.source_meaning.specs.State as Source
 use Rattle.source_meaning.specs.State.{Outcome, State, then_do, with_scalar}
 use Rattle.source_meaning.specs.Targets.{OfScalar, assigned, stepped, variable_target, step_value}
 use Rattle.source_meaning.specs.Values.{Active, Scalar, Scope, Value, number}
-use Rattle.code_follows.specs.Fragment.{AreIn, IsEffect, IsIn, IsVariable, IsGiven, IsWord, Takes}
+use Rattle.code_follows.specs.Fragment.{AreIn, IsEffect, IsIn, IsVariable, IsGiven, IsWord, Takes, elems_of}
 use Rattle.code_follows.proofs.Changing.{no_place, only_set, operated_set_is, plain_type, scalar_type, set_is, stepped_is, stepping}
-use Rattle.code_follows.proofs.CallValues.{call_code, many_arguments}
+use Rattle.code_follows.proofs.CallValues.{call_code}
 use Rattle.code_follows.proofs.Expressions.{arguments_do, assign_names, brackets_code, operand, step_names, target_named, value_follows}
 use Rattle.code_follows.proofs.Printing.{printf_code, printf_follows}
-use Rattle.code_follows.proofs.Arguments.{AreDone, long_row}
-use Rattle.code_follows.proofs.Callees.{CallsFollow, MayCall}
+use Rattle.code_follows.proofs.Arguments.{AreDone}
+use Rattle.code_follows.proofs.Callees.{CallsFollow, MayCall, TakesThese}
 use Rattle.code_follows.proofs.Passing.{call_follows, call_runs}
 use Rattle.code_follows.proofs.Following.{Arrives, Extends, Follows, HasRegisters, IsScalar, Ran, Sim, follows_other, keeps_all, keeps_less, then_follows, then_gives, then_silent}
 use Rattle.code_follows.proofs.Putting.{Put, put_follows}
@@ -229,24 +230,24 @@ module _ (g : Setting) (has : HasRegisters g) (alive : Variable → Type 0) (n :
       subst (λ (made : Made Out). Follows g (λ v u out e. Ran g alive d s u e) s (stepped scope active op order (scalar_type tty.elem) (OfScalar x) st) made) (sym (steps_it tty.elem x op whole d))
       (stepped_follows g has alive n lives ready scope active calls_follow x (variable_info w.word (plain (scalar_type tty.elem)) w.start) (lives x w.declared) (w.named, refl) no_place op order d s st free here sim)) v
 
-  printf_runs : (ty : ValueType) (pieces : Vec Piece Global) (p : Vec (Unit {0}) Global) (arguments : _) → (AreIn g.may) arguments → HaveCode g.typed g.instance n arguments
+  printf_runs : (ty : ValueType) (pieces : Vec Piece Global) (p : Vec (Unit {0}) Global) (arguments : _) → (AreIn g.may) arguments → All (λ (elem : Elem). elem.bits ≡ 32) (elems_of arguments) → HaveCode g.typed g.instance n arguments
       → Runs (λ st. evaluated scope (T.Printf' ty pieces p arguments) active st) (λ d. effect_of g.typed (layout g) (T.Printf' ty pieces p arguments) d)
   unfolding evaluated effect_of value_of
-  printf_runs ty pieces p arguments h c = printf_follows g has alive n lives ready scope active calls_follow pieces.items arguments h c
+  printf_runs ty pieces p arguments h wide c = printf_follows g has alive n lives ready scope active calls_follow pieces.items arguments h wide c
 
   -- a call whose value is not used
-  call_effect : (ty : ValueType) (index : ℕ) (p : Vec (Unit {0}) Global) (row : _) → g.may false index → (AreIn g.may) row → HasCode g.typed g.instance n (T.Call' ty index p row) → Runs (λ st. evaluated scope (T.Call' ty index p row) active st) (λ d. effect_of g.typed (layout g) (T.Call' ty index p row) d)
+  call_effect : (ty : ValueType) (index : ℕ) (p : Vec (Unit {0}) Global) (row : _) → g.may.calls None index (elems_of row) → (AreIn g.may) row → HasCode g.typed g.instance n (T.Call' ty index p row) → Runs (λ st. evaluated scope (T.Call' ty index p row) active st) (λ d. effect_of g.typed (layout g) (T.Call' ty index p row) d)
   unfolding evaluated effect_of value_of IsDeclared IsLowerable fresh_for a_register then_make Grows
   call_effect ty index p row may isin c d s st free here sim = by m.callee.callee.result refl
     where
+      known : TakesThese g active index (elems_of row)
+      known = calls_follow.effect index (elems_of row) may
+
       m : MayCall g active index
-      m = calls_follow.effect index may
+      m = known.0
 
       done : AreDone g has alive scope active true (are_quiet row) row
       done = arguments_do g has alive n lives ready scope active calls_follow true (are_quiet row) row isin (call_code g has alive n lives ready scope active calls_follow ty index p row c)
-
-      many : length m.callee.callee.params.items ≡ long_row g has alive scope active row
-      many = many_arguments g has alive n lives ready scope active calls_follow ty index p row m c
 
       code : Out → Draft → Made Out
       code dest begun = call_to g.typed (layout g) index (values_of g.typed (layout g) true (are_quiet row) row) dest begun
@@ -259,7 +260,7 @@ module _ (g : Setting) (has : HasRegisters g) (alive : Variable → Type 0) (n :
           let regs = x.regs in
           let same : length begun.code ≡ length d.code = let more = length-append d.code x.more in let none = x.long in omega (arith, ap length x.code, more, none) in
           follows_other g (λ v u out e. Ran g alive begun s u e) (λ v u out e. Ran g alive d s u e) s (evaluated scope (T.Call' ty index p row) active st) (code dest begun)
-          (call_runs g has alive (λ k. lives (V.File k) tt) scope active calls_follow m row done many is dest begun s st (omega (arith, free, regs)) (let there = here in omega (arith, there, same)) sim)
+          (call_runs g has alive (λ k. lives (V.File k) tt) scope active calls_follow m row done known.1 is dest begun s st (omega (arith, free, regs)) (let there = here in omega (arith, there, same)) sim)
           (λ v u out e r. record { grown = (0 + r.grown.0, extended d begun e 0 r.grown.0 x r.grown.1); t = r.t; go = r.go; at = r.at; sim = r.sim; keeps = keeps_less g d begun s r.t regs r.keeps })
 
       no_shape : (info : VarInfo) → m.callee.callee.result ≡ Some info → ty.shape ≡ None
@@ -267,14 +268,14 @@ module _ (g : Setting) (has : HasRegisters g) (alive : Variable → Type 0) (n :
           let found : Calls g.typed index ty (items-the_row-TExpr _ row) = c.lowerable.0 in
           let shaped : IfSome m.callee.callee.result (λ (info : VarInfo). info.shape ≡ ty.shape) = subst (λ (i : Instance). IfSome i.result (λ (info : VarInfo). info.shape ≡ ty.shape)) (some_same found.callee m.callee.callee (sym found.found ∙ m.callee.is)) found.result in
           let of_info : info.shape ≡ ty.shape = subst (λ (o : Option VarInfo). IfSome o (λ (info : VarInfo). info.shape ≡ ty.shape)) is shaped in
-          sym of_info ∙ (m.callee.result info is).0
+          sym of_info ∙ m.callee.result info is
 
       by : (o : Option VarInfo) → m.callee.callee.result ≡ o → Follows g (λ v u out e. Ran g alive d s u e) s (evaluated scope (T.Call' ty index p row) active st) (then_make (fresh_for ty.shape ty.elem.bits d) (λ dest begun. code dest begun))
       by None is = behind_fresh _ (fresh_for ty.shape ty.elem.bits d) is (fresh_grows ty.shape ty.elem.bits d)
       by (Some info) is =
           subst (λ (o : Option ℕ). Follows g (λ v u out e. Ran g alive d s u e) s (evaluated scope (T.Call' ty index p row) active st) (then_make (fresh_for o ty.elem.bits d) (λ dest begun. code dest begun))) (sym (no_shape info is))
-          (follows_other g (Value_of g has alive int_type true d s) (λ v u out e. Ran g alive d s u e) s (evaluated scope (T.Call' ty index p row) active st) (code (O.Scalar d.regs) (with_reg d))
-          (call_follows g has alive (λ k. lives (V.File k) tt) scope active calls_follow m row done many info is int_type refl (with_reg d) s st (Value_of g has alive int_type true d s) d.regs (omega (arith, free)) here sim (fresh_dest g has alive int_type true d s free))
+          (follows_other g (Value_of g has alive info.elem true d s) (λ v u out e. Ran g alive d s u e) s (evaluated scope (T.Call' ty index p row) active st) (code (O.Scalar d.regs) (with_reg d))
+          (call_follows g has alive (λ k. lives (V.File k) tt) scope active calls_follow m row done known.1 info is info.elem (inl refl) (with_reg d) s st (Value_of g has alive info.elem true d s) d.regs (omega (arith, free)) here sim (fresh_dest g has alive info.elem true d s free))
           (λ v u out f arr. record { grown = arr.extended; t = arr.t; go = arr.go; at = arr.at; sim = arr.sim; keeps = arr.keeps }))
 
   -- what has a value of the fragment
@@ -309,7 +310,7 @@ module _ (g : Setting) (has : HasRegisters g) (alive : Variable → Type 0) (n :
 
   pub effect_follows : (e : TExpr) → (IsEffect g.may) e → HasCode g.typed g.instance n e → Runs (λ st. evaluated scope e active st) (λ d. effect_of g.typed (layout g) e d)
   unfolding IsEffect IsIn effect_of evaluated
-  effect_follows (T.Printf' ty pieces p arguments) h c = printf_runs ty pieces p arguments h (printf_code g has alive n lives ready scope active calls_follow ty pieces p arguments c)
+  effect_follows (T.Printf' ty pieces p arguments) h c = printf_runs ty pieces p arguments h.0 h.1 (printf_code g has alive n lives ready scope active calls_follow ty pieces p arguments c)
   effect_follows (T.Call' ty index p arguments) h c = call_effect ty index p arguments h.0 h.1 c
   effect_follows (T.Number ty value) h c = value_effect (T.Number ty value) h c
   effect_follows (T.PositionsOf ty shape value) h c = value_effect (T.PositionsOf ty shape value) h c

@@ -15,7 +15,7 @@ use Rattle.paris_code.specs.declared.instr.Instr.TheVariants as I
 use Rattle.paris_code.specs.Code.{CodeState, Goes, begun, with_register}
 use Rattle.paris_code.specs.Scalar.{rounded}
 use Rattle.code_follows.specs.Fragment.{IsPlainVariable}
-use Rattle.code_follows.proofs.Declaring.{all_first, all_rest}
+use Rattle.code_follows.proofs.Lists.{all_first, all_rest}
 use Rattle.code_follows.proofs.Settings.{At, Reaches, Setting, Within, and_one, at_next, begins_here, earlier, one, onto, stay}
 use Rattle.code_follows.proofs.Standing.{some_same}
 use Rattle.source_meaning.specs.Reductions.{int_type}

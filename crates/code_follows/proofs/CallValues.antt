@@ -1,16 +1,12 @@
--- A call as a value: its arguments, one for each parameter, and its result.
-use Rattle.std.proofs.Common.{◌≡◌, ◌∙◌, ℕ, Bool, true, false, [], length, Option, Some, None, refl, sym, ap, subst, arith, Vec, Global}
+-- A call as a value: its arguments, and its result.
+use Rattle.std.proofs.Common.{ℕ, Bool, true, [], Option, Some, sym, subst, arith, Vec, Global}
 use mathlib.Core.Former.{Count}
 use Rattle.cstar_tree.specs.declared.typed.TExpr.{TExpr, Row_of-TExpr, end_of-TExpr, items-the_row-TExpr, more_of-TExpr}
 use Rattle.cstar_tree.specs.declared.typed.TExpr as T
 use Rattle.cstar_tree.specs.declared.typed.ValueType.{ValueType}
-use Rattle.cstar_tree.specs.declared.typed.VarInfo.{VarInfo}
 use Rattle.cstar_tree.specs.declared.typed.Variable.{Variable}
-use Rattle.std.proofs.lemmas.Slice.Zip.{AllZip-long}
-use Rattle.std.specs.Option.{is_some}
-use Rattle.cstar_tree.specs.declared.typed.Instance.{Instance}
 use Rattle.cstar_tree.specs.declared.typed.Variable.TheVariants as V
-use Rattle.code_lengths.specs.Lowerable.{AreLowerable, Calls, HasResult, IsLowerable, IsValueFor}
+use Rattle.code_lengths.specs.Lowerable.{AreLowerable, IsLowerable}
 use Rattle.code_lengths.specs.Naming.{AllNameVariables, IsDeclared, NamesVariables}
 use Rattle.code_lengths.specs.Ready.{HasCode, HaveCode, IsReady}
 use Rattle.code_lengths.specs.Shaped.{AreShaped, IsShaped}
@@ -20,15 +16,14 @@ use Rattle.lower_expr.specs.Operands.{are_quiet}
 use Rattle.lower_expr.specs.Values.{call_to, values_of, value_of}
 use Rattle.source_meaning.specs.Expressions.{evaluated}
 use Rattle.source_meaning.specs.Values.{Active, Scope}
-use Rattle.code_follows.specs.Fragment.{IsWord}
-use Rattle.code_follows.proofs.Arguments.{AreDone, long_row}
+use Rattle.code_follows.specs.Fragment.{IsScalarType, elems_of}
+use Rattle.code_follows.proofs.Arguments.{AreDone}
 use Rattle.code_follows.proofs.Passing.{call_follows, fresh_called}
-use Rattle.code_follows.proofs.Callees.{CallsFollow, MayCall}
+use Rattle.code_follows.proofs.Callees.{CallsFollow}
 use Rattle.code_follows.proofs.Following.{Extends, Follows, HasRegisters}
 use Rattle.code_follows.proofs.Settings.{Setting, layout}
 use Rattle.code_follows.proofs.Values.{Does, Value_of, extends_grown, fresh_dest, with_reg}
 use Rattle.code_follows.proofs.Fresh.{IsFresh}
-use Rattle.code_follows.proofs.Standing.{some_same}
 
 module _ (g : Setting) (has : HasRegisters g) (alive : Variable → Type 0) (n : ℕ) (lives : (x : Variable) → IsDeclared n x → alive x) (ready : (d : Draft) → IsReady g.typed g.instance (layout g) n d) (scope : Scope) (active : Active) (calls_follow : CallsFollow g scope active) where
   -- a call's arguments have code, one for each parameter
@@ -41,34 +36,19 @@ module _ (g : Setting) (has : HasRegisters g) (alive : Variable → Type 0) (n :
   unfolding IsShaped IsLowerable NamesVariables
   call_code ty index p row c = arguments_code row c.shaped c.lowerable.1 c.names
 
-  pub many_arguments : (ty : ValueType) (index : ℕ) (p : Vec (Unit {0}) Global) (row : _) (m : MayCall g active index) → HasCode g.typed g.instance n (T.Call' ty index p row) → length m.callee.callee.params.items ≡ long_row g has alive scope active row
-  unfolding IsLowerable
-  many_arguments ty index p row m c =
-      let found : Calls g.typed index ty (items-the_row-TExpr _ row) = c.lowerable.0 in
-      subst (λ (i : Instance). length i.params.items ≡ long_row g has alive scope active row) (some_same found.callee m.callee.callee (sym found.found ∙ m.callee.is))
-      (sym (AllZip-long (λ (param : VarInfo) (e : TExpr). IsValueFor g.typed param.shape e) found.callee.params.items (items-the_row-TExpr _ row) found.given))
-
-  -- the result of what is called
-  pub has_result : (index : ℕ) (m : MayCall g active index) → HasResult g.typed index → (info : VarInfo) × (m.callee.callee.result ≡ Some info)
-  has_result index m (callee, found, there) = by m.callee.callee.result refl (subst (λ (i : Instance). is_some i.result ≡ true) (some_same callee m.callee.callee (sym found ∙ m.callee.is)) there)
-    where
-      by : (o : Option VarInfo) → m.callee.callee.result ≡ o → is_some m.callee.callee.result ≡ true → (info : VarInfo) × (m.callee.callee.result ≡ Some info)
-      by (Some info) is there = (info, is)
-      by None is there = let no : is_some m.callee.callee.result ≡ false = ap is_some is in cc
-
   arguments_grown : (own quiet : Bool) {k : Count} (row : Row_of-TExpr k) → HaveCode g.typed g.instance n row → (d : Draft) → Extends g d (values_of g.typed (layout g) own quiet row [] d)
   arguments_grown own quiet {k} row c d = extends_grown g has alive _ d _ _ ((expressions g.typed g.instance (layout g)).list own quiet n k row d c (ready d))
 
-  pub fresh_call : (bits : ℕ) (ty : ValueType) (index : ℕ) (p : Vec (Unit {0}) Global) (row : _) → IsWord ty → g.may true index → HasCode g.typed g.instance n (T.Call' ty index p row) → (d : Draft) → IsFresh d (value_of g.typed (layout g) bits (T.Call' ty index p row) d)
+  pub fresh_call : (bits : ℕ) (ty : ValueType) (index : ℕ) (p : Vec (Unit {0}) Global) (row : _) → IsScalarType ty → g.may.calls (Some ty.elem) index (elems_of row) → HasCode g.typed g.instance n (T.Call' ty index p row) → (d : Draft) → IsFresh d (value_of g.typed (layout g) bits (T.Call' ty index p row) d)
   unfolding value_of fresh_for a_register then_make
-  fresh_call bits ty index p row word may c d =
-      subst (λ (o : Option ℕ). IsFresh d (then_make (fresh_for o bits d) (λ dest begun. call_to g.typed (layout g) index (values_of g.typed (layout g) true (are_quiet row) row) dest begun))) (sym word.0)
-      (fresh_called g has alive (calls_follow.value index may).0 (values_of g.typed (layout g) true (are_quiet row) row) d.regs d (with_reg d) (omega arith) (omega arith) (arguments_grown true (are_quiet row) row (call_code ty index p row c) (with_reg d)))
+  fresh_call bits ty index p row plain may c d =
+      subst (λ (o : Option ℕ). IsFresh d (then_make (fresh_for o bits d) (λ dest begun. call_to g.typed (layout g) index (values_of g.typed (layout g) true (are_quiet row) row) dest begun))) (sym plain)
+      (fresh_called g has alive (calls_follow.value ty.elem index (elems_of row) may).0.0 (values_of g.typed (layout g) true (are_quiet row) row) d.regs d (with_reg d) (omega arith) (omega arith) (arguments_grown true (are_quiet row) row (call_code ty index p row c) (with_reg d)))
 
-  pub call_value : (quiet : Bool) (bits : ℕ) (ty : ValueType) (index : ℕ) (p : Vec (Unit {0}) Global) (row : _) → IsWord ty → g.may true index → AreDone g has alive scope active true (are_quiet row) row → HasCode g.typed g.instance n (T.Call' ty index p row) → Does g has alive ty.elem quiet (λ st. evaluated scope (T.Call' ty index p row) active st) (λ d. value_of g.typed (layout g) bits (T.Call' ty index p row) d)
+  pub call_value : (quiet : Bool) (bits : ℕ) (ty : ValueType) (index : ℕ) (p : Vec (Unit {0}) Global) (row : _) → IsScalarType ty → g.may.calls (Some ty.elem) index (elems_of row) → AreDone g has alive scope active true (are_quiet row) row → HasCode g.typed g.instance n (T.Call' ty index p row) → Does g has alive ty.elem quiet (λ st. evaluated scope (T.Call' ty index p row) active st) (λ d. value_of g.typed (layout g) bits (T.Call' ty index p row) d)
   unfolding value_of evaluated fresh_for a_register then_make IsDeclared
-  call_value quiet bits ty index p row word may done c d s st free here sim =
-      let known = calls_follow.value index may in
-      let result = has_result index known.0 known.1 in
-      subst (λ (o : Option ℕ). Follows g (Value_of g has alive ty.elem quiet d s) s (evaluated scope (T.Call' ty index p row) active st) (then_make (fresh_for o bits d) (λ dest begun. call_to g.typed (layout g) index (values_of g.typed (layout g) true (are_quiet row) row) dest begun))) (sym word.0)
-      (call_follows g has alive (λ k. lives (V.File k) tt) scope active calls_follow known.0 row done (many_arguments ty index p row known.0 c) result.0 result.1 ty.elem word.1 (with_reg d) s st (Value_of g has alive ty.elem quiet d s) d.regs (omega (arith, free)) here sim (fresh_dest g has alive ty.elem quiet d s free))
+  call_value quiet bits ty index p row plain may done c d s st free here sim =
+      let known = calls_follow.value ty.elem index (elems_of row) may in
+      let result = known.1.1 in
+      subst (λ (o : Option ℕ). Follows g (Value_of g has alive ty.elem quiet d s) s (evaluated scope (T.Call' ty index p row) active st) (then_make (fresh_for o bits d) (λ dest begun. call_to g.typed (layout g) index (values_of g.typed (layout g) true (are_quiet row) row) dest begun))) (sym plain)
+      (call_follows g has alive (λ k. lives (V.File k) tt) scope active calls_follow known.0.0 row done known.0.1 result.0 result.1.0 ty.elem result.1.1 (with_reg d) s st (Value_of g has alive ty.elem quiet d s) d.regs (omega (arith, free)) here sim (fresh_dest g has alive ty.elem quiet d s free))

@@ -1,6 +1,7 @@
 -- What is known of a function that may be called, and of a run of its code.
-use Rattle.std.proofs.Common.{◌≡◌, ℕ, true, false, suc, ◌+◌, ◌<◌, ◌≤◌, ◌^◌, List, [], ◌∷◌, ◌++◌, length, slice_get, slice_index, Some, None}
+use Rattle.std.proofs.Common.{◌≡◌, ℕ, suc, ◌+◌, ◌<◌, ◌≤◌, ◌^◌, List, [], ◌∷◌, ◌++◌, length, slice_get, slice_index, Some, None}
 use Rattle.std.specs.List.{All, slice_index_or}
+use Rattle.cstar_base.specs.declared.elem.Elem.{Elem}
 use Rattle.cstar_tree.specs.declared.typed.Instance.{Instance}
 use Rattle.cstar_tree.specs.declared.typed.VarInfo.{VarInfo}
 use Rattle.cstar_tree.specs.declared.typed.Variable.{Variable}
@@ -14,10 +15,10 @@ use Rattle.paris_code.specs.Units.{start_at}
 use Rattle.source_meaning.specs.Programs.{calls, run_body}
 use Rattle.source_meaning.specs.State as Source
 use Rattle.source_meaning.specs.State.{Outcome, State}
-use Rattle.source_meaning.specs.Values.{Active, Nothing, Scalar, Scope, Value, number}
+use Rattle.source_meaning.specs.Values.{Active, Nothing, Scope, Value, number}
 use Rattle.code_follows.specs.Agreement.{AreBytes}
-use Rattle.code_follows.specs.Fragment.{IsWordVariable}
-use Rattle.code_follows.proofs.Following.{Finishes, held, input_of}
+use Rattle.code_follows.specs.Fragment.{AreTaken, IsResult, IsScalarVariable, Takes}
+use Rattle.code_follows.proofs.Following.{Finishes, HasNumber, held, input_of}
 use Rattle.code_follows.proofs.Settings.{Reaches, Setting, layout}
 
 module _ (g : Setting) where
@@ -28,8 +29,8 @@ module _ (g : Setting) where
     pub is : slice_get g.typed.instances.items index ≡ Some callee
     pub base : ℕ
     pub based : slice_get (layout g).bases index ≡ Some base
-    pub params : All IsWordVariable callee.params.items
-    pub result : (info : VarInfo) → callee.result ≡ Some info → IsWordVariable info
+    pub params : All IsScalarVariable callee.params.items
+    pub result : (info : VarInfo) → callee.result ≡ Some info → IsScalarVariable info
     pub touches : ℕ → Type 0
     -- the registers of its parameters, and that of its result behind them
     pub own : (k : ℕ) → k ≤ length callee.params.items → touches (base + k)
@@ -68,7 +69,7 @@ module _ (g : Setting) where
       pub params_kept : (k : ℕ) → st.scalar (V.Param k) ≡ before.scalar (V.Param k)
       pub locals_kept : (k : ℕ) → st.scalar (V.Local k) ≡ before.scalar (V.Local k)
       pub stays : (r : ℕ) → (c.touches r → ⊥) → length g.typed.vars.items ≤ r → slice_index t.registers r ≡ slice_index s.registers r
-      pub given : (c.callee.result ≡ None → ⊥) → (word : ℕ) × ((v ≡ Scalar word) × (word < 2 ^ 32) × (slice_index t.registers given_in ≡ word))
+      pub given : (info : VarInfo) → c.callee.result ≡ Some info → HasNumber info.elem v given_in t
 
     -- what the code does, by what the source does
     unfoldable pub RunsBody : ℕ → CodeState → State → Outcome Value → Type 0
@@ -77,13 +78,13 @@ module _ (g : Setting) where
 
     -- the parameters hold the arguments
     pub record AreGiven (arguments : List Value) (s : CodeState) : Type 0 where
-      pub words : (k : ℕ) → k < length c.callee.params.items → slice_index s.registers (c.base + k) ≡ number (slice_index_or arguments k Nothing)
-      pub few : (k : ℕ) → k < length c.callee.params.items → number (slice_index_or arguments k Nothing) < 2 ^ 32
+      pub words : (k : ℕ) (info : VarInfo) → slice_get c.callee.params.items k ≡ Some info → slice_index s.registers (c.base + k) ≡ held info.elem (number (slice_index_or arguments k Nothing))
+      pub few : (k : ℕ) (info : VarInfo) → slice_get c.callee.params.items k ≡ Some info → number (slice_index_or arguments k Nothing) < 2 ^ info.elem.bits
 
     -- the code of its body from its first instruction on, where so many turns are left at most
     unfoldable pub Enters : ℕ → Active → Type 0
     Enters m active =
-        (arguments : List Value) (st : State) (s : CodeState) (back : ℕ) → s.at ≡ start_at g.image index → s.returns ≡ g.returns ++ back ∷ [] → Shared st s → st.turns ≤ m → AreGiven arguments s → ((c.callee.result ≡ None → ⊥) → slice_index s.registers given_in ≡ 0)
+        (arguments : List Value) (st : State) (s : CodeState) (back : ℕ) → s.at ≡ start_at g.image index → s.returns ≡ g.returns ++ back ∷ [] → Shared st s → st.turns ≤ m → AreGiven arguments s → ((info : VarInfo) → c.callee.result ≡ Some info → slice_index s.registers given_in ≡ 0)
         → RunsBody back s st (run_body g.typed (calls g.typed m) (Some c.callee) arguments active st)
 
   -- each function that may be called runs so, with one turn fewer left
@@ -91,10 +92,15 @@ module _ (g : Setting) where
     pub callee : Callee index
     pub enters : (m : ℕ) → g.most ≡ suc m → Enters callee m active
 
-  -- Calls follow the source: a call means what the source says of so many turns, and what is called is known.
-  -- All variables of the file are scalar.
+  -- one whose parameters take arguments of these types
+  abbrev pub TakesThese : Active → ℕ → List Elem → Type 1
+  TakesThese active index given = (m : MayCall active index) × AreTaken m.callee.callee.params.items given
+
+  -- Calls follow the source: a call means what the source says of so many turns, and what is called is known. The
+  -- result takes what is returned. All variables of the file are scalar.
   pub record CallsFollow (scope : Scope) (active : Active) : Type 1 where
     pub meant : scope.call ≡ calls g.typed g.most
     pub plain_files : (k : ℕ) (info : VarInfo) → slice_get g.typed.vars.items k ≡ Some info → info.shape ≡ None
-    pub value : (index : ℕ) → g.may true index → MayCall active index × HasResult g.typed index
-    pub effect : (index : ℕ) → g.may false index → MayCall active index
+    pub value : (elem : Elem) (index : ℕ) (given : List Elem) → g.may.calls (Some elem) index given → (h : TakesThese active index given) × (HasResult g.typed index × IsResult h.0.callee.callee.result elem)
+    pub effect : (index : ℕ) (given : List Elem) → g.may.calls None index given → TakesThese active index given
+    pub returns : (elem : Elem) → g.may.returns elem → (info : VarInfo) → g.instance.result ≡ Some info → Takes info.elem elem

@@ -20,9 +20,9 @@ use Rattle.paris_code.specs.Code.{CodeState, begun, called, with_register}
 use Rattle.source_meaning.specs.Programs.{calls, run_body}
 use Rattle.source_meaning.specs.State as Source
 use Rattle.source_meaning.specs.State.{Outcome, State, spend_turn}
-use Rattle.source_meaning.specs.Values.{Active, Scalar, Scope, Value}
+use Rattle.source_meaning.specs.Values.{Active, Scope, Value}
 use Rattle.code_follows.proofs.Callees.{AreGiven, Callee, CallsFollow, ComesBack, Enters, MayCall, RunsBody, Shared}
-use Rattle.code_follows.proofs.Following.{Follows, HasRegisters, IsKept, IsScalar, Keeps, Sim, at_once, finishes_later, held}
+use Rattle.code_follows.proofs.Following.{Follows, HasNumber, HasRegisters, IsKept, IsScalar, Keeps, Sim, at_once, finishes_later, held}
 use Rattle.code_follows.proofs.Jumping.{behind_turn, sim_spent, spends, stops}
 use Rattle.code_follows.proofs.Settings.{At, Reaches, Setting, Within, and_one, at_next, begins_here, earlier, layout, one, onto, regs_more}
 
@@ -101,7 +101,7 @@ module _ (g : Setting) (has : HasRegisters g) (alive : Variable → Type 0) (fil
       pub at : At g t (length e.code)
       pub sim : Sim g alive u t
       pub keeps : Keeps g d s0 t
-      pub given : (c.callee.result ≡ None → ⊥) → (word : ℕ) × ((v ≡ Scalar word) × (word < 2 ^ 32) × (slice_index t.registers source ≡ word))
+      pub given : (info : VarInfo) → c.callee.result ≡ Some info → HasNumber info.elem v source t
 
     -- the variables of the caller are those of the file and its own, which nothing else changes
     sim_back : (back : ℕ) (s : CodeState) (before u : State) (v : Value) (t : CodeState) → s.registers ≡ t.registers → Sim g alive before t → (b : ComesBack g c back s before v u) → Sim g alive u b.t
@@ -137,7 +137,7 @@ module _ (g : Setting) (has : HasRegisters g) (alive : Variable → Type 0) (fil
 
     -- a turn is spent, and the body runs
     module _ (d : Draft) (s0 : CodeState) (a : Draft) (n : ℕ) (s : CodeState) (st : State) (arguments : List Value) (grown : Extended d n a) (go : Reaches g s0 s) (here : At g s (length a.code)) (sim : Sim g alive st s) (keeps : Keeps g d s0 s) (given : AreGiven g c arguments s)
-        (none : (c.callee.result ≡ None → ⊥) → slice_index s.registers source ≡ 0) where
+        (none : (info : VarInfo) → c.callee.result ≡ Some info → slice_index s.registers source ≡ 0) where
       abbrev turn : Draft
       turn = with_instr I.FrontTurn a
 

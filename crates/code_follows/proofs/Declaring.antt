@@ -28,17 +28,8 @@ use Rattle.code_follows.proofs.Settings.{At, Setting, Within, and_one, at_next, 
 use Rattle.code_follows.proofs.Stores.{below_free, same_is, sim_begun, same_itself}
 use Rattle.std.proofs.lemmas.Nat.{pow_pos}
 use Rattle.source_meaning.specs.Reductions.{int_type}
+use Rattle.code_follows.proofs.Lists.{all_first, all_rest}
 use Rattle.code_follows.proofs.Numbers.{zero_converted}
-
--- what holds of all holds of those behind the first
-pub all_rest : {A : Type 0} (P : A → Type 0) (x : A) (xs : List A) → All P (x ∷ xs) → All P xs
-all_rest P x xs all k other within = all (suc k) other (later k (length xs) within)
-  where
-    later : (k n : ℕ) → k < n → suc k < suc n
-    later k n h = omega (arith, h)
-
-pub all_first : {A : Type 0} (P : A → Type 0) (x : A) (xs : List A) → All P (x ∷ xs) → P x
-all_first P x xs all = all 0 x (omega arith)
 
 -- among one more: the first, or among the others
 among_more : (n len k : ℕ) → (nat_le n k && nat_lt k (n + suc len)) ≡ ((nat_le (n + 1) k && nat_lt k (n + 1 + len)) || (n == k))

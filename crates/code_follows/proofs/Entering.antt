@@ -1,7 +1,6 @@
 -- A called function runs, from its first instruction to where it goes back.
 use Rattle.std.proofs.Common.{◌≡◌, ◌∙◌, ℕ, zero, suc, take, ◌+◌, ◌-◌, ◌<◌, ◌≤◌, ◌^◌, ◌==◌, ◌&&◌, ◌⊎◌, inl, inr, Bool, true, false, [], ◌∷◌, ◌++◌, List, Vec, Global, length, map, slice_get, slice_index, Option, Some, None, refl, sym, ap, subst, if◌then◌else◌, nat_lt, arith, length-append}
 use Rattle.std.specs.Prelude.{nat_le}
-use Rattle.std.specs.List.{slice_index_or}
 use Rattle.std.proofs.lemmas.Bool.Decides.{nat_tests}
 use Rattle.std.proofs.lemmas.List.{length-map}
 use Rattle.std.proofs.lemmas.Option.{slice_get_within}
@@ -35,8 +34,8 @@ use Rattle.source_meaning.specs.Programs.{by_owner, calls, entered, left, result
 use Rattle.source_meaning.specs.State as Source
 use Rattle.source_meaning.specs.State.{Outcome, State, is_among, then_do}
 use Rattle.source_meaning.specs.Statements.{Broke, Continued, Leaving, Onward, Returned, executed, initialised}
-use Rattle.source_meaning.specs.Values.{Active, Nothing, Scalar, Value, each, number as as_number}
-use Rattle.code_follows.specs.Fragment.{IsPlainVariable, IsWordVariable, IsBody, IsFlat, IsScalarProgram}
+use Rattle.source_meaning.specs.Values.{Active, Value, each}
+use Rattle.code_follows.specs.Fragment.{IsPlainVariable, IsBody, IsFlat, IsScalarProgram}
 use Rattle.lower_stmt.specs.declared.statement.Frame.{Frame}
 use Rattle.code_follows.proofs.Activations.{activation, callee_known, scalars, words}
 use Rattle.code_follows.proofs.Bodies.{block_code, block_follows, block_initials, block_stands, row_follows}
@@ -44,13 +43,16 @@ use Rattle.code_follows.proofs.Callees.{AreGiven, Callee, CallsFollow, ComesBack
 use Rattle.code_follows.proofs.Closed.{NoJump, begins_closed, closed_row, go_closed}
 use Rattle.code_follows.proofs.Endings.{NeverOnward, body_never, never_second}
 use Rattle.code_follows.proofs.Executing.{IsGiven, Left, Returns}
-use Rattle.code_follows.proofs.Following.{Finishes, Follows, Sim, held}
+use Rattle.code_follows.proofs.Following.{Finishes, Follows, HasNumber, Sim, held}
 use Rattle.code_follows.proofs.Functions.{RunsFunction, among, body_made, declares, ends_by, every, every_one, falls, frame, framed, given_back, has, numbered, ready, runs_function, scope}
+use Rattle.std.specs.Option.{is_some}
+use Rattle.std.proofs.lemmas.Nat.{pow_pos}
+use Rattle.source_meaning.specs.Reductions.{int_type}
+use Rattle.code_follows.proofs.Numbers.{zero_converted}
 use Rattle.code_follows.proofs.Regions.{result_is, same_constants, same_end}
 use Rattle.code_follows.proofs.Settings.{At, Setting, one, onto, start}
 use Rattle.code_follows.proofs.Standing.{start_in, unit_there}
 use Rattle.code_follows.proofs.Units.{blank_homes, blank_regs, not_main, other_is, unit_at}
-use Rattle.code_follows.proofs.Words.{held_wide}
 
 -- a unit of an image begins where its entry says
 starts_there : (us : List CodeUnit) (number start : ℕ) (u : CodeUnit) → slice_get us number ≡ Some u → slice_index (map start_of (entries_from start us)) number ≡ start_in us number start
@@ -98,30 +100,26 @@ module _ (image : Image) (t : Typed) (p : IsScalarProgram t) (codable : IsCodabl
   where_it_is = result_is t (scalars t image p codable compiled) (words t image p codable compiled) number b is
 
   -- 0 where it was left without a value
-  zero_given : (leaving : Leaving) → (b.result ≡ None → ⊥) → ((info : VarInfo) → b.result ≡ Some info → result_of (Some info) leaving ≡ each info.shape (λ q. 0)) → slice_index r.registers (result_register (layout_of t (words t image p codable compiled) number)) ≡ slice_index s.registers (result_register (layout_of t (words t image p codable compiled) number))
-      → slice_index s.registers result_there ≡ 0 → (word : ℕ) × ((result_of b.result leaving ≡ Scalar word) × (word < 2 ^ 32) × (slice_index r.registers result_there ≡ word))
+  zero_given : (leaving : Leaving) (info : VarInfo) → b.result ≡ Some info → result_of (Some info) leaving ≡ each info.shape (λ q. 0) → slice_index r.registers (result_register (layout_of t (words t image p codable compiled) number)) ≡ slice_index s.registers (result_register (layout_of t (words t image p codable compiled) number))
+      → slice_index s.registers result_there ≡ 0 → HasNumber info.elem (result_of b.result leaving) result_there r
   unfolding each
-  zero_given leaving has_result gives same zero_there = by b.result refl
-    where
-      by : (o : Option VarInfo) → b.result ≡ o → (word : ℕ) × ((result_of b.result leaving ≡ Scalar word) × (word < 2 ^ 32) × (slice_index r.registers result_there ≡ word))
-      by None none = absurd (has_result none)
-      by (Some info) found = (
-        0,
-        (
-          ap (λ (o : Option VarInfo). result_of o leaving) found ∙ gives info found ∙ ap (λ (o : Option ℕ). each o (λ q. 0)) ((p.each number b is).result info found).0,
-          omega arith,
-          ap (λ (q : ℕ). slice_index r.registers q) (sym where_it_is) ∙ same ∙ ap (λ (q : ℕ). slice_index s.registers q) where_it_is ∙ zero_there,
-        ),
-      )
+  zero_given leaving info found gives same zero_there = (
+    0,
+    (
+      ap (λ (o : Option VarInfo). result_of o leaving) found ∙ gives ∙ ap (λ (o : Option ℕ). each o (λ q. 0)) ((p.each number b is).result info found),
+      pow_pos info.elem.bits,
+      ap (λ (q : ℕ). slice_index r.registers q) (sym where_it_is) ∙ same ∙ ap (λ (q : ℕ). slice_index s.registers q) where_it_is ∙ zero_there ∙ sym (zero_converted int_type info.elem),
+    ),
+  )
 
-  result_given : (leaving : Leaving) (u : State) → (b.result ≡ None → ⊥) → IsGiven function (every_one t image p codable compiled number b is calls_open m) s r (given_back leaving) → NoJump (Source.Gives leaving u) → slice_index s.registers result_there ≡ 0
-      → (word : ℕ) × ((result_of b.result leaving ≡ Scalar word) × (word < 2 ^ 32) × (slice_index r.registers result_there ≡ word))
+  result_given : (leaving : Leaving) (u : State) (info : VarInfo) → b.result ≡ Some info → IsGiven function (every_one t image p codable compiled number b is calls_open m) s r (given_back leaving) → NoJump (Source.Gives leaving u) → slice_index s.registers result_there ≡ 0
+      → HasNumber info.elem (result_of b.result leaving) result_there r
   unfolding IsGiven given_back result_of NoJump
-  result_given (Returned (Some v)) u has_result h closed zero_there = let w = h has_result in (w.0, (w.1.0, w.1.1, ap (λ (q : ℕ). slice_index r.registers q) (sym where_it_is) ∙ w.1.2))
-  result_given (Returned None) u has_result h closed zero_there = zero_given (Returned None) has_result (λ info found. refl) h zero_there
-  result_given Onward u has_result h closed zero_there = zero_given Onward has_result (λ info found. refl) h zero_there
-  result_given Broke u has_result h closed zero_there = absurd closed
-  result_given Continued u has_result h closed zero_there = absurd closed
+  result_given (Returned (Some v)) u info found h closed zero_there = let w = h info found in (w.0, (w.1.0, w.1.1, ap (λ (q : ℕ). slice_index r.registers q) (sym where_it_is) ∙ w.1.2))
+  result_given (Returned None) u info found h closed zero_there = zero_given (Returned None) info found refl h zero_there
+  result_given Onward u info found h closed zero_there = zero_given Onward info found refl h zero_there
+  result_given Broke u info found h closed zero_there = absurd closed
+  result_given Continued u info found h closed zero_there = absurd closed
 
 module _ (t : Typed) (image : Image) (p : IsScalarProgram t) (codable : IsCodable t) (compiled : IsCompiled t image) (me : ℕ) (a : Instance) (is_me : slice_get t.instances.items me ≡ Some a) (back_to : List ℕ) (number : ℕ) (b : Instance) (is : slice_get t.instances.items number ≡ Some b)
     (some : 0 < number) (lesser : p.rank number < p.rank me) (m : ℕ) where
@@ -133,7 +131,7 @@ module _ (t : Typed) (image : Image) (p : IsScalarProgram t) (codable : IsCodabl
   called_one = callee_known t image p codable compiled me a is_me back_to (suc m) number b is lesser
 
   module _ (active : Active) (arguments : List Value) (st : State) (s : CodeState) (back : ℕ) (starts : s.at ≡ start_at image number) (stacked : s.returns ≡ back_to ++ back ∷ []) (shared : Shared caller st s) (few : st.turns ≤ m) (given : AreGiven caller called_one arguments s)
-      (zero_there : (b.result ≡ None → ⊥) → slice_index s.registers ((layout_of t (words t image p codable compiled) number).base + length b.params.items) ≡ 0) where
+      (zero_there : (info : VarInfo) → b.result ≡ Some info → slice_index s.registers ((layout_of t (words t image p codable compiled) number).base + length b.params.items) ≡ 0) where
     abbrev open_calls : List ℕ
     open_calls = back_to ++ back ∷ []
 
@@ -178,19 +176,14 @@ module _ (t : Typed) (image : Image) (p : IsScalarProgram t) (codable : IsCodabl
       bytes = shared.bytes;
     }
       where
-        word_of : (k : ℕ) (info : VarInfo) → slice_get b.params.items k ≡ Some info → info.elem.bits ≡ 32
-        word_of k info named = (all_at IsWordVariable b.params.items k info (p.each number b is).params named).1
-
         value : (x : Variable) (info : VarInfo) → OfFileOrParam x → variable_named t b x ≡ Some info → slice_index s.registers (register_of (layout_of t (words t image p codable compiled) number) x) ≡ held info.elem (opening_state.scalar x)
         value (V.File k) info living named = shared.files k info named
-        value (V.Param k) info living named =
-            let inside = slice_get_within b.params.items k info named in
-            given.words k inside ∙ sym (held_wide info.elem (as_number (slice_index_or arguments k Nothing)) (word_of k info named) (given.few k inside))
+        value (V.Param k) info living named = given.words k info named
         value (V.Local k) info living named = absurd living
 
         small : (x : Variable) (info : VarInfo) → OfFileOrParam x → variable_named t b x ≡ Some info → opening_state.scalar x < 2 ^ info.elem.bits
         small (V.File k) info living named = shared.small k info named
-        small (V.Param k) info living named = subst (λ (n : ℕ). as_number (slice_index_or arguments k Nothing) < 2 ^ n) (sym (word_of k info named)) (given.few k (slice_get_within b.params.items k info named))
+        small (V.Param k) info living named = given.few k info named
         small (V.Local k) info living named = absurd living
 
     -- ---- what its body gives, and where it goes back
@@ -220,7 +213,7 @@ module _ (t : Typed) (image : Image) (p : IsScalarProgram t) (codable : IsCodabl
       params_kept = λ k. refl;
       locals_kept = λ k. refl;
       stays = λ q apart behind. r.spares q (behind, apart);
-      given = λ has_result. given_so leaving has_result r.given closed;
+      given = λ info found. given_so leaving info found r.given closed;
     }
       where
         there : CodeState
@@ -232,9 +225,9 @@ module _ (t : Typed) (image : Image) (p : IsScalarProgram t) (codable : IsCodabl
         plain : (k : ℕ) (info : VarInfo) → slice_get t.vars.items k ≡ Some info → info.shape ≡ None
         plain k info named = (all_at IsPlainVariable t.vars.items k info p.variables named).0
 
-        given_so : (leaving : Leaving) → (b.result ≡ None → ⊥) → IsGiven inner (every_one t image p codable compiled number b is open_calls m) s r.t (given_back leaving) → NoJump (Source.Gives leaving u)
-            → (word : ℕ) × ((result_of b.result leaving ≡ Scalar word) × (word < 2 ^ 32) × (slice_index r.t.registers ((layout_of t (words t image p codable compiled) number).base + length b.params.items) ≡ word))
-        given_so leaving has_result h closed = result_given image t p codable compiled number b is open_calls m s r.t leaving u has_result h closed (zero_there has_result)
+        given_so : (leaving : Leaving) (info : VarInfo) → b.result ≡ Some info → IsGiven inner (every_one t image p codable compiled number b is open_calls m) s r.t (given_back leaving) → NoJump (Source.Gives leaving u)
+            → HasNumber info.elem (result_of b.result leaving) ((layout_of t (words t image p codable compiled) number).base + length b.params.items) r.t
+        given_so leaving info found h closed = result_given image t p codable compiled number b is open_calls m s r.t leaving u info found h closed (zero_there info found)
 
     covered : (locals : List LocalVar) → variables_of b.body ≡ map info_of locals → (x : Variable) (info : VarInfo) → variable_named t b x ≡ Some info → OfFileOrParam x ⊎ (is_among 0 (length locals) x ≡ true)
     unfolding variable_named OfFileOrParam is_among
@@ -321,12 +314,13 @@ module _ (t : Typed) (image : Image) (p : IsScalarProgram t) (codable : IsCodabl
   pub calls_so : (most number : ℕ) (i : Instance) (is : slice_get t.instances.items number ≡ Some i) (opens : List ℕ)
       → ((index : ℕ) (c : Instance) (is_c : slice_get t.instances.items index ≡ Some c) → 0 < index → (lesser : p.rank index < p.rank number) (m : ℕ) → most ≡ suc m → Enters (running number i is opens most) (known number i is opens most index c is_c lesser) m active)
       → CallsFollow (running number i is opens most) (scope_of t i (calls t most)) active
-  unfolding scope_of
+  unfolding scope_of callee_known
   calls_so most number i is opens enters = record {
     meant = refl;
     plain_files = λ k info found. (all_at IsPlainVariable t.vars.items k info p.variables found).0;
-    value = λ index h. (may_call index h.0 h.1.0 h.1.1 h.1.2, (h.0, h.1.0, h.1.3 refl));
-    effect = λ index h. may_call index h.0 h.1.0 h.1.1 h.1.2;
+    value = λ elem index given h. ((may_call index h.0 h.1.0 h.1.1 h.1.2, h.1.4), ((h.0, h.1.0, ap is_some h.1.3.1.0), h.1.3));
+    effect = λ index given h. (may_call index h.0 h.1.0 h.1.1 h.1.2, h.1.4);
+    returns = λ elem h. h;
   }
     where
       may_call : (index : ℕ) (c : Instance) (is_c : slice_get t.instances.items index ≡ Some c) → 0 < index → p.rank index < p.rank number → MayCall (running number i is opens most) active index

@@ -1,6 +1,7 @@
 -- The example is a scalar program.
 use Rattle.std.proofs.Common.{◌≡◌, ◌∙◌, ℕ, zero, suc, ◌-◌, ◌<◌, List, [], ◌∷◌, ◌++◌, slice_get, length, Some, None, Global, refl, sym, ap, subst, arith, lit<, inl}
 use Rattle.std.specs.List.{All}
+use Rattle.cstar_base.specs.declared.elem.Elem.{Elem}
 use Rattle.cstar_tree.specs.declared.typed.Instance.{Instance}
 use Rattle.cstar_tree.specs.declared.typed.TStmt.{end_of-TStmt, more_of-TStmt}
 use Rattle.cstar_tree.specs.declared.typed.VarInfo.{VarInfo}
@@ -8,7 +9,7 @@ use Rattle.cstar_tree.specs.Variables.{variables_of}
 use Rattle.code_lengths.proofs.Declaring.{of_block, of_expression, of_for, of_return, row_variables}
 use Rattle.source_meaning.specs.Examples.{number, variable, vec}
 use Rattle.code_follows.specs.Example.{ExampleIsScalar, body, char, doubled, example, main, prints, sums, turns, twice}
-use Rattle.code_follows.specs.Fragment.{AreClosed, AreIn, AreInStatements, IsBody, IsClosed, IsEffect, IsFlat, IsGiven, IsIn, IsInLocal, IsInStatement, IsPlainVariable, IsScalarFunction, IsTested, IsVariable, IsScalarVariable, IsWordVariable, may_of}
+use Rattle.code_follows.specs.Fragment.{AreClosed, AreIn, AreInStatements, IsBody, IsClosed, IsEffect, IsFlat, IsGiven, IsIn, IsInLocal, IsInStatement, IsPlainVariable, IsScalarFunction, IsTested, IsVariable, IsScalarVariable, may_of, Takes}
 use Rattle.code_follows.proofs.Standing.{some_same}
 
 all_none : {A : Type 0} (P : A → Type 0) → All P []
@@ -43,33 +44,33 @@ none_own heap = of_block (vec heap [] (lit< tt)) (vec heap (tt ∷ []) (lit< tt)
 rank : ℕ → ℕ
 rank number = 1 - number
 
-main_is : (heap : Global) → IsScalarFunction (may_of (example heap) rank 0) (main heap)
+main_is : (heap : Global) → IsScalarFunction (may_of (example heap) rank 0 (main heap)) (main heap)
 unfolding IsBody IsInStatement IsEffect IsGiven IsIn IsTested IsVariable AreIn AreInStatements AreClosed IsClosed rank
 main_is heap = record {
-  params = all_none IsWordVariable;
-  result = λ info is. subst IsWordVariable (some_same (variable number None 0) info is) (refl, refl);
+  params = all_none IsScalarVariable;
+  result = λ info is. subst IsScalarVariable (some_same (variable number None 0) info is) refl;
   body = (
-    all_one (IsInLocal (may_of (example heap) rank 0)) (record { info = variable char None 0; initial = None }) (refl, tt),
+    all_one (IsInLocal (may_of (example heap) rank 0 (main heap))) (record { info = variable char None 0; initial = None }) (refl, tt),
     (
       (
         (refl, refl, refl, (refl, ((refl, refl), omega arith)), inl refl),
         ((refl, refl), (refl, refl), ((refl, refl), omega arith), (refl, refl), (refl, refl)),
         (refl, refl, refl),
-        (refl, refl, refl, ((refl, refl), ((refl, refl), (twice heap, (refl, omega arith, omega arith, λ with_result. refl)), (refl, tt, (refl, refl))), (refl, refl), (refl, refl), (refl, refl)), inl refl),
+        (refl, refl, refl, ((refl, refl), refl, (refl, (refl, (twice heap, (refl, omega arith, omega arith, (variable char None 0, (refl, inl refl)), (inl refl, tt))), (refl, tt))), (refl, refl), (refl, refl)), inl refl),
       ),
-      ((refl, tt, (refl, refl)), tt),
+      (((refl, tt), all_one (λ (elem : Elem). elem.bits ≡ 32) number.elem refl), tt),
     ),
     (tt, (tt, tt)),
   );
   locals = subst (λ (xs : List VarInfo). All IsScalarVariable xs) (sym (own heap)) (all_one IsScalarVariable (variable char None 0) refl);
 }
 
-twice_is : (heap : Global) → IsScalarFunction (may_of (example heap) rank 1) (twice heap)
+twice_is : (heap : Global) → IsScalarFunction (may_of (example heap) rank 1 (twice heap)) (twice heap)
 unfolding IsBody IsInStatement IsIn AreInStatements AreClosed IsClosed
 twice_is heap = record {
-  params = all_one IsWordVariable (variable number None 0) (refl, refl);
-  result = λ info is. subst IsWordVariable (some_same (variable number None 0) info is) (refl, refl);
-  body = (all_none (IsInLocal (may_of (example heap) rank 1)), ((((refl, refl), refl, refl, (refl, refl), (refl, refl)), (refl, refl)), tt), (tt, tt));
+  params = all_one IsScalarVariable (variable char None 0) refl;
+  result = λ info is. subst IsScalarVariable (some_same (variable char None 0) info is) refl;
+  body = (all_none (IsInLocal (may_of (example heap) rank 1 (twice heap))), (((refl, ((refl, refl), (refl, refl), (refl, refl), (refl, refl), (refl, refl))), (λ info is. subst (λ (x : VarInfo). Takes x.elem char.elem) (some_same (variable char None 0) info is) (inl refl))), tt), (tt, tt));
   locals = subst (λ (xs : List VarInfo). All IsScalarVariable xs) (sym (none_own heap)) (all_none IsScalarVariable);
 }
 
@@ -77,9 +78,9 @@ module _ (heap : Global) where
   abbrev instances : List Instance
   instances = main heap ∷ twice heap ∷ []
 
-  each : (number : ℕ) (i : Instance) → slice_get instances number ≡ Some i → IsScalarFunction (may_of (example heap) rank number) i
-  each zero i is = subst (λ (x : Instance). IsScalarFunction (may_of (example heap) rank 0) x) (some_same (main heap) i is) (main_is heap)
-  each (suc zero) i is = subst (λ (x : Instance). IsScalarFunction (may_of (example heap) rank 1) x) (some_same (twice heap) i is) (twice_is heap)
+  each : (number : ℕ) (i : Instance) → slice_get instances number ≡ Some i → IsScalarFunction (may_of (example heap) rank number i) i
+  each zero i is = subst (λ (x : Instance). IsScalarFunction (may_of (example heap) rank 0 x) x) (some_same (main heap) i is) (main_is heap)
+  each (suc zero) i is = subst (λ (x : Instance). IsScalarFunction (may_of (example heap) rank 1 x) x) (some_same (twice heap) i is) (twice_is heap)
   each (suc (suc k)) i is = cc
 
   flat : (number : ℕ) (i : Instance) → slice_get instances number ≡ Some i → 0 < number → IsFlat i.body

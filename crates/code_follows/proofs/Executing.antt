@@ -1,7 +1,8 @@
 -- How statements are left, and what one behind another does.
-use Rattle.std.proofs.Common.{◌≡◌, ◌∙◌, ℕ, ◌+◌, ◌<◌, ◌≤◌, ◌^◌, Bool, true, false, length, slice_index, refl, sym, ap, subst, Option, Some, None, if◌then◌else◌}
+use Rattle.std.proofs.Common.{◌≡◌, ◌∙◌, ℕ, ◌+◌, ◌≤◌, Bool, true, false, length, slice_index, refl, sym, ap, subst, Option, Some, None, if◌then◌else◌}
 use Rattle.cstar_tree.specs.declared.typed.TExpr.{TExpr}
 use Rattle.cstar_tree.specs.declared.typed.TExpr as T
+use Rattle.cstar_tree.specs.declared.typed.VarInfo.{VarInfo}
 use Rattle.cstar_tree.specs.declared.typed.Variable.{Variable}
 use Rattle.cstar_tree.specs.Typed.{type_of}
 use Rattle.code_lengths.specs.Growth.{Extended, Grows}
@@ -24,11 +25,11 @@ use Rattle.source_meaning.specs.Expressions.{evaluated}
 use Rattle.source_meaning.specs.State as Source
 use Rattle.source_meaning.specs.State.{Early, Outcome, State, then_do}
 use Rattle.source_meaning.specs.Statements.{Broke, Continued, Leaving, Onward, Returned, passes, then_go}
-use Rattle.source_meaning.specs.Values.{Active, Scope, Value, nonzero, number, Scalar}
-use Rattle.code_follows.specs.Fragment.{IsIn, IsVariable, May}
+use Rattle.source_meaning.specs.Values.{Active, Scope, Value, nonzero, number}
+use Rattle.code_follows.specs.Fragment.{IsIn, IsVariable, May, elems_of}
 use Rattle.code_follows.proofs.Expressions.{operand}
 use Rattle.code_follows.proofs.Callees.{CallsFollow}
-use Rattle.code_follows.proofs.Following.{Arrives, Extends, Follows, HasRegisters, Keeps, Ran, Sim, finishes_later, keeps_all, keeps_on, then_follows, spared_kept, result_kept, delayed, finished}
+use Rattle.code_follows.proofs.Following.{Arrives, Extends, Follows, HasNumber, HasRegisters, Keeps, Ran, Sim, finishes_later, keeps_all, keeps_on, then_follows, spared_kept, result_kept, delayed, finished}
 use Rattle.code_follows.proofs.Settings.{At, Reaches, Setting, layout, onto, stay}
 use Rattle.code_follows.proofs.Values.{Value_of, extends_in_register}
 use Rattle.code_follows.proofs.Numbers.{held_nonzero}
@@ -59,7 +60,7 @@ module _ (g : Setting) (alive : Variable → Type 0) where
   -- the register of the result, where there is one, has what is given back, or what it had where nothing is
   unfoldable pub IsGiven : CodeState → CodeState → Option Value → Type 0
   IsGiven s t None = slice_index t.registers (result_register (layout g)) ≡ slice_index s.registers (result_register (layout g))
-  IsGiven s t (Some v) = (g.instance.result ≡ None → ⊥) → (word : ℕ) × ((v ≡ Scalar word) × (word < 2 ^ 32) × (slice_index t.registers (result_register (layout g)) ≡ word))
+  IsGiven s t (Some v) = (info : VarInfo) → g.instance.result ≡ Some info → HasNumber info.elem v (result_register (layout g)) t
 
   -- the next instruction leaves the function: `main` ends, and any other one goes back
   abbrev pub Leaves : CodeState → Type 0
@@ -194,7 +195,7 @@ module _ (g : Setting) (alive : Variable → Type 0) where
     gives (T.Assign' ty place op p (T.Variable tty x) q value) h = refl
     gives (T.Assign' ty place op p _ q value) h = absurd h.2
     gives (T.Step' ty op order p target) h = tt
-    gives (T.Call' ty index p arguments) h = (calls_follow.value index h.1).1
+    gives (T.Call' ty index p arguments) h = (calls_follow.value ty.elem index (elems_of arguments) h.1).1.0
     gives _ h = absurd h
 
     -- the code of a condition is made

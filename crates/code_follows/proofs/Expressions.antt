@@ -552,7 +552,6 @@ module _ (g : Setting) (has : HasRegisters g) (alive : Variable → Type 0) (n :
     arguments_do own quiet end_of-TExpr h c = tt
     arguments_do own quiet (more_of-TExpr e rest) h c = (
       record {
-        wide = h.2.1;
         grows = operand_grows quiet (list_bits own e) e c.0;
         does = operand_value quiet (list_bits own e) e h.0 c.0 (value_follows quiet (list_bits own e) e h.0 c.0);
       },

@@ -28,6 +28,10 @@ use Rattle.code_follows.proofs.Settings.{At, EndsIn, Reaches, Setting, Within, e
 abbrev pub held : Elem → ℕ → ℕ
 held elem w = converted int_type elem w
 
+-- a register holds a number of a type
+abbrev pub HasNumber : Elem → Value → ℕ → CodeState → Type 0
+HasNumber elem v r s = (word : ℕ) × ((v ≡ Scalar word) × (word < 2 ^ elem.bits) × (slice_index s.registers r ≡ held elem word))
+
 abbrev pub input_of : State → Machine.Rest
 input_of st = record { bytes = st.input; mark = mark_of st.rest }
 

@@ -84,7 +84,7 @@ module _ (t : Typed) (image : Image) (p : IsScalarProgram t) (codable : IsCodabl
 
   pub framed : StandsIn g frame
   unfolding body_frame
-  framed = record { outcome = refl; main = refl; scalar = not_parallel i.result (λ info result. ((p.each number i is).result info result).0) }
+  framed = record { outcome = refl; main = refl; scalar = not_parallel i.result (p.each number i is).result }
 
   pub among : StandsAmong frame []
   unfolding body_frame

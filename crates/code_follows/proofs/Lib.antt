@@ -28,6 +28,7 @@ pub mod Fresh
 pub mod Functions
 pub mod Given
 pub mod Jumping
+pub mod Lists
 pub mod Logical
 pub mod Loops
 pub mod Nested

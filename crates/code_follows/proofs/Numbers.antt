@@ -122,6 +122,12 @@ pub takes_same : (to from : Elem) (w : ℕ) → Takes to from → w < 2 ^ from.b
 takes_same to from w (inl same) few = subst (λ (e : Elem). converted e from w ≡ w) same (number_same from w few)
 takes_same to from w (inr wide) few = held_converted to from w wide.1 ∙ held_wide from w wide.0 (below_word from.bits w wide.0 few)
 
+pub takes_held : (to from : Elem) (w : ℕ) → Takes to from → w < 2 ^ from.bits → held from w ≡ held to w
+takes_held to from w takes few = fits_held to from w (takes_fits to from takes) few ∙ ap (held to) (takes_same to from w takes few)
+
+pub takes_below : (to from : Elem) (w : ℕ) → Takes to from → w < 2 ^ from.bits → w < 2 ^ to.bits
+takes_below to from w takes few = subst (λ (n : ℕ). n < 2 ^ to.bits) (takes_same to from w takes few) (converted_below to from w)
+
 -- what 0 is converted to
 zero_number_is : (bits : ℕ) (signed : Bool) → 0 < bits → number_of bits signed 0 ≡ pos 0
 zero_number_is bits false some = number_unsigned bits 0

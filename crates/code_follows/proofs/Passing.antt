@@ -1,5 +1,5 @@
 -- The code of a call with its arguments and its result.
-use Rattle.std.proofs.Common.{◌≡◌, ◌∙◌, ℕ, zero, suc, ◌+◌, ◌-◌, ◌<◌, ◌≤◌, ◌^◌, Bool, true, List, [], ◌∷◌, length, slice_get, slice_index, Option, Some, None, refl, sym, ap, subst, arith}
+use Rattle.std.proofs.Common.{◌≡◌, ◌∙◌, ℕ, zero, suc, ◌+◌, ◌-◌, ◌<◌, ◌≤◌, ◌^◌, Bool, true, List, [], ◌∷◌, length, map, slice_get, slice_index, Option, Some, None, refl, sym, ap, subst, arith}
 use Rattle.std.specs.List.{All, slice_index_or}
 use Rattle.std.proofs.lemmas.List.{get_or-set_other}
 use mathlib.Core.Former.{Count}
@@ -25,45 +25,48 @@ use Rattle.source_meaning.specs.Gets.{Operand}
 use Rattle.source_meaning.specs.Programs.{calls}
 use Rattle.source_meaning.specs.State.{Outcome, State, then_do}
 use Rattle.source_meaning.specs.Values.{Active, Nothing, Scope, Value, number}
-use Rattle.code_follows.specs.Fragment.{IsWordVariable}
-use Rattle.code_follows.proofs.Arguments.{AreDone, AreHeld, Given, arguments_follow, long_row}
+use Rattle.code_follows.specs.Fragment.{AreTaken, IsScalarVariable, Takes, elems_of}
+use Rattle.code_follows.proofs.Arguments.{AreDone, AreHeld, Given, arguments_follow}
 use Rattle.code_follows.proofs.Callees.{AreGiven, Callee, CallsFollow, MayCall}
 use Rattle.code_follows.proofs.Calling.{CameBack, keeps_passed, sim_passed, turn_follows}
-use Rattle.code_follows.proofs.Following.{Extends, Follows, HasRegisters, Keeps, Ran, Sim, at_once, delayed, extends_made, follows_back, keeps_all, keeps_on, register_is, then_follows, with_more}
+use Rattle.code_follows.proofs.Following.{Extends, Follows, HasRegisters, Keeps, Ran, Sim, at_once, delayed, extends_made, follows_back, held, keeps_all, keeps_on, register_is, then_follows, with_more}
+use Rattle.code_follows.proofs.Lists.{all_first, all_rest}
+use Rattle.code_follows.proofs.Numbers.{takes_below, takes_held}
+use Rattle.code_follows.proofs.Standing.{some_same}
+use Rattle.std.proofs.lemmas.Option.{slice_get_within}
 use Rattle.code_follows.proofs.Fresh.{IsFresh, fresh_register, fresh_then}
 use Rattle.code_follows.proofs.Settings.{At, Reaches, Setting, Within, and_one, at_next, begins_here, earlier, layout, one, onto, regs_more, stay}
 use Rattle.code_follows.proofs.Values.{Dest, extends_in_register}
-use Rattle.code_follows.proofs.Words.{below_bits, below_word, held_wide}
 
 module _ (g : Setting) (has : HasRegisters g) (alive : Variable → Type 0) where
-  -- the registers from one on hold the words of these values
-  unfoldable Stand : ℕ → List Value → CodeState → Type 0
-  Stand register [] s = Unit {0}
-  Stand register (v ∷ vs) s = (slice_index s.registers register ≡ number v) × (number v < 2 ^ 32) × Stand (register + 1) vs s
+  -- a register holds a value as a variable's
+  abbrev StandsAs : ℕ → VarInfo → Value → CodeState → Type 0
+  StandsAs register info v s = (slice_index s.registers register ≡ held info.elem (number v)) × (number v < 2 ^ info.elem.bits)
 
-  -- a word that stands, and is one
-  abbrev IsAt : ℕ → List Value → CodeState → ℕ → Type 0
-  IsAt register vs s k = (slice_index s.registers (register + k) ≡ number (slice_index_or vs k Nothing)) × (number (slice_index_or vs k Nothing) < 2 ^ 32)
+  -- the registers from one on hold these values as parameters
+  unfoldable Stand : ℕ → List VarInfo → List Value → CodeState → Type 0
+  Stand register [] vs s = Unit {0}
+  Stand register (param ∷ params) [] s = ⊥
+  Stand register (param ∷ params) (v ∷ vs) s = StandsAs register param v s × Stand (register + 1) params vs s
 
-  stand_at : (register : ℕ) (vs : List Value) (s : CodeState) → Stand register vs s → (k : ℕ) → k < length vs → IsAt register vs s k
+  abbrev IsAt : ℕ → VarInfo → List Value → CodeState → ℕ → Type 0
+  IsAt register info vs s k = StandsAs (register + k) info (slice_index_or vs k Nothing) s
+
+  stand_at : (register : ℕ) (params : List VarInfo) (vs : List Value) (s : CodeState) → Stand register params vs s → (k : ℕ) (info : VarInfo) → slice_get params k ≡ Some info → IsAt register info vs s k
   unfolding Stand
-  stand_at register [] s h k less = absurd (omega (arith, less))
-  stand_at register (v ∷ vs) s h zero less = (ap (λ (n : ℕ). slice_index s.registers n) (zero_more register) ∙ h.0, h.1)
+  stand_at register [] vs s h k info is = cc
+  stand_at register (param ∷ params) [] s h k info is = absurd h
+  stand_at register (param ∷ params) (v ∷ vs) s h zero info is =
+      subst (λ (i : VarInfo). IsAt register i (v ∷ vs) s zero) (some_same param info is) (ap (λ (n : ℕ). slice_index s.registers n) (zero_more register) ∙ h.0.0, h.0.1)
     where
       zero_more : (n : ℕ) → n + 0 ≡ n
       zero_more n = omega arith
-  stand_at register (v ∷ vs) s h (suc k) less =
-      let rest : IsAt (register + 1) vs s k = stand_at (register + 1) vs s h.2 k (omega (arith, less)) in
+  stand_at register (param ∷ params) (v ∷ vs) s h (suc k) info is =
+      let rest : IsAt (register + 1) info vs s k = stand_at (register + 1) params vs s h.1 k info is in
       (ap (λ (n : ℕ). slice_index s.registers n) (one_more register k) ∙ rest.0, rest.1)
     where
       one_more : (n k : ℕ) → n + suc k ≡ (n + 1) + k
       one_more n k = omega arith
-
-  first_word : (param : VarInfo) (params : List VarInfo) → All IsWordVariable (param ∷ params) → IsWordVariable param
-  first_word param params words = words 0 param (omega arith)
-
-  rest_words : (param : VarInfo) (params : List VarInfo) → All IsWordVariable (param ∷ params) → All IsWordVariable params
-  rest_words param params words = λ k d less. words (suc k) d (omega (arith, less))
 
   -- what stands behind the arguments, of a scalar result or of none
   abbrev IsScalarResult : Option VarInfo → Type 0
@@ -115,21 +118,21 @@ module _ (g : Setting) (has : HasRegisters g) (alive : Variable → Type 0) wher
       by (O.Field f) = refl
       by O.Nothing = refl
 
-  extends_passed : (index : ℕ) (o : Option VarInfo) (params : List VarInfo) (outs : List Out) (register : ℕ) (dest : Out) (e : Draft) → All IsWordVariable params → IsScalarResult o → Extends g e (passed index o params outs register 0 dest e)
+  extends_passed : (index : ℕ) (o : Option VarInfo) (params : List VarInfo) (outs : List Out) (register : ℕ) (dest : Out) (e : Draft) → All IsScalarVariable params → IsScalarResult o → Extends g e (passed index o params outs register 0 dest e)
   unfolding passed
-  extends_passed index o [] outs register dest e words scalar = extends_finished index o register dest e scalar
-  extends_passed index o (param ∷ params) [] register dest e words scalar = extends_finished index o register dest e scalar
-  extends_passed index o (param ∷ params) (v ∷ outs) register dest e words scalar =
-      subst (λ (made : Made Out). Extends g e made) (sym (passed_is index o param params v outs register dest e (first_word param params words).0))
-      (extends_in_register g has alive e v _ (λ a. extends_made g e (with_instr (I.FrontMove register a) e) 1 _ (and_one g (I.FrontMove register a) e) (extends_passed index o params outs (register + 1) dest (with_instr (I.FrontMove register a) e) (rest_words param params words) scalar)))
+  extends_passed index o [] outs register dest e plain scalar = extends_finished index o register dest e scalar
+  extends_passed index o (param ∷ params) [] register dest e plain scalar = extends_finished index o register dest e scalar
+  extends_passed index o (param ∷ params) (v ∷ outs) register dest e plain scalar =
+      subst (λ (made : Made Out). Extends g e made) (sym (passed_is index o param params v outs register dest e (all_first IsScalarVariable param params plain)))
+      (extends_in_register g has alive e v _ (λ a. extends_made g e (with_instr (I.FrontMove register a) e) 1 _ (and_one g (I.FrontMove register a) e) (extends_passed index o params outs (register + 1) dest (with_instr (I.FrontMove register a) e) (all_rest IsScalarVariable param params plain) scalar)))
 
-  fresh_passed : (index : ℕ) (o : Option VarInfo) (params : List VarInfo) (outs : List Out) (register r : ℕ) (d e : Draft) → All IsWordVariable params → IsScalarResult o → d.regs ≤ r → r < e.regs → IsFresh d (passed index o params outs register 0 (O.Scalar r) e)
+  fresh_passed : (index : ℕ) (o : Option VarInfo) (params : List VarInfo) (outs : List Out) (register r : ℕ) (d e : Draft) → All IsScalarVariable params → IsScalarResult o → d.regs ≤ r → r < e.regs → IsFresh d (passed index o params outs register 0 (O.Scalar r) e)
   unfolding passed
-  fresh_passed index o [] outs register r d e words scalar low high = fresh_finished index o register r d e scalar low high
-  fresh_passed index o (param ∷ params) [] register r d e words scalar low high = fresh_finished index o register r d e scalar low high
-  fresh_passed index o (param ∷ params) (v ∷ outs) register r d e words scalar low high =
-      subst (λ (made : Made Out). IsFresh d made) (sym (passed_is index o param params v outs register (O.Scalar r) e (first_word param params words).0))
-      (fresh_register g has alive d v _ (λ a. fresh_passed index o params outs (register + 1) r d (with_instr (I.FrontMove register a) e) (rest_words param params words) scalar low (let regs = regs_more g (I.FrontMove register a) e in omega (arith, high, regs))))
+  fresh_passed index o [] outs register r d e plain scalar low high = fresh_finished index o register r d e scalar low high
+  fresh_passed index o (param ∷ params) [] register r d e plain scalar low high = fresh_finished index o register r d e scalar low high
+  fresh_passed index o (param ∷ params) (v ∷ outs) register r d e plain scalar low high =
+      subst (λ (made : Made Out). IsFresh d made) (sym (passed_is index o param params v outs register (O.Scalar r) e (all_first IsScalarVariable param params plain)))
+      (fresh_register g has alive d v _ (λ a. fresh_passed index o params outs (register + 1) r d (with_instr (I.FrontMove register a) e) (all_rest IsScalarVariable param params plain) scalar low (let regs = regs_more g (I.FrontMove register a) e in omega (arith, high, regs))))
 
   -- the call of what is known
   called_is : {active : Active} {index : ℕ} (m : MayCall g active index) (outs : List Out) (dest : Out) (e : Draft) → called g.typed (layout g) index outs dest e ≡ passed index m.callee.callee.result m.callee.callee.params.items outs m.callee.base 0 dest e
@@ -139,7 +142,7 @@ module _ (g : Setting) (has : HasRegisters g) (alive : Variable → Type 0) wher
       ∙ ap (λ (o : Option ℕ). from o (λ base. passed index m.callee.callee.result m.callee.callee.params.items outs base 0 dest e)) m.callee.based
 
   scalar_result : {active : Active} {index : ℕ} (m : MayCall g active index) → IsScalarResult m.callee.callee.result
-  scalar_result m info is = (m.callee.result info is).0
+  scalar_result m info is = m.callee.result info is
 
   pub extends_called : {active : Active} {index : ℕ} (m : MayCall g active index) (outs : List Out) (dest : Out) (e : Draft) → Extends g e (called g.typed (layout g) index outs dest e)
   extends_called {active} {index} m outs dest e =
@@ -150,11 +153,6 @@ module _ (g : Setting) (has : HasRegisters g) (alive : Variable → Type 0) wher
   fresh_called {active} {index} m codes r d e low high grows =
       fresh_then g has alive d e (codes [] e) _ grows (λ outs f more.
       subst (λ (made : Made Out). IsFresh d made) (sym (called_is m outs (O.Scalar r) f)) (fresh_passed index m.callee.callee.result m.callee.callee.params.items outs m.callee.base r d f m.callee.params (scalar_result m) low (omega (arith, high, more))))
-
-  long_values : (given : List Operand) → length (given_values given) ≡ length given
-  unfolding given_values
-  long_values [] = refl
-  long_values (o ∷ given) = ap suc (long_values given)
 
   module _ (files_live : (k : ℕ) → alive (V.File k)) (scope : Scope) (active : Active) (calls_follow : CallsFollow g scope active) {index : ℕ} (m : MayCall g active index) where
     abbrev c : Callee g index
@@ -170,70 +168,71 @@ module _ (g : Setting) (has : HasRegisters g) (alive : Variable → Type 0) wher
 
     module _ (quiet : Bool) (e0 : Draft) (s1 : CodeState) (st : State) (R : Value → State → Out → Draft → Type 0) (o : Outcome Value) (outcome : Option VarInfo) (scalar : IsScalarResult outcome) (dest : Out) where
       -- what is behind them
-      abbrev Finish : ℕ → ℕ → List Value → CodeState → Type 0
-      Finish register many values s =
-          (f : Draft) (k : ℕ) (t : CodeState) (last : ℕ) → last ≡ register + many → Extended e0 k f → Reaches g s1 t → At g t (length f.code) → Sim g alive st t → Keeps g e0 s1 t → Stand register values t
+      abbrev Finish : ℕ → List VarInfo → List Value → CodeState → Type 0
+      Finish register params values s =
+          (f : Draft) (k : ℕ) (t : CodeState) (last : ℕ) → last ≡ register + length params → Extended e0 k f → Reaches g s1 t → At g t (length f.code) → Sim g alive st t → Keeps g e0 s1 t → Stand register params values t
           → ((q : ℕ) → q < register → slice_index t.registers q ≡ slice_index s.registers q) → Follows g R t o (finished index outcome last 0 dest f)
 
-      passes : (params : List VarInfo) (given : List Operand) (outs : List Out) (register : ℕ) → All IsWordVariable params → length params ≡ length given → AreHeld g has alive scope active quiet given outs e0 st s1
+      passes : (params : List VarInfo) (given : List Operand) (outs : List Out) (register : ℕ) → All IsScalarVariable params → AreTaken params (map (λ (o : Operand). o.elem) given) → AreHeld g has alive scope active quiet given outs e0 st s1
           → ((j : ℕ) → register ≤ j → j < register + length params → c.touches j) → register + length params < (layout g).end → (e : Draft) (n : ℕ) (s : CodeState) → Extended e0 n e → Reaches g s1 s → At g s (length e.code) → Sim g alive st s → Keeps g e0 s1 s
-          → Finish register (length params) (given_values given) s → Follows g R s o (passed index outcome params outs register 0 dest e)
+          → Finish register params (given_values given) s → Follows g R s o (passed index outcome params outs register 0 dest e)
       unfolding passed AreHeld Stand given_values begun step_of in_register number
-      passes [] [] outs register words long holding touch room e n s ext go here sim keeps finish = finish e n s register (omega arith) ext go here sim keeps tt (λ q less. refl)
-      passes [] (v ∷ given) outs register words long holding touch room e n s ext go here sim keeps finish = cc
-      passes (param ∷ params) [] outs register words long holding touch room e n s ext go here sim keeps finish = cc
-      passes (param ∷ params) (v ∷ given) [] register words long holding touch room e n s ext go here sim keeps finish = absurd holding
-      passes (param ∷ params) (v ∷ given) (out ∷ outs) register words long holding touch room e n s ext go here sim keeps finish =
-          let holds = holding.1 in
-          let few : holds.word < 2 ^ 32 = below_word v.elem.bits holds.word holding.0 holds.small in
+      passes [] [] outs register plain takes holding touch room e n s ext go here sim keeps finish = finish e n s register (omega arith) ext go here sim keeps tt (λ q less. refl)
+      passes [] (v ∷ given) outs register plain takes holding touch room e n s ext go here sim keeps finish = absurd takes
+      passes (param ∷ params) [] outs register plain takes holding touch room e n s ext go here sim keeps finish = absurd takes
+      passes (param ∷ params) (v ∷ given) [] register plain takes holding touch room e n s ext go here sim keeps finish = absurd holding
+      passes (param ∷ params) (v ∷ given) (out ∷ outs) register plain takes holding touch room e n s ext go here sim keeps finish =
+          let holds = holding.0 in
           let is_word : number v.value ≡ holds.word = ap number holds.value in
-          let stands : slice_index s.registers holds.register ≡ number v.value = holds.lasts st s sim keeps (λ calm. refl) ∙ held_wide v.elem holds.word holding.0 few ∙ sym is_word in
+          let few : number v.value < 2 ^ param.elem.bits = subst (λ (w : ℕ). w < 2 ^ param.elem.bits) (sym is_word) (takes_below param.elem v.elem holds.word takes.0 holds.small) in
+          let passed_word : ℕ = held param.elem (number v.value) in
+          let stands : slice_index s.registers holds.register ≡ passed_word = holds.lasts st s sim keeps (λ calm. refl) ∙ takes_held param.elem v.elem holds.word takes.0 holds.small ∙ ap (λ (w : ℕ). held param.elem w) (sym is_word) in
           let next : Draft = with_instr (I.FrontMove register holds.register) e in
-          let t : CodeState = with_register register (number v.value) s in
+          let t : CodeState = with_register register passed_word s in
           let inside : register < length s.registers = let slots = has.room in let all = sim.registers in omega (arith, room, slots, all) in
-          subst (λ (made : Made Out). Follows g R s o made) (sym (passed_is index outcome param params out outs register dest e (first_word param params words).0))
+          subst (λ (made : Made Out). Follows g R s o made) (sym (passed_is index outcome param params out outs register dest e (all_first IsScalarVariable param params plain)))
           (subst (λ (w : Out). Follows g R s o (in_register w (λ a. move_behind index outcome params outs register dest a e))) (sym holds.is)
-          (delayed g R next s o _ (extends_passed index outcome params outs (register + 1) dest next (rest_words param params words) scalar) (λ within.
+          (delayed g R next s o _ (extends_passed index outcome params outs (register + 1) dest next (all_rest IsScalarVariable param params plain) scalar) (λ within.
           let goes : Reaches g s t = one g s t (begins_here g (I.FrontMove register holds.register) e s within refl here ∙ ap (λ (w : ℕ). Goes (with_register register w s)) stands) in
           let touched : c.touches register = touch register (omega arith) (omega arith) in
           let high : e0.regs ≤ g.ends = let own = within.own in let more = regs_more g (I.FrontMove register holds.register) e in let regs = ext.regs in omega (arith, own, more, regs) in
           follows_back g R s t o _ goes
-          (passes params given outs (register + 1) (rest_words param params words) (omega (arith, long)) holding.2 (λ j low up. touch j (omega (arith, low)) (omega (arith, up))) (omega (arith, room)) next (n + 1) t
+          (passes params given outs (register + 1) (all_rest IsScalarVariable param params plain) takes.1 holding.1 (λ j low up. touch j (omega (arith, low)) (omega (arith, up))) (omega (arith, room)) next (n + 1) t
           (extended e0 e next n 1 ext (and_one g (I.FrontMove register holds.register) e)) (onto g s1 s t go goes) (at_next g (I.FrontMove register holds.register) e s (s.at + 1) here refl)
-          (sim_passed g has alive files_live scope active calls_follow m st s register (number v.value) touched sim)
-          (λ q kept. keeps_passed g has alive files_live scope active calls_follow m e0 s register (number v.value) touched high q kept ∙ keeps q kept)
+          (sim_passed g has alive files_live scope active calls_follow m st s register passed_word touched sim)
+          (λ q kept. keeps_passed g has alive files_live scope active calls_follow m e0 s register passed_word touched high q kept ∙ keeps q kept)
           (λ f k u last is x went at_u sim_u keeps_u stand below. finish f k u last (omega (arith, is)) x went at_u sim_u keeps_u
-          (below register (omega arith) ∙ register_is g s register (number v.value) inside, subst (λ (w : ℕ). w < 2 ^ 32) (sym is_word) few, stand)
-          (λ q less. below q (omega (arith, less)) ∙ get_or-set_other s.registers register q (number v.value) 0 (λ same. omega (arith, same, less))))))))
+          ((below register (omega arith) ∙ register_is g s register passed_word inside, few), stand)
+          (λ q less. below q (omega (arith, less)) ∙ get_or-set_other s.registers register q passed_word 0 (λ same. omega (arith, same, less))))))))
 
     -- the call behind its arguments
-    with_arguments : (quiet : Bool) (many : ℕ) (R : Value → State → Out → Draft → Type 0) (dest : Out) (d : Draft) (s : CodeState) (st : State) (given : List Operand) (u : State) (all : List Out) (e : Draft) → Given g has alive scope active quiet many d s st [] given u all e
-        → length c.callee.params.items ≡ many
+    with_arguments : (quiet : Bool) (elems : List Elem) (R : Value → State → Out → Draft → Type 0) (dest : Out) (d : Draft) (s : CodeState) (st : State) (given : List Operand) (u : State) (all : List Out) (e : Draft) → Given g has alive scope active quiet elems d s st [] given u all e
+        → AreTaken c.callee.params.items elems
         → ((f : Draft) (k : ℕ) (t : CodeState) → Extended d k f → Reaches g s t → At g t (length f.code) → Sim g alive u t → Keeps g d s t → AreGiven g c (given_values given) t → Follows g R t (called_so (given_values given) u) (finished index c.callee.result source 0 dest f))
         → Follows g R s (scope.call index (given_values given) active u) (called g.typed (layout g) index all dest e)
-    with_arguments quiet many R dest d s st given u all e r long next =
+    with_arguments quiet elems R dest d s st given u all e r takes next =
         subst (λ (call : ℕ → List Value → Active → State → Outcome Value). Follows g R s (call index (given_values given) active u) (called g.typed (layout g) index all dest e)) (sym calls_follow.meant)
         (subst (λ (outs : List Out). Follows g R s (called_so (given_values given) u) (called g.typed (layout g) index outs dest e)) (sym r.is)
         (subst (λ (made : Made Out). Follows g R s (called_so (given_values given) u) made) (sym (called_is m r.more dest e))
         (follows_back g R s r.t (called_so (given_values given) u) _ r.go
-        (passes quiet e r.t u R (called_so (given_values given) u) c.callee.result (scalar_result m) dest c.callee.params.items given r.more c.base c.params (long ∙ sym r.long) r.held own c.room e 0 r.t (as_it_was e) (stay g r.t) r.at r.sim (keeps_all g e r.t)
+        (passes quiet e r.t u R (called_so (given_values given) u) c.callee.result (scalar_result m) dest c.callee.params.items given r.more c.base c.params (subst (λ (es : List Elem). AreTaken c.callee.params.items es) (sym r.are_of) takes) r.held own c.room e 0 r.t (as_it_was e) (stay g r.t) r.at r.sim (keeps_all g e r.t)
         (λ f k t last is x go here sim keeps stand below.
         subst (λ (n : ℕ). Follows g R t (called_so (given_values given) u) (finished index c.callee.result n 0 dest f)) (sym is)
         (next f (r.grown.0 + k) t (extended d e f r.grown.0 k r.grown.1 x) (onto g s r.t t r.go go) here sim (keeps_on g d e r.grown.0 s r.t t r.grown.1 r.keeps keeps)
-        (record { words = λ j less. (there t stand j less).0; few = λ j less. (there t stand j less).1 })))))))
+        (record { words = λ j info is. (there t stand j info is).0; few = λ j info is. (there t stand j info is).1 })))))))
       where
         own : (j : ℕ) → c.base ≤ j → j < c.base + length c.callee.params.items → c.touches j
         own j low up = let same : c.base + (j - c.base) ≡ j = omega (arith, low) in subst (λ (n : ℕ). c.touches n) same (c.own (j - c.base) (omega (arith, low, up)))
 
-        there : (t : CodeState) → Stand c.base (given_values given) t → (j : ℕ) → j < length c.callee.params.items → IsAt c.base (given_values given) t j
-        there t stand j less = let one = long_values given in let two = r.long in stand_at c.base (given_values given) t stand j (omega (arith, less, long, one, two))
+        there : (t : CodeState) → Stand c.base c.callee.params.items (given_values given) t → (j : ℕ) (info : VarInfo) → slice_get c.callee.params.items j ≡ Some info → IsAt c.base info (given_values given) t j
+        there t stand j info is = stand_at c.base c.callee.params.items (given_values given) t stand j info is
 
     -- ---- the result
 
-    result_follows : (elem : Elem) → elem.bits ≡ 32 → (d : Draft) (s0 : CodeState) (R : Value → State → Out → Draft → Type 0) (r : ℕ) → Dest g has alive elem d s0 R r → (c.callee.result ≡ None → ⊥) → (f : Draft) (n : ℕ) (t : CodeState) (u : State) (arguments : List Value) → Extended d n f → Reaches g s0 t
+    result_follows : (info : VarInfo) → c.callee.result ≡ Some info → (elem : Elem) → Takes elem info.elem → (d : Draft) (s0 : CodeState) (R : Value → State → Out → Draft → Type 0) (r : ℕ) → Dest g has alive elem d s0 R r → (f : Draft) (n : ℕ) (t : CodeState) (u : State) (arguments : List Value) → Extended d n f → Reaches g s0 t
         → At g t (length f.code) → Sim g alive u t → Keeps g d s0 t → AreGiven g c arguments t → Follows g R t (called_so arguments u) (Makes (O.Scalar r) (register_result index source r f))
     unfolding begun step_of
-    result_follows elem wide d s0 R r dest some f n t u arguments ext go here sim keeps given = at_once g R t (called_so arguments u) (O.Scalar r) (register_result index source r f) (λ within. all within)
+    result_follows info found elem takes d s0 R r dest f n t u arguments ext go here sim keeps given = at_once g R t (called_so arguments u) (O.Scalar r) (register_result index source r f) (λ within. all within)
       where
         zeroed : Draft
         zeroed = with_instr (I.FrontConst source 0) f
@@ -248,14 +247,14 @@ module _ (g : Setting) (has : HasRegisters g) (alive : Variable → Type 0) wher
         inside = let slots = has.room in let all = sim.registers in let room = c.room in omega (arith, room, slots, all)
 
         given_still : AreGiven g c arguments t1
-        given_still = record { words = λ k less. get_or-set_other t.registers source (c.base + k) 0 0 (λ same. omega (arith, same, less)) ∙ given.words k less; few = given.few }
+        given_still = record { words = λ k info is. let less = slice_get_within c.callee.params.items k info is in get_or-set_other t.registers source (c.base + k) 0 0 (λ same. omega (arith, same, less)) ∙ given.words k info is; few = given.few }
 
         puts : (v : Value) (w : State) → CameBack g has alive files_live scope active calls_follow m d s0 v w tt (turn_and_call index zeroed) → Within g (register_result index source r f) → R v w (O.Scalar r) (register_result index source r f)
         puts v w back within =
-            let given = back.given some in
+            let given = back.given info found in
             subst (λ (x : Value). R x w (O.Scalar r) (register_result index source r f)) (sym given.1.0)
             (dest.puts (turn_and_call index zeroed) back.grown.0 (I.FrontMove r source) back.t w given.0 back.go back.at back.sim back.grown.1 back.keeps within refl
-            (ap (λ (x : ℕ). Goes (with_register r x back.t)) (given.1.2 ∙ sym (held_wide elem given.0 wide given.1.1))) (below_bits elem.bits given.0 wide given.1.1))
+            (ap (λ (x : ℕ). Goes (with_register r x back.t)) (given.1.2 ∙ takes_held elem info.elem given.0 takes given.1.1)) (takes_below elem info.elem given.0 takes given.1.1))
 
         all : Within g (register_result index source r f) → Follows g R t (called_so arguments u) (Makes (O.Scalar r) (register_result index source r f))
         all within =
@@ -266,7 +265,7 @@ module _ (g : Setting) (has : HasRegisters g) (alive : Variable → Type 0) wher
             follows_back g R t t1 (called_so arguments u) _ goes
             (with_more g (CameBack g has alive files_live scope active calls_follow m d s0) R t1 (called_so arguments u) tt (O.Scalar r) (turn_and_call index zeroed) (register_result index source r f) 1 (and_one g (I.FrontMove r source) (turn_and_call index zeroed))
             (turn_follows g has alive files_live scope active calls_follow m d s0 zeroed (n + 1) t1 u arguments (extended d f zeroed n 1 ext (and_one g (I.FrontConst source 0) f)) (onto g s0 t t1 go goes) (at_next g (I.FrontConst source 0) f t (t.at + 1) here refl)
-            (sim_passed g has alive files_live scope active calls_follow m u t source 0 touched sim) (λ q kept. keeps_passed g has alive files_live scope active calls_follow m d t source 0 touched high q kept ∙ keeps q kept) given_still (λ some. register_is g t source 0 inside))
+            (sim_passed g has alive files_live scope active calls_follow m u t source 0 touched sim) (λ q kept. keeps_passed g has alive files_live scope active calls_follow m d t source 0 touched high q kept ∙ keeps q kept) given_still (λ info is. register_is g t source 0 inside))
             (λ v w back within. puts v w back within))
 
     -- ---- the call
@@ -278,29 +277,26 @@ module _ (g : Setting) (has : HasRegisters g) (alive : Variable → Type 0) wher
     made_call row dest d = call_to g.typed (layout g) index (values_of g.typed (layout g) true (are_quiet row) row) dest d
 
     -- a call with a result, whose last instruction writes the register of which something is said
-    pub call_follows : {k : Count} (row : Row_of-TExpr k) → AreDone g has alive scope active true (are_quiet row) row → length c.callee.params.items ≡ long_row g has alive scope active row → (info : VarInfo) → c.callee.result ≡ Some info → (elem : Elem) → elem.bits ≡ 32
+    pub call_follows : {k : Count} (row : Row_of-TExpr k) → AreDone g has alive scope active true (are_quiet row) row → AreTaken c.callee.params.items (elems_of row) → (info : VarInfo) → c.callee.result ≡ Some info → (elem : Elem) → Takes elem info.elem
         → (d : Draft) (s : CodeState) (st : State) (R : Value → State → Out → Draft → Type 0) (r : ℕ) → g.begins ≤ d.regs → At g s (length d.code) → Sim g alive st s → Dest g has alive elem d s R r → Follows g R s (meant row st) (made_call row (O.Scalar r) d)
     unfolding call_to in_register
-    call_follows row done long info is elem wide d s st R r free here sim dest =
-        then_follows g (Given g has alive scope active (are_quiet row) (long_row g has alive scope active row) d s st []) R s s (operands scope row active st) _ _ (λ given after. called g.typed (layout g) index given (O.Scalar r) after) (stay g s)
+    call_follows row done taken info is elem takes d s st R r free here sim dest =
+        then_follows g (Given g has alive scope active (are_quiet row) (elems_of row) d s st []) R s s (operands scope row active st) _ _ (λ given after. called g.typed (layout g) index given (O.Scalar r) after) (stay g s)
         (arguments_follow g has alive scope active true (are_quiet row) row (λ calm. calm) done [] d s st free here sim) (λ outs e. extends_called m outs (O.Scalar r) e)
-        (λ given u all e x. with_arguments (are_quiet row) (long_row g has alive scope active row) R (O.Scalar r) d s st given u all e x long (λ f k t ext go at_t sim_t keeps given_t.
+        (λ given u all e x. with_arguments (are_quiet row) (elems_of row) R (O.Scalar r) d s st given u all e x taken (λ f k t ext go at_t sim_t keeps given_t.
         subst (λ (o : Option VarInfo). Follows g R t (called_so (given_values given) u) (finished index o source 0 (O.Scalar r) f)) (sym is)
         (subst (λ (made : Made Out). Follows g R t (called_so (given_values given) u) made) (sym (result_is index info source (O.Scalar r) f (scalar_result m info is)))
-        (result_follows elem wide d s R r dest some f k t u (given_values given) ext go at_t sim_t keeps given_t))))
-      where
-        some : c.callee.result ≡ None → ⊥
-        some e = let no : Some info ≡ None = sym is ∙ e in cc
+        (result_follows info is elem takes d s R r dest f k t u (given_values given) ext go at_t sim_t keeps given_t))))
 
     -- a call without one
-    pub call_runs : {k : Count} (row : Row_of-TExpr k) → AreDone g has alive scope active true (are_quiet row) row → length c.callee.params.items ≡ long_row g has alive scope active row → c.callee.result ≡ None
+    pub call_runs : {k : Count} (row : Row_of-TExpr k) → AreDone g has alive scope active true (are_quiet row) row → AreTaken c.callee.params.items (elems_of row) → c.callee.result ≡ None
         → (dest : Out) (d : Draft) (s : CodeState) (st : State) → g.begins ≤ d.regs → At g s (length d.code) → Sim g alive st s → Follows g (λ v u out e. Ran g alive d s u e) s (meant row st) (made_call row dest d)
     unfolding call_to finished
-    call_runs row done long is dest d s st free here sim =
-        then_follows g (Given g has alive scope active (are_quiet row) (long_row g has alive scope active row) d s st []) (λ v u out e. Ran g alive d s u e) s s (operands scope row active st) _ _ (λ given after. called g.typed (layout g) index given dest after) (stay g s)
+    call_runs row done taken is dest d s st free here sim =
+        then_follows g (Given g has alive scope active (are_quiet row) (elems_of row) d s st []) (λ v u out e. Ran g alive d s u e) s s (operands scope row active st) _ _ (λ given after. called g.typed (layout g) index given dest after) (stay g s)
         (arguments_follow g has alive scope active true (are_quiet row) row (λ calm. calm) done [] d s st free here sim) (λ outs e. extends_called m outs dest e)
-        (λ given u all e x. with_arguments (are_quiet row) (long_row g has alive scope active row) (λ v w out f. Ran g alive d s w f) dest d s st given u all e x long (λ f k t ext go at_t sim_t keeps given_t.
+        (λ given u all e x. with_arguments (are_quiet row) (elems_of row) (λ v w out f. Ran g alive d s w f) dest d s st given u all e x taken (λ f k t ext go at_t sim_t keeps given_t.
         subst (λ (o : Option VarInfo). Follows g (λ v w out h. Ran g alive d s w h) t (called_so (given_values given) u) (finished index o source 0 dest f)) (sym is)
         (with_more g (CameBack g has alive files_live scope active calls_follow m d s) (λ v w out h. Ran g alive d s w h) t (called_so (given_values given) u) tt O.Nothing (turn_and_call index f) (turn_and_call index f) 0 (as_it_was (turn_and_call index f))
-        (turn_follows g has alive files_live scope active calls_follow m d s f k t u (given_values given) ext go at_t sim_t keeps given_t (λ some. absurd (some is)))
+        (turn_follows g has alive files_live scope active calls_follow m d s f k t u (given_values given) ext go at_t sim_t keeps given_t (λ info found. absurd (let no : Some info ≡ None = sym found ∙ is in cc)))
         (λ v w back within. record { grown = back.grown; t = back.t; go = back.go; at = back.at; sim = back.sim; keeps = back.keeps }))))

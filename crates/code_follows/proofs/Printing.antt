@@ -1,5 +1,7 @@
 -- `printf` on scalar arguments of 32 bits.
-use Rattle.std.proofs.Common.{◌≡◌, ◌∙◌, ℕ, ◌+◌, ◌≤◌, Bool, false, Vec, Global, List, [], ◌∷◌, ◌++◌, length, slice_index, map, refl, sym, ap, subst, append_assoc}
+use Rattle.std.proofs.Common.{◌≡◌, ◌∙◌, ℕ, suc, ◌+◌, ◌≤◌, Bool, false, Vec, Global, List, [], ◌∷◌, ◌++◌, length, slice_index, map, refl, sym, ap, subst, append_assoc, arith}
+use Rattle.std.specs.List.{All}
+use Rattle.cstar_base.specs.declared.elem.Elem.{Elem}
 use Rattle.std.proofs.lemmas.List.{append-nil}
 use mathlib.Core.Former.{Count}
 use Rattle.cstar_base.specs.Numerals.{word_text}
@@ -30,10 +32,10 @@ use Rattle.source_meaning.specs.Printing.{printed}
 use Rattle.source_meaning.specs.State as Source
 use Rattle.source_meaning.specs.State.{Outcome, State, then_do, with_output}
 use Rattle.source_meaning.specs.Values.{Active, Nothing, Scope, Value, number}
-use Rattle.code_follows.specs.Fragment.{AreIn}
+use Rattle.code_follows.specs.Fragment.{AreIn, elems_of}
 use Rattle.code_follows.proofs.CallValues.{arguments_code}
 use Rattle.code_follows.proofs.Expressions.{arguments_do}
-use Rattle.code_follows.proofs.Arguments.{AreHeld, Given, arguments_follow, long_row}
+use Rattle.code_follows.proofs.Arguments.{AreHeld, Given, arguments_follow}
 use Rattle.code_follows.proofs.Callees.{CallsFollow}
 use Rattle.code_follows.proofs.Following.{Extends, Follows, HasRegisters, Keeps, Ran, Sim, delayed, extends_made, finishes_later, keeps_all, keeps_on, then_follows}
 use Rattle.code_follows.proofs.Settings.{At, Reaches, Setting, and_one, at_next, begins_here, layout, one, onto, placed_instr, stay}
@@ -49,14 +51,15 @@ module _ (g : Setting) (has : HasRegisters g) (alive : Variable → Type 0) (n :
   Stand (w ∷ words) (out ∷ outs) registers = (r : ℕ) × (out ≡ O.Scalar r) × (slice_index registers r ≡ w) × Stand words outs registers
   Stand _ _ registers = ⊥
 
-  stand_now : (quiet : Bool) (given : List Operand) (outs : List Out) (e : Draft) (st : State) (s : CodeState) → Sim g alive st s → AreHeld g has alive scope active quiet given outs e st s → Stand (map number (given_values given)) outs s.registers
+  stand_now : (quiet : Bool) (given : List Operand) (outs : List Out) (e : Draft) (st : State) (s : CodeState) → Sim g alive st s → All (λ (elem : Elem). elem.bits ≡ 32) (map (λ (o : Operand). o.elem) given) → AreHeld g has alive scope active quiet given outs e st s → Stand (map number (given_values given)) outs s.registers
   unfolding AreHeld Stand given_values number
-  stand_now quiet [] [] e st s sim h = tt
-  stand_now quiet (o ∷ given) (out ∷ outs) e st s sim h =
-      let holds = h.1 in
-      (holds.register, holds.is, holds.lasts st s sim (keeps_all g e s) (λ calm. refl) ∙ held_wide o.elem holds.word h.0 (below_word o.elem.bits holds.word h.0 holds.small) ∙ sym (ap number holds.value), stand_now quiet given outs e st s sim h.2)
-  stand_now quiet [] (out ∷ outs) e st s sim h = absurd h
-  stand_now quiet (o ∷ given) [] e st s sim h = absurd h
+  stand_now quiet [] [] e st s sim wide h = tt
+  stand_now quiet (o ∷ given) (out ∷ outs) e st s sim wide h =
+      let holds = h.0 in
+      let long : o.elem.bits ≡ 32 = wide 0 o.elem (omega arith) in
+      (holds.register, holds.is, holds.lasts st s sim (keeps_all g e s) (λ calm. refl) ∙ held_wide o.elem holds.word long (below_word o.elem.bits holds.word long holds.small) ∙ sym (ap number holds.value), stand_now quiet given outs e st s sim (λ k other less. wide (suc k) other (omega (arith, less))) h.1)
+  stand_now quiet [] (out ∷ outs) e st s sim wide h = absurd h
+  stand_now quiet (o ∷ given) [] e st s sim wide h = absurd h
 
   pieces_grow : (pieces : List Piece) (outs : List Out) (d : Draft) → Extends g d (pieces_printed pieces outs d)
   unfolding pieces_printed Extends
@@ -121,12 +124,12 @@ module _ (g : Setting) (has : HasRegisters g) (alive : Variable → Type 0) (n :
 
   -- ---- the whole
 
-  pub printf_follows : {k : Count} (pieces : List Piece) (row : Row_of-TExpr k) → (AreIn g.may) row → HaveCode g.typed g.instance n row → (d : Draft) (s : CodeState) (st : State) → g.begins ≤ d.regs → At g s (length d.code) → Sim g alive st s
+  pub printf_follows : {k : Count} (pieces : List Piece) (row : Row_of-TExpr k) → (AreIn g.may) row → All (λ (elem : Elem). elem.bits ≡ 32) (elems_of row) → HaveCode g.typed g.instance n row → (d : Draft) (s : CodeState) (st : State) → g.begins ≤ d.regs → At g s (length d.code) → Sim g alive st s
       → Follows g (λ v u out e. Ran g alive d s u e) s (then_do (operands scope row active st) (λ given after. Source.Gives Nothing (with_output (printed pieces (map number (given_values given))) after))) (then_make (values_of g.typed (layout g) false (are_quiet row) row [] d) (λ given after. pieces_printed pieces given after))
-  printf_follows pieces row isin c d s st free here sim =
-      then_follows g (Given g has alive scope active (are_quiet row) (long_row g has alive scope active row) d s st []) (λ v u out e. Ran g alive d s u e) s s (operands scope row active st) _ _ _ (stay g s) (arguments_follow g has alive scope active false (are_quiet row) row (λ is. is) (arguments_do g has alive n lives ready scope active calls_follow false (are_quiet row) row isin c) [] d s st free here sim) (λ given e. pieces_grow pieces given e)
+  printf_follows pieces row isin wide c d s st free here sim =
+      then_follows g (Given g has alive scope active (are_quiet row) (elems_of row) d s st []) (λ v u out e. Ran g alive d s u e) s s (operands scope row active st) _ _ _ (stay g s) (arguments_follow g has alive scope active false (are_quiet row) row (λ is. is) (arguments_do g has alive n lives ready scope active calls_follow false (are_quiet row) row isin c) [] d s st free here sim) (λ given e. pieces_grow pieces given e)
       (λ given u all e r. subst (λ (outs : List Out). Follows g (λ v w out f. Ran g alive d s w f) s (Source.Gives Nothing (with_output (printed pieces (map number (given_values given))) u)) (pieces_printed pieces outs e)) (sym r.is)
-      (from_before d e r.grown.0 s r.t _ _ r.grown.1 r.go r.keeps (pieces_follow pieces (map number (given_values given)) r.more e r.t u r.at r.sim (stand_now (are_quiet row) given r.more e u r.t r.sim r.held))))
+      (from_before d e r.grown.0 s r.t _ _ r.grown.1 r.go r.keeps (pieces_follow pieces (map number (given_values given)) r.more e r.t u r.at r.sim (stand_now (are_quiet row) given r.more e u r.t r.sim (subst (λ (es : List Elem). All (λ (elem : Elem). elem.bits ≡ 32) es) (sym r.are_of) wide) r.held))))
 
   pub printf_code : (ty : ValueType) (pieces : Vec Piece Global) (p : Vec (Unit {0}) Global) (row : _) → HasCode g.typed g.instance n (T.Printf' ty pieces p row) → HaveCode g.typed g.instance n row
   unfolding IsShaped IsLowerable NamesVariables

@@ -44,10 +44,10 @@ use Rattle.source_meaning.specs.State.{Outcome, State, then_do, with_scalar}
 use Rattle.source_meaning.specs.Targets.{read, variable_target}
 use Rattle.source_meaning.specs.Values.{Active, Scalar, Scope, Value, at, convert_to, unary_of}
 use Rattle.source_meaning.proofs.ConstantLaws.{Boxed, value_means}
-use Rattle.code_follows.specs.Fragment.{AreIn, IsIn, IsOperand, IsWord}
+use Rattle.code_follows.specs.Fragment.{AreIn, IsIn, IsOperand, IsWord, elems_of}
 use Rattle.code_follows.proofs.Passing.{call_follows}
 use Rattle.code_follows.proofs.Choosing.{put_lands}
-use Rattle.code_follows.proofs.CallValues.{call_code, has_result, many_arguments}
+use Rattle.code_follows.proofs.CallValues.{call_code}
 use Rattle.code_follows.proofs.Expressions.{arguments_do, AreChosen, brackets_code, choice_goes, choice_parts, convert_code, left_code, named, operand, operand_grows, right_code, unary_code, unary_same, value_follows}
 use Rattle.code_follows.proofs.Bytes.{byte_put}
 use Rattle.code_follows.proofs.Callees.{CallsFollow}
@@ -225,15 +225,15 @@ module _ (g : Setting) (has : HasRegisters g) (alive : Variable → Type 0) (n :
   gone elem d s (Source.Ends early u) Fails h = tt
 
   -- the result of a call
-  call_put : (ty : ValueType) (index : ℕ) (p : Vec (Unit {0}) Global) (row : _) → IsWord ty → Kept ty.elem → g.may true index → (AreIn g.may) row → HasCode g.typed g.instance n (T.Call' ty index p row) → Puts ty.elem (λ st. evaluated scope (T.Call' ty index p row) active st) (λ d. computed_to g.typed (layout g) (O.Scalar own) (T.Call' ty index p row) d)
+  call_put : (ty : ValueType) (index : ℕ) (p : Vec (Unit {0}) Global) (row : _) → Kept ty.elem → g.may.calls (Some ty.elem) index (elems_of row) → (AreIn g.may) row → HasCode g.typed g.instance n (T.Call' ty index p row) → Puts ty.elem (λ st. evaluated scope (T.Call' ty index p row) active st) (λ d. computed_to g.typed (layout g) (O.Scalar own) (T.Call' ty index p row) d)
   unfolding computed_to evaluated IsDeclared
-  call_put ty index p row word fits may isin c d s st free here sim =
-      let known = calls_follow.value index may in
-      let result = has_result g has alive n lives ready scope active calls_follow index known.0 known.1 in
+  call_put ty index p row fits may isin c d s st free here sim =
+      let known = calls_follow.value ty.elem index (elems_of row) may in
+      let result = known.1.1 in
       gone ty.elem d s (evaluated scope (T.Call' ty index p row) active st) _
-      (call_follows g has alive (λ k. lives (V.File k) tt) scope active calls_follow known.0 row
-      (arguments_do g has alive n lives ready scope active calls_follow true (are_quiet row) row isin (call_code g has alive n lives ready scope active calls_follow ty index p row c)) (many_arguments g has alive n lives ready scope active calls_follow ty index p row known.0 c)
-      result.0 result.1 ty.elem word.1 d s st (Put ty.elem d s) own free here sim (dest ty.elem d s fits free))
+      (call_follows g has alive (λ k. lives (V.File k) tt) scope active calls_follow known.0.0 row
+      (arguments_do g has alive n lives ready scope active calls_follow true (are_quiet row) row isin (call_code g has alive n lives ready scope active calls_follow ty index p row c)) known.0.1
+      result.0 result.1.0 ty.elem result.1.1 d s st (Put ty.elem d s) own free here sim (dest ty.elem d s fits free))
 
   convert_put : (ty : ValueType) (p : Boxed) (inner : TExpr) → IsIn g.may (T.Convert' ty p inner) → Kept ty.elem → HasCode g.typed g.instance n inner → (info.elem.bits ≡ 32 → Puts (type_of inner).elem (λ st. evaluated scope inner active st) (λ d. computed_to g.typed (layout g) (O.Scalar own) inner d))
       → Puts ty.elem (λ st. then_do (evaluated scope inner active st) (λ v after. Source.Gives (convert_to ty (type_of inner).elem v) after)) (λ d. computed_to g.typed (layout g) (O.Scalar own) (T.Convert' ty p inner) d)
@@ -272,7 +272,7 @@ module _ (g : Setting) (has : HasRegisters g) (alive : Variable → Type 0) (n :
   computed_follows (T.Choice' ty p test q first r second) h c fits = choice_put ty p q r test first second h.0 fits h.1 h.2 h.3 h.4 h.5 (choice_parts g has alive n lives ready scope active calls_follow ty p q r test first second c)
   computed_follows (T.Assign' ty place op p target q value) h c fits = copied_to ty.elem fits _ _ (operand g has alive n lives ready scope active calls_follow true 32 (T.Assign' ty place op p target q value) h c)
   computed_follows (T.Step' ty op order p target) h c fits = copied_to ty.elem fits _ _ (operand g has alive n lives ready scope active calls_follow true 32 (T.Step' ty op order p target) h c)
-  computed_follows (T.Call' ty index p arguments) h c fits = call_put ty index p arguments h.0 fits h.1 h.2 c
+  computed_follows (T.Call' ty index p arguments) h c fits = call_put ty index p arguments fits h.1 h.2 c
   computed_follows _ h c fits = absurd h
 
   -- a constant goes to the register at once

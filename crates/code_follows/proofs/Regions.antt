@@ -17,7 +17,7 @@ use Rattle.code_lengths.proofs.Declaring.{all_at}
 use Rattle.lower_base.specs.Drafts.{Draft}
 use Rattle.lower_base.specs.Layouts.{Numbering, Registers, behind, earlier_base, entered, entries_of, first_named, layout_of, nothing_numbered, numbered, param_entries, register_of, registers_of, result_register, with_instance, with_local}
 use Rattle.code_follows.specs.Fragment.{IsScalarVariable}
-use Rattle.code_follows.proofs.Declaring.{all_first, all_rest}
+use Rattle.code_follows.proofs.Lists.{all_first, all_rest}
 use Rattle.code_follows.proofs.Standing.{some_same}
 
 -- an instance whose parameters, result and block variables are scalars

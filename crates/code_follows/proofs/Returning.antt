@@ -32,17 +32,18 @@ use Rattle.source_meaning.specs.State as Source
 use Rattle.source_meaning.specs.State.{State, then_do}
 use Rattle.source_meaning.specs.Statements.{Returned, executed, returned}
 use Rattle.source_meaning.specs.Values.{Active, Scalar, Scope, Value}
-use Rattle.code_follows.specs.Fragment.{IsIn, IsWord}
+use Rattle.code_follows.specs.Fragment.{IsIn, Takes}
 use Rattle.code_follows.proofs.ConstantRegisters.{behind_variables}
 use Rattle.code_follows.proofs.Executing.{IsGiven, Leaves, Left, Returns}
 use Rattle.code_follows.proofs.Expressions.{operand}
 use Rattle.code_follows.proofs.Callees.{CallsFollow}
-use Rattle.code_follows.proofs.Following.{Extends, Follows, HasRegisters, Keeps, Ran, Sim, delayed, finished, keeps_all, result_kept, spared_kept}
+use Rattle.code_follows.proofs.Following.{Extends, Follows, HasRegisters, Keeps, Ran, Sim, delayed, finished, held, keeps_all, result_kept, spared_kept}
 use Rattle.code_follows.proofs.Jumping.{nothing_restored}
 use Rattle.code_follows.proofs.Settings.{At, Reaches, Setting, Within, and_one, at_next, begins_here, earlier, layout, one, onto, stay}
 use Rattle.code_follows.proofs.Statements.{StandsIn}
 use Rattle.code_follows.proofs.Values.{Value_of}
-use Rattle.code_follows.proofs.Words.{below_word, held_wide}
+use Rattle.code_follows.proofs.Numbers.{takes_below, takes_held}
+use Rattle.code_follows.proofs.Words.{scalar_of}
 
 -- the function is left where its code ends
 pub leaves : (g : Setting) (alive : Variable → Type 0) (e : Draft) (s : CodeState) → Within g (with_end g.is_main e) → At g s (length e.code) → Leaves g alive s
@@ -103,18 +104,18 @@ module _ (g : Setting) (has : HasRegisters g) (alive : Variable → Type 0) (eve
     few = h.few;
   }
 
-  given_so : (f : Frame) (d : Draft) (s0 : CodeState) (w : ℕ) (u : State) (given : Outcome) (n r : ℕ) (e : Draft) (t : CodeState) → (given ≡ R.Parallel → ⊥) → (given ≡ R.Nothing → g.instance.result ≡ None) → Reaches g s0 t → Keeps g d s0 t → At g t (length e.code) → Sim g alive u t
-      → w < 2 ^ 32 → slice_index t.registers r ≡ w → Follows g (Left g alive f d s0) s0 (Source.Gives (Returned (Some (Scalar w))) u) (stored_then_leaves given n (O.Scalar r) e)
+  given_so : (elem : Elem) → ((info : VarInfo) → g.instance.result ≡ Some info → Takes info.elem elem) → (f : Frame) (d : Draft) (s0 : CodeState) (w : ℕ) (u : State) (given : Outcome) (n r : ℕ) (e : Draft) (t : CodeState) → (given ≡ R.Parallel → ⊥) → (given ≡ R.Nothing → g.instance.result ≡ None) → Reaches g s0 t → Keeps g d s0 t → At g t (length e.code) → Sim g alive u t
+      → w < 2 ^ elem.bits → slice_index t.registers r ≡ held elem w → Follows g (Left g alive f d s0) s0 (Source.Gives (Returned (Some (Scalar w))) u) (stored_then_leaves given n (O.Scalar r) e)
   unfolding Follows Left IsGiven stored_result put_value in_register then_make begun step_of
-  given_so f d s0 w u R.Nothing n r e t none no_result go keeps at sim few is = λ within. record {
+  given_so elem takes f d s0 w u R.Nothing n r e t none no_result go keeps at sim few is = λ within. record {
     t = t;
     go = go;
     sim = sim;
     leaves = leaves g alive e t within at;
     spares = λ k spared. keeps k (spared_kept g d k spared);
-    given = λ some. absurd (some (no_result refl));
+    given = λ info found. absurd (let no : Some info ≡ None = sym found ∙ no_result refl in cc);
   }
-  given_so f d s0 w u R.Scalar n r e t none no_result go keeps at sim few is = λ within.
+  given_so elem takes f d s0 w u R.Scalar n r e t none no_result go keeps at sim few is = λ within.
       let q : ℕ = result_register (layout g) in
       let i = I.FrontMove q r in
       let moves : Draft = with_instr i e in
@@ -127,26 +128,25 @@ module _ (g : Setting) (has : HasRegisters g) (alive : Variable → Type 0) (eve
         sim = result_set u t (slice_index t.registers r) sim;
         leaves = leaves g alive moves t1 within (at_next g i e t (t.at + 1) at refl);
         spares = λ k spared. get_or-set_other t.registers q k (slice_index t.registers r) 0 (λ e. has.spared_result (subst (λ (m : ℕ). g.spared m) e spared)) ∙ keeps k (spared_kept g d k spared);
-        given = λ some. (w, (refl, few, get_or-set_same t.registers q (slice_index t.registers r) 0 inside ∙ is));
+        given = λ info found. (w, (refl, takes_below info.elem elem w (takes info found) few, get_or-set_same t.registers q (slice_index t.registers r) 0 inside ∙ is ∙ takes_held info.elem elem w (takes info found) few));
       }
-  given_so f d s0 w u R.Parallel n r e t none no_result go keeps at sim few is = absurd (none refl)
+  given_so elem takes f d s0 w u R.Parallel n r e t none no_result go keeps at sim few is = absurd (none refl)
 
   -- `return` with a value
-  answers : (elem : Elem) (f : Frame) (d : Draft) (s0 : CodeState) (given : Outcome) (n : ℕ) (shape : Option ℕ) → shape ≡ None → elem.bits ≡ 32 → (given ≡ R.Parallel → ⊥) → (given ≡ R.Nothing → g.instance.result ≡ None) → (o : Source.Outcome Value) (made : Made Out)
+  answers : (elem : Elem) (f : Frame) (d : Draft) (s0 : CodeState) (given : Outcome) (n : ℕ) (shape : Option ℕ) → shape ≡ None → ((info : VarInfo) → g.instance.result ≡ Some info → Takes info.elem elem) → (given ≡ R.Parallel → ⊥) → (given ≡ R.Nothing → g.instance.result ≡ None) → (o : Source.Outcome Value) (made : Made Out)
       → Follows g (Value_of g has alive elem true d s0) s0 o made → Follows g (Left g alive f d s0) s0 (then_do o (λ v after. Source.Gives (Returned (Some (returned active shape v))) after)) (then_make (then_make made (λ v after. stored_result (layout g) given v after)) (λ u after. then_leaves n after))
   unfolding Follows then_do then_make returned
-  answers elem f d s0 given n shape scalar wide none no_result (Source.Gives v u) (Makes out e) h =
+  answers elem f d s0 given n shape scalar takes none no_result (Source.Gives v u) (Makes out e) h =
       delayed g (Left g alive f d s0) e s0 (Source.Gives (Returned (Some (returned active shape v))) u) (stored_then_leaves given n out e) (extends_stored given n out e none) (λ within.
       let arr = h within in
-      let few : arr.holds.word < 2 ^ 32 = below_word elem.bits arr.holds.word wide arr.holds.small in
-      let there : slice_index arr.t.registers arr.holds.register ≡ arr.holds.word = arr.holds.lasts u arr.t arr.sim (keeps_all g e arr.t) (λ h. refl) ∙ held_wide elem arr.holds.word wide few in
+      let there : slice_index arr.t.registers arr.holds.register ≡ held elem arr.holds.word = arr.holds.lasts u arr.t arr.sim (keeps_all g e arr.t) (λ h. refl) in
       let is : returned active shape v ≡ Scalar arr.holds.word = ap (λ (o : Option ℕ). returned active o v) scalar ∙ arr.holds.value in
       subst (λ (x : Value). Follows g (Left g alive f d s0) s0 (Source.Gives (Returned (Some x)) u) (stored_then_leaves given n out e)) (sym is)
       (subst (λ (o : Out). Follows g (Left g alive f d s0) s0 (Source.Gives (Returned (Some (Scalar arr.holds.word))) u) (stored_then_leaves given n o e)) (sym arr.holds.is)
-      (given_so f d s0 arr.holds.word u given n arr.holds.register e arr.t none no_result arr.go arr.keeps arr.at arr.sim few there)))
-  answers elem f d s0 given n shape scalar wide none no_result (Source.Ends early u) (Makes out e) h = finished g (Left g alive f d s0) e s0 early u (stored_then_leaves given n out e) (extends_stored given n out e none) h
-  answers elem f d s0 given n shape scalar wide none no_result (Source.Gives v u) Fails h = tt
-  answers elem f d s0 given n shape scalar wide none no_result (Source.Ends early u) Fails h = tt
+      (given_so elem takes f d s0 arr.holds.word u given n arr.holds.register e arr.t none no_result arr.go arr.keeps arr.at arr.sim arr.holds.small there)))
+  answers elem f d s0 given n shape scalar takes none no_result (Source.Ends early u) (Makes out e) h = finished g (Left g alive f d s0) e s0 early u (stored_then_leaves given n out e) (extends_stored given n out e none) h
+  answers elem f d s0 given n shape scalar takes none no_result (Source.Gives v u) Fails h = tt
+  answers elem f d s0 given n shape scalar takes none no_result (Source.Ends early u) Fails h = tt
 
   -- no context is loaded before the function is left
   ends_so : (f : Frame) (k : ℕ) → f.is_main ≡ g.is_main → (after : Draft) → with_end f.is_main (restored [] k after) ≡ with_end g.is_main after
@@ -164,7 +164,7 @@ module _ (g : Setting) (has : HasRegisters g) (alive : Variable → Type 0) (eve
           shaped None e = cc
           shaped (Some s) e = cc
 
-  pub return_follows : (e : Option TExpr) → IfSome e (λ x. IsIn g.may x × IsWord (type_of x)) → (f : Frame) (n : ℕ) (d : Draft) (s0 : CodeState) (st : State) → StandsIn g f → g.begins ≤ d.regs → At g s0 (length d.code) → Sim g alive st s0 → IfSome e (λ x. HasCode g.typed g.instance n x)
+  pub return_follows : (e : Option TExpr) → IfSome e (λ x. IsIn g.may x × g.may.returns (type_of x).elem) → (f : Frame) (n : ℕ) (d : Draft) (s0 : CodeState) (st : State) → StandsIn g f → g.begins ≤ d.regs → At g s0 (length d.code) → Sim g alive st s0 → IfSome e (λ x. HasCode g.typed g.instance n x)
       → Follows g (Left g alive f d s0) s0 (executed scope (S.Return e) n active st) (statement_of g.typed (layout g) (S.Return e) f [] n d)
   unfolding executed statement_of returned_by given_back then_make Follows Left IsGiven
   return_follows None h f n d s0 st framed free at sim c =
@@ -173,5 +173,5 @@ module _ (g : Setting) (has : HasRegisters g) (alive : Variable → Type 0) (eve
   return_follows (Some e) h f n d s0 st framed free at sim c =
       subst (λ (m : Made ℕ). Follows g (Left g alive f d s0) s0 (then_do (evaluated scope e active st) (λ v after. Source.Gives (Returned (Some (returned active (type_of e).shape v))) after)) m)
       (λ i. then_make (then_make (next_of g.typed (layout g) (type_of e).elem.bits true e d) (λ v after. stored_result (layout g) f.outcome v after)) (λ u after. Makes n (sym (ends_so f f.saved.in_all framed.main after) i)))
-      (answers (type_of e).elem f d s0 f.outcome n (type_of e).shape h.1.0 h.1.1 framed.scalar (no_outcome f framed) (evaluated scope e active st) (next_of g.typed (layout g) (type_of e).elem.bits true e d)
+      (answers (type_of e).elem f d s0 f.outcome n (type_of e).shape (scalar_of g.may e h.0) (calls_follow.returns (type_of e).elem h.1) framed.scalar (no_outcome f framed) (evaluated scope e active st) (next_of g.typed (layout g) (type_of e).elem.bits true e d)
       (operand g has alive n (λ x within. every x) (ready n) scope active calls_follow true (type_of e).elem.bits e h.0 c d s0 st free at sim))

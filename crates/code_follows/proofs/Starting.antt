@@ -38,7 +38,8 @@ use Rattle.source_meaning.specs.Statements.{Broke, Continued, Leaving, Onward, R
 use Rattle.source_meaning.specs.Targets.{OfScalar, Target, stored, variable_target}
 use Rattle.source_meaning.specs.Values.{Active, Scalar, Scope, Value, number}
 use Rattle.code_follows.specs.Fragment.{IsIn, IsInLocal, Takes}
-use Rattle.code_follows.proofs.Declaring.{Started, all_first, all_rest, first_is_named, others_stand, sim_fewer, started_before}
+use Rattle.code_follows.proofs.Declaring.{Started, first_is_named, others_stand, sim_fewer, started_before}
+use Rattle.code_follows.proofs.Lists.{all_first, all_rest}
 use Rattle.code_follows.proofs.Executing.{RanOn, gives, no_break, no_continue, no_return, ran_from}
 use Rattle.code_follows.proofs.Callees.{CallsFollow}
 use Rattle.code_follows.proofs.Following.{Extends, Follows, HasRegisters, IsScalar, Keeps, Ran, Sim, delayed, extends_then, finished, finishes_later, follows_other, held, keeps_all, then_follows, variable_kept}

@@ -26,7 +26,7 @@ use Rattle.paris_code.specs.declared.program.Unit.{Unit as CodeUnit}
 use Rattle.paris_code.specs.Proper.{IsUnit}
 use Rattle.code_follows.specs.Fragment.{IsScalarVariable, May}
 use Rattle.code_follows.proofs.Beginnings.{start_put, starts_put}
-use Rattle.code_follows.proofs.Declaring.{all_first, all_rest}
+use Rattle.code_follows.proofs.Lists.{all_first, all_rest}
 use Rattle.code_follows.proofs.Following.{HasRegisters}
 use Rattle.code_follows.proofs.Regions.{HasScalarInstances, IsScalarInstance, apart, below, in_order, result_apart, result_below, same_constants, same_end, base_behind}
 use Rattle.code_follows.proofs.Settings.{Setting, Within}

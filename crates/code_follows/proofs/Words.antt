@@ -58,7 +58,7 @@ scalar_of may (T.LogicalAnd' ty p left q right) h = h.0.0
 scalar_of may (T.Choice' ty p test q first r second) h = h.0.0
 scalar_of may (T.Assign' ty place op p target q value) h = h.0
 scalar_of may (T.Step' ty op order p target) h = h.0
-scalar_of may (T.Call' ty index p arguments) h = h.0.0
+scalar_of may (T.Call' ty index p arguments) h = h.0
 scalar_of may _ h = absurd h
 
 none_is : (o : Option ℕ) → o ≡ None → is_none o ≡ true
@@ -82,7 +82,7 @@ kept may (T.LogicalAnd' ty p left q right) h = none_is ty.shape h.0.0
 kept may (T.Choice' ty p test q first r second) h = none_is ty.shape h.0.0
 kept may (T.Assign' ty place op p target q value) h = none_is ty.shape h.0
 kept may (T.Step' ty op order p target) h = none_is ty.shape h.0
-kept may (T.Call' ty index p arguments) h = none_is ty.shape h.0.0
+kept may (T.Call' ty index p arguments) h = none_is ty.shape h.0
 kept may _ h = absurd h
 
 -- what a chain of casts gives is a number of its type

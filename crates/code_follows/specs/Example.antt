@@ -1,5 +1,5 @@
--- A scalar program: `int s = 1; int twice(int p) { return p + p; }
--- int main() { char i; for (i = 0; i < 10; i++) s = twice(s) + i; printf("%d", s); }`, where `char` is signed.
+-- A scalar program: `int s = 1; char twice(char p) { return p + p; }
+-- int main() { char i; for (i = 0; i < 10; i++) s = s + twice(i); printf("%d", s); }`, where `char` is signed.
 use Rattle.std.specs.Prelude.{[], ◌∷◌, Some, None, true}
 use Rattle.std.specs.declared.alloc.Global.{Global}
 use Rattle.std.proofs.Common.{lit<, refl}
@@ -30,32 +30,35 @@ module _ (heap : Global) where
   abbrev pub i : TExpr
   i = T.Variable char (V.Local 0)
 
-  -- `i`, promoted
-  abbrev pub promoted : TExpr
-  promoted = T.Convert' number (box heap) i
+  -- what is promoted, or made a `char` again
+  abbrev pub promoted : TExpr → TExpr
+  promoted e = T.Convert' number (box heap) e
 
-  -- `int twice(int p) { return p + p; }`
+  abbrev pub cut : TExpr → TExpr
+  cut e = T.Convert' char (box heap) e
+
+  -- `char twice(char p) { return p + p; }`
   abbrev pub given : TExpr
-  given = T.Variable number (V.Param 0)
+  given = T.Variable char (V.Param 0)
 
   abbrev pub doubled : TStmt
-  doubled = S.Return (Some (apply heap number O.Add given given))
+  doubled = S.Return (Some (cut (apply heap number O.Add (promoted given) (promoted given))))
 
   abbrev pub twice : Instance
   twice = record {
     name = 1 ∷ [];
     current = None;
-    params = vec heap (variable number None 0 ∷ []) (lit< tt);
-    result = Some (variable number None 0);
+    params = vec heap (variable char None 0 ∷ []) (lit< tt);
+    result = Some (variable char None 0);
     body = S.Block' (vec heap [] (lit< tt)) (vec heap (tt ∷ []) (lit< tt)) (more_of-TStmt doubled end_of-TStmt);
   }
 
-  -- `s = twice(s) + i;`
+  -- `s = s + twice(i);`
   abbrev pub sums : TStmt
-  sums = S.Expression (set heap number A.Set s (apply heap number O.Add (T.Call' number 1 (vec heap (tt ∷ []) (lit< tt)) (more_of-TExpr s end_of-TExpr)) promoted))
+  sums = S.Expression (set heap number A.Set s (apply heap number O.Add s (promoted (T.Call' char 1 (vec heap (tt ∷ []) (lit< tt)) (more_of-TExpr i end_of-TExpr)))))
 
   abbrev pub turns : TStmt
-  turns = S.For' (Some (set heap char A.Set i (T.Convert' char (box heap) (num 0)))) (Some (apply heap number O.Lt promoted (num 10))) (Some (T.Step' char Sp.Increment R.Postfix (box heap) i)) (box heap) sums
+  turns = S.For' (Some (set heap char A.Set i (cut (num 0)))) (Some (apply heap number O.Lt (promoted i) (num 10))) (Some (T.Step' char Sp.Increment R.Postfix (box heap) i)) (box heap) sums
 
   abbrev pub prints : TStmt
   prints = S.Expression (T.Printf' number (vec heap (P.Argument Signed ∷ []) (lit< tt)) (vec heap (tt ∷ []) (lit< tt)) (more_of-TExpr s end_of-TExpr))

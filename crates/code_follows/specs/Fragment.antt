@@ -1,12 +1,12 @@
 -- The programs of which it is said so far that their code means them: scalar ones. Variables of the file and of
--- blocks are of any scalar type, `bool`, `char`, `short` or `int`, signed or not. Parameters, results and
--- arguments have 32 bits, and so have the operands of operators, which typing promotes.
-use Rattle.std.specs.Prelude.{ℕ, Bool, true, false, map, slice_get, IsSome, ◌≡◌, ◌<◌, ◌^◌, [], IfSome, Option, Some, None, ◌⊎◌}
-use Rattle.std.specs.List.{All}
+-- blocks, parameters and results are of any scalar type, `bool`, `char`, `short` or `int`, signed or not. The
+-- operands of operators, which typing promotes, have 32 bits, and so has what is printed.
+use Rattle.std.specs.Prelude.{ℕ, List, map, slice_get, ◌≡◌, ◌<◌, ◌^◌, [], IfSome, Option, Some, None, ◌⊎◌}
+use Rattle.std.specs.List.{All, AllZip}
 use Rattle.cstar_base.specs.declared.elem.Elem.{Elem}
 use Rattle.cstar_tree.specs.declared.syntax.AssignOp.{AssignOp}
 use Rattle.cstar_tree.specs.declared.syntax.AssignOp.TheVariants as A
-use Rattle.cstar_tree.specs.declared.typed.TExpr.{TExpr, Row_of-TExpr, end_of-TExpr, more_of-TExpr}
+use Rattle.cstar_tree.specs.declared.typed.TExpr.{TExpr, Row_of-TExpr, end_of-TExpr, items-the_row-TExpr, more_of-TExpr}
 use Rattle.cstar_tree.specs.declared.typed.TExpr as T
 use Rattle.cstar_tree.specs.declared.typed.TStmt.{TStmt, Row_of-TStmt, end_of-TStmt, more_of-TStmt, Held-TStmt-If-2, None', Some'}
 use Rattle.cstar_tree.specs.declared.typed.TStmt as S
@@ -48,9 +48,15 @@ unfoldable pub IsOperand : UnaryOp → ValueType → Type 0
 IsOperand U.Not ty = IsScalarType ty
 IsOperand _ ty = IsWord ty
 
--- which functions may be called, by their instances' numbers: those with a result where its value is used
-abbrev pub May : Type 1
-May = Bool → ℕ → Type 0
+-- What the body of a function may do: call which functions, by their instances' numbers, with arguments of which
+-- types, for a value of which type where it is used; and return numbers of which types.
+pub record May : Type 1 where
+  pub calls : Option Elem → ℕ → List Elem → Type 0
+  pub returns : Elem → Type 0
+
+-- the types of arguments
+abbrev pub elems_of : {n : _} → Row_of-TExpr n → List Elem
+elems_of arguments = map (λ (e : TExpr). (type_of e).elem) (items-the_row-TExpr _ arguments)
 
 -- An expression whose value is used: of numbers, variables, `getchar`, operators, conversions and casts to any
 -- scalar types, assignments and steps of scalar variables, and calls.
@@ -72,23 +78,20 @@ unfoldable mutual
   IsIn may (T.Choice' ty p test q first r second) = IsWord ty × IsIn may test × IsIn may first × IsIn may second × IsWord (type_of first) × IsWord (type_of second)
   IsIn may (T.Assign' ty place op p target q value) = IsScalarType ty × (ty ≡ type_of target) × IsVariable target × IsIn may value × IsGiven op (type_of target) (type_of value)
   IsIn may (T.Step' ty op order p target) = IsScalarType ty × (ty ≡ type_of target) × IsVariable target
-  IsIn may (T.Call' ty index p arguments) = IsWord ty × may true index × AreIn may arguments
+  IsIn may (T.Call' ty index p arguments) = IsScalarType ty × may.calls (Some ty.elem) index (elems_of arguments) × AreIn may arguments
   IsIn may _ = ⊥
 
   pub AreIn : {n : _} → May → Row_of-TExpr n → Type 0
   AreIn may end_of-TExpr = Unit {0}
-  AreIn may (more_of-TExpr e rest) = IsIn may e × AreIn may rest × IsWord (type_of e)
+  AreIn may (more_of-TExpr e rest) = IsIn may e × AreIn may rest
 
--- what is evaluated without its value being used: `printf` too, and a call of a function without a result
+-- what is evaluated without its value being used: `printf` of numbers of 32 bits too, and a call of a function
+-- without a result
 unfoldable pub IsEffect : May → TExpr → Type 0
-IsEffect may (T.Printf' ty pieces p arguments) = AreIn may arguments
-IsEffect may (T.Call' ty index p arguments) = may false index × AreIn may arguments
+IsEffect may (T.Printf' ty pieces p arguments) = AreIn may arguments × All (λ (elem : Elem). elem.bits ≡ 32) (elems_of arguments)
+IsEffect may (T.Call' ty index p arguments) = may.calls None index (elems_of arguments) × AreIn may arguments
 IsEffect may (T.Brackets' ty p inner) = IsEffect may inner
 IsEffect may e = IsIn may e
-
--- a scalar variable of 32 bits, as it is declared
-abbrev pub IsWordVariable : VarInfo → Type 0
-IsWordVariable info = (info.shape ≡ None) × (info.elem.bits ≡ 32)
 
 -- a scalar variable, as it is declared
 abbrev pub IsScalarVariable : VarInfo → Type 0
@@ -115,7 +118,7 @@ unfoldable mutual
   IsInStatement may (S.For' first test step p body) = IfSome first (IsEffect may) × IsTested may test × IfSome step (IsEffect may) × IsInStatement may body
   IsInStatement may S.Break = Unit {0}
   IsInStatement may S.Continue = Unit {0}
-  IsInStatement may (S.Return e) = IfSome e (λ e. IsIn may e × IsWord (type_of e))
+  IsInStatement may (S.Return e) = IfSome e (λ e. IsIn may e × may.returns (type_of e).elem)
   IsInStatement may _ = ⊥
 
   pub AreInStatements : {n : _} → May → Row_of-TStmt n → Type 0
@@ -157,17 +160,29 @@ IsFlat _ = ⊥
 abbrev pub IsPlainVariable : VarInfo → Type 0
 IsPlainVariable info = IsScalarVariable info × (info.start < 2 ^ info.elem.bits)
 
--- a function of scalars, with parameters and a result of 32 bits
+-- a function of scalars, with a result or none
 pub record IsScalarFunction (may : May) (i : Instance) : Type 0 where
-  pub params : All IsWordVariable i.params.items
-  pub result : (info : VarInfo) → i.result ≡ Some info → IsWordVariable info
+  pub params : All IsScalarVariable i.params.items
+  pub result : (info : VarInfo) → i.result ≡ Some info → IsScalarVariable info
   pub body : IsBody may i.body
   pub locals : All IsScalarVariable (variables_of i.body)
 
--- functions of a lesser rank, but `main`, may be called, those with a result where its value is used
-abbrev pub may_of : Typed → (ℕ → ℕ) → ℕ → May
-may_of t rank caller with_result number =
-    (callee : Instance) × ((slice_get t.instances.items number ≡ Some callee) × (0 < number) × (rank number < rank caller) × (with_result ≡ true → IsSome callee.result))
+-- parameters take arguments of these types, one each
+abbrev pub AreTaken : List VarInfo → List Elem → Type 0
+AreTaken params given = AllZip (λ (param : VarInfo) (elem : Elem). Takes param.elem elem) params given
+
+-- a result whose number is one of this type
+abbrev pub IsResult : Option VarInfo → Elem → Type 0
+IsResult result elem = (info : VarInfo) × ((result ≡ Some info) × Takes elem info.elem)
+
+-- Functions of a lesser rank, but `main`, may be called with arguments that their parameters take, those with such
+-- a result where its value is used. What is returned is a number of the result's type, if there is a result.
+abbrev pub may_of : Typed → (ℕ → ℕ) → ℕ → Instance → May
+may_of t rank number i = record {
+  calls = λ used index given.
+      (callee : Instance) × ((slice_get t.instances.items index ≡ Some callee) × (0 < index) × (rank index < rank number) × IfSome used (λ elem. IsResult callee.result elem) × AreTaken callee.params.items given);
+  returns = λ elem. (info : VarInfo) → i.result ≡ Some info → Takes info.elem elem;
+}
 
 -- A program of functions without recursion: they can be ranked so that each calls lesser ones alone. The
 -- functions beside `main` declare variables in their outermost blocks.
@@ -176,7 +191,7 @@ pub record IsScalarProgram (t : Typed) : Type 0 where
   pub is_main : slice_get t.instances.items 0 ≡ Some main
   pub params : main.params.items ≡ []
   pub rank : ℕ → ℕ
-  pub each : (number : ℕ) (i : Instance) → slice_get t.instances.items number ≡ Some i → IsScalarFunction (may_of t rank number) i
+  pub each : (number : ℕ) (i : Instance) → slice_get t.instances.items number ≡ Some i → IsScalarFunction (may_of t rank number i) i
   pub flat : (number : ℕ) (i : Instance) → slice_get t.instances.items number ≡ Some i → 0 < number → IsFlat i.body
   pub names : (j k : ℕ) (a b : Instance) → slice_get t.instances.items j ≡ Some a → slice_get t.instances.items k ≡ Some b → a.name ≡ b.name → j ≡ k
   pub variables : All IsPlainVariable t.vars.items

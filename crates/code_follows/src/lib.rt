@@ -6,7 +6,7 @@ ghost use Rattle.code_follows.specs.Agreement.{CodeMeansSource};
 ghost use Rattle.code_follows.specs.Example.{ExampleIsScalar};
 
 /// The code that the compiler makes of a program of functions without recursion on scalar variables of every
-/// type, with parameters and results of 32 bits, with all operators, conversions and casts, assignments and
+/// type, with parameters and results of every type, with all operators, conversions and casts, assignments and
 /// steps, also within expressions, calls, `printf`, `getchar`, `if`, loops, `break`, `continue` and `return`,
 /// comes to the end of the source's meaning, be it the end of `main`, a division by 0, the last turn or an input
 /// that fails, with its turns and its output, on every input of bytes.
@@ -14,8 +14,8 @@ pub fn code_means_source()
     ensures { CodeMeansSource }
 {}
 
-/// Such a program is this one, which counts in a `char`, calls a function in a loop and prints: so the law speaks
-/// of some.
+/// Such a program is this one, which counts in a `char`, calls a function of a `char` in a loop and prints: so the
+/// law speaks of some.
 pub fn example_is_scalar()
     ensures { ExampleIsScalar }
 {}
