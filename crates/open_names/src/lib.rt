@@ -1,0 +1,12 @@
+//! Of the variables that blocks declare, a typed program names only those that are open: of the blocks around the
+//! place, and declared before it or just there.
+//! Readers find the laws here by name.
+#![tactic(auto)]
+
+ghost use Rattle.open_names.specs.Laws.{TypedExpressionsNameOpen};
+
+/// What an expression becomes by the rules names only variables that are open, where those that its place knows
+/// are.
+pub fn typed_expression_names_open_variables()
+    ensures { TypedExpressionsNameOpen }
+{}
