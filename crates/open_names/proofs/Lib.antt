@@ -1,1 +1,2 @@
 pub mod OpenExpressions
+pub mod OpenStatements

@@ -3,10 +3,16 @@
 //! Readers find the laws here by name.
 #![tactic(auto)]
 
-ghost use Rattle.open_names.specs.Laws.{TypedExpressionsNameOpen};
+ghost use Rattle.open_names.specs.Laws.{TypedExpressionsNameOpen, TypedStatementsNameOpen};
 
 /// What an expression becomes by the rules names only variables that are open, where those that its place knows
 /// are.
 pub fn typed_expression_names_open_variables()
     ensures { TypedExpressionsNameOpen }
+{}
+
+/// What a statement becomes by the rules names no others either, but in each of its blocks those that are
+/// declared there.
+pub fn typed_statement_names_open_variables()
+    ensures { TypedStatementsNameOpen }
 {}
