@@ -3,7 +3,7 @@
 //! Readers find the laws here by name.
 #![tactic(auto)]
 
-ghost use Rattle.open_names.specs.Laws.{TypedExpressionsNameOpen, TypedStatementsNameOpen};
+ghost use Rattle.open_names.specs.Laws.{TypedExpressionsNameOpen, TypedFilesNameOpen, TypedStatementsNameOpen};
 
 /// What an expression becomes by the rules names only variables that are open, where those that its place knows
 /// are.
@@ -15,4 +15,10 @@ pub fn typed_expression_names_open_variables()
 /// declared there.
 pub fn typed_statement_names_open_variables()
     ensures { TypedStatementsNameOpen }
+{}
+
+/// The bodies of what a file becomes by the rules name variables of their open blocks alone, beside those of the
+/// file and parameters.
+pub fn typed_file_names_open_variables()
+    ensures { TypedFilesNameOpen }
 {}
