@@ -1,0 +1,3 @@
+pub mod OpenExpressions
+pub mod OpenFiles
+pub mod OpenStatements
