@@ -23,7 +23,7 @@ use Rattle.code_lengths.specs.Growth.{Extended, Grows}
 use Rattle.code_lengths.specs.Lowerable.{Calls, IsLowerable}
 use Rattle.code_lengths.proofs.Drafting.{extended, fresh_grows}
 use Rattle.cstar_tree.specs.Typed.{type_of}
-use Rattle.code_lengths.specs.Naming.{HasVariable, IsDeclared, plain}
+use Rattle.code_lengths.specs.Naming.{HasVariable, plain}
 use Rattle.cstar_tree.specs.StatementTypes.{variable_info}
 use Rattle.code_lengths.specs.Ready.{HasCode, HaveCode, IsReady}
 use Rattle.lower_base.specs.declared.emit.Out.{Out}
@@ -237,7 +237,7 @@ module _ (g : Setting) (has : HasRegisters g) (alive : Variable → Type 0) (n :
 
   -- a call whose value is not used
   call_effect : (ty : ValueType) (index : ℕ) (p : Vec (Unit {0}) Global) (row : _) → g.may.calls None index (elems_of row) → (AreIn (naming g.may alive)) row → HasCode g.typed g.instance n (T.Call' ty index p row) → Runs (λ st. evaluated scope (T.Call' ty index p row) active st) (λ d. effect_of g.typed (layout g) (T.Call' ty index p row) d)
-  unfolding evaluated effect_of value_of IsDeclared IsLowerable fresh_for a_register then_make Grows
+  unfolding evaluated effect_of value_of IsLowerable fresh_for a_register then_make Grows
   call_effect ty index p row may isin c d s st free here sim = by m.callee.callee.result refl
     where
       known : TakesThese g active index (elems_of row)

@@ -15,7 +15,6 @@ use Rattle.code_lengths.specs.Agreement.{StandsAmong}
 use Rattle.code_lengths.specs.Growth.{Extended}
 use Rattle.code_lengths.specs.LowerableStatements.{AreLowerableStatements, IsLowerableStatement}
 use Rattle.code_lengths.specs.ShapedStatements.{AreShapedStatements, IsShapedStatement}
-use Rattle.code_lengths.specs.Naming.{IsDeclared}
 use Rattle.code_lengths.specs.NamingStatements.{StandFrom, StatementNamesVariables, StatementsNameVariables, behind}
 use Rattle.code_lengths.specs.Ready.{HasDeclared, HasStatementCode, IsReady, NumbersVariables}
 use Rattle.code_lengths.proofs.Declaring.{first_part, info_of, of_block, row_variables, second_part}
@@ -32,7 +31,7 @@ use Rattle.source_meaning.specs.State.{Outcome, State, is_among, spend_turn, the
 use Rattle.source_meaning.specs.Statements.{Broke, Continued, Onward, Returned, all_executed, declared, done, else_executed, executed, initialised, then_go, Leaving}
 use Rattle.source_meaning.specs.Values.{Active, Scope, Value}
 use Rattle.lower_base.specs.declared.emit.Out.{Out}
-use Rattle.code_follows.proofs.Declaring.{clears, declared_among, declared_later, sim_fewer, Alive}
+use Rattle.code_follows.proofs.Declaring.{AreBefore, among_before, clears, declared_later, sim_fewer, Alive}
 use Rattle.code_follows.specs.Fragment.{AreInStatements, IsEffect, IsScalarLocal, IsInElse, IsInStatement, IsTested, OrAmong, naming}
 use Rattle.code_follows.proofs.Assigning.{effect_follows}
 use Rattle.code_follows.proofs.Choices.{Agrees, if_alone, if_else}
@@ -201,14 +200,6 @@ module _ (g : Setting) (has : HasRegisters g) (alive : Variable → Type 0) (fil
       (λ u ran. follows_from g alive f d made.e ran.grown.0 s0 ran.t (all_executed scope rest (n + declared s) active u) (statements_of g.typed (layout g) rest f [] (behind n s) made.e) ran.grown.1 ran.go ran.keeps
       (next made.e ran.t u made.homes (omega (arith, free, ran.grown.1.regs)) ran.at ran.sim)))
 
--- what is alive is declared before
-abbrev pub AreBefore : (Variable → Type 0) → ℕ → Type 0
-AreBefore alive n = (x : Variable) → alive x → IsDeclared n x
-
-pub opened_before : (alive : Variable → Type 0) (n many : ℕ) → AreBefore alive n → (x : Variable) → OrAmong alive n many x → IsDeclared (n + many) x
-opened_before alive n many before x (inl h) = declared_later n many x (before x h)
-opened_before alive n many before x (inr h) = declared_among n many x h
-
 -- what is said of more variables is said of fewer where a statement is left
 module _ (g : Setting) (wide alive : Variable → Type 0) (among : (x : Variable) → alive x → wide x) where
   fewer_after : (st : State) (s : CodeState) → Sim g wide st s → Sim g alive st s
@@ -248,7 +239,7 @@ module _ (g : Setting) (has : HasRegisters g) (numbers : NumbersVariables g.inst
         (first_part (map info_of locals.items) (row_variables statements) (block_stands g has wide wide_files numbers ready declares scope active calls_follow falls n locals p statements c))
         (settled_so g has wide wide_files ready scope active calls_follow alive locals.items n (λ x living. inl living) (λ x own. inr own) before h.1)
         (block_initials g has wide wide_files numbers ready declares scope active calls_follow falls n locals p statements c) code framed among none free at sim (λ x living. living)
-        (λ e t u none_e free_e at_e sim_e. row_follows wide wide_files (n + length locals.items) (opened_before alive n (length locals.items) before) statements h.2 f e t u framed among none_e free_e at_e sim_e code))
+        (λ e t u none_e free_e at_e sim_e. row_follows wide wide_files (n + length locals.items) (among_before alive n (length locals.items) before) statements h.2 f e t u framed among none_e free_e at_e sim_e code))
     statement_follows alive files n before (S.Expression e) h f d s0 st framed among none free at sim c = expression_follows g has alive files numbers ready declares scope active calls_follow falls e h f n d s0 st free at sim c
     statement_follows alive files n before S.Empty h f d s0 st framed among none free at sim c = stays_here g has alive files numbers ready declares scope active calls_follow falls f n d s0 st at sim
     statement_follows alive files n before (S.If' test p first None') h f d s0 st framed among none free at sim c = if_alone g has alive files numbers ready declares scope active calls_follow n test p first h.0 (statement_follows alive files n before first h.1) f d s0 st framed among none free at sim c

@@ -7,7 +7,7 @@ use Rattle.cstar_tree.specs.declared.typed.ValueType.{ValueType}
 use Rattle.cstar_tree.specs.declared.typed.Variable.{Variable}
 use Rattle.cstar_tree.specs.declared.typed.Variable.TheVariants as V
 use Rattle.code_lengths.specs.Lowerable.{AreLowerable, IsLowerable}
-use Rattle.code_lengths.specs.Naming.{AllNameVariables, IsDeclared, NamesVariables}
+use Rattle.code_lengths.specs.Naming.{AllNameVariables, NamesVariables}
 use Rattle.code_lengths.specs.Ready.{HasCode, HaveCode, IsReady}
 use Rattle.code_lengths.specs.Shaped.{AreShaped, IsShaped}
 use Rattle.code_lengths.proofs.Agreeing.{expressions}
@@ -46,7 +46,7 @@ module _ (g : Setting) (has : HasRegisters g) (alive : Variable → Type 0) (n :
       (fresh_called g has alive (calls_follow.value ty.elem index (elems_of row) may).0.0 (values_of g.typed (layout g) true (are_quiet row) row) d.regs d (with_reg d) (omega arith) (omega arith) (arguments_grown true (are_quiet row) row (call_code ty index p row c) (with_reg d)))
 
   pub call_value : (quiet : Bool) (bits : ℕ) (ty : ValueType) (index : ℕ) (p : Vec (Unit {0}) Global) (row : _) → IsScalarType ty → g.may.calls (Some ty.elem) index (elems_of row) → AreDone g has alive scope active true (are_quiet row) row → HasCode g.typed g.instance n (T.Call' ty index p row) → Does g has alive ty.elem quiet (λ st. evaluated scope (T.Call' ty index p row) active st) (λ d. value_of g.typed (layout g) bits (T.Call' ty index p row) d)
-  unfolding value_of evaluated fresh_for a_register then_make IsDeclared
+  unfolding value_of evaluated fresh_for a_register then_make
   call_value quiet bits ty index p row plain may done c d s st free here sim =
       let known = calls_follow.value ty.elem index (elems_of row) may in
       let result = known.1.1 in

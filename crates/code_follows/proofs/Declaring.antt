@@ -20,7 +20,7 @@ use Rattle.paris_code.specs.declared.instr.Instr.TheVariants as I
 use Rattle.paris_code.specs.Code as Machine
 use Rattle.paris_code.specs.Code.{CodeState, begun, with_register}
 use Rattle.source_meaning.specs.State.{State, is_among, is_same, with_scalar, zeroed}
-use Rattle.code_follows.specs.Fragment.{IsScalarLocal}
+use Rattle.code_follows.specs.Fragment.{IsScalarLocal, OrAmong}
 use Rattle.code_follows.specs.Agreement.{AreBytes}
 use Rattle.code_follows.proofs.Executing.{ran_from}
 use Rattle.code_follows.proofs.Following.{HasRegisters, IsScalar, Keeps, Ran, Sim, held, input_of, keeps_all, variable_kept}
@@ -142,11 +142,19 @@ declared_later n many (V.File k) h = tt
 declared_later n many (V.Param k) h = tt
 declared_later n many (V.Local k) h = omega (arith, h)
 
-pub declared_among : (n many : ℕ) (x : Variable) → is_among n many x ≡ true → IsDeclared (n + many) x
+declared_among : (n many : ℕ) (x : Variable) → is_among n many x ≡ true → IsDeclared (n + many) x
 unfolding IsDeclared is_among
 declared_among n many (V.File k) h = tt
 declared_among n many (V.Param k) h = tt
 declared_among n many (V.Local k) h = grind (arith, nat_tests, h)
+
+-- what is alive is declared before
+abbrev pub AreBefore : (Variable → Type 0) → ℕ → Type 0
+AreBefore alive n = (x : Variable) → alive x → IsDeclared n x
+
+pub among_before : (alive : Variable → Type 0) (n many : ℕ) → AreBefore alive n → (x : Variable) → OrAmong alive n many x → IsDeclared (n + many) x
+among_before alive n many before x (inl h) = declared_later n many x (before x h)
+among_before alive n many before x (inr h) = declared_among n many x h
 
 -- the first of a block's variables, and the others, are among all
 pub itself_among : (n len : ℕ) → is_among n (suc len) (V.Local n) ≡ true

@@ -36,11 +36,11 @@ use Rattle.code_follows.specs.Agreement.{AreBytes, CodeMeansSource, ComesTo, end
 use Rattle.code_follows.specs.Fragment.{IsBody, IsPlainVariable, IsScalarProgram, IsInStatement, OfFileOrParam, OrAmong, within}
 use Rattle.code_follows.proofs.Activations.{scalars, words}
 use Rattle.code_follows.proofs.Beginnings.{starts_grow, starts_run}
-use Rattle.code_follows.proofs.Bodies.{begun_code, begun_follows, begun_grows, block_code, block_initials, block_stands, row_follows, follows_fewer, opened_before}
+use Rattle.code_follows.proofs.Bodies.{begun_code, begun_follows, begun_grows, block_code, block_initials, block_stands, row_follows, follows_fewer}
 use Rattle.code_follows.proofs.Callees.{CallsFollow}
 use Rattle.code_follows.proofs.Closed.{NoJump, begins_closed, closed_row, go_closed}
 use Rattle.code_follows.proofs.ConstantRegisters.{constant_at}
-use Rattle.code_follows.proofs.Declaring.{sim_fewer, sim_same}
+use Rattle.code_follows.proofs.Declaring.{among_before, sim_fewer, sim_same}
 use Rattle.code_follows.proofs.Endings.{NeverOnward, body_never, never_second}
 use Rattle.code_follows.proofs.Entering.{calls_so, enters_so, before_all}
 use Rattle.code_follows.proofs.Executing.{Left}
@@ -245,7 +245,7 @@ module _ (t : Typed) (image : Image) (p : IsScalarProgram t) (codable : IsCodabl
       (subst (λ (m : Made ℕ). Follows main_setting (Left main_setting OfFileOrParam f begun_there opens.there) opens.there whole m) made.is_made
       (follows_fewer main_setting wide OfFileOrParam (λ x living. inl living) f begun_there opens.there whole code
       (begun_follows main_setting has_it wide one numbers is_ready declared here active main_calls never_rises locals.items row f 0 begun_there opens.there (begun_body locals.items row) h.0.0 stand settled initial own_row framed_so among_so homes (omega (arith, regs)) opens.at sim
-      (λ e there u none free at sim_there. row_follows main_setting has_it numbers is_ready declared here active main_calls never_rises wide one (0 + length locals.items) (opened_before OfFileOrParam 0 (length locals.items) before_all) row h.0.2 f e there u framed_so among_so none free at sim_there own_row))))))
+      (λ e there u none free at sim_there. row_follows main_setting has_it numbers is_ready declared here active main_calls never_rises wide one (0 + length locals.items) (among_before OfFileOrParam 0 (length locals.items) before_all) row h.0.2 f e there u framed_so among_so none free at sim_there own_row))))))
   runs _ is h = absurd h
 
 pub means_source : CodeMeansSource

@@ -16,7 +16,7 @@ use Rattle.cstar_tree.specs.declared.typed.Variable.{Variable}
 use Rattle.cstar_tree.specs.declared.typed.Variable.TheVariants as V
 use Rattle.cstar_tree.specs.StatementTypes.{variable_info}
 use Rattle.cstar_tree.specs.Typed.{type_of}
-use Rattle.code_lengths.specs.Naming.{HasVariable, IsDeclared, plain}
+use Rattle.code_lengths.specs.Naming.{HasVariable, plain}
 use Rattle.code_lengths.specs.Ready.{HasCode, IsReady}
 use Rattle.code_lengths.proofs.Drafting.{as_it_was}
 use Rattle.lower_base.specs.declared.emit.Out.{Out}
@@ -226,7 +226,7 @@ module _ (g : Setting) (has : HasRegisters g) (alive : Variable → Type 0) (n :
 
   -- the result of a call
   call_put : (ty : ValueType) (index : ℕ) (p : Vec (Unit {0}) Global) (row : _) → Kept ty.elem → g.may.calls (Some ty.elem) index (elems_of row) → (AreIn (naming g.may alive)) row → HasCode g.typed g.instance n (T.Call' ty index p row) → Puts ty.elem (λ st. evaluated scope (T.Call' ty index p row) active st) (λ d. computed_to g.typed (layout g) (O.Scalar own) (T.Call' ty index p row) d)
-  unfolding computed_to evaluated IsDeclared
+  unfolding computed_to evaluated
   call_put ty index p row fits may isin c d s st free here sim =
       let known = calls_follow.value ty.elem index (elems_of row) may in
       let result = known.1.1 in

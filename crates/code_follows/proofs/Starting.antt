@@ -38,7 +38,7 @@ use Rattle.source_meaning.specs.Statements.{Broke, Continued, Leaving, Onward, R
 use Rattle.source_meaning.specs.Targets.{OfScalar, Target, stored, variable_target}
 use Rattle.source_meaning.specs.Values.{Active, Scalar, Scope, Value, number}
 use Rattle.code_follows.specs.Fragment.{AreInitials, IsIn, IsInitial, IsScalarLocal, OrAmong, Takes, within, naming}
-use Rattle.code_follows.proofs.Declaring.{Started, declared_among, declared_later, itself_among, later_among, one_among, first_is_named, others_stand, sim_fewer, started_before}
+use Rattle.code_follows.proofs.Declaring.{Started, AreBefore, among_before, itself_among, later_among, one_among, first_is_named, others_stand, sim_fewer, started_before}
 use Rattle.code_follows.proofs.Lists.{all_first, all_rest}
 use Rattle.code_follows.proofs.Executing.{RanOn, gives, no_break, no_continue, no_return, ran_from}
 use Rattle.code_follows.proofs.Callees.{CallsFollow}
@@ -140,11 +140,13 @@ module _ (g : Setting) (has : HasRegisters g) (alive : Variable → Type 0) (fil
   abbrev Begins : LocalVar → List LocalVar → ℕ → TExpr → Type 0
   Begins local locals n e = IsInitial (naming g.may alive) local e × (begins_constant local ≡ false → IsIn (naming g.may (λ z. Now (local ∷ locals) n z)) e)
 
+  -- the initialisers from a number on are so
   unfoldable pub AreSettled : ℕ → List LocalVar → Type 0
   AreSettled n [] = Unit {0}
   AreSettled n (local ∷ locals) = alive (V.Local n) × IfSome local.initial (λ e. Begins local locals n e) × AreSettled (n + 1) locals
 
-  pub settled_so : (names : Variable → Type 0) (locals : List LocalVar) (n : ℕ) → ((x : Variable) → names x → alive x) → ((x : Variable) → is_among n (length locals) x ≡ true → alive x) → ((x : Variable) → names x → IsDeclared n x)
+  -- those of the fragment are: what they may name is alive, and declared before what still waits
+  pub settled_so : (names : Variable → Type 0) (locals : List LocalVar) (n : ℕ) → ((x : Variable) → names x → alive x) → ((x : Variable) → is_among n (length locals) x ≡ true → alive x) → AreBefore names n
       → AreInitials (naming g.may names) n locals → AreSettled n locals
   unfolding AreSettled AreInitials Started
   settled_so names [] n lives own declared h = tt
@@ -158,9 +160,8 @@ module _ (g : Setting) (has : HasRegisters g) (alive : Variable → Type 0) (fil
       here x (inl k) = lives x k
       here x (inr among) = own x (one_among n (length locals) x among)
 
-      named : (x : Variable) → OrAmong names n 1 x → IsDeclared (n + 1) x
-      named x (inl k) = declared_later n 1 x (declared x k)
-      named x (inr among) = declared_among n 1 x among
+      named : AreBefore (λ x. OrAmong names n 1 x) (n + 1)
+      named x living = among_before names n 1 declared x living
 
       never : begins_constant local ≡ false → begins_constant local ≡ true → ⊥
       never b other = cc

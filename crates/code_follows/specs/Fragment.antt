@@ -59,10 +59,11 @@ pub record May : Type 1 where
 abbrev pub naming : May → (Variable → Type 0) → May
 naming may names = record may { names = names }
 
--- where a block is open that has so many variables, from a number on, they may be named too
+-- the variables of some, and so many of a block from a number on
 abbrev pub OrAmong : (Variable → Type 0) → ℕ → ℕ → Variable → Type 0
 OrAmong names n many x = names x ⊎ (is_among n many x ≡ true)
 
+-- where that block is open, they may be named too
 abbrev pub within : May → ℕ → ℕ → May
 within may n many = naming may (λ x. OrAmong may.names n many x)
 
@@ -114,6 +115,7 @@ IsEffect may e = IsIn may e
 abbrev pub IsScalarVariable : VarInfo → Type 0
 IsScalarVariable info = info.shape ≡ None
 
+-- a scalar variable of a block
 abbrev pub IsScalarLocal : LocalVar → Type 0
 IsScalarLocal local = IsScalarVariable local.info
 
@@ -131,7 +133,8 @@ unfoldable pub IsTested : May → Option TExpr → Type 0
 IsTested may None = Unit {0}
 IsTested may (Some e) = IsIn may e
 
--- statements of these, where so many variables of blocks are declared before
+-- Statements of these, where so many variables of blocks are declared before. Those of a block may be named in it
+-- alone; each function begins with the variables of the file and its parameters.
 unfoldable mutual
   pub IsInStatement : May → ℕ → TStmt → Type 0
   IsInStatement may n (S.Block' locals p statements) = All IsScalarLocal locals.items × AreInitials may n locals.items × AreInStatements (within may n (length locals.items)) (n + length locals.items) statements
