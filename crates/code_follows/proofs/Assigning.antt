@@ -23,7 +23,7 @@ use Rattle.code_lengths.specs.Growth.{Extended, Grows}
 use Rattle.code_lengths.specs.Lowerable.{Calls, IsLowerable}
 use Rattle.code_lengths.proofs.Drafting.{extended, fresh_grows}
 use Rattle.cstar_tree.specs.Typed.{type_of}
-use Rattle.code_lengths.specs.Naming.{HasVariable, IsDeclared, plain}
+use Rattle.code_lengths.specs.Naming.{HasVariable, plain}
 use Rattle.cstar_tree.specs.StatementTypes.{variable_info}
 use Rattle.code_lengths.specs.Ready.{HasCode, HaveCode, IsReady}
 use Rattle.lower_base.specs.declared.emit.Out.{Out}
@@ -45,7 +45,7 @@ use Rattle.source_meaning.specs.State as Source
 use Rattle.source_meaning.specs.State.{Outcome, State, then_do, with_scalar}
 use Rattle.source_meaning.specs.Targets.{OfScalar, assigned, stepped, variable_target, step_value}
 use Rattle.source_meaning.specs.Values.{Active, Scalar, Scope, Value, number}
-use Rattle.code_follows.specs.Fragment.{AreIn, IsEffect, IsIn, IsVariable, IsGiven, IsWord, Takes, elems_of}
+use Rattle.code_follows.specs.Fragment.{AreIn, IsEffect, IsIn, IsVariable, IsGiven, IsWord, Takes, elems_of, naming}
 use Rattle.code_follows.proofs.Changing.{no_place, only_set, operated_set_is, plain_type, scalar_type, set_is, stepped_is, stepping}
 use Rattle.code_follows.proofs.CallValues.{call_code}
 use Rattle.code_follows.proofs.Expressions.{arguments_do, assign_names, brackets_code, operand, step_names, target_named, value_follows}
@@ -65,7 +65,7 @@ use Rattle.code_follows.proofs.Effects.{promoted_wide, working_wide}
 use Rattle.code_follows.proofs.Given.{given_set, given_word}
 use Rattle.cstar_base.specs.Numbers.{converted}
 
-module _ (g : Setting) (has : HasRegisters g) (alive : Variable → Type 0) (n : ℕ) (lives : (x : Variable) → IsDeclared n x → alive x) (ready : (d : Draft) → IsReady g.typed g.instance (layout g) n d) (scope : Scope) (active : Active) (calls_follow : CallsFollow g scope active)
+module _ (g : Setting) (has : HasRegisters g) (alive : Variable → Type 0) (n : ℕ) (files : (k : ℕ) → alive (V.File k)) (ready : (d : Draft) → IsReady g.typed g.instance (layout g) n d) (scope : Scope) (active : Active) (calls_follow : CallsFollow g scope active)
     (x : Variable) (info : VarInfo) (living : alive x) (scalar : IsScalar g x info) where
   abbrev own : ℕ
   own = register_of (layout g) x
@@ -75,18 +75,18 @@ module _ (g : Setting) (has : HasRegisters g) (alive : Variable → Type 0) (n :
   Does_so part code = (d : Draft) (s : CodeState) (st : State) → g.begins ≤ d.regs → At g s (length d.code) → Sim g alive st s → Follows g (λ v u out e. Ran g alive d s u e) s (part st) (code d)
 
   -- without an operator the value is put in the variable
-  set_follows : (place : Place) (ty : ValueType) (value : TExpr) → ty.shape ≡ None → Takes info.elem (type_of value).elem → (IsIn g.may) value → HasCode g.typed g.instance n value
+  set_follows : (place : Place) (ty : ValueType) (value : TExpr) → ty.shape ≡ None → Takes info.elem (type_of value).elem → (IsIn (naming g.may alive)) value → HasCode g.typed g.instance n value
       → Does_so (λ st. then_do (evaluated scope value active st) (λ v after. assigned scope active place A.Set ty (type_of value) (OfScalar x) v after)) (λ d. put_to g.typed (layout g) (O.Scalar own) value d)
   unfolding Follows
   set_follows place ty value plain takes isin c d s st free here sim =
-      then_silent g (Put g has alive n lives ready scope active calls_follow x info living scalar (type_of value).elem d s) (λ v u out e. Ran g alive d s u e) s (evaluated scope value active st) _ (put_to g.typed (layout g) (O.Scalar own) value d)
-      (put_follows g has alive n lives ready scope active calls_follow x info living scalar value isin c (takes_fits info.elem (type_of value).elem takes) d s st free here sim) (λ v u out e p.
+      then_silent g (Put g has alive n files ready scope active calls_follow x info living scalar (type_of value).elem d s) (λ v u out e. Ran g alive d s u e) s (evaluated scope value active st) _ (put_to g.typed (layout g) (O.Scalar own) value d)
+      (put_follows g has alive n files ready scope active calls_follow x info living scalar value isin c (takes_fits info.elem (type_of value).elem takes) d s st free here sim) (λ v u out e p.
       subst (λ (r : Outcome Value). Follows g (λ v u out e. Ran g alive d s u e) s r (Makes out e))
-      (sym (ap (λ (w : Value). assigned scope active place A.Set ty (type_of value) (OfScalar x) w u) p.value ∙ set_is scope active place x ty (type_of value) p.word u plain (scalar_of g.may value isin)))
+      (sym (ap (λ (w : Value). assigned scope active place A.Set ty (type_of value) (OfScalar x) w u) p.value ∙ set_is scope active place x ty (type_of value) p.word u plain (scalar_of (naming g.may alive) value isin)))
       (λ within. record { grown = p.grown; t = p.t; go = p.go; at = p.at; sim = subst (λ (w : ℕ). Sim g alive (with_scalar x w u) p.t) (takes_same info.elem (type_of value).elem p.word takes p.small) p.sim; keeps = p.keeps }))
 
   -- with one, the operation writes the variable
-  module _ (place : Place) (op : AssignOp) (o : Op) (value : TExpr) (long : IsWord (type_of value)) (isin : (IsIn g.may) value) (c : HasCode g.typed g.instance n value) (is : assign_op_of op ≡ Some o) where
+  module _ (place : Place) (op : AssignOp) (o : Op) (value : TExpr) (long : IsWord (type_of value)) (isin : (IsIn (naming g.may alive)) value) (c : HasCode g.typed g.instance n value) (is : assign_op_of op ≡ Some o) where
     abbrev signed : Bool
     signed = assigned_signed o info.elem (type_of value).elem
 
@@ -114,7 +114,7 @@ module _ (g : Setting) (has : HasRegisters g) (alive : Variable → Type 0) (n :
     unfolding register_operated
     operated_set_follows d s st free here sim =
         then_follows g (Value_of g has alive (type_of value).elem true d s) (λ v u out e. Ran g alive d s u e) s s (evaluated scope value active st) _ (next_of g.typed (layout g) 32 true value d) (λ v between. in_register v (λ b. behind_value b between)) (stay g s)
-        (operand g has alive n lives ready scope active calls_follow true 32 value isin c d s st free here sim) (λ v e. extends_in_register g has alive e v _ (λ b. extends_settled g has alive scope active x info living scalar at_type at_wide place o signed b e)) (λ v u out e arr. with_value d s v u out e free arr)
+        (operand g has alive n files ready scope active calls_follow true 32 value isin c d s st free here sim) (λ v e. extends_in_register g has alive e v _ (λ b. extends_settled g has alive scope active x info living scalar at_type at_wide place o signed b e)) (λ v u out e arr. with_value d s v u out e free arr)
 
   -- ---- steps
 
@@ -156,7 +156,7 @@ module _ (g : Setting) (has : HasRegisters g) (alive : Variable → Type 0) (n :
 
 -- ---- effects as they stand in the tree
 
-module _ (g : Setting) (has : HasRegisters g) (alive : Variable → Type 0) (n : ℕ) (lives : (x : Variable) → IsDeclared n x → alive x) (ready : (d : Draft) → IsReady g.typed g.instance (layout g) n d) (scope : Scope) (active : Active) (calls_follow : CallsFollow g scope active) where
+module _ (g : Setting) (has : HasRegisters g) (alive : Variable → Type 0) (n : ℕ) (files : (k : ℕ) → alive (V.File k)) (ready : (d : Draft) → IsReady g.typed g.instance (layout g) n d) (scope : Scope) (active : Active) (calls_follow : CallsFollow g scope active) where
   abbrev pub Runs : (State → Outcome Value) → (Draft → Made Out) → Type 0
   Runs part code = (d : Draft) (s : CodeState) (st : State) → g.begins ≤ d.regs → At g s (length d.code) → Sim g alive st s → Follows g (λ v u out e. Ran g alive d s u e) s (part st) (code d)
 
@@ -185,59 +185,59 @@ module _ (g : Setting) (has : HasRegisters g) (alive : Variable → Type 0) (n :
   unfolding step_effect own_of standing then_make
   steps_it elem x op whole d = refl
 
-  assigns : (elem : Elem) (place : Place) (op : AssignOp) (x : Variable) (value : TExpr) (whole : Code) → HasVariable g.typed g.instance n x (plain (scalar_type elem)) → IsGiven op (scalar_type elem) (type_of value) → (IsIn g.may) value → HasCode g.typed g.instance n value
+  assigns : (elem : Elem) (place : Place) (op : AssignOp) (x : Variable) (value : TExpr) (whole : Code) → HasVariable g.typed g.instance n x (plain (scalar_type elem)) → alive x → IsGiven op (scalar_type elem) (type_of value) → (IsIn (naming g.may alive)) value → HasCode g.typed g.instance n value
       → Runs (λ st. then_do (evaluated scope value active st) (λ v after. assigned scope active place op (scalar_type elem) (type_of value) (OfScalar x) v after)) (λ d. assignment_effect g.typed (layout g) op place (T.Variable (scalar_type elem) x) value whole d)
   unfolding variable_operated
-  assigns elem place op x value whole v given isin c d s st free here sim =
+  assigns elem place op x value whole v living given isin c d s st free here sim =
       subst (λ (made : Made Out). Follows g (λ v u out e. Ran g alive d s u e) s (then_do (evaluated scope value active st) (λ v after. assigned scope active place op (scalar_type elem) (type_of value) (OfScalar x) v after)) made)
-      (sym (writes_it elem x op place value whole d (kept g.may value isin))) (by op given (assign_op_of op) refl)
+      (sym (writes_it elem x op place value whole d (kept (naming g.may alive) value isin))) (by op given (assign_op_of op) refl)
     where
       info : VarInfo
       info = variable_info v.word (plain (scalar_type elem)) v.start
 
       by : (op : AssignOp) → IsGiven op (scalar_type elem) (type_of value) → (m : Option Op) → assign_op_of op ≡ m → Follows g (λ v u out e. Ran g alive d s u e) s (then_do (evaluated scope value active st) (λ v after. assigned scope active place op (scalar_type elem) (type_of value) (OfScalar x) v after))
           (elim m as (λ _. Made Out) [ None ↦ put_to g.typed (layout g) (O.Scalar (register_of (layout g) x)) value d | Some o ↦ variable_operated g.typed (layout g) o place (T.Variable (scalar_type elem) x) value (O.Scalar (register_of (layout g) x)) d ])
-      by op its (Some o) is = operated_set_follows g has alive n lives ready scope active calls_follow x info (lives x v.declared) (v.named, refl) place op o value (given_word op o (scalar_type elem) (type_of value) is its) isin c is d s st free here sim
+      by op its (Some o) is = operated_set_follows g has alive n files ready scope active calls_follow x info living (v.named, refl) place op o value (given_word op o (scalar_type elem) (type_of value) is its) isin c is d s st free here sim
       by op its None is = subst (λ (q : AssignOp). Follows g (λ v u out e. Ran g alive d s u e) s (then_do (evaluated scope value active st) (λ v after. assigned scope active place q (scalar_type elem) (type_of value) (OfScalar x) v after)) (put_to g.typed (layout g) (O.Scalar (register_of (layout g) x)) value d))
-          (sym (only_set op is)) (set_follows g has alive n lives ready scope active calls_follow x info (lives x v.declared) (v.named, refl) place (scalar_type elem) value refl (given_set op (scalar_type elem) (type_of value) is its) isin c d s st free here sim)
+          (sym (only_set op is)) (set_follows g has alive n files ready scope active calls_follow x info living (v.named, refl) place (scalar_type elem) value refl (given_set op (scalar_type elem) (type_of value) is its) isin c d s st free here sim)
 
   -- an expression without effects
-  pure_follows : (e : TExpr) → (IsIn g.may) e → HasCode g.typed g.instance n e → Runs (λ st. evaluated scope e active st) (λ d. value_of g.typed (layout g) (type_of e).elem.bits e d)
+  pure_follows : (e : TExpr) → (IsIn (naming g.may alive)) e → HasCode g.typed g.instance n e → Runs (λ st. evaluated scope e active st) (λ d. value_of g.typed (layout g) (type_of e).elem.bits e d)
   unfolding then_do
   pure_follows e isin c d s st free here sim =
       subst (λ (o : Outcome Value). Follows g (λ v u out e. Ran g alive d s u e) s o (value_of g.typed (layout g) (type_of e).elem.bits e d)) (nothing_done (evaluated scope e active st))
       (then_gives g (Value_of g has alive (type_of e).elem true d s) (λ v u out e. Ran g alive d s u e) s (evaluated scope e active st) (λ v. v) (value_of g.typed (layout g) (type_of e).elem.bits e d)
-      (value_follows g has alive n lives ready scope active calls_follow true (type_of e).elem.bits e isin c d s st free here sim) (λ v u out f arr. record { grown = arr.extended; t = arr.t; go = arr.go; at = arr.at; sim = arr.sim; keeps = arr.keeps }))
+      (value_follows g has alive n files ready scope active calls_follow true (type_of e).elem.bits e isin c d s st free here sim) (λ v u out f arr. record { grown = arr.extended; t = arr.t; go = arr.go; at = arr.at; sim = arr.sim; keeps = arr.keeps }))
     where
       nothing_done : (o : Outcome Value) → then_do o (λ v after. Source.Gives v after) ≡ o
       nothing_done (Source.Gives v u) = refl
       nothing_done (Source.Ends early u) = refl
 
-  assign_runs : (tty : ValueType) (place : Place) (op : AssignOp) (x : Variable) (value : TExpr) (whole : Code) → tty.shape ≡ None → HasVariable g.typed g.instance n x (plain tty) → IsGiven op tty (type_of value) → (IsIn g.may) value → HasCode g.typed g.instance n value
+  assign_runs : (tty : ValueType) (place : Place) (op : AssignOp) (x : Variable) (value : TExpr) (whole : Code) → (tty.shape ≡ None) × alive x → HasVariable g.typed g.instance n x (plain tty) → IsGiven op tty (type_of value) → (IsIn (naming g.may alive)) value → HasCode g.typed g.instance n value
       → Runs (λ st. then_do (Source.Gives (variable_target tty.shape x 0) st) (λ there between. then_do (evaluated scope value active between) (λ v after. assigned scope active place op tty (type_of value) there v after)))
       (λ d. assignment_effect g.typed (layout g) op place (T.Variable tty x) value whole d)
   unfolding then_do variable_target
-  assign_runs tty place op x value whole plain_shape v given isin c =
+  assign_runs tty place op x value whole named_so v given isin c =
       subst (λ (t : ValueType). HasVariable g.typed g.instance n x (plain t) → IsGiven op t (type_of value) → Runs (λ st. then_do (Source.Gives (variable_target t.shape x 0) st) (λ there between. then_do (evaluated scope value active between) (λ v after. assigned scope active place op t (type_of value) there v after)))
-      (λ d. assignment_effect g.typed (layout g) op place (T.Variable t x) value whole d)) (sym (plain_type tty plain_shape)) (λ w its. assigns tty.elem place op x value whole w its isin c) v given
+      (λ d. assignment_effect g.typed (layout g) op place (T.Variable t x) value whole d)) (sym (plain_type tty named_so.0)) (λ w its. assigns tty.elem place op x value whole w named_so.1 its isin c) v given
 
-  step_runs : (tty : ValueType) (op : StepOp) (order : StepOrder) (x : Variable) (whole : Code) → tty.shape ≡ None → HasVariable g.typed g.instance n x (plain tty)
+  step_runs : (tty : ValueType) (op : StepOp) (order : StepOrder) (x : Variable) (whole : Code) → (tty.shape ≡ None) × alive x → HasVariable g.typed g.instance n x (plain tty)
       → Runs (λ st. then_do (Source.Gives (variable_target tty.shape x 0) st) (λ there after. stepped scope active op order tty there after)) (λ d. step_effect g.typed (layout g) op (T.Variable tty x) whole d)
   unfolding then_do variable_target
-  step_runs tty op order x whole plain_shape v =
+  step_runs tty op order x whole named_so v =
       subst (λ (t : ValueType). HasVariable g.typed g.instance n x (plain t) → Runs (λ st. then_do (Source.Gives (variable_target t.shape x 0) st) (λ there after. stepped scope active op order t there after)) (λ d. step_effect g.typed (layout g) op (T.Variable t x) whole d))
-      (sym (plain_type tty plain_shape)) (λ w d s st free here sim.
+      (sym (plain_type tty named_so.0)) (λ w d s st free here sim.
       subst (λ (made : Made Out). Follows g (λ v u out e. Ran g alive d s u e) s (stepped scope active op order (scalar_type tty.elem) (OfScalar x) st) made) (sym (steps_it tty.elem x op whole d))
-      (stepped_follows g has alive n lives ready scope active calls_follow x (variable_info w.word (plain (scalar_type tty.elem)) w.start) (lives x w.declared) (w.named, refl) no_place op order d s st free here sim)) v
+      (stepped_follows g has alive n files ready scope active calls_follow x (variable_info w.word (plain (scalar_type tty.elem)) w.start) named_so.1 (w.named, refl) no_place op order d s st free here sim)) v
 
-  printf_runs : (ty : ValueType) (pieces : Vec Piece Global) (p : Vec (Unit {0}) Global) (arguments : _) → (AreIn g.may) arguments → All (λ (elem : Elem). elem.bits ≡ 32) (elems_of arguments) → HaveCode g.typed g.instance n arguments
+  printf_runs : (ty : ValueType) (pieces : Vec Piece Global) (p : Vec (Unit {0}) Global) (arguments : _) → (AreIn (naming g.may alive)) arguments → All (λ (elem : Elem). elem.bits ≡ 32) (elems_of arguments) → HaveCode g.typed g.instance n arguments
       → Runs (λ st. evaluated scope (T.Printf' ty pieces p arguments) active st) (λ d. effect_of g.typed (layout g) (T.Printf' ty pieces p arguments) d)
   unfolding evaluated effect_of value_of
-  printf_runs ty pieces p arguments h wide c = printf_follows g has alive n lives ready scope active calls_follow pieces.items arguments h wide c
+  printf_runs ty pieces p arguments h wide c = printf_follows g has alive n files ready scope active calls_follow pieces.items arguments h wide c
 
   -- a call whose value is not used
-  call_effect : (ty : ValueType) (index : ℕ) (p : Vec (Unit {0}) Global) (row : _) → g.may.calls None index (elems_of row) → (AreIn g.may) row → HasCode g.typed g.instance n (T.Call' ty index p row) → Runs (λ st. evaluated scope (T.Call' ty index p row) active st) (λ d. effect_of g.typed (layout g) (T.Call' ty index p row) d)
-  unfolding evaluated effect_of value_of IsDeclared IsLowerable fresh_for a_register then_make Grows
+  call_effect : (ty : ValueType) (index : ℕ) (p : Vec (Unit {0}) Global) (row : _) → g.may.calls None index (elems_of row) → (AreIn (naming g.may alive)) row → HasCode g.typed g.instance n (T.Call' ty index p row) → Runs (λ st. evaluated scope (T.Call' ty index p row) active st) (λ d. effect_of g.typed (layout g) (T.Call' ty index p row) d)
+  unfolding evaluated effect_of value_of IsLowerable fresh_for a_register then_make Grows
   call_effect ty index p row may isin c d s st free here sim = by m.callee.callee.result refl
     where
       known : TakesThese g active index (elems_of row)
@@ -247,7 +247,7 @@ module _ (g : Setting) (has : HasRegisters g) (alive : Variable → Type 0) (n :
       m = known.0
 
       done : AreDone g has alive scope active true (are_quiet row) row
-      done = arguments_do g has alive n lives ready scope active calls_follow true (are_quiet row) row isin (call_code g has alive n lives ready scope active calls_follow ty index p row c)
+      done = arguments_do g has alive n files ready scope active calls_follow true (are_quiet row) row isin (call_code g has alive n files ready scope active calls_follow ty index p row c)
 
       code : Out → Draft → Made Out
       code dest begun = call_to g.typed (layout g) index (values_of g.typed (layout g) true (are_quiet row) row) dest begun
@@ -260,7 +260,7 @@ module _ (g : Setting) (has : HasRegisters g) (alive : Variable → Type 0) (n :
           let regs = x.regs in
           let same : length begun.code ≡ length d.code = let more = length-append d.code x.more in let none = x.long in omega (arith, ap length x.code, more, none) in
           follows_other g (λ v u out e. Ran g alive begun s u e) (λ v u out e. Ran g alive d s u e) s (evaluated scope (T.Call' ty index p row) active st) (code dest begun)
-          (call_runs g has alive (λ k. lives (V.File k) tt) scope active calls_follow m row done known.1 is dest begun s st (omega (arith, free, regs)) (let there = here in omega (arith, there, same)) sim)
+          (call_runs g has alive files scope active calls_follow m row done known.1 is dest begun s st (omega (arith, free, regs)) (let there = here in omega (arith, there, same)) sim)
           (λ v u out e r. record { grown = (0 + r.grown.0, extended d begun e 0 r.grown.0 x r.grown.1); t = r.t; go = r.go; at = r.at; sim = r.sim; keeps = keeps_less g d begun s r.t regs r.keeps })
 
       no_shape : (info : VarInfo) → m.callee.callee.result ≡ Some info → ty.shape ≡ None
@@ -275,23 +275,23 @@ module _ (g : Setting) (has : HasRegisters g) (alive : Variable → Type 0) (n :
       by (Some info) is =
           subst (λ (o : Option ℕ). Follows g (λ v u out e. Ran g alive d s u e) s (evaluated scope (T.Call' ty index p row) active st) (then_make (fresh_for o ty.elem.bits d) (λ dest begun. code dest begun))) (sym (no_shape info is))
           (follows_other g (Value_of g has alive info.elem true d s) (λ v u out e. Ran g alive d s u e) s (evaluated scope (T.Call' ty index p row) active st) (code (O.Scalar d.regs) (with_reg d))
-          (call_follows g has alive (λ k. lives (V.File k) tt) scope active calls_follow m row done known.1 info is info.elem (inl refl) (with_reg d) s st (Value_of g has alive info.elem true d s) d.regs (omega (arith, free)) here sim (fresh_dest g has alive info.elem true d s free))
+          (call_follows g has alive files scope active calls_follow m row done known.1 info is info.elem (inl refl) (with_reg d) s st (Value_of g has alive info.elem true d s) d.regs (omega (arith, free)) here sim (fresh_dest g has alive info.elem true d s free))
           (λ v u out f arr. record { grown = arr.extended; t = arr.t; go = arr.go; at = arr.at; sim = arr.sim; keeps = arr.keeps }))
 
   -- what has a value of the fragment
-  value_effect : (e : TExpr) → (IsIn g.may) e → HasCode g.typed g.instance n e → Runs (λ st. evaluated scope e active st) (λ d. effect_of g.typed (layout g) e d)
+  value_effect : (e : TExpr) → (IsIn (naming g.may alive)) e → HasCode g.typed g.instance n e → Runs (λ st. evaluated scope e active st) (λ d. effect_of g.typed (layout g) e d)
   unfolding effect_of evaluated IsVariable IsIn
   value_effect (T.Assign' ty place op p (T.Variable tty x) q value) h c =
-      let names = assign_names g has alive n lives ready scope active calls_follow ty place op p q (T.Variable tty x) value c in
+      let names = assign_names g has alive n files ready scope active calls_follow ty place op p q (T.Variable tty x) value c in
       subst (λ (t : ValueType). Runs (λ st. then_do (Source.Gives (variable_target tty.shape x 0) st) (λ there between. then_do (evaluated scope value active between) (λ v after. assigned scope active place op t (type_of value) there v after)))
       (λ d. assignment_effect g.typed (layout g) op place (T.Variable tty x) value (λ e. value_of g.typed (layout g) ty.elem.bits (T.Assign' ty place op p (T.Variable tty x) q value) e) d)) (sym h.1)
-      (assign_runs tty place op x value (λ e. value_of g.typed (layout g) ty.elem.bits (T.Assign' ty place op p (T.Variable tty x) q value) e) h.2 (target_named g has alive n lives ready scope active calls_follow tty x names.0) h.4 h.3 names.1)
+      (assign_runs tty place op x value (λ e. value_of g.typed (layout g) ty.elem.bits (T.Assign' ty place op p (T.Variable tty x) q value) e) h.2 (target_named g has alive n files ready scope active calls_follow tty x names.0) h.4 h.3 names.1)
   value_effect (T.Assign' ty place op p _ q value) h c = absurd h.2
   value_effect (T.Step' ty op order p (T.Variable tty x)) h c =
       subst (λ (t : ValueType). Runs (λ st. then_do (Source.Gives (variable_target tty.shape x 0) st) (λ there after. stepped scope active op order t there after)) (λ d. step_effect g.typed (layout g) op (T.Variable tty x) (λ e. value_of g.typed (layout g) ty.elem.bits (T.Step' ty op order p (T.Variable tty x)) e) d)) (sym h.1)
-      (step_runs tty op order x (λ e. value_of g.typed (layout g) ty.elem.bits (T.Step' ty op order p (T.Variable tty x)) e) h.2 (target_named g has alive n lives ready scope active calls_follow tty x (step_names g has alive n lives ready scope active calls_follow ty op order p (T.Variable tty x) c)))
+      (step_runs tty op order x (λ e. value_of g.typed (layout g) ty.elem.bits (T.Step' ty op order p (T.Variable tty x)) e) h.2 (target_named g has alive n files ready scope active calls_follow tty x (step_names g has alive n files ready scope active calls_follow ty op order p (T.Variable tty x) c)))
   value_effect (T.Step' ty op order p _) h c = absurd h.2
-  value_effect (T.Brackets' ty p inner) h c = value_effect inner h.1 (brackets_code g has alive n lives ready scope active calls_follow ty p inner c)
+  value_effect (T.Brackets' ty p inner) h c = value_effect inner h.1 (brackets_code g has alive n files ready scope active calls_follow ty p inner c)
   value_effect (T.Number ty value) h c = pure_follows (T.Number ty value) h c
   value_effect (T.PositionsOf ty shape value) h c = pure_follows (T.PositionsOf ty shape value) h c
   value_effect (T.RankOf ty shape value) h c = pure_follows (T.RankOf ty shape value) h c
@@ -308,9 +308,9 @@ module _ (g : Setting) (has : HasRegisters g) (alive : Variable → Type 0) (n :
   value_effect (T.Call' ty index p arguments) h c = pure_follows (T.Call' ty index p arguments) h c
   value_effect _ h c = absurd h
 
-  pub effect_follows : (e : TExpr) → (IsEffect g.may) e → HasCode g.typed g.instance n e → Runs (λ st. evaluated scope e active st) (λ d. effect_of g.typed (layout g) e d)
+  pub effect_follows : (e : TExpr) → (IsEffect (naming g.may alive)) e → HasCode g.typed g.instance n e → Runs (λ st. evaluated scope e active st) (λ d. effect_of g.typed (layout g) e d)
   unfolding IsEffect IsIn effect_of evaluated
-  effect_follows (T.Printf' ty pieces p arguments) h c = printf_runs ty pieces p arguments h.0 h.1 (printf_code g has alive n lives ready scope active calls_follow ty pieces p arguments c)
+  effect_follows (T.Printf' ty pieces p arguments) h c = printf_runs ty pieces p arguments h.0 h.1 (printf_code g has alive n files ready scope active calls_follow ty pieces p arguments c)
   effect_follows (T.Call' ty index p arguments) h c = call_effect ty index p arguments h.0 h.1 c
   effect_follows (T.Number ty value) h c = value_effect (T.Number ty value) h c
   effect_follows (T.PositionsOf ty shape value) h c = value_effect (T.PositionsOf ty shape value) h c
@@ -318,7 +318,7 @@ module _ (g : Setting) (has : HasRegisters g) (alive : Variable → Type 0) (n :
   effect_follows (T.DimOf ty shape axis value) h c = value_effect (T.DimOf ty shape axis value) h c
   effect_follows (T.Variable ty x) h c = value_effect (T.Variable ty x) h c
   effect_follows (T.GetChar ty) h c = value_effect (T.GetChar ty) h c
-  effect_follows (T.Brackets' ty p inner) h c = effect_follows inner h (brackets_code g has alive n lives ready scope active calls_follow ty p inner c)
+  effect_follows (T.Brackets' ty p inner) h c = effect_follows inner h (brackets_code g has alive n files ready scope active calls_follow ty p inner c)
   effect_follows (T.Convert' ty p operand) h c = value_effect (T.Convert' ty p operand) h c
   effect_follows (T.Casts' ty elems p operand) h c = value_effect (T.Casts' ty elems p operand) h c
   effect_follows (T.Unary' ty op p operand) h c = value_effect (T.Unary' ty op p operand) h c

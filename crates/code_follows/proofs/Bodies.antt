@@ -1,5 +1,5 @@
 -- Every statement of the fragment.
-use Rattle.std.proofs.Common.{◌≡◌, ◌∙◌, ℕ, ◌+◌, ◌≤◌, false, List, [], ◌++◌, map, Vec, Global, length, Some, sym, subst, arith, refl, ◌⊎◌, inl, true}
+use Rattle.std.proofs.Common.{◌≡◌, ◌∙◌, ℕ, ◌+◌, ◌≤◌, false, List, [], ◌++◌, map, Vec, Global, length, sym, subst, arith, refl, inl, inr, Option, None, Some}
 use mathlib.Core.Former.{Count}
 use Rattle.std.proofs.lemmas.List.{length-map}
 use Rattle.std.specs.List.{All}
@@ -8,13 +8,13 @@ use Rattle.cstar_tree.specs.declared.typed.TExpr.{TExpr}
 use Rattle.cstar_tree.specs.declared.typed.TStmt.{TStmt, Row_of-TStmt, end_of-TStmt, more_of-TStmt, Held-TStmt-If-2, None', Some'}
 use Rattle.cstar_tree.specs.declared.typed.TStmt as S
 use Rattle.cstar_tree.specs.declared.typed.VarInfo.{VarInfo}
+use Rattle.cstar_tree.specs.declared.typed.Variable.TheVariants as V
 use Rattle.cstar_tree.specs.declared.typed.Variable.{Variable}
 use Rattle.cstar_tree.specs.Variables.{variables_of}
 use Rattle.code_lengths.specs.Agreement.{StandsAmong}
 use Rattle.code_lengths.specs.Growth.{Extended}
 use Rattle.code_lengths.specs.LowerableStatements.{AreLowerableStatements, IsLowerableStatement}
 use Rattle.code_lengths.specs.ShapedStatements.{AreShapedStatements, IsShapedStatement}
-use Rattle.code_lengths.specs.Naming.{variable_named}
 use Rattle.code_lengths.specs.NamingStatements.{StandFrom, StatementNamesVariables, StatementsNameVariables, behind}
 use Rattle.code_lengths.specs.Ready.{HasDeclared, HasStatementCode, IsReady, NumbersVariables}
 use Rattle.code_lengths.proofs.Declaring.{first_part, info_of, of_block, row_variables, second_part}
@@ -28,29 +28,26 @@ use Rattle.paris_code.specs.declared.instr.Instr.TheVariants as I
 use Rattle.paris_code.specs.Code.{CodeState}
 use Rattle.source_meaning.specs.State as Source
 use Rattle.source_meaning.specs.State.{Outcome, State, is_among, spend_turn, then_do, zeroed}
-use Rattle.source_meaning.specs.Statements.{Broke, Continued, Onward, all_executed, declared, done, else_executed, executed, initialised, then_go, Leaving}
+use Rattle.source_meaning.specs.Statements.{Broke, Continued, Onward, Returned, all_executed, declared, done, else_executed, executed, initialised, then_go, Leaving}
 use Rattle.source_meaning.specs.Values.{Active, Scope, Value}
 use Rattle.lower_base.specs.declared.emit.Out.{Out}
-use Rattle.code_follows.proofs.Declaring.{Started, clears, sim_fewer, Alive}
-use Rattle.code_follows.specs.Fragment.{AreInStatements, IsEffect, IsInLocal, IsInElse, IsInStatement, IsTested}
+use Rattle.code_follows.proofs.Declaring.{AreBefore, among_before, clears, declared_later, sim_fewer, Alive}
+use Rattle.code_follows.specs.Fragment.{AreInStatements, IsEffect, IsScalarLocal, IsInElse, IsInStatement, IsTested, OrAmong, naming}
 use Rattle.code_follows.proofs.Assigning.{effect_follows}
 use Rattle.code_follows.proofs.Choices.{Agrees, if_alone, if_else}
-use Rattle.code_follows.proofs.Executing.{Jumped, Left, RanOn, follows_from, go_on}
+use Rattle.code_follows.proofs.Executing.{IsGiven, Jumped, Left, RanOn, follows_from, go_on}
 use Rattle.code_follows.proofs.ForLoops.{do_agrees, for_agrees, while_agrees}
 use Rattle.code_follows.proofs.Callees.{CallsFollow}
-use Rattle.code_follows.proofs.Following.{Extends, Follows, HasRegisters, Ran, Sim, delayed, extends_made, keeps_all, nothing_said}
+use Rattle.code_follows.proofs.Following.{Extends, Follows, follows_other, HasRegisters, Ran, Sim, delayed, extends_made, keeps_all, nothing_said}
 use Rattle.code_follows.proofs.Jumping.{nothing_restored, jumps, moved_to, sim_moved}
 use Rattle.code_follows.proofs.Returning.{return_follows}
 use Rattle.code_follows.proofs.Settings.{At, Setting, Within, layout, start, stay}
-use Rattle.code_follows.proofs.Starting.{AreCoded, coded, go_after, initials_follow, initials_grow}
+use Rattle.code_follows.proofs.Starting.{AreCoded, AreSettled, Now, coded, settled_so, go_after, initials_follow, initials_grow}
 use Rattle.code_follows.proofs.Statements.{StandsIn, expression_code, returned_code, statement_made}
 
-module _ (g : Setting) (has : HasRegisters g) (alive : Variable → Type 0) (every : (x : Variable) → alive x) (numbers : NumbersVariables g.instance (layout g)) (ready : (n : ℕ) (d : Draft) → IsReady g.typed g.instance (layout g) n d)
+module _ (g : Setting) (has : HasRegisters g) (alive : Variable → Type 0) (files : (k : ℕ) → alive (V.File k)) (numbers : NumbersVariables g.instance (layout g)) (ready : (n : ℕ) (d : Draft) → IsReady g.typed g.instance (layout g) n d)
     (declares : (n : ℕ) (d : Draft) → d.homes ≡ [] → HasDeclared g.typed g.instance (layout g) n d) (scope : Scope) (active : Active) (calls_follow : CallsFollow g scope active)
     (falls : (s : TStmt) (n : ℕ) (st : State) → (state_after (executed scope s n active st)).turns ≤ st.turns) where
-  abbrev pub Follows_it : TStmt → Type 0
-  Follows_it s = Agrees g has alive every numbers ready declares scope active calls_follow s
-
   -- an expression as a statement
   effect_statement : (f : Frame) (n : ℕ) (d : Draft) (s0 : CodeState) (o : Outcome Value) (made : Made Out) → Follows g (λ v u out e. Ran g alive d s0 u e) s0 o made
       → Follows g (Left g alive f d s0) s0 (then_do o (λ v after. Source.Gives Onward after)) (then_make (then_make made (λ out after. Makes (tt {0}) after)) (λ u after. Makes n after))
@@ -102,11 +99,11 @@ module _ (g : Setting) (has : HasRegisters g) (alive : Variable → Type 0) (eve
   unfolding Follows Left
   stays_here f n d s0 st at sim = λ within. record { grown = (0, as_it_was d); t = s0; go = stay g s0; at = at; sim = sim; keeps = keeps_all g d s0 }
 
-  expression_follows : (e : TExpr) → (IsEffect g.may) e → (f : Frame) (n : ℕ) (d : Draft) (s0 : CodeState) (st : State) → g.begins ≤ d.regs → At g s0 (length d.code) → Sim g alive st s0 → HasStatementCode g.typed g.instance n (S.Expression e)
+  expression_follows : (e : TExpr) → (IsEffect (naming g.may alive)) e → (f : Frame) (n : ℕ) (d : Draft) (s0 : CodeState) (st : State) → g.begins ≤ d.regs → At g s0 (length d.code) → Sim g alive st s0 → HasStatementCode g.typed g.instance n (S.Expression e)
       → Follows g (Left g alive f d s0) s0 (done scope active (Some e) st) (then_make (part_of g.typed (layout g) (Some e) d) (λ u after. Makes n after))
   unfolding done part_of
   expression_follows e h f n d s0 st free at sim c =
-      effect_statement f n d s0 _ _ (effect_follows g has alive n (λ x within. every x) (ready n) scope active calls_follow e h (expression_code g numbers declares n e c) d s0 st free at sim)
+      effect_statement f n d s0 _ _ (effect_follows g has alive n files (ready n) scope active calls_follow e h (expression_code g numbers declares n e c) d s0 st free at sim)
 
   breaks : (f : Frame) (k n : ℕ) (d : Draft) (s0 : CodeState) (st : State) → At g s0 (length d.code) → Sim g alive st s0 → Follows g (Left g alive f d s0) s0 (Source.Gives Broke st) (Makes n (with_instr (I.FrontJump f.after) (restored [] k d)))
   unfolding Follows Left
@@ -134,23 +131,23 @@ module _ (g : Setting) (has : HasRegisters g) (alive : Variable → Type 0) (eve
   abbrev pub begun_code : {k : Count} → List LocalVar → Row_of-TStmt k → Frame → ℕ → Draft → Made ℕ
   begun_code locals row f n d = then_make (then_make (all_initialised g.typed (layout g) locals n d) (λ v after. Makes (n + length locals) after)) (λ m after. statements_of g.typed (layout g) row f [] m after)
 
-  pub begun_grows : {k : Count} (locals : List LocalVar) (row : Row_of-TStmt k) (f : Frame) (n : ℕ) (d : Draft) → All (IsInLocal g.may) locals → AreCoded g has alive every ready scope active calls_follow n locals → RowCode (n + length locals) row → StandsIn g f → StandsAmong f [] → d.homes ≡ []
+  pub begun_grows : {k : Count} (locals : List LocalVar) (row : Row_of-TStmt k) (f : Frame) (n : ℕ) (d : Draft) → All IsScalarLocal locals → AreSettled g has alive files ready scope active calls_follow n locals → AreCoded g has alive files ready scope active calls_follow n locals → RowCode (n + length locals) row → StandsIn g f → StandsAmong f [] → d.homes ≡ []
       → Extends g d (begun_code locals row f n d)
   unfolding then_make Extends
-  begun_grows locals row f n d isin initial code framed among none = by (all_initialised g.typed (layout g) locals n d) refl
+  begun_grows locals row f n d isin settled initial code framed among none = by (all_initialised g.typed (layout g) locals n d) refl
     where
       by : (m : Made (Unit {0})) → all_initialised g.typed (layout g) locals n d ≡ m → Extends g d (then_make (then_make m (λ v after. Makes (n + length locals) after)) (λ m' after. statements_of g.typed (layout g) row f [] m' after))
       by Fails is = tt
       by (Makes u e) is =
-          let grows : (j : ℕ) × Extended d j e = subst (λ (m : Made (Unit {0})). Extends g d m) is (initials_grow g has alive every ready scope active calls_follow locals n d isin initial) in
+          let grows : (j : ℕ) × Extended d j e = subst (λ (m : Made (Unit {0})). Extends g d m) is (initials_grow g has alive files ready scope active calls_follow locals n d isin settled initial) in
           extends_made g d e grows.0 (statements_of g.typed (layout g) row f [] (n + length locals) e) grows.1 (row_grows row f (n + length locals) e framed among (grows.1.homes ∙ none) code)
 
-  pub begun_follows : {k : Count} (locals : List LocalVar) (row : Row_of-TStmt k) (f : Frame) (n : ℕ) (d : Draft) (s0 : CodeState) (st : State) → All (IsInLocal g.may) locals → StandFrom (variables_of g.instance.body) n (map info_of locals) → AreCoded g has alive every ready scope active calls_follow n locals → RowCode (n + length locals) row
-      → StandsIn g f → StandsAmong f [] → d.homes ≡ [] → g.begins ≤ d.regs → At g s0 (length d.code) → Sim g (Started locals n) st s0
+  pub begun_follows : {k : Count} (locals : List LocalVar) (row : Row_of-TStmt k) (f : Frame) (n : ℕ) (d : Draft) (s0 : CodeState) (st : State) → All IsScalarLocal locals → StandFrom (variables_of g.instance.body) n (map info_of locals) → AreSettled g has alive files ready scope active calls_follow n locals → AreCoded g has alive files ready scope active calls_follow n locals → RowCode (n + length locals) row
+      → StandsIn g f → StandsAmong f [] → d.homes ≡ [] → g.begins ≤ d.regs → At g s0 (length d.code) → Sim g (λ z. Now g has alive files ready scope active calls_follow locals n z) st s0
       → ((e : Draft) (t : CodeState) (u : State) → e.homes ≡ [] → g.begins ≤ e.regs → At g t (length e.code) → Sim g alive u t → Follows g (Left g alive f e t) t (all_executed scope row (n + length locals) active u) (statements_of g.typed (layout g) row f [] (n + length locals) e))
       → Follows g (Left g alive f d s0) s0 (then_go (initialised scope active n locals st) (all_executed scope row (n + length locals) active)) (begun_code locals row f n d)
   unfolding then_make Extends
-  begun_follows locals row f n d s0 st isin stand initial code framed among none free at sim next = by (all_initialised g.typed (layout g) locals n d) refl
+  begun_follows locals row f n d s0 st isin stand settled initial code framed among none free at sim next = by (all_initialised g.typed (layout g) locals n d) refl
     where
       whole : Outcome Leaving
       whole = then_go (initialised scope active n locals st) (all_executed scope row (n + length locals) active)
@@ -158,37 +155,37 @@ module _ (g : Setting) (has : HasRegisters g) (alive : Variable → Type 0) (eve
       by : (m : Made (Unit {0})) → all_initialised g.typed (layout g) locals n d ≡ m → Follows g (Left g alive f d s0) s0 whole (then_make (then_make m (λ v after. Makes (n + length locals) after)) (λ m' after. statements_of g.typed (layout g) row f [] m' after))
       by Fails is = nothing_said g (Left g alive f d s0) s0 whole
       by (Makes u e) is =
-          let grows : (j : ℕ) × Extended d j e = subst (λ (m : Made (Unit {0})). Extends g d m) is (initials_grow g has alive every ready scope active calls_follow locals n d isin initial) in
+          let grows : (j : ℕ) × Extended d j e = subst (λ (m : Made (Unit {0})). Extends g d m) is (initials_grow g has alive files ready scope active calls_follow locals n d isin settled initial) in
           let homes : e.homes ≡ [] = grows.1.homes ∙ none in
           let made : Made ℕ = statements_of g.typed (layout g) row f [] (n + length locals) e in
           let more = grows.1.regs in
-          go_after g has alive every ready scope active calls_follow d s0 (Left g alive f d s0) (initialised scope active n locals st) (all_executed scope row (n + length locals) active) u e made
-          (subst (λ (m : Made (Unit {0})). Follows g (RanOn g alive d s0) s0 (initialised scope active n locals st) m) is (initials_follow g has alive every ready scope active calls_follow locals n d s0 st isin stand initial free at sim)) (row_grows row f (n + length locals) e framed among homes code)
+          go_after g has alive files ready scope active calls_follow d s0 (Left g alive f d s0) (initialised scope active n locals st) (all_executed scope row (n + length locals) active) u e made
+          (subst (λ (m : Made (Unit {0})). Follows g (RanOn g alive d s0) s0 (initialised scope active n locals st) m) is (initials_follow g has alive files ready scope active calls_follow locals n d s0 st isin stand settled initial free at sim)) (row_grows row f (n + length locals) e framed among homes code)
           (λ v one. follows_from g alive f d e grows.0 s0 one.t (all_executed scope row (n + length locals) active v) made grows.1 one.go one.keeps (next e one.t v homes (omega (arith, free, more)) one.at one.sim))
 
   -- a block: its variables, and then its statements
-  pub block_follows : {k : Count} (before : Variable → Type 0) (locals : List LocalVar) (row : Row_of-TStmt k) (f : Frame) (n : ℕ) (d : Draft) (s0 : CodeState) (st : State) → All (IsInLocal g.may) locals → StandFrom (variables_of g.instance.body) n (map info_of locals) → AreCoded g has alive every ready scope active calls_follow n locals → RowCode (n + length locals) row
-      → StandsIn g f → StandsAmong f [] → d.homes ≡ [] → g.begins ≤ d.regs → At g s0 (length d.code) → Sim g before st s0 → ((x : Variable) (info : VarInfo) → variable_named g.typed g.instance x ≡ Some info → before x ⊎ (is_among n (length locals) x ≡ true))
+  pub block_follows : {k : Count} (before : Variable → Type 0) (locals : List LocalVar) (row : Row_of-TStmt k) (f : Frame) (n : ℕ) (d : Draft) (s0 : CodeState) (st : State) → All IsScalarLocal locals → StandFrom (variables_of g.instance.body) n (map info_of locals) → AreSettled g has alive files ready scope active calls_follow n locals → AreCoded g has alive files ready scope active calls_follow n locals → RowCode (n + length locals) row
+      → StandsIn g f → StandsAmong f [] → d.homes ≡ [] → g.begins ≤ d.regs → At g s0 (length d.code) → Sim g before st s0 → ((x : Variable) → alive x → OrAmong before n (length locals) x)
       → ((e : Draft) (t : CodeState) (u : State) → e.homes ≡ [] → g.begins ≤ e.regs → At g t (length e.code) → Sim g alive u t → Follows g (Left g alive f e t) t (all_executed scope row (n + length locals) active u) (statements_of g.typed (layout g) row f [] (n + length locals) e))
       → Follows g (Left g alive f d s0) s0 (then_go (initialised scope active n locals (zeroed n (length locals) st)) (all_executed scope row (n + length locals) active)) (then_make (declared_in g.typed (layout g) false locals n d) (λ m after. statements_of g.typed (layout g) row f [] m after))
   unfolding declared_in then_make
-  block_follows before locals row f n d s0 st isin stand initial code framed among none free at sim covers next =
+  block_follows before locals row f n d s0 st isin stand settled initial code framed among none free at sim covers next =
       let c = clears g has before locals n d isin stand in
       let after_zero : State = zeroed n (length locals) st in
       let whole : Outcome Leaving = then_go (initialised scope active n locals after_zero) (all_executed scope row (n + length locals) active) in
       let homes : c.e.homes ≡ [] = c.grown.homes ∙ none in
       let longer = c.grown.regs in
       subst (λ (m : Made (Unit {0})). Follows g (Left g alive f d s0) s0 whole (then_make (then_make m (λ u between. then_make (all_initialised g.typed (layout g) locals n between) (λ v after. Makes (n + length locals) after))) (λ m' after. statements_of g.typed (layout g) row f [] m' after))) (sym c.is)
-      (delayed g (Left g alive f d s0) c.e s0 whole (begun_code locals row f n c.e) (begun_grows locals row f n c.e isin initial code framed among homes) (λ within.
+      (delayed g (Left g alive f d s0) c.e s0 whole (begun_code locals row f n c.e) (begun_grows locals row f n c.e isin settled initial code framed among homes) (λ within.
       let ran = c.runs s0 st free at sim within in
-      let started : Sim g (Started locals n) after_zero ran.t = sim_fewer g (λ x. Alive before locals n x) (Started locals n) after_zero ran.t (λ x info named h. (covers x info named, h)) ran.sim in
+      let started : Sim g (λ z. Now g has alive files ready scope active calls_follow locals n z) after_zero ran.t = sim_fewer g (λ x. Alive before locals n x) (λ z. Now g has alive files ready scope active calls_follow locals n z) after_zero ran.t (λ x info named h. (covers x h.0, h.1)) ran.sim in
       follows_from g alive f d c.e c.count s0 ran.t whole (begun_code locals row f n c.e) c.grown ran.go ran.keeps
-      (begun_follows locals row f n c.e ran.t after_zero isin stand initial code framed among homes (omega (arith, free, longer)) ran.at started next)))
+      (begun_follows locals row f n c.e ran.t after_zero isin stand settled initial code framed among homes (omega (arith, free, longer)) ran.at started next)))
 
   -- what has code of a block's initialisers
-  pub block_initials : (n : ℕ) (locals : Vec LocalVar Global) (p : Vec (Unit {0}) Global) (row : _) → HasStatementCode g.typed g.instance n (S.Block' locals p row) → AreCoded g has alive every ready scope active calls_follow n locals.items
+  pub block_initials : (n : ℕ) (locals : Vec LocalVar Global) (p : Vec (Unit {0}) Global) (row : _) → HasStatementCode g.typed g.instance n (S.Block' locals p row) → AreCoded g has alive files ready scope active calls_follow n locals.items
   unfolding IsShapedStatement IsLowerableStatement StatementNamesVariables
-  block_initials n locals p row c = coded g has alive every ready scope active calls_follow n locals.items c.shaped.0 c.lowerable.0 c.names.0
+  block_initials n locals p row c = coded g has alive files ready scope active calls_follow n locals.items c.shaped.0 c.lowerable.0 c.names.0
 
   row_onward : {k : Count} (s : TStmt) (rest : Row_of-TStmt k) (f : Frame) (n : ℕ) (d : Draft) (s0 : CodeState) (st : State) → StandsIn g f → StandsAmong f [] → d.homes ≡ [] → g.begins ≤ d.regs → RowCode n (more_of-TStmt s rest)
       → Follows g (Left g alive f d s0) s0 (executed scope s n active st) (statement_of g.typed (layout g) s f [] n d)
@@ -203,29 +200,65 @@ module _ (g : Setting) (has : HasRegisters g) (alive : Variable → Type 0) (eve
       (λ u ran. follows_from g alive f d made.e ran.grown.0 s0 ran.t (all_executed scope rest (n + declared s) active u) (statements_of g.typed (layout g) rest f [] (behind n s) made.e) ran.grown.1 ran.go ran.keeps
       (next made.e ran.t u made.homes (omega (arith, free, ran.grown.1.regs)) ran.at ran.sim)))
 
+-- what is said of more variables is said of fewer where a statement is left
+module _ (g : Setting) (wide alive : Variable → Type 0) (among : (x : Variable) → alive x → wide x) where
+  fewer_after : (st : State) (s : CodeState) → Sim g wide st s → Sim g alive st s
+  fewer_after st s sim = sim_fewer g wide alive st s (λ x info named h. among x h) sim
+
+  jumped_fewer : (d : Draft) (s : CodeState) (st : State) (place : ℕ) → Jumped g wide d s st place → Jumped g alive d s st place
+  jumped_fewer d s st place j = record { t = j.t; go = j.go; at = j.at; sim = fewer_after st j.t j.sim; keeps = j.keeps }
+
+  given_fewer : (s t : CodeState) (v : Option Value) → IsGiven g wide s t v → IsGiven g alive s t v
+  unfolding IsGiven
+  given_fewer s t None h = h
+  given_fewer s t (Some v) h = h
+
+  left_fewer : (f : Frame) (d : Draft) (s : CodeState) (leaving : Leaving) (st : State) (m : ℕ) (e : Draft) → Left g wide f d s leaving st m e → Left g alive f d s leaving st m e
+  unfolding Left
+  left_fewer f d s Onward st m e r = record { grown = r.grown; t = r.t; go = r.go; at = r.at; sim = fewer_after st r.t r.sim; keeps = r.keeps }
+  left_fewer f d s Broke st m e r = jumped_fewer d s st f.after r
+  left_fewer f d s Continued st m e r = jumped_fewer d s st f.next r
+  left_fewer f d s (Returned v) st m e r = record { t = r.t; go = r.go; sim = fewer_after st r.t r.sim; leaves = r.leaves; spares = r.spares; given = given_fewer s r.t v r.given }
+
+  pub follows_fewer : (f : Frame) (d : Draft) (s : CodeState) (o : Outcome Leaving) (made : Made ℕ) → Follows g (Left g wide f d s) s o made → Follows g (Left g alive f d s) s o made
+  follows_fewer f d s o made h = follows_other g (Left g wide f d s) (Left g alive f d s) s o made h (λ leaving st m e r. left_fewer f d s leaving st m e r)
+
+module _ (g : Setting) (has : HasRegisters g) (numbers : NumbersVariables g.instance (layout g)) (ready : (n : ℕ) (d : Draft) → IsReady g.typed g.instance (layout g) n d)
+    (declares : (n : ℕ) (d : Draft) → d.homes ≡ [] → HasDeclared g.typed g.instance (layout g) n d) (scope : Scope) (active : Active) (calls_follow : CallsFollow g scope active)
+    (falls : (s : TStmt) (n : ℕ) (st : State) → (state_after (executed scope s n active st)).turns ≤ st.turns) where
   mutual
     unfolding IsInStatement IsInElse IsTested AreInStatements executed all_executed declared else_executed statement_of statements_of else_of
 
-    pub statement_follows : (s : TStmt) → (IsInStatement g.may) s → Follows_it s
-    statement_follows (S.Block' locals p statements) h f n d s0 st framed among none free at sim c =
-        block_follows alive locals.items statements f n d s0 st h.0 (first_part (map info_of locals.items) (row_variables statements) (block_stands n locals p statements c)) (block_initials n locals p statements c) (block_code n locals p statements c) framed among none free at sim (λ x info named. inl (every x))
-        (λ e t u none_e free_e at_e sim_e. row_follows statements h.1 f (n + length locals.items) e t u framed among none_e free_e at_e sim_e (block_code n locals p statements c))
-    statement_follows (S.Expression e) h f n d s0 st framed among none free at sim c = expression_follows e h f n d s0 st free at sim c
-    statement_follows S.Empty h f n d s0 st framed among none free at sim c = stays_here f n d s0 st at sim
-    statement_follows (S.If' test p first None') h f n d s0 st framed among none free at sim c = if_alone g has alive every numbers ready declares scope active calls_follow test p first h.0 (statement_follows first h.1) f n d s0 st framed among none free at sim c
-    statement_follows (S.If' test p first (Some' q second)) h f n d s0 st framed among none free at sim c =
-        if_else g has alive every numbers ready declares scope active calls_follow test p first q second h.0 (statement_follows first h.1) (statement_follows second h.2) f n d s0 st framed among none free at sim c
-    statement_follows (S.While' test p body) h f n d s0 st framed among none free at sim c = while_agrees g has alive every numbers ready declares scope active calls_follow falls test p body h.0 (statement_follows body h.1) f n d s0 st framed among none free at sim c
-    statement_follows (S.For' first test step p body) h f n d s0 st framed among none free at sim c = for_agrees g has alive every numbers ready declares scope active calls_follow falls first step test p body h.0 h.1 h.2 (statement_follows body h.3) f n d s0 st framed among none free at sim c
-    statement_follows (S.Do' p body test) h f n d s0 st framed among none free at sim c = do_agrees g has alive every numbers ready declares scope active calls_follow falls test p body h.1 (statement_follows body h.0) f n d s0 st framed among none free at sim c
-    statement_follows S.Break h f n d s0 st framed among none free at sim c = breaks f f.saved.in_loop n d s0 st at sim
-    statement_follows S.Continue h f n d s0 st framed among none free at sim c = continues f f.saved.in_loop n d s0 st at sim
-    statement_follows (S.Return e) h f n d s0 st framed among none free at sim c = return_follows g has alive every ready scope active calls_follow e h f n d s0 st framed free at sim (returned_code g numbers declares e n c)
-    statement_follows _ h f n d s0 st framed among none free at sim c = absurd h
+    pub statement_follows : (alive : Variable → Type 0) (files : (k : ℕ) → alive (V.File k)) (n : ℕ) → AreBefore alive n → (s : TStmt) → IsInStatement (naming g.may alive) n s → Agrees g has alive files numbers ready declares scope active calls_follow n s
+    statement_follows alive files n before (S.Block' locals p statements) h f d s0 st framed among none free at sim c =
+        let wide : Variable → Type 0 = λ x. OrAmong alive n (length locals.items) x in
+        let wide_files : (k : ℕ) → wide (V.File k) = λ k. inl (files k) in
+        let code = block_code g has wide wide_files numbers ready declares scope active calls_follow falls n locals p statements c in
+        follows_fewer g wide alive (λ x living. inl living) f d s0 _ _
+        (block_follows g has wide wide_files numbers ready declares scope active calls_follow falls alive locals.items statements f n d s0 st h.0
+        (first_part (map info_of locals.items) (row_variables statements) (block_stands g has wide wide_files numbers ready declares scope active calls_follow falls n locals p statements c))
+        (settled_so g has wide wide_files ready scope active calls_follow alive locals.items n (λ x living. inl living) (λ x own. inr own) before h.1)
+        (block_initials g has wide wide_files numbers ready declares scope active calls_follow falls n locals p statements c) code framed among none free at sim (λ x living. living)
+        (λ e t u none_e free_e at_e sim_e. row_follows wide wide_files (n + length locals.items) (among_before alive n (length locals.items) before) statements h.2 f e t u framed among none_e free_e at_e sim_e code))
+    statement_follows alive files n before (S.Expression e) h f d s0 st framed among none free at sim c = expression_follows g has alive files numbers ready declares scope active calls_follow falls e h f n d s0 st free at sim c
+    statement_follows alive files n before S.Empty h f d s0 st framed among none free at sim c = stays_here g has alive files numbers ready declares scope active calls_follow falls f n d s0 st at sim
+    statement_follows alive files n before (S.If' test p first None') h f d s0 st framed among none free at sim c = if_alone g has alive files numbers ready declares scope active calls_follow n test p first h.0 (statement_follows alive files n before first h.1) f d s0 st framed among none free at sim c
+    statement_follows alive files n before (S.If' test p first (Some' q second)) h f d s0 st framed among none free at sim c =
+        if_else g has alive files numbers ready declares scope active calls_follow n test p first q second h.0 (statement_follows alive files n before first h.1)
+        (statement_follows alive files (behind n first) (λ x living. declared_later n (length (variables_of first)) x (before x living)) second h.2) f d s0 st framed among none free at sim c
+    statement_follows alive files n before (S.While' test p body) h f d s0 st framed among none free at sim c = while_agrees g has alive files numbers ready declares scope active calls_follow falls n test p body h.0 (statement_follows alive files n before body h.1) f d s0 st framed among none free at sim c
+    statement_follows alive files n before (S.For' first test step p body) h f d s0 st framed among none free at sim c =
+        for_agrees g has alive files numbers ready declares scope active calls_follow falls n first step test p body h.0 h.1 h.2 (statement_follows alive files n before body h.3) f d s0 st framed among none free at sim c
+    statement_follows alive files n before (S.Do' p body test) h f d s0 st framed among none free at sim c = do_agrees g has alive files numbers ready declares scope active calls_follow falls n test p body h.1 (statement_follows alive files n before body h.0) f d s0 st framed among none free at sim c
+    statement_follows alive files n before S.Break h f d s0 st framed among none free at sim c = breaks g has alive files numbers ready declares scope active calls_follow falls f f.saved.in_loop n d s0 st at sim
+    statement_follows alive files n before S.Continue h f d s0 st framed among none free at sim c = continues g has alive files numbers ready declares scope active calls_follow falls f f.saved.in_loop n d s0 st at sim
+    statement_follows alive files n before (S.Return e) h f d s0 st framed among none free at sim c = return_follows g has alive files ready scope active calls_follow e h f n d s0 st framed free at sim (returned_code g numbers declares e n c)
+    statement_follows alive files n before _ h f d s0 st framed among none free at sim c = absurd h
 
-    pub row_follows : {k : Count} (row : Row_of-TStmt k) → (AreInStatements g.may) row → (f : Frame) (n : ℕ) (d : Draft) (s0 : CodeState) (st : State) → StandsIn g f → StandsAmong f [] → d.homes ≡ [] → g.begins ≤ d.regs → At g s0 (length d.code) → Sim g alive st s0
-        → RowCode n row → Follows g (Left g alive f d s0) s0 (all_executed scope row n active st) (statements_of g.typed (layout g) row f [] n d)
-    row_follows end_of-TStmt h f n d s0 st framed among none free at sim c = stays_here f n d s0 st at sim
-    row_follows (more_of-TStmt s rest) h f n d s0 st framed among none free at sim c =
-        row_onward s rest f n d s0 st framed among none free c (statement_follows s h.0 f n d s0 st framed among none free at sim (row_first n s rest c))
-        (λ e t u none_e free_e at_e sim_e. row_follows rest h.1 f (n + declared s) e t u framed among none_e free_e at_e sim_e (row_rest n s rest c))
+    pub row_follows : {k : Count} (alive : Variable → Type 0) (files : (k : ℕ) → alive (V.File k)) (n : ℕ) → AreBefore alive n → (row : Row_of-TStmt k) → AreInStatements (naming g.may alive) n row
+        → (f : Frame) (d : Draft) (s0 : CodeState) (st : State) → StandsIn g f → StandsAmong f [] → d.homes ≡ [] → g.begins ≤ d.regs → At g s0 (length d.code) → Sim g alive st s0
+        → RowCode g has alive files numbers ready declares scope active calls_follow falls n row → Follows g (Left g alive f d s0) s0 (all_executed scope row n active st) (statements_of g.typed (layout g) row f [] n d)
+    row_follows alive files n before end_of-TStmt h f d s0 st framed among none free at sim c = stays_here g has alive files numbers ready declares scope active calls_follow falls f n d s0 st at sim
+    row_follows alive files n before (more_of-TStmt s rest) h f d s0 st framed among none free at sim c =
+        row_onward g has alive files numbers ready declares scope active calls_follow falls s rest f n d s0 st framed among none free c (statement_follows alive files n before s h.0 f d s0 st framed among none free at sim (row_first g has alive files numbers ready declares scope active calls_follow falls n s rest c))
+        (λ e t u none_e free_e at_e sim_e. row_follows alive files (behind n s) (λ x living. declared_later n (length (variables_of s)) x (before x living)) rest h.1 f e t u framed among none_e free_e at_e sim_e (row_rest g has alive files numbers ready declares scope active calls_follow falls n s rest c))

@@ -7,7 +7,7 @@ use Rattle.cstar_tree.specs.declared.typed.ValueType.{ValueType}
 use Rattle.cstar_tree.specs.declared.typed.Variable.{Variable}
 use Rattle.cstar_tree.specs.declared.typed.Variable.TheVariants as V
 use Rattle.code_lengths.specs.Lowerable.{AreLowerable, IsLowerable}
-use Rattle.code_lengths.specs.Naming.{AllNameVariables, IsDeclared, NamesVariables}
+use Rattle.code_lengths.specs.Naming.{AllNameVariables, NamesVariables}
 use Rattle.code_lengths.specs.Ready.{HasCode, HaveCode, IsReady}
 use Rattle.code_lengths.specs.Shaped.{AreShaped, IsShaped}
 use Rattle.code_lengths.proofs.Agreeing.{expressions}
@@ -25,7 +25,7 @@ use Rattle.code_follows.proofs.Settings.{Setting, layout}
 use Rattle.code_follows.proofs.Values.{Does, Value_of, extends_grown, fresh_dest, with_reg}
 use Rattle.code_follows.proofs.Fresh.{IsFresh}
 
-module _ (g : Setting) (has : HasRegisters g) (alive : Variable → Type 0) (n : ℕ) (lives : (x : Variable) → IsDeclared n x → alive x) (ready : (d : Draft) → IsReady g.typed g.instance (layout g) n d) (scope : Scope) (active : Active) (calls_follow : CallsFollow g scope active) where
+module _ (g : Setting) (has : HasRegisters g) (alive : Variable → Type 0) (n : ℕ) (files : (k : ℕ) → alive (V.File k)) (ready : (d : Draft) → IsReady g.typed g.instance (layout g) n d) (scope : Scope) (active : Active) (calls_follow : CallsFollow g scope active) where
   -- a call's arguments have code, one for each parameter
   pub arguments_code : {k : Count} (row : Row_of-TExpr k) → AreShaped row → AreLowerable g.typed row → AllNameVariables g.typed g.instance n row → HaveCode g.typed g.instance n row
   unfolding HaveCode AreShaped AreLowerable AllNameVariables
@@ -46,9 +46,9 @@ module _ (g : Setting) (has : HasRegisters g) (alive : Variable → Type 0) (n :
       (fresh_called g has alive (calls_follow.value ty.elem index (elems_of row) may).0.0 (values_of g.typed (layout g) true (are_quiet row) row) d.regs d (with_reg d) (omega arith) (omega arith) (arguments_grown true (are_quiet row) row (call_code ty index p row c) (with_reg d)))
 
   pub call_value : (quiet : Bool) (bits : ℕ) (ty : ValueType) (index : ℕ) (p : Vec (Unit {0}) Global) (row : _) → IsScalarType ty → g.may.calls (Some ty.elem) index (elems_of row) → AreDone g has alive scope active true (are_quiet row) row → HasCode g.typed g.instance n (T.Call' ty index p row) → Does g has alive ty.elem quiet (λ st. evaluated scope (T.Call' ty index p row) active st) (λ d. value_of g.typed (layout g) bits (T.Call' ty index p row) d)
-  unfolding value_of evaluated fresh_for a_register then_make IsDeclared
+  unfolding value_of evaluated fresh_for a_register then_make
   call_value quiet bits ty index p row plain may done c d s st free here sim =
       let known = calls_follow.value ty.elem index (elems_of row) may in
       let result = known.1.1 in
       subst (λ (o : Option ℕ). Follows g (Value_of g has alive ty.elem quiet d s) s (evaluated scope (T.Call' ty index p row) active st) (then_make (fresh_for o bits d) (λ dest begun. call_to g.typed (layout g) index (values_of g.typed (layout g) true (are_quiet row) row) dest begun))) (sym plain)
-      (call_follows g has alive (λ k. lives (V.File k) tt) scope active calls_follow known.0.0 row done known.0.1 result.0 result.1.0 ty.elem result.1.1 (with_reg d) s st (Value_of g has alive ty.elem quiet d s) d.regs (omega (arith, free)) here sim (fresh_dest g has alive ty.elem quiet d s free))
+      (call_follows g has alive files scope active calls_follow known.0.0 row done known.0.1 result.0 result.1.0 ty.elem result.1.1 (with_reg d) s st (Value_of g has alive ty.elem quiet d s) d.regs (omega (arith, free)) here sim (fresh_dest g has alive ty.elem quiet d s free))

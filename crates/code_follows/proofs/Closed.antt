@@ -13,7 +13,8 @@ use Rattle.source_meaning.specs.Expressions.{evaluated}
 use Rattle.source_meaning.specs.Targets.{Target, variable_target}
 use Rattle.cstar_tree.specs.declared.typed.Variable.TheVariants as V
 use Rattle.source_meaning.specs.Values.{Active, Scope}
-use Rattle.code_follows.specs.Fragment.{AreClosed, AreInStatements, IsClosed, IsClosedElse, IsInElse, IsInStatement, May}
+use Rattle.code_follows.specs.Fragment.{AreClosed, AreInStatements, IsClosed, IsClosedElse, IsInElse, IsInStatement, May, within}
+use Rattle.code_lengths.specs.NamingStatements.{behind}
 
 -- no jump out of a loop
 unfoldable pub NoJump : Outcome Leaving → Type 0
@@ -55,7 +56,7 @@ rounds_closed (suc fuel) test body step st closed = do_closed (test st) _ (λ b 
     by true u again = round_closed (spend_turn u body) _ again
     by false u again = tt
 
-module _ (may : May) (scope : Scope) (active : Active) where
+module _ (scope : Scope) (active : Active) where
   either : (b : Bool) (one other : Outcome Leaving) → NoJump one → NoJump other → NoJump (elim b as (λ _. Outcome Leaving) [ true ↦ one | false ↦ other ])
   either true one other h k = h
   either false one other h k = k
@@ -77,24 +78,24 @@ module _ (may : May) (scope : Scope) (active : Active) where
   mutual
     unfolding IsInStatement IsInElse AreInStatements IsClosed IsClosedElse AreClosed executed all_executed else_executed NoJump done
 
-    pub closed : (s : TStmt) → (IsInStatement may) s → IsClosed s → (n : ℕ) (st : State) → NoJump (executed scope s n active st)
-    closed (S.Block' locals p statements) h k n st = go_closed _ _ (begins_closed n locals.items (zeroed n (length locals.items) st)) (λ u. closed_row statements h.1 k (n + length locals.items) u)
-    closed (S.Expression e) h k n st = do_closed _ _ (λ v u. tt)
-    closed S.Empty h k n st = tt
-    closed (S.If' test p first second) h k n st = do_closed _ _ (λ b u. either b _ _ (closed first h.1 k.0 n u) (closed_else second h.2 k.1 (n + declared first) u))
-    closed (S.While' test p body) h k n st = rounds_closed st.turns _ _ _ st (λ s. tt)
-    closed (S.Do' p body test) h k n st = round_closed _ _ (λ s. rounds_closed s.turns _ _ _ s (λ u. tt))
-    closed (S.For' first test step p body) h k n st = go_closed _ _ (done_closed first st) (λ s. rounds_closed s.turns _ _ _ s (λ u. done_closed step u))
-    closed (S.Return None) h k n st = tt
-    closed (S.Return (Some e)) h k n st = do_closed _ _ (λ v u. tt)
-    closed S.Break h k n st = absurd k
-    closed S.Continue h k n st = absurd k
-    closed _ h k n st = absurd h
+    pub closed : (may : May) (m : ℕ) (s : TStmt) → IsInStatement may m s → IsClosed s → (n : ℕ) (st : State) → NoJump (executed scope s n active st)
+    closed may m (S.Block' locals p statements) h k n st = go_closed _ _ (begins_closed n locals.items (zeroed n (length locals.items) st)) (λ u. closed_row (within may m (length locals.items)) (m + length locals.items) statements h.2 k (n + length locals.items) u)
+    closed may m (S.Expression e) h k n st = do_closed _ _ (λ v u. tt)
+    closed may m S.Empty h k n st = tt
+    closed may m (S.If' test p first second) h k n st = do_closed _ _ (λ b u. either b _ _ (closed may m first h.1 k.0 n u) (closed_else may (behind m first) second h.2 k.1 (n + declared first) u))
+    closed may m (S.While' test p body) h k n st = rounds_closed st.turns _ _ _ st (λ s. tt)
+    closed may m (S.Do' p body test) h k n st = round_closed _ _ (λ s. rounds_closed s.turns _ _ _ s (λ u. tt))
+    closed may m (S.For' first test step p body) h k n st = go_closed _ _ (done_closed first st) (λ s. rounds_closed s.turns _ _ _ s (λ u. done_closed step u))
+    closed may m (S.Return None) h k n st = tt
+    closed may m (S.Return (Some e)) h k n st = do_closed _ _ (λ v u. tt)
+    closed may m S.Break h k n st = absurd k
+    closed may m S.Continue h k n st = absurd k
+    closed may m _ h k n st = absurd h
 
-    pub closed_row : {k : Count} (row : Row_of-TStmt k) → (AreInStatements may) row → AreClosed row → (n : ℕ) (st : State) → NoJump (all_executed scope row n active st)
-    closed_row end_of-TStmt h k n st = tt
-    closed_row (more_of-TStmt s rest) h k n st = go_closed _ _ (closed s h.0 k.0 n st) (λ u. closed_row rest h.1 k.1 (n + declared s) u)
+    pub closed_row : {k : Count} (may : May) (m : ℕ) (row : Row_of-TStmt k) → AreInStatements may m row → AreClosed row → (n : ℕ) (st : State) → NoJump (all_executed scope row n active st)
+    closed_row may m end_of-TStmt h k n st = tt
+    closed_row may m (more_of-TStmt s rest) h k n st = go_closed _ _ (closed may m s h.0 k.0 n st) (λ u. closed_row may (behind m s) rest h.1 k.1 (n + declared s) u)
 
-    closed_else : (held : Held-TStmt-If-2) → (IsInElse may) held → IsClosedElse held → (n : ℕ) (st : State) → NoJump (else_executed scope held n active st)
-    closed_else None' h k n st = tt
-    closed_else (Some' p s) h k n st = closed s h k n st
+    closed_else : (may : May) (m : ℕ) (held : Held-TStmt-If-2) → IsInElse may m held → IsClosedElse held → (n : ℕ) (st : State) → NoJump (else_executed scope held n active st)
+    closed_else may m None' h k n st = tt
+    closed_else may m (Some' p s) h k n st = closed may m s h k n st

@@ -20,7 +20,7 @@ use Rattle.paris_code.specs.declared.instr.Instr.TheVariants as I
 use Rattle.paris_code.specs.Code as Machine
 use Rattle.paris_code.specs.Code.{CodeState, begun, with_register}
 use Rattle.source_meaning.specs.State.{State, is_among, is_same, with_scalar, zeroed}
-use Rattle.code_follows.specs.Fragment.{IsInLocal}
+use Rattle.code_follows.specs.Fragment.{IsScalarLocal, OrAmong}
 use Rattle.code_follows.specs.Agreement.{AreBytes}
 use Rattle.code_follows.proofs.Executing.{ran_from}
 use Rattle.code_follows.proofs.Following.{HasRegisters, IsScalar, Keeps, Ran, Sim, held, input_of, keeps_all, variable_kept}
@@ -135,6 +135,44 @@ first_or_later before n len (V.Local k) (inr h) = by (nat_le (n + 1) k && nat_lt
     by false true is also h = inr (ap V.Local (sym (eqb-true n k also)))
     by false false is also h = cc
 
+-- variables of a block are declared behind it, as what was declared before
+pub declared_later : (n many : ℕ) (x : Variable) → IsDeclared n x → IsDeclared (n + many) x
+unfolding IsDeclared
+declared_later n many (V.File k) h = tt
+declared_later n many (V.Param k) h = tt
+declared_later n many (V.Local k) h = omega (arith, h)
+
+declared_among : (n many : ℕ) (x : Variable) → is_among n many x ≡ true → IsDeclared (n + many) x
+unfolding IsDeclared is_among
+declared_among n many (V.File k) h = tt
+declared_among n many (V.Param k) h = tt
+declared_among n many (V.Local k) h = grind (arith, nat_tests, h)
+
+-- what is alive is declared before
+abbrev pub AreBefore : (Variable → Type 0) → ℕ → Type 0
+AreBefore alive n = (x : Variable) → alive x → IsDeclared n x
+
+pub among_before : (alive : Variable → Type 0) (n many : ℕ) → AreBefore alive n → (x : Variable) → OrAmong alive n many x → IsDeclared (n + many) x
+among_before alive n many before x (inl h) = declared_later n many x (before x h)
+among_before alive n many before x (inr h) = declared_among n many x h
+
+-- the first of a block's variables, and the others, are among all
+pub itself_among : (n len : ℕ) → is_among n (suc len) (V.Local n) ≡ true
+unfolding is_among
+itself_among n len = grind (arith, nat_tests)
+
+pub one_among : (n len : ℕ) (x : Variable) → is_among n 1 x ≡ true → is_among n (suc len) x ≡ true
+unfolding is_among
+one_among n len (V.File k) h = cc
+one_among n len (V.Param k) h = cc
+one_among n len (V.Local k) h = grind (arith, nat_tests, h)
+
+pub later_among : (n len : ℕ) (x : Variable) → is_among (n + 1) len x ≡ true → is_among n (suc len) x ≡ true
+unfolding is_among
+later_among n len (V.File k) h = cc
+later_among n len (V.Param k) h = cc
+later_among n len (V.Local k) h = grind (arith, nat_tests, h)
+
 none_among : (n : ℕ) (x : Variable) → is_among n 0 x ≡ true → ⊥
 unfolding is_among
 none_among n (V.File k) h = cc
@@ -167,11 +205,11 @@ module _ (g : Setting) (has : HasRegisters g) where
       by false = refl
 
   -- one that begins as a constant waits
-  waits : (before : Variable → Type 0) (local : LocalVar) (locals : List LocalVar) (n : ℕ) (d : Draft) → (IsInLocal g.may) local → begins_constant local ≡ true → Clears (λ x. before x × (x ≡ V.Local n → ⊥)) locals (n + 1) d → Clears before (local ∷ locals) n d
+  waits : (before : Variable → Type 0) (local : LocalVar) (locals : List LocalVar) (n : ℕ) (d : Draft) → IsScalarLocal local → begins_constant local ≡ true → Clears (λ x. before x × (x ≡ V.Local n → ⊥)) locals (n + 1) d → Clears before (local ∷ locals) n d
   unfolding all_cleared zeroed with_scalar Started
   waits before local locals n d isin begins rest = record {
     e = rest.e;
-    is = cleared_so local isin.0 n d true begins (λ after. all_cleared (layout g) false locals (n + 1) after) ∙ rest.is;
+    is = cleared_so local isin n d true begins (λ after. all_cleared (layout g) false locals (n + 1) after) ∙ rest.is;
     count = rest.count;
     grown = rest.grown;
     runs = λ s st free at sim within.
@@ -210,16 +248,16 @@ module _ (g : Setting) (has : HasRegisters g) where
               by false is = ap (λ (b : Bool). if b then 0 else st.scalar x) is
 
   -- any other one becomes 0 at once
-  clears_one : (before : Variable → Type 0) (local : LocalVar) (locals : List LocalVar) (n : ℕ) (d : Draft) → (IsInLocal g.may) local → begins_constant local ≡ false → StandFrom (variables_of g.instance.body) n (info_of local ∷ map info_of locals) → Clears (λ x. before x ⊎ (x ≡ V.Local n)) locals (n + 1) (with_instr (I.FrontConst (register_of (layout g) (V.Local n)) 0) d) → Clears before (local ∷ locals) n d
+  clears_one : (before : Variable → Type 0) (local : LocalVar) (locals : List LocalVar) (n : ℕ) (d : Draft) → IsScalarLocal local → begins_constant local ≡ false → StandFrom (variables_of g.instance.body) n (info_of local ∷ map info_of locals) → Clears (λ x. before x ⊎ (x ≡ V.Local n)) locals (n + 1) (with_instr (I.FrontConst (register_of (layout g) (V.Local n)) 0) d) → Clears before (local ∷ locals) n d
   unfolding all_cleared begun step_of zeroed with_scalar Started
   clears_one before local locals n d isin begins stand rest =
-      let scalar : IsScalar g (V.Local n) local.info = (first_is_named g n local.info (map info_of locals) stand, isin.0) in
+      let scalar : IsScalar g (V.Local n) local.info = (first_is_named g n local.info (map info_of locals) stand, isin) in
       let r : ℕ = register_of (layout g) (V.Local n) in
       let between : Draft = with_instr (I.FrontConst r 0) d in
       let zero_held : held local.info.elem 0 ≡ 0 = zero_converted int_type local.info.elem in
       record {
         e = rest.e;
-        is = cleared_so local isin.0 n d false begins (λ after. all_cleared (layout g) false locals (n + 1) after) ∙ rest.is;
+        is = cleared_so local isin n d false begins (λ after. all_cleared (layout g) false locals (n + 1) after) ∙ rest.is;
         count = 1 + rest.count;
         grown = extended d between rest.e 1 rest.count (and_one g (I.FrontConst r 0) d) rest.grown;
         runs = λ s st free at sim within.
@@ -247,7 +285,7 @@ module _ (g : Setting) (has : HasRegisters g) where
       was_alive y (inl h) other = h
       was_alive y (inr e) other = let same : is_same (V.Local n) y ≡ true = ap (λ (z : Variable). is_same (V.Local n) z) e ∙ same_itself (V.Local n) in cc
 
-  pub clears : (before : Variable → Type 0) (locals : List LocalVar) (n : ℕ) (d : Draft) → All (IsInLocal g.may) locals → StandFrom (variables_of g.instance.body) n (map info_of locals) → Clears before locals n d
+  pub clears : (before : Variable → Type 0) (locals : List LocalVar) (n : ℕ) (d : Draft) → All IsScalarLocal locals → StandFrom (variables_of g.instance.body) n (map info_of locals) → Clears before locals n d
   unfolding all_cleared zeroed Started
   clears before [] n d isin stand = record {
     e = d;
@@ -268,9 +306,9 @@ module _ (g : Setting) (has : HasRegisters g) where
       nothing_more x (inl h) = h
       nothing_more x (inr h) = absurd (none_among n x h)
   clears before (local ∷ locals) n d isin stand =
-      by (begins_constant local) refl (clears (λ x. before x × (x ≡ V.Local n → ⊥)) locals (n + 1) d (all_rest (IsInLocal g.may) local locals isin) (others_stand g n local.info (map info_of locals) stand))
-      (clears (λ x. before x ⊎ (x ≡ V.Local n)) locals (n + 1) (with_instr (I.FrontConst (register_of (layout g) (V.Local n)) 0) d) (all_rest (IsInLocal g.may) local locals isin) (others_stand g n local.info (map info_of locals) stand))
+      by (begins_constant local) refl (clears (λ x. before x × (x ≡ V.Local n → ⊥)) locals (n + 1) d (all_rest IsScalarLocal local locals isin) (others_stand g n local.info (map info_of locals) stand))
+      (clears (λ x. before x ⊎ (x ≡ V.Local n)) locals (n + 1) (with_instr (I.FrontConst (register_of (layout g) (V.Local n)) 0) d) (all_rest IsScalarLocal local locals isin) (others_stand g n local.info (map info_of locals) stand))
     where
       by : (b : Bool) → begins_constant local ≡ b → Clears (λ x. before x × (x ≡ V.Local n → ⊥)) locals (n + 1) d → Clears (λ x. before x ⊎ (x ≡ V.Local n)) locals (n + 1) (with_instr (I.FrontConst (register_of (layout g) (V.Local n)) 0) d) → Clears before (local ∷ locals) n d
-      by true is waiting done = waits before local locals n d (all_first (IsInLocal g.may) local locals isin) is waiting
-      by false is waiting done = clears_one before local locals n d (all_first (IsInLocal g.may) local locals isin) is stand done
+      by true is waiting done = waits before local locals n d (all_first IsScalarLocal local locals isin) is waiting
+      by false is waiting done = clears_one before local locals n d (all_first IsScalarLocal local locals isin) is stand done

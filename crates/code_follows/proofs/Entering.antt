@@ -1,9 +1,5 @@
 -- A called function runs, from its first instruction to where it goes back.
-use Rattle.std.proofs.Common.{◌≡◌, ◌∙◌, ℕ, zero, suc, take, ◌+◌, ◌-◌, ◌<◌, ◌≤◌, ◌^◌, ◌==◌, ◌&&◌, ◌⊎◌, inl, inr, Bool, true, false, [], ◌∷◌, ◌++◌, List, Vec, Global, length, map, slice_get, slice_index, Option, Some, None, refl, sym, ap, subst, if◌then◌else◌, nat_lt, arith, length-append}
-use Rattle.std.specs.Prelude.{nat_le}
-use Rattle.std.proofs.lemmas.Bool.Decides.{nat_tests}
-use Rattle.std.proofs.lemmas.List.{length-map}
-use Rattle.std.proofs.lemmas.Option.{slice_get_within}
+use Rattle.std.proofs.Common.{◌≡◌, ◌∙◌, ℕ, zero, suc, take, ◌+◌, ◌-◌, ◌<◌, ◌≤◌, ◌^◌, ◌==◌, Bool, true, false, [], ◌∷◌, ◌++◌, List, Vec, Global, length, map, slice_get, slice_index, Option, Some, None, refl, sym, ap, subst, if◌then◌else◌, arith, length-append}
 use Rattle.cstar_compile.specs.Compiled.{IsCompiled}
 use Rattle.cstar_link.specs.Linked.{entries_from}
 use Rattle.cstar_tree.specs.declared.typed.Instance.{Instance}
@@ -14,16 +10,15 @@ use Rattle.cstar_tree.specs.declared.typed.Typed.{Typed}
 use Rattle.cstar_tree.specs.declared.typed.VarInfo.{VarInfo}
 use Rattle.cstar_tree.specs.declared.typed.Variable.{Variable}
 use Rattle.cstar_tree.specs.declared.typed.Variable.TheVariants as V
-use Rattle.cstar_tree.specs.Variables.{variables_of}
-use Rattle.code_lengths.specs.Naming.{variable_named}
+use Rattle.code_lengths.specs.Naming.{IsDeclared, variable_named}
 use Rattle.code_lengths.specs.Ready.{HasStatementCode, IsCodable}
-use Rattle.code_lengths.proofs.Declaring.{all_at, first_part, info_of, row_variables}
+use Rattle.code_lengths.proofs.Declaring.{all_at}
 use Rattle.lower_base.specs.Constants.{constant_register, register_with}
 use Rattle.lower_base.specs.Drafts.{Draft, Made, Makes, then_make}
 use Rattle.lower_base.specs.Layouts.{layout_of, register_of, result_register}
 use Rattle.lower_stmt.specs.Programs.{blank, body_frame}
 use Rattle.lower_stmt.specs.Variables.{declared as declared_in}
-use Rattle.lower_stmt.specs.Statements.{body_of, ends_in_return, ended, statements_of}
+use Rattle.lower_stmt.specs.Statements.{body_of, ends_in_return, ended, statements_of, statement_of}
 use Rattle.meaning_laws.proofs.Parts.{behind as state_after}
 use Rattle.paris_code.specs.declared.program.Entry.{Entry}
 use Rattle.paris_code.specs.declared.program.Image.{Image}
@@ -35,16 +30,16 @@ use Rattle.source_meaning.specs.State as Source
 use Rattle.source_meaning.specs.State.{Outcome, State, is_among, then_do}
 use Rattle.source_meaning.specs.Statements.{Broke, Continued, Leaving, Onward, Returned, executed, initialised}
 use Rattle.source_meaning.specs.Values.{Active, Value, each}
-use Rattle.code_follows.specs.Fragment.{IsPlainVariable, IsBody, IsFlat, IsScalarProgram}
+use Rattle.code_follows.specs.Fragment.{IsPlainVariable, IsBody, IsScalarProgram, OfFileOrParam, IsInStatement, within}
 use Rattle.lower_stmt.specs.declared.statement.Frame.{Frame}
 use Rattle.code_follows.proofs.Activations.{activation, callee_known, scalars, words}
-use Rattle.code_follows.proofs.Bodies.{block_code, block_follows, block_initials, block_stands, row_follows}
+use Rattle.code_follows.proofs.Bodies.{statement_follows}
 use Rattle.code_follows.proofs.Callees.{AreGiven, Callee, CallsFollow, ComesBack, Enters, MayCall, RunsBody, Shared}
 use Rattle.code_follows.proofs.Closed.{NoJump, begins_closed, closed_row, go_closed}
 use Rattle.code_follows.proofs.Endings.{NeverOnward, body_never, never_second}
 use Rattle.code_follows.proofs.Executing.{IsGiven, Left, Returns}
 use Rattle.code_follows.proofs.Following.{Finishes, Follows, HasNumber, Sim, held}
-use Rattle.code_follows.proofs.Functions.{RunsFunction, among, body_made, declares, ends_by, every, every_one, falls, frame, framed, given_back, has, numbered, ready, runs_function, scope}
+use Rattle.code_follows.proofs.Functions.{RunsFunction, among, body_made, declares, ends_by, falls, frame, framed, given_back, has, numbered, ready, runs_function, scope}
 use Rattle.std.specs.Option.{is_some}
 use Rattle.std.proofs.lemmas.Nat.{pow_pos}
 use Rattle.source_meaning.specs.Reductions.{int_type}
@@ -82,11 +77,12 @@ below_place places back = ap (λ (n : ℕ). take n (places ++ back ∷ [])) (one
     seam [] back = refl
     seam (x ∷ places) back = ap (λ (xs : List ℕ). x ∷ xs) (seam places back)
 
--- the variables that hold their values where a function is entered: not those of its blocks
-unfoldable OfFileOrParam : Variable → Type 0
-OfFileOrParam (V.File k) = Unit {0}
-OfFileOrParam (V.Param k) = Unit {0}
-OfFileOrParam (V.Local k) = ⊥
+-- what is of the file or a parameter is declared before every block
+pub before_all : (x : Variable) → OfFileOrParam x → IsDeclared 0 x
+unfolding OfFileOrParam IsDeclared
+before_all (V.File k) h = tt
+before_all (V.Param k) h = tt
+before_all (V.Local k) h = absurd h
 
 -- what stands in the register of the result of a function that was left
 module _ (image : Image) (t : Typed) (p : IsScalarProgram t) (codable : IsCodable t) (compiled : IsCompiled t image) (number : ℕ) (b : Instance) (is : slice_get t.instances.items number ≡ Some b) (calls_open : List ℕ) (m : ℕ) (s r : CodeState) where
@@ -112,7 +108,7 @@ module _ (image : Image) (t : Typed) (p : IsScalarProgram t) (codable : IsCodabl
     ),
   )
 
-  result_given : (leaving : Leaving) (u : State) (info : VarInfo) → b.result ≡ Some info → IsGiven function (every_one t image p codable compiled number b is calls_open m) s r (given_back leaving) → NoJump (Source.Gives leaving u) → slice_index s.registers result_there ≡ 0
+  result_given : (leaving : Leaving) (u : State) (info : VarInfo) → b.result ≡ Some info → IsGiven function OfFileOrParam s r (given_back leaving) → NoJump (Source.Gives leaving u) → slice_index s.registers result_there ≡ 0
       → HasNumber info.elem (result_of b.result leaving) result_there r
   unfolding IsGiven given_back result_of NoJump
   result_given (Returned (Some v)) u info found h closed zero_there = let w = h info found in (w.0, (w.1.0, w.1.1, ap (λ (q : ℕ). slice_index r.registers q) (sym where_it_is) ∙ w.1.2))
@@ -192,8 +188,8 @@ module _ (t : Typed) (image : Image) (p : IsScalarProgram t) (codable : IsCodabl
     ends_early : (early : Source.Early) (u : State) → Finishes inner early u s → Finishes caller early u s
     ends_early early u f = record { t = f.t; ends = record { steps = f.ends.steps; is = f.ends.is }; turns = f.turns; output = f.output; input = f.input }
 
-    goes_back : (leaving : Leaving) (u : State) → u.turns ≤ st.turns → Returns inner (every_one t image p codable compiled number b is open_calls m) s u (given_back leaving) → NoJump (Source.Gives leaving u) → ComesBack caller called_one back s st (result_of b.result leaving) (left st u)
-    unfolding left by_owner variable_named register_of callee_known
+    goes_back : (leaving : Leaving) (u : State) → u.turns ≤ st.turns → Returns inner OfFileOrParam s u (given_back leaving) → NoJump (Source.Gives leaving u) → ComesBack caller called_one back s st (result_of b.result leaving) (left st u)
+    unfolding left by_owner variable_named register_of callee_known OfFileOrParam
     goes_back leaving u less r closed = record {
       t = there;
       go = record { by = (onto inner s r.t there r.go (one inner r.t there leaves)).by };
@@ -225,21 +221,9 @@ module _ (t : Typed) (image : Image) (p : IsScalarProgram t) (codable : IsCodabl
         plain : (k : ℕ) (info : VarInfo) → slice_get t.vars.items k ≡ Some info → info.shape ≡ None
         plain k info named = (all_at IsPlainVariable t.vars.items k info p.variables named).0
 
-        given_so : (leaving : Leaving) (info : VarInfo) → b.result ≡ Some info → IsGiven inner (every_one t image p codable compiled number b is open_calls m) s r.t (given_back leaving) → NoJump (Source.Gives leaving u)
+        given_so : (leaving : Leaving) (info : VarInfo) → b.result ≡ Some info → IsGiven inner OfFileOrParam s r.t (given_back leaving) → NoJump (Source.Gives leaving u)
             → HasNumber info.elem (result_of b.result leaving) ((layout_of t (words t image p codable compiled) number).base + length b.params.items) r.t
         given_so leaving info found h closed = result_given image t p codable compiled number b is open_calls m s r.t leaving u info found h closed (zero_there info found)
-
-    covered : (locals : List LocalVar) → variables_of b.body ≡ map info_of locals → (x : Variable) (info : VarInfo) → variable_named t b x ≡ Some info → OfFileOrParam x ⊎ (is_among 0 (length locals) x ≡ true)
-    unfolding variable_named OfFileOrParam is_among
-    covered locals flat (V.File k) info named = inl tt
-    covered locals flat (V.Param k) info named = inl tt
-    covered locals flat (V.Local k) info named =
-        let inside = slice_get_within (variables_of b.body) k info named in
-        let long = ap (λ (xs : List VarInfo). length xs) flat ∙ length-map locals info_of in
-        inr (among_all k (length locals) (omega (arith, inside, long)))
-      where
-        among_all : (k n : ℕ) → k < n → (nat_le 0 k && nat_lt k (0 + n)) ≡ true
-        among_all k n less = grind (arith, nat_tests, less)
 
     -- the code of the body, as that of a block whose variables are cleared
     as_block : (locals : Vec LocalVar Global) (q : Vec (Unit {0}) Global) (row : _) → body_of t (layout_of t (words t image p codable compiled) number) (frame t image p codable compiled number b is open_calls m) (S.Block' locals q row) begin
@@ -261,47 +245,37 @@ module _ (t : Typed) (image : Image) (p : IsScalarProgram t) (codable : IsCodabl
       came (Source.Gives leaving u) less closed runs = goes_back leaving u less runs closed
       came (Source.Ends early u) less closed runs = ends_early early u runs
 
-      pub body_follows : (body : TStmt) → b.body ≡ body → IsBody inner.may body → IsFlat body → RunsBody caller called_one back s st (run_body t (calls t m) (Some b) arguments active st)
-      unfolding IsBody IsFlat run_body scope_of executed entered
-      body_follows (S.Block' locals q row) body_is isin flat =
+      pub body_follows : (body : TStmt) → b.body ≡ body → IsBody inner.may body → RunsBody caller called_one back s st (run_body t (calls t m) (Some b) arguments active st)
+      unfolding IsBody IsInStatement OfFileOrParam statement_of run_body scope_of executed entered
+      body_follows (S.Block' locals q row) body_is isin =
           let f = frame t image p codable compiled number b is open_calls m in
           let body : TStmt = S.Block' locals q row in
           let c : HasStatementCode t b 0 body = subst (λ (x : TStmt). HasStatementCode t b 0 x) body_is (codable number b is).1 in
           let h = has t image p codable compiled number b is open_calls m in
-          let one = every t image p codable compiled number b is open_calls m in
           let numbers = numbered t image p codable compiled number b is open_calls m in
           let is_ready = ready t image p codable compiled number b is open_calls m in
           let declared = declares t image p codable compiled number b is open_calls m in
           let where_it_is = scope t image p codable compiled number b is open_calls m in
           let never_rises = falls t image p codable compiled number b is open_calls m active in
-          let own_row = block_code inner h (every_one t image p codable compiled number b is open_calls m) one numbers is_ready declared where_it_is active calls_follow never_rises 0 locals q row c in
-          let runs : Follows inner (Left inner (every_one t image p codable compiled number b is open_calls m) f begin s) s (executed where_it_is body 0 active opening_state) (body_of t (layout_of t (words t image p codable compiled) number) f body begin) =
-          subst (λ (made : Made ℕ). Follows inner (Left inner (every_one t image p codable compiled number b is open_calls m) f begin s) s (executed where_it_is body 0 active opening_state) made) (sym (as_block locals q row))
-          (block_follows inner h (every_one t image p codable compiled number b is open_calls m) one numbers is_ready declared where_it_is active calls_follow never_rises OfFileOrParam locals.items row f 0 begin s opening_state isin.0
-          (first_part (map info_of locals.items) (row_variables row) (block_stands inner h (every_one t image p codable compiled number b is open_calls m) one numbers is_ready declared where_it_is active calls_follow never_rises 0 locals q row c))
-          (block_initials inner h (every_one t image p codable compiled number b is open_calls m) one numbers is_ready declared where_it_is active calls_follow never_rises 0 locals q row c) own_row
-          (framed t image p codable compiled number b is open_calls m) (among t image p codable compiled number b is open_calls m) (blank_homes t image (scalars t image p codable compiled) codable compiled number b) (let regs = blank_regs t image (scalars t image p codable compiled) codable compiled number b in omega (arith, regs)) stands sim
-          (λ x info named. covers locals.items (subst (λ (y : TStmt). variables_of y ≡ map info_of locals.items) (sym body_is) flat) x info named)
-          (λ e there u none free at sim_there. row_follows inner h (every_one t image p codable compiled number b is open_calls m) one numbers is_ready declared where_it_is active calls_follow never_rises row isin.1 f (0 + length locals.items) e there u
-          (framed t image p codable compiled number b is open_calls m) (among t image p codable compiled number b is open_calls m) none free at sim_there own_row)) in
+          let runs : Follows inner (Left inner OfFileOrParam f begin s) s (executed where_it_is body 0 active opening_state) (body_of t (layout_of t (words t image p codable compiled) number) f body begin) =
+          subst (λ (made : Made ℕ). Follows inner (Left inner OfFileOrParam f begin s) s (executed where_it_is body 0 active opening_state) made) (sym (as_block locals q row))
+          (statement_follows inner h numbers is_ready declared where_it_is active calls_follow never_rises OfFileOrParam (λ k. tt) 0 before_all body isin.0 f begin s opening_state
+          (framed t image p codable compiled number b is open_calls m) (among t image p codable compiled number b is open_calls m) (blank_homes t image (scalars t image p codable compiled) codable compiled number b) (let regs = blank_regs t image (scalars t image p codable compiled) codable compiled number b in omega (arith, regs)) stands sim c) in
           let made = body_made t image p codable compiled number b is open_calls m (body_of t (layout_of t (words t image p codable compiled) number) f body begin) (made_so body body_is) in
           let never : ends_in_return b.body ≡ true → NeverOnward (executed where_it_is body 0 active opening_state) =
           λ ends. never_second (initialised where_it_is active 0 locals.items _) _ (λ u. body_never where_it_is active locals q row (sym (ap (λ (x : TStmt). ends_in_return x) body_is) ∙ ends) (0 + length locals.items) u) in
-          let closed : NoJump (executed where_it_is body 0 active opening_state) = go_closed _ _ (begins_closed inner.may where_it_is active 0 locals.items _) (λ u. closed_row inner.may where_it_is active row isin.1 isin.2 (0 + length locals.items) u) in
+          let closed : NoJump (executed where_it_is body 0 active opening_state) = go_closed _ _ (begins_closed where_it_is active 0 locals.items _) (λ u. closed_row where_it_is active (within inner.may 0 (length locals.items)) (0 + length locals.items) row isin.0.2 isin.1 (0 + length locals.items) u) in
           subst (λ (x : TStmt). RunsBody caller called_one back s st (then_do (executed where_it_is x 0 active opening_state) (λ leaving after. Source.Gives (result_of b.result leaving) (left st after)))) (sym body_is)
           (came (executed where_it_is body 0 active opening_state) (never_rises body 0 opening_state) closed
           (runs_function t image p codable compiled number b is open_calls m begin made.e made.n s (executed where_it_is body 0 active opening_state) (ends_by t image p codable compiled number b is open_calls m (executed where_it_is body 0 active opening_state) made.e made.unit never) closed
-          (subst (λ (x : Made ℕ). Follows inner (Left inner (every_one t image p codable compiled number b is open_calls m) f begin s) s (executed where_it_is body 0 active opening_state) x) made.is_made runs)))
+          (subst (λ (x : Made ℕ). Follows inner (Left inner OfFileOrParam f begin s) s (executed where_it_is body 0 active opening_state) x) made.is_made runs)))
         where
           f : Frame
           f = frame t image p codable compiled number b is open_calls m
 
           made_so : (body : TStmt) → b.body ≡ body → then_make (body_of t (layout_of t (words t image p codable compiled) number) f body begin) (λ n e. Makes (tt {0}) (ended (number == 0) b.body e)) ≡ Makes (tt {0}) (unit_at t image (scalars t image p codable compiled) codable compiled number b is)
           made_so body body_is = made_here body body_is
-
-          covers : (locals : List LocalVar) → variables_of b.body ≡ map info_of locals → (x : Variable) (info : VarInfo) → variable_named t b x ≡ Some info → OfFileOrParam x ⊎ (is_among 0 (length locals) x ≡ true)
-          covers locals flat x info named = covered locals flat x info named
-      body_follows _ body_is isin flat = absurd isin
+      body_follows _ body_is isin = absurd isin
 
 module _ (t : Typed) (image : Image) (p : IsScalarProgram t) (codable : IsCodable t) (compiled : IsCompiled t image) (active : Active) where
   abbrev running : (number : ℕ) (i : Instance) → slice_get t.instances.items number ≡ Some i → List ℕ → ℕ → Setting
@@ -331,12 +305,12 @@ module _ (t : Typed) (image : Image) (p : IsScalarProgram t) (codable : IsCodabl
   unfolding callee_known Enters
   enters_so zero me a is_me back_to number b is some lesser arguments st s back starts stacked shared few given zero_there =
       body_follows t image p codable compiled me a is_me back_to number b is some lesser zero active arguments st s back starts stacked shared few given zero_there
-      (calls_so zero number b is (back_to ++ back ∷ []) (λ index c is_c some_c lesser_c m e. absurd (omega (arith, e)))) b.body refl (p.each number b is).body (p.flat number b is some)
+      (calls_so zero number b is (back_to ++ back ∷ []) (λ index c is_c some_c lesser_c m e. absurd (omega (arith, e)))) b.body refl (p.each number b is).body
   enters_so (suc m) me a is_me back_to number b is some lesser arguments st s back starts stacked shared few given zero_there =
       body_follows t image p codable compiled me a is_me back_to number b is some lesser (suc m) active arguments st s back starts stacked shared few given zero_there
       (calls_so (suc m) number b is (back_to ++ back ∷ []) (λ index c is_c some_c lesser_c k e.
       subst (λ (n : ℕ). Enters (running number b is (back_to ++ back ∷ []) (suc m)) (known number b is (back_to ++ back ∷ []) (suc m) index c is_c lesser_c) n active) (fewer m k e) (enters_so m number b is (back_to ++ back ∷ []) index c is_c some_c lesser_c)))
-      b.body refl (p.each number b is).body (p.flat number b is some)
+      b.body refl (p.each number b is).body
     where
       fewer : (m k : ℕ) → suc m ≡ suc k → m ≡ k
       fewer m k e = omega (arith, e)

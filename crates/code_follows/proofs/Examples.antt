@@ -1,5 +1,6 @@
 -- The example is a scalar program.
-use Rattle.std.proofs.Common.{◌≡◌, ◌∙◌, ℕ, zero, suc, ◌-◌, ◌<◌, List, [], ◌∷◌, ◌++◌, slice_get, length, Some, None, Global, refl, sym, ap, subst, arith, lit<, inl}
+use Rattle.source_meaning.specs.State.{is_among}
+use Rattle.std.proofs.Common.{◌≡◌, ◌∙◌, ℕ, zero, suc, ◌-◌, List, [], ◌∷◌, ◌++◌, slice_get, length, Some, None, Global, refl, sym, ap, subst, arith, lit<, inl, inr}
 use Rattle.std.specs.List.{All}
 use Rattle.cstar_base.specs.declared.elem.Elem.{Elem}
 use Rattle.cstar_tree.specs.declared.typed.Instance.{Instance}
@@ -9,7 +10,7 @@ use Rattle.cstar_tree.specs.Variables.{variables_of}
 use Rattle.code_lengths.proofs.Declaring.{of_block, of_expression, of_for, of_return, row_variables}
 use Rattle.source_meaning.specs.Examples.{number, variable, vec}
 use Rattle.code_follows.specs.Example.{ExampleIsScalar, body, char, doubled, example, main, prints, sums, turns, twice}
-use Rattle.code_follows.specs.Fragment.{AreClosed, AreIn, AreInStatements, IsBody, IsClosed, IsEffect, IsFlat, IsGiven, IsIn, IsInLocal, IsInStatement, IsPlainVariable, IsScalarFunction, IsTested, IsVariable, IsScalarVariable, may_of, Takes}
+use Rattle.code_follows.specs.Fragment.{AreClosed, AreIn, AreInStatements, IsBody, IsClosed, IsEffect, IsGiven, IsIn, IsScalarLocal, AreInitials, OfFileOrParam, IsInStatement, IsPlainVariable, IsScalarFunction, IsTested, IsVariable, IsScalarVariable, may_of, Takes}
 use Rattle.code_follows.proofs.Standing.{some_same}
 
 all_none : {A : Type 0} (P : A → Type 0) → All P []
@@ -45,20 +46,23 @@ rank : ℕ → ℕ
 rank number = 1 - number
 
 main_is : (heap : Global) → IsScalarFunction (may_of (example heap) rank 0 (main heap)) (main heap)
-unfolding IsBody IsInStatement IsEffect IsGiven IsIn IsTested IsVariable AreIn AreInStatements AreClosed IsClosed rank
+unfolding IsBody IsInStatement IsEffect IsGiven IsIn IsTested IsVariable AreIn AreInitials AreInStatements AreClosed IsClosed OfFileOrParam is_among rank
 main_is heap = record {
   params = all_none IsScalarVariable;
   result = λ info is. subst IsScalarVariable (some_same (variable number None 0) info is) refl;
   body = (
-    all_one (IsInLocal (may_of (example heap) rank 0 (main heap))) (record { info = variable char None 0; initial = None }) (refl, tt),
     (
+      all_one IsScalarLocal (record { info = variable char None 0; initial = None }) refl,
+      (tt, tt),
       (
-        (refl, refl, refl, (refl, ((refl, refl), omega arith)), inl refl),
-        ((refl, refl), (refl, refl), ((refl, refl), omega arith), (refl, refl), (refl, refl)),
-        (refl, refl, refl),
-        (refl, refl, refl, ((refl, refl), refl, (refl, (refl, (twice heap, (refl, omega arith, omega arith, (variable char None 0, (refl, inl refl)), (inl refl, tt))), (refl, tt))), (refl, refl), (refl, refl)), inl refl),
+        (
+          (refl, refl, (refl, inr refl), (refl, ((refl, refl), omega arith)), inl refl),
+          ((refl, refl), (refl, (refl, inr refl)), ((refl, refl), omega arith), (refl, refl), (refl, refl)),
+          (refl, refl, (refl, inr refl)),
+          (refl, refl, (refl, inl tt), ((refl, refl), (refl, inl tt), (refl, (refl, (twice heap, (refl, omega arith, omega arith, (variable char None 0, (refl, inl refl)), (inl refl, tt))), ((refl, inr refl), tt))), (refl, refl), (refl, refl)), inl refl),
+        ),
+        ((((refl, inl tt), tt), all_one (λ (elem : Elem). elem.bits ≡ 32) number.elem refl), tt),
       ),
-      (((refl, tt), all_one (λ (elem : Elem). elem.bits ≡ 32) number.elem refl), tt),
     ),
     (tt, (tt, tt)),
   );
@@ -66,11 +70,18 @@ main_is heap = record {
 }
 
 twice_is : (heap : Global) → IsScalarFunction (may_of (example heap) rank 1 (twice heap)) (twice heap)
-unfolding IsBody IsInStatement IsIn AreInStatements AreClosed IsClosed
+unfolding IsBody IsInStatement IsIn AreInitials AreInStatements AreClosed IsClosed OfFileOrParam
 twice_is heap = record {
   params = all_one IsScalarVariable (variable char None 0) refl;
   result = λ info is. subst IsScalarVariable (some_same (variable char None 0) info is) refl;
-  body = (all_none (IsInLocal (may_of (example heap) rank 1 (twice heap))), (((refl, ((refl, refl), (refl, refl), (refl, refl), (refl, refl), (refl, refl))), (λ info is. subst (λ (x : VarInfo). Takes x.elem char.elem) (some_same (variable char None 0) info is) (inl refl))), tt), (tt, tt));
+  body = (
+    (
+      all_none IsScalarLocal,
+      tt,
+      (((refl, ((refl, refl), (refl, (refl, inl tt)), (refl, (refl, inl tt)), (refl, refl), (refl, refl))), (λ info is. subst (λ (x : VarInfo). Takes x.elem char.elem) (some_same (variable char None 0) info is) (inl refl))), tt),
+    ),
+    (tt, tt),
+  );
   locals = subst (λ (xs : List VarInfo). All IsScalarVariable xs) (sym (none_own heap)) (all_none IsScalarVariable);
 }
 
@@ -82,12 +93,6 @@ module _ (heap : Global) where
   each zero i is = subst (λ (x : Instance). IsScalarFunction (may_of (example heap) rank 0 x) x) (some_same (main heap) i is) (main_is heap)
   each (suc zero) i is = subst (λ (x : Instance). IsScalarFunction (may_of (example heap) rank 1 x) x) (some_same (twice heap) i is) (twice_is heap)
   each (suc (suc k)) i is = cc
-
-  flat : (number : ℕ) (i : Instance) → slice_get instances number ≡ Some i → 0 < number → IsFlat i.body
-  unfolding IsFlat
-  flat zero i is some = absurd (omega (arith, some))
-  flat (suc zero) i is some = subst (λ (x : Instance). IsFlat x.body) (some_same (twice heap) i is) (none_own heap)
-  flat (suc (suc k)) i is some = cc
 
   names : (j k : ℕ) (a b : Instance) → slice_get instances j ≡ Some a → slice_get instances k ≡ Some b → a.name ≡ b.name → j ≡ k
   names zero zero a b is also same = refl
@@ -111,7 +116,6 @@ is_scalar heap = record {
   params = refl;
   rank = rank;
   each = each heap;
-  flat = flat heap;
   names = names heap;
   variables = all_one IsPlainVariable (variable number None 1) (refl, omega arith);
 }

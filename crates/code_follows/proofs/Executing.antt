@@ -3,6 +3,7 @@ use Rattle.std.proofs.Common.{◌≡◌, ◌∙◌, ℕ, ◌+◌, ◌≤◌, Boo
 use Rattle.cstar_tree.specs.declared.typed.TExpr.{TExpr}
 use Rattle.cstar_tree.specs.declared.typed.TExpr as T
 use Rattle.cstar_tree.specs.declared.typed.VarInfo.{VarInfo}
+use Rattle.cstar_tree.specs.declared.typed.Variable.TheVariants as V
 use Rattle.cstar_tree.specs.declared.typed.Variable.{Variable}
 use Rattle.cstar_tree.specs.Typed.{type_of}
 use Rattle.code_lengths.specs.Growth.{Extended, Grows}
@@ -26,7 +27,7 @@ use Rattle.source_meaning.specs.State as Source
 use Rattle.source_meaning.specs.State.{Early, Outcome, State, then_do}
 use Rattle.source_meaning.specs.Statements.{Broke, Continued, Leaving, Onward, Returned, passes, then_go}
 use Rattle.source_meaning.specs.Values.{Active, Scope, Value, nonzero, number}
-use Rattle.code_follows.specs.Fragment.{IsIn, IsVariable, May, elems_of}
+use Rattle.code_follows.specs.Fragment.{IsIn, IsVariable, May, elems_of, naming}
 use Rattle.code_follows.proofs.Expressions.{operand}
 use Rattle.code_follows.proofs.Callees.{CallsFollow}
 use Rattle.code_follows.proofs.Following.{Arrives, Extends, Follows, HasNumber, HasRegisters, Keeps, Ran, Sim, finishes_later, keeps_all, keeps_on, then_follows, spared_kept, result_kept, delayed, finished}
@@ -161,13 +162,13 @@ module _ (g : Setting) (alive : Variable → Type 0) where
     pub keeps : Keeps g d s t
     pub is : nonzero (slice_index t.registers r) ≡ b
 
-  module _ (has : HasRegisters g) (every : (x : Variable) → alive x) (n : ℕ) (ready : (d : Draft) → IsReady g.typed g.instance (layout g) n d) (scope : Scope) (active : Active) (calls_follow : CallsFollow g scope active) where
-    pub test_follows : (test : TExpr) → (IsIn g.may) test → HasCode g.typed g.instance n test → (d : Draft) (s : CodeState) (st : State) → g.begins ≤ d.regs → At g s (length d.code) → Sim g alive st s
+  module _ (has : HasRegisters g) (files : (k : ℕ) → alive (V.File k)) (n : ℕ) (ready : (d : Draft) → IsReady g.typed g.instance (layout g) n d) (scope : Scope) (active : Active) (calls_follow : CallsFollow g scope active) where
+    pub test_follows : (test : TExpr) → (IsIn (naming g.may alive)) test → HasCode g.typed g.instance n test → (d : Draft) (s : CodeState) (st : State) → g.begins ≤ d.regs → At g s (length d.code) → Sim g alive st s
         → Follows g (Tested d s) s (passes scope active test st) (condition_of g.typed (layout g) test d)
     unfolding passes condition_of Extends Follows in_register number
     test_follows test isin c d s st free here sim =
         then_follows g (Value_of g has alive (type_of test).elem true d s) (Tested d s) s s (evaluated scope test active st) (λ v after. Source.Gives (nonzero (number v)) after) (next_of g.typed (layout g) 32 true test d) (λ v after. in_register v (λ r. Makes r after)) (stay g s)
-        (operand g has alive n (λ x h. every x) ready scope active calls_follow true 32 test isin c d s st free here sim) (λ v e. extends_in_register g has alive e v _ (λ r. (0, as_it_was e))) (λ v u out e arr. tests v u out e arr)
+        (operand g has alive n files ready scope active calls_follow true 32 test isin c d s st free here sim) (λ v e. extends_in_register g has alive e v _ (λ r. (0, as_it_was e))) (λ v u out e arr. tests v u out e arr)
       where
         tests : (v : Value) (u : State) (out : Out) (e : Draft) → Arrives g alive (type_of test).elem true d s v u out e → Follows g (Tested d s) s (Source.Gives (nonzero (number v)) u) (in_register out (λ r. Makes r e))
         tests v u out e arr =
@@ -176,7 +177,7 @@ module _ (g : Setting) (alive : Variable → Type 0) where
             (subst (λ (o : Out). Follows g (Tested d s) s (Source.Gives (nonzero arr.holds.word) u) (in_register o (λ r. Makes r e))) (sym arr.holds.is)
             (λ within. record { grown = arr.extended; t = arr.t; go = arr.go; at = arr.at; sim = arr.sim; keeps = arr.keeps; is = there }))
 
-    pub gives : (e : TExpr) → (IsIn g.may) e → GivesValue g.typed e
+    pub gives : (e : TExpr) → (IsIn (naming g.may alive)) e → GivesValue g.typed e
     unfolding GivesValue IsIn IsVariable is_send bare is_sent
     gives (T.Number ty value) h = tt
     gives (T.PositionsOf ty shape value) h = tt
@@ -205,12 +206,12 @@ module _ (g : Setting) (alive : Variable → Type 0) where
       pub is : condition_of g.typed (layout g) test d ≡ Makes r e
       pub extended : Extended d (used_length_of g.typed (layout g) 32 true test) e
 
-    pub test_made : (test : TExpr) (d : Draft) → (IsIn g.may) test → HasCode g.typed g.instance n test → TestMade test d
+    pub test_made : (test : TExpr) (d : Draft) → (IsIn (naming g.may alive)) test → HasCode g.typed g.instance n test → TestMade test d
     unfolding condition_of Grows IsAtEnd then_make in_register
     test_made test d isin c = by (next_of g.typed (layout g) 32 true test d) refl ((expressions g.typed g.instance (layout g)).operand 32 n true test d c (ready d))
       where
         by : (m : Made Out) → next_of g.typed (layout g) 32 true test d ≡ m → Grows d (used_length_of g.typed (layout g) 32 true test) (IsAtEnd g.typed test) m → TestMade test d
         by (Makes (O.Scalar r) e) is h = record { r = r; e = e; is = ap (λ (m : Made Out). then_make m (λ v after. in_register v (λ q. Makes q after))) is; extended = h.1 }
-        by (Makes (O.Field f) e) is h = absurd (kept_not g.may test isin h.0)
+        by (Makes (O.Field f) e) is h = absurd (kept_not (naming g.may alive) test isin h.0)
         by (Makes O.Nothing e) is h = absurd (h.0 (gives test isin))
         by Fails is h = absurd h

@@ -12,6 +12,7 @@ use Rattle.cstar_tree.specs.declared.typed.UnaryOp.{UnaryOp}
 use Rattle.cstar_tree.specs.declared.typed.UnaryOp.TheVariants as U
 use Rattle.cstar_tree.specs.declared.typed.ValueType.{ValueType}
 use Rattle.cstar_tree.specs.declared.typed.VarInfo.{VarInfo}
+use Rattle.cstar_tree.specs.declared.typed.Variable.TheVariants as V
 use Rattle.cstar_tree.specs.declared.typed.Variable.{Variable}
 use Rattle.cstar_tree.specs.StatementTypes.{variable_info}
 use Rattle.cstar_tree.specs.Typed.{type_of}
@@ -19,7 +20,7 @@ use Rattle.code_lengths.specs.Lowerable.{GivesValue, IsLowerable}
 use Rattle.cstar_tree.specs.declared.syntax.AssignOp.{AssignOp}
 use Rattle.cstar_tree.specs.declared.syntax.StepOp.{StepOp}
 use Rattle.cstar_tree.specs.declared.typed.StepOrder.{StepOrder}
-use Rattle.code_lengths.specs.Naming.{HasVariable, IsDeclared, NamesVariables, plain}
+use Rattle.code_lengths.specs.Naming.{HasVariable, NamesVariables, plain}
 use Rattle.code_lengths.specs.Ready.{HasCode, HaveCode, IsReady}
 use Rattle.code_lengths.specs.Shaped.{IsShaped}
 use Rattle.code_lengths.proofs.Agreeing.{expressions}
@@ -48,7 +49,7 @@ use Rattle.source_meaning.specs.State as Source
 use Rattle.source_meaning.specs.State.{Outcome, State, then_do}
 use Rattle.source_meaning.specs.Values.{Active, Scalar, Scope, Value, at, convert_to, nonzero, number, unary_of}
 use Rattle.source_meaning.proofs.ConstantLaws.{Boxed, value_means}
-use Rattle.code_follows.specs.Fragment.{AreIn, IsGiven, IsIn, IsOperand, IsWord, IsVariable}
+use Rattle.code_follows.specs.Fragment.{AreIn, IsGiven, IsIn, IsOperand, IsWord, IsVariable, naming}
 use Rattle.code_follows.proofs.Arguments.{AreDone}
 use Rattle.code_follows.proofs.Branching.{IsMadeWord, made_word}
 use Rattle.code_follows.proofs.Choosing.{Arm_does, IsMadeTo, Lands, arm_follows, arm_made, choice_is, choose_is, constant_arm, fresh_lands, scalar_choice_follows}
@@ -104,7 +105,7 @@ unfolding is_unchanged
 unchanged_wide bits elem true is so = eqb-true elem.bits 32 so
 unchanged_wide bits elem false is so = cc
 
-module _ (g : Setting) (has : HasRegisters g) (alive : Variable → Type 0) (n : ℕ) (lives : (x : Variable) → IsDeclared n x → alive x) (ready : (d : Draft) → IsReady g.typed g.instance (layout g) n d) (scope : Scope) (active : Active) (calls_follow : CallsFollow g scope active) where
+module _ (g : Setting) (has : HasRegisters g) (alive : Variable → Type 0) (n : ℕ) (files : (k : ℕ) → alive (V.File k)) (ready : (d : Draft) → IsReady g.typed g.instance (layout g) n d) (scope : Scope) (active : Active) (calls_follow : CallsFollow g scope active) where
   -- an expression and its code
   abbrev pub Agrees : Bool → ℕ → TExpr → Type 0
   Agrees quiet bits e = Does g has alive (type_of e).elem quiet (λ st. evaluated scope e active st) (λ d. value_of g.typed (layout g) bits e d)
@@ -120,20 +121,20 @@ module _ (g : Setting) (has : HasRegisters g) (alive : Variable → Type 0) (n :
     pub small : word < 2 ^ (type_of e).elem.bits
     pub same : held (type_of e).elem word ≡ held info.elem (st.scalar own.variable)
 
-  own_is : (bits : ℕ) (e : TExpr) (own : Own) (st : State) → (IsIn g.may) e → NamesVariables g.typed g.instance n e → ((x : Variable) (info : VarInfo) → alive x → IsScalar g x info → st.scalar x < 2 ^ info.elem.bits) → own_of bits e ≡ Some own → OwnIs e own st
+  own_is : (bits : ℕ) (e : TExpr) (own : Own) (st : State) → (IsIn (naming g.may alive)) e → NamesVariables g.typed g.instance n e → ((x : Variable) (info : VarInfo) → alive x → IsScalar g x info → st.scalar x < 2 ^ info.elem.bits) → own_of bits e ≡ Some own → OwnIs e own st
   unfolding own_of IsIn NamesVariables evaluated is_unchanged then_do at
-  own_is bits (T.Variable ty x) own st flat v small is = by (is_none ty.shape || nat_le bits ty.elem.bits) is
+  own_is bits (T.Variable ty x) own st isin v small is = by (is_none ty.shape || nat_le bits ty.elem.bits) is
     where
       by : (b : Bool) → (if b then Some (record { shape = ty.shape; variable = x }) else None) ≡ Some own → OwnIs (T.Variable ty x) own st
       by false e = cc
       by true e = subst (λ (o : Own). OwnIs (T.Variable ty x) o st) (some_same (record { shape = ty.shape; variable = x }) own e) (record {
         info = variable_info v.word (plain ty) v.start;
-        scalar = (v.named, flat);
-        shape = flat;
-        living = lives x v.declared;
+        scalar = (v.named, isin.0);
+        shape = isin.0;
+        living = isin.1;
         word = st.scalar x;
-        gives = ap (λ (w : Value). Source.Gives w st) (read_is g has alive st ty x flat);
-        small = small x (variable_info v.word (plain ty) v.start) (lives x v.declared) (v.named, flat);
+        gives = ap (λ (w : Value). Source.Gives w st) (read_is g has alive st ty x isin.0);
+        small = small x (variable_info v.word (plain ty) v.start) isin.1 (v.named, isin.0);
         same = refl;
       })
   own_is bits (T.Brackets' ty p inner) own st h v small is =
@@ -145,7 +146,7 @@ module _ (g : Setting) (has : HasRegisters g) (alive : Variable → Type 0) (n :
       by false so e rest = cc
       by true so e rest =
           let o = rest e in
-          let wide : ty.elem.bits ≡ 32 = unchanged_wide bits ty.elem (is_kept operand) (kept g.may operand h.1) so in
+          let wide : ty.elem.bits ≡ 32 = unchanged_wide bits ty.elem (is_kept operand) (kept (naming g.may alive) operand h.1) so in
           let below : converted ty.elem (type_of operand).elem o.word < 2 ^ ty.elem.bits = converted_below ty.elem (type_of operand).elem o.word in
           let few : converted ty.elem (type_of operand).elem o.word < 2 ^ 32 = below_word ty.elem.bits (converted ty.elem (type_of operand).elem o.word) wide below in
           record {
@@ -175,7 +176,7 @@ module _ (g : Setting) (has : HasRegisters g) (alive : Variable → Type 0) (n :
   own_is bits _ own st h v small is = absurd h
 
   -- an operand where it stands, or by its code
-  pub operand_follows : (quiet : Bool) (bits : ℕ) (e : TExpr) (code : Code) → (IsIn g.may) e → NamesVariables g.typed g.instance n e → Does g has alive (type_of e).elem quiet (λ st. evaluated scope e active st) code
+  pub operand_follows : (quiet : Bool) (bits : ℕ) (e : TExpr) (code : Code) → (IsIn (naming g.may alive)) e → NamesVariables g.typed g.instance n e → Does g has alive (type_of e).elem quiet (λ st. evaluated scope e active st) code
       → Does g has alive (type_of e).elem quiet (λ st. evaluated scope e active st) (λ d. operand_by g.typed (layout g) bits code quiet e d)
   unfolding operand_by in_place standing Follows
   operand_follows quiet bits e code isin names does d s st free here sim = by_held (held_in (layout g) e) refl
@@ -209,7 +210,7 @@ module _ (g : Setting) (has : HasRegisters g) (alive : Variable → Type 0) (n :
       by_held None is = by_place quiet refl (if quiet then own_of bits e else None) refl
       by_held (Some r) is =
           let h = held_stands (layout g) e r is in
-          let few : h.word < 2 ^ (type_of e).elem.bits = subst (λ (o : Option ℕ). IfSome o (λ v. v < 2 ^ (type_of e).elem.bits)) h.value (constant_below g.may e isin) in
+          let few : h.word < 2 ^ (type_of e).elem.bits = subst (λ (o : Option ℕ). IfSome o (λ v. v < 2 ^ (type_of e).elem.bits)) h.value (constant_below (naming g.may alive) e isin) in
           let gives : evaluated scope e active st ≡ Source.Gives (Scalar h.word) st = subst (λ (o : Option ℕ). Const.IsValueOf e o) h.value (value_means e h.constant) scope active st in
           subst (λ (o : Outcome Value). Follows g (Value_of g has alive (type_of e).elem quiet d s) s o (Makes (O.Scalar r) d)) (sym gives) (λ within. record {
             extended = (0, as_it_was d);
@@ -369,31 +370,31 @@ module _ (g : Setting) (has : HasRegisters g) (alive : Variable → Type 0) (n :
   other_grows : (m k : ℕ) (e : TExpr) → HasCode g.typed g.instance n e → (d : Draft) → Extends g d (operand_by g.typed (layout g) m (value_of g.typed (layout g) k e) true e d)
   other_grows m k e c d = extends_grown g has alive _ d _ _ (operand_grown g.typed g.instance (layout g) n m true e (value_of g.typed (layout g) k e) _ d c (ready d) ((expressions g.typed g.instance (layout g)).value k n e d c (ready d)))
 
-  fresh_assign : (bits : ℕ) (ty tty : ValueType) (place : Place) (op : AssignOp) (p q : Boxed) (x : Variable) (value : TExpr) → tty.shape ≡ None → HasVariable g.typed g.instance n x (plain tty) → (IsIn g.may) value → HasCode g.typed g.instance n value
+  fresh_assign : (bits : ℕ) (ty tty : ValueType) (place : Place) (op : AssignOp) (p q : Boxed) (x : Variable) (value : TExpr) → (tty.shape ≡ None) × alive x → HasVariable g.typed g.instance n x (plain tty) → (IsIn (naming g.may alive)) value → HasCode g.typed g.instance n value
       → ((m : ℕ) (d : Draft) → IsFresh d (value_of g.typed (layout g) m value d)) → (d : Draft) → IsFresh d (value_of g.typed (layout g) bits (T.Assign' ty place op p (T.Variable tty x) q value) d)
   unfolding value_of
-  fresh_assign bits ty tty place op p q x value plain_shape v isin c fresh d =
-      subst (λ (t : ValueType). HasVariable g.typed g.instance n x (plain t) → IsFresh d (value_of g.typed (layout g) bits (T.Assign' ty place op p (T.Variable t x) q value) d)) (sym (plain_type tty plain_shape)) (λ w.
+  fresh_assign bits ty tty place op p q x value named_so v isin c fresh d =
+      subst (λ (t : ValueType). HasVariable g.typed g.instance n x (plain t) → IsFresh d (value_of g.typed (layout g) bits (T.Assign' ty place op p (T.Variable t x) q value) d)) (sym (plain_type tty named_so.0)) (λ w.
       let target : TExpr = T.Variable (scalar_type tty.elem) x in
-      fresh_assigned g has alive x (variable_info w.word (plain (scalar_type tty.elem)) w.start) (lives x w.declared) (w.named, refl) place op (T.Assign' ty place op p target q value) value bits (λ e. value_of g.typed (layout g) (taken_bits bits op target value) value e) d (kept g.may value isin)
+      fresh_assigned g has alive x (variable_info w.word (plain (scalar_type tty.elem)) w.start) named_so.1 (w.named, refl) place op (T.Assign' ty place op p target q value) value bits (λ e. value_of g.typed (layout g) (taken_bits bits op target value) value e) d (kept (naming g.may alive) value isin)
       (fresh (taken_bits bits op target value) d) (λ m b. other_grows m (taken_bits bits op target value) value c b)) v
 
-  fresh_step : (bits : ℕ) (ty tty : ValueType) (op : StepOp) (order : StepOrder) (p : Boxed) (x : Variable) → tty.shape ≡ None → HasVariable g.typed g.instance n x (plain tty) → (d : Draft) → IsFresh d (value_of g.typed (layout g) bits (T.Step' ty op order p (T.Variable tty x)) d)
+  fresh_step : (bits : ℕ) (ty tty : ValueType) (op : StepOp) (order : StepOrder) (p : Boxed) (x : Variable) → (tty.shape ≡ None) × alive x → HasVariable g.typed g.instance n x (plain tty) → (d : Draft) → IsFresh d (value_of g.typed (layout g) bits (T.Step' ty op order p (T.Variable tty x)) d)
   unfolding value_of
-  fresh_step bits ty tty op order p x plain_shape v d =
-      subst (λ (t : ValueType). HasVariable g.typed g.instance n x (plain t) → IsFresh d (value_of g.typed (layout g) bits (T.Step' ty op order p (T.Variable t x)) d)) (sym (plain_type tty plain_shape)) (λ w.
-      fresh_stepped g has alive x (variable_info w.word (plain (scalar_type tty.elem)) w.start) (lives x w.declared) (w.named, refl) scope active op order (T.Step' ty op order p (T.Variable (scalar_type tty.elem) x)) bits d) v
+  fresh_step bits ty tty op order p x named_so v d =
+      subst (λ (t : ValueType). HasVariable g.typed g.instance n x (plain t) → IsFresh d (value_of g.typed (layout g) bits (T.Step' ty op order p (T.Variable t x)) d)) (sym (plain_type tty named_so.0)) (λ w.
+      fresh_stepped g has alive x (variable_info w.word (plain (scalar_type tty.elem)) w.start) named_so.1 (w.named, refl) scope active op order (T.Step' ty op order p (T.Variable (scalar_type tty.elem) x)) bits d) v
 
-  fresh_value : (bits : ℕ) (e : TExpr) → (IsIn g.may) e → HasCode g.typed g.instance n e → (d : Draft) → IsFresh d (value_of g.typed (layout g) bits e d)
+  fresh_value : (bits : ℕ) (e : TExpr) → (IsIn (naming g.may alive)) e → HasCode g.typed g.instance n e → (d : Draft) → IsFresh d (value_of g.typed (layout g) bits e d)
   unfolding value_of IsIn IsVariable
   fresh_value bits (T.Number ty value) h c d = fresh_constant g has alive value d
   fresh_value bits (T.PositionsOf ty shape value) h c d = fresh_constant g has alive value d
   fresh_value bits (T.RankOf ty shape value) h c d = fresh_constant g has alive value d
   fresh_value bits (T.DimOf ty shape axis value) h c d = fresh_constant g has alive value d
-  fresh_value bits (T.Variable ty x) h c d = fresh_variable g has alive ty x bits d h
+  fresh_value bits (T.Variable ty x) h c d = fresh_variable g has alive ty x bits d h.0
   fresh_value bits (T.GetChar ty) h c d = fresh_byte g has alive d
   fresh_value bits (T.Brackets' ty p inner) h c d = fresh_value bits inner h.1 (brackets_code ty p inner c) d
-  fresh_value bits (T.Convert' ty p operand) h c d = fresh_converted ty bits p operand (kept g.may operand h.1) d (fresh_value bits operand h.1 (convert_code ty p operand c) d)
+  fresh_value bits (T.Convert' ty p operand) h c d = fresh_converted ty bits p operand (kept (naming g.may alive) operand h.1) d (fresh_value bits operand h.1 (convert_code ty p operand c) d)
   fresh_value bits (T.Casts' ty elems p operand) h c d = fresh_casts g has alive ty false elems.items (type_of operand).elem h.0 h.1 (λ e. value_of g.typed (layout g) bits operand e) d (fresh_value bits operand h.2 (casts_code ty elems p operand c) d)
   fresh_value bits (T.Unary' ty op p operand) h c d =
       fresh_unary g has alive ty bits op (λ e. value_of g.typed (layout g) bits operand e) _ d h.0.0 (fresh_value bits operand h.1 (unary_code ty op p operand c) d) (operand_grows true (unary_bits bits op operand) operand (unary_code ty op p operand c))
@@ -403,18 +404,18 @@ module _ (g : Setting) (has : HasRegisters g) (alive : Variable → Type 0) (n :
   fresh_value bits (T.LogicalAnd' ty p left q right) h c d = fresh_logical g has alive false ty.shape bits (condition_of g.typed (layout g) left) (condition_of g.typed (layout g) right) d h.0.0 (condition_grows left (and_operands ty p q left right c).one) (condition_grows right (and_operands ty p q left right c).other)
   fresh_value bits (T.Choice' ty p test q first r second) h c d =
       let parts = choice_parts ty p q r test first second c in
-      fresh_choice g has alive ty bits (is_kept test) _ _ _ first second _ _ d h.0.0 (kept g.may test h.1) (operand_grows (is_kept test || is_quiet first) (bits_of (kind_of test)) test parts.condition) (operand_grows true bits first parts.one) (operand_grows true bits second parts.other)
+      fresh_choice g has alive ty bits (is_kept test) _ _ _ first second _ _ d h.0.0 (kept (naming g.may alive) test h.1) (operand_grows (is_kept test || is_quiet first) (bits_of (kind_of test)) test parts.condition) (operand_grows true bits first parts.one) (operand_grows true bits second parts.other)
   fresh_value bits (T.Assign' ty place op p (T.Variable tty x) q value) h c d =
       let names = assign_names ty place op p q (T.Variable tty x) value c in
       fresh_assign bits ty tty place op p q x value h.2 (target_named tty x names.0) h.3 names.1 (λ m e. fresh_value m value h.3 names.1 e) d
   fresh_value bits (T.Assign' ty place op p _ q value) h c d = absurd h.2
   fresh_value bits (T.Step' ty op order p (T.Variable tty x)) h c d = fresh_step bits ty tty op order p x h.2 (target_named tty x (step_names ty op order p (T.Variable tty x) c)) d
   fresh_value bits (T.Step' ty op order p _) h c d = absurd h.2
-  fresh_value bits (T.Call' ty index p arguments) h c d = fresh_call g has alive n lives ready scope active calls_follow bits ty index p arguments h.0 h.1 c d
+  fresh_value bits (T.Call' ty index p arguments) h c d = fresh_call g has alive n files ready scope active calls_follow bits ty index p arguments h.0 h.1 c d
   fresh_value bits _ h c d = absurd h
 
   -- an operand in its place leaves its register alone
-  clear_operand : (bits : ℕ) (e : TExpr) (code : Code) → (IsIn g.may) e → NamesVariables g.typed g.instance n e → ((d : Draft) → IsFresh d (code d)) → (st : State) → ((x : Variable) (info : VarInfo) → alive x → IsScalar g x info → st.scalar x < 2 ^ info.elem.bits)
+  clear_operand : (bits : ℕ) (e : TExpr) (code : Code) → (IsIn (naming g.may alive)) e → NamesVariables g.typed g.instance n e → ((d : Draft) → IsFresh d (code d)) → (st : State) → ((x : Variable) (info : VarInfo) → alive x → IsScalar g x info → st.scalar x < 2 ^ info.elem.bits)
       → (d : Draft) → IsClear (layout g) d (operand_by g.typed (layout g) bits code true e d)
   unfolding operand_by in_place standing IsClear
   clear_operand bits e code isin names fresh st small d = by_held (held_in (layout g) e) refl
@@ -431,13 +432,13 @@ module _ (g : Setting) (has : HasRegisters g) (alive : Variable → Type 0) (n :
       by_held None is = by_place (own_of bits e) refl
       by_held (Some r) is = let h = held_stands (layout g) e r is in inl (below_values (layout g) (held (type_of e).elem h.word) r h.register)
 
-  operand_value : (quiet : Bool) (bits : ℕ) (e : TExpr) → (IsIn g.may) e → HasCode g.typed g.instance n e → Agrees quiet bits e → Does g has alive (type_of e).elem quiet (λ st. evaluated scope e active st) (λ d. operand_by g.typed (layout g) bits (value_of g.typed (layout g) bits e) quiet e d)
+  operand_value : (quiet : Bool) (bits : ℕ) (e : TExpr) → (IsIn (naming g.may alive)) e → HasCode g.typed g.instance n e → Agrees quiet bits e → Does g has alive (type_of e).elem quiet (λ st. evaluated scope e active st) (λ d. operand_by g.typed (layout g) bits (value_of g.typed (layout g) bits e) quiet e d)
   operand_value quiet bits e h c agrees = operand_follows quiet bits e (λ d. value_of g.typed (layout g) bits e d) h c.names agrees
 
-  pub word_is_made : (bits : ℕ) (e : TExpr) → (IsIn g.may) e → HasCode g.typed g.instance n e → GivesValue g.typed e → (d : Draft) → IsMadeWord (used_length_of g.typed (layout g) bits true e) d (operand_by g.typed (layout g) bits (value_of g.typed (layout g) bits e) true e d)
-  word_is_made bits e h c gives d = made_word g.typed e _ d _ (kept g.may e h) gives ((expressions g.typed g.instance (layout g)).operand bits n true e d c (ready d))
+  pub word_is_made : (bits : ℕ) (e : TExpr) → (IsIn (naming g.may alive)) e → HasCode g.typed g.instance n e → GivesValue g.typed e → (d : Draft) → IsMadeWord (used_length_of g.typed (layout g) bits true e) d (operand_by g.typed (layout g) bits (value_of g.typed (layout g) bits e) true e d)
+  word_is_made bits e h c gives d = made_word g.typed e _ d _ (kept (naming g.may alive) e h) gives ((expressions g.typed g.instance (layout g)).operand bits n true e d c (ready d))
 
-  logical_value : (is_or : Bool) (ty : ValueType) (quiet : Bool) (bits : ℕ) (left right : TExpr) (next : Value → State → Outcome Value) → IsWord ty → (IsIn g.may) left → (IsIn g.may) right → AreOperands left right
+  logical_value : (is_or : Bool) (ty : ValueType) (quiet : Bool) (bits : ℕ) (left right : TExpr) (next : Value → State → Outcome Value) → IsWord ty → (IsIn (naming g.may alive)) left → (IsIn (naming g.may alive)) right → AreOperands left right
       → ((v : Value) (st : State) → next v st ≡ joined is_or (λ u. evaluated scope right active u) (nonzero (number v)) st) → Agrees true (bits_of (kind_of left)) left → Agrees true (bits_of (kind_of right)) right
       → Does g has alive ty.elem quiet (λ st. then_do (evaluated scope left active st) next) (λ d. logical_by is_or ty.shape bits (condition_of g.typed (layout g) left) (condition_of g.typed (layout g) right) d)
   unfolding condition_by
@@ -447,19 +448,19 @@ module _ (g : Setting) (has : HasRegisters g) (alive : Variable → Type 0) (n :
       (word_is_made (bits_of (kind_of left)) left h c.one c.one_gives) (word_is_made (bits_of (kind_of right)) right k c.other c.other_gives) next_is
       bits (condition_of g.typed (layout g) left) (condition_of g.typed (layout g) right) refl refl refl
 
-  arm_is_made : (ty : ValueType) (bits : ℕ) (e : TExpr) → ty.shape ≡ None → (IsIn g.may) e → HasCode g.typed g.instance n e → GivesValue g.typed e → (r : ℕ) (d : Draft) → IsMadeTo r (arm_length_of g.typed (layout g) ty bits e) d (arm_of g.typed (layout g) bits e (O.Scalar r) d)
+  arm_is_made : (ty : ValueType) (bits : ℕ) (e : TExpr) → ty.shape ≡ None → (IsIn (naming g.may alive)) e → HasCode g.typed g.instance n e → GivesValue g.typed e → (r : ℕ) (d : Draft) → IsMadeTo r (arm_length_of g.typed (layout g) ty bits e) d (arm_of g.typed (layout g) bits e (O.Scalar r) d)
   unfolding arm_length_of arm_of
   arm_is_made ty bits e scalar h c gives r d =
       subst (λ (o : Option ℕ). IsMadeTo r (arm_length (is_none o) (used_length_of g.typed (layout g) bits true e) e) d (arm_by (next_of g.typed (layout g) bits true e) e (O.Scalar r) d)) (sym scalar)
       (arm_made g r (used_length_of g.typed (layout g) bits true e) (next_of g.typed (layout g) bits true e) e d (word_is_made bits e h c gives d))
 
-  arm_does : (elem : Elem) (bits : ℕ) (e : TExpr) → elem.bits ≡ 32 → (type_of e).elem.bits ≡ 32 → (IsIn g.may) e → HasCode g.typed g.instance n e → GivesValue g.typed e → Agrees true bits e → Arm_does g has alive elem (λ st. evaluated scope e active st) (arm_of g.typed (layout g) bits e)
+  arm_does : (elem : Elem) (bits : ℕ) (e : TExpr) → elem.bits ≡ 32 → (type_of e).elem.bits ≡ 32 → (IsIn (naming g.may alive)) e → HasCode g.typed g.instance n e → GivesValue g.typed e → Agrees true bits e → Arm_does g has alive elem (λ st. evaluated scope e active st) (arm_of g.typed (layout g) bits e)
   unfolding arm_of
   arm_does elem bits e wide also h c gives agrees =
-      arm_follows g has alive elem (type_of e).elem _ e (next_of g.typed (layout g) bits true e) (λ st. evaluated scope e active st) wide also (operand_value true bits e h c agrees) (word_is_made bits e h c gives) (λ w is. constant_arm g.may scope active e w h also is)
+      arm_follows g has alive elem (type_of e).elem _ e (next_of g.typed (layout g) bits true e) (λ st. evaluated scope e active st) wide also (operand_value true bits e h c agrees) (word_is_made bits e h c gives) (λ w is. constant_arm (naming g.may alive) scope active e w h also is)
 
   -- `?:` into the register of which something is said
-  pub choice_goes : (ty : ValueType) (bits : ℕ) (test first second : TExpr) → IsWord ty → (IsIn g.may) test → (IsIn g.may) first → (IsIn g.may) second → IsWord (type_of first) → IsWord (type_of second) → AreChosen test first second → Agrees true (bits_of (kind_of test)) test → Agrees true bits first → Agrees true bits second
+  pub choice_goes : (ty : ValueType) (bits : ℕ) (test first second : TExpr) → IsWord ty → (IsIn (naming g.may alive)) test → (IsIn (naming g.may alive)) first → (IsIn (naming g.may alive)) second → IsWord (type_of first) → IsWord (type_of second) → AreChosen test first second → Agrees true (bits_of (kind_of test)) test → Agrees true bits first → Agrees true bits second
       → (d : Draft) (s : CodeState) (st : State) (R : Value → State → Out → Draft → Type 0) (r : ℕ) → g.begins ≤ d.regs → At g s (length d.code) → Sim g alive st s → Dest g has alive ty.elem d s R r → Lands g has alive r R
       → Follows g R s (then_do (evaluated scope test active st) (λ v after. choose (type_of test).shape v (evaluated scope first) (evaluated scope second) active after)) (scalar_choice_of g.typed (layout g) ty bits test first second (O.Scalar r) d)
   unfolding scalar_choice_of
@@ -468,53 +469,53 @@ module _ (g : Setting) (has : HasRegisters g) (alive : Variable → Type 0) (n :
       (λ u. evaluated scope test active u) (λ u. evaluated scope first active u) (λ u. evaluated scope second active u) (λ v after. choose (type_of test).shape v (evaluated scope first) (evaluated scope second) active after)
       (operand_value true (bits_of (kind_of test)) test h c.condition tests) (arm_does ty.elem bits first word.1 a.1 k c.one c.one_gives one) (arm_does ty.elem bits second word.1 b.1 m c.other c.other_gives other)
       (word_is_made (bits_of (kind_of test)) test h c.condition c.condition_gives) (arm_is_made ty bits first word.0 k c.one c.one_gives) (arm_is_made ty bits second word.0 m c.other c.other_gives)
-      (λ v u. choose_is (type_of test).shape v (evaluated scope first) (evaluated scope second) active u (scalar_of g.may test h)) d s st R r free here sim dest lands
+      (λ v u. choose_is (type_of test).shape v (evaluated scope first) (evaluated scope second) active u (scalar_of (naming g.may alive) test h)) d s st R r free here sim dest lands
 
-  choice_value : (ty : ValueType) (quiet : Bool) (bits : ℕ) (p q r : Boxed) (test first second : TExpr) → IsWord ty → (IsIn g.may) test → (IsIn g.may) first → (IsIn g.may) second → IsWord (type_of first) → IsWord (type_of second) → AreChosen test first second → Agrees true (bits_of (kind_of test)) test → Agrees true bits first → Agrees true bits second
+  choice_value : (ty : ValueType) (quiet : Bool) (bits : ℕ) (p q r : Boxed) (test first second : TExpr) → IsWord ty → (IsIn (naming g.may alive)) test → (IsIn (naming g.may alive)) first → (IsIn (naming g.may alive)) second → IsWord (type_of first) → IsWord (type_of second) → AreChosen test first second → Agrees true (bits_of (kind_of test)) test → Agrees true bits first → Agrees true bits second
       → Does g has alive ty.elem quiet (λ st. then_do (evaluated scope test active st) (λ v after. choose (type_of test).shape v (evaluated scope first) (evaluated scope second) active after)) (λ d. value_of g.typed (layout g) bits (T.Choice' ty p test q first r second) d)
   unfolding value_of scalar_choice_of arm_of
   choice_value ty quiet bits p q r test first second word h k m a b c tests one other d s st free here sim =
       subst (λ (made : Made Out). Follows g (Value_of g has alive ty.elem quiet d s) s (then_do (evaluated scope test active st) (λ v after. choose (type_of test).shape v (evaluated scope first) (evaluated scope second) active after)) made)
       (sym (ap (λ (b : Bool). choice_by ty bits (is_kept test) (operand_by g.typed (layout g) (bits_of (kind_of test)) (λ e. value_of g.typed (layout g) (bits_of (kind_of test)) test e) (b || is_quiet first) test) (arm_of g.typed (layout g) bits first) (arm_of g.typed (layout g) bits second)
-      (arm_length_of g.typed (layout g) ty bits first) (arm_length_of g.typed (layout g) ty bits second) d) (kept g.may test h)
+      (arm_length_of g.typed (layout g) ty bits first) (arm_length_of g.typed (layout g) ty bits second) d) (kept (naming g.may alive) test h)
       ∙ choice_is ty bits (is_kept test) (next_of g.typed (layout g) (bits_of (kind_of test)) true test) (arm_of g.typed (layout g) bits first) (arm_of g.typed (layout g) bits second)
-      (arm_length_of g.typed (layout g) ty bits first) (arm_length_of g.typed (layout g) ty bits second) d word.0 (kept g.may test h)))
+      (arm_length_of g.typed (layout g) ty bits first) (arm_length_of g.typed (layout g) ty bits second) d word.0 (kept (naming g.may alive) test h)))
       (choice_goes ty bits test first second word h k m a b c tests one other (with_reg d) s st (Value_of g has alive ty.elem quiet d s) d.regs (omega (arith, free)) here sim (fresh_dest g has alive ty.elem quiet d s free) (fresh_lands g has alive ty.elem quiet d s d.regs))
 
-  assign_value : (quiet : Bool) (bits : ℕ) (ty tty : ValueType) (place : Place) (op : AssignOp) (p q : Boxed) (x : Variable) (value : TExpr) → tty.shape ≡ None → ty ≡ tty → HasVariable g.typed g.instance n x (plain tty) → (IsIn g.may) value → IsGiven op tty (type_of value) → HasCode g.typed g.instance n value
+  assign_value : (quiet : Bool) (bits : ℕ) (ty tty : ValueType) (place : Place) (op : AssignOp) (p q : Boxed) (x : Variable) (value : TExpr) → (tty.shape ≡ None) × alive x → ty ≡ tty → HasVariable g.typed g.instance n x (plain tty) → (IsIn (naming g.may alive)) value → IsGiven op tty (type_of value) → HasCode g.typed g.instance n value
       → ((m : ℕ) (d : Draft) → IsFresh d (value_of g.typed (layout g) m value d)) → ((calm : Bool) (m : ℕ) → Agrees calm m value) → Agrees quiet bits (T.Assign' ty place op p (T.Variable tty x) q value)
   unfolding value_of evaluated located then_do variable_target
-  assign_value quiet bits ty tty place op p q x value plain_shape same v isin given c fresh agrees =
+  assign_value quiet bits ty tty place op p q x value named_so same v isin given c fresh agrees =
       subst (λ (t : ValueType). Agrees quiet bits (T.Assign' t place op p (T.Variable tty x) q value)) (sym same)
-      (subst (λ (t : ValueType). HasVariable g.typed g.instance n x (plain t) → IsGiven op t (type_of value) → Agrees quiet bits (T.Assign' t place op p (T.Variable t x) q value)) (sym (plain_type tty plain_shape)) (λ w its.
+      (subst (λ (t : ValueType). HasVariable g.typed g.instance n x (plain t) → IsGiven op t (type_of value) → Agrees quiet bits (T.Assign' t place op p (T.Variable t x) q value)) (sym (plain_type tty named_so.0)) (λ w its.
       let target : TExpr = T.Variable (scalar_type tty.elem) x in
       let m : ℕ = taken_bits bits op target value in
       let code : Code = λ e. value_of g.typed (layout g) m value e in
-      assigned_value g has alive x (variable_info w.word (plain (scalar_type tty.elem)) w.start) (lives x w.declared) (w.named, refl) scope active place op (T.Assign' (scalar_type tty.elem) place op p target q value) value bits quiet code (λ st. evaluated scope value active st) its
-      (scalar_of g.may value isin) (kept g.may value isin) (agrees false m) (λ k. operand_follows true k value code isin c.names (agrees true m)) (λ k st s sim d. clear_operand k value code isin c.names (fresh m) st sim.small d)) v given)
+      assigned_value g has alive x (variable_info w.word (plain (scalar_type tty.elem)) w.start) named_so.1 (w.named, refl) scope active place op (T.Assign' (scalar_type tty.elem) place op p target q value) value bits quiet code (λ st. evaluated scope value active st) its
+      (scalar_of (naming g.may alive) value isin) (kept (naming g.may alive) value isin) (agrees false m) (λ k. operand_follows true k value code isin c.names (agrees true m)) (λ k st s sim d. clear_operand k value code isin c.names (fresh m) st sim.small d)) v given)
 
-  step_value_follows : (quiet : Bool) (bits : ℕ) (ty tty : ValueType) (op : StepOp) (order : StepOrder) (p : Boxed) (x : Variable) → tty.shape ≡ None → ty ≡ tty → HasVariable g.typed g.instance n x (plain tty) → Agrees quiet bits (T.Step' ty op order p (T.Variable tty x))
+  step_value_follows : (quiet : Bool) (bits : ℕ) (ty tty : ValueType) (op : StepOp) (order : StepOrder) (p : Boxed) (x : Variable) → (tty.shape ≡ None) × alive x → ty ≡ tty → HasVariable g.typed g.instance n x (plain tty) → Agrees quiet bits (T.Step' ty op order p (T.Variable tty x))
   unfolding value_of evaluated located then_do variable_target
-  step_value_follows quiet bits ty tty op order p x plain_shape same v =
+  step_value_follows quiet bits ty tty op order p x named_so same v =
       subst (λ (t : ValueType). Agrees quiet bits (T.Step' t op order p (T.Variable tty x))) (sym same)
-      (subst (λ (t : ValueType). HasVariable g.typed g.instance n x (plain t) → Agrees quiet bits (T.Step' t op order p (T.Variable t x))) (sym (plain_type tty plain_shape)) (λ w.
-      stepped_value g has alive x (variable_info w.word (plain (scalar_type tty.elem)) w.start) (lives x w.declared) (w.named, refl) scope active op order quiet bits (T.Step' (scalar_type tty.elem) op order p (T.Variable (scalar_type tty.elem) x))) v)
+      (subst (λ (t : ValueType). HasVariable g.typed g.instance n x (plain t) → Agrees quiet bits (T.Step' t op order p (T.Variable t x))) (sym (plain_type tty named_so.0)) (λ w.
+      stepped_value g has alive x (variable_info w.word (plain (scalar_type tty.elem)) w.start) named_so.1 (w.named, refl) scope active op order quiet bits (T.Step' (scalar_type tty.elem) op order p (T.Variable (scalar_type tty.elem) x))) v)
 
   mutual
     unfolding evaluated value_of IsIn AreIn IsVariable AreDone HaveCode
 
-    pub value_follows : (quiet : Bool) (bits : ℕ) (e : TExpr) → (IsIn g.may) e → HasCode g.typed g.instance n e → Agrees quiet bits e
+    pub value_follows : (quiet : Bool) (bits : ℕ) (e : TExpr) → (IsIn (naming g.may alive)) e → HasCode g.typed g.instance n e → Agrees quiet bits e
     value_follows quiet bits (T.Number ty value) h c = λ d s st free here sim. constant_follows g has alive ty.elem quiet value d s st h.0.1 h.1 free here sim
     value_follows quiet bits (T.PositionsOf ty shape value) h c = λ d s st free here sim. constant_follows g has alive ty.elem quiet value d s st h.0.1 h.1 free here sim
     value_follows quiet bits (T.RankOf ty shape value) h c = λ d s st free here sim. constant_follows g has alive ty.elem quiet value d s st h.0.1 h.1 free here sim
     value_follows quiet bits (T.DimOf ty shape axis value) h c = λ d s st free here sim. constant_follows g has alive ty.elem quiet value d s st h.0.1 h.1 free here sim
     value_follows quiet bits (T.Variable ty x) h c = λ d s st free here sim.
         let v = named ty x c in
-        variable_follows g has alive quiet bits n ty x d s st h v (lives x v.declared) free here sim
+        variable_follows g has alive quiet bits n ty x d s st h.0 v h.1 free here sim
     value_follows quiet bits (T.GetChar ty) h c = byte_follows g has alive ty.elem quiet h.1
     value_follows quiet bits (T.Brackets' ty p inner) h c = bracketed ty inner quiet _ _ h.0 (value_follows quiet bits inner h.1 (brackets_code ty p inner c))
     value_follows quiet bits (T.Convert' ty p operand) h c =
-        converts ty quiet bits p operand (kept g.may operand h.1) (conversion_follows g has alive ty quiet (type_of operand).elem h.0 (λ d. value_of g.typed (layout g) bits operand d) (λ st. evaluated scope operand active st)
+        converts ty quiet bits p operand (kept (naming g.may alive) operand h.1) (conversion_follows g has alive ty quiet (type_of operand).elem h.0 (λ d. value_of g.typed (layout g) bits operand d) (λ st. evaluated scope operand active st)
         (λ d. fresh_value bits operand h.1 (convert_code ty p operand c) d) (value_follows false bits operand h.1 (convert_code ty p operand c)))
     value_follows quiet bits (T.Casts' ty elems p operand) h c =
         let part = casts_code ty elems p operand c in
@@ -529,11 +530,11 @@ module _ (g : Setting) (has : HasRegisters g) (alive : Variable → Type 0) (n :
         (λ st. evaluated scope left active st) refl (operand_value (is_quiet right) (operand_bits bits op left right) left h.1 one_code (value_follows (is_quiet right) (operand_bits bits op left right) left h.1 one_code))
     value_follows quiet bits (T.LogicalOr' ty p left q right) h c =
         let o = or_operands ty p q left right c in
-        logical_value true ty quiet bits left right (λ v after. or_then ty.shape (type_of left).shape v (evaluated scope right) active after) h.0 h.1 h.2 o (λ v st. or_is ty.shape (type_of left).shape v (evaluated scope right) active st h.0.0 (scalar_of g.may left h.1))
+        logical_value true ty quiet bits left right (λ v after. or_then ty.shape (type_of left).shape v (evaluated scope right) active after) h.0 h.1 h.2 o (λ v st. or_is ty.shape (type_of left).shape v (evaluated scope right) active st h.0.0 (scalar_of (naming g.may alive) left h.1))
         (value_follows true (bits_of (kind_of left)) left h.1 o.one) (value_follows true (bits_of (kind_of right)) right h.2 o.other)
     value_follows quiet bits (T.LogicalAnd' ty p left q right) h c =
         let o = and_operands ty p q left right c in
-        logical_value false ty quiet bits left right (λ v after. and_then ty.shape (type_of left).shape v (evaluated scope right) active after) h.0 h.1 h.2 o (λ v st. and_is ty.shape (type_of left).shape v (evaluated scope right) active st h.0.0 (scalar_of g.may left h.1))
+        logical_value false ty quiet bits left right (λ v after. and_then ty.shape (type_of left).shape v (evaluated scope right) active after) h.0 h.1 h.2 o (λ v st. and_is ty.shape (type_of left).shape v (evaluated scope right) active st h.0.0 (scalar_of (naming g.may alive) left h.1))
         (value_follows true (bits_of (kind_of left)) left h.1 o.one) (value_follows true (bits_of (kind_of right)) right h.2 o.other)
     value_follows quiet bits (T.Choice' ty p test q first r second) h c =
         let o = choice_parts ty p q r test first second c in
@@ -544,11 +545,11 @@ module _ (g : Setting) (has : HasRegisters g) (alive : Variable → Type 0) (n :
     value_follows quiet bits (T.Assign' ty place op p _ q value) h c = absurd h.2
     value_follows quiet bits (T.Step' ty op order p (T.Variable tty x)) h c = step_value_follows quiet bits ty tty op order p x h.2 h.1 (target_named tty x (step_names ty op order p (T.Variable tty x) c))
     value_follows quiet bits (T.Step' ty op order p _) h c = absurd h.2
-    value_follows quiet bits (T.Call' ty index p arguments) h c = call_value g has alive n lives ready scope active calls_follow quiet bits ty index p arguments h.0 h.1 (arguments_do true (are_quiet arguments) arguments h.2 (call_code g has alive n lives ready scope active calls_follow ty index p arguments c)) c
+    value_follows quiet bits (T.Call' ty index p arguments) h c = call_value g has alive n files ready scope active calls_follow quiet bits ty index p arguments h.0 h.1 (arguments_do true (are_quiet arguments) arguments h.2 (call_code g has alive n files ready scope active calls_follow ty index p arguments c)) c
     value_follows quiet bits _ h c = absurd h
 
     -- each argument is done as one of a list
-    pub arguments_do : {k : Count} (own quiet : Bool) (row : Row_of-TExpr k) → (AreIn g.may) row → HaveCode g.typed g.instance n row → AreDone g has alive scope active own quiet row
+    pub arguments_do : {k : Count} (own quiet : Bool) (row : Row_of-TExpr k) → (AreIn (naming g.may alive)) row → HaveCode g.typed g.instance n row → AreDone g has alive scope active own quiet row
     arguments_do own quiet end_of-TExpr h c = tt
     arguments_do own quiet (more_of-TExpr e rest) h c = (
       record {
@@ -558,5 +559,5 @@ module _ (g : Setting) (has : HasRegisters g) (alive : Variable → Type 0) (n :
       arguments_do own quiet rest h.1 c.1,
     )
 
-  pub operand : (quiet : Bool) (bits : ℕ) (e : TExpr) → (IsIn g.may) e → HasCode g.typed g.instance n e → Does g has alive (type_of e).elem quiet (λ st. evaluated scope e active st) (λ d. operand_by g.typed (layout g) bits (value_of g.typed (layout g) bits e) quiet e d)
+  pub operand : (quiet : Bool) (bits : ℕ) (e : TExpr) → (IsIn (naming g.may alive)) e → HasCode g.typed g.instance n e → Does g has alive (type_of e).elem quiet (λ st. evaluated scope e active st) (λ d. operand_by g.typed (layout g) bits (value_of g.typed (layout g) bits e) quiet e d)
   operand quiet bits e h c = operand_value quiet bits e h c (value_follows quiet bits e h c)

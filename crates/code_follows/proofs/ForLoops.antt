@@ -5,6 +5,7 @@ use Rattle.cstar_tree.specs.declared.typed.TExpr.{TExpr}
 use Rattle.cstar_tree.specs.declared.typed.TStmt.{TStmt}
 use Rattle.cstar_tree.specs.declared.typed.TStmt as S
 use Rattle.cstar_tree.specs.declared.typed.VarInfo.{VarInfo}
+use Rattle.cstar_tree.specs.declared.typed.Variable.TheVariants as V
 use Rattle.cstar_tree.specs.declared.typed.Variable.{Variable}
 use Rattle.cstar_tree.specs.Variables.{variables_of}
 use Rattle.code_lengths.specs.Agreement.{StandsAmong}
@@ -35,7 +36,7 @@ use Rattle.source_meaning.specs.State as Source
 use Rattle.source_meaning.specs.State.{Outcome, State, spend_turn, then_do}
 use Rattle.source_meaning.specs.Statements.{Leaving, Onward, done, executed, passes, passes_or_absent, rounds, then_go, then_round}
 use Rattle.source_meaning.specs.Values.{Active, Scope, Value, nonzero, number}
-use Rattle.code_follows.specs.Fragment.{IsEffect, IsIn, IsTested}
+use Rattle.code_follows.specs.Fragment.{IsEffect, IsIn, IsTested, naming}
 use Rattle.code_follows.proofs.Assigning.{effect_follows}
 use Rattle.code_follows.proofs.Choices.{Agrees}
 use Rattle.code_follows.proofs.Executing.{Left, RanOn, follows_from}
@@ -48,7 +49,7 @@ use Rattle.code_follows.proofs.Settings.{At, Setting, and_one, code_more, earlie
 use Rattle.code_follows.proofs.Starting.{go_after}
 use Rattle.code_follows.proofs.Statements.{MadeSo, StandsIn, do_body, do_test, statement_made}
 
-module _ (g : Setting) (has : HasRegisters g) (alive : Variable → Type 0) (every : (x : Variable) → alive x) (numbers : NumbersVariables g.instance (layout g)) (ready : (n : ℕ) (d : Draft) → IsReady g.typed g.instance (layout g) n d)
+module _ (g : Setting) (has : HasRegisters g) (alive : Variable → Type 0) (files : (k : ℕ) → alive (V.File k)) (numbers : NumbersVariables g.instance (layout g)) (ready : (n : ℕ) (d : Draft) → IsReady g.typed g.instance (layout g) n d)
     (declares : (n : ℕ) (d : Draft) → d.homes ≡ [] → HasDeclared g.typed g.instance (layout g) n d) (scope : Scope) (active : Active) (calls_follow : CallsFollow g scope active)
     (falls : (s : TStmt) (n : ℕ) (st : State) → (state_after (executed scope s n active st)).turns ≤ st.turns) where
   -- ---- an expression that may be left out
@@ -75,11 +76,11 @@ module _ (g : Setting) (has : HasRegisters g) (alive : Variable → Type 0) (eve
   effect_ran d s (Source.Gives v u) Fails h = tt
   effect_ran d s (Source.Ends early u) Fails h = tt
 
-  part_follows : (n : ℕ) (o : Option TExpr) → IfSome o (IsEffect g.may) → IfSome o (HasCode g.typed g.instance n) → (d : Draft) (s : CodeState) (st : State) → g.begins ≤ d.regs → At g s (length d.code) → Sim g alive st s
+  part_follows : (n : ℕ) (o : Option TExpr) → IfSome o (IsEffect (naming g.may alive)) → IfSome o (HasCode g.typed g.instance n) → (d : Draft) (s : CodeState) (st : State) → g.begins ≤ d.regs → At g s (length d.code) → Sim g alive st s
       → Follows g (RanOn g alive d s) s (done scope active o st) (part_of g.typed (layout g) o d)
   unfolding done part_of Follows
   part_follows n None h c d s st free here sim = λ within. (refl, record { grown = (0, as_it_was d); t = s; go = stay g s; at = here; sim = sim; keeps = keeps_all g d s })
-  part_follows n (Some e) h c d s st free here sim = effect_ran d s (evaluated scope e active st) (effect_of g.typed (layout g) e d) (effect_follows g has alive n (λ x within. every x) (ready n) scope active calls_follow e h c d s st free here sim)
+  part_follows n (Some e) h c d s st free here sim = effect_ran d s (evaluated scope e active st) (effect_of g.typed (layout g) e d) (effect_follows g has alive n files (ready n) scope active calls_follow e h c d s st free here sim)
 
   part_falls : (n : ℕ) (o : Option TExpr) (st : State) → (state_after (done scope active o st)).turns ≤ st.turns
   unfolding done executed state_after
@@ -109,27 +110,27 @@ module _ (g : Setting) (has : HasRegisters g) (alive : Variable → Type 0) (eve
   tested_code n None shaped lowerable names = tt
   tested_code n (Some e) shaped lowerable names = record { shaped = shaped; lowerable = lowerable.1; names = names }
 
-  module _ (first step test : Option TExpr) (p : Boxed) (body : TStmt) (begins : IfSome first (IsEffect g.may)) (isin : (IsTested g.may) test) (steps : IfSome step (IsEffect g.may)) (agrees : Agrees g has alive every numbers ready declares scope active calls_follow body) where
+  module _ (n : ℕ) (first step test : Option TExpr) (p : Boxed) (body : TStmt) (begins : IfSome first (IsEffect (naming g.may alive))) (isin : (IsTested (naming g.may alive)) test) (steps : IfSome step (IsEffect (naming g.may alive))) (agrees : Agrees g has alive files numbers ready declares scope active calls_follow n body) where
     abbrev whole : TStmt
     whole = S.For' first test step p body
 
     -- what has code of its parts
-    record ForCode (n : ℕ) : Type 0 where
+    record ForCode : Type 0 where
       pub first_code : IfSome first (HasCode g.typed g.instance n)
       pub test_code : IfSome test (HasCode g.typed g.instance n)
       pub step_code : IfSome step (HasCode g.typed g.instance n)
       pub body_code : HasStatementCode g.typed g.instance n body
 
-    for_code : (n : ℕ) → HasStatementCode g.typed g.instance n whole → ForCode n
+    for_code : HasStatementCode g.typed g.instance n whole → ForCode
     unfolding IsShapedStatement IsLowerableStatement StatementNamesVariables IsShapedPart
-    for_code n c = record {
+    for_code c = record {
       first_code = part_code n first c.shaped.0 c.lowerable.0 c.names.0;
       test_code = tested_code n test c.shaped.1 c.lowerable.1 c.names.1;
       step_code = part_code n step c.shaped.2 c.lowerable.2 c.names.2;
       body_code = record { shaped = c.shaped.3; lowerable = c.lowerable.3; names = c.names.3; stands = subst (λ (own : List VarInfo). StandFrom (variables_of g.instance.body) n own) (of_for first test step p body) c.stands };
     }
 
-    module _ (f : Frame) (n : ℕ) (d : Draft) (framed : StandsIn g f) (among : StandsAmong f []) (none : d.homes ≡ []) (c : ForCode n) where
+    module _ (f : Frame) (d : Draft) (framed : StandsIn g f) (among : StandsAmong f []) (none : d.homes ≡ []) (c : ForCode) where
       made_first : PartMade first d
       made_first = part_made n first d c.first_code
 
@@ -176,8 +177,8 @@ module _ (g : Setting) (has : HasRegisters g) (alive : Variable → Type 0) (eve
       made_step : PartMade step made_body.e
       made_step = part_made n step made_body.e c.step_code
 
-      made_back : BackMade g alive has every n (ready n) scope active calls_follow test turn made_step.e
-      made_back = back_made g alive has every n (ready n) scope active calls_follow test turn made_step.e isin c.test_code
+      made_back : BackMade g alive has files n (ready n) scope active calls_follow test turn made_step.e
+      made_back = back_made g alive has files n (ready n) scope active calls_follow test turn made_step.e isin c.test_code
 
       abbrev behind_loop : Draft
       behind_loop = made_back.e
@@ -237,44 +238,44 @@ module _ (g : Setting) (has : HasRegisters g) (alive : Variable → Type 0) (eve
           delayed g (Left g alive f made_first.e t) behind_loop t go_round (Makes (behind n body) behind_loop) (0, as_it_was behind_loop) (λ within.
           loop_runs g alive scope active (passes_or_absent scope active test) body n (behind n body) (tests_fall n test) inner made_first.e enters made_body.e made_step.e behind_loop turn (λ v. done scope active step v) within so.3 so.0 so.2 long (part_length_of g.typed (layout g) step) (condition_length_of g.typed (layout g) test + 1) made_body.extended made_step.extended made_back.extended (omega (arith, regs1, regs2))
           (falls body n)
-          (λ s v here_s sim_s. subst (λ (m : Made ℕ). Follows g (Left g alive inner before_body s) s (executed scope body n active v) m) made_body.is (agrees inner n before_body s v inner_frame inner_among begin_homes (omega (arith, free, regs1, regs2)) here_s sim_s c.body_code))
+          (λ s v here_s sim_s. subst (λ (m : Made ℕ). Follows g (Left g alive inner before_body s) s (executed scope body n active v) m) made_body.is (agrees inner before_body s v inner_frame inner_among begin_homes (omega (arith, free, regs1, regs2)) here_s sim_s c.body_code))
           (part_falls n step)
           (λ s v here_s sim_s. subst (λ (m : Made (Unit {0})). Follows g (RanOn g alive made_body.e s) s (done scope active step v) m) made_step.is (part_follows n step steps c.step_code made_body.e s v (omega (arith, free, regs1, regs2, longer)) here_s sim_s))
           (λ s v here_s sim_s. made_back.leads (omega (arith, free, regs1, regs2, longer, more)) within s v here_s sim_s)
           f (behind n body) steps_in_all t (moved_to g alive (place + start g) t) u all_grown (jumps g alive place made_first.e t (earlier g enters behind_loop (1 + (long + (part_length_of g.typed (layout g) step + (condition_length_of g.typed (layout g) test + 1)))) enters_grown within) at)
           (keeps_all g made_first.e t) (omega (arith, at_test)) (sim_moved g alive u t (place + start g) sim))
 
-    pub for_agrees : Agrees g has alive every numbers ready declares scope active calls_follow whole
+    pub for_agrees : Agrees g has alive files numbers ready declares scope active calls_follow n whole
     unfolding executed statement_of then_make Extends
-    for_agrees f n d s0 st framed among none free at sim code =
-        let c = for_code n code in
-        let b = made_first f n d framed among none c in
+    for_agrees f d s0 st framed among none free at sim code =
+        let c = for_code code in
+        let b = made_first f d framed among none c in
         let longer = b.extended.regs in
         let go_round : State → Outcome Leaving = λ u. rounds u.turns (passes_or_absent scope active test) (λ v. executed scope body n active v) (λ v. done scope active step v) u in
-        subst (λ (m : Made (Unit {0})). Follows g (Left g alive f d s0) s0 (then_go (done scope active first st) go_round) (then_make m (λ u begun. loop_code f n d framed among none c begun))) (sym b.is)
-        (subst (λ (m : Made ℕ). Follows g (Left g alive f d s0) s0 (then_go (done scope active first st) go_round) m) (sym (loop_is f n d framed among none c))
-        (go_after g has alive every ready scope active calls_follow d s0 (Left g alive f d s0) (done scope active first st) go_round tt b.e (Makes (behind n body) (behind_loop f n d framed among none c))
+        subst (λ (m : Made (Unit {0})). Follows g (Left g alive f d s0) s0 (then_go (done scope active first st) go_round) (then_make m (λ u begun. loop_code f d framed among none c begun))) (sym b.is)
+        (subst (λ (m : Made ℕ). Follows g (Left g alive f d s0) s0 (then_go (done scope active first st) go_round) m) (sym (loop_is f d framed among none c))
+        (go_after g has alive files ready scope active calls_follow d s0 (Left g alive f d s0) (done scope active first st) go_round tt b.e (Makes (behind n body) (behind_loop f d framed among none c))
         (subst (λ (m : Made (Unit {0})). Follows g (RanOn g alive d s0) s0 (done scope active first st) m) b.is (part_follows n first begins c.first_code d s0 st free at sim))
-        (steps_in_all f n d framed among none c, all_grown f n d framed among none c)
-        (λ u ran. follows_from g alive f d b.e ran.grown.0 s0 ran.t (go_round u) (Makes (behind n body) (behind_loop f n d framed among none c)) ran.grown.1 ran.go ran.keeps (turns_follow f n d framed among none c ran.t u (omega (arith, free, longer)) ran.at ran.sim))))
+        (steps_in_all f d framed among none c, all_grown f d framed among none c)
+        (λ u ran. follows_from g alive f d b.e ran.grown.0 s0 ran.t (go_round u) (Makes (behind n body) (behind_loop f d framed among none c)) ran.grown.1 ran.go ran.keeps (turns_follow f d framed among none c ran.t u (omega (arith, free, longer)) ran.at ran.sim))))
 
   -- `while` is `for` with its condition alone
-  module _ (test : TExpr) (p : Boxed) (body : TStmt) (isin : (IsIn g.may) test) (agrees : Agrees g has alive every numbers ready declares scope active calls_follow body) where
+  module _ (n : ℕ) (test : TExpr) (p : Boxed) (body : TStmt) (isin : (IsIn (naming g.may alive)) test) (agrees : Agrees g has alive files numbers ready declares scope active calls_follow n body) where
     abbrev as_for : TStmt
     as_for = S.For' None (Some test) None p body
 
-    while_code : (n : ℕ) → HasStatementCode g.typed g.instance n (S.While' test p body) → HasStatementCode g.typed g.instance n as_for
+    while_code : HasStatementCode g.typed g.instance n (S.While' test p body) → HasStatementCode g.typed g.instance n as_for
     unfolding IsShapedStatement IsLowerableStatement StatementNamesVariables IsShapedPart
-    while_code n c = record {
+    while_code c = record {
       shaped = (tt, c.shaped.0, tt, c.shaped.1);
       lowerable = (tt, c.lowerable.0, tt, c.lowerable.1);
       names = (tt, c.names.0, tt, c.names.1);
       stands = subst (λ (own : List VarInfo). StandFrom (variables_of g.instance.body) n own) (of_while test p body ∙ sym (of_for None (Some test) None p body)) c.stands;
     }
 
-    same_code : (f : Frame) (n : ℕ) (d : Draft) → statement_of g.typed (layout g) as_for f [] n d ≡ statement_of g.typed (layout g) (S.While' test p body) f [] n d
+    same_code : (f : Frame) (d : Draft) → statement_of g.typed (layout g) as_for f [] n d ≡ statement_of g.typed (layout g) (S.While' test p body) f [] n d
     unfolding statement_of part_of part_length_of condition_length_of then_make
-    same_code f n d =
+    same_code f d =
         let turn = here d + 1 in
         let next = turn + statement_length_of g.typed (layout g) (has_result f) (at_loop f.saved) body + 1 in
         ap (λ (place : ℕ). then_make (statement_of g.typed (layout g) body (in_loop next (place + used_length_of g.typed (layout g) 32 true test + 1) f) [] n (with_instr I.FrontTurn (with_instr (I.FrontJump place) d)))
@@ -283,15 +284,15 @@ module _ (g : Setting) (has : HasRegisters g) (alive : Variable → Type 0) (eve
         nothing_more : (k : ℕ) → k + 0 ≡ k
         nothing_more k = omega arith
 
-    pub while_agrees : Agrees g has alive every numbers ready declares scope active calls_follow (S.While' test p body)
+    pub while_agrees : Agrees g has alive files numbers ready declares scope active calls_follow n (S.While' test p body)
     unfolding executed done passes_or_absent then_go IsTested
-    while_agrees f n d s0 st framed among none free at sim c =
-        subst (λ (m : Made ℕ). Follows g (Left g alive f d s0) s0 (rounds st.turns (passes scope active test) (λ u. executed scope body n active u) (λ u. Source.Gives Onward u) st) m) (same_code f n d)
-        (for_agrees None None (Some test) p body tt isin tt agrees f n d s0 st framed among none free at sim (while_code n c))
+    while_agrees f d s0 st framed among none free at sim c =
+        subst (λ (m : Made ℕ). Follows g (Left g alive f d s0) s0 (rounds st.turns (passes scope active test) (λ u. executed scope body n active u) (λ u. Source.Gives Onward u) st) m) (same_code f d)
+        (for_agrees n None None (Some test) p body tt isin tt agrees f d s0 st framed among none free at sim (while_code c))
 
   -- `do`
-  module _ (test : TExpr) (p : Boxed) (body : TStmt) (isin : (IsIn g.may) test) (agrees : Agrees g has alive every numbers ready declares scope active calls_follow body) where
-    module _ (f : Frame) (n : ℕ) (d : Draft) (framed : StandsIn g f) (among : StandsAmong f []) (none : d.homes ≡ []) (c : HasStatementCode g.typed g.instance n (S.Do' p body test)) where
+  module _ (n : ℕ) (test : TExpr) (p : Boxed) (body : TStmt) (isin : (IsIn (naming g.may alive)) test) (agrees : Agrees g has alive files numbers ready declares scope active calls_follow n body) where
+    module _ (f : Frame) (d : Draft) (framed : StandsIn g f) (among : StandsAmong f []) (none : d.homes ≡ []) (c : HasStatementCode g.typed g.instance n (S.Do' p body test)) where
       abbrev do_long : ℕ
       do_long = statement_length_of g.typed (layout g) (has_result f) (at_loop f.saved) body
 
@@ -326,9 +327,9 @@ module _ (g : Setting) (has : HasRegisters g) (alive : Variable → Type 0) (eve
       unfolding in_loop has_result
       made_do = statement_made g numbers declares body do_inner n do_before do_frame do_among (do_body g numbers declares n p body test c) do_homes
 
-      made_while : BackMade g alive has every n (ready n) scope active calls_follow (Some test) do_turn made_do.e
+      made_while : BackMade g alive has files n (ready n) scope active calls_follow (Some test) do_turn made_do.e
       unfolding IsTested
-      made_while = back_made g alive has every n (ready n) scope active calls_follow (Some test) do_turn made_do.e isin (do_test g numbers declares n p body test c)
+      made_while = back_made g alive has files n (ready n) scope active calls_follow (Some test) do_turn made_do.e isin (do_test g numbers declares n p body test c)
 
       abbrev behind_do : Draft
       behind_do = made_while.e
@@ -364,14 +365,14 @@ module _ (g : Setting) (has : HasRegisters g) (alive : Variable → Type 0) (eve
           delayed g (Left g alive f d t) behind_do t go_round (Makes (behind n body) behind_do) (0, as_it_was behind_do) (λ within.
           do_runs g alive scope active (passes scope active test) body n (behind n body) (test_falls n test) do_inner d d made_do.e made_do.e behind_do do_turn (λ v. Source.Gives Onward v) within so.2 so.0 so.1 do_long 0 (used_length_of g.typed (layout g) 32 true test + 1) made_do.extended (as_it_was made_do.e) made_while.extended (omega (arith, regs1))
           (falls body n)
-          (λ s v here_s sim_s. subst (λ (m : Made ℕ). Follows g (Left g alive do_inner do_before s) s (executed scope body n active v) m) made_do.is (agrees do_inner n do_before s v do_frame do_among do_homes (omega (arith, free, regs1)) here_s sim_s (do_body g numbers declares n p body test c)))
+          (λ s v here_s sim_s. subst (λ (m : Made ℕ). Follows g (Left g alive do_inner do_before s) s (executed scope body n active v) m) made_do.is (agrees do_inner do_before s v do_frame do_among do_homes (omega (arith, free, regs1)) here_s sim_s (do_body g numbers declares n p body test c)))
           (λ v. omega arith)
           (λ s v here_s sim_s within_s. (refl, record { grown = (0, as_it_was made_do.e); t = s; go = stay g s; at = here_s; sim = sim_s; keeps = keeps_all g made_do.e s }))
           (λ s v here_s sim_s. made_while.leads (omega (arith, free, regs1, longer)) within s v here_s sim_s)
           f (behind n body) _ t u refl do_grown at sim)
 
-    pub do_agrees : Agrees g has alive every numbers ready declares scope active calls_follow (S.Do' p body test)
+    pub do_agrees : Agrees g has alive files numbers ready declares scope active calls_follow n (S.Do' p body test)
     unfolding executed
-    do_agrees f n d s0 st framed among none free at sim c =
-        subst (λ (m : Made ℕ). Follows g (Left g alive f d s0) s0 (then_round (spend_turn st (λ v. executed scope body n active v)) (λ s. rounds s.turns (passes scope active test) (λ v. executed scope body n active v) (λ v. Source.Gives Onward v) s)) m) (sym (do_is f n d framed among none c))
-        (do_follows f n d framed among none c s0 st free at sim)
+    do_agrees f d s0 st framed among none free at sim c =
+        subst (λ (m : Made ℕ). Follows g (Left g alive f d s0) s0 (then_round (spend_turn st (λ v. executed scope body n active v)) (λ s. rounds s.turns (passes scope active test) (λ v. executed scope body n active v) (λ v. Source.Gives Onward v) s)) m) (sym (do_is f d framed among none c))
+        (do_follows f d framed among none c s0 st free at sim)

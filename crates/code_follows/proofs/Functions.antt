@@ -5,7 +5,6 @@ use Rattle.cstar_tree.specs.declared.typed.Instance.{Instance}
 use Rattle.cstar_tree.specs.declared.typed.TStmt.{TStmt}
 use Rattle.cstar_tree.specs.declared.typed.Typed.{Typed}
 use Rattle.cstar_tree.specs.declared.typed.VarInfo.{VarInfo}
-use Rattle.cstar_tree.specs.declared.typed.Variable.{Variable}
 use Rattle.code_lengths.specs.Agreement.{StandsAmong}
 use Rattle.code_lengths.specs.Ready.{HasDeclared, IsCodable, IsReady, NumbersVariables}
 use Rattle.lower_base.specs.Drafts.{Draft, Fails, Made, Makes, then_make}
@@ -26,7 +25,7 @@ use Rattle.source_meaning.specs.State as Source
 use Rattle.source_meaning.specs.State.{Outcome, State}
 use Rattle.source_meaning.specs.Statements.{Broke, Continued, Leaving, Onward, Returned, executed}
 use Rattle.source_meaning.specs.Values.{Active, Scope, Value}
-use Rattle.code_follows.specs.Fragment.{IsScalarProgram}
+use Rattle.code_follows.specs.Fragment.{IsScalarProgram, OfFileOrParam}
 use Rattle.code_follows.proofs.Activations.{activation, registers_there, scalars, words}
 use Rattle.code_follows.proofs.Closed.{NoJump}
 use Rattle.code_follows.proofs.Endings.{NeverOnward}
@@ -57,12 +56,6 @@ module _ (t : Typed) (image : Image) (p : IsScalarProgram t) (codable : IsCodabl
 
   pub has : HasRegisters g
   has = registers_there t image p codable compiled number i is returns most
-
-  abbrev pub every_one : Variable → Type 0
-  every_one x = Unit {0}
-
-  pub every : (x : Variable) → every_one x
-  every x = tt
 
   abbrev pub own : Layout
   own = layout_of t (words t image p codable compiled) number
@@ -115,12 +108,12 @@ module _ (t : Typed) (image : Image) (p : IsScalarProgram t) (codable : IsCodabl
 
   -- the code comes to where the function is left, or the run ends before
   unfoldable pub RunsFunction : CodeState → Outcome Leaving → Type 0
-  RunsFunction s (Source.Gives leaving u) = Returns g every_one s u (given_back leaving)
+  RunsFunction s (Source.Gives leaving u) = Returns g OfFileOrParam s u (given_back leaving)
   RunsFunction s (Source.Ends early u) = Finishes g early u s
 
-  pub runs_function : (d e : Draft) (n : ℕ) (s : CodeState) (o : Outcome Leaving) → EndsSo o e → NoJump o → Follows g (Left g every_one frame d s) s o (Makes n e) → RunsFunction s o
+  pub runs_function : (d e : Draft) (n : ℕ) (s : CodeState) (o : Outcome Leaving) → EndsSo o e → NoJump o → Follows g (Left g OfFileOrParam frame d s) s o (Makes n e) → RunsFunction s o
   unfolding Follows RunsFunction Left NoJump given_back
-  runs_function d e n s (Source.Gives Onward u) so closed follows = left_at_end g every_one d e s u (so.last u refl) (follows so.inside)
+  runs_function d e n s (Source.Gives Onward u) so closed follows = left_at_end g OfFileOrParam d e s u (so.last u refl) (follows so.inside)
   runs_function d e n s (Source.Gives Broke u) so closed follows = absurd closed
   runs_function d e n s (Source.Gives Continued u) so closed follows = absurd closed
   runs_function d e n s (Source.Gives (Returned v) u) so closed follows = follows so.inside

@@ -10,10 +10,11 @@ use Rattle.cstar_tree.specs.declared.typed.Piece.TheVariants as Pc
 use Rattle.cstar_tree.specs.declared.typed.TExpr.{TExpr, Row_of-TExpr, end_of-TExpr, more_of-TExpr}
 use Rattle.cstar_tree.specs.declared.typed.TExpr as T
 use Rattle.cstar_tree.specs.declared.typed.ValueType.{ValueType}
+use Rattle.cstar_tree.specs.declared.typed.Variable.TheVariants as V
 use Rattle.cstar_tree.specs.declared.typed.Variable.{Variable}
 use Rattle.code_lengths.specs.Growth.{Extended}
 use Rattle.code_lengths.specs.Lowerable.{IsLowerable}
-use Rattle.code_lengths.specs.Naming.{IsDeclared, NamesVariables}
+use Rattle.code_lengths.specs.Naming.{NamesVariables}
 use Rattle.code_lengths.specs.Shaped.{IsShaped}
 use Rattle.code_lengths.specs.Ready.{HasCode, HaveCode, IsReady}
 use Rattle.code_lengths.proofs.Drafting.{as_it_was, extended}
@@ -32,7 +33,7 @@ use Rattle.source_meaning.specs.Printing.{printed}
 use Rattle.source_meaning.specs.State as Source
 use Rattle.source_meaning.specs.State.{Outcome, State, then_do, with_output}
 use Rattle.source_meaning.specs.Values.{Active, Nothing, Scope, Value, number}
-use Rattle.code_follows.specs.Fragment.{AreIn, elems_of}
+use Rattle.code_follows.specs.Fragment.{AreIn, elems_of, naming}
 use Rattle.code_follows.proofs.CallValues.{arguments_code}
 use Rattle.code_follows.proofs.Expressions.{arguments_do}
 use Rattle.code_follows.proofs.Arguments.{AreHeld, Given, arguments_follow}
@@ -42,7 +43,7 @@ use Rattle.code_follows.proofs.Settings.{At, Reaches, Setting, and_one, at_next,
 use Rattle.code_follows.proofs.Values.{extends_in_register}
 use Rattle.code_follows.proofs.Words.{below_word, held_wide}
 
-module _ (g : Setting) (has : HasRegisters g) (alive : Variable → Type 0) (n : ℕ) (lives : (x : Variable) → IsDeclared n x → alive x) (ready : (d : Draft) → IsReady g.typed g.instance (layout g) n d) (scope : Scope) (active : Active) (calls_follow : CallsFollow g scope active) where
+module _ (g : Setting) (has : HasRegisters g) (alive : Variable → Type 0) (n : ℕ) (files : (k : ℕ) → alive (V.File k)) (ready : (d : Draft) → IsReady g.typed g.instance (layout g) n d) (scope : Scope) (active : Active) (calls_follow : CallsFollow g scope active) where
   -- ---- the pieces
 
   -- the words stand in the registers, whatever is printed
@@ -124,13 +125,13 @@ module _ (g : Setting) (has : HasRegisters g) (alive : Variable → Type 0) (n :
 
   -- ---- the whole
 
-  pub printf_follows : {k : Count} (pieces : List Piece) (row : Row_of-TExpr k) → (AreIn g.may) row → All (λ (elem : Elem). elem.bits ≡ 32) (elems_of row) → HaveCode g.typed g.instance n row → (d : Draft) (s : CodeState) (st : State) → g.begins ≤ d.regs → At g s (length d.code) → Sim g alive st s
+  pub printf_follows : {k : Count} (pieces : List Piece) (row : Row_of-TExpr k) → (AreIn (naming g.may alive)) row → All (λ (elem : Elem). elem.bits ≡ 32) (elems_of row) → HaveCode g.typed g.instance n row → (d : Draft) (s : CodeState) (st : State) → g.begins ≤ d.regs → At g s (length d.code) → Sim g alive st s
       → Follows g (λ v u out e. Ran g alive d s u e) s (then_do (operands scope row active st) (λ given after. Source.Gives Nothing (with_output (printed pieces (map number (given_values given))) after))) (then_make (values_of g.typed (layout g) false (are_quiet row) row [] d) (λ given after. pieces_printed pieces given after))
   printf_follows pieces row isin wide c d s st free here sim =
-      then_follows g (Given g has alive scope active (are_quiet row) (elems_of row) d s st []) (λ v u out e. Ran g alive d s u e) s s (operands scope row active st) _ _ _ (stay g s) (arguments_follow g has alive scope active false (are_quiet row) row (λ is. is) (arguments_do g has alive n lives ready scope active calls_follow false (are_quiet row) row isin c) [] d s st free here sim) (λ given e. pieces_grow pieces given e)
+      then_follows g (Given g has alive scope active (are_quiet row) (elems_of row) d s st []) (λ v u out e. Ran g alive d s u e) s s (operands scope row active st) _ _ _ (stay g s) (arguments_follow g has alive scope active false (are_quiet row) row (λ is. is) (arguments_do g has alive n files ready scope active calls_follow false (are_quiet row) row isin c) [] d s st free here sim) (λ given e. pieces_grow pieces given e)
       (λ given u all e r. subst (λ (outs : List Out). Follows g (λ v w out f. Ran g alive d s w f) s (Source.Gives Nothing (with_output (printed pieces (map number (given_values given))) u)) (pieces_printed pieces outs e)) (sym r.is)
       (from_before d e r.grown.0 s r.t _ _ r.grown.1 r.go r.keeps (pieces_follow pieces (map number (given_values given)) r.more e r.t u r.at r.sim (stand_now (are_quiet row) given r.more e u r.t r.sim (subst (λ (es : List Elem). All (λ (elem : Elem). elem.bits ≡ 32) es) (sym r.are_of) wide) r.held))))
 
   pub printf_code : (ty : ValueType) (pieces : Vec Piece Global) (p : Vec (Unit {0}) Global) (row : _) → HasCode g.typed g.instance n (T.Printf' ty pieces p row) → HaveCode g.typed g.instance n row
   unfolding IsShaped IsLowerable NamesVariables
-  printf_code ty pieces p row c = arguments_code g has alive n lives ready scope active calls_follow row c.shaped c.lowerable.2 c.names
+  printf_code ty pieces p row c = arguments_code g has alive n files ready scope active calls_follow row c.shaped c.lowerable.2 c.names

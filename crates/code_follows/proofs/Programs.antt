@@ -1,6 +1,6 @@
 -- The run of a whole program.
 use mathlib.Core.Former.{Count}
-use Rattle.std.proofs.Common.{◌≡◌, ◌∙◌, ℕ, zero, ◌+◌, ◌<◌, ◌≤◌, ◌^◌, ◌&&◌, if◌then◌else◌, nat_lt, Bool, true, false, List, [], ◌∷◌, map, length, slice_get, slice_index, Option, Some, None, refl, sym, ap, subst, arith}
+use Rattle.std.proofs.Common.{◌≡◌, ◌∙◌, ℕ, zero, ◌+◌, ◌<◌, ◌≤◌, ◌^◌, ◌&&◌, if◌then◌else◌, nat_lt, Bool, true, false, List, [], ◌∷◌, map, length, slice_get, slice_index, Option, Some, None, refl, sym, ap, subst, arith, inl, inr}
 use Rattle.std.proofs.lemmas.List.{get_or-replicate, length-replicate}
 use Rattle.std.specs.Prelude.{nat_le}
 use Rattle.cstar_base.specs.declared.operators.Winner.{Winner}
@@ -33,19 +33,19 @@ use Rattle.source_meaning.specs.State.{Outcome, State, is_among, then_do, zeroed
 use Rattle.source_meaning.specs.Statements.{Leaving, executed, initialised}
 use Rattle.source_meaning.specs.Values.{Active}
 use Rattle.code_follows.specs.Agreement.{AreBytes, CodeMeansSource, ComesTo, end_of, mark_of}
-use Rattle.code_follows.specs.Fragment.{IsBody, IsPlainVariable, IsScalarProgram}
+use Rattle.code_follows.specs.Fragment.{IsBody, IsPlainVariable, IsScalarProgram, IsInStatement, OfFileOrParam, OrAmong, within}
 use Rattle.code_follows.proofs.Activations.{scalars, words}
 use Rattle.code_follows.proofs.Beginnings.{starts_grow, starts_run}
-use Rattle.code_follows.proofs.Bodies.{begun_code, begun_follows, begun_grows, block_code, block_initials, block_stands, row_follows}
+use Rattle.code_follows.proofs.Bodies.{begun_code, begun_follows, begun_grows, block_code, block_initials, block_stands, row_follows, follows_fewer}
 use Rattle.code_follows.proofs.Callees.{CallsFollow}
 use Rattle.code_follows.proofs.Closed.{NoJump, begins_closed, closed_row, go_closed}
 use Rattle.code_follows.proofs.ConstantRegisters.{constant_at}
-use Rattle.code_follows.proofs.Declaring.{Started, sim_fewer, sim_same}
+use Rattle.code_follows.proofs.Declaring.{among_before, sim_fewer, sim_same}
 use Rattle.code_follows.proofs.Endings.{NeverOnward, body_never, never_second}
-use Rattle.code_follows.proofs.Entering.{calls_so, enters_so}
+use Rattle.code_follows.proofs.Entering.{calls_so, enters_so, before_all}
 use Rattle.code_follows.proofs.Executing.{Left}
 use Rattle.code_follows.proofs.Following.{held, Extends, Follows, Sim}
-use Rattle.code_follows.proofs.Functions.{BodyMade, EndsSo, RunsFunction, among, body_made, declares, ends_by, every, falls, frame, framed, g, has, numbered, own, ready, runs_function, scope}
+use Rattle.code_follows.proofs.Functions.{BodyMade, EndsSo, RunsFunction, among, body_made, declares, ends_by, falls, frame, framed, g, has, numbered, own, ready, runs_function, scope}
 use Rattle.code_follows.proofs.Openings.{constants_run}
 use Rattle.std.proofs.lemmas.Nat.{pow_pos}
 use Rattle.source_meaning.specs.Reductions.{int_type}
@@ -53,7 +53,7 @@ use Rattle.code_follows.proofs.Numbers.{zero_converted}
 use Rattle.code_follows.proofs.Regions.{base_behind, base_inside, behind_files, below}
 use Rattle.code_follows.proofs.Settings.{At, EndsIn, Reaches, Setting, Within, earlier, ends_later, ends_now, onto, start}
 use Rattle.code_follows.proofs.Standing.{start_in}
-use Rattle.code_follows.proofs.Starting.{none_cleared}
+use Rattle.code_follows.proofs.Starting.{none_cleared, Now, settled_so}
 use Rattle.code_follows.proofs.Units.{constants_grow, empty_unit, main_is, starts_homes, starts_regs, with_constants, with_starts}
 use Rattle.paris_code.specs.declared.program.Unit.{Unit as CodeUnit}
 
@@ -202,10 +202,11 @@ module _ (t : Typed) (image : Image) (p : IsScalarProgram t) (codable : IsCodabl
         zero_anyway false = refl
 
   runs : (body : TStmt) → p.main.body ≡ body → IsBody main_setting.may body → ComesTo image opened (run_from (executed (scope t image p codable compiled 0 p.main p.is_main [] turns) p.main.body 0 active in_main))
-  unfolding IsBody body_of body_frame declared_in then_make executed scope_of zeroed Extends
+  unfolding IsBody IsInStatement OfFileOrParam body_of body_frame declared_in then_make executed scope_of zeroed Extends
   runs (S.Block' locals q row) is h =
       let f = frame t image p codable compiled 0 p.main p.is_main [] turns in
-      let one = every t image p codable compiled 0 p.main p.is_main [] turns in
+      let wide : Variable → Type 0 = λ x. OrAmong OfFileOrParam 0 (length locals.items) x in
+      let one : (k : ℕ) → wide (V.File k) = λ k. inl tt in
       let has_it = has t image p codable compiled 0 p.main p.is_main [] turns in
       let numbers = numbered t image p codable compiled 0 p.main p.is_main [] turns in
       let is_ready = ready t image p codable compiled 0 p.main p.is_main [] turns in
@@ -217,31 +218,34 @@ module _ (t : Typed) (image : Image) (p : IsScalarProgram t) (codable : IsCodabl
       let homes = starts_homes t image (scalars t image p codable compiled) codable compiled p.main in
       let regs = starts_regs t image (scalars t image p codable compiled) codable compiled p.main in
       let c : HasStatementCode t p.main 0 (S.Block' locals q row) = subst (λ (s : TStmt). HasStatementCode t p.main 0 s) is (codable 0 p.main p.is_main).1 in
-      let own_row = block_code main_setting has_it alive one numbers is_ready declared here active main_calls never_rises 0 locals q row c in
-      let initial = block_initials main_setting has_it alive one numbers is_ready declared here active main_calls never_rises 0 locals q row c in
-      let stand = first_part (map info_of locals.items) (row_variables row) (block_stands main_setting has_it alive one numbers is_ready declared here active main_calls never_rises 0 locals q row c) in
-      let code : Made ℕ = begun_code main_setting has_it alive one numbers is_ready declared here active main_calls never_rises locals.items row f 0 begun_there in
+      let own_row = block_code main_setting has_it wide one numbers is_ready declared here active main_calls never_rises 0 locals q row c in
+      let initial = block_initials main_setting has_it wide one numbers is_ready declared here active main_calls never_rises 0 locals q row c in
+      let settled = settled_so main_setting has_it wide one is_ready here active main_calls OfFileOrParam locals.items 0 (λ x living. inl living) (λ x own. inr own) before_all h.0.1 in
+      let stand = first_part (map info_of locals.items) (row_variables row) (block_stands main_setting has_it wide one numbers is_ready declared here active main_calls never_rises 0 locals q row c) in
+      let code : Made ℕ = begun_code main_setting has_it wide one numbers is_ready declared here active main_calls never_rises locals.items row f 0 begun_there in
       let code_is : body_of t (own t image p codable compiled 0 p.main p.is_main [] turns) f p.main.body begun_there ≡ code =
       ap (λ (b : TStmt). body_of t (own t image p codable compiled 0 p.main p.is_main [] turns) f b begun_there) is
       ∙ ap (λ (m : Made (Unit {0})). then_make (then_make m (λ u between. then_make (all_initialised t (own t image p codable compiled 0 p.main p.is_main [] turns) locals.items 0 between) (λ v after. Makes (0 + length locals.items) after))) (λ number after. statements_of t (own t image p codable compiled 0 p.main p.is_main [] turns) row f [] number after))
-      (none_cleared main_setting has_it alive one is_ready here active main_calls locals.items 0 begun_there h.0) in
+      (none_cleared main_setting has_it wide one is_ready here active main_calls locals.items 0 begun_there h.0.0) in
       let made : BodyMade t image p codable compiled 0 p.main p.is_main [] turns code = body_made t image p codable compiled 0 p.main p.is_main [] turns code
       (sym (ap (λ (m : Made ℕ). then_make m (λ n e. Makes (tt {0}) (ended true p.main.body e))) code_is) ∙ main_is t image (scalars t image p codable compiled) codable compiled p.main p.is_main) in
       let whole : Outcome Leaving = executed here (S.Block' locals q row) 0 active in_main in
       let never : ends_in_return p.main.body ≡ true → NeverOnward whole =
       λ ends. never_second (initialised here active 0 locals.items _) _ (λ u. body_never here active locals q row (sym (ap (λ (x : TStmt). ends_in_return x) is) ∙ ends) (0 + length locals.items) u) in
       let ends : EndsSo t image p codable compiled 0 p.main p.is_main [] turns whole made.e = ends_by t image p codable compiled 0 p.main p.is_main [] turns whole made.e made.unit never in
-      let grown : (j : ℕ) × Extended begun_there j made.e = subst (λ (m : Made ℕ). Extends main_setting begun_there m) made.is_made (begun_grows main_setting has_it alive one numbers is_ready declared here active main_calls never_rises locals.items row f 0 begun_there h.0 initial own_row framed_so among_so homes) in
+      let grown : (j : ℕ) × Extended begun_there j made.e = subst (λ (m : Made ℕ). Extends main_setting begun_there m) made.is_made (begun_grows main_setting has_it wide one numbers is_ready declared here active main_calls never_rises locals.items row f 0 begun_there h.0.0 settled initial own_row framed_so among_so homes) in
       let opens = opened_so (earlier main_setting begun_there made.e grown.0 grown.1 ends.inside) in
-      let sim : Sim main_setting (Started locals.items 0) (begun_body locals.items row) opens.there =
-      sim_fewer main_setting alive (Started locals.items 0) (begun_body locals.items row) opens.there (λ x info named h. tt) (sim_same main_setting alive in_main (begun_body locals.items row) opens.there (same_scalars locals.items row) refl refl refl opens.sim) in
-      let closed : NoJump whole = go_closed _ _ (begins_closed main_setting.may here active 0 locals.items _) (λ u. closed_row main_setting.may here active row h.1 h.2 (0 + length locals.items) u) in
+      let now : Variable → Type 0 = λ x. Now main_setting has_it wide one is_ready here active main_calls locals.items 0 x in
+      let sim : Sim main_setting now (begun_body locals.items row) opens.there =
+      sim_fewer main_setting alive now (begun_body locals.items row) opens.there (λ x info named h. tt) (sim_same main_setting alive in_main (begun_body locals.items row) opens.there (same_scalars locals.items row) refl refl refl opens.sim) in
+      let closed : NoJump whole = go_closed _ _ (begins_closed here active 0 locals.items _) (λ u. closed_row here active (within main_setting.may 0 (length locals.items)) (0 + length locals.items) row h.0.2 h.1 (0 + length locals.items) u) in
       subst (λ (b : TStmt). ComesTo image opened (run_from (executed here b 0 active in_main))) (sym is)
       (comes opens.there whole opens.go
       (runs_function t image p codable compiled 0 p.main p.is_main [] turns begun_there made.e made.n opens.there whole ends closed
-      (subst (λ (m : Made ℕ). Follows main_setting (Left main_setting alive f begun_there opens.there) opens.there whole m) made.is_made
-      (begun_follows main_setting has_it alive one numbers is_ready declared here active main_calls never_rises locals.items row f 0 begun_there opens.there (begun_body locals.items row) h.0 stand initial own_row framed_so among_so homes (omega (arith, regs)) opens.at sim
-      (λ e there u none free at sim_there. row_follows main_setting has_it alive one numbers is_ready declared here active main_calls never_rises row h.1 f (0 + length locals.items) e there u framed_so among_so none free at sim_there own_row)))))
+      (subst (λ (m : Made ℕ). Follows main_setting (Left main_setting OfFileOrParam f begun_there opens.there) opens.there whole m) made.is_made
+      (follows_fewer main_setting wide OfFileOrParam (λ x living. inl living) f begun_there opens.there whole code
+      (begun_follows main_setting has_it wide one numbers is_ready declared here active main_calls never_rises locals.items row f 0 begun_there opens.there (begun_body locals.items row) h.0.0 stand settled initial own_row framed_so among_so homes (omega (arith, regs)) opens.at sim
+      (λ e there u none free at sim_there. row_follows main_setting has_it numbers is_ready declared here active main_calls never_rises wide one (0 + length locals.items) (among_before OfFileOrParam 0 (length locals.items) before_all) row h.0.2 f e there u framed_so among_so none free at sim_there own_row))))))
   runs _ is h = absurd h
 
 pub means_source : CodeMeansSource

@@ -16,7 +16,7 @@ use Rattle.cstar_tree.specs.declared.typed.Variable.{Variable}
 use Rattle.cstar_tree.specs.declared.typed.Variable.TheVariants as V
 use Rattle.cstar_tree.specs.StatementTypes.{variable_info}
 use Rattle.cstar_tree.specs.Typed.{type_of}
-use Rattle.code_lengths.specs.Naming.{HasVariable, IsDeclared, plain}
+use Rattle.code_lengths.specs.Naming.{HasVariable, plain}
 use Rattle.code_lengths.specs.Ready.{HasCode, IsReady}
 use Rattle.code_lengths.proofs.Drafting.{as_it_was}
 use Rattle.lower_base.specs.declared.emit.Out.{Out}
@@ -44,7 +44,7 @@ use Rattle.source_meaning.specs.State.{Outcome, State, then_do, with_scalar}
 use Rattle.source_meaning.specs.Targets.{read, variable_target}
 use Rattle.source_meaning.specs.Values.{Active, Scalar, Scope, Value, at, convert_to, unary_of}
 use Rattle.source_meaning.proofs.ConstantLaws.{Boxed, value_means}
-use Rattle.code_follows.specs.Fragment.{AreIn, IsIn, IsOperand, IsWord, elems_of}
+use Rattle.code_follows.specs.Fragment.{AreIn, IsIn, IsOperand, IsWord, elems_of, naming}
 use Rattle.code_follows.proofs.Passing.{call_follows}
 use Rattle.code_follows.proofs.Choosing.{put_lands}
 use Rattle.code_follows.proofs.CallValues.{call_code}
@@ -61,7 +61,7 @@ use Rattle.paris_code.specs.Scalar.{rounded}
 use Rattle.code_follows.proofs.Numbers.{Fits, fits_wide, rounded_is}
 use Rattle.code_follows.proofs.Words.{below_bits, below_word, constant_below, held_converted, held_wide, kept}
 
-module _ (g : Setting) (has : HasRegisters g) (alive : Variable → Type 0) (n : ℕ) (lives : (x : Variable) → IsDeclared n x → alive x) (ready : (d : Draft) → IsReady g.typed g.instance (layout g) n d) (scope : Scope) (active : Active) (calls_follow : CallsFollow g scope active)
+module _ (g : Setting) (has : HasRegisters g) (alive : Variable → Type 0) (n : ℕ) (files : (k : ℕ) → alive (V.File k)) (ready : (d : Draft) → IsReady g.typed g.instance (layout g) n d) (scope : Scope) (active : Active) (calls_follow : CallsFollow g scope active)
     (x : Variable) (info : VarInfo) (living : alive x) (scalar : IsScalar g x info) where
   abbrev own : ℕ
   own = register_of (layout g) x
@@ -156,18 +156,18 @@ module _ (g : Setting) (has : HasRegisters g) (alive : Variable → Type 0) (n :
           (ap (λ (k : ℕ). Goes (with_register own (rounded ty.elem k) arr.t)) there ∙ ap (λ (k : ℕ). Goes (with_register own k arr.t)) (rounded_is ty.elem from w arr.holds.small)) (converted_below ty.elem from w)))
 
   -- a variable is copied from its register
-  variable_put : (ty : ValueType) (y : Variable) → ty.shape ≡ None → Kept ty.elem → HasVariable g.typed g.instance n y (plain ty) → Puts ty.elem (λ st. Source.Gives (read st (variable_target ty.shape y 0)) st) (λ d. read_to g.typed (layout g) (T.Variable ty y) (spot_of g.typed (layout g) (T.Variable ty y)) (O.Scalar own) d)
+  variable_put : (ty : ValueType) (y : Variable) → (ty.shape ≡ None) × alive y → Kept ty.elem → HasVariable g.typed g.instance n y (plain ty) → Puts ty.elem (λ st. Source.Gives (read st (variable_target ty.shape y 0)) st) (λ d. read_to g.typed (layout g) (T.Variable ty y) (spot_of g.typed (layout g) (T.Variable ty y)) (O.Scalar own) d)
   unfolding read_to spot_of variable_spot loaded then_make in_register Follows begun step_of
-  variable_put ty y plain_shape fits v d s st free here sim =
+  variable_put ty y named_so fits v d s st free here sim =
       let other : VarInfo = variable_info v.word (plain ty) v.start in
-      let there : slice_index s.registers (register_of (layout g) y) ≡ held ty.elem (st.scalar y) = sim.scalars y other (lives y v.declared) (v.named, plain_shape) in
+      let there : slice_index s.registers (register_of (layout g) y) ≡ held ty.elem (st.scalar y) = sim.scalars y other named_so.1 (v.named, named_so.0) in
       subst (λ (made : Made Out). Follows g (Put ty.elem d s) s (Source.Gives (read st (variable_target ty.shape y 0)) st) made)
-      (sym (ap (λ (o : Option ℕ). loaded g.typed (layout g) (T.Variable ty y) (elim o as (λ _. Spot) [ None ↦ S.Register (register_of (layout g) y) | Some _ ↦ S.Whole y ]) (O.Scalar own) d) plain_shape))
-      (subst (λ (w : Value). Follows g (Put ty.elem d s) s (Source.Gives w st) (Makes (O.Scalar own) (with_instr (I.FrontMove own (register_of (layout g) y)) d))) (sym (read_is g has alive st ty y plain_shape))
+      (sym (ap (λ (o : Option ℕ). loaded g.typed (layout g) (T.Variable ty y) (elim o as (λ _. Spot) [ None ↦ S.Register (register_of (layout g) y) | Some _ ↦ S.Whole y ]) (O.Scalar own) d) named_so.0))
+      (subst (λ (w : Value). Follows g (Put ty.elem d s) s (Source.Gives w st) (Makes (O.Scalar own) (with_instr (I.FrontMove own (register_of (layout g) y)) d))) (sym (read_is g has alive st ty y named_so.0))
       (λ within. (dest ty.elem d s fits free).puts d 0 (I.FrontMove own (register_of (layout g) y)) s st (st.scalar y) (stay g s) here sim (as_it_was d) (keeps_all g d s) within refl
-      (ap (λ (w : ℕ). Goes (with_register own w s)) there) (sim.small y other (lives y v.declared) (v.named, plain_shape))))
+      (ap (λ (w : ℕ). Goes (with_register own w s)) there) (sim.small y other named_so.1 (v.named, named_so.0))))
 
-  binary_put : (ty : ValueType) (place : Place) (op : Op) (left right : TExpr) → IsWord ty → Kept ty.elem → (IsIn g.may) left → (IsIn g.may) right → IsWord (type_of left) → IsWord (type_of right) → HasCode g.typed g.instance n left → HasCode g.typed g.instance n right
+  binary_put : (ty : ValueType) (place : Place) (op : Op) (left right : TExpr) → IsWord ty → Kept ty.elem → (IsIn (naming g.may alive)) left → (IsIn (naming g.may alive)) right → IsWord (type_of left) → IsWord (type_of right) → HasCode g.typed g.instance n left → HasCode g.typed g.instance n right
       → Puts ty.elem (λ st. then_do (evaluated scope left active st) (λ v between. then_do (evaluated scope right active between) (λ w after. operated scope active ty place op (not (type_of left).elem.signed) v w after)))
       (λ d. register_binary_of g.typed (layout g) 32 op place left right own d)
   unfolding register_binary_of
@@ -178,8 +178,8 @@ module _ (g : Setting) (has : HasRegisters g) (alive : Variable → Type 0) (n :
       subst (λ (b : Bool). Follows g (Put ty.elem d s) s (then_do (evaluated scope left active st) (λ v between. then_do (evaluated scope right active between) (λ w after. operated scope active ty place op (not (type_of left).elem.signed) v w after))) (registers_by op b place own first second d))
       (sym (wide_signed (type_of left).elem a.1))
       (registers_follow g has alive ty (is_quiet right) op place (type_of left).elem (type_of right).elem second (λ st. evaluated scope right active st) scope active word a.1 b.1
-      (λ u calm. Quiet.expression scope right active u calm) (operand g has alive n lives ready scope active calls_follow true bits right two e) (operand_grows g has alive n lives ready scope active calls_follow true bits right e)
-      d s (Put ty.elem d s) own free (dest ty.elem d s fits free) st first (λ u. evaluated scope left active u) (operand g has alive n lives ready scope active calls_follow (is_quiet right) bits left one c) here sim)
+      (λ u calm. Quiet.expression scope right active u calm) (operand g has alive n files ready scope active calls_follow true bits right two e) (operand_grows g has alive n files ready scope active calls_follow true bits right e)
+      d s (Put ty.elem d s) own free (dest ty.elem d s fits free) st first (λ u. evaluated scope left active u) (operand g has alive n files ready scope active calls_follow (is_quiet right) bits left one c) here sim)
 
   -- a conversion to 32 bits leaves the value to what is converted
   unchanged : (ty : ValueType) (p : Boxed) (inner : TExpr) → ty.elem.bits ≡ 32 → (d : Draft) (s : CodeState) (st : State)
@@ -195,26 +195,26 @@ module _ (g : Setting) (has : HasRegisters g) (alive : Variable → Type 0) (n :
   unfolding computed_to goes_unchanged converted_to
   changed ty p inner narrow d = ap (λ (b : Bool). if b then computed_to g.typed (layout g) (O.Scalar own) inner d else converted_to g.typed (layout g) (O.Scalar own) (T.Convert' ty p inner) ty.elem inner d) narrow
 
-  unary_put : (ty : ValueType) (op : UnaryOp) (p : Boxed) (inner : TExpr) → IsWord ty → Kept ty.elem → IsOperand op (type_of inner) → (IsIn g.may) inner → HasCode g.typed g.instance n inner → Puts (type_of inner).elem (λ st. evaluated scope inner active st) (λ d. computed_to g.typed (layout g) (O.Scalar own) inner d)
+  unary_put : (ty : ValueType) (op : UnaryOp) (p : Boxed) (inner : TExpr) → IsWord ty → Kept ty.elem → IsOperand op (type_of inner) → (IsIn (naming g.may alive)) inner → HasCode g.typed g.instance n inner → Puts (type_of inner).elem (λ st. evaluated scope inner active st) (λ d. computed_to g.typed (layout g) (O.Scalar own) inner d)
       → Puts ty.elem (λ st. then_do (evaluated scope inner active st) (λ v after. Source.Gives (mapped ty (unary_of op) v) after)) (λ d. computed_to g.typed (layout g) (O.Scalar own) (T.Unary' ty op p inner) d)
   unfolding computed_to is_plus bits_for IsOperand
   unary_put ty U.Plus p inner word fits a isin c puts = put_mapped ty (type_of inner).elem word a.1 (fits_wide info.elem ty.elem fits word.1) _ _ puts
   unary_put ty U.Minus p inner word fits a isin c puts = λ d s st free here sim.
-      negated_follows g has alive ty U.Minus (type_of inner).elem (unary_same U.Minus (type_of inner) a) word refl d s (Put ty.elem d s) own free (dest ty.elem d s fits free) st _ (λ u. evaluated scope inner active u) (operand g has alive n lives ready scope active calls_follow true (unary_bits 32 U.Minus inner) inner isin c) here sim
+      negated_follows g has alive ty U.Minus (type_of inner).elem (unary_same U.Minus (type_of inner) a) word refl d s (Put ty.elem d s) own free (dest ty.elem d s fits free) st _ (λ u. evaluated scope inner active u) (operand g has alive n files ready scope active calls_follow true (unary_bits 32 U.Minus inner) inner isin c) here sim
   unary_put ty U.Complement p inner word fits a isin c puts = λ d s st free here sim.
-      negated_follows g has alive ty U.Complement (type_of inner).elem (unary_same U.Complement (type_of inner) a) word refl d s (Put ty.elem d s) own free (dest ty.elem d s fits free) st _ (λ u. evaluated scope inner active u) (operand g has alive n lives ready scope active calls_follow true (unary_bits 32 U.Complement inner) inner isin c) here sim
+      negated_follows g has alive ty U.Complement (type_of inner).elem (unary_same U.Complement (type_of inner) a) word refl d s (Put ty.elem d s) own free (dest ty.elem d s fits free) st _ (λ u. evaluated scope inner active u) (operand g has alive n files ready scope active calls_follow true (unary_bits 32 U.Complement inner) inner isin c) here sim
   unary_put ty U.Not p inner word fits a isin c puts = λ d s st free here sim.
-      negated_follows g has alive ty U.Not (type_of inner).elem (unary_same U.Not (type_of inner) a) word refl d s (Put ty.elem d s) own free (dest ty.elem d s fits free) st _ (λ u. evaluated scope inner active u) (operand g has alive n lives ready scope active calls_follow true (unary_bits 32 U.Not inner) inner isin c) here sim
+      negated_follows g has alive ty U.Not (type_of inner).elem (unary_same U.Not (type_of inner) a) word refl d s (Put ty.elem d s) own free (dest ty.elem d s fits free) st _ (λ u. evaluated scope inner active u) (operand g has alive n files ready scope active calls_follow true (unary_bits 32 U.Not inner) inner isin c) here sim
 
   -- `?:` computes the chosen value straight into the register
-  choice_put : (ty : ValueType) (p q r : Boxed) (test first second : TExpr) → IsWord ty → Kept ty.elem → (IsIn g.may) test → (IsIn g.may) first → (IsIn g.may) second → IsWord (type_of first) → IsWord (type_of second) → AreChosen g has alive n lives ready scope active calls_follow test first second
+  choice_put : (ty : ValueType) (p q r : Boxed) (test first second : TExpr) → IsWord ty → Kept ty.elem → (IsIn (naming g.may alive)) test → (IsIn (naming g.may alive)) first → (IsIn (naming g.may alive)) second → IsWord (type_of first) → IsWord (type_of second) → AreChosen g has alive n files ready scope active calls_follow test first second
       → Puts ty.elem (λ st. then_do (evaluated scope test active st) (λ v after. choose (type_of test).shape v (evaluated scope first) (evaluated scope second) active after)) (λ d. computed_to g.typed (layout g) (O.Scalar own) (T.Choice' ty p test q first r second) d)
   unfolding computed_to bits_for
   choice_put ty p q r test first second word fits h k m a b c d s st free here sim =
       subst (λ (made : Made Out). Follows g (Put ty.elem d s) s (then_do (evaluated scope test active st) (λ v after. choose (type_of test).shape v (evaluated scope first) (evaluated scope second) active after)) made)
-      (sym (ap (λ (b : Bool). if b then scalar_choice_of g.typed (layout g) ty 32 test first second (O.Scalar own) d else moved g.typed (layout g) (O.Scalar own) (T.Choice' ty p test q first r second) d) (kept g.may test h)))
-      (choice_goes g has alive n lives ready scope active calls_follow ty 32 test first second word h k m a b c (value_follows g has alive n lives ready scope active calls_follow true (bits_of (kind_of test)) test h c.condition) (value_follows g has alive n lives ready scope active calls_follow true 32 first k c.one)
-      (value_follows g has alive n lives ready scope active calls_follow true 32 second m c.other) d s st (Put ty.elem d s) own free here sim (dest ty.elem d s fits free) (put_lands g has alive x info living scalar ty.elem d s own))
+      (sym (ap (λ (b : Bool). if b then scalar_choice_of g.typed (layout g) ty 32 test first second (O.Scalar own) d else moved g.typed (layout g) (O.Scalar own) (T.Choice' ty p test q first r second) d) (kept (naming g.may alive) test h)))
+      (choice_goes g has alive n files ready scope active calls_follow ty 32 test first second word h k m a b c (value_follows g has alive n files ready scope active calls_follow true (bits_of (kind_of test)) test h c.condition) (value_follows g has alive n files ready scope active calls_follow true 32 first k c.one)
+      (value_follows g has alive n files ready scope active calls_follow true 32 second m c.other) d s st (Put ty.elem d s) own free here sim (dest ty.elem d s fits free) (put_lands g has alive x info living scalar ty.elem d s own))
 
   -- what was put there is there
   gone : (elem : Elem) (d : Draft) (s : CodeState) (o : Outcome Value) (made : Made Out) → Follows g (Put elem d s) s o made → Follows g (Put elem d s) s o (gone_to (O.Scalar own) made)
@@ -225,17 +225,17 @@ module _ (g : Setting) (has : HasRegisters g) (alive : Variable → Type 0) (n :
   gone elem d s (Source.Ends early u) Fails h = tt
 
   -- the result of a call
-  call_put : (ty : ValueType) (index : ℕ) (p : Vec (Unit {0}) Global) (row : _) → Kept ty.elem → g.may.calls (Some ty.elem) index (elems_of row) → (AreIn g.may) row → HasCode g.typed g.instance n (T.Call' ty index p row) → Puts ty.elem (λ st. evaluated scope (T.Call' ty index p row) active st) (λ d. computed_to g.typed (layout g) (O.Scalar own) (T.Call' ty index p row) d)
-  unfolding computed_to evaluated IsDeclared
+  call_put : (ty : ValueType) (index : ℕ) (p : Vec (Unit {0}) Global) (row : _) → Kept ty.elem → g.may.calls (Some ty.elem) index (elems_of row) → (AreIn (naming g.may alive)) row → HasCode g.typed g.instance n (T.Call' ty index p row) → Puts ty.elem (λ st. evaluated scope (T.Call' ty index p row) active st) (λ d. computed_to g.typed (layout g) (O.Scalar own) (T.Call' ty index p row) d)
+  unfolding computed_to evaluated
   call_put ty index p row fits may isin c d s st free here sim =
       let known = calls_follow.value ty.elem index (elems_of row) may in
       let result = known.1.1 in
       gone ty.elem d s (evaluated scope (T.Call' ty index p row) active st) _
-      (call_follows g has alive (λ k. lives (V.File k) tt) scope active calls_follow known.0.0 row
-      (arguments_do g has alive n lives ready scope active calls_follow true (are_quiet row) row isin (call_code g has alive n lives ready scope active calls_follow ty index p row c)) known.0.1
+      (call_follows g has alive files scope active calls_follow known.0.0 row
+      (arguments_do g has alive n files ready scope active calls_follow true (are_quiet row) row isin (call_code g has alive n files ready scope active calls_follow ty index p row c)) known.0.1
       result.0 result.1.0 ty.elem result.1.1 d s st (Put ty.elem d s) own free here sim (dest ty.elem d s fits free))
 
-  convert_put : (ty : ValueType) (p : Boxed) (inner : TExpr) → IsIn g.may (T.Convert' ty p inner) → Kept ty.elem → HasCode g.typed g.instance n inner → (info.elem.bits ≡ 32 → Puts (type_of inner).elem (λ st. evaluated scope inner active st) (λ d. computed_to g.typed (layout g) (O.Scalar own) inner d))
+  convert_put : (ty : ValueType) (p : Boxed) (inner : TExpr) → IsIn (naming g.may alive) (T.Convert' ty p inner) → Kept ty.elem → HasCode g.typed g.instance n inner → (info.elem.bits ≡ 32 → Puts (type_of inner).elem (λ st. evaluated scope inner active st) (λ d. computed_to g.typed (layout g) (O.Scalar own) inner d))
       → Puts ty.elem (λ st. then_do (evaluated scope inner active st) (λ v after. Source.Gives (convert_to ty (type_of inner).elem v) after)) (λ d. computed_to g.typed (layout g) (O.Scalar own) (T.Convert' ty p inner) d)
   unfolding IsIn register_converted
   convert_put ty p inner h fits c rest d s st free here sim = by (ty.elem.bits == 32) refl
@@ -247,44 +247,44 @@ module _ (g : Setting) (has : HasRegisters g) (alive : Variable → Type 0) (n :
           unchanged ty p inner wide d s st (put_converted ty (type_of inner).elem h.0 wide also _ _ (rest also) d s st free here sim)
       by false is =
           subst (λ (made : Made Out). Follows g (Put ty.elem d s) s (then_do (evaluated scope inner active st) (λ v after. Source.Gives (convert_to ty (type_of inner).elem v) after)) made) (sym (changed ty p inner is d))
-          (converted_in ty (type_of inner).elem h.0 fits (λ u. evaluated scope inner active u) (next_of g.typed (layout g) 32 true inner) (operand g has alive n lives ready scope active calls_follow true 32 inner h.1 c) d s st free here sim)
+          (converted_in ty (type_of inner).elem h.0 fits (λ u. evaluated scope inner active u) (next_of g.typed (layout g) 32 true inner) (operand g has alive n files ready scope active calls_follow true 32 inner h.1 c) d s st free here sim)
 
-  computed_follows : (e : TExpr) → (IsIn g.may) e → HasCode g.typed g.instance n e → Kept (type_of e).elem → Puts (type_of e).elem (λ st. evaluated scope e active st) (λ d. computed_to g.typed (layout g) (O.Scalar own) e d)
+  computed_follows : (e : TExpr) → (IsIn (naming g.may alive)) e → HasCode g.typed g.instance n e → Kept (type_of e).elem → Puts (type_of e).elem (λ st. evaluated scope e active st) (λ d. computed_to g.typed (layout g) (O.Scalar own) e d)
   unfolding computed_to evaluated IsIn moved bits_for binary_to in_register logical_to
-  computed_follows (T.Number ty value) h c fits = copied_to ty.elem fits _ _ (operand g has alive n lives ready scope active calls_follow true 32 (T.Number ty value) h c)
-  computed_follows (T.PositionsOf ty shape value) h c fits = copied_to ty.elem fits _ _ (operand g has alive n lives ready scope active calls_follow true 32 (T.PositionsOf ty shape value) h c)
-  computed_follows (T.RankOf ty shape value) h c fits = copied_to ty.elem fits _ _ (operand g has alive n lives ready scope active calls_follow true 32 (T.RankOf ty shape value) h c)
-  computed_follows (T.DimOf ty shape axis value) h c fits = copied_to ty.elem fits _ _ (operand g has alive n lives ready scope active calls_follow true 32 (T.DimOf ty shape axis value) h c)
-  computed_follows (T.Variable ty y) h c fits = variable_put ty y h fits (named g has alive n lives ready scope active calls_follow ty y c)
+  computed_follows (T.Number ty value) h c fits = copied_to ty.elem fits _ _ (operand g has alive n files ready scope active calls_follow true 32 (T.Number ty value) h c)
+  computed_follows (T.PositionsOf ty shape value) h c fits = copied_to ty.elem fits _ _ (operand g has alive n files ready scope active calls_follow true 32 (T.PositionsOf ty shape value) h c)
+  computed_follows (T.RankOf ty shape value) h c fits = copied_to ty.elem fits _ _ (operand g has alive n files ready scope active calls_follow true 32 (T.RankOf ty shape value) h c)
+  computed_follows (T.DimOf ty shape axis value) h c fits = copied_to ty.elem fits _ _ (operand g has alive n files ready scope active calls_follow true 32 (T.DimOf ty shape axis value) h c)
+  computed_follows (T.Variable ty y) h c fits = variable_put ty y h fits (named g has alive n files ready scope active calls_follow ty y c)
   computed_follows (T.GetChar ty) h c fits = λ d s st free here sim. byte_put g has alive x info living scalar ty.elem h.1 fits d s st free here sim
   computed_follows (T.Brackets' ty p inner) h c fits =
       subst (λ (y : ValueType). Puts y.elem (λ st. evaluated scope inner active st) (λ d. computed_to g.typed (layout g) (O.Scalar own) inner d)) (sym h.0)
-      (computed_follows inner h.1 (brackets_code g has alive n lives ready scope active calls_follow ty p inner c) (subst (λ (y : ValueType). Kept y.elem) h.0 fits))
+      (computed_follows inner h.1 (brackets_code g has alive n files ready scope active calls_follow ty p inner c) (subst (λ (y : ValueType). Kept y.elem) h.0 fits))
   computed_follows (T.Convert' ty p operand) h c fits =
-      convert_put ty p operand h fits (convert_code g has alive n lives ready scope active calls_follow ty p operand c) (λ wide. computed_follows operand h.1 (convert_code g has alive n lives ready scope active calls_follow ty p operand c) (inr wide))
-  computed_follows (T.Casts' ty elems p inner) h c fits = copied_to ty.elem fits _ _ (operand g has alive n lives ready scope active calls_follow true 32 (T.Casts' ty elems p inner) h c)
+      convert_put ty p operand h fits (convert_code g has alive n files ready scope active calls_follow ty p operand c) (λ wide. computed_follows operand h.1 (convert_code g has alive n files ready scope active calls_follow ty p operand c) (inr wide))
+  computed_follows (T.Casts' ty elems p inner) h c fits = copied_to ty.elem fits _ _ (operand g has alive n files ready scope active calls_follow true 32 (T.Casts' ty elems p inner) h c)
   computed_follows (T.Unary' ty op p inner) h c fits =
-      unary_put ty op p inner h.0 fits h.2 h.1 (unary_code g has alive n lives ready scope active calls_follow ty op p inner c)
-      (computed_follows inner h.1 (unary_code g has alive n lives ready scope active calls_follow ty op p inner c) (inr (fits_wide info.elem ty.elem fits h.0.1)))
-  computed_follows (T.Binary' ty place op p left q right) h c fits = binary_put ty place op left right h.0 fits h.1 h.2 h.3 h.4 (left_code g has alive n lives ready scope active calls_follow ty place op p q left right c) (right_code g has alive n lives ready scope active calls_follow ty place op p q left right c)
-  computed_follows (T.LogicalOr' ty p left q right) h c fits = copied_to ty.elem fits _ _ (operand g has alive n lives ready scope active calls_follow true 32 (T.LogicalOr' ty p left q right) h c)
-  computed_follows (T.LogicalAnd' ty p left q right) h c fits = copied_to ty.elem fits _ _ (operand g has alive n lives ready scope active calls_follow true 32 (T.LogicalAnd' ty p left q right) h c)
-  computed_follows (T.Choice' ty p test q first r second) h c fits = choice_put ty p q r test first second h.0 fits h.1 h.2 h.3 h.4 h.5 (choice_parts g has alive n lives ready scope active calls_follow ty p q r test first second c)
-  computed_follows (T.Assign' ty place op p target q value) h c fits = copied_to ty.elem fits _ _ (operand g has alive n lives ready scope active calls_follow true 32 (T.Assign' ty place op p target q value) h c)
-  computed_follows (T.Step' ty op order p target) h c fits = copied_to ty.elem fits _ _ (operand g has alive n lives ready scope active calls_follow true 32 (T.Step' ty op order p target) h c)
+      unary_put ty op p inner h.0 fits h.2 h.1 (unary_code g has alive n files ready scope active calls_follow ty op p inner c)
+      (computed_follows inner h.1 (unary_code g has alive n files ready scope active calls_follow ty op p inner c) (inr (fits_wide info.elem ty.elem fits h.0.1)))
+  computed_follows (T.Binary' ty place op p left q right) h c fits = binary_put ty place op left right h.0 fits h.1 h.2 h.3 h.4 (left_code g has alive n files ready scope active calls_follow ty place op p q left right c) (right_code g has alive n files ready scope active calls_follow ty place op p q left right c)
+  computed_follows (T.LogicalOr' ty p left q right) h c fits = copied_to ty.elem fits _ _ (operand g has alive n files ready scope active calls_follow true 32 (T.LogicalOr' ty p left q right) h c)
+  computed_follows (T.LogicalAnd' ty p left q right) h c fits = copied_to ty.elem fits _ _ (operand g has alive n files ready scope active calls_follow true 32 (T.LogicalAnd' ty p left q right) h c)
+  computed_follows (T.Choice' ty p test q first r second) h c fits = choice_put ty p q r test first second h.0 fits h.1 h.2 h.3 h.4 h.5 (choice_parts g has alive n files ready scope active calls_follow ty p q r test first second c)
+  computed_follows (T.Assign' ty place op p target q value) h c fits = copied_to ty.elem fits _ _ (operand g has alive n files ready scope active calls_follow true 32 (T.Assign' ty place op p target q value) h c)
+  computed_follows (T.Step' ty op order p target) h c fits = copied_to ty.elem fits _ _ (operand g has alive n files ready scope active calls_follow true 32 (T.Step' ty op order p target) h c)
   computed_follows (T.Call' ty index p arguments) h c fits = call_put ty index p arguments fits h.1 h.2 c
   computed_follows _ h c fits = absurd h
 
   -- a constant goes to the register at once
-  word_put_follows : (e : TExpr) (w : ℕ) → (IsIn g.may) e → is_constant e ≡ true → Const.value_of e ≡ Some w → Kept (type_of e).elem → Puts (type_of e).elem (λ st. evaluated scope e active st) (λ d. Makes (O.Scalar own) (with_instr (I.FrontConst own (held (type_of e).elem w)) d))
+  word_put_follows : (e : TExpr) (w : ℕ) → (IsIn (naming g.may alive)) e → is_constant e ≡ true → Const.value_of e ≡ Some w → Kept (type_of e).elem → Puts (type_of e).elem (λ st. evaluated scope e active st) (λ d. Makes (O.Scalar own) (with_instr (I.FrontConst own (held (type_of e).elem w)) d))
   unfolding Follows begun step_of
   word_put_follows e w isin constant value fits d s st free here sim =
-      let few : w < 2 ^ (type_of e).elem.bits = subst (λ (o : Option ℕ). IfSome o (λ v. v < 2 ^ (type_of e).elem.bits)) value (constant_below g.may e isin) in
+      let few : w < 2 ^ (type_of e).elem.bits = subst (λ (o : Option ℕ). IfSome o (λ v. v < 2 ^ (type_of e).elem.bits)) value (constant_below (naming g.may alive) e isin) in
       let gives : evaluated scope e active st ≡ Source.Gives (Scalar w) st = subst (λ (o : Option ℕ). Const.IsValueOf e o) value (value_means e constant) scope active st in
       subst (λ (o : Outcome Value). Follows g (Put (type_of e).elem d s) s o (Makes (O.Scalar own) (with_instr (I.FrontConst own (held (type_of e).elem w)) d))) (sym gives)
       (λ within. (dest (type_of e).elem d s fits free).puts d 0 (I.FrontConst own (held (type_of e).elem w)) s st w (stay g s) here sim (as_it_was d) (keeps_all g d s) within refl refl few)
 
-  pub put_follows : (e : TExpr) → (IsIn g.may) e → HasCode g.typed g.instance n e → Kept (type_of e).elem → Puts (type_of e).elem (λ st. evaluated scope e active st) (λ d. put_to g.typed (layout g) (O.Scalar own) e d)
+  pub put_follows : (e : TExpr) → (IsIn (naming g.may alive)) e → HasCode g.typed g.instance n e → Kept (type_of e).elem → Puts (type_of e).elem (λ st. evaluated scope e active st) (λ d. put_to g.typed (layout g) (O.Scalar own) e d)
   unfolding put_to word_for word_put register_word constant_of
   put_follows e isin c fits d s st free here sim = by (is_constant e) (Const.value_of e) refl refl
     where

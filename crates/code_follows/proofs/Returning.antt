@@ -7,6 +7,7 @@ use Rattle.cstar_base.specs.declared.elem.Elem.{Elem}
 use Rattle.cstar_tree.specs.declared.typed.TExpr.{TExpr}
 use Rattle.cstar_tree.specs.declared.typed.TStmt as S
 use Rattle.cstar_tree.specs.declared.typed.VarInfo.{VarInfo}
+use Rattle.cstar_tree.specs.declared.typed.Variable.TheVariants as V
 use Rattle.cstar_tree.specs.declared.typed.Variable.{Variable}
 use Rattle.cstar_tree.specs.Typed.{type_of}
 use Rattle.code_lengths.specs.Growth.{Extended}
@@ -32,7 +33,7 @@ use Rattle.source_meaning.specs.State as Source
 use Rattle.source_meaning.specs.State.{State, then_do}
 use Rattle.source_meaning.specs.Statements.{Returned, executed, returned}
 use Rattle.source_meaning.specs.Values.{Active, Scalar, Scope, Value}
-use Rattle.code_follows.specs.Fragment.{IsIn, Takes}
+use Rattle.code_follows.specs.Fragment.{IsIn, Takes, naming}
 use Rattle.code_follows.proofs.ConstantRegisters.{behind_variables}
 use Rattle.code_follows.proofs.Executing.{IsGiven, Leaves, Left, Returns}
 use Rattle.code_follows.proofs.Expressions.{operand}
@@ -70,7 +71,7 @@ left_at_end g alive d e s u within ran = record {
   given = ran.keeps (result_register (layout g)) (result_kept g d);
 }
 
-module _ (g : Setting) (has : HasRegisters g) (alive : Variable → Type 0) (every : (x : Variable) → alive x) (ready : (n : ℕ) (d : Draft) → IsReady g.typed g.instance (layout g) n d) (scope : Scope) (active : Active) (calls_follow : CallsFollow g scope active) where
+module _ (g : Setting) (has : HasRegisters g) (alive : Variable → Type 0) (files : (k : ℕ) → alive (V.File k)) (ready : (n : ℕ) (d : Draft) → IsReady g.typed g.instance (layout g) n d) (scope : Scope) (active : Active) (calls_follow : CallsFollow g scope active) where
   -- what is behind the code of a `return`
   abbrev then_leaves : ℕ → Draft → Made ℕ
   then_leaves n after = Makes n (with_end g.is_main after)
@@ -164,7 +165,7 @@ module _ (g : Setting) (has : HasRegisters g) (alive : Variable → Type 0) (eve
           shaped None e = cc
           shaped (Some s) e = cc
 
-  pub return_follows : (e : Option TExpr) → IfSome e (λ x. IsIn g.may x × g.may.returns (type_of x).elem) → (f : Frame) (n : ℕ) (d : Draft) (s0 : CodeState) (st : State) → StandsIn g f → g.begins ≤ d.regs → At g s0 (length d.code) → Sim g alive st s0 → IfSome e (λ x. HasCode g.typed g.instance n x)
+  pub return_follows : (e : Option TExpr) → IfSome e (λ x. IsIn (naming g.may alive) x × g.may.returns (type_of x).elem) → (f : Frame) (n : ℕ) (d : Draft) (s0 : CodeState) (st : State) → StandsIn g f → g.begins ≤ d.regs → At g s0 (length d.code) → Sim g alive st s0 → IfSome e (λ x. HasCode g.typed g.instance n x)
       → Follows g (Left g alive f d s0) s0 (executed scope (S.Return e) n active st) (statement_of g.typed (layout g) (S.Return e) f [] n d)
   unfolding executed statement_of returned_by given_back then_make Follows Left IsGiven
   return_follows None h f n d s0 st framed free at sim c =
@@ -173,5 +174,5 @@ module _ (g : Setting) (has : HasRegisters g) (alive : Variable → Type 0) (eve
   return_follows (Some e) h f n d s0 st framed free at sim c =
       subst (λ (m : Made ℕ). Follows g (Left g alive f d s0) s0 (then_do (evaluated scope e active st) (λ v after. Source.Gives (Returned (Some (returned active (type_of e).shape v))) after)) m)
       (λ i. then_make (then_make (next_of g.typed (layout g) (type_of e).elem.bits true e d) (λ v after. stored_result (layout g) f.outcome v after)) (λ u after. Makes n (sym (ends_so f f.saved.in_all framed.main after) i)))
-      (answers (type_of e).elem f d s0 f.outcome n (type_of e).shape (scalar_of g.may e h.0) (calls_follow.returns (type_of e).elem h.1) framed.scalar (no_outcome f framed) (evaluated scope e active st) (next_of g.typed (layout g) (type_of e).elem.bits true e d)
-      (operand g has alive n (λ x within. every x) (ready n) scope active calls_follow true (type_of e).elem.bits e h.0 c d s0 st free at sim))
+      (answers (type_of e).elem f d s0 f.outcome n (type_of e).shape (scalar_of (naming g.may alive) e h.0) (calls_follow.returns (type_of e).elem h.1) framed.scalar (no_outcome f framed) (evaluated scope e active st) (next_of g.typed (layout g) (type_of e).elem.bits true e d)
+      (operand g has alive n files (ready n) scope active calls_follow true (type_of e).elem.bits e h.0 c d s0 st free at sim))

@@ -2,6 +2,7 @@
 use Rattle.std.proofs.Common.{◌≡◌, ℕ, ◌+◌, ◌≤◌, Bool, true, false, length, Option, Some, None, refl, ap, subst, arith}
 use Rattle.std.specs.Prelude.{IfSome}
 use Rattle.cstar_tree.specs.declared.typed.TExpr.{TExpr}
+use Rattle.cstar_tree.specs.declared.typed.Variable.TheVariants as V
 use Rattle.cstar_tree.specs.declared.typed.Variable.{Variable}
 use Rattle.code_lengths.specs.Growth.{Extended}
 use Rattle.code_lengths.specs.Ready.{HasCode, IsReady}
@@ -16,7 +17,7 @@ use Rattle.source_meaning.specs.State as Source
 use Rattle.source_meaning.specs.State.{Outcome, State}
 use Rattle.source_meaning.specs.Statements.{passes, passes_or_absent}
 use Rattle.source_meaning.specs.Values.{Active, Scope}
-use Rattle.code_follows.specs.Fragment.{IsTested}
+use Rattle.code_follows.specs.Fragment.{IsTested, naming}
 use Rattle.code_follows.proofs.Callees.{CallsFollow}
 use Rattle.code_follows.proofs.Executing.{Jumped, TestMade, Tested, test_follows, test_made}
 use Rattle.code_follows.proofs.Following.{Finishes, Follows, HasRegisters, Sim, keeps_all}
@@ -30,7 +31,7 @@ module _ (g : Setting) (alive : Variable → Type 0) where
   Leads d turn behind s (Source.Gives false u) = Jumped g alive d s u behind
   Leads d turn behind s (Source.Ends early u) = Finishes g early u s
 
-  module _ (has : HasRegisters g) (every : (x : Variable) → alive x) (n : ℕ) (ready : (d : Draft) → IsReady g.typed g.instance (layout g) n d) (scope : Scope) (active : Active) (calls_follow : CallsFollow g scope active) where
+  module _ (has : HasRegisters g) (files : (k : ℕ) → alive (V.File k)) (n : ℕ) (ready : (d : Draft) → IsReady g.typed g.instance (layout g) n d) (scope : Scope) (active : Active) (calls_follow : CallsFollow g scope active) where
     -- the code of the jump back is made, and leads where it should
     pub record BackMade (test : Option TExpr) (turn : ℕ) (d : Draft) : Type 0 where
       pub e : Draft
@@ -63,7 +64,7 @@ module _ (g : Setting) (alive : Variable → Type 0) where
         }
     tested_leads d tested r turn s (Source.Ends early u) within h = h (earlier g tested (with_instr (I.FrontJumpNonzero r turn) tested) 1 (and_one g (I.FrontJumpNonzero r turn) tested) within)
 
-    pub back_made : (test : Option TExpr) (turn : ℕ) (d : Draft) → IsTested g.may test → IfSome test (HasCode g.typed g.instance n) → BackMade test turn d
+    pub back_made : (test : Option TExpr) (turn : ℕ) (d : Draft) → IsTested (naming g.may alive) test → IfSome test (HasCode g.typed g.instance n) → BackMade test turn d
     unfolding IsTested jump_back_of condition_length_of passes_or_absent then_make Leads
     back_made None turn d isin c = record {
       e = with_instr (I.FrontJump turn) d;
@@ -77,13 +78,13 @@ module _ (g : Setting) (alive : Variable → Type 0) where
         keeps = keeps_all g d s;
       };
     }
-    back_made (Some test) turn d isin c = by (test_made g alive has every n ready scope active calls_follow test d isin c)
+    back_made (Some test) turn d isin c = by (test_made g alive has files n ready scope active calls_follow test d isin c)
       where
-        by : TestMade g alive has every n ready scope active calls_follow test d → BackMade (Some test) turn d
+        by : TestMade g alive has files n ready scope active calls_follow test d → BackMade (Some test) turn d
         by made = record {
           e = with_instr (I.FrontJumpNonzero made.r turn) made.e;
           is = ap (λ (m : Made ℕ). then_make m (λ r after. Makes tt (with_instr (I.FrontJumpNonzero r turn) after))) made.is;
           extended = extended d made.e (with_instr (I.FrontJumpNonzero made.r turn) made.e) (used_length_of g.typed (layout g) 32 true test) 1 made.extended (and_one g (I.FrontJumpNonzero made.r turn) made.e);
           leads = λ free within s st here sim. tested_leads d made.e made.r turn s (passes scope active test st) within
-              (subst (λ (m : Made ℕ). Follows g (Tested g alive d s) s (passes scope active test st) m) made.is (test_follows g alive has every n ready scope active calls_follow test isin c d s st free here sim));
+              (subst (λ (m : Made ℕ). Follows g (Tested g alive d s) s (passes scope active test st) m) made.is (test_follows g alive has files n ready scope active calls_follow test isin c d s st free here sim));
         }

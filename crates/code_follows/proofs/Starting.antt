@@ -1,5 +1,5 @@
 -- The initialisers of the variables of a block.
-use Rattle.std.proofs.Common.{◌≡◌, ◌∙◌, ℕ, ◌+◌, ◌<◌, ◌≤◌, ◌^◌, Bool, true, false, not, List, [], ◌∷◌, map, length, Option, Some, None, refl, sym, ap, subst, if◌then◌else◌, arith}
+use Rattle.std.proofs.Common.{◌≡◌, ◌∙◌, ℕ, ◌+◌, ◌<◌, ◌≤◌, ◌^◌, Bool, true, false, not, List, [], ◌∷◌, map, length, Option, Some, None, refl, sym, ap, subst, if◌then◌else◌, arith, inl, inr}
 use Rattle.std.specs.Prelude.{IfSome, is_none}
 use Rattle.std.specs.List.{All}
 use Rattle.cstar_tree.specs.declared.typed.LocalVar.{LocalVar}
@@ -33,12 +33,12 @@ use Rattle.source_meaning.specs.Constants as Const
 use Rattle.source_meaning.proofs.ConstantLaws.{value_means}
 use Rattle.source_meaning.specs.Expressions.{evaluated}
 use Rattle.source_meaning.specs.State as Source
-use Rattle.source_meaning.specs.State.{Outcome, State, is_same, then_do, with_scalar}
+use Rattle.source_meaning.specs.State.{Outcome, State, is_among, is_same, then_do, with_scalar}
 use Rattle.source_meaning.specs.Statements.{Broke, Continued, Leaving, Onward, Returned, initialised, initialised_one, then_go}
 use Rattle.source_meaning.specs.Targets.{OfScalar, Target, stored, variable_target}
 use Rattle.source_meaning.specs.Values.{Active, Scalar, Scope, Value, number}
-use Rattle.code_follows.specs.Fragment.{IsIn, IsInLocal, Takes}
-use Rattle.code_follows.proofs.Declaring.{Started, first_is_named, others_stand, sim_fewer, started_before}
+use Rattle.code_follows.specs.Fragment.{AreInitials, IsIn, IsInitial, IsScalarLocal, OrAmong, Takes, within, naming}
+use Rattle.code_follows.proofs.Declaring.{Started, AreBefore, among_before, itself_among, later_among, one_among, first_is_named, others_stand, sim_fewer, started_before}
 use Rattle.code_follows.proofs.Lists.{all_first, all_rest}
 use Rattle.code_follows.proofs.Executing.{RanOn, gives, no_break, no_continue, no_return, ran_from}
 use Rattle.code_follows.proofs.Callees.{CallsFollow}
@@ -48,7 +48,7 @@ use Rattle.code_follows.proofs.Settings.{At, Reaches, Setting, and_one, at_next,
 use Rattle.code_follows.proofs.Standing.{some_same}
 use Rattle.code_follows.proofs.Stores.{below_free, same_itself, sim_begun}
 use Rattle.code_follows.proofs.Values.{extends_grown}
-use Rattle.code_follows.proofs.Words.{constant_below, kept}
+use Rattle.code_follows.proofs.Words.{constant_below, kept, widened}
 use Rattle.code_follows.proofs.Numbers.{fits_held, takes_fits, takes_same}
 use Rattle.constant_trees.proofs.Words.{converted_below}
 use Rattle.cstar_base.specs.declared.elem.Elem.{Elem}
@@ -100,7 +100,7 @@ declared_itself : (n : ℕ) → IsDeclared (n + 1) (V.Local n)
 unfolding IsDeclared
 declared_itself n = omega arith
 
-module _ (g : Setting) (has : HasRegisters g) (alive : Variable → Type 0) (every : (x : Variable) → alive x) (ready : (n : ℕ) (d : Draft) → IsReady g.typed g.instance (layout g) n d) (scope : Scope) (active : Active) (calls_follow : CallsFollow g scope active) where
+module _ (g : Setting) (has : HasRegisters g) (alive : Variable → Type 0) (files : (k : ℕ) → alive (V.File k)) (ready : (n : ℕ) (d : Draft) → IsReady g.typed g.instance (layout g) n d) (scope : Scope) (active : Active) (calls_follow : CallsFollow g scope active) where
   pub go_after : {B D : Type 0} (d : Draft) (s : CodeState) (Q : Leaving → State → D → Draft → Type 0) (o : Outcome Leaving) (k : State → Outcome Leaving) (y : B) (e : Draft) (made : Made D) → Follows g (RanOn g alive d s) s o (Makes y e) → Extends g e made
       → ((u : State) → Ran g alive d s u e → Follows g Q s (k u) made) → Follows g Q s (then_go o k) made
   unfolding Follows then_go
@@ -132,6 +132,47 @@ module _ (g : Setting) (has : HasRegisters g) (alive : Variable → Type 0) (eve
       by None shape lower name = tt
       by (Some e) shape lower name = record { shaped = shape.1; lowerable = lower.2; names = name }
 
+  -- the variables that are alive so far into a block
+  abbrev pub Now : List LocalVar → ℕ → Variable → Type 0
+  Now locals n x = alive x × Started locals n x
+
+  -- an initialiser, whose number the variable takes: it names what is alive there, unless it is a constant
+  abbrev Begins : LocalVar → List LocalVar → ℕ → TExpr → Type 0
+  Begins local locals n e = IsInitial (naming g.may alive) local e × (begins_constant local ≡ false → IsIn (naming g.may (λ z. Now (local ∷ locals) n z)) e)
+
+  -- the initialisers from a number on are so
+  unfoldable pub AreSettled : ℕ → List LocalVar → Type 0
+  AreSettled n [] = Unit {0}
+  AreSettled n (local ∷ locals) = alive (V.Local n) × IfSome local.initial (λ e. Begins local locals n e) × AreSettled (n + 1) locals
+
+  -- those of the fragment are: what they may name is alive, and declared before what still waits
+  pub settled_so : (names : Variable → Type 0) (locals : List LocalVar) (n : ℕ) → ((x : Variable) → names x → alive x) → ((x : Variable) → is_among n (length locals) x ≡ true → alive x) → AreBefore names n
+      → AreInitials (naming g.may names) n locals → AreSettled n locals
+  unfolding AreSettled AreInitials Started
+  settled_so names [] n lives own declared h = tt
+  settled_so names (local ∷ locals) n lives own declared h = (
+    own (V.Local n) (itself_among n (length locals)),
+    by local.initial h.0,
+    settled_so (λ x. OrAmong names n 1 x) locals (n + 1) here (λ x among. own x (later_among n (length locals) x among)) named h.1,
+  )
+    where
+      here : (x : Variable) → OrAmong names n 1 x → alive x
+      here x (inl k) = lives x k
+      here x (inr among) = own x (one_among n (length locals) x among)
+
+      named : AreBefore (λ x. OrAmong names n 1 x) (n + 1)
+      named x living = among_before names n 1 declared x living
+
+      never : begins_constant local ≡ false → begins_constant local ≡ true → ⊥
+      never b other = cc
+
+      by : (o : Option TExpr) → IfSome o (λ e. IsInitial (within (naming g.may names) n 1) local e) → IfSome o (λ e. Begins local locals n e)
+      by None k = tt
+      by (Some e) k = (
+        (widened (within (naming g.may names) n 1) alive here e k.0, k.1),
+        λ begins. widened (within (naming g.may names) n 1) (λ z. Now (local ∷ locals) n z) (λ x living. (here x living, ((λ b same. never begins b), started_before locals (n + 1) (n + 1) x (omega arith) (named x living)))) e k.0,
+      )
+
   -- the code of one
   variable_is : (info : VarInfo) (n : ℕ) (d : Draft) → info.shape ≡ None → variable_of g.typed (layout g) info n d ≡ Makes (O.Scalar (register_of (layout g) (V.Local n))) d
   unfolding variable_of standing
@@ -140,10 +181,6 @@ module _ (g : Setting) (has : HasRegisters g) (alive : Variable → Type 0) (eve
         | None ↦ Makes (O.Scalar (register_of (layout g) (V.Local n))) d
         | Some s ↦ then_make (field_of g.typed (layout g) (V.Local n) 0 d) (λ f after. Makes (O.Field (first_bits info.elem.bits f)) after)
       ]) plain
-
-  -- an initialiser, whose number the variable takes
-  abbrev IsInitial : LocalVar → TExpr → Type 0
-  IsInitial local e = IsIn g.may e × Takes local.info.elem (type_of e).elem
 
   abbrev initial_put : VarInfo → ℕ → Option TExpr → Draft → Made (Unit {0})
   initial_put info n o d = elim o [
@@ -159,39 +196,38 @@ module _ (g : Setting) (has : HasRegisters g) (alive : Variable → Type 0) (eve
       ∙ make_twice (put_to g.typed (layout g) (O.Scalar (register_of (layout g) (V.Local n))) e d) next
 
   -- its register holds what is put there
-  local_grows : (n : ℕ) (e : TExpr) (d : Draft) → (IsIn g.may) e → HasCode g.typed g.instance (n + 1) e → Extends g d (put_to g.typed (layout g) (O.Scalar (register_of (layout g) (V.Local n))) e d)
+  local_grows : (n : ℕ) (e : TExpr) (d : Draft) → (IsIn (naming g.may alive)) e → HasCode g.typed g.instance (n + 1) e → Extends g d (put_to g.typed (layout g) (O.Scalar (register_of (layout g) (V.Local n))) e d)
   local_grows n e d h k =
-      extends_grown g has alive _ d _ _ ((expressions g.typed g.instance (layout g)).put_register (register_of (layout g) (V.Local n)) (n + 1) e d k (gives g alive has every (n + 1) (ready (n + 1)) scope active calls_follow e h, kept g.may e h) (ready (n + 1) d))
+      extends_grown g has alive _ d _ _ ((expressions g.typed g.instance (layout g)).put_register (register_of (layout g) (V.Local n)) (n + 1) e d k (gives g alive has files (n + 1) (ready (n + 1)) scope active calls_follow e h, kept (naming g.may alive) e h) (ready (n + 1) d))
 
-  pub initials_grow : (locals : List LocalVar) (n : ℕ) (d : Draft) → All (IsInLocal g.may) locals → AreCoded n locals → Extends g d (all_initialised g.typed (layout g) locals n d)
-  unfolding all_initialised initialised_in AreCoded Extends then_make
-  initials_grow [] n d isin c = (0, as_it_was d)
-  initials_grow (local ∷ locals) n d isin c =
-      let first = all_first (IsInLocal g.may) local locals isin in
-      by local.initial first.1 c.0 (λ e. initials_grow locals (n + 1) e (all_rest (IsInLocal g.may) local locals isin) c.1)
+  pub initials_grow : (locals : List LocalVar) (n : ℕ) (d : Draft) → All IsScalarLocal locals → AreSettled n locals → AreCoded n locals → Extends g d (all_initialised g.typed (layout g) locals n d)
+  unfolding all_initialised initialised_in AreCoded AreSettled Extends then_make
+  initials_grow [] n d isin settled c = (0, as_it_was d)
+  initials_grow (local ∷ locals) n d isin settled c =
+      by local.initial settled.1 c.0 (λ e. initials_grow locals (n + 1) e (all_rest IsScalarLocal local locals isin) settled.2 c.1)
     where
-      by : (o : Option TExpr) → IfSome o (IsInitial local) → IfSome o (HasCode g.typed g.instance (n + 1)) → ((e : Draft) → Extends g e (all_initialised g.typed (layout g) locals (n + 1) e)) → Extends g d (then_make (initial_put local.info n o d) (λ u after. all_initialised g.typed (layout g) locals (n + 1) after))
+      by : (o : Option TExpr) → IfSome o (λ e. Begins local locals n e) → IfSome o (HasCode g.typed g.instance (n + 1)) → ((e : Draft) → Extends g e (all_initialised g.typed (layout g) locals (n + 1) e)) → Extends g d (then_make (initial_put local.info n o d) (λ u after. all_initialised g.typed (layout g) locals (n + 1) after))
       by None h k rest = rest d
       by (Some e) h k rest =
-          subst (λ (m : Made (Unit {0})). Extends g d m) (sym (put_is local.info n e d (λ u after. all_initialised g.typed (layout g) locals (n + 1) after) (all_first (IsInLocal g.may) local locals isin).0))
-          (extends_then g d (put_to g.typed (layout g) (O.Scalar (register_of (layout g) (V.Local n))) e d) (λ out after. all_initialised g.typed (layout g) locals (n + 1) after) (local_grows n e d h.0 k) (λ out after. rest after))
+          subst (λ (m : Made (Unit {0})). Extends g d m) (sym (put_is local.info n e d (λ u after. all_initialised g.typed (layout g) locals (n + 1) after) (all_first IsScalarLocal local locals isin)))
+          (extends_then g d (put_to g.typed (layout g) (O.Scalar (register_of (layout g) (V.Local n))) e d) (λ out after. all_initialised g.typed (layout g) locals (n + 1) after) (local_grows n e d h.0.0 k) (λ out after. rest after))
 
   -- a value is put in the register of the next variable, which is alive behind it
   abbrev Begun : LocalVar → List LocalVar → ℕ → Draft → CodeState → Value → State → Draft → Type 0
-  Begun local locals n d s v u f = (word : ℕ) × ((v ≡ Scalar word) × Ran g (Started locals (n + 1)) d s (with_scalar (V.Local n) word u) f)
+  Begun local locals n d s v u f = (word : ℕ) × ((v ≡ Scalar word) × Ran g (λ z. Now locals (n + 1) z) d s (with_scalar (V.Local n) word u) f)
 
   abbrev Puts_one : LocalVar → List LocalVar → ℕ → TExpr → Draft → CodeState → State → Type 0
   Puts_one local locals n e d s st = Follows g (λ v u (out : Out) f. Begun local locals n d s v u f) s (evaluated scope e active st) (put_to g.typed (layout g) (O.Scalar (register_of (layout g) (V.Local n))) e d)
 
   -- a constant
-  constant_put : (local : LocalVar) (locals : List LocalVar) (n : ℕ) (e : TExpr) (word : ℕ) (d : Draft) (s : CodeState) (st : State) → IsScalar g (V.Local n) local.info → Takes local.info.elem (type_of e).elem → (IsIn g.may) e → StandsAsWord e word → g.begins ≤ d.regs → At g s (length d.code) → Sim g (Started (local ∷ locals) n) st s
+  constant_put : (local : LocalVar) (locals : List LocalVar) (n : ℕ) (e : TExpr) (word : ℕ) (d : Draft) (s : CodeState) (st : State) → IsScalar g (V.Local n) local.info → Takes local.info.elem (type_of e).elem → (IsIn (naming g.may alive)) e → StandsAsWord e word → g.begins ≤ d.regs → At g s (length d.code) → Sim g (λ z. Now (local ∷ locals) n z) st s
       → Puts_one local locals n e d s st
   unfolding put_to word_for word_put Follows begun step_of Started
   constant_put local locals n e word d s st scalar takes isin c free at sim =
       let r : ℕ = register_of (layout g) (V.Local n) in
       let i = I.FrontConst r word in
       let from : Elem = (type_of e).elem in
-      let few : c.value < 2 ^ from.bits = subst (λ (o : Option ℕ). IfSome o (λ v. v < 2 ^ from.bits)) c.is (constant_below g.may e isin) in
+      let few : c.value < 2 ^ from.bits = subst (λ (o : Option ℕ). IfSome o (λ v. v < 2 ^ from.bits)) c.is (constant_below (naming g.may alive) e isin) in
       let same : converted local.info.elem from c.value ≡ c.value = takes_same local.info.elem from c.value takes few in
       let own_few : c.value < 2 ^ local.info.elem.bits = subst (λ (w : ℕ). w < 2 ^ local.info.elem.bits) same (converted_below local.info.elem from c.value) in
       let gives_it : evaluated scope e active st ≡ Source.Gives (Scalar c.value) st = subst (λ (o : Option ℕ). Const.IsValueOf e o) c.is (value_means e c.constant) scope active st in
@@ -213,8 +249,8 @@ module _ (g : Setting) (has : HasRegisters g) (alive : Variable → Type 0) (eve
             go = one g s t (begins_here g i d s within refl at);
             at = at_next g i d s (s.at + 1) at refl;
             keeps = variable_kept g d s (V.Local n) local.info word has scalar.0;
-            sim = subst (λ (w : ℕ). Sim g (Started locals (n + 1)) (with_scalar (V.Local n) c.value st) (with_register r w s)) is_held
-                (sim_begun g has (V.Local n) local.info scalar (Started (local ∷ locals) n) (Started locals (n + 1)) (λ y later other. ((λ b e. no_other y other e), later)) st s c.value own_few inside sim);
+            sim = subst (λ (w : ℕ). Sim g (λ z. Now locals (n + 1) z) (with_scalar (V.Local n) c.value st) (with_register r w s)) is_held
+                (sim_begun g has (V.Local n) local.info scalar (λ z. Now (local ∷ locals) n z) (λ z. Now locals (n + 1) z) (λ y later other. (later.0, ((λ b e. no_other y other e), later.1))) st s c.value own_few inside sim);
           },
         ),
       )))
@@ -223,57 +259,56 @@ module _ (g : Setting) (has : HasRegisters g) (alive : Variable → Type 0) (eve
       no_other y other e = let same : is_same (V.Local n) y ≡ true = ap (λ (z : Variable). is_same (V.Local n) z) e ∙ same_itself (V.Local n) in cc
 
   -- any other value
-  value_put : (local : LocalVar) (locals : List LocalVar) (n : ℕ) (e : TExpr) (d : Draft) (s : CodeState) (st : State) → begins_constant local ≡ false → IsScalar g (V.Local n) local.info → Takes local.info.elem (type_of e).elem → (IsIn g.may) e → HasCode g.typed g.instance (n + 1) e
-      → g.begins ≤ d.regs → At g s (length d.code) → Sim g (Started (local ∷ locals) n) st s → Puts_one local locals n e d s st
-  unfolding Started
-  value_put local locals n e d s st begins scalar takes isin c free at sim =
+  value_put : (local : LocalVar) (locals : List LocalVar) (n : ℕ) (e : TExpr) (d : Draft) (s : CodeState) (st : State) → begins_constant local ≡ false → IsScalar g (V.Local n) local.info → alive (V.Local n) → Takes local.info.elem (type_of e).elem → (IsIn (naming g.may (λ z. Now (local ∷ locals) n z))) e → HasCode g.typed g.instance (n + 1) e
+      → g.begins ≤ d.regs → At g s (length d.code) → Sim g (λ z. Now (local ∷ locals) n z) st s → Puts_one local locals n e d s st
+  unfolding Started IsDeclared
+  value_put local locals n e d s st begins scalar living takes isin c free at sim =
       follows_on (evaluated scope e active st) (put_to g.typed (layout g) (O.Scalar (register_of (layout g) (V.Local n))) e d)
-      (put_follows g has (Started (local ∷ locals) n) (n + 1) (λ y h. lives y h) (ready (n + 1)) scope active calls_follow (V.Local n) local.info (lives (V.Local n) itself) scalar e isin c (takes_fits local.info.elem (type_of e).elem takes) d s st free at sim)
+      (put_follows g has (λ z. Now (local ∷ locals) n z) (n + 1) (λ j. now (V.File j) (files j) tt) (ready (n + 1)) scope active calls_follow (V.Local n) local.info (now (V.Local n) living itself) scalar e isin c (takes_fits local.info.elem (type_of e).elem takes) d s st free at sim)
     where
       never : begins_constant local ≡ true → ⊥
       never b = cc
 
-      lives : (y : Variable) → IsDeclared (n + 1) y → Started (local ∷ locals) n y
-      lives y h = ((λ b e. never b), started_before locals (n + 1) (n + 1) y (omega arith) h)
+      now : (y : Variable) → alive y → IsDeclared (n + 1) y → Now (local ∷ locals) n y
+      now y h declared = (h, ((λ b e. never b), started_before locals (n + 1) (n + 1) y (omega arith) declared))
 
       itself : IsDeclared (n + 1) (V.Local n)
       itself = declared_itself n
 
-      follows_on : (o : Outcome Value) (made : Made Out) → Follows g (Put g has (Started (local ∷ locals) n) (n + 1) (λ y h. lives y h) (ready (n + 1)) scope active calls_follow (V.Local n) local.info (lives (V.Local n) itself) scalar (type_of e).elem d s) s o made → Follows g (λ v u (out : Out) f. Begun local locals n d s v u f) s o made
+      follows_on : (o : Outcome Value) (made : Made Out) → Follows g (Put g has (λ z. Now (local ∷ locals) n z) (n + 1) (λ j. now (V.File j) (files j) tt) (ready (n + 1)) scope active calls_follow (V.Local n) local.info (now (V.Local n) living itself) scalar (type_of e).elem d s) s o made → Follows g (λ v u (out : Out) f. Begun local locals n d s v u f) s o made
       follows_on o made h = follows_other g _ _ s o made h (λ v u out f p. (
         p.word,
-        (p.value, record { grown = p.grown; t = p.t; go = p.go; at = p.at; keeps = p.keeps; sim = sim_fewer g (Started (local ∷ locals) n) (Started locals (n + 1)) (with_scalar (V.Local n) p.word u) p.t (λ y info named later. ((λ b e. never b), later)) (subst (λ (w : ℕ). Sim g (Started (local ∷ locals) n) (with_scalar (V.Local n) w u) p.t) (takes_same local.info.elem (type_of e).elem p.word takes p.small) p.sim) }),
+        (p.value, record { grown = p.grown; t = p.t; go = p.go; at = p.at; keeps = p.keeps; sim = sim_fewer g (λ z. Now (local ∷ locals) n z) (λ z. Now locals (n + 1) z) (with_scalar (V.Local n) p.word u) p.t (λ y info named later. (later.0, ((λ b e. never b), later.1))) (subst (λ (w : ℕ). Sim g (λ z. Now (local ∷ locals) n z) (with_scalar (V.Local n) w u) p.t) (takes_same local.info.elem (type_of e).elem p.word takes p.small) p.sim) }),
       ))
 
-  pub initials_follow : (locals : List LocalVar) (n : ℕ) (d : Draft) (s : CodeState) (st : State) → All (IsInLocal g.may) locals → StandFrom (variables_of g.instance.body) n (map info_of locals) → AreCoded n locals → g.begins ≤ d.regs → At g s (length d.code) → Sim g (Started locals n) st s
+  pub initials_follow : (locals : List LocalVar) (n : ℕ) (d : Draft) (s : CodeState) (st : State) → All IsScalarLocal locals → StandFrom (variables_of g.instance.body) n (map info_of locals) → AreSettled n locals → AreCoded n locals → g.begins ≤ d.regs → At g s (length d.code) → Sim g (λ z. Now locals n z) st s
       → Follows g (RanOn g alive d s) s (initialised scope active n locals st) (all_initialised g.typed (layout g) locals n d)
-  unfolding all_initialised initialised_in initialised initialised_one AreCoded Follows then_make then_go variable_target stored number Started begins_constant
-  initials_follow [] n d s st isin stand c free at sim = λ within. (refl, record { grown = (0, as_it_was d); t = s; go = stay g s; at = at; sim = sim_fewer g (Started [] n) alive st s (λ x info named h. tt) sim; keeps = keeps_all g d s })
-  initials_follow (local ∷ locals) n d s st isin stand c free at sim =
-      let first = all_first (IsInLocal g.may) local locals isin in
-      by local.initial refl first.1 c.0 (λ e t u free_e at_e sim_e. initials_follow locals (n + 1) e t u (all_rest (IsInLocal g.may) local locals isin) (others_stand g n local.info (map info_of locals) stand) c.1 free_e at_e sim_e)
+  unfolding all_initialised initialised_in initialised initialised_one AreCoded AreSettled Follows then_make then_go variable_target stored number Started begins_constant
+  initials_follow [] n d s st isin stand settled c free at sim = λ within. (refl, record { grown = (0, as_it_was d); t = s; go = stay g s; at = at; sim = sim_fewer g (λ z. Now [] n z) alive st s (λ x info named h. (h, tt)) sim; keeps = keeps_all g d s })
+  initials_follow (local ∷ locals) n d s st isin stand settled c free at sim =
+      by local.initial refl settled.1 c.0 (λ e t u free_e at_e sim_e. initials_follow locals (n + 1) e t u (all_rest IsScalarLocal local locals isin) (others_stand g n local.info (map info_of locals) stand) settled.2 c.1 free_e at_e sim_e)
     where
       there : Target
       there = variable_target local.info.shape (V.Local n) 0
 
       scalar : IsScalar g (V.Local n) local.info
-      scalar = (first_is_named g n local.info (map info_of locals) stand, (all_first (IsInLocal g.may) local locals isin).0)
+      scalar = (first_is_named g n local.info (map info_of locals) stand, (all_first IsScalarLocal local locals isin))
 
-      by : (o : Option TExpr) → local.initial ≡ o → IfSome o (IsInitial local) → IfSome o (HasCode g.typed g.instance (n + 1))
-          → ((e : Draft) (t : CodeState) (u : State) → g.begins ≤ e.regs → At g t (length e.code) → Sim g (Started locals (n + 1)) u t → Follows g (RanOn g alive e t) t (initialised scope active (n + 1) locals u) (all_initialised g.typed (layout g) locals (n + 1) e))
+      by : (o : Option TExpr) → local.initial ≡ o → IfSome o (λ e. Begins local locals n e) → IfSome o (HasCode g.typed g.instance (n + 1))
+          → ((e : Draft) (t : CodeState) (u : State) → g.begins ≤ e.regs → At g t (length e.code) → Sim g (λ z. Now locals (n + 1) z) u t → Follows g (RanOn g alive e t) t (initialised scope active (n + 1) locals u) (all_initialised g.typed (layout g) locals (n + 1) e))
           → Follows g (RanOn g alive d s) s (then_go (initialised_one scope active there o st) (initialised scope active (n + 1) locals)) (then_make (initial_put local.info n o d) (λ u after. all_initialised g.typed (layout g) locals (n + 1) after))
-      by None is h k rest = rest d s st free at (sim_fewer g (Started (local ∷ locals) n) (Started locals (n + 1)) st s (λ y info named later. ((λ b e. let none = starts_none local is in cc), later)) sim)
+      by None is h k rest = rest d s st free at (sim_fewer g (λ z. Now (local ∷ locals) n z) (λ z. Now locals (n + 1) z) st s (λ y info named later. (later.0, ((λ b e. let none = starts_none local is in cc), later.1))) sim)
       by (Some e) is h k rest =
           let x : Variable = V.Local n in
           let next : Draft → Made (Unit {0}) = λ after. all_initialised g.typed (layout g) locals (n + 1) after in
           let go_on : State → Outcome Leaving = λ u. initialised scope active (n + 1) locals u in
           let there_is : there ≡ OfScalar x = ap (λ (o : Option ℕ). variable_target o x 0) scalar.1 in
-          let puts : Puts_one local locals n e d s st = begins_either local e is (begins_constant local) refl (λ word w. constant_put local locals n e word d s st scalar h.1 h.0 w free at sim) (λ begins. value_put local locals n e d s st begins scalar h.1 h.0 k free at sim) in
+          let puts : Puts_one local locals n e d s st = begins_either local e is (begins_constant local) refl (λ word w. constant_put local locals n e word d s st scalar h.0.1 h.0.0 w free at sim) (λ begins. value_put local locals n e d s st begins scalar settled.0 h.0.1 (h.1 begins) k free at sim) in
           subst (λ (m : Made (Unit {0})). Follows g (RanOn g alive d s) s (then_go (initialised_one scope active there (Some e) st) go_on) m) (sym (put_is local.info n e d (λ u after. next after) scalar.1))
           (subst (λ (o : Outcome Leaving). Follows g (RanOn g alive d s) s o (then_make (put_to g.typed (layout g) (O.Scalar (register_of (layout g) x)) e d) (λ out after. next after))) (sym (go_do (evaluated scope e active st) (λ v after. stored active there v after) go_on))
           (subst (λ (target : Target). Follows g (RanOn g alive d s) s (then_do (evaluated scope e active st) (λ v after. go_on (stored active target v after))) (then_make (put_to g.typed (layout g) (O.Scalar (register_of (layout g) x)) e d) (λ out after. next after))) (sym there_is)
           (then_follows g (λ v u (out : Out) f. Begun local locals n d s v u f) (RanOn g alive d s) s s (evaluated scope e active st) (λ v after. go_on (stored active (OfScalar x) v after)) (put_to g.typed (layout g) (O.Scalar (register_of (layout g) x)) e d) (λ out after. next after) (stay g s)
-          puts (λ out after. initials_grow locals (n + 1) after (all_rest (IsInLocal g.may) local locals isin) c.1)
+          puts (λ out after. initials_grow locals (n + 1) after (all_rest IsScalarLocal local locals isin) settled.2 c.1)
           (λ v u out f p.
           let ran = p.1.1 in
           let more = ran.grown.1.regs in
@@ -281,12 +316,12 @@ module _ (g : Setting) (has : HasRegisters g) (alive : Variable → Type 0) (eve
           (run_from d f ran.grown.0 s ran.t (go_on (with_scalar x p.0 u)) (next f) ran.grown.1 ran.go ran.keeps (rest f ran.t (with_scalar x p.0 u) (omega (arith, free, more)) ran.at ran.sim))))))
 
   -- the registers of `main` are zero already
-  pub none_cleared : (locals : List LocalVar) (n : ℕ) (d : Draft) → All (IsInLocal g.may) locals → all_cleared (layout g) true locals n d ≡ Makes tt d
+  pub none_cleared : (locals : List LocalVar) (n : ℕ) (d : Draft) → All IsScalarLocal locals → all_cleared (layout g) true locals n d ≡ Makes tt d
   unfolding all_cleared cleared then_make
   none_cleared [] n d isin = refl
   none_cleared (local ∷ locals) n d isin =
       ap (λ (o : Option ℕ). then_make (elim o as (λ _. Made (Unit {0})) [
         | None ↦ Makes tt d
         | Some s ↦ cleared_fields (entries_of local.info) s local.info.elem.bits (with_home d)
-      ]) (λ u after. all_cleared (layout g) true locals (n + 1) after)) (all_first (IsInLocal g.may) local locals isin).0
-      ∙ none_cleared locals (n + 1) d (all_rest (IsInLocal g.may) local locals isin)
+      ]) (λ u after. all_cleared (layout g) true locals (n + 1) after)) (all_first IsScalarLocal local locals isin)
+      ∙ none_cleared locals (n + 1) d (all_rest IsScalarLocal local locals isin)

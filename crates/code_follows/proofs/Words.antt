@@ -5,7 +5,7 @@ use Rattle.std.specs.Int.{from_bool}
 use Rattle.cstar_base.specs.declared.elem.Elem.{Elem}
 use Rattle.cstar_base.specs.Numbers.{converted, number_of, residue, truth_of}
 use Rattle.cstar_base.proofs.NumberLaws.{modulus_in_word, residue_of_number}
-use Rattle.cstar_tree.specs.declared.typed.TExpr.{TExpr}
+use Rattle.cstar_tree.specs.declared.typed.TExpr.{TExpr, Row_of-TExpr, end_of-TExpr, more_of-TExpr}
 use Rattle.cstar_tree.specs.declared.typed.TExpr as T
 use Rattle.cstar_tree.specs.declared.typed.ValueType.{ValueType}
 use Rattle.cstar_tree.specs.Typed.{type_of}
@@ -14,7 +14,9 @@ use Rattle.lower_expr.specs.Steps.{is_kept}
 use Rattle.source_meaning.specs.Constants.{then_value, value_of}
 use Rattle.source_meaning.specs.Reductions.{int_type}
 use Rattle.source_meaning.specs.Values.{nonzero, cast_through, cast_type}
-use Rattle.code_follows.specs.Fragment.{IsIn, IsScalarType, May}
+use Rattle.code_follows.specs.Fragment.{AreIn, IsIn, IsScalarType, IsVariable, May, naming}
+use Rattle.cstar_tree.specs.declared.typed.Variable.{Variable}
+use mathlib.Core.Former.{Count}
 use Rattle.code_follows.proofs.Following.{held}
 
 -- a conversion to 32 bits takes the residue of the number
@@ -46,7 +48,7 @@ scalar_of may (T.Number ty value) h = h.0.0
 scalar_of may (T.PositionsOf ty shape value) h = h.0.0
 scalar_of may (T.RankOf ty shape value) h = h.0.0
 scalar_of may (T.DimOf ty shape axis value) h = h.0.0
-scalar_of may (T.Variable ty x) h = h
+scalar_of may (T.Variable ty x) h = h.0
 scalar_of may (T.GetChar ty) h = h.0
 scalar_of may (T.Brackets' ty p inner) h = subst (λ (y : ValueType). IsScalarType y) (sym h.0) (scalar_of may inner h.1)
 scalar_of may (T.Convert' ty p operand) h = h.0
@@ -70,7 +72,7 @@ kept may (T.Number ty value) h = none_is ty.shape h.0.0
 kept may (T.PositionsOf ty shape value) h = none_is ty.shape h.0.0
 kept may (T.RankOf ty shape value) h = none_is ty.shape h.0.0
 kept may (T.DimOf ty shape axis value) h = none_is ty.shape h.0.0
-kept may (T.Variable ty x) h = none_is ty.shape h
+kept may (T.Variable ty x) h = none_is ty.shape h.0
 kept may (T.GetChar ty) h = none_is ty.shape h.0
 kept may (T.Brackets' ty p inner) h = kept may inner h.1
 kept may (T.Convert' ty p operand) h = kept may operand h.1
@@ -147,3 +149,33 @@ constant_below may (T.Assign' ty place op p target q value) h = tt
 constant_below may (T.Step' ty op order p target) h = tt
 constant_below may (T.Call' ty index p arguments) h = tt
 constant_below may _ h = absurd h
+
+-- what names variables of some names variables of more
+mutual
+  unfolding IsIn AreIn IsVariable
+
+  pub widened : (may : May) (more : Variable → Type 0) → ((x : Variable) → may.names x → more x) → (e : TExpr) → IsIn may e → IsIn (naming may more) e
+  widened may more fits (T.Number ty value) h = h
+  widened may more fits (T.PositionsOf ty shape value) h = h
+  widened may more fits (T.RankOf ty shape value) h = h
+  widened may more fits (T.DimOf ty shape axis value) h = h
+  widened may more fits (T.Variable ty x) h = (h.0, fits x h.1)
+  widened may more fits (T.GetChar ty) h = h
+  widened may more fits (T.Brackets' ty p inner) h = (h.0, widened may more fits inner h.1)
+  widened may more fits (T.Convert' ty p operand) h = (h.0, widened may more fits operand h.1)
+  widened may more fits (T.Casts' ty elems p operand) h = (h.0, h.1, widened may more fits operand h.2)
+  widened may more fits (T.Unary' ty op p operand) h = (h.0, widened may more fits operand h.1, h.2)
+  widened may more fits (T.Binary' ty place op p left q right) h = (h.0, widened may more fits left h.1, widened may more fits right h.2, h.3, h.4)
+  widened may more fits (T.LogicalOr' ty p left q right) h = (h.0, widened may more fits left h.1, widened may more fits right h.2)
+  widened may more fits (T.LogicalAnd' ty p left q right) h = (h.0, widened may more fits left h.1, widened may more fits right h.2)
+  widened may more fits (T.Choice' ty p test q first r second) h = (h.0, widened may more fits test h.1, widened may more fits first h.2, widened may more fits second h.3, h.4, h.5)
+  widened may more fits (T.Assign' ty place op p (T.Variable tty x) q value) h = (h.0, h.1, (h.2.0, fits x h.2.1), widened may more fits value h.3, h.4)
+  widened may more fits (T.Assign' ty place op p _ q value) h = absurd h.2
+  widened may more fits (T.Step' ty op order p (T.Variable tty x)) h = (h.0, h.1, (h.2.0, fits x h.2.1))
+  widened may more fits (T.Step' ty op order p _) h = absurd h.2
+  widened may more fits (T.Call' ty index p arguments) h = (h.0, h.1, all_widened may more fits arguments h.2)
+  widened may more fits _ h = absurd h
+
+  all_widened : {n : Count} (may : May) (more : Variable → Type 0) → ((x : Variable) → may.names x → more x) → (row : Row_of-TExpr n) → AreIn may row → AreIn (naming may more) row
+  all_widened may more fits end_of-TExpr h = tt
+  all_widened may more fits (more_of-TExpr e rest) h = (widened may more fits e h.0, all_widened may more fits rest h.1)

@@ -1,7 +1,8 @@
 -- The programs of which it is said so far that their code means them: scalar ones. Variables of the file and of
 -- blocks, parameters and results are of any scalar type, `bool`, `char`, `short` or `int`, signed or not. The
--- operands of operators, which typing promotes, have 32 bits, and so has what is printed.
-use Rattle.std.specs.Prelude.{ℕ, List, map, slice_get, ◌≡◌, ◌<◌, ◌^◌, [], IfSome, Option, Some, None, ◌⊎◌}
+-- operands of operators, which typing promotes, have 32 bits, and so has what is printed. Expressions name
+-- variables of open blocks alone, as typing gives.
+use Rattle.std.specs.Prelude.{ℕ, List, map, slice_get, ◌≡◌, ◌<◌, ◌^◌, [], IfSome, Option, Some, None, ◌⊎◌, ◌+◌, ◌∷◌, length, true}
 use Rattle.std.specs.List.{All, AllZip}
 use Rattle.cstar_base.specs.declared.elem.Elem.{Elem}
 use Rattle.cstar_tree.specs.declared.syntax.AssignOp.{AssignOp}
@@ -17,8 +18,12 @@ use Rattle.cstar_tree.specs.declared.typed.UnaryOp.{UnaryOp}
 use Rattle.cstar_tree.specs.declared.typed.UnaryOp.TheVariants as U
 use Rattle.cstar_tree.specs.declared.typed.ValueType.{ValueType}
 use Rattle.cstar_tree.specs.declared.typed.VarInfo.{VarInfo}
+use Rattle.cstar_tree.specs.declared.typed.Variable.{Variable}
+use Rattle.cstar_tree.specs.declared.typed.Variable.TheVariants as V
 use Rattle.cstar_tree.specs.Typed.{type_of}
 use Rattle.cstar_tree.specs.Variables.{variables_of}
+use Rattle.code_lengths.specs.NamingStatements.{behind}
+use Rattle.source_meaning.specs.State.{is_among}
 use Rattle.source_meaning.specs.Values.{cast_type}
 
 -- a scalar type: of 32 bits or fewer, as every type of elements
@@ -28,11 +33,6 @@ IsScalarType ty = ty.shape ≡ None
 -- a scalar type of 32 bits
 abbrev pub IsWord : ValueType → Type 0
 IsWord ty = (ty.shape ≡ None) × (ty.elem.bits ≡ 32)
-
--- a scalar variable, as it is used
-unfoldable pub IsVariable : TExpr → Type 0
-IsVariable (T.Variable ty x) = IsScalarType ty
-IsVariable _ = ⊥
 
 -- a number of a type is one of another without a conversion: they are the same, or both of 32 bits
 abbrev pub Takes : Elem → Elem → Type 0
@@ -49,10 +49,28 @@ IsOperand U.Not ty = IsScalarType ty
 IsOperand _ ty = IsWord ty
 
 -- What the body of a function may do: call which functions, by their instances' numbers, with arguments of which
--- types, for a value of which type where it is used; and return numbers of which types.
+-- types, for a value of which type where it is used; return numbers of which types; and name which variables.
 pub record May : Type 1 where
   pub calls : Option Elem → ℕ → List Elem → Type 0
   pub returns : Elem → Type 0
+  pub names : Variable → Type 0
+
+-- the same with other variables to name
+abbrev pub naming : May → (Variable → Type 0) → May
+naming may names = record may { names = names }
+
+-- the variables of some, and so many of a block from a number on
+abbrev pub OrAmong : (Variable → Type 0) → ℕ → ℕ → Variable → Type 0
+OrAmong names n many x = names x ⊎ (is_among n many x ≡ true)
+
+-- where that block is open, they may be named too
+abbrev pub within : May → ℕ → ℕ → May
+within may n many = naming may (λ x. OrAmong may.names n many x)
+
+-- a scalar variable that may be named, as it is used
+unfoldable pub IsVariable : May → TExpr → Type 0
+IsVariable may (T.Variable ty x) = IsScalarType ty × may.names x
+IsVariable may _ = ⊥
 
 -- the types of arguments
 abbrev pub elems_of : {n : _} → Row_of-TExpr n → List Elem
@@ -66,7 +84,7 @@ unfoldable mutual
   IsIn may (T.PositionsOf ty shape value) = IsWord ty × (value < 2 ^ 32)
   IsIn may (T.RankOf ty shape value) = IsWord ty × (value < 2 ^ 32)
   IsIn may (T.DimOf ty shape axis value) = IsWord ty × (value < 2 ^ 32)
-  IsIn may (T.Variable ty x) = IsScalarType ty
+  IsIn may (T.Variable ty x) = IsScalarType ty × may.names x
   IsIn may (T.GetChar ty) = IsWord ty
   IsIn may (T.Brackets' ty p inner) = (ty ≡ type_of inner) × IsIn may inner
   IsIn may (T.Convert' ty p operand) = IsScalarType ty × IsIn may operand
@@ -76,8 +94,8 @@ unfoldable mutual
   IsIn may (T.LogicalOr' ty p left q right) = IsWord ty × IsIn may left × IsIn may right
   IsIn may (T.LogicalAnd' ty p left q right) = IsWord ty × IsIn may left × IsIn may right
   IsIn may (T.Choice' ty p test q first r second) = IsWord ty × IsIn may test × IsIn may first × IsIn may second × IsWord (type_of first) × IsWord (type_of second)
-  IsIn may (T.Assign' ty place op p target q value) = IsScalarType ty × (ty ≡ type_of target) × IsVariable target × IsIn may value × IsGiven op (type_of target) (type_of value)
-  IsIn may (T.Step' ty op order p target) = IsScalarType ty × (ty ≡ type_of target) × IsVariable target
+  IsIn may (T.Assign' ty place op p target q value) = IsScalarType ty × (ty ≡ type_of target) × IsVariable may target × IsIn may value × IsGiven op (type_of target) (type_of value)
+  IsIn may (T.Step' ty op order p target) = IsScalarType ty × (ty ≡ type_of target) × IsVariable may target
   IsIn may (T.Call' ty index p arguments) = IsScalarType ty × may.calls (Some ty.elem) index (elems_of arguments) × AreIn may arguments
   IsIn may _ = ⊥
 
@@ -97,37 +115,47 @@ IsEffect may e = IsIn may e
 abbrev pub IsScalarVariable : VarInfo → Type 0
 IsScalarVariable info = info.shape ≡ None
 
--- a variable of a block, with an initialiser or without
-abbrev pub IsInLocal : May → LocalVar → Type 0
-IsInLocal may local = IsScalarVariable local.info × IfSome local.initial (λ e. IsIn may e × Takes local.info.elem (type_of e).elem)
+-- a scalar variable of a block
+abbrev pub IsScalarLocal : LocalVar → Type 0
+IsScalarLocal local = IsScalarVariable local.info
+
+-- the number that a variable of a block begins with
+abbrev pub IsInitial : May → LocalVar → TExpr → Type 0
+IsInitial may local e = IsIn may e × Takes local.info.elem (type_of e).elem
+
+-- the initialisers of a block's variables, from a number on: each may name those before it, and its own
+unfoldable pub AreInitials : May → ℕ → List LocalVar → Type 0
+AreInitials may n [] = Unit {0}
+AreInitials may n (local ∷ locals) = IfSome local.initial (λ e. IsInitial (within may n 1) local e) × AreInitials (within may n 1) (n + 1) locals
 
 -- the condition of a loop, or none
 unfoldable pub IsTested : May → Option TExpr → Type 0
 IsTested may None = Unit {0}
 IsTested may (Some e) = IsIn may e
 
--- statements of these
+-- Statements of these, where so many variables of blocks are declared before. Those of a block may be named in it
+-- alone; each function begins with the variables of the file and its parameters.
 unfoldable mutual
-  pub IsInStatement : May → TStmt → Type 0
-  IsInStatement may (S.Block' locals p statements) = All (IsInLocal may) locals.items × AreInStatements may statements
-  IsInStatement may (S.Expression e) = IsEffect may e
-  IsInStatement may S.Empty = Unit {0}
-  IsInStatement may (S.If' test p first second) = IsIn may test × IsInStatement may first × IsInElse may second
-  IsInStatement may (S.While' test p body) = IsIn may test × IsInStatement may body
-  IsInStatement may (S.Do' p body test) = IsInStatement may body × IsIn may test
-  IsInStatement may (S.For' first test step p body) = IfSome first (IsEffect may) × IsTested may test × IfSome step (IsEffect may) × IsInStatement may body
-  IsInStatement may S.Break = Unit {0}
-  IsInStatement may S.Continue = Unit {0}
-  IsInStatement may (S.Return e) = IfSome e (λ e. IsIn may e × may.returns (type_of e).elem)
-  IsInStatement may _ = ⊥
+  pub IsInStatement : May → ℕ → TStmt → Type 0
+  IsInStatement may n (S.Block' locals p statements) = All IsScalarLocal locals.items × AreInitials may n locals.items × AreInStatements (within may n (length locals.items)) (n + length locals.items) statements
+  IsInStatement may n (S.Expression e) = IsEffect may e
+  IsInStatement may n S.Empty = Unit {0}
+  IsInStatement may n (S.If' test p first second) = IsIn may test × IsInStatement may n first × IsInElse may (behind n first) second
+  IsInStatement may n (S.While' test p body) = IsIn may test × IsInStatement may n body
+  IsInStatement may n (S.Do' p body test) = IsInStatement may n body × IsIn may test
+  IsInStatement may n (S.For' first test step p body) = IfSome first (IsEffect may) × IsTested may test × IfSome step (IsEffect may) × IsInStatement may n body
+  IsInStatement may n S.Break = Unit {0}
+  IsInStatement may n S.Continue = Unit {0}
+  IsInStatement may n (S.Return e) = IfSome e (λ e. IsIn may e × may.returns (type_of e).elem)
+  IsInStatement may n _ = ⊥
 
-  pub AreInStatements : {n : _} → May → Row_of-TStmt n → Type 0
-  AreInStatements may end_of-TStmt = Unit {0}
-  AreInStatements may (more_of-TStmt s rest) = IsInStatement may s × AreInStatements may rest
+  pub AreInStatements : {k : _} → May → ℕ → Row_of-TStmt k → Type 0
+  AreInStatements may n end_of-TStmt = Unit {0}
+  AreInStatements may n (more_of-TStmt s rest) = IsInStatement may n s × AreInStatements may (behind n s) rest
 
-  pub IsInElse : May → Held-TStmt-If-2 → Type 0
-  IsInElse may None' = Unit {0}
-  IsInElse may (Some' p s) = IsInStatement may s
+  pub IsInElse : May → ℕ → Held-TStmt-If-2 → Type 0
+  IsInElse may n None' = Unit {0}
+  IsInElse may n (Some' p s) = IsInStatement may n s
 
 -- in which no loop is left or gone on with from without
 unfoldable mutual
@@ -148,13 +176,14 @@ unfoldable mutual
 
 -- a block of such statements
 unfoldable pub IsBody : May → TStmt → Type 0
-IsBody may (S.Block' locals p statements) = All (IsInLocal may) locals.items × AreInStatements may statements × AreClosed statements
+IsBody may (S.Block' locals p statements) = IsInStatement may 0 (S.Block' locals p statements) × AreClosed statements
 IsBody may _ = ⊥
 
--- whose inner blocks declare nothing
-unfoldable pub IsFlat : TStmt → Type 0
-IsFlat (S.Block' locals p statements) = variables_of (S.Block' locals p statements) ≡ map (λ (local : LocalVar). local.info) locals.items
-IsFlat _ = ⊥
+-- a variable of the file, or a parameter: not one of a block
+unfoldable pub OfFileOrParam : Variable → Type 0
+OfFileOrParam (V.File k) = Unit {0}
+OfFileOrParam (V.Param k) = Unit {0}
+OfFileOrParam (V.Local k) = ⊥
 
 -- a variable of the file, which begins with a number of its type
 abbrev pub IsPlainVariable : VarInfo → Type 0
@@ -182,16 +211,15 @@ may_of t rank number i = record {
   calls = λ used index given.
       (callee : Instance) × ((slice_get t.instances.items index ≡ Some callee) × (0 < index) × (rank index < rank number) × IfSome used (λ elem. IsResult callee.result elem) × AreTaken callee.params.items given);
   returns = λ elem. (info : VarInfo) → i.result ≡ Some info → Takes info.elem elem;
+  names = OfFileOrParam;
 }
 
--- A program of functions without recursion: they can be ranked so that each calls lesser ones alone. The
--- functions beside `main` declare variables in their outermost blocks.
+-- A program of functions without recursion: they can be ranked so that each calls lesser ones alone.
 pub record IsScalarProgram (t : Typed) : Type 0 where
   pub main : Instance
   pub is_main : slice_get t.instances.items 0 ≡ Some main
   pub params : main.params.items ≡ []
   pub rank : ℕ → ℕ
   pub each : (number : ℕ) (i : Instance) → slice_get t.instances.items number ≡ Some i → IsScalarFunction (may_of t rank number i) i
-  pub flat : (number : ℕ) (i : Instance) → slice_get t.instances.items number ≡ Some i → 0 < number → IsFlat i.body
   pub names : (j k : ℕ) (a b : Instance) → slice_get t.instances.items j ≡ Some a → slice_get t.instances.items k ≡ Some b → a.name ≡ b.name → j ≡ k
   pub variables : All IsPlainVariable t.vars.items
